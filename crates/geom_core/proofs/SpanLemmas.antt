@@ -1,0 +1,42 @@
+-- Intervals that share a number, and the smallest interval that contains two.
+use mathlib.Core.HLevel.{is_prop→PathP}
+use Rattle.std.proofs.Common.{arith, ◌≡◌, refl, Bool, true, false, ◌⊎◌, inl, inr}
+use Rattle.std.specs.Prelude.{◌≤◌, ◌*◌, ◌-ℤ◌, nat_abs, ℤ, ◌≤ℤ◌, ◌<ℤ◌, neg_ℤ}
+use Rattle.std.specs.Int.{int_min, int_max}
+use Rattle.std.proofs.lemmas.Int.{ints, clamps, by_lt_z}
+use Rattle.std.proofs.Props.{props}
+use Rattle.geom_core.specs.declared.span.Span.{Span}
+use Rattle.geom_core.specs.declared.span.TheConstants.{LIMIT}
+use Rattle.geom_core.specs.Cells.{line, IsWithin}
+use Rattle.geom_core.specs.Shapes.{joined}
+
+-- where neither interval ends before the other begins, the later beginning is in both
+pub common_line : (a b : Span) → a.lo ≤ℤ b.hi → b.lo ≤ℤ a.hi → (u : ℤ) × IsWithin a u × IsWithin b u
+common_line a b h k =
+    by_lt_z a.lo b.lo
+    (λ below. (line b.lo, (omega (arith, ints), omega (arith, ints)), (omega (arith, ints), omega (arith, ints))))
+    (λ above. (line a.lo, (omega (arith, ints), omega (arith, ints)), (omega (arith, ints), omega (arith, ints))))
+
+pub within_joined_first : (a b : Span) (u : ℤ) → IsWithin a u → IsWithin (joined a b) u
+within_joined_first a b u h = (omega (arith, ints, clamps), omega (arith, ints, clamps))
+
+pub within_joined_second : (a b : Span) (u : ℤ) → IsWithin b u → IsWithin (joined a b) u
+within_joined_second a b u h = (omega (arith, ints, clamps), omega (arith, ints, clamps))
+
+-- an interval that has the ends of two others has what lies between them
+pub within_joined_least : (a b s : Span) (u : ℤ) → s.lo ≤ℤ a.lo → s.lo ≤ℤ b.lo → a.hi ≤ℤ s.hi → b.hi ≤ℤ s.hi → IsWithin (joined a b) u → IsWithin s u
+within_joined_least a b s u p q r t h = (omega (arith, ints, clamps), omega (arith, ints, clamps))
+
+-- an interval is known by its ends
+pub same_ends : (a b : Span) → a.lo ≡ b.lo → a.hi ≡ b.hi → a ≡ b
+same_ends a b p q = λ i. record {
+  lo = p i;
+  hi = q i;
+  ordered = is_prop→PathP (λ j. p j ≤ℤ q j) (λ j. hlevel props) a.ordered b.ordered i;
+  above = is_prop→PathP (λ j. neg_ℤ LIMIT ≤ℤ p j) (λ j. hlevel props) a.above b.above i;
+  below = is_prop→PathP (λ j. q j ≤ℤ LIMIT) (λ j. hlevel props) a.below b.below i;
+}
+
+-- no interval is longer than the whole range
+pub length_bound : (a : Span) → nat_abs (a.hi -ℤ a.lo) ≤ 2 * nat_abs LIMIT
+length_bound a = omega (arith, ints)

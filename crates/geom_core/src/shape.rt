@@ -1,0 +1,99 @@
+//! A point, an axis-parallel segment or a rectangle, by its corners.
+
+use crate::span::{LIMIT, Span};
+
+/// An area, in square units of the grid: at most the square of twice [`LIMIT`].
+pub type Area = u64;
+
+/// The closed set of points from the corner `(x1, y1)` to the corner `(x2, y2)`.
+///
+/// Where both corners are one it is a point, where they share one coordinate a segment along an
+/// axis, and else a rectangle (OGC 06-103r4, 6.1.4, 6.1.7 and 6.1.11, for these three kinds).
+/// Each coordinate is a whole number from `-LIMIT` to `LIMIT`.
+#[derive(Clone, Copy, Debug, PartialEq, Eq)]
+pub struct Shape {
+    x: Span,
+    y: Span,
+}
+
+impl Shape {
+    ghost use Rattle.std.specs.Prelude.{◌≡◌, ℕ, ◌+◌, ◌*◌, ◌≤◌, ◌-ℤ◌, ◌↔◌, IsTrue, IsSome, IfSome};
+    ghost use Rattle.geom_core.specs.Cells.{Meets, IsIn};
+    ghost use Rattle.geom_core.specs.Shapes.{x1, y1, x2, y2, AreCorners, HasCorners, area_of, greatest_area, cover_of, dim_of};
+
+    /// The shape from `(x1, y1)` to `(x2, y2)`, or `None` where these are out of order or a
+    /// coordinate is out of range.
+    pub fn new(x1: i64, y1: i64, x2: i64, y2: i64) -> Option<Shape>
+        ensures some { IsSome result ↔ AreCorners x1 y1 x2 y2 }
+        ensures corners { IfSome result (HasCorners x1 y1 x2 y2) }
+    {
+        match (Span::new(x1, x2), Span::new(y1, y2)) {
+            (Some(x), Some(y)) => Some(Shape { x, y }),
+            _ => None,
+        }
+    }
+
+    /// The lower coordinate along the first axis.
+    pub fn x1(&self) -> i64
+        ensures { result ≡ x1 self.now }
+    {
+        self.x.lo
+    }
+
+    /// The lower coordinate along the second axis.
+    pub fn y1(&self) -> i64
+        ensures { result ≡ y1 self.now }
+    {
+        self.y.lo
+    }
+
+    /// The higher coordinate along the first axis.
+    pub fn x2(&self) -> i64
+        ensures { result ≡ x2 self.now }
+    {
+        self.x.hi
+    }
+
+    /// The higher coordinate along the second axis.
+    pub fn y2(&self) -> i64
+        ensures { result ≡ y2 self.now }
+    {
+        self.y.hi
+    }
+
+    /// The dimension: 0 for a point, 1 for a segment, 2 for a rectangle.
+    pub fn dim(&self) -> u8
+        ensures { result ≡ dim_of self.now }
+    {
+        self.x.dim() + self.y.dim()
+    }
+
+    /// Whether the closed shapes share a point.
+    #[inline(always)]
+    pub fn meets(&self, other: &Shape) -> bool
+        ensures { IsTrue result ↔ Meets self.now other.now }
+    {
+        self.x.meets(&other.x) && self.y.meets(&other.y)
+    }
+
+    /// The smallest shape that contains both.
+    pub fn cover(&self, other: &Shape) -> Shape
+        ensures first { IsIn self.now result }
+        ensures second { IsIn other.now result }
+        ensures least { (s : Shape) → IsIn self.now s → IsIn other.now s → IsIn result s }
+        ensures corners { result ≡ cover_of self.now other.now }
+    {
+        Shape {
+            x: self.x.joined(&other.x),
+            y: self.y.joined(&other.y),
+        }
+    }
+
+    /// Width times height, which is 0 for a point and for a segment.
+    pub fn area(&self) -> Area
+        ensures product { result ≡ area_of self.now }
+        ensures bound { result ≤ greatest_area }
+    {
+        self.x.length() * self.y.length()
+    }
+}

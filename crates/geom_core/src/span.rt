@@ -1,0 +1,73 @@
+//! A closed interval of whole numbers: what a shape covers of one axis.
+
+ghost use Rattle.std.specs.Prelude.{◌≤ℤ◌, neg_ℤ};
+ghost use Rattle.geom_core.specs.declared.span.TheConstants.{LIMIT};
+
+use crate::shape::Area;
+
+/// The greatest absolute value of a coordinate.
+pub const LIMIT: i64 = 1_000_000_000;
+
+/// A closed interval of one axis, at most from `-LIMIT` to `LIMIT`.
+#[derive(Clone, Copy, Debug, PartialEq, Eq)]
+pub struct Span {
+    pub lo: i64,
+    pub hi: i64,
+    ghost ordered: { lo ≤ℤ hi },
+    ghost above: { neg_ℤ LIMIT ≤ℤ lo },
+    ghost below: { hi ≤ℤ LIMIT },
+}
+
+impl Span {
+    ghost use Rattle.std.specs.Prelude.{◌≡◌, ℤ, ◌-ℤ◌, ◌↔◌, nat_abs, IsTrue, IsSome, IfSome};
+    ghost use Rattle.geom_core.specs.Cells.{IsWithin};
+    ghost use Rattle.geom_core.specs.Shapes.{AreEnds, joined, span_dim};
+
+    /// The interval from `lo` to `hi`, or `None` where these are out of order or out of range.
+    pub fn new(lo: i64, hi: i64) -> Option<Span>
+        ensures some { IsSome result ↔ AreEnds lo hi }
+        ensures lo { IfSome result (λ s. s.lo ≡ lo) }
+        ensures hi { IfSome result (λ s. s.hi ≡ hi) }
+    {
+        if -LIMIT <= lo && lo <= hi && hi <= LIMIT {
+            Some(Span { lo, hi })
+        } else {
+            None
+        }
+    }
+
+    /// 1 where the ends differ, else 0.
+    #[inline(always)]
+    pub fn dim(&self) -> u8
+        ensures { result ≡ span_dim self.now }
+    {
+        if self.lo < self.hi { 1 } else { 0 }
+    }
+
+    /// Whether the closed intervals share a number.
+    #[inline(always)]
+    pub fn meets(&self, other: &Span) -> bool
+        ensures { IsTrue result ↔ ((u : ℤ) × IsWithin self.now u × IsWithin other.now u) }
+    {
+        self.lo <= other.hi && other.lo <= self.hi
+    }
+
+    /// The smallest interval that contains both.
+    #[inline(always)]
+    pub fn joined(&self, other: &Span) -> Span
+        ensures { result ≡ joined self.now other.now }
+    {
+        Span {
+            lo: self.lo.min(other.lo),
+            hi: self.hi.max(other.hi),
+        }
+    }
+
+    /// How far the end is from the beginning.
+    #[inline(always)]
+    pub fn length(&self) -> Area
+        ensures { result ≡ nat_abs (self.now.hi -ℤ self.now.lo) }
+    {
+        (self.hi - self.lo) as Area
+    }
+}
