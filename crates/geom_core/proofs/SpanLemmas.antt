@@ -27,16 +27,6 @@ within_joined_second a b u h = (omega (arith, ints, clamps), omega (arith, ints,
 pub within_joined_least : (a b s : Span) (u : ℤ) → s.lo ≤ℤ a.lo → s.lo ≤ℤ b.lo → a.hi ≤ℤ s.hi → b.hi ≤ℤ s.hi → IsWithin (joined a b) u → IsWithin s u
 within_joined_least a b s u p q r t h = (omega (arith, ints, clamps), omega (arith, ints, clamps))
 
--- an interval is known by its ends
-pub same_ends : (a b : Span) → a.lo ≡ b.lo → a.hi ≡ b.hi → a ≡ b
-same_ends a b p q = λ i. record {
-  lo = p i;
-  hi = q i;
-  ordered = is_prop→PathP (λ j. p j ≤ℤ q j) (λ j. hlevel props) a.ordered b.ordered i;
-  above = is_prop→PathP (λ j. neg_ℤ LIMIT ≤ℤ p j) (λ j. hlevel props) a.above b.above i;
-  below = is_prop→PathP (λ j. q j ≤ℤ LIMIT) (λ j. hlevel props) a.below b.below i;
-}
-
 -- no interval is longer than the whole range
 pub length_bound : (a : Span) → nat_abs (a.hi -ℤ a.lo) ≤ 2 * nat_abs LIMIT
 length_bound a = omega (arith, ints)

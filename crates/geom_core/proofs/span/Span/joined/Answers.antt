@@ -1,6 +1,6 @@
 use Rattle.std.proofs.Common.{arith}
 use Rattle.std.proofs.lemmas.Int.{ints, clamps}
-use Rattle.geom_core.proofs.SpanLemmas.{same_ends}
+use Rattle.geom_core.specs.Joined.{same_ends}
 use Rattle.geom_core.proofs.span.Span.joined.Goals as goal
 
 pub invariant_of-result : goal.invariant_of-result
