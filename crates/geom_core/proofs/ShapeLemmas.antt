@@ -1,7 +1,7 @@
 -- The smallest shape that contains two, and the greatest area.
 use Rattle.std.proofs.Common.{arith}
 use Rattle.std.proofs.Math.Nat.{mul-le-mul}
-use Rattle.std.specs.Prelude.{ℕ, ◌≤◌, ◌*◌, ℤ, ◌≤ℤ◌, nat_abs}
+use Rattle.std.specs.Prelude.{ℕ, ◌≤◌, ◌*◌, ◌≤ℤ◌, nat_abs}
 use Rattle.std.proofs.lemmas.Int.{ints}
 use Rattle.geom_core.specs.declared.span.TheConstants.{LIMIT}
 use Rattle.geom_core.specs.declared.shape.Shape.{Shape}

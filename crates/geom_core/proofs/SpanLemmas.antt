@@ -1,10 +1,7 @@
 -- Intervals that share a number, and the smallest interval that contains two.
-use mathlib.Core.HLevel.{is_prop→PathP}
-use Rattle.std.proofs.Common.{arith, ◌≡◌, refl, Bool, true, false, ◌⊎◌, inl, inr}
-use Rattle.std.specs.Prelude.{◌≤◌, ◌*◌, ◌-ℤ◌, nat_abs, ℤ, ◌≤ℤ◌, ◌<ℤ◌, neg_ℤ}
-use Rattle.std.specs.Int.{int_min, int_max}
+use Rattle.std.proofs.Common.{arith}
+use Rattle.std.specs.Prelude.{◌≤◌, ◌*◌, ◌-ℤ◌, nat_abs, ℤ, ◌≤ℤ◌}
 use Rattle.std.proofs.lemmas.Int.{ints, clamps, by_lt_z}
-use Rattle.std.proofs.Props.{props}
 use Rattle.geom_core.specs.declared.span.Span.{Span}
 use Rattle.geom_core.specs.declared.span.TheConstants.{LIMIT}
 use Rattle.geom_core.specs.Cells.{line, IsWithin}

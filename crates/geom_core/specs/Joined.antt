@@ -2,7 +2,7 @@
 -- a shape is known by its corners.
 use mathlib.Core.HLevel.{is_prop→PathP}
 use Rattle.std.proofs.Common.{arith}
-use Rattle.std.specs.Prelude.{◌≡◌, ℤ, ◌≤ℤ◌, neg_ℤ}
+use Rattle.std.specs.Prelude.{◌≡◌, ◌≤ℤ◌, neg_ℤ}
 use Rattle.std.specs.Int.{int_min, int_max}
 use Rattle.std.proofs.lemmas.Int.{ints, clamps}
 use Rattle.std.proofs.Props.{props}

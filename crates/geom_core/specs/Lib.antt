@@ -1,3 +1,4 @@
 pub mod Cells
 pub mod Joined
+pub mod Matrices
 pub mod Shapes

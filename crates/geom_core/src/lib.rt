@@ -1,8 +1,14 @@
 //! Shapes on the grid of whole numbers, and how two of them lie to each other.
 #![tactic(auto)]
 
+mod extent;
+mod matrix;
+mod part;
 mod shape;
 mod span;
 
+pub use extent::Extent;
+pub use matrix::Matrix;
+pub use part::Parts;
 pub use shape::{Area, Shape};
 pub use span::LIMIT;

@@ -1,0 +1,9 @@
+//! The three parts of the plane that a geometry makes: interior, boundary and exterior.
+
+/// One value for each part (OGC 06-103r4, 6.1.15.1).
+#[derive(Clone, Copy, Debug, PartialEq, Eq)]
+pub struct Parts<T> {
+    pub interior: T,
+    pub boundary: T,
+    pub exterior: T,
+}
