@@ -1,2 +1,3 @@
 pub mod SpanLemmas
 pub mod ShapeLemmas
+pub mod MaskLemmas

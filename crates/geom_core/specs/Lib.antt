@@ -1,4 +1,5 @@
 pub mod Cells
 pub mod Joined
+pub mod Masks
 pub mod Matrices
 pub mod Shapes

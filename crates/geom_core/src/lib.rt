@@ -2,13 +2,17 @@
 #![tactic(auto)]
 
 mod extent;
+mod mask;
 mod matrix;
 mod part;
+mod pattern_value;
 mod shape;
 mod span;
 
 pub use extent::Extent;
+pub use mask::{Mask, MaskFault};
 pub use matrix::Matrix;
 pub use part::Parts;
+pub use pattern_value::PatternValue;
 pub use shape::{Area, Shape};
 pub use span::LIMIT;

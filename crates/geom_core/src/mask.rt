@@ -1,0 +1,153 @@
+//! Masks of the matrix: nine places, each with what it asks of its entry.
+
+use thiserror::Error;
+
+use crate::extent::Extent;
+use crate::matrix::Matrix;
+use crate::part::Parts;
+use crate::pattern_value::PatternValue;
+
+/// A pattern of matrices (a pattern matrix, OGC 06-103r4, 6.1.15.2).
+#[derive(Clone, Copy, Debug, PartialEq, Eq)]
+pub struct Mask {
+    pub rows: Parts<Parts<PatternValue>>,
+}
+
+/// Why a text is no mask.
+#[derive(Clone, Copy, Debug, PartialEq, Eq, Error)]
+pub enum MaskFault {
+    /// It hasn't nine bytes.
+    #[error("not a name or a mask of nine letters")]
+    Length,
+    /// At this place, counted from 0, is the first byte that is no letter of a mask.
+    #[error("bad letter at place {0}")]
+    Letter(u32),
+}
+
+impl Mask {
+    ghost use Rattle.std.specs.Prelude.{◌≡◌, ◌≢◌, ℕ, ◌↔◌, length, IsTrue};
+    ghost use Rattle.std.specs.Str.{str_to_ascii_uppercase};
+    ghost use Rattle.geom_core.specs.Masks.{Fits, IsFirstBad, text_of};
+
+    /// Reads nine letters of `T`, `F`, `*`, `0`, `1` and `2`, in the order of
+    /// [`Matrix::text`]; `T` and `F` may be small.
+    ///
+    /// # Errors
+    /// `Length` where the text hasn't nine bytes, else `Letter` with the place of the first bad byte.
+    pub fn read(text: &[u8]) -> Result<Mask, MaskFault>
+        ensures ok { (mask : Mask) → (result ≡ Ok mask) ↔ (str_to_ascii_uppercase text.now ≡ text_of mask) }
+        ensures length { (result ≡ Err MaskFault.Length) ↔ (length text.now ≢ 9) }
+        ensures letter { (place : ℕ) → (result ≡ Err (MaskFault.Letter place)) ↔ ((length text.now ≡ 9) × IsFirstBad text.now place) }
+        ensures text { (mask : Mask) → text.now ≡ text_of mask → result ≡ Ok mask }
+    {
+        if text.len() != 9 {
+            return Err(MaskFault::Length);
+        }
+        let rows = read_rows(text)?;
+        Ok(Mask { rows })
+    }
+
+    /// The nine letters, `T` and `F` as capitals.
+    pub fn text(&self) -> [u8; 9]
+        ensures { result ≡ text_of self.now }
+    {
+        let Parts {
+            interior,
+            boundary,
+            exterior,
+        } = self.rows;
+        [
+            interior.interior.letter(),
+            interior.boundary.letter(),
+            interior.exterior.letter(),
+            boundary.interior.letter(),
+            boundary.boundary.letter(),
+            boundary.exterior.letter(),
+            exterior.interior.letter(),
+            exterior.boundary.letter(),
+            exterior.exterior.letter(),
+        ]
+    }
+
+    /// Whether each of the nine places allows its entry.
+    #[inline(always)]
+    pub fn fits(&self, matrix: &Matrix) -> bool
+        ensures { IsTrue result ↔ Fits self.now matrix.now }
+    {
+        row_fits(self.rows.interior, matrix.rows.interior)
+            && row_fits(self.rows.boundary, matrix.rows.boundary)
+            && row_fits(self.rows.exterior, matrix.rows.exterior)
+    }
+}
+
+impl Default for Mask {
+    ghost use Rattle.std.specs.Prelude.{◌≡◌};
+    ghost use Rattle.geom_core.specs.Masks.{asks_nothing};
+
+    ghost is_default = { λ mask. mask ≡ asks_nothing };
+
+    /// Nine `*`, which each matrix fits.
+    fn default() -> Mask {
+        let row = Parts {
+            interior: PatternValue::Any,
+            boundary: PatternValue::Any,
+            exterior: PatternValue::Any,
+        };
+        Mask {
+            rows: Parts {
+                interior: row,
+                boundary: row,
+                exterior: row,
+            },
+        }
+    }
+}
+
+ghost use Rattle.std.specs.Prelude.{◌≡◌, ℕ, ◌+◌, ◌<◌, ◌≤◌, ◌↔◌, length, slice_index, IfOk, IfErr, IsTrue};
+ghost use Rattle.std.specs.Char.{to_ascii_uppercase};
+ghost use Rattle.geom_core.specs.Masks.{FitsRow, IsFirstBad, IsFirstBadFrom, IsLetter, SpellsRow, SpellsRows, letter_of_value};
+
+/// The values that the nine bytes stand for, row by row.
+fn read_rows(text: &[u8]) -> Result<Parts<Parts<PatternValue>>, MaskFault>
+    requires { length text.now ≡ 9 }
+    ensures ok { IfOk result (SpellsRows text.now) }
+    ensures err { IfErr result (λ fault. (place : ℕ) × (fault ≡ MaskFault.Letter place) × IsFirstBad text.now place) }
+{
+    Ok(Parts {
+        interior: read_row(text, 0)?,
+        boundary: read_row(text, 3)?,
+        exterior: read_row(text, 6)?,
+    })
+}
+
+/// The values that the three bytes from `first` on stand for.
+fn read_row(text: &[u8], first: u32) -> Result<Parts<PatternValue>, MaskFault>
+    requires within { first + 3 ≤ length text.now }
+    requires short { length text.now ≡ 9 }
+    ensures ok { IfOk result (SpellsRow text.now first) }
+    ensures err { IfErr result (λ fault. (place : ℕ) × (fault ≡ MaskFault.Letter place) × (place < first + 3) × IsFirstBadFrom text.now first place) }
+{
+    Ok(Parts {
+        interior: read_value(text, first)?,
+        boundary: read_value(text, first + 1)?,
+        exterior: read_value(text, first + 2)?,
+    })
+}
+
+/// The value that the byte at a place stands for.
+fn read_value(text: &[u8], place: u32) -> Result<PatternValue, MaskFault>
+    requires { place < length text.now }
+    ensures ok { IfOk result (λ value. to_ascii_uppercase (slice_index text.now place) ≡ letter_of_value value) }
+    ensures err { IfErr result (λ fault. (fault ≡ MaskFault.Letter place) × ¬ (IsLetter (slice_index text.now place))) }
+{
+    PatternValue::of_letter(text[place as usize]).ok_or(MaskFault::Letter(place))
+}
+
+#[inline(always)]
+fn row_fits(row: Parts<PatternValue>, entries: Parts<Extent>) -> bool
+    ensures { IsTrue result ↔ FitsRow row entries }
+{
+    row.interior.allows(entries.interior)
+        && row.boundary.allows(entries.boundary)
+        && row.exterior.allows(entries.exterior)
+}
