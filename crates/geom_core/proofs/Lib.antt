@@ -1,2 +1,4 @@
-pub mod SpanLemmas
+pub mod MeetingLemmas
 pub mod ShapeLemmas
+pub mod SpanLemmas
+pub mod Zones

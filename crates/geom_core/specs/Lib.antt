@@ -1,4 +1,5 @@
 pub mod Cells
 pub mod Joined
 pub mod Matrices
+pub mod Meetings
 pub mod Shapes

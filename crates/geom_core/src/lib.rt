@@ -3,6 +3,7 @@
 
 mod extent;
 mod matrix;
+mod meeting;
 mod part;
 mod shape;
 mod span;
