@@ -1,16 +1,15 @@
 -- What the inner parts, the ends and the outsides of two intervals share, for each way in which they can lie.
-use Rattle.std.proofs.Common.{arith, ◌≡◌, refl, inl, inr, sym, ap}
-use Rattle.std.specs.Prelude.{ℕ, ◌+◌, ℤ, pos, negsuc, ◌+ℤ◌, ◌-ℤ◌, ◌≤ℤ◌, ◌<ℤ◌, ◌⊎◌}
+use Rattle.std.proofs.Common.{arith, ◌≡◌, inl, inr}
+use Rattle.std.specs.Prelude.{ℤ, pos, ◌+ℤ◌, ◌<ℤ◌}
 use Rattle.std.proofs.lemmas.Int.{ints}
 use Rattle.geom_core.specs.declared.span.Span.{Span}
 use Rattle.geom_core.specs.declared.part.Parts.{Parts}
 use Rattle.geom_core.specs.declared.meeting.Shared.{Shared}
-use Rattle.geom_core.specs.declared.meeting.Shared.TheVariants.{Nothing, Point, Interval}
 use Rattle.geom_core.specs.declared.meeting.Meeting.{Meeting}
 use Rattle.geom_core.specs.declared.meeting.Meeting.TheVariants.{Disjoint, Meet, Overlap, Inside, CoveredBy, Contains, Covers, Equal, PointDisjoint, PointAtEnd, PointInside, DisjointPoint, EndAtPoint, ContainsPoint, PointsDisjoint, PointsEqual}
 use Rattle.geom_core.specs.Cells.{line, IsInner}
 use Rattle.geom_core.specs.Meetings.{IsMeeting, interior_of, boundary_of, exterior_of}
-use Rattle.geom_core.proofs.Zones.{IsEnd, IsOutside, IsShared, gap_right, gap_left, end_is_line, point_is_line}
+use Rattle.geom_core.proofs.Zones.{IsEnd, IsOutside, IsShared, gap_right, end_is_line, point_is_line}
 
 -- what a zone of the first interval shares with each zone of the second
 pub record IsAxisRow (Z : ℤ → Type 0) (b : Span) (row : Parts Shared) : Type 0 where

@@ -1,11 +1,11 @@
 -- The zones of one axis: the inner part of an interval, its ends, and what lies outside it.
-use Rattle.std.proofs.Common.{arith, ◌≡◌, refl, inl, inr, ap, sym, ◌∙◌, rules}
-use Rattle.std.specs.Prelude.{ℕ, zero, suc, ◌+◌, ◌*◌, ◌%◌, ℤ, pos, negsuc, ◌+ℤ◌, ◌-ℤ◌, ◌≤ℤ◌, ◌<ℤ◌, ◌⊎◌}
-use Rattle.std.proofs.lemmas.Int.{ints, by_lt_z}
+use Rattle.std.proofs.Common.{arith, ◌≡◌, refl, inl, inr}
+use Rattle.std.specs.Prelude.{◌≤◌, zero, suc, ◌+◌, ℤ, pos, negsuc, ◌+ℤ◌, ◌-ℤ◌, ◌<ℤ◌, ◌⊎◌}
+use Rattle.std.proofs.lemmas.Int.{ints}
 use Rattle.geom_core.specs.declared.span.Span.{Span}
 use Rattle.geom_core.specs.declared.meeting.Shared.{Shared}
 use Rattle.geom_core.specs.declared.meeting.Shared.TheVariants.{Nothing, Point, Interval}
-use Rattle.geom_core.specs.Cells.{line, parity, IsWithin, IsInner}
+use Rattle.geom_core.specs.Cells.{line, parity, IsInner}
 
 -- one of the two ends of an interval that has a length
 abbrev pub IsEnd : Span → ℤ → Type 0
@@ -42,3 +42,7 @@ end_is_line s u h = elim h.1 [ inl e ↦ rw e (line_even s.lo) | inr e ↦ rw e 
 
 pub point_is_line : (s : Span) (u : ℤ) → s.lo ≡ s.hi → IsInner s u → parity u ≡ 0
 point_is_line s u e h = elim h [ inl i ↦ absurd (omega (arith, ints)) | inr i ↦ rw (i.1) (line_even s.lo) ]
+
+pub parity_le : (u : ℤ) → parity u ≤ 1
+parity_le (pos n) = omega arith
+parity_le (negsuc n) = omega arith

@@ -1,3 +1,4 @@
+pub mod Axes
 pub mod Cells
 pub mod Joined
 pub mod Matrices

@@ -1,5 +1,5 @@
 -- How two intervals of an axis lie to each other, and what their inner part, their ends and their outside then share.
-use Rattle.std.specs.Prelude.{◌≡◌, ℕ, ℤ, ◌<ℤ◌, ◌⊎◌}
+use Rattle.std.specs.Prelude.{◌≡◌, ◌<ℤ◌, ◌⊎◌}
 use Rattle.geom_core.specs.declared.span.Span.{Span}
 use Rattle.geom_core.specs.declared.part.Parts.{Parts}
 use Rattle.geom_core.specs.declared.meeting.Shared.{Shared}

@@ -3,12 +3,10 @@
 ghost use Rattle.std.specs.Prelude.{◌≡◌, ◌<ℤ◌};
 ghost use Rattle.geom_core.specs.Meetings.{IsMeeting, shares, interior_of, boundary_of, exterior_of};
 
-use std::cmp::Ordering::{Equal, Greater, Less};
-
 use crate::part::Parts;
 use crate::span::Span;
-
 use Shared::{Interval, Nothing, Point};
+use std::cmp::Ordering::{Equal, Greater, Less};
 
 /// What two parts of one axis share.
 #[derive(Clone, Copy, Debug, PartialEq, Eq)]
@@ -132,7 +130,11 @@ fn of_points(a: &Span, b: &Span) -> Meeting
 fn row(interior: Shared, boundary: Shared, exterior: Shared) -> Parts<Shared>
     ensures { result ≡ shares interior boundary exterior }
 {
-    Parts { interior, boundary, exterior }
+    Parts {
+        interior,
+        boundary,
+        exterior,
+    }
 }
 
 impl Meeting {
