@@ -1,15 +1,19 @@
 //! Shapes on the grid of whole numbers, and how two of them lie to each other.
 #![tactic(auto)]
 
+mod axis;
 mod extent;
+mod intersections;
 mod mask;
 mod matrix;
+mod meeting;
 mod part;
 mod pattern_value;
 mod shape;
 mod span;
 
 pub use extent::Extent;
+pub use intersections::relate;
 pub use mask::{Mask, MaskFault};
 pub use matrix::Matrix;
 pub use part::Parts;

@@ -33,6 +33,20 @@ impl Shape {
         }
     }
 
+    /// What the shape covers of the first axis.
+    pub(crate) fn x(&self) -> &Span
+        ensures { result.now ≡ self.now.x }
+    {
+        &self.x
+    }
+
+    /// What the shape covers of the second axis.
+    pub(crate) fn y(&self) -> &Span
+        ensures { result.now ≡ self.now.y }
+    {
+        &self.y
+    }
+
     /// The lower coordinate along the first axis.
     pub fn x1(&self) -> i64
         ensures { result ≡ x1 self.now }

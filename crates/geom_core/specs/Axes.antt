@@ -1,0 +1,67 @@
+-- What the private steps of `relate` compute: what the narrow and wide zones of two intervals share, and the
+-- products of two axes. That this is the matrix of the two sets of cells is the contract of `relate`.
+use Rattle.geom_core.specs.declared.part.Parts.{Parts}
+use Rattle.geom_core.specs.declared.extent.Extent.{Extent}
+use Rattle.geom_core.specs.declared.extent.Extent.TheVariants as extents
+use Rattle.geom_core.specs.declared.meeting.Shared.{Shared}
+use Rattle.geom_core.specs.declared.meeting.Shared.TheVariants.{Nothing, Point, Interval}
+use Rattle.geom_core.specs.declared.meeting.Meeting.{Meeting}
+use Rattle.geom_core.specs.declared.axis.ZonePairs.{ZonePairs}
+use Rattle.geom_core.specs.Meetings.{interior_of, boundary_of, exterior_of}
+
+abbrev pub larger_of : Shared → Shared → Shared
+larger_of Interval b = Interval
+larger_of Point Interval = Interval
+larger_of Point Point = Point
+larger_of Point Nothing = Point
+larger_of Nothing b = b
+
+abbrev pub joined_row : Parts Shared → Parts Shared → Parts Shared
+joined_row a b = record { interior = larger_of a.interior b.interior; boundary = larger_of a.boundary b.boundary; exterior = larger_of a.exterior b.exterior }
+
+abbrev pub widened : Parts Shared → Parts Shared
+widened r = record { interior = r.interior; boundary = larger_of r.interior r.boundary; exterior = larger_of (larger_of r.interior r.boundary) r.exterior }
+
+abbrev pub pairs_of : Parts Shared → Parts Shared → Parts ZonePairs
+pairs_of n w = record {
+  interior = record { narrow_narrow = n.interior; narrow_wide = (widened n).interior; wide_narrow = w.interior; wide_wide = (widened w).interior };
+  boundary = record { narrow_narrow = n.boundary; narrow_wide = (widened n).boundary; wide_narrow = w.boundary; wide_wide = (widened w).boundary };
+  exterior = record { narrow_narrow = n.exterior; narrow_wide = (widened n).exterior; wide_narrow = w.exterior; wide_wide = (widened w).exterior };
+}
+
+-- the wide zones: inner part, inner part and ends, the whole axis
+abbrev pub axis_of : Meeting → Parts (Parts ZonePairs)
+axis_of m =
+    let within = joined_row (interior_of m) (boundary_of m) in
+    record { interior = pairs_of (interior_of m) (interior_of m); boundary = pairs_of (boundary_of m) within; exterior = pairs_of (exterior_of m) (joined_row within (exterior_of m)) }
+
+-- what two products of zones share
+abbrev pub product_of : Shared → Shared → Extent
+product_of Nothing b = extents.Empty
+product_of Point Nothing = extents.Empty
+product_of Point Point = extents.Point
+product_of Point Interval = extents.Line
+product_of Interval Nothing = extents.Empty
+product_of Interval Point = extents.Line
+product_of Interval Interval = extents.Area
+
+abbrev pub larger_extent : Extent → Extent → Extent
+larger_extent extents.Area b = extents.Area
+larger_extent extents.Line extents.Area = extents.Area
+larger_extent extents.Line extents.Line = extents.Line
+larger_extent extents.Line extents.Point = extents.Line
+larger_extent extents.Line extents.Empty = extents.Line
+larger_extent extents.Point extents.Area = extents.Area
+larger_extent extents.Point extents.Line = extents.Line
+larger_extent extents.Point extents.Point = extents.Point
+larger_extent extents.Point extents.Empty = extents.Point
+larger_extent extents.Empty b = b
+
+-- a part is the narrow zone of one axis by the wide zone of the other, either way round
+abbrev pub entry_of : ZonePairs → ZonePairs → Extent
+entry_of x y = larger_extent
+    (larger_extent (product_of x.narrow_narrow y.wide_wide) (product_of x.narrow_wide y.wide_narrow))
+    (larger_extent (product_of x.wide_narrow y.narrow_wide) (product_of x.wide_wide y.narrow_narrow))
+
+abbrev pub entries_of : Parts ZonePairs → Parts ZonePairs → Parts Extent
+entries_of x y = record { interior = entry_of x.interior y.interior; boundary = entry_of x.boundary y.boundary; exterior = entry_of x.exterior y.exterior }
