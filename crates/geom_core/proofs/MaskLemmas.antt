@@ -1,8 +1,7 @@
 -- Reading a mask: nine letters stand for one mask at most, and what reading gives follows from the bytes.
-use Rattle.std.proofs.Common.{◌≡◌, ◌≢◌, ℕ, ◌+◌, ◌<◌, ◌≤◌, ◌==◌, ◌↔◌, if◌then◌else◌, List, [], ◌∷◌, length, slice_index, get_or, map, refl, sym, ap, subst, ◌∙◌, arith, pos, Option, Some, None, Result, Ok, Err, IfErr, below_more}
+use Rattle.std.proofs.Common.{◌≡◌, ◌≢◌, ℕ, ◌+◌, ◌<◌, ◌≤◌, ◌==◌, ◌↔◌, if◌then◌else◌, List, [], ◌∷◌, length, slice_index, get_or, map, refl, sym, ap, subst, ◌∙◌, arith, pos, Option, Some, None, Result, Ok, Err, below_more}
 use Rattle.std.specs.Char.{to_ascii_uppercase}
 use Rattle.std.specs.Str.{str_to_ascii_uppercase}
-use Rattle.std.specs.Result.{IsErrAnd}
 use Rattle.std.proofs.lemmas.List.{get_or-map, length-map}
 use Rattle.std.proofs.lemmas.Int.{ints, by_lt_z}
 use Rattle.std.proofs.lemmas.Slice.Eq.{text_from_reads}
@@ -65,7 +64,7 @@ same_text m n e =
         interior = record { interior = ii i; boundary = ib i; exterior = ie i };
         boundary = record { interior = bi i; boundary = bb i; exterior = be i };
         exterior = record { interior = ei i; boundary = eb i; exterior = ee i };
-      }
+      };
     }
 
 upper_at : (text : List ℕ) (k : ℕ) → k < length text → slice_index (str_to_ascii_uppercase text) k ≡ to_ascii_uppercase (slice_index text k)
@@ -117,25 +116,33 @@ near P first k low high a b c =
 
 pub bad_second : (text : List ℕ) (first : ℕ) (value : PatternValue) (fault : MaskFault) → first + 3 ≤ length text → to_ascii_uppercase (slice_index text first) ≡ letter_of_value value → (fault ≡ Letter (first + 1)) × ¬ (IsLetter (slice_index text (first + 1))) → (place : ℕ) × (fault ≡ Letter place) × (place < first + 3) × IsFirstBadFrom text first place
 bad_second text first value fault n good bad =
-    let L : ℕ → Type 0 = λ k. IsLetter (slice_index text k) in
-    (first + 1, bad.0, omega arith, record {
-      behind = omega arith;
-      within = omega arith;
-      bad = bad.1;
-      before = λ k low high. let e : first ≡ k = omega arith in subst L e (value, good);
-    })
+    let L : ℕ → Type 0 = λ k. IsLetter (slice_index text k) in (
+      first + 1,
+      bad.0,
+      omega arith,
+      record {
+        behind = omega arith;
+        within = omega arith;
+        bad = bad.1;
+        before = λ k low high. let e : first ≡ k = omega arith in subst L e (value, good);
+      },
+    )
 
 pub bad_third : (text : List ℕ) (first : ℕ) (v w : PatternValue) (fault : MaskFault) → first + 3 ≤ length text → to_ascii_uppercase (slice_index text first) ≡ letter_of_value v → to_ascii_uppercase (slice_index text (first + 1)) ≡ letter_of_value w → (fault ≡ Letter (first + 2)) × ¬ (IsLetter (slice_index text (first + 2))) → (place : ℕ) × (fault ≡ Letter place) × (place < first + 3) × IsFirstBadFrom text first place
 bad_third text first v w fault n good next bad =
-    let L : ℕ → Type 0 = λ k. IsLetter (slice_index text k) in
-    (first + 2, bad.0, omega arith, record {
-      behind = omega arith;
-      within = omega arith;
-      bad = bad.1;
-      before = λ k low high.
-          below_more (λ j. first ≤ j → L j) (first + 1)
-          (λ j h g. let e : first ≡ j = omega arith in subst L e (v, good)) (λ _. (w, next)) k (omega arith) low;
-    })
+    let L : ℕ → Type 0 = λ k. IsLetter (slice_index text k) in (
+      first + 2,
+      bad.0,
+      omega arith,
+      record {
+        behind = omega arith;
+        within = omega arith;
+        bad = bad.1;
+        before = λ k low high.
+            below_more (λ j. first ≤ j → L j) (first + 1)
+            (λ j h g. let e : first ≡ j = omega arith in subst L e (v, good)) (λ _. (w, next)) k (omega arith) low;
+      },
+    )
 
 -- each byte of a row that was read is a letter
 letters_of_row : (text : List ℕ) (first : ℕ) (row : Parts PatternValue) → SpellsRow text first row → (k : ℕ) → first ≤ k → k < first + 3 → IsLetter (slice_index text k)
@@ -167,9 +174,10 @@ one_first_bad text j k h w =
     let not_above : ¬ (k < j) = λ l. w.bad (h.before k (omega arith) l) in omega arith
 
 pub exact_ok : (text : List ℕ) (r : Result Mask MaskFault) → Reads text r → (m : Mask) → (r ≡ Ok m) ↔ (str_to_ascii_uppercase text ≡ text_of m)
-exact_ok text (Ok n) h m =
-    (λ e. let s : n ≡ m = cc in subst (λ (x : Mask). str_to_ascii_uppercase text ≡ text_of x) s (text_from_rows text n h.0 h.1),
-     λ e. ap Ok (same_text n m (sym (text_from_rows text n h.0 h.1) ∙ e)))
+exact_ok text (Ok n) h m = (
+  λ e. let s : n ≡ m = cc in subst (λ (x : Mask). str_to_ascii_uppercase text ≡ text_of x) s (text_from_rows text n h.0 h.1),
+  λ e. ap Ok (same_text n m (sym (text_from_rows text n h.0 h.1) ∙ e)),
+)
 exact_ok text (Err Length) h m = (λ e. absurd cc, λ e. absurd (h (length-text text m e)))
 exact_ok text (Err (Letter k)) h m = (λ e. absurd cc, λ e. absurd (h.1.bad (no_bad text m k e h.1.within)))
 
@@ -181,9 +189,10 @@ exact_length text (Err (Letter k)) h = (λ e. absurd cc, λ e. absurd (e h.0))
 pub exact_letter : (text : List ℕ) (r : Result Mask MaskFault) → Reads text r → (k : ℕ) → (r ≡ Err (Letter k)) ↔ ((length text ≡ 9) × IsFirstBad text k)
 exact_letter text (Ok n) h k = (λ e. absurd cc, λ w. absurd (w.1.bad (no_bad text n k (text_from_rows text n h.0 h.1) w.1.within)))
 exact_letter text (Err Length) h k = (λ e. absurd cc, λ w. absurd (h w.0))
-exact_letter text (Err (Letter j)) h k =
-    (λ e. let s : j ≡ k = cc in subst (λ (x : ℕ). (length text ≡ 9) × IsFirstBad text x) s h,
-     λ w. ap (λ x. Err (Letter x)) (one_first_bad text j k h.1 w.1))
+exact_letter text (Err (Letter j)) h k = (
+  λ e. let s : j ≡ k = cc in subst (λ (x : ℕ). (length text ≡ 9) × IsFirstBad text x) s h,
+  λ w. ap (λ x. Err (Letter x)) (one_first_bad text j k h.1 w.1),
+)
 
 capitals : (vs : List PatternValue) → map to_ascii_uppercase (map letter_of_value vs) ≡ map letter_of_value vs
 capitals [] = refl

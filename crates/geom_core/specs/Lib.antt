@@ -1,7 +1,10 @@
 pub mod Axes
 pub mod Cells
+pub mod DisjointShapes
+pub mod JoinRelations
 pub mod Joined
 pub mod Masks
 pub mod Matrices
 pub mod Meetings
+pub mod Relations
 pub mod Shapes

@@ -4,19 +4,23 @@
 mod axis;
 mod extent;
 mod intersections;
+mod join_relation;
 mod mask;
 mod matrix;
 mod meeting;
 mod part;
 mod pattern_value;
+mod relation;
 mod shape;
 mod span;
 
 pub use extent::Extent;
 pub use intersections::relate;
+pub use join_relation::{AllowsDisjoint, JoinRelation};
 pub use mask::{Mask, MaskFault};
 pub use matrix::Matrix;
 pub use part::Parts;
 pub use pattern_value::PatternValue;
+pub use relation::Relation;
 pub use shape::{Area, Shape};
 pub use span::LIMIT;

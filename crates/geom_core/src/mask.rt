@@ -1,11 +1,10 @@
 //! Masks of the matrix: nine places, each with what it asks of its entry.
 
-use thiserror::Error;
-
 use crate::extent::Extent;
 use crate::matrix::Matrix;
 use crate::part::Parts;
 use crate::pattern_value::PatternValue;
+use thiserror::Error;
 
 /// A pattern of matrices (a pattern matrix, OGC 06-103r4, 6.1.15.2).
 #[derive(Clone, Copy, Debug, PartialEq, Eq)]

@@ -16,5 +16,5 @@ returns-in_err-read_row-3-clause-err c =
       bad.0,
       bad.1,
       behind_row c.args.text.now 0 bad.0 c.in_ok-read_row.field-0 c.in_ok-read_row.ensures.ok
-      (behind_row c.args.text.now 3 bad.0 c.in_ok-read_row-2.field-0 c.in_ok-read_row-2.ensures.ok bad.3),
+          (behind_row c.args.text.now 3 bad.0 c.in_ok-read_row-2.field-0 c.in_ok-read_row-2.ensures.ok bad.3),
     )

@@ -1,0 +1,125 @@
+-- Relations of two shapes: their names, their masks, when they hold, and which forbid disjoint shapes.
+use Rattle.std.specs.Prelude.{◌≡◌, ◌≢◌, ⊤, ℕ, ℤ, ◌==◌, ◌&&◌, ◌⊎◌, nat_lt, if◌then◌else◌, List, [], ◌∷◌, codes}
+use Rattle.std.specs.Str.{str_to_ascii_lowercase, str_to_ascii_uppercase}
+use Rattle.geom_core.specs.declared.extent.Extent.TheVariants.{Empty, Point, Line}
+use Rattle.geom_core.specs.declared.part.Parts.{Parts}
+use Rattle.geom_core.specs.declared.matrix.Matrix.{Matrix}
+use Rattle.geom_core.specs.declared.shape.Shape.{Shape}
+use Rattle.geom_core.specs.declared.pattern_value.PatternValue.{PatternValue}
+use Rattle.geom_core.specs.declared.pattern_value.PatternValue.TheVariants.{Any, NotEmpty, Exactly}
+use Rattle.geom_core.specs.declared.mask.Mask.{Mask as MaskType}
+use Rattle.geom_core.specs.declared.relation.Relation.{Relation}
+use Rattle.geom_core.specs.declared.relation.Relation.TheVariants.{Mask, Disjoint, Intersects, Touches, Crosses, Within, Contains, Overlaps, Equals}
+use Rattle.geom_core.specs.Cells.{Meets}
+use Rattle.geom_core.specs.Shapes.{dim_of}
+use Rattle.geom_core.specs.Matrices.{IsInterior, IsMatrix}
+use Rattle.geom_core.specs.Masks.{Fits, row, text_of}
+
+-- the text is the name of the relation, in any case, or spells its mask
+abbrev pub Spells : Relation → List ℕ → Type 0
+Spells (Mask mask) text = str_to_ascii_uppercase text ≡ text_of mask
+Spells Disjoint text = str_to_ascii_lowercase text ≡ codes "disjoint"
+Spells Intersects text = str_to_ascii_lowercase text ≡ codes "intersects"
+Spells Touches text = str_to_ascii_lowercase text ≡ codes "touches"
+Spells Crosses text = str_to_ascii_lowercase text ≡ codes "crosses"
+Spells Within text = str_to_ascii_lowercase text ≡ codes "within"
+Spells Contains text = str_to_ascii_lowercase text ≡ codes "contains"
+Spells Overlaps text = str_to_ascii_lowercase text ≡ codes "overlaps"
+Spells Equals text = str_to_ascii_lowercase text ≡ codes "equals"
+
+-- a relation that has a name
+abbrev pub IsNamed : Relation → Type 0
+IsNamed (Mask mask) = ⊥
+IsNamed Disjoint = ⊤
+IsNamed Intersects = ⊤
+IsNamed Touches = ⊤
+IsNamed Crosses = ⊤
+IsNamed Within = ⊤
+IsNamed Contains = ⊤
+IsNamed Overlaps = ⊤
+IsNamed Equals = ⊤
+
+-- the letters of the masks below
+abbrev any : PatternValue
+any = Any
+
+abbrev T : PatternValue
+T = NotEmpty
+
+abbrev F : PatternValue
+F = Exactly Empty
+
+abbrev zero_dim : PatternValue
+zero_dim = Exactly Point
+
+abbrev one_dim : PatternValue
+one_dim = Exactly Line
+
+abbrev pub mask : Parts PatternValue → Parts PatternValue → Parts PatternValue → MaskType
+mask i b e = record { rows = record { interior = i; boundary = b; exterior = e } }
+
+-- the masks of a relation for the dimensions of two shapes
+abbrev pub masks : Relation → ℕ → ℕ → List MaskType
+masks (Mask m) da db = m ∷ []
+masks Disjoint da db = mask (row F F any) (row F F any) (row any any any) ∷ []
+masks Intersects da db =
+    mask (row T any any) (row any any any) (row any any any)
+    ∷ mask (row any T any) (row any any any) (row any any any)
+    ∷ mask (row any any any) (row T any any) (row any any any)
+    ∷ mask (row any any any) (row any T any) (row any any any)
+    ∷ []
+masks Touches da db =
+    if (da == 0) && (db == 0) then []
+    else (
+    mask (row F T any) (row any any any) (row any any any)
+    ∷ mask (row F any any) (row T any any) (row any any any)
+    ∷ mask (row F any any) (row any T any) (row any any any)
+    ∷ []
+    )
+masks Crosses da db =
+    if nat_lt da db then mask (row T any T) (row any any any) (row any any any) ∷ []
+    else (
+    if nat_lt db da then mask (row T any any) (row any any any) (row T any any) ∷ []
+    else (if da == 1 then mask (row zero_dim any any) (row any any any) (row any any any) ∷ [] else [])
+    )
+masks Within da db = mask (row T any F) (row any any F) (row any any any) ∷ []
+masks Contains da db = mask (row T any any) (row any any any) (row F F any) ∷ []
+masks Overlaps da db =
+    if da == db then (
+    if da == 1 then mask (row one_dim any T) (row any any any) (row T any any) ∷ []
+    else (mask (row T any T) (row any any any) (row T any any) ∷ [])
+    )
+    else []
+masks Equals da db = mask (row T any F) (row any any F) (row F F any) ∷ []
+
+-- one of the masks fits
+abbrev pub FitsOne : List MaskType → Matrix → Type 0
+FitsOne [] matrix = ⊥
+FitsOne (m ∷ ms) matrix = Fits m matrix ⊎ FitsOne ms matrix
+
+-- one of the masks for the two dimensions fits the matrix of the two shapes
+pub record Holds (relation : Relation) (a b : Shape) : Type 0 where
+  pub matrix : Matrix
+  pub is : IsMatrix a b matrix
+  pub fits : FitsOne (masks relation (dim_of a) (dim_of b)) matrix
+
+-- it holds for no two shapes without a common cell
+abbrev pub ForbidsDisjoint : Relation → Type 0
+ForbidsDisjoint relation = (a b : Shape) → ¬ (Meets a b) → ¬ (Holds relation a b)
+
+-- some cell is in both interiors
+abbrev pub InteriorsMeet : Shape → Shape → Type 0
+InteriorsMeet a b = (u : ℤ) × (v : ℤ) × IsInterior a u v × IsInterior b u v
+
+-- the entries of the interiors and boundaries with each other aren't all empty
+abbrev pub ClosuresMeet : Matrix → Type 0
+ClosuresMeet m =
+    (m.rows.interior.interior ≢ Empty) ⊎ ((m.rows.interior.boundary ≢ Empty) ⊎ ((m.rows.boundary.interior ≢ Empty) ⊎ (m.rows.boundary.boundary ≢ Empty)))
+
+-- nothing of the first shape is in the second's exterior
+abbrev pub IsFirstInSecond : Matrix → Type 0
+IsFirstInSecond m = (m.rows.interior.exterior ≡ Empty) × (m.rows.boundary.exterior ≡ Empty)
+
+-- nothing of the second shape is in the first's exterior
+abbrev pub IsSecondInFirst : Matrix → Type 0
+IsSecondInFirst m = (m.rows.exterior.interior ≡ Empty) × (m.rows.exterior.boundary ≡ Empty)

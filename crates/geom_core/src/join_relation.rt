@@ -1,0 +1,138 @@
+//! Relations that a join may use: those that hold only for shapes that share a point.
+
+ghost use Rattle.geom_core.specs.Relations.{ForbidsDisjoint};
+
+use crate::extent::Extent;
+use crate::matrix::Matrix;
+use crate::part::Parts;
+use crate::relation::Relation;
+use crate::shape::Shape;
+use thiserror::Error;
+
+/// A relation that holds for no two disjoint shapes.
+#[derive(Clone, Copy, Debug, PartialEq, Eq)]
+pub struct JoinRelation {
+    relation: Relation,
+    ghost forbids_disjoint: { ForbidsDisjoint relation },
+}
+
+/// The relation holds for some two disjoint shapes.
+#[derive(Clone, Copy, Debug, PartialEq, Eq, Error)]
+#[error("disjoint features may fit")]
+pub struct AllowsDisjoint;
+
+impl JoinRelation {
+    ghost use Rattle.std.specs.Prelude.{◌≡◌, ◌↔◌, IsTrue, IsOk, IfOk, OnErr};
+    ghost use Rattle.geom_core.specs.Cells.{Meets};
+    ghost use Rattle.geom_core.specs.Relations.{Holds};
+    ghost use Rattle.geom_core.specs.JoinRelations.{relation_of};
+
+    /// The relation, if no two disjoint shapes of any dimensions stand in it.
+    ///
+    /// # Errors
+    /// `AllowsDisjoint` where two such shapes do.
+    pub fn new(relation: Relation) -> Result<JoinRelation, AllowsDisjoint>
+        ensures ok { IsOk result ↔ ForbidsDisjoint relation }
+        ensures same { IfOk result (λ join. relation_of join ≡ relation) }
+        ensures err { OnErr result ((a : Shape) × (b : Shape) × ¬ (Meets a b) × Holds relation a b) }
+    {
+        if allows_disjoint(&relation) {
+            Err(AllowsDisjoint)
+        } else {
+            Ok(JoinRelation { relation })
+        }
+    }
+
+    /// The relation itself.
+    pub fn relation(&self) -> &Relation
+        ensures { result.now ≡ relation_of self.now }
+    {
+        &self.relation
+    }
+
+    /// Whether it holds for two shapes. Shapes that don't meet cost no matrix.
+    #[inline(always)]
+    pub fn holds(&self, a: &Shape, b: &Shape) -> bool
+        ensures { IsTrue result ↔ Holds (relation_of self.now) a.now b.now }
+    {
+        a.meets(b) && self.relation.holds(a, b)
+    }
+}
+
+ghost use Rattle.std.specs.Prelude.{◌≡◌, ℕ, ◌<◌, ◌↔◌, IsTrue};
+ghost use Rattle.geom_core.specs.Relations.{FitsOne, masks};
+ghost use Rattle.geom_core.specs.DisjointShapes.{boundary_extent, disjoint_matrix, interior_extent};
+
+/// Whether one of the relation's masks fits the matrix of disjoint shapes of some dimensions.
+fn allows_disjoint(relation: &Relation) -> bool
+    ensures { IsTrue result ↔ ((da : ℕ) × (db : ℕ) × (da < 3) × (db < 3) × FitsOne (masks relation.now da db) (disjoint_matrix da db)) }
+{
+    for first_dim in 0..3 {
+        if allows_disjoint_after(relation, first_dim) {
+            return true;
+        }
+    }
+    false
+}
+
+/// The same, where the first of the two shapes has this dimension.
+fn allows_disjoint_after(relation: &Relation, first_dim: u8) -> bool
+    ensures { IsTrue result ↔ ((db : ℕ) × (db < 3) × FitsOne (masks relation.now first_dim db) (disjoint_matrix first_dim db)) }
+{
+    for second_dim in 0..3 {
+        if relation.fits(
+            &disjoint_matrix(first_dim, second_dim),
+            first_dim,
+            second_dim,
+        ) {
+            return true;
+        }
+    }
+    false
+}
+
+/// The matrix of two disjoint shapes of these dimensions: each part of one lies in the exterior
+/// of the other.
+fn disjoint_matrix(first_dim: u8, second_dim: u8) -> Matrix
+    ensures { result ≡ disjoint_matrix first_dim second_dim }
+{
+    let (interior, boundary) = (interior_extent(first_dim), boundary_extent(first_dim));
+    let row = |exterior| Parts {
+        interior: Extent::Empty,
+        boundary: Extent::Empty,
+        exterior,
+    };
+    Matrix {
+        rows: Parts {
+            interior: row(interior),
+            boundary: row(boundary),
+            exterior: Parts {
+                interior: interior_extent(second_dim),
+                boundary: boundary_extent(second_dim),
+                exterior: Extent::Area,
+            },
+        },
+    }
+}
+
+/// What the interior of a shape of this dimension amounts to.
+fn interior_extent(dim: u8) -> Extent
+    ensures { result ≡ interior_extent dim }
+{
+    match dim {
+        0 => Extent::Point,
+        1 => Extent::Line,
+        _ => Extent::Area,
+    }
+}
+
+/// What its boundary amounts to.
+fn boundary_extent(dim: u8) -> Extent
+    ensures { result ≡ boundary_extent dim }
+{
+    match dim {
+        0 => Extent::Empty,
+        1 => Extent::Point,
+        _ => Extent::Line,
+    }
+}

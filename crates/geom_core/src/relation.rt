@@ -1,0 +1,299 @@
+//! Relations of two shapes, each given by masks of their matrix.
+
+use crate::extent::Extent;
+use crate::mask::{Mask, MaskFault};
+use crate::matrix::Matrix;
+use crate::part::Parts;
+use crate::pattern_value::PatternValue;
+use crate::relate;
+use crate::shape::Shape;
+use arrayvec::ArrayVec;
+use std::cmp::Ordering;
+
+const T: PatternValue = PatternValue::NotEmpty;
+
+const F: PatternValue = PatternValue::Exactly(Extent::Empty);
+
+const ZERO: PatternValue = PatternValue::Exactly(Extent::Point);
+
+const ONE: PatternValue = PatternValue::Exactly(Extent::Line);
+
+const ANY: PatternValue = PatternValue::Any;
+
+/// A relation of two shapes: a mask, or a named predicate (OGC 06-103r4, 6.1.15.3).
+#[derive(Clone, Copy, Debug, PartialEq, Eq)]
+pub enum Relation {
+    /// The mask fits.
+    Mask(Mask),
+    /// The closed shapes share nothing.
+    Disjoint,
+    /// The closed shapes share something.
+    Intersects,
+    /// The closed shapes share something, and their interiors nothing.
+    Touches,
+    /// The interiors share something of a lower dimension than the greater of the two, and
+    /// neither shape contains the other.
+    Crosses,
+    /// The first shape lies in the second, and their interiors share something.
+    Within,
+    /// The second shape lies in the first, and their interiors share something.
+    Contains,
+    /// The interiors of two shapes of one dimension share something of that dimension, and each
+    /// has some of the other's exterior.
+    Overlaps,
+    /// Each shape lies in the other.
+    Equals,
+}
+
+impl Relation {
+    ghost use Rattle.std.specs.Prelude.{◌≡◌, ◌≢◌, ◌≤◌, ℕ, ◌↔◌, length, IsTrue};
+    ghost use Rattle.geom_core.specs.Cells.{Meets, IsIn};
+    ghost use Rattle.geom_core.specs.Masks.{IsFirstBad};
+    ghost use Rattle.geom_core.specs.Relations.{FitsOne, Holds, InteriorsMeet, Spells, masks};
+
+    /// Reads one of the eight names, in any ASCII case, or else a mask.
+    ///
+    /// # Errors
+    /// Those of [`Mask::read`]. No name has nine letters.
+    pub fn read(text: &[u8]) -> Result<Relation, MaskFault>
+        ensures ok { (relation : Relation) → (result ≡ Ok relation) ↔ Spells relation text.now }
+        ensures length { (result ≡ Err MaskFault.Length) ↔ ((length text.now ≢ 9) × ((relation : Relation) → ¬ (Spells relation text.now))) }
+        ensures letter { (place : ℕ) → (result ≡ Err (MaskFault.Letter place)) ↔ ((length text.now ≡ 9) × IsFirstBad text.now place) }
+    {
+        match named(text) {
+            Some(relation) => Ok(relation),
+            None => Ok(Relation::Mask(Mask::read(text)?)),
+        }
+    }
+
+    /// The masks of which one has to fit, for shapes of these two dimensions.
+    pub fn masks(&self, first_dim: u8, second_dim: u8) -> ArrayVec<Mask, 4>
+        requires first { first_dim ≤ 2 }
+        requires second { second_dim ≤ 2 }
+        ensures { result.items ≡ masks self.now first_dim second_dim }
+    {
+        let anything = row(ANY, ANY, ANY);
+        match self {
+            Relation::Mask(mask) => list(&[*mask]),
+            Relation::Disjoint => list(&[mask(row(F, F, ANY), row(F, F, ANY), anything)]),
+            Relation::Intersects => list(&[
+                mask(row(T, ANY, ANY), anything, anything),
+                mask(row(ANY, T, ANY), anything, anything),
+                mask(anything, row(T, ANY, ANY), anything),
+                mask(anything, row(ANY, T, ANY), anything),
+            ]),
+            Relation::Touches if first_dim == 0 && second_dim == 0 => list(&[]),
+            Relation::Touches => list(&[
+                mask(row(F, T, ANY), anything, anything),
+                mask(row(F, ANY, ANY), row(T, ANY, ANY), anything),
+                mask(row(F, ANY, ANY), row(ANY, T, ANY), anything),
+            ]),
+            Relation::Crosses => crosses_masks(first_dim, second_dim),
+            Relation::Within => list(&[mask(row(T, ANY, F), row(ANY, ANY, F), anything)]),
+            Relation::Contains => list(&[mask(row(T, ANY, ANY), anything, row(F, F, ANY))]),
+            Relation::Overlaps if first_dim != second_dim => list(&[]),
+            Relation::Overlaps if first_dim == 1 => {
+                list(&[mask(row(ONE, ANY, T), anything, row(T, ANY, ANY))])
+            }
+            Relation::Overlaps => list(&[mask(row(T, ANY, T), anything, row(T, ANY, ANY))]),
+            Relation::Equals => { list(&[mask(row(T, ANY, F), row(ANY, ANY, F), row(F, F, ANY))]) }
+        }
+    }
+
+    /// Whether one of the masks for the two dimensions fits the matrix of the two shapes.
+    #[inline(always)]
+    pub fn holds(&self, a: &Shape, b: &Shape) -> bool
+        ensures masks { IsTrue result ↔ Holds self.now a.now b.now }
+        ensures disjoint { self.now ≡ Relation.Disjoint → (IsTrue result ↔ ¬ (Meets a.now b.now)) }
+        ensures intersects { self.now ≡ Relation.Intersects → (IsTrue result ↔ Meets a.now b.now) }
+        ensures touches { self.now ≡ Relation.Touches → (IsTrue result ↔ (Meets a.now b.now × ¬ (InteriorsMeet a.now b.now))) }
+        ensures within { self.now ≡ Relation.Within → (IsTrue result ↔ (IsIn a.now b.now × InteriorsMeet a.now b.now)) }
+        ensures contains { self.now ≡ Relation.Contains → (IsTrue result ↔ (IsIn b.now a.now × InteriorsMeet a.now b.now)) }
+        ensures equals { self.now ≡ Relation.Equals → (IsTrue result ↔ (IsIn a.now b.now × IsIn b.now a.now)) }
+    {
+        match self {
+            Relation::Disjoint => !a.meets(b),
+            Relation::Intersects => a.meets(b),
+            _ => self.fits(&relate(a, b), a.dim(), b.dim()),
+        }
+    }
+
+    /// Whether one of the masks for two dimensions fits a matrix: the masks' places in one test,
+    /// without their list.
+    #[inline(always)]
+    pub(crate) fn fits(&self, matrix: &Matrix, first_dim: u8, second_dim: u8) -> bool
+        ensures { IsTrue result ↔ FitsOne (masks self.now first_dim second_dim) matrix.now }
+    {
+        match self {
+            Relation::Mask(mask) => mask.fits(matrix),
+            Relation::Disjoint => !matrix.closures_meet(),
+            Relation::Intersects => matrix.closures_meet(),
+            Relation::Touches => {
+                (first_dim != 0 || second_dim != 0)
+                    && !matrix.interiors_meet()
+                    && matrix.closures_meet()
+            }
+            Relation::Crosses => crosses(matrix, first_dim, second_dim),
+            Relation::Within => matrix.interiors_meet() && matrix.is_first_in_second(),
+            Relation::Contains => matrix.interiors_meet() && matrix.is_second_in_first(),
+            Relation::Overlaps => overlaps(matrix, first_dim, second_dim),
+            Relation::Equals => {
+                matrix.interiors_meet()
+                    && matrix.is_first_in_second()
+                    && matrix.is_second_in_first()
+            }
+        }
+    }
+}
+
+impl Matrix {
+    ghost use Rattle.std.specs.Prelude.{◌≡◌, ◌≢◌, ◌⊎◌, ◌↔◌, IsTrue};
+    ghost use Rattle.geom_core.specs.Relations.{ClosuresMeet, IsFirstInSecond, IsSecondInFirst};
+
+    #[inline(always)]
+    fn interiors_meet(&self) -> bool
+        ensures { IsTrue result ↔ (self.now.rows.interior.interior ≢ Extent.Empty) }
+    {
+        self.rows.interior.interior != Extent::Empty
+    }
+
+    #[inline(always)]
+    fn closures_meet(&self) -> bool
+        ensures { IsTrue result ↔ ClosuresMeet self.now }
+    {
+        self.rows.interior.interior != Extent::Empty
+            || self.rows.interior.boundary != Extent::Empty
+            || self.rows.boundary.interior != Extent::Empty
+            || self.rows.boundary.boundary != Extent::Empty
+    }
+
+    #[inline(always)]
+    fn is_first_in_second(&self) -> bool
+        ensures { IsTrue result ↔ IsFirstInSecond self.now }
+    {
+        self.rows.interior.exterior == Extent::Empty && self.rows.boundary.exterior == Extent::Empty
+    }
+
+    #[inline(always)]
+    fn is_second_in_first(&self) -> bool
+        ensures { IsTrue result ↔ IsSecondInFirst self.now }
+    {
+        self.rows.exterior.interior == Extent::Empty && self.rows.exterior.boundary == Extent::Empty
+    }
+}
+
+ghost use Rattle.std.specs.Prelude.{◌≡◌, ◌≤◌, ◌↔◌, length, IfSome, IfNone, IsTrue};
+ghost use Rattle.geom_core.specs.Masks.{row};
+ghost use Rattle.geom_core.specs.Relations.{FitsOne, IsNamed, Spells, mask, masks};
+
+/// The relation of a name.
+fn named(text: &[u8]) -> Option<Relation>
+    ensures some { IfSome result (λ relation. IsNamed relation × Spells relation text.now) }
+    ensures none { IfNone result ((relation : Relation) → IsNamed relation → ¬ (Spells relation text.now)) }
+{
+    if text.eq_ignore_ascii_case(b"disjoint") {
+        Some(Relation::Disjoint)
+    } else if text.eq_ignore_ascii_case(b"intersects") {
+        Some(Relation::Intersects)
+    } else if text.eq_ignore_ascii_case(b"touches") {
+        Some(Relation::Touches)
+    } else if text.eq_ignore_ascii_case(b"crosses") {
+        Some(Relation::Crosses)
+    } else if text.eq_ignore_ascii_case(b"within") {
+        Some(Relation::Within)
+    } else if text.eq_ignore_ascii_case(b"contains") {
+        Some(Relation::Contains)
+    } else if text.eq_ignore_ascii_case(b"overlaps") {
+        Some(Relation::Overlaps)
+    } else if text.eq_ignore_ascii_case(b"equals") {
+        Some(Relation::Equals)
+    } else {
+        None
+    }
+}
+
+/// The masks of `Crosses`.
+fn crosses_masks(first_dim: u8, second_dim: u8) -> ArrayVec<Mask, 4>
+    ensures { result.items ≡ masks Relation.Crosses first_dim second_dim }
+{
+    let anything = row(ANY, ANY, ANY);
+    match first_dim.cmp(&second_dim) {
+        Ordering::Less => list(&[mask(row(T, ANY, T), anything, anything)]),
+        Ordering::Greater => list(&[mask(row(T, ANY, ANY), anything, row(T, ANY, ANY))]),
+        Ordering::Equal if first_dim == 1 => {
+            list(&[mask(row(ZERO, ANY, ANY), anything, anything)])
+        }
+        Ordering::Equal => list(&[]),
+    }
+}
+
+/// Whether a mask of `Crosses` fits.
+#[inline(always)]
+fn crosses(matrix: &Matrix, first_dim: u8, second_dim: u8) -> bool
+    ensures { IsTrue result ↔ FitsOne (masks Relation.Crosses first_dim second_dim) matrix.now }
+{
+    match first_dim.cmp(&second_dim) {
+        Ordering::Less => {
+            matrix.interiors_meet() && matrix.rows.interior.exterior != Extent::Empty
+        }
+        Ordering::Greater => {
+            matrix.interiors_meet() && matrix.rows.exterior.interior != Extent::Empty
+        }
+        Ordering::Equal => first_dim == 1 && matrix.rows.interior.interior == Extent::Point,
+    }
+}
+
+/// Whether a mask of `Overlaps` fits.
+#[inline(always)]
+fn overlaps(matrix: &Matrix, first_dim: u8, second_dim: u8) -> bool
+    ensures { IsTrue result ↔ FitsOne (masks Relation.Overlaps first_dim second_dim) matrix.now }
+{
+    let inner = matrix.rows.interior.interior;
+    first_dim == second_dim
+        && (if first_dim == 1 {
+            inner == Extent::Line
+        } else {
+            inner != Extent::Empty
+        })
+        && matrix.rows.interior.exterior != Extent::Empty
+        && matrix.rows.exterior.interior != Extent::Empty
+}
+
+fn row(
+    interior: PatternValue,
+    boundary: PatternValue,
+    exterior: PatternValue,
+) -> Parts<PatternValue>
+    ensures { result ≡ row interior boundary exterior }
+{
+    Parts {
+        interior,
+        boundary,
+        exterior,
+    }
+}
+
+fn mask(
+    interior: Parts<PatternValue>,
+    boundary: Parts<PatternValue>,
+    exterior: Parts<PatternValue>,
+) -> Mask
+    ensures { result ≡ mask interior boundary exterior }
+{
+    Mask {
+        rows: Parts {
+            interior,
+            boundary,
+            exterior,
+        },
+    }
+}
+
+fn list(masks: &[Mask]) -> ArrayVec<Mask, 4>
+    requires { length masks.now ≤ 4 }
+    ensures { result.items ≡ masks.now }
+{
+    let mut list = ArrayVec::new();
+    list.try_extend_from_slice(masks).unwrap();
+    list
+}
