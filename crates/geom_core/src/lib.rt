@@ -16,3 +16,6 @@ pub use matrix::Matrix;
 pub use part::Parts;
 pub use shape::{Area, Shape};
 pub use span::LIMIT;
+
+#[cfg(test)]
+mod tests;
