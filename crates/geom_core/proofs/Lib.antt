@@ -1,11 +1,11 @@
 pub mod DisjointLemmas
 pub mod MaskLemmas
+pub mod MatrixOf
 pub mod MeetingLemmas
 pub mod OneMatrix
 pub mod PartLemmas
 pub mod Products
 pub mod SetLaws
 pub mod ShapeLemmas
-pub mod SomeMatrix
 pub mod SpanLemmas
 pub mod Zones

@@ -8,15 +8,15 @@ use std::test::Fail;
 
 /// Corners from 0 to 3, each pair in order.
 #[derive(Clone, Copy)]
-struct Corners {
-    x1: u8,
-    y1: u8,
-    x2: u8,
-    y2: u8,
+pub(super) struct Corners {
+    pub(super) x1: u8,
+    pub(super) y1: u8,
+    pub(super) x2: u8,
+    pub(super) y2: u8,
 }
 
 /// The places along an axis: the line at `c` is place `2c + 1`, and the even places are gaps.
-const PLACES: u32 = 9;
+pub(super) const PLACES: u32 = 9;
 
 fn place(line: u8) -> u32
     ensures { result ≡ 2 * line + 1 }
@@ -37,7 +37,7 @@ fn is_inner(lo: u8, hi: u8, at: u32) -> bool {
 }
 
 /// 0 in the interior, 1 on the boundary, 2 in the exterior.
-fn part_at(shape: &Corners, u: u32, v: u32) -> usize
+pub(super) fn part_at(shape: &Corners, u: u32, v: u32) -> usize
     ensures { result < 3 }
 {
     let closed = is_within(shape.x1, shape.x2, u) && is_within(shape.y1, shape.y2, v);
@@ -73,7 +73,7 @@ fn scanned(a: &Corners, b: &Corners) -> [u8; 9] {
 }
 
 /// All corners from 0 to 3 that are in order.
-fn all_corners(alloc: Global) -> Result<Vec<Corners>, AllocError> {
+pub(super) fn all_corners(alloc: Global) -> Result<Vec<Corners>, AllocError> {
     let mut all = Vec::new(alloc);
     for code in 0..=u8::MAX {
         let c = Corners {
@@ -89,7 +89,7 @@ fn all_corners(alloc: Global) -> Result<Vec<Corners>, AllocError> {
     Ok(all)
 }
 
-fn shape(c: &Corners) -> Option<Shape> {
+pub(super) fn shape(c: &Corners) -> Option<Shape> {
     Shape::new(c.x1.into(), c.y1.into(), c.x2.into(), c.y2.into())
 }
 

@@ -1,6 +1,6 @@
 use Rattle.std.proofs.lemmas.Bool.Decides.{Decides-not}
 use Rattle.geom_core.proofs.DisjointLemmas.{disjoint_holds}
-use Rattle.geom_core.proofs.SomeMatrix.{intersects_holds}
+use Rattle.geom_core.proofs.MatrixOf.{intersects_holds}
 use Rattle.geom_core.proofs.SetLaws.{fits_where_holds, disjoint_law, intersects_law, touches_law, within_law, contains_law, equals_law}
 use Rattle.geom_core.proofs.relation.Relation.holds.Goals as goal
 
