@@ -1,24 +1,26 @@
 -- The matrix of two shapes without a common cell follows from their dimensions, and each two dimensions have such shapes.
 use Rattle.std.proofs.Common.{◌≡◌, ◌↔◌, ℕ, ◌+◌, ◌<◌, ◌≤◌, zero, suc, refl, sym, subst, ◌∙◌, arith, inl, inr}
-use Rattle.std.specs.Prelude.{ℤ, pos, ◌+ℤ◌, ◌≤ℤ◌, ◌<ℤ◌}
+use Rattle.std.specs.Prelude.{ℤ, pos, ◌+ℤ◌, ◌≤ℤ◌, ◌<ℤ◌, List, [], ◌∷◌, length, Bool, true, false, MatchBool}
+use Rattle.std.specs.List.{HoldsAt, AllWithin}
 use Rattle.std.proofs.lemmas.Int.{ints, by_lt_z}
 use Rattle.geom_core.specs.declared.span.Span.{Span}
 use Rattle.geom_core.specs.declared.span.TheConstants.{LIMIT}
 use Rattle.geom_core.specs.declared.shape.Shape.{Shape}
 use Rattle.geom_core.specs.declared.extent.Extent.{Extent}
 use Rattle.geom_core.specs.declared.extent.Extent.TheVariants.{Empty, Point, Line, Area}
+use Rattle.geom_core.specs.declared.mask.Mask.{Mask}
 use Rattle.geom_core.specs.declared.matrix.Matrix.{Matrix}
 use Rattle.geom_core.specs.declared.relation.Relation.{Relation}
-use Rattle.geom_core.specs.declared.relation.Relation.TheVariants as relations
 use Rattle.geom_core.specs.Cells.{line, parity, IsWithin, IsInner, Meets}
 use Rattle.geom_core.specs.Shapes.{dim_of, span_dim}
 use Rattle.geom_core.specs.Matrices.{IsInterior, IsBoundary, IsExterior, IsExtent, IsMatrix}
+use Rattle.geom_core.specs.Masks.{Fits}
 use Rattle.geom_core.specs.Relations.{masks, FitsOne, Holds}
 use Rattle.geom_core.specs.DisjointShapes.{interior_extent, boundary_extent, disjoint_matrix}
 use Rattle.geom_core.proofs.Zones.{line_even, gap_right, parity_le}
 use Rattle.geom_core.proofs.Products.{Reaches, Fills}
 use Rattle.geom_core.proofs.OneMatrix.{one_matrix}
-use Rattle.geom_core.proofs.SetLaws.{inner_or_not, inner_within, interior_covers, point_is_interior, disjoint_law}
+use Rattle.geom_core.proofs.SetLaws.{inner_or_not, inner_within, interior_covers, point_is_interior}
 
 span_dim_long : (s : Span) → s.lo <ℤ s.hi → span_dim s ≡ 1
 span_dim_long s h = grind (arith, ints)
@@ -195,10 +197,21 @@ fits_disjoint r a b n h =
     let F : Matrix → Type 0 = λ m. FitsOne (masks r (dim_of a) (dim_of b)) m in
     (dim_of a, dim_of b, omega (arith, dim_at_most a), omega (arith, dim_at_most b), subst F (one_matrix a b h.matrix (disjoint_matrix (dim_of a) (dim_of b)) h.is (disjoint_is_matrix a b n)) h.fits)
 
--- disjoint shapes stand in the relation of that name, and no others
-pub disjoint_holds : (a b : Shape) → Holds relations.Disjoint a b ↔ ¬ (Meets a b)
-disjoint_holds a b = (
-  λ h. (disjoint_law a b h.matrix h.is).0 h.fits,
-  λ n. let is = disjoint_is_matrix a b n in
-      record { matrix = disjoint_matrix (dim_of a) (dim_of b); is = is; fits = (disjoint_law a b (disjoint_matrix (dim_of a) (dim_of b)) is).1 n },
-)
+fits_at : (ms : List Mask) (m : Matrix) (k : ℕ) → k < length ms → HoldsAt (λ mask. Fits mask m) ms k → FitsOne ms m
+fits_at [] m k h w = absurd (omega arith)
+fits_at (mask ∷ ms) m zero h w = inl (w mask)
+fits_at (mask ∷ ms) m (suc k) h w = inr (fits_at ms m k (omega arith) (λ d. w d))
+
+none_fits : (ms : List Mask) (m : Matrix) → AllWithin (λ mask. ¬ (Fits mask m)) ms 0 (length ms) → FitsOne ms m → ⊥
+none_fits [] m h f = f
+none_fits (mask ∷ ms) m h f = elim f [
+  | inl fits ↦ h 0 mask (omega arith) (omega arith) fits
+  | inr g ↦ none_fits ms m (λ k d low high. h (suc k) d (omega arith) (omega arith)) g
+]
+
+-- what a search of a list of masks finds
+pub one_from_cases : (found : Bool) (ms : List Mask) (m : Matrix) →
+    MatchBool found ((k : ℕ) × (k < length ms) × HoldsAt (λ mask. Fits mask m) ms k) (AllWithin (λ mask. ¬ (Fits mask m)) ms 0 (length ms)) →
+    (found ≡ true) ↔ FitsOne ms m
+one_from_cases true ms m (k, h, w) = (λ _. fits_at ms m k h w, λ _. refl)
+one_from_cases false ms m h = (λ e. absurd cc, λ f. absurd (none_fits ms m h f))

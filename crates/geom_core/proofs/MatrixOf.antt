@@ -9,7 +9,7 @@ use Rattle.geom_core.specs.declared.matrix.Matrix.{Matrix}
 use Rattle.geom_core.specs.declared.meeting.Meeting.{Meeting}
 use Rattle.geom_core.specs.declared.meeting.Meeting.TheVariants.{Disjoint, Meet, Overlap, Inside, CoveredBy, Contains, Covers, Equal, PointDisjoint, PointAtEnd, PointInside, DisjointPoint, EndAtPoint, ContainsPoint, PointsDisjoint, PointsEqual}
 use Rattle.geom_core.specs.declared.relation.Relation.TheVariants as relations
-use Rattle.geom_core.specs.Cells.{Meets}
+use Rattle.geom_core.specs.Cells.{IsIn, Meets}
 use Rattle.geom_core.specs.Meetings.{IsMeeting}
 use Rattle.geom_core.specs.Axes.{axis_of, entries_of}
 use Rattle.geom_core.specs.declared.extent.Extent.{Extent}
@@ -22,11 +22,11 @@ use Rattle.geom_core.specs.declared.relation.Relation.{Relation}
 use Rattle.geom_core.specs.Matrices.{IsMatrix, letter_of}
 use Rattle.geom_core.specs.Shapes.{dim_of}
 use Rattle.geom_core.specs.Masks.{Allows, Fits, FitsRow}
-use Rattle.geom_core.specs.Relations.{FitsOne, Holds, masks}
+use Rattle.geom_core.specs.Relations.{FitsOne, Holds, InteriorsMeet, masks}
 use Rattle.geom_core.proofs.MaskLemmas.{same_value}
 use Rattle.geom_core.proofs.OneMatrix.{one_matrix}
 use Rattle.geom_core.proofs.PartLemmas.{rows_hold}
-use Rattle.geom_core.proofs.SetLaws.{fits_where_holds, intersects_law}
+use Rattle.geom_core.proofs.SetLaws.{fits_where_holds, disjoint_law, intersects_law, touches_law, within_law, contains_law, equals_law}
 
 by_order : {P : Type 0} (x y : ℤ) → (x <ℤ y → P) → (x ≡ y → P) → (y <ℤ x → P) → P
 by_order x y below same above = by_lt_z x y below (λ h. by_lt_z y x above (λ k. same (omega (arith, ints))))
@@ -100,13 +100,6 @@ some_matrix a b =
       record { interior = r.interior; boundary = r.boundary; exterior = r.exterior },
     )
 
--- shapes that meet stand in the relation of that name, and no others
-pub intersects_holds : (a b : Shape) → Holds relations.Intersects a b ↔ Meets a b
-intersects_holds a b = (
-  λ h. (intersects_law a b h.matrix h.is).0 h.fits,
-  λ meets. let (m, is) = some_matrix a b in record { matrix = m; is = is; fits = (intersects_law a b m is).1 meets },
-)
-
 -- the matrix of two shapes, of which there is one
 pub matrix_of : Shape → Shape → Matrix
 matrix_of a b = (some_matrix a b).0
@@ -117,6 +110,31 @@ matrix_of_is a b = (some_matrix a b).1
 
 pub matrix_of_alone : (a b : Shape) (m : Matrix) → IsMatrix a b m → m ≡ matrix_of a b
 matrix_of_alone a b m h = one_matrix a b m (matrix_of a b) h (matrix_of_is a b)
+
+-- what the matrix says of a relation, the relation says
+holds_by : (r : Relation) (a b : Shape) (P : Type 0) → ((m : Matrix) → IsMatrix a b m → FitsOne (masks r (dim_of a) (dim_of b)) m ↔ P) → Holds r a b ↔ P
+holds_by r a b P law = (
+  λ h. (law h.matrix h.is).0 h.fits,
+  λ p. let is = matrix_of_is a b in record { matrix = matrix_of a b; is = is; fits = (law (matrix_of a b) is).1 p },
+)
+
+pub disjoint_holds : (a b : Shape) → Holds relations.Disjoint a b ↔ ¬ (Meets a b)
+disjoint_holds a b = holds_by relations.Disjoint a b _ (disjoint_law a b)
+
+pub intersects_holds : (a b : Shape) → Holds relations.Intersects a b ↔ Meets a b
+intersects_holds a b = holds_by relations.Intersects a b _ (intersects_law a b)
+
+pub touches_holds : (a b : Shape) → Holds relations.Touches a b ↔ (Meets a b × ¬ (InteriorsMeet a b))
+touches_holds a b = holds_by relations.Touches a b _ (touches_law a b)
+
+pub within_holds : (a b : Shape) → Holds relations.Within a b ↔ (IsIn a b × InteriorsMeet a b)
+within_holds a b = holds_by relations.Within a b _ (within_law a b)
+
+pub contains_holds : (a b : Shape) → Holds relations.Contains a b ↔ (IsIn b a × InteriorsMeet a b)
+contains_holds a b = holds_by relations.Contains a b _ (contains_law a b)
+
+pub equals_holds : (a b : Shape) → Holds relations.Equals a b ↔ (IsIn a b × IsIn b a)
+equals_holds a b = holds_by relations.Equals a b _ (equals_law a b)
 
 -- a test of a fact
 pub record Test (P : Type 0) : Type 0 where

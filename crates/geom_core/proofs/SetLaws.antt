@@ -1,6 +1,6 @@
 -- What the named relations say of the cells of two shapes.
 use Rattle.std.proofs.Common.{◌≡◌, ◌≢◌, ◌↔◌, ℕ, ◌==◌, ◌&&◌, Bool, true, false, if◌then◌else◌, [], ◌∷◌, List, refl, subst, arith, inl, inr, ◌⊎◌}
-use Rattle.std.specs.Prelude.{ℤ, pos, ◌+ℤ◌}
+use Rattle.std.specs.Prelude.{ℤ, pos, ◌+ℤ◌, ◌≤ℤ◌, ◌<ℤ◌}
 use Rattle.std.proofs.lemmas.Int.{ints, by_lt_z}
 use Rattle.std.proofs.lemmas.Bool.Decides.{nat_tests}
 use Rattle.geom_core.specs.declared.span.Span.{Span}
@@ -14,11 +14,11 @@ use Rattle.geom_core.specs.declared.mask.Mask.{Mask}
 use Rattle.geom_core.specs.declared.relation.Relation.{Relation}
 use Rattle.geom_core.specs.declared.relation.Relation.TheVariants as relations
 use Rattle.geom_core.specs.Cells.{line, IsWithin, IsInner, Covers, Meets, IsIn}
-use Rattle.geom_core.specs.Joined.{same_corners}
+use Rattle.geom_core.specs.Joined.{same_corners, same_ends}
 use Rattle.geom_core.specs.Shapes.{dim_of, span_dim}
 use Rattle.geom_core.specs.Matrices.{IsInterior, IsBoundary, IsExterior, IsExtent, IsMatrix}
 use Rattle.geom_core.specs.Masks.{FitsRow, row}
-use Rattle.geom_core.specs.Relations.{mask, masks, FitsOne, Holds, InteriorsMeet, IsFirstInSecond, IsSecondInFirst}
+use Rattle.geom_core.specs.Relations.{mask, masks, FitsOne, Holds, InteriorsMeet}
 use Rattle.geom_core.proofs.OneMatrix.{Share, one_matrix, shared, none_shared, empty, not_empty}
 
 -- a place of a closed interval is inner or not
@@ -97,8 +97,8 @@ record Reading (a b : Shape) (m : Matrix) : Type 0 where
   no_ib : (m.rows.interior.boundary ≡ Empty) ↔ ¬ (Share (IsInterior a) (IsBoundary b))
   no_bi : (m.rows.boundary.interior ≡ Empty) ↔ ¬ (Share (IsBoundary a) (IsInterior b))
   no_bb : (m.rows.boundary.boundary ≡ Empty) ↔ ¬ (Share (IsBoundary a) (IsBoundary b))
-  first_in : (IsFirstInSecond m) ↔ IsIn a b
-  second_in : (IsSecondInFirst m) ↔ IsIn b a
+  first_in : ((m.rows.interior.exterior ≡ Empty) × (m.rows.boundary.exterior ≡ Empty)) ↔ IsIn a b
+  second_in : ((m.rows.exterior.interior ≡ Empty) × (m.rows.exterior.boundary ≡ Empty)) ↔ IsIn b a
 
 some_shared : (P Q : ℤ → ℤ → Type 0) (e : Extent) → IsExtent P Q e → (e ≢ Empty) ↔ Share P Q
 some_shared P Q e h = (λ n. shared P Q e h n, λ (u, v, p, q). not_empty P Q e h u v p q)
@@ -214,6 +214,42 @@ some_inner s = by_lt_z s.lo s.hi
     (λ long. (line s.lo +ℤ pos 1, inl (omega (arith, ints), omega (arith, ints))))
     (λ short. (line s.lo, inr (omega (arith, ints), refl)))
 
+-- an interval in another ends no further out
+pub ends_in : (a b : Span) → ((u : ℤ) → IsWithin a u → IsWithin b u) → (b.lo ≤ℤ a.lo) × (a.hi ≤ℤ b.hi)
+ends_in a b f =
+    let low = f (line a.lo) (omega (arith, ints), omega (arith, ints)) in
+    let high = f (line a.hi) (omega (arith, ints), omega (arith, ints)) in
+    (omega (arith, ints), omega (arith, ints))
+
+-- a shape in another is so along each axis
+pub axes_in : (a b : Shape) → IsIn a b → ((u : ℤ) → IsWithin a.x u → IsWithin b.x u) × ((v : ℤ) → IsWithin a.y v → IsWithin b.y v)
+axes_in a b f = (
+  λ u h. (f u (line a.y.lo) (h, (omega (arith, ints), omega (arith, ints)))).0,
+  λ v h. (f (line a.x.lo) v ((omega (arith, ints), omega (arith, ints)), h)).1,
+)
+
+-- where each interval begins before the other ends, or both have the same ends, their inner parts meet
+pub crossing_inner : (a b : Span) → a.lo <ℤ b.hi → b.lo <ℤ a.hi → (u : ℤ) × IsInner a u × IsInner b u
+crossing_inner a b h k =
+    by_lt_z a.lo a.hi
+    (λ long. by_lt_z b.lo b.hi
+    (λ long'. by_lt_z a.lo b.lo
+    (λ l. (line b.lo +ℤ pos 1, inl (omega (arith, ints), omega (arith, ints)), inl (omega (arith, ints), omega (arith, ints))))
+    (λ l. (line a.lo +ℤ pos 1, inl (omega (arith, ints), omega (arith, ints)), inl (omega (arith, ints), omega (arith, ints)))))
+    (λ short. (line b.lo, inl (omega (arith, ints), omega (arith, ints)), inr (omega (arith, ints), refl))))
+    (λ short. (line a.lo, inr (omega (arith, ints), refl), inl (omega (arith, ints), omega (arith, ints))))
+
+pub same_inner : (a b : Span) → a.lo ≡ b.lo → a.hi ≡ b.hi → (u : ℤ) × IsInner a u × IsInner b u
+same_inner a b p q = let w = some_inner a in
+    let I : Span → Type 0 = λ s. IsInner s w.0 in (w.0, w.1, subst I (same_ends a b p q) w.1)
+
+-- and not where neither is so
+pub apart_inner : (a b : Span) (u : ℤ) → IsInner a u → IsInner b u → ((a.lo <ℤ b.hi) × (b.lo <ℤ a.hi)) ⊎ ((a.lo ≡ b.lo) × (a.hi ≡ b.hi))
+apart_inner a b u h k =
+    by_lt_z a.lo b.hi
+    (λ l. by_lt_z b.lo a.hi (λ r. inl (l, r)) (λ r. inr (grind (arith, ints), grind (arith, ints))))
+    (λ l. inr (grind (arith, ints), grind (arith, ints)))
+
 -- shapes with the same cells are one
 pub same_cells : (a b : Shape) → IsIn a b → IsIn b a → a ≡ b
 same_cells a b h k =
@@ -312,3 +348,6 @@ touches_law a b m h =
       λ f. law.0 (test.0 f).1,
       λ w. test.1 (not_points a b w.0 w.1 points refl, law.1 w),
     )
+
+pub inner_swapped : (a b : Shape) → InteriorsMeet a b → InteriorsMeet b a
+inner_swapped a b (u, v, i, j) = (u, v, j, i)

@@ -1,5 +1,5 @@
 -- Relations of two shapes: their names, their masks, when they hold, and which forbid disjoint shapes.
-use Rattle.std.specs.Prelude.{◌≡◌, ◌≢◌, ⊤, ℕ, ℤ, ◌==◌, ◌&&◌, ◌⊎◌, nat_lt, if◌then◌else◌, List, [], ◌∷◌, codes}
+use Rattle.std.specs.Prelude.{◌≡◌, ⊤, ℕ, ℤ, ◌==◌, ◌&&◌, ◌⊎◌, nat_lt, if◌then◌else◌, List, [], ◌∷◌, codes}
 use Rattle.std.specs.Str.{str_to_ascii_lowercase, str_to_ascii_uppercase}
 use Rattle.geom_core.specs.declared.extent.Extent.TheVariants.{Empty, Point, Line}
 use Rattle.geom_core.specs.declared.part.Parts.{Parts}
@@ -110,16 +110,3 @@ ForbidsDisjoint relation = (a b : Shape) → ¬ (Meets a b) → ¬ (Holds relati
 -- some cell is in both interiors
 abbrev pub InteriorsMeet : Shape → Shape → Type 0
 InteriorsMeet a b = (u : ℤ) × (v : ℤ) × IsInterior a u v × IsInterior b u v
-
--- the entries of the interiors and boundaries with each other aren't all empty
-abbrev pub ClosuresMeet : Matrix → Type 0
-ClosuresMeet m =
-    (m.rows.interior.interior ≢ Empty) ⊎ ((m.rows.interior.boundary ≢ Empty) ⊎ ((m.rows.boundary.interior ≢ Empty) ⊎ (m.rows.boundary.boundary ≢ Empty)))
-
--- nothing of the first shape is in the second's exterior
-abbrev pub IsFirstInSecond : Matrix → Type 0
-IsFirstInSecond m = (m.rows.interior.exterior ≡ Empty) × (m.rows.boundary.exterior ≡ Empty)
-
--- nothing of the second shape is in the first's exterior
-abbrev pub IsSecondInFirst : Matrix → Type 0
-IsSecondInFirst m = (m.rows.exterior.interior ≡ Empty) × (m.rows.exterior.boundary ≡ Empty)

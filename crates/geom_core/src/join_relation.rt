@@ -3,6 +3,7 @@
 ghost use Rattle.geom_core.specs.Relations.{ForbidsDisjoint};
 
 use crate::extent::Extent;
+use crate::mask::Mask;
 use crate::matrix::Matrix;
 use crate::part::Parts;
 use crate::relation::Relation;
@@ -75,16 +76,21 @@ fn allows_disjoint(relation: &Relation) -> bool
     false
 }
 
+/// Whether one of the masks fits.
+fn one_fits(masks: &[Mask], matrix: &Matrix) -> bool
+    ensures { IsTrue result ↔ FitsOne masks.now matrix.now }
+{
+    masks.iter().any(|mask| mask.fits(matrix))
+}
+
 /// The same, where the first of the two shapes has this dimension.
 fn allows_disjoint_after(relation: &Relation, first_dim: u8) -> bool
+    requires { first_dim < 3 }
     ensures { IsTrue result ↔ ((db : ℕ) × (db < 3) × FitsOne (masks relation.now first_dim db) (disjoint_matrix first_dim db)) }
 {
     for second_dim in 0..3 {
-        if relation.fits(
-            &disjoint_matrix(first_dim, second_dim),
-            first_dim,
-            second_dim,
-        ) {
+        let masks = relation.masks(first_dim, second_dim);
+        if one_fits(&masks, &disjoint_matrix(first_dim, second_dim)) {
             return true;
         }
     }

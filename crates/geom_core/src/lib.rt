@@ -11,6 +11,7 @@ mod meeting;
 mod part;
 mod pattern_value;
 mod relation;
+mod sets;
 mod shape;
 mod span;
 

@@ -49,7 +49,7 @@ impl Relation {
     ghost use Rattle.std.specs.Prelude.{◌≡◌, ◌≢◌, ◌≤◌, ℕ, ◌↔◌, length, IsTrue};
     ghost use Rattle.geom_core.specs.Cells.{Meets, IsIn};
     ghost use Rattle.geom_core.specs.Masks.{IsFirstBad};
-    ghost use Rattle.geom_core.specs.Relations.{FitsOne, Holds, InteriorsMeet, Spells, masks};
+    ghost use Rattle.geom_core.specs.Relations.{Holds, InteriorsMeet, Spells, masks};
 
     /// Reads one of the eight names, in any ASCII case, or else a mask.
     ///
@@ -112,73 +112,16 @@ impl Relation {
         ensures equals { self.now ≡ Relation.Equals → (IsTrue result ↔ (IsIn a.now b.now × IsIn b.now a.now)) }
     {
         match self {
+            Relation::Mask(mask) => mask.fits(&relate(a, b)),
             Relation::Disjoint => !a.meets(b),
             Relation::Intersects => a.meets(b),
-            _ => self.fits(&relate(a, b), a.dim(), b.dim()),
+            Relation::Touches => a.touches(b),
+            Relation::Crosses => crosses(&relate(a, b), a.dim(), b.dim()),
+            Relation::Within => a.is_within(b),
+            Relation::Contains => b.is_within(a),
+            Relation::Overlaps => overlaps(&relate(a, b), a.dim(), b.dim()),
+            Relation::Equals => a.is_same_set(b),
         }
-    }
-
-    /// Whether one of the masks for two dimensions fits a matrix: the masks' places in one test,
-    /// without their list.
-    #[inline(always)]
-    pub(crate) fn fits(&self, matrix: &Matrix, first_dim: u8, second_dim: u8) -> bool
-        ensures { IsTrue result ↔ FitsOne (masks self.now first_dim second_dim) matrix.now }
-    {
-        match self {
-            Relation::Mask(mask) => mask.fits(matrix),
-            Relation::Disjoint => !matrix.closures_meet(),
-            Relation::Intersects => matrix.closures_meet(),
-            Relation::Touches => {
-                (first_dim != 0 || second_dim != 0)
-                    && !matrix.interiors_meet()
-                    && matrix.closures_meet()
-            }
-            Relation::Crosses => crosses(matrix, first_dim, second_dim),
-            Relation::Within => matrix.interiors_meet() && matrix.is_first_in_second(),
-            Relation::Contains => matrix.interiors_meet() && matrix.is_second_in_first(),
-            Relation::Overlaps => overlaps(matrix, first_dim, second_dim),
-            Relation::Equals => {
-                matrix.interiors_meet()
-                    && matrix.is_first_in_second()
-                    && matrix.is_second_in_first()
-            }
-        }
-    }
-}
-
-impl Matrix {
-    ghost use Rattle.std.specs.Prelude.{◌≡◌, ◌≢◌, ◌⊎◌, ◌↔◌, IsTrue};
-    ghost use Rattle.geom_core.specs.Relations.{ClosuresMeet, IsFirstInSecond, IsSecondInFirst};
-
-    #[inline(always)]
-    fn interiors_meet(&self) -> bool
-        ensures { IsTrue result ↔ (self.now.rows.interior.interior ≢ Extent.Empty) }
-    {
-        self.rows.interior.interior != Extent::Empty
-    }
-
-    #[inline(always)]
-    fn closures_meet(&self) -> bool
-        ensures { IsTrue result ↔ ClosuresMeet self.now }
-    {
-        self.rows.interior.interior != Extent::Empty
-            || self.rows.interior.boundary != Extent::Empty
-            || self.rows.boundary.interior != Extent::Empty
-            || self.rows.boundary.boundary != Extent::Empty
-    }
-
-    #[inline(always)]
-    fn is_first_in_second(&self) -> bool
-        ensures { IsTrue result ↔ IsFirstInSecond self.now }
-    {
-        self.rows.interior.exterior == Extent::Empty && self.rows.boundary.exterior == Extent::Empty
-    }
-
-    #[inline(always)]
-    fn is_second_in_first(&self) -> bool
-        ensures { IsTrue result ↔ IsSecondInFirst self.now }
-    {
-        self.rows.exterior.interior == Extent::Empty && self.rows.exterior.boundary == Extent::Empty
     }
 }
 
@@ -234,10 +177,12 @@ fn crosses(matrix: &Matrix, first_dim: u8, second_dim: u8) -> bool
 {
     match first_dim.cmp(&second_dim) {
         Ordering::Less => {
-            matrix.interiors_meet() && matrix.rows.interior.exterior != Extent::Empty
+            matrix.rows.interior.interior != Extent::Empty
+                && matrix.rows.interior.exterior != Extent::Empty
         }
         Ordering::Greater => {
-            matrix.interiors_meet() && matrix.rows.exterior.interior != Extent::Empty
+            matrix.rows.interior.interior != Extent::Empty
+                && matrix.rows.exterior.interior != Extent::Empty
         }
         Ordering::Equal => first_dim == 1 && matrix.rows.interior.interior == Extent::Point,
     }
@@ -249,12 +194,13 @@ fn overlaps(matrix: &Matrix, first_dim: u8, second_dim: u8) -> bool
     ensures { IsTrue result ↔ FitsOne (masks Relation.Overlaps first_dim second_dim) matrix.now }
 {
     let inner = matrix.rows.interior.interior;
+    let is_full = if first_dim == 1 {
+        inner == Extent::Line
+    } else {
+        inner != Extent::Empty
+    };
     first_dim == second_dim
-        && (if first_dim == 1 {
-            inner == Extent::Line
-        } else {
-            inner != Extent::Empty
-        })
+        && is_full
         && matrix.rows.interior.exterior != Extent::Empty
         && matrix.rows.exterior.interior != Extent::Empty
 }

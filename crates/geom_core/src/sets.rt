@@ -1,0 +1,71 @@
+//! How two shapes lie as sets of points: which contains which, and whether their interiors meet.
+
+use crate::shape::Shape;
+use crate::span::Span;
+
+impl Span {
+    ghost use Rattle.std.specs.Prelude.{ℤ, ◌↔◌, IsTrue};
+    ghost use Rattle.geom_core.specs.Cells.{IsInner, IsWithin};
+
+    /// Whether each number of the interval is one of the other.
+    #[inline(always)]
+    fn is_in(&self, other: &Span) -> bool
+        ensures { IsTrue result ↔ ((u : ℤ) → IsWithin self.now u → IsWithin other.now u) }
+    {
+        other.lo <= self.lo && self.hi <= other.hi
+    }
+
+    /// Whether the inner parts share a number: a single number is its own inner part.
+    #[inline(always)]
+    fn inner_meets(&self, other: &Span) -> bool
+        ensures { IsTrue result ↔ ((u : ℤ) × IsInner self.now u × IsInner other.now u) }
+    {
+        (self.lo < other.hi && other.lo < self.hi) || (self.lo == other.lo && self.hi == other.hi)
+    }
+}
+
+impl Shape {
+    ghost use Rattle.std.specs.Prelude.{◌↔◌, IsTrue};
+    ghost use Rattle.geom_core.specs.Cells.{IsIn, Meets};
+    ghost use Rattle.geom_core.specs.Relations.{InteriorsMeet};
+
+    /// Whether the closed shapes share a point, and their interiors none.
+    #[inline(always)]
+    pub(crate) fn touches(&self, other: &Shape) -> bool
+        ensures { IsTrue result ↔ (Meets self.now other.now × ¬ (InteriorsMeet self.now other.now)) }
+    {
+        self.meets(other) && !self.interiors_meet(other)
+    }
+
+    /// Whether the shape lies in the other, and their interiors share a point.
+    #[inline(always)]
+    pub(crate) fn is_within(&self, other: &Shape) -> bool
+        ensures { IsTrue result ↔ (IsIn self.now other.now × InteriorsMeet self.now other.now) }
+    {
+        self.is_in(other) && self.interiors_meet(other)
+    }
+
+    /// Whether each of the two closed shapes lies in the other.
+    #[inline(always)]
+    pub(crate) fn is_same_set(&self, other: &Shape) -> bool
+        ensures { IsTrue result ↔ (IsIn self.now other.now × IsIn other.now self.now) }
+    {
+        self.is_in(other) && other.is_in(self)
+    }
+
+    /// Whether each point of the closed shape is one of the other.
+    #[inline(always)]
+    fn is_in(&self, other: &Shape) -> bool
+        ensures { IsTrue result ↔ IsIn self.now other.now }
+    {
+        self.x().is_in(other.x()) && self.y().is_in(other.y())
+    }
+
+    /// Whether the interiors share a point.
+    #[inline(always)]
+    fn interiors_meet(&self, other: &Shape) -> bool
+        ensures { IsTrue result ↔ InteriorsMeet self.now other.now }
+    {
+        self.x().inner_meets(other.x()) && self.y().inner_meets(other.y())
+    }
+}
