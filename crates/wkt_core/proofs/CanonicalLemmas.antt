@@ -1,0 +1,223 @@
+-- The canonical spelling of a shape spells it.
+use Rattle.std.proofs.Common.{◌≡◌, ℕ, suc, ◌+◌, ◌<◌, ◌≤◌, ◌^◌, Bool, true, false, cond, eqb, ℤ, pos, negsuc, List, [], ◌∷◌, ◌++◌, map, length, refl, sym, ◌∙◌, ap, ap₂, subst, ◌⊎◌, ⊎_elim, inl, inr, arith}
+use Rattle.std.specs.Prelude.{codes, int_lt, IsTrue, ◌<ℤ◌}
+use Rattle.std.specs.Char.{is_ascii_digit}
+use Rattle.std.specs.List.{AllByRecursion, flat_map}
+use Rattle.std.specs.Fmt.{decimal, signed_decimal}
+use Rattle.std.specs.Str.Parse.{AllDigits, digits_value}
+use Rattle.std.proofs.lemmas.Bool.Decides.{nat_tests}
+use Rattle.std.proofs.lemmas.Int.{ints}
+use Rattle.std.proofs.lemmas.Fmt.{decimal_is_IsNumeral}
+use Rattle.std.proofs.lemmas.Str.Parse.{digit_from_value}
+use Rattle.std.proofs.lemmas.List.{append_assoc, append-nil}
+use Rattle.geom_core.specs.declared.shape.Shape.{Shape}
+use Rattle.geom_core.specs.declared.span.TheConstants.{LIMIT}
+use Rattle.geom_core.specs.Shapes.{x1, y1, x2, y2, dim_of, IsCoordinate, HasCorners}
+use Rattle.wkt_core.specs.declared.keyword.Keyword.{Keyword}
+use Rattle.wkt_core.specs.declared.keyword.Keyword.TheVariants.{Point, LineString, Polygon}
+use Rattle.wkt_core.specs.declared.position.Position.{Position}
+use Rattle.wkt_core.specs.Grammar.{Numeral, RawPoint, ◌then◌, Blanks, Digits, Number, PointText, Listed, InParentheses, PointList, Body, Word, Raw, spelling}
+use Rattle.wkt_core.specs.Spelling.{value, IsGood, HasGoodNumbers, AllNumbersGood, position, positions, corner, corners, rotated, Forms, Spells, pair, listed, canonical}
+
+-- ---- numbers
+
+digits_are : (ds : List ℕ) → AllDigits 10 ds → Digits ds
+digits_are [] h = tt
+digits_are (d ∷ ds) h = let range = digit_from_value d h.0 in (grind (arith, nat_tests), digits_are ds h.1)
+
+-- a number as it is printed
+numeral : ℤ → Numeral
+numeral (pos n) = record { negative = false; whole = decimal n; decimals = [] }
+numeral (negsuc n) = record { negative = true; whole = decimal (suc n); decimals = [] }
+
+in_word : (n : ℕ) → IsCoordinate (pos n) → n < 2 ^ 64
+in_word n h = omega (arith, ints)
+
+in_word_below : (n : ℕ) → IsCoordinate (negsuc n) → suc n < 2 ^ 64
+in_word_below n h = omega (arith, ints)
+
+number_printed : (z : ℤ) → IsCoordinate z → Number (numeral z) (signed_decimal z)
+unfolding numeral
+number_printed (pos n) h =
+    let d = decimal_is_IsNumeral n (in_word n h) in
+    record { front = []; back = decimal n; first = inl refl; second = record { front = decimal n; back = []; first = (d.0.0, digits_are (decimal n) d.0.1, refl); second = (tt, inl (refl, refl)); whole = sym (append-nil (decimal n)) }; whole = refl }
+number_printed (negsuc n) h =
+    let d = decimal_is_IsNumeral (suc n) (in_word_below n h) in
+    record { front = codes "-"; back = decimal (suc n); first = refl; second = record { front = decimal (suc n); back = []; first = (d.0.0, digits_are (decimal (suc n)) d.0.1, refl); second = (tt, inl (refl, refl)); whole = sym (append-nil (decimal (suc n))) }; whole = refl }
+
+value_printed : (z : ℤ) → IsCoordinate z → value (numeral z) ≡ z
+unfolding numeral
+value_printed (pos n) h = ap pos (decimal_is_IsNumeral n (in_word n h)).1
+value_printed (negsuc n) h = rw (decimal_is_IsNumeral (suc n) (in_word_below n h)).1 refl
+
+good_printed : (z : ℤ) → IsCoordinate z → IsGood (numeral z)
+unfolding numeral
+good_printed (pos n) h = record { whole = refl; in_range = rw (value_printed (pos n) h) h }
+good_printed (negsuc n) h = record { whole = refl; in_range = rw (value_printed (negsuc n) h) h }
+
+-- ---- points
+
+InRange : Position → Type 0
+InRange p = IsCoordinate p.x × IsCoordinate p.y
+
+raw : Position → RawPoint
+raw p = record { x = numeral p.x; y = numeral p.y }
+
+point_printed : (p : Position) → InRange p → PointText (raw p) (pair p)
+unfolding InRange raw
+point_printed p h = record {
+  front = signed_decimal p.x; back = 32 ∷ signed_decimal p.y; first = number_printed p.x h.0;
+  second = record { front = codes " "; back = signed_decimal p.y; first = (omega arith, (refl, tt)); second = number_printed p.y h.1; whole = refl };
+  whole = append_assoc (signed_decimal p.x) (codes " ") (signed_decimal p.y);
+}
+
+position_printed : (p : Position) → InRange p → position (raw p) ≡ p
+unfolding InRange raw
+position_printed p h = λ i. record { x = value_printed p.x h.0 i; y = value_printed p.y h.1 i }
+
+good_point : (p : Position) → InRange p → HasGoodNumbers (raw p)
+unfolding InRange raw
+good_point p h = (good_printed p.x h.0, good_printed p.y h.1)
+
+-- ---- lists of points
+
+AllInRange : List Position → Type 0
+AllInRange ps = AllByRecursion InRange ps
+
+points_printed : (p : Position) (ps : List Position) (w : List ℕ) → AllInRange (p ∷ ps) → Blanks w → Listed PointText (map raw (p ∷ ps)) (w ++ (listed (p ∷ ps) ++ 41 ∷ []))
+unfolding AllInRange
+points_printed p [] w h blank = record {
+  front = w; back = (pair p ++ []) ++ 41 ∷ []; first = blank;
+  second = record {
+    front = pair p; back = 41 ∷ []; first = point_printed p h.0;
+    second = record { front = []; back = 41 ∷ []; first = tt; second = refl; whole = refl };
+    whole = ap (λ t. t ++ 41 ∷ []) (append-nil (pair p));
+  };
+  whole = refl;
+}
+points_printed p (q ∷ ps) w h blank = record {
+  front = w; back = (pair p ++ 44 ∷ 32 ∷ listed (q ∷ ps)) ++ 41 ∷ []; first = blank;
+  second = record {
+    front = pair p; back = 44 ∷ 32 ∷ (listed (q ∷ ps) ++ 41 ∷ []); first = point_printed p h.0;
+    second = record {
+      front = []; back = 44 ∷ 32 ∷ (listed (q ∷ ps) ++ 41 ∷ []); first = tt;
+      second = record { front = codes ","; back = 32 ∷ (listed (q ∷ ps) ++ 41 ∷ []); first = refl; second = points_printed q ps (32 ∷ []) h.1 (refl, tt); whole = refl };
+      whole = refl;
+    };
+    whole = append_assoc (pair p) (44 ∷ 32 ∷ listed (q ∷ ps)) (41 ∷ []);
+  };
+  whole = refl;
+}
+
+list_printed : (p : Position) (ps : List Position) → AllInRange (p ∷ ps) → PointList (map raw (p ∷ ps)) (40 ∷ (listed (p ∷ ps) ++ 41 ∷ []))
+list_printed p ps h = record { front = codes "("; back = listed (p ∷ ps) ++ 41 ∷ []; first = refl; second = points_printed p ps [] h tt; whole = refl }
+
+ring_printed : (p : Position) (ps : List Position) → AllInRange (p ∷ ps) → Body Polygon (map raw (p ∷ ps) ∷ []) (40 ∷ 40 ∷ (listed (p ∷ ps) ++ 41 ∷ 41 ∷ []))
+ring_printed p ps h =
+    let list = 40 ∷ (listed (p ∷ ps) ++ 41 ∷ []) in
+    record {
+      front = codes "("; back = 40 ∷ (listed (p ∷ ps) ++ 41 ∷ 41 ∷ []); first = refl;
+      second = record {
+        front = []; back = 40 ∷ (listed (p ∷ ps) ++ 41 ∷ 41 ∷ []); first = tt;
+        second = record {
+          front = list; back = 41 ∷ []; first = list_printed p ps h;
+          second = record { front = []; back = 41 ∷ []; first = tt; second = refl; whole = refl };
+          whole = ap (λ t. 40 ∷ t) (sym (append_assoc (listed (p ∷ ps)) (41 ∷ []) (41 ∷ [])));
+        };
+        whole = refl;
+      };
+      whole = refl;
+    }
+
+-- a keyword, a space and what stands behind it
+text_printed : (keyword : Keyword) (lists : List (List RawPoint)) (word body : List ℕ) → Word keyword word → Body keyword lists body → Raw (word ++ 32 ∷ body) keyword lists
+text_printed keyword lists word body h b = record {
+  front = []; back = word ++ 32 ∷ body; first = tt;
+  second = record {
+    front = word; back = 32 ∷ body; first = h;
+    second = record {
+      front = codes " "; back = body; first = (refl, tt);
+      second = record { front = body; back = []; first = b; second = tt; whole = sym (append-nil body) };
+      whole = refl;
+    };
+    whole = refl;
+  };
+  whole = refl;
+}
+
+-- ---- the shape
+
+positions_printed : (ps : List Position) → AllInRange ps → map position (map raw ps) ≡ ps
+unfolding AllInRange
+positions_printed [] h = refl
+positions_printed (p ∷ ps) h = ap₂ (λ q qs. q ∷ qs) (position_printed p h.0) (positions_printed ps h.1)
+
+good_points : (ps : List Position) → AllInRange ps → AllByRecursion HasGoodNumbers (map raw ps)
+unfolding AllInRange
+good_points [] h = tt
+good_points (p ∷ ps) h = (good_point p h.0, good_points ps h.1)
+
+spelled_by : (text : List ℕ) (keyword : Keyword) (ps : List Position) (s : Shape) → AllInRange ps → Raw text keyword (map raw ps ∷ []) → Forms keyword (ps ∷ []) s → Spells text s
+spelled_by text keyword ps s h r f = record {
+  keyword = keyword;
+  lists = map raw ps ∷ [];
+  raw = r;
+  good = (good_points ps h, tt);
+  forms = subst (λ qs. Forms keyword (qs ∷ []) s) (sym (positions_printed ps h)) f;
+}
+
+module _ (s : Shape) where
+  low_x : IsCoordinate (x1 s)
+  low_x = (omega (arith, ints), omega (arith, ints))
+
+  low_y : IsCoordinate (y1 s)
+  low_y = (omega (arith, ints), omega (arith, ints))
+
+  high_x : IsCoordinate (x2 s)
+  high_x = (omega (arith, ints), omega (arith, ints))
+
+  high_y : IsCoordinate (y2 s)
+  high_y = (omega (arith, ints), omega (arith, ints))
+
+  point_spelled : x1 s ≡ x2 s → y1 s ≡ y2 s → Spells (codes "POINT (" ++ listed (corner (x1 s) (y1 s) ∷ []) ++ codes ")") s
+  unfolding InRange AllInRange
+  point_spelled e f =
+      let p = corner (x1 s) (y1 s) in
+      spelled_by _ Point (p ∷ []) s ((low_x, low_y), tt)
+      (text_printed Point (map raw (p ∷ []) ∷ []) (codes "POINT") _ refl (list_printed p [] ((low_x, low_y), tt)))
+      (record { first_x = refl; first_y = refl; second_x = sym e; second_y = sym f })
+
+  segment_spelled : (x1 s ≡ x2 s) ⊎ (y1 s ≡ y2 s) → (x1 s <ℤ x2 s) ⊎ (y1 s <ℤ y2 s) → Spells (codes "LINESTRING (" ++ listed (corner (x1 s) (y1 s) ∷ corner (x2 s) (y2 s) ∷ []) ++ codes ")") s
+  unfolding InRange AllInRange
+  segment_spelled same apart =
+      let p = corner (x1 s) (y1 s) in
+      let q = corner (x2 s) (y2 s) in
+      spelled_by _ LineString (p ∷ q ∷ []) s ((low_x, low_y), ((high_x, high_y), tt))
+      (text_printed LineString (map raw (p ∷ q ∷ []) ∷ []) (codes "LINESTRING") _ refl (list_printed p (q ∷ []) ((low_x, low_y), ((high_x, high_y), tt))))
+      (record {
+        differ = λ e. ⊎_elim (λ l. let k : x1 s ≡ x2 s = ap (λ r. r.x) e in omega (arith, ints)) (λ l. let k : y1 s ≡ y2 s = ap (λ r. r.y) e in omega (arith, ints)) apart;
+        parallel = same;
+        ends = inl (record { first_x = refl; first_y = refl; second_x = refl; second_y = refl });
+      })
+
+  rectangle_spelled : x1 s <ℤ x2 s → y1 s <ℤ y2 s → Spells (codes "POLYGON ((" ++ listed (corners s ++ corner (x1 s) (y1 s) ∷ []) ++ codes "))") s
+  unfolding InRange AllInRange
+  rectangle_spelled wide high =
+      let a = corner (x1 s) (y1 s) in
+      let rest = corner (x2 s) (y1 s) ∷ corner (x2 s) (y2 s) ∷ corner (x1 s) (y2 s) ∷ a ∷ [] in
+      let range : AllInRange (a ∷ rest) = ((low_x, low_y), ((high_x, low_y), ((high_x, high_y), ((low_x, high_y), ((low_x, low_y), tt))))) in
+      spelled_by _ Polygon (a ∷ rest) s range
+      (text_printed Polygon (map raw (a ∷ rest) ∷ []) (codes "POLYGON") _ refl (ring_printed a rest range))
+      (refl, record { wide = wide; high = high; round = (0, omega arith, inl refl) })
+
+  by_sides : (a b : Bool) → int_lt (x1 s) (x2 s) ≡ a → int_lt (y1 s) (y2 s) ≡ b →
+      let d = cond a 1 0 + cond b 1 0 in Spells (cond (eqb d 0) (codes "POINT (" ++ listed (corner (x1 s) (y1 s) ∷ []) ++ codes ")")
+      (cond (eqb d 1) (codes "LINESTRING (" ++ listed (corner (x1 s) (y1 s) ∷ corner (x2 s) (y2 s) ∷ []) ++ codes ")")
+      (codes "POLYGON ((" ++ listed (corners s ++ corner (x1 s) (y1 s) ∷ []) ++ codes "))"))) s
+  by_sides false false p q = point_spelled (grind (arith, ints)) (grind (arith, ints))
+  by_sides true false p q = segment_spelled (inr (grind (arith, ints))) (inl (grind (arith, ints)))
+  by_sides false true p q = segment_spelled (inl (grind (arith, ints))) (inr (grind (arith, ints)))
+  by_sides true true p q = rectangle_spelled (grind (arith, ints)) (grind (arith, ints))
+
+  pub canonical_spells : Spells (canonical s) s
+  canonical_spells = by_sides (int_lt (x1 s) (x2 s)) (int_lt (y1 s) (y2 s)) refl refl

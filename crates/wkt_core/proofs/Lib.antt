@@ -1,0 +1,10 @@
+pub mod NumberLemmas
+pub mod ItemLemmas
+pub mod FrontLemmas
+pub mod PointLemmas
+pub mod ListGrammar
+pub mod TextLemmas
+pub mod FormLemmas
+pub mod GoodLemmas
+pub mod AnswerLemmas
+pub mod CanonicalLemmas

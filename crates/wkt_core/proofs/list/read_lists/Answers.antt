@@ -1,0 +1,54 @@
+use Rattle.std.proofs.Common.{rules, ◌≡◌, [], ◌∷◌, List, ℕ, IfSome, IfNone, length, arith, sym, ◌∙◌, ap, refl}
+use Rattle.wkt_core.specs.Grammar.{RawPoint}
+use Rattle.wkt_core.specs.Reading.{skip, TakesPoints, TakesLists}
+use Rattle.wkt_core.specs.Kept.{Keeps, KeepsLists}
+use Rattle.wkt_core.proofs.FrontLemmas.{symbol_begins, length-skip}
+use Rattle.wkt_core.proofs.ItemLemmas.{no_item_follows}
+use Rattle.wkt_core.proofs.PointLemmas.{if_none, lists_exact, list_more, lists_ended, no_lists_end, no_list_follows}
+use Rattle.wkt_core.proofs.list.read_lists.Goals as goal
+
+pub returns-in_err-first-clause-none : goal.returns-in_err-first-clause-none
+returns-in_err-first-clause-none c =
+    if_none _ (no_item_follows TakesPoints lists_exact c.in_ok-rest.rest.now c.in_ok-rest.rest.now [] refl _ (symbol_begins 40 _ _ (sym c.in_ok-rest.ensures)) (rw c.skip_blanks.ensures at c.in_err-first.ensures.none))
+
+pub loop-behind-init : goal.loop-behind-init
+loop-behind-init c =
+    let (ps, taken, keeps) = c.in_ok-first.ensures.some in
+    record {
+      start = c.in_ok-rest.rest.now;
+      opened = symbol_begins 40 _ _ (sym c.in_ok-rest.ensures);
+      done = [];
+      last = ps;
+      rest = c.in_ok-rest.rest.now;
+      begun = refl;
+      taken = rw c.skip_blanks.ensures at taken;
+      keeps = c.of-kept.ensures ps keeps;
+    }
+
+pub returns-in_err-behind-clause-none : goal.returns-in_err-behind-clause-none
+returns-in_err-behind-clause-none c = if_none _ (no_lists_end _ _ _ c.loop-behind.invariant c.in_err-behind.ensures)
+
+pub returns-in_err-further-in-Item-clause-none : goal.returns-in_err-further-in-Item-clause-none
+returns-in_err-further-in-Item-clause-none c =
+    let next : skip c.loop-behind.after.now ≡ 44 ∷ c.in-Item.behind.now = rw c.in-Item.is at c.in_ok-behind.ensures in
+    if_none _ (no_list_follows _ _ c.in-Item.behind.now _ c.loop-behind.invariant next (rw c.skip_blanks-in-Item.ensures at c.in_err-further-in-Item.ensures.none))
+
+pub loop-behind-preserved : goal.loop-behind-preserved
+loop-behind-preserved c =
+    let next : skip c.loop-behind.after.now ≡ 44 ∷ c.in-Item.behind.now = rw c.in-Item.is at c.in_ok-behind.ensures in
+    let (ps, taken, keeps) = c.in_ok-further-in-Item.ensures.some in
+    list_more _ _ c.in-Item.behind.now _ _ _ c.loop-behind.invariant ps next (rw c.skip_blanks-in-Item.ensures at taken) (λ lists kept. c.push.ensures lists ps kept keeps)
+
+pub loop-behind-smaller : goal.loop-behind-smaller
+loop-behind-smaller c =
+    let next : skip c.loop-behind.after.now ≡ 44 ∷ c.in-Item.behind.now = rw c.in-Item.is at c.in_ok-behind.ensures in
+    let (ps, taken, keeps) = c.in_ok-further-in-Item.ensures.some in
+    let shorter = lists_exact.shorter _ ps _ taken in
+    let skipped = length-skip c.in-Item.behind.now in
+    let before = length-skip c.loop-behind.after.now in
+    omega (arith, shorter, ap length next, ap length c.skip_blanks-in-Item.ensures)
+
+pub returns-in-End-clause-some : goal.returns-in-End-clause-some
+returns-in-End-clause-some c =
+    let next : skip c.loop-behind.after.now ≡ 41 ∷ c.in-End.behind.now = rw c.in-End.is at c.in_ok-behind.ensures in
+    lists_ended _ _ _ _ c.loop-behind.invariant next

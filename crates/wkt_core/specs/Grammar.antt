@@ -1,0 +1,104 @@
+-- The grammar of the texts: for each kind of text, which byte lists spell a value (OGC 06-103r4, 7.2, for three of its kinds).
+use Rattle.std.specs.Prelude.{◌≡◌, ◌==◌, ℕ, Bool, true, false, ◌||◌, List, [], ◌∷◌, ◌++◌, ◌⊎◌, ◌<◌, IsTrue, length, map, codes}
+use Rattle.std.specs.List.{AllByRecursion}
+use Rattle.std.specs.Char.{is_ascii_digit, to_ascii_lowercase}
+use Rattle.wkt_core.specs.declared.keyword.Keyword.{Keyword}
+use Rattle.wkt_core.specs.declared.keyword.Keyword.TheVariants.{Point, LineString, Polygon}
+
+-- a number as it is written: whether a minus stands before it, its digits before the dot, and those behind it
+pub record Numeral : Type 0 where
+  pub negative : Bool
+  pub whole : List ℕ
+  pub decimals : List ℕ
+
+-- a point as it is written
+pub record RawPoint : Type 0 where
+  pub x : Numeral
+  pub y : Numeral
+
+-- the texts that begin with one of the first kind, and go on with one of the second
+infixr 5 ◌then◌
+pub record ◌then◌ (A B : List ℕ → Type 0) (text : List ℕ) : Type 0 where
+  pub front : List ℕ
+  pub back : List ℕ
+  pub first : A front
+  pub second : B back
+  pub whole : text ≡ front ++ back
+
+-- this text alone
+abbrev pub Exactly : List ℕ → List ℕ → Type 0
+Exactly wanted text = text ≡ wanted
+
+-- space, tab, carriage return or line feed
+abbrev pub is_blank : ℕ → Bool
+is_blank b = b == 32 || b == 9 || b == 13 || b == 10
+
+abbrev pub IsBlank : ℕ → Type 0
+IsBlank b = IsTrue (is_blank b)
+
+abbrev pub IsDigit : ℕ → Type 0
+IsDigit b = IsTrue (is_ascii_digit b)
+
+-- white space, or none
+abbrev pub Blanks : List ℕ → Type 0
+Blanks text = AllByRecursion IsBlank text
+
+-- white space
+abbrev pub Gap : List ℕ → Type 0
+Gap text = (0 < length text) × Blanks text
+
+-- any count of digits
+abbrev pub Digits : List ℕ → Type 0
+Digits text = AllByRecursion IsDigit text
+
+-- a minus before a negative number, else nothing or a plus
+abbrev pub Sign : Bool → List ℕ → Type 0
+Sign true text = text ≡ codes "-"
+Sign false text = (text ≡ []) ⊎ (text ≡ codes "+")
+
+-- one digit or more
+abbrev pub Whole : List ℕ → List ℕ → Type 0
+Whole digits text = (0 < length digits) × Digits digits × (text ≡ digits)
+
+-- a dot and any count of digits; where there are none, nothing may stand in place of the dot
+abbrev pub Decimals : List ℕ → List ℕ → Type 0
+Decimals digits text = Digits digits × (((digits ≡ []) × (text ≡ [])) ⊎ (text ≡ codes "." ++ digits))
+
+abbrev pub Number : Numeral → List ℕ → Type 0
+Number n = Sign n.negative then Whole n.whole then Decimals n.decimals
+
+abbrev pub PointText : RawPoint → List ℕ → Type 0
+PointText p = Number p.x then Gap then Number p.y
+
+-- one item or more, with commas between them and a closing parenthesis behind them
+abbrev pub Listed : {X : Type 0} → (X → List ℕ → Type 0) → List X → List ℕ → Type 0
+Listed Item [] text = ⊥
+Listed Item (x ∷ []) text = (Blanks then Item x then Blanks then Exactly (codes ")")) text
+Listed Item (x ∷ y ∷ xs) text = (Blanks then Item x then Blanks then Exactly (codes ",") then Listed Item (y ∷ xs)) text
+
+abbrev pub InParentheses : {X : Type 0} → (X → List ℕ → Type 0) → List X → List ℕ → Type 0
+InParentheses Item xs = Exactly (codes "(") then Listed Item xs
+
+abbrev pub PointList : List RawPoint → List ℕ → Type 0
+PointList ps = InParentheses PointText ps
+
+-- what stands behind a keyword: one point, a list, or a list of lists
+abbrev pub Body : Keyword → List (List RawPoint) → List ℕ → Type 0
+Body Point ((p ∷ []) ∷ []) = PointList (p ∷ [])
+Body LineString (ps ∷ []) = PointList ps
+Body Polygon lists = InParentheses PointList lists
+Body _ _ = λ _. ⊥
+
+-- a keyword in small letters
+abbrev pub spelling : Keyword → List ℕ
+spelling Point = codes "point"
+spelling LineString = codes "linestring"
+spelling Polygon = codes "polygon"
+
+-- a keyword, in any case
+abbrev pub Word : Keyword → List ℕ → Type 0
+Word keyword text = map to_ascii_lowercase text ≡ spelling keyword
+
+-- the text is a keyword with lists of points, set out by the grammar
+abbrev pub Raw : List ℕ → Keyword → List (List RawPoint) → Type 0
+Raw text keyword lists = (Blanks then Word keyword then Blanks then Body keyword lists then Blanks) text

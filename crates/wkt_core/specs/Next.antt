@@ -1,0 +1,10 @@
+-- What stands behind an item of a list.
+use Rattle.std.specs.Prelude.{◌≡◌, ℕ, List, ◌∷◌, Option, Some, None}
+use Rattle.wkt_core.specs.declared.blank.Next.{Next}
+use Rattle.wkt_core.specs.declared.blank.Next.TheVariants.{Item, End}
+
+-- a comma, a closing parenthesis, or neither
+abbrev pub StandsNext : List ℕ → Option Next → Type 0
+StandsNext text (Some (Item rest)) = text ≡ 44 ∷ rest.now
+StandsNext text (Some (End rest)) = text ≡ 41 ∷ rest.now
+StandsNext text None = (rest : List ℕ) → ¬ (text ≡ 44 ∷ rest) × ¬ (text ≡ 41 ∷ rest)

@@ -1,0 +1,81 @@
+//! The plain parts of a text: white space, words and symbols.
+
+ghost use Rattle.std.specs.Prelude.{◌≡◌, ℕ, List, IfSome, IfNone};
+ghost use Rattle.wkt_core.specs.Grammar.{is_blank};
+ghost use Rattle.wkt_core.specs.Reading.{skip, gap_at, symbol_at, rest_view, TakesLetters};
+ghost use Rattle.wkt_core.specs.Next.{StandsNext};
+
+/// Space, tab, carriage return or line feed.
+#[inline(always)]
+fn is_blank(byte: u8) -> bool
+    ensures { result ≡ is_blank byte }
+{
+    matches!(byte, b' ' | b'\t' | b'\r' | b'\n')
+}
+
+/// The text behind its white space.
+#[inline(always)]
+pub(crate) fn skip_blanks(mut text: &[u8]) -> &[u8]
+    ensures { result.now ≡ skip text.now }
+{
+    while let [first, rest @ ..] = text
+        && is_blank(*first)
+    {
+        text = rest;
+    }
+    text
+}
+
+/// The text behind its white space, of which there is some.
+#[inline(always)]
+pub(crate) fn skip_gap(text: &[u8]) -> Option<&[u8]>
+    ensures { rest_view result ≡ gap_at text.now }
+{
+    match text {
+        [first, rest @ ..] if is_blank(*first) => Some(skip_blanks(rest)),
+        _ => None,
+    }
+}
+
+/// The text behind this byte.
+#[inline(always)]
+pub(crate) fn skip_symbol(text: &[u8], symbol: u8) -> Option<&[u8]>
+    ensures { rest_view result ≡ symbol_at symbol text.now }
+{
+    match text {
+        [first, rest @ ..] if *first == symbol => Some(rest),
+        _ => None,
+    }
+}
+
+/// What follows an item of a list: a comma or the closing parenthesis, and the text behind it.
+pub(crate) enum Next<'a> {
+    Item(&'a [u8]),
+    End(&'a [u8]),
+}
+
+/// What follows an item and its white space.
+#[inline(always)]
+pub(crate) fn read_next(text: &[u8]) -> Option<Next<'_>>
+    ensures { StandsNext (skip text.now) result }
+{
+    match skip_blanks(text) {
+        [b',', rest @ ..] => Some(Next::Item(rest)),
+        [b')', rest @ ..] => Some(Next::End(rest)),
+        _ => None,
+    }
+}
+
+/// The text behind this word, in any case.
+#[inline(always)]
+pub(crate) fn skip_word<'a>(text: &'a [u8], word: &[u8]) -> Option<&'a [u8]>
+    ensures some { IfSome result (λ rest. TakesLetters word.now text.now rest.now) }
+    ensures none { IfNone result ((rest : List ℕ) → TakesLetters word.now text.now rest → ⊥) }
+{
+    let (front, rest) = text.split_at_checked(word.len())?;
+    if front.eq_ignore_ascii_case(word) {
+        Some(rest)
+    } else {
+        None
+    }
+}

@@ -1,0 +1,90 @@
+//! The shape that the points of a text draw.
+
+ghost use Rattle.std.specs.Prelude.{◌↔◌, IsTrue, IfSome, IfNone};
+ghost use Rattle.geom_core.specs.declared.shape.Shape.{Shape};
+ghost use Rattle.wkt_core.specs.Spelling.{Draws, IsSegment, IsRectangle};
+ghost use Rattle.wkt_core.specs.Corners.{IsSpanned, AreParallel, LeadsRound, HasFourCorners};
+
+use geom_core::Shape;
+
+use crate::keyword::Keyword;
+use crate::position::Position;
+
+/// The smallest shape that has both points, where these are in range.
+#[inline(always)]
+fn spanned(p: &Position, q: &Position) -> Option<Shape>
+    ensures some { IfSome result (λ s. IsSpanned p.now q.now s) }
+    ensures none { IfNone result ((s : Shape) → IsSpanned p.now q.now s → ⊥) }
+{
+    Shape::new(p.x.min(q.x), p.y.min(q.y), p.x.max(q.x), p.y.max(q.y))
+}
+
+/// Whether the points share a coordinate.
+#[inline(always)]
+fn are_parallel(p: &Position, q: &Position) -> bool
+    ensures { IsTrue result ↔ AreParallel p.now q.now }
+{
+    p.x == q.x || p.y == q.y
+}
+
+/// The segment between two different points that share a coordinate.
+fn segment(p: &Position, q: &Position) -> Option<Shape>
+    ensures some { IfSome result (λ s. IsSegment p.now q.now s) }
+    ensures none { IfNone result ((s : Shape) → IsSegment p.now q.now s → ⊥) }
+{
+    if *p != *q && are_parallel(p, q) {
+        spanned(p, q)
+    } else {
+        None
+    }
+}
+
+/// Whether the way leads along the first axis, along the second, and along both again.
+#[inline(always)]
+fn leads_round(a: &Position, b: &Position, c: &Position, d: &Position) -> bool
+    ensures { IsTrue result ↔ LeadsRound a.now b.now c.now d.now }
+{
+    a.y == b.y && b.x == c.x && c.y == d.y && d.x == a.x
+}
+
+/// Whether these are the corners of a rectangle, in order round it.
+#[inline(always)]
+fn has_four_corners(a: &Position, b: &Position, c: &Position, d: &Position) -> bool
+    ensures { IsTrue result ↔ HasFourCorners a.now b.now c.now d.now }
+{
+    let round = leads_round(a, b, c, d) || leads_round(b, c, d, a);
+    round && a.x != c.x && a.y != c.y
+}
+
+/// The rectangle with these corners, in order round it.
+fn rectangle(a: &Position, b: &Position, c: &Position, d: &Position) -> Option<Shape>
+    ensures some { IfSome result (λ s. IsRectangle a.now b.now c.now d.now s) }
+    ensures none { IfNone result ((s : Shape) → IsRectangle a.now b.now c.now d.now s → ⊥) }
+{
+    if has_four_corners(a, b, c, d) {
+        spanned(a, c)
+    } else {
+        None
+    }
+}
+
+/// The shape that a list of points draws in a text with this keyword.
+pub(crate) fn shape_of(keyword: Keyword, points: &[Position]) -> Option<Shape>
+    ensures some { IfSome result (λ s. Draws keyword points.now s) }
+    ensures none { IfNone result ((s : Shape) → Draws keyword points.now s → ⊥) }
+{
+    match keyword {
+        Keyword::Point => match points {
+            [p] => spanned(p, p),
+            _ => None,
+        },
+        Keyword::LineString => match points {
+            [p, q] => segment(p, q),
+            _ => None,
+        },
+        Keyword::Polygon => match points {
+            [a, b, c, d, e] if *e == *a => rectangle(a, b, c, d),
+            _ => None,
+        },
+    }
+}

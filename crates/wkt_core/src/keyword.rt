@@ -1,0 +1,35 @@
+//! The keyword that a text begins with.
+
+use crate::blank::skip_word;
+
+/// The kind of a geometry, as its text names it.
+#[derive(Clone, Copy, Debug, PartialEq, Eq)]
+pub(crate) enum Keyword {
+    Point,
+    LineString,
+    Polygon,
+}
+
+impl Keyword {
+    ghost use Rattle.std.specs.Prelude.{ℕ, List, IfSome, IfNone};
+    ghost use Rattle.wkt_core.specs.Reading.{TakesWord};
+
+    /// The keyword at the front of a text, in any case, and what follows it.
+    #[inline(always)]
+    pub(crate) fn read(text: &[u8]) -> Option<(Keyword, &[u8])>
+        ensures some { IfSome result (λ r. TakesWord text.now r.0 r.1.now) }
+        ensures none { IfNone result
+            ((keyword : Keyword) (rest : List ℕ) → TakesWord text.now keyword rest → ⊥) }
+    {
+        if let Some(rest) = skip_word(text, b"point") {
+            return Some((Keyword::Point, rest));
+        }
+        if let Some(rest) = skip_word(text, b"linestring") {
+            return Some((Keyword::LineString, rest));
+        }
+        if let Some(rest) = skip_word(text, b"polygon") {
+            return Some((Keyword::Polygon, rest));
+        }
+        None
+    }
+}

@@ -1,0 +1,15 @@
+//! Laws of the texts.
+
+ghost use Rattle.std.specs.Prelude.{◌≡◌, List, ℕ};
+ghost use Rattle.geom_core.specs.declared.shape.Shape.{Shape};
+ghost use Rattle.wkt_core.specs.declared.keyword.Keyword.{Keyword};
+ghost use Rattle.wkt_core.specs.Grammar.{RawPoint, Raw};
+ghost use Rattle.wkt_core.specs.Spelling.{Spells};
+
+/// A text has at most one raw form, and spells at most one shape.
+pub fn one_shape_law()
+    ensures one_raw_form { (text : List ℕ) (k l : Keyword) (xs ys : List (List RawPoint))
+        → Raw text k xs → Raw text l ys → (k ≡ l) × (xs ≡ ys) }
+    ensures one_shape { (text : List ℕ) (s t : Shape) → Spells text s → Spells text t → s ≡ t }
+{
+}

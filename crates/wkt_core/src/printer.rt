@@ -1,0 +1,79 @@
+//! Printing a shape.
+
+ghost use Rattle.std.specs.Prelude.{◌≡◌, ◌++◌, [], ◌∷◌, codes, IfOk, OnOk};
+ghost use Rattle.std.specs.String.{string_bytes};
+ghost use Rattle.geom_core.specs.declared.shape.Shape.{Shape};
+ghost use Rattle.wkt_core.specs.Spelling.{Spells, pair, listed, corner, canonical};
+
+use geom_core::Shape;
+use itoa::Buffer;
+use std::alloc::{AllocError, Global};
+
+use crate::position::Position;
+
+/// The greatest count of bytes: a rectangle with ten numbers of eleven bytes.
+const LONGEST: usize = 135;
+
+/// Adds the two numbers of a point.
+fn push_point(text: &mut String, point: &Position) -> Result<(), AllocError>
+    ensures { OnOk result (string_bytes text.new ≡ string_bytes text.old ++ pair point.now) }
+{
+    let mut digits = Buffer::new();
+    text.push_str(digits.format(point.x))?;
+    text.push_str(" ")?;
+    text.push_str(digits.format(point.y))
+}
+
+/// Adds points, with a comma and a space between them.
+fn push_points(text: &mut String, points: &[Position]) -> Result<(), AllocError>
+    ensures { OnOk result (string_bytes text.new ≡ string_bytes text.old ++ listed points.now) }
+{
+    let Some((first, further)) = points.split_first() else {
+        return Ok(());
+    };
+    push_point(text, first)?;
+    for point in further {
+        text.push_str(", ")?;
+        push_point(text, point)?;
+    }
+    Ok(())
+}
+
+/// Adds a keyword with its opening parentheses, points, and the closing parentheses.
+fn push_geometry(
+    text: &mut String,
+    opening: &str,
+    points: &[Position],
+    closing: &str,
+) -> Result<(), AllocError>
+    ensures { OnOk result (string_bytes text.new
+        ≡ string_bytes text.old ++ (opening.now ++ listed points.now ++ closing.now)) }
+{
+    text.push_str(opening)?;
+    push_points(text, points)?;
+    text.push_str(closing)
+}
+
+/// The canonical spelling of the shape: plain decimal numbers, one space between the two numbers of
+/// a point, a comma and a space between points, and the ring of a rectangle from its lowest corner
+/// along the first axis.
+///
+/// # Errors
+/// Where memory is refused.
+pub fn print(alloc: Global, shape: &Shape) -> Result<String, AllocError>
+    ensures text { IfOk result (λ text. string_bytes text ≡ canonical shape.now) }
+    // The spelling is read again as the shape.
+    ensures spells { Spells (canonical shape.now) shape.now }
+{
+    let a = Position { x: shape.x1(), y: shape.y1() };
+    let b = Position { x: shape.x2(), y: shape.y1() };
+    let c = Position { x: shape.x2(), y: shape.y2() };
+    let d = Position { x: shape.x1(), y: shape.y2() };
+    let mut text = String::with_capacity(alloc, LONGEST)?;
+    match shape.dim() {
+        0 => push_geometry(&mut text, "POINT (", &[a], ")")?,
+        1 => push_geometry(&mut text, "LINESTRING (", &[a, c], ")")?,
+        _ => push_geometry(&mut text, "POLYGON ((", &[a, b, c, d, a], "))")?,
+    }
+    Ok(text)
+}

@@ -1,0 +1,44 @@
+//! Reading a text.
+
+ghost use Rattle.std.specs.Prelude.{◌≡◌, ◌↔◌, Ok, IsErrOf};
+ghost use Rattle.geom_core.specs.declared.shape.Shape.{Shape};
+ghost use Rattle.wkt_core.specs.Spelling.{Spells, HasNoRawForm, HasBadNumber, HasNoShape};
+
+use geom_core::Shape;
+
+use crate::fault::WktFault;
+use crate::raw::RawText;
+
+/// The shape that the text spells.
+///
+/// A text is `POINT (x y)`, `LINESTRING (x y, x y)` or `POLYGON ((x y, x y, x y, x y, x y))`
+/// (OGC 06-103r4, 7.2), with the keyword in any ASCII case. White space (space, tab, carriage
+/// return, line feed) may stand between any two parts and at both ends, and has to stand between
+/// the two numbers of a point. A number has an optional sign, one digit or more, and an optional
+/// dot with any count of digits behind it.
+///
+/// # Errors
+/// - [`WktFault::Text`] where the bytes are no text of this grammar, with any count of points and
+///   lists of points where the grammar has a list.
+/// - [`WktFault::Number`] where some number has a digit other than 0 behind its dot, or is beyond
+///   [`geom_core::LIMIT`].
+/// - [`WktFault::Form`] where a `LINESTRING` isn't two different points that share a coordinate, or
+///   a `POLYGON` isn't one ring of five points: the corners of a rectangle with a width and a
+///   height, in order round it, from any one, in either direction, and the first of them again.
+pub fn read(text: &[u8]) -> Result<Shape, WktFault>
+    ensures ok { (s : Shape) → (result ≡ Ok s) ↔ Spells text.now s }
+    ensures no_text { IsErrOf result WktFault.Text ↔ HasNoRawForm text.now }
+    ensures number { IsErrOf result WktFault.Number ↔ HasBadNumber text.now }
+    ensures form { IsErrOf result WktFault.Form ↔ HasNoShape text.now }
+{
+    let Some(raw) = RawText::read(text) else {
+        return Err(WktFault::Text);
+    };
+    if !raw.good() {
+        return Err(WktFault::Number);
+    }
+    match raw.shape() {
+        Some(shape) => Ok(shape),
+        None => Err(WktFault::Form),
+    }
+}
