@@ -1,0 +1,12 @@
+pub mod BoardClaims
+pub mod BoardClosing
+pub mod BoardLaws
+pub mod BoardMoves
+pub mod BoardTallies
+pub mod Byes
+pub mod Histories
+pub mod OutletCalls
+pub mod OutletLaws
+pub mod OutletRule
+pub mod Refusals
+pub mod Scripts

@@ -1,0 +1,71 @@
+-- What contracts see of a board and of its seats.
+use Rattle.std.specs.Prelude.{◌≡◌, ℕ, ◌≤◌, Bool, false, List, [], length, if◌then◌else◌, Option, Some, None}
+use Rattle.atomic_table.specs.Seated.{TableId}
+use Rattle.atomic_table.specs.declared.shared.Seat.{Seat}
+use Rattle.deliver_core.specs.declared.board.TheConstants.Board.{MAX_TASKS, MAX_SEATS}
+use Rattle.deliver_core.specs.declared.board.rule.Drawer.{Drawer}
+use Rattle.deliver_core.specs.declared.board.rule.Size.{Size}
+use Rattle.deliver_core.specs.Draws.{SeatState}
+
+-- a board: what no other board shares with it, its number of tasks and its number of seats
+pub record BoardValue : Type 0 where
+  pub id : TableId
+  pub tasks : ℕ
+  pub seats : ℕ
+
+-- a seat: the board that it draws from, until that is closed and the seat is spent; the numbers that it has drawn from it, in order; how many these are; and whether it has met the end of the numbers
+pub record SeatValue : Type 0 where
+  pub board : Option BoardValue
+  pub drawn : List ℕ
+  pub count : ℕ
+  pub done : Bool
+
+-- a seat of this board that has drawn nothing
+abbrev pub fresh_seat : BoardValue → SeatValue
+fresh_seat b = record { board = Some b; drawn = []; count = 0; done = false }
+
+-- the seat, after its board was closed
+abbrev pub spent_seat : SeatValue → SeatValue
+spent_seat s = record { board = None; drawn = []; count = s.count; done = s.done }
+
+-- what a seat has drawn and whether it is done, as the definition of the board has it
+abbrev pub state_of : SeatValue → SeatState
+state_of s = record { drawn = s.drawn; done = s.done }
+
+-- a seat of this board, which isn't spent
+abbrev pub IsSeatOf : BoardValue → SeatValue → Type 0
+IsSeatOf b s = s.board ≡ Some b
+
+-- what a board is made for
+abbrev pub size_of : BoardValue → Size
+size_of b = record { tasks = b.tasks; seats = b.seats }
+
+-- the board of a seat at a table
+abbrev pub board_of : Seat (Unit {0}) Drawer → BoardValue
+board_of s = record { id = s.table_id; tasks = s.me.0.tasks; seats = s.me.0.seats }
+
+-- the seat of which this is the seat at the table, if it isn't spent
+abbrev pub seat_value : Option (Seat (Unit {0}) Drawer) → ℕ → Bool → SeatValue
+seat_value (Some place) count done = record { board = Some (board_of place); drawn = place.me.0.drawn; count = count; done = done }
+seat_value None count done = record { board = None; drawn = []; count = count; done = done }
+
+-- what the seat at the table knows is what is counted beside it: it stands for one seat and holds no slot
+pub record IsCounted (s : Seat (Unit {0}) Drawer) (count : ℕ) (done : Bool) : Type 0 where
+  pub one : s.me.0.parts ≡ 1
+  pub slots : s.me.1 ≡ []
+  pub count_is : count ≡ length s.me.0.drawn
+  pub over_is : s.me.0.over ≡ (if done then 1 else 0)
+
+-- the same of a seat that may be spent
+abbrev pub IsCountedSeat : Option (Seat (Unit {0}) Drawer) → ℕ → Bool → Type 0
+IsCountedSeat (Some place) count done = IsCounted place count done
+IsCountedSeat None count done = Unit {0}
+
+-- the board's table has one word and no slot, and was made for this many tasks
+pub record IsMadeFor (id : TableId) (size : Size) (tasks : ℕ) : Type 0 where
+  pub words : id.words ≡ 1
+  pub slots : id.slots ≡ 0
+  pub tasks_are : tasks ≡ size.tasks
+  pub most_tasks : size.tasks ≤ MAX_TASKS
+  pub some_seats : 1 ≤ size.seats
+  pub most_seats : size.seats ≤ MAX_SEATS

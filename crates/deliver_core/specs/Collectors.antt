@@ -1,0 +1,63 @@
+-- what a collector holds, which messages it refuses and what it does with the others
+use Rattle.std.specs.Prelude.{◌≡◌, ◌↔◌, ℕ, ◌<◌, false, nat_lt, nat_le, ◌==◌, if◌then◌else◌, List, ◌++◌, Option, Some, None, Result, Ok, Err, IsTrue}
+use Rattle.std.specs.Ordering.{nat_cmp, ordering_then}
+use Rattle.std.specs.declared.cmp.Ordering.{Ordering}
+use Rattle.deliver_core.specs.declared.mark.Mark.{Mark}
+use Rattle.deliver_core.specs.declared.collector.Refusal.{Refusal}
+use Rattle.deliver_core.specs.declared.collector.Refusal.TheVariants.{Stranger, AfterEnd, Double, Gap, WrongCount}
+use Rattle.deliver_core.specs.declared.collector.Finish.{Finish}
+use Rattle.deliver_core.specs.declared.collector.Finish.TheVariants.{Open}
+use Rattle.deliver_core.specs.Marks.{has_end, batch_count, IsLegalHistory}
+use Rattle.deliver_core.specs.Scripts.{Content, batch_of, end_of, bye, marks_in, pairs_in}
+
+-- the number of tasks, the marks of what was accepted, in this order, and its pairs
+pub record Collection : Type 0 where
+  pub tasks : ℕ
+  pub marks : List Mark
+  pub pairs : List (ℕ × ℕ)
+
+-- what a closed collection becomes
+pub record Delivery : Type 0 where
+  pub marks : List Mark
+  pub pairs : List (ℕ × ℕ)
+
+-- the number that the next batch of a task has to have, or why the task takes none
+abbrev pub awaited : Collection → ℕ → Result ℕ Refusal
+awaited c task =
+    if nat_le c.tasks task then Err Stranger
+    else (if has_end task c.marks then Err AfterEnd else Ok (batch_count task c.marks))
+
+abbrev pub batch_refusal : Result ℕ Refusal → ℕ → Option Refusal
+batch_refusal (Err refusal) number = Some refusal
+batch_refusal (Ok next) number =
+    if nat_lt number next then Some Double else (if nat_lt next number then Some Gap else None)
+
+abbrev pub end_refusal : Result ℕ Refusal → ℕ → Option Refusal
+end_refusal (Err refusal) count = Some refusal
+end_refusal (Ok next) count = if count == next then None else Some WrongCount
+
+-- why a message is refused, if it is, for want of memory aside
+abbrev pub refusal_of : Collection → Content → Option Refusal
+refusal_of c (batch_of task number pairs) = batch_refusal (awaited c task) number
+refusal_of c (end_of task count) = end_refusal (awaited c task) count
+refusal_of c (bye ok) = None
+
+-- the collection once it has accepted a message: its mark and its pairs stand last
+abbrev pub accept : Collection → Content → Collection
+accept c content =
+    record { tasks = c.tasks; marks = c.marks ++ marks_in content; pairs = c.pairs ++ pairs_in content }
+
+-- a message is refused exactly where its mark would leave no legal history
+abbrev pub RefusesIllegal : Type 0
+RefusesIllegal =
+    (c : Collection) (content : Content) → IsLegalHistory c.tasks c.marks →
+    (refusal_of c content ≡ None) ↔ IsLegalHistory c.tasks (accept c content).marks
+
+-- the fault of a collection that is not closed: the least task without an end
+abbrev pub IsLeastOpen : Collection → Finish → Type 0
+IsLeastOpen c (Open task) =
+    (task < c.tasks) × (has_end task c.marks ≡ false) × ((other : ℕ) → other < task → IsTrue (has_end other c.marks))
+
+-- the order of pairs: by the first number, and then by the second
+abbrev pub pair_cmp : ℕ × ℕ → ℕ × ℕ → Ordering
+pair_cmp a b = ordering_then (nat_cmp a.0 b.0) (nat_cmp a.1 b.1)

@@ -1,0 +1,10 @@
+pub mod Boards
+pub mod Collectors
+pub mod Drawers
+pub mod Draws
+pub mod Marks
+pub mod Outlets
+pub mod Ports
+pub mod Posts
+pub mod Progress
+pub mod Scripts

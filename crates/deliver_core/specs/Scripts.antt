@@ -1,0 +1,56 @@
+-- what a message says, and the script of a task
+use Rattle.std.specs.Prelude.{ℕ, ◌+◌, ◌-◌, ◌*◌, ◌/◌, Bool, List, [], ◌∷◌, ◌++◌, map, length, take, drop}
+use Rattle.std.specs.List.{range_with_len}
+use Rattle.deliver_core.specs.declared.mark.Mark.{Mark}
+use Rattle.deliver_core.specs.declared.mark.Mark.TheVariants.{Batch, End}
+use Rattle.deliver_core.specs.declared.message.Body.{Body}
+use Rattle.deliver_core.specs.declared.message.Body.TheVariants as body
+use Rattle.deliver_core.specs.declared.message.Message.{Message}
+
+-- what a message says, whichever port it came by: a batch of a task with its number and pairs, the end of a task with the number of its batches, or a bye
+pub data Content : Type 0 where
+  batch_of : ℕ → ℕ → List (ℕ × ℕ) → Content
+  end_of : ℕ → ℕ → Content
+  bye : Bool → Content
+
+abbrev pub body_content : ℕ → Body → Content
+body_content task (body.Batch number pairs) = batch_of task number pairs.items
+body_content task (body.End count) = end_of task count
+body_content task (body.Bye ok) = bye ok
+
+abbrev pub content_of : Message → Content
+content_of message = body_content message.task message.body
+
+abbrev pub IsBye : Content → Type 0
+IsBye (batch_of task number pairs) = ⊥
+IsBye (end_of task count) = ⊥
+IsBye (bye ok) = Unit {0}
+
+-- the mark that a message leaves where it is accepted, if any
+abbrev pub marks_in : Content → List Mark
+marks_in (batch_of task number pairs) = Batch task number ∷ []
+marks_in (end_of task count) = End task count ∷ []
+marks_in (bye ok) = []
+
+abbrev pub pairs_in : Content → List (ℕ × ℕ)
+pairs_in (batch_of task number pairs) = pairs
+pairs_in (end_of task count) = []
+pairs_in (bye ok) = []
+
+-- how many batches of so many pairs a row takes, the last of which may be shorter
+abbrev pub batches_for : ℕ → List (ℕ × ℕ) → ℕ
+batches_for size row = (length row + (size - 1)) / size
+
+-- the pairs of batch `number`
+abbrev pub piece_of : ℕ → List (ℕ × ℕ) → ℕ → List (ℕ × ℕ)
+piece_of size row number = take size (drop (number * size) row)
+
+-- the first batches of a script
+abbrev pub script_batches : ℕ → ℕ → List (ℕ × ℕ) → ℕ → List Content
+script_batches task size row count =
+    map (λ number. batch_of task number (piece_of size row number)) (range_with_len 0 count)
+
+-- the script of a task: its row cut into batches of `size` pairs, the last being what is left, numbered from 0, and then the end with their number
+abbrev pub script : ℕ → ℕ → List (ℕ × ℕ) → List Content
+script task size row =
+    script_batches task size row (batches_for size row) ++ end_of task (batches_for size row) ∷ []

@@ -1,0 +1,119 @@
+//! The board, from which workers draw the numbers of tasks.
+ghost use Rattle.std.specs.Prelude.{◌≡◌, ℕ, ◌+◌, ◌<◌, ◌≤◌, List, [], ◌∷◌, ◌++◌, true, false, All, Any, None, IfSome, IfNone, IfOk, map, replicate, length, flat_map};
+ghost use Rattle.deliver_core.specs.Draws.{seat_after, AreNumbersBelow};
+ghost use Rattle.deliver_core.specs.Drawers.{ObeysRule};
+ghost use Rattle.deliver_core.specs.declared.board.rule.Drawer.{Drawer};
+
+mod rule;
+mod seat;
+
+use atomic_table::Table;
+use rule::{Draw, Drawer, EachOnce, JoinSeats, Size, SplitSeat};
+pub use seat::BoardSeat;
+use std::alloc::{AllocError, Global};
+use std::marker::Model;
+
+/// The numbers of tasks, from 0, each of which one seat draws, once. It is one atomic word, the number that is drawn next.
+#[derive(Drop)]
+pub struct Board {
+    table: Table<(), Drawer, Size, EachOnce, Global>,
+    tasks: u32,
+}
+
+impl Model for Board {
+    ghost use Rattle.deliver_core.specs.Boards.{BoardValue, IsMadeFor};
+
+    ghost Value = { BoardValue };
+
+    ghost view = { λ b. record { id = b.table.shared.table_id; tasks = b.tasks; seats = b.table.shared.key.seats } };
+
+    ghost invariant = { λ b. IsMadeFor b.table.shared.table_id b.table.shared.key b.tasks };
+}
+
+impl Board {
+    ghost use Rattle.deliver_core.specs.Boards.{fresh_seat, spent_seat, state_of, size_of, IsSeatOf};
+
+    /// The most tasks of a board.
+    pub const MAX_TASKS: u32 = 65_536;
+
+    /// The most seats of a board.
+    pub const MAX_SEATS: u32 = 16;
+
+    /// A board of this many tasks, and its seats, none of which has drawn.
+    pub fn new(alloc: Global, tasks: u32, seats: u32) -> Result<(Board, Vec<BoardSeat>), AllocError>
+        requires tasks { tasks ≤ Self.MAX_TASKS }
+        requires seats { (1 ≤ seats) × (seats ≤ Self.MAX_SEATS) }
+        ensures board { IfOk result (λ r. (r.0.tasks ≡ tasks) × (r.0.seats ≡ seats)) }
+        ensures seats { IfOk result (λ r. r.1.items ≡ replicate seats (fresh_seat r.0)) }
+    {
+        let mut given = Vec::with_capacity(alloc, seats as usize)?;
+        let (table, mut first) = Table::of_words(alloc, &[0], &Size { tasks, seats })?;
+        for _ in 1..seats {
+            given.push_reserved(BoardSeat::fresh(table.shared.split_seat::<SplitSeat>(&mut first)));
+        }
+        given.push_reserved(BoardSeat::fresh(first));
+        Ok((Board { table, tasks }, given))
+    }
+
+    /// Draws the next number for this seat, or tells that there is none left.
+    ///
+    /// It is one `fetch_add` of 1 on the board's word, or no step at all where the seat has met the end before. It takes no
+    /// memory, waits for nobody and always returns.
+    pub fn claim(&self, seat: &mut BoardSeat) -> Option<u32>
+        requires { IsSeatOf self.now seat.old }
+        ensures seat { IsSeatOf self.now seat.new }
+
+        // The number of a task, above all that the seat has drawn, which gains it.
+        ensures number { IfSome result (λ k. (k < self.now.tasks) × All (λ j. j < k) seat.old.drawn) }
+        ensures drawn { IfSome result
+            (λ k. (seat.new.drawn ≡ seat.old.drawn ++ k ∷ []) × (seat.new.done ≡ false)) }
+        ensures none { IfNone result
+            ((seat.new.drawn ≡ seat.old.drawn) × (seat.new.done ≡ true)) }
+
+        // A seat that is done makes no step. Each other one makes a draw, which found some word.
+        ensures done { seat.old.done ≡ true → result ≡ None }
+        ensures draw { seat.old.done ≡ false
+            → (word : ℕ) × (word < self.now.tasks + self.now.seats)
+            × (state_of seat.new ≡ seat_after self.now.tasks word (state_of seat.old)) }
+
+        // Whatever the word and what the seats know are, while the board's rule holds of them.
+        ensures word_bound { (word : ℕ) (views : List Drawer)
+            → ObeysRule (size_of self.now) word views → word ≤ self.now.tasks + self.now.seats }
+    {
+        if seat.done {
+            return None;
+        }
+        let Some(place) = &mut seat.place else {
+            unreachable!()
+        };
+        let word = self.table.shared.fetch_add::<Draw>(place, 0, 1);
+        if word < u64::from(self.tasks) {
+            seat.count += 1;
+            Some(word as u32)
+        } else {
+            seat.done = true;
+            None
+        }
+    }
+
+    /// Closes the board, to which all its seats have come. They come back spent, in the same order.
+    pub fn close(self, mut seats: Vec<BoardSeat>) -> Vec<BoardSeat>
+        requires all { length seats.items ≡ self.seats }
+        requires own { All (IsSeatOf self) seats.items }
+
+        // Each number was drawn by one seat, once; and all of them were, where a seat has met the end.
+        ensures numbers { (n : ℕ) × AreNumbersBelow n (flat_map (λ s. s.drawn) seats.items)
+            × (Any (λ s. s.done ≡ true) seats.items → n ≡ self.tasks) }
+        ensures counted { All (λ s. s.count ≡ length s.drawn) seats.items }
+        ensures spent { result.items ≡ map spent_seat seats.items }
+    {
+        let Board { table, tasks: _ } = self;
+        let mut all = seats[0].retire();
+        for i in 1..seats.len() {
+            let place = seats[i].retire();
+            table.shared.join_seat::<JoinSeats>(&mut all, place);
+        }
+        table.close_with(all).free();
+        seats
+    }
+}

@@ -1,0 +1,65 @@
+//! The rule of the board's word: each number below it was drawn by one seat, once.
+use atomic_table::{Join, Play, Split, TableRule};
+use std::collections::LinkedList;
+
+/// The numbers of tasks and of seats that a board is made for.
+#[derive(Clone, Copy)]
+pub struct Size {
+    pub tasks: u32,
+    pub seats: u32,
+}
+
+/// What a seat at the board's table knows: the board's numbers of tasks and of seats, how many of these seats it stands
+/// for (its parts), what they have drawn, and how many of their draws found no number. No value of it is made.
+pub struct Drawer {
+    pub tasks: u32,
+    pub seats: u32,
+    pub parts: u32,
+    pub drawn: LinkedList<u32>,
+    pub over: u32,
+}
+
+/// The numbers below the word, as far as there are tasks, were drawn, each once.
+pub struct EachOnce;
+
+impl TableRule<(), Drawer, Size> for EachOnce {
+    ghost use Rattle.std.specs.Prelude.{[]};
+    ghost use Rattle.deliver_core.specs.Drawers.{TableObeysRule, drawer};
+
+    ghost holds = { TableObeysRule };
+
+    ghost first = { λ size. drawer size.tasks size.seats size.seats [] 0 };
+}
+
+/// One draw: a `fetch_add` of 1 on the word.
+pub struct Draw;
+
+impl Play<(), Drawer> for Draw {
+    ghost use Rattle.deliver_core.specs.Drawers.{Drew};
+
+    ghost then = { Drew };
+}
+
+/// One of the seats that a view stands for goes to a view of its own.
+pub struct SplitSeat;
+
+impl Split<Drawer> for SplitSeat {
+    ghost use Rattle.std.specs.Prelude.{◌-◌, []};
+    ghost use Rattle.deliver_core.specs.Drawers.{drawer};
+
+    ghost left = { λ v. drawer v.tasks v.seats (v.parts - 1) v.drawn v.over };
+
+    ghost right = { λ v. drawer v.tasks v.seats 1 [] 0 };
+}
+
+/// One view takes over another's seats and what they drew.
+pub struct JoinSeats;
+
+impl Join<Drawer> for JoinSeats {
+    ghost use Rattle.std.specs.Prelude.{◌+◌, ◌++◌, []};
+    ghost use Rattle.deliver_core.specs.Drawers.{drawer};
+
+    ghost both = { λ v w. drawer v.tasks v.seats (v.parts + w.parts) (v.drawn ++ w.drawn) (v.over + w.over) };
+
+    ghost spent = { drawer 0 0 0 [] 0 };
+}

@@ -1,0 +1,26 @@
+//! The laws of the board.
+ghost use Rattle.std.specs.Prelude.{◌≡◌, ℕ, ◌+◌, ◌<◌, ◌≤◌, List, true, min, length, All, Any, count_by, sum_by, flat_map};
+ghost use Rattle.std.specs.List.Sorted.{IsStrictlyIncreasing};
+ghost use Rattle.deliver_core.specs.Draws.{AreNumbersBelow, after_draws};
+
+/// The laws of a board with any number of tasks and of seats, after every list of draws, each named by the place of its
+/// seat.
+///
+/// The seats' lists together are the numbers below the word, as far as there are tasks, each once, and each list rises.
+/// The word is the number of all these and of the seats that are done. Where any seat is done, the word has passed the
+/// number of tasks; and it never passes the numbers of tasks and seats together.
+pub fn draws_law()
+    ensures numbers { (tasks seats : ℕ) (events : List ℕ)
+        → let b = after_draws tasks seats events in
+        AreNumbersBelow (min b.word tasks) (flat_map (λ s. s.drawn) b.seats) }
+    ensures rising { (tasks seats : ℕ) (events : List ℕ)
+        → All (λ s. IsStrictlyIncreasing s.drawn) (after_draws tasks seats events).seats }
+    ensures word { (tasks seats : ℕ) (events : List ℕ)
+        → let b = after_draws tasks seats events in
+        b.word ≡ sum_by (λ s. length s.drawn) b.seats + count_by (λ s. s.done) b.seats }
+    ensures passed { (tasks seats : ℕ) (events : List ℕ)
+        → let b = after_draws tasks seats events in
+        Any (λ s. s.done ≡ true) b.seats → tasks < b.word }
+    ensures word_bound { (tasks seats : ℕ) (events : List ℕ)
+        → (after_draws tasks seats events).word ≤ tasks + seats }
+{}

@@ -1,0 +1,252 @@
+//! The collector: it accepts each task's batches in order, each once, and then its end, and gives all pairs in ascending order.
+ghost use Rattle.std.specs.Prelude.{◌≡◌, ◌↔◌, ◌<◌, [], true, false, length, All, IfOk, IfErr, IsOk, OnOk, OnErr, IsOkUnless, IfSome, IfNone, IsPermutation, IsSorted};
+ghost use Rattle.std.specs.List.{AllWithin, HoldsAt};
+ghost use Rattle.deliver_core.specs.declared.collector.Refusal.TheVariants.{Memory};
+ghost use Rattle.deliver_core.specs.Marks.{IsLegalHistory, IsClosed};
+ghost use Rattle.deliver_core.specs.Scripts.{content_of, batch_of, end_of, IsBye};
+ghost use Rattle.deliver_core.specs.Collectors.{awaited, refusal_of, accept, RefusesIllegal, IsLeastOpen, pair_cmp};
+
+use crate::mark::Mark;
+use crate::message::{Body, Message};
+use std::alloc::{AllocError, Global};
+use std::marker::Model;
+use thiserror::Error;
+
+/// Why a collector refuses a message; the first that applies is answered.
+#[derive(Clone, Copy, Debug, PartialEq, Eq, Error)]
+pub enum Refusal {
+    #[error("the task isn't one of the collector's")]
+    Stranger,
+    #[error("the task has ended")]
+    AfterEnd,
+    #[error("the batch was accepted before")]
+    Double,
+    #[error("a batch before this one is missing")]
+    Gap,
+    #[error("the end doesn't give the number of the task's batches")]
+    WrongCount,
+    #[error("out of memory")]
+    Memory,
+}
+
+impl From<AllocError> for Refusal {
+    ghost from_gives = { λ _ refusal. refusal ≡ Memory };
+
+    fn from(_error: AllocError) -> Refusal {
+        Refusal::Memory
+    }
+}
+
+/// Why a collector can't be finished.
+#[derive(Clone, Copy, Debug, PartialEq, Eq, Error)]
+pub enum Finish {
+    /// The least task without an end.
+    #[error("task {0} has no end")]
+    Open(u32),
+}
+
+/// How far a task has come: how many batches of it were accepted, and whether its end was.
+#[derive(Clone, Copy)]
+struct Progress {
+    next: u64,
+    ended: bool,
+}
+
+/// Gathers the batches of a number of tasks, in whatever order the tasks' messages interleave.
+#[derive(Drop)]
+pub struct Collector {
+    /// By task.
+    progress: Vec<Progress>,
+    marks: Vec<Mark>,
+    pairs: Vec<(u32, u32)>,
+}
+
+impl Model for Collector {
+    ghost use Rattle.deliver_core.specs.Collectors.{Collection};
+    ghost use Rattle.deliver_core.specs.Progress.{Tells};
+    ghost use Rattle.std.specs.Prelude.{length};
+
+    ghost Value = { Collection };
+
+    ghost view = { λ c. record { tasks = length c.progress.items; marks = c.marks.items; pairs = c.pairs.items } };
+
+    ghost invariant = { λ c. Tells c.progress.items c.marks.items };
+}
+
+impl Collector {
+    /// A collector of the tasks 0 to `tasks` - 1, which has accepted nothing.
+    pub fn new(alloc: Global, tasks: u32) -> Result<Collector, AllocError>
+        ensures { IfOk result (λ c. c ≡ record { tasks = tasks; marks = []; pairs = [] }) }
+    {
+        let start = Progress {
+            next: 0,
+            ended: false,
+        };
+        Ok(Collector {
+            progress: vec![in alloc; start; tasks as usize]?,
+            marks: Vec::new(alloc),
+            pairs: Vec::new(alloc),
+        })
+    }
+
+    /// The marks of what was accepted, in this order.
+    pub fn taken(&self) -> &[Mark]
+        ensures marks { result.now ≡ self.now.marks }
+        ensures history { IsLegalHistory self.now.tasks result.now }
+    {
+        self.marks.as_slice()
+    }
+
+    /// Accepts a message, or refuses and drops it. A refusal changes nothing, and only
+    /// `Memory` comes of memory: a message that is refused for another cause asks for none.
+    pub fn offer(&mut self, message: Message) -> Result<(), Refusal>
+        ensures ok { OnOk result (self.new ≡ accept self.old (content_of message)) }
+        ensures err { OnErr result (self.new ≡ self.old) }
+
+        // Which messages are refused, and why. Only memory can refuse another one, and no bye.
+        ensures refused { IfSome (refusal_of self.old (content_of message))
+            (λ refusal. result ≡ Err refusal) }
+        ensures accepted { IfNone (refusal_of self.old (content_of message))
+            (IsOkUnless result Refusal.Memory) }
+        ensures bye { IsBye (content_of message) → IsOk result }
+    {
+        let Message {
+            port: _,
+            task,
+            body,
+        } = message;
+        match body {
+            Body::Batch(number, pairs) => self.accept_batch(task, number, pairs),
+            Body::End(count) => self.accept_end(task, count),
+            Body::Bye(_) => Ok(()),
+        }
+    }
+
+    /// Ends with all pairs in ascending order, or names the least task that has no end.
+    /// It takes no memory.
+    pub fn finish(self) -> Result<Outcome, Finish>
+        ensures closed { IsOk result ↔ IsClosed self.tasks self.marks }
+        ensures least_open { IfErr result (IsLeastOpen self) }
+
+        // The pairs are those that were accepted, as often, and ascend.
+        ensures as_often { IfOk result (λ outcome. IsPermutation self.pairs outcome.pairs) }
+        ensures ascending { IfOk result (λ outcome. IsSorted pair_cmp outcome.pairs) }
+
+        ensures marks { IfOk result (λ outcome. outcome.marks ≡ self.marks) }
+        ensures history { IfOk result (λ outcome. IsLegalHistory self.tasks outcome.marks) }
+    {
+        let Collector {
+            progress,
+            marks,
+            mut pairs,
+        } = self;
+        if let Some(task) = first_open(progress.as_slice()) {
+            return Err(Finish::Open(task as u32));
+        }
+        pairs.sort_unstable();
+        Ok(Outcome { marks, pairs })
+    }
+
+    fn accept_batch(
+        &mut self,
+        task: u32,
+        number: u64,
+        mut pairs: Vec<(u32, u32)>,
+    ) -> Result<(), Refusal>
+        ensures ok { OnOk result (self.new ≡ accept self.old (batch_of task number pairs.items)) }
+        ensures err { OnErr result (self.new ≡ self.old) }
+        ensures refused { IfSome (refusal_of self.old (batch_of task number pairs.items))
+            (λ refusal. result ≡ Err refusal) }
+        ensures accepted { IfNone (refusal_of self.old (batch_of task number pairs.items))
+            (IsOkUnless result Refusal.Memory) }
+    {
+        let next = self.awaited(task)?;
+        if number < next {
+            return Err(Refusal::Double);
+        }
+        if number > next {
+            return Err(Refusal::Gap);
+        }
+        self.marks.reserve(1)?;
+        self.pairs.append(&mut pairs)?;
+        self.marks.push_reserved(Mark::Batch(task, number));
+        self.progress[task as usize].next += 1;
+        Ok(())
+    }
+
+    fn accept_end(&mut self, task: u32, count: u64) -> Result<(), Refusal>
+        ensures ok { OnOk result (self.new ≡ accept self.old (end_of task count)) }
+        ensures err { OnErr result (self.new ≡ self.old) }
+        ensures refused { IfSome (refusal_of self.old (end_of task count))
+            (λ refusal. result ≡ Err refusal) }
+        ensures accepted { IfNone (refusal_of self.old (end_of task count))
+            (IsOkUnless result Refusal.Memory) }
+    {
+        let next = self.awaited(task)?;
+        if count != next {
+            return Err(Refusal::WrongCount);
+        }
+        self.marks.reserve(1)?;
+        self.marks.push_reserved(Mark::End(task, count));
+        self.progress[task as usize].ended = true;
+        Ok(())
+    }
+
+    /// The number that the next batch of a task has to have.
+    fn awaited(&self, task: u32) -> Result<u64, Refusal>
+        ensures { result ≡ awaited self.now task }
+    {
+        let progress = self.progress.get(task as usize).ok_or(Refusal::Stranger)?;
+        if progress.ended {
+            return Err(Refusal::AfterEnd);
+        }
+        Ok(progress.next)
+    }
+}
+
+/// The first task that hasn't ended.
+fn first_open(progress: &[Progress]) -> Option<usize>
+    ensures none { IfNone result (All (λ p. p.ended ≡ true) progress.now) }
+    ensures within { IfSome result (λ task. task < length progress.now) }
+    ensures not_ended { IfSome result (λ task. HoldsAt (λ p. p.ended ≡ false) progress.now task) }
+    ensures first { IfSome result (AllWithin (λ p. p.ended ≡ true) progress.now 0) }
+{
+    progress.iter().position(|p| !p.ended)
+}
+
+/// Law of refusals: a collector refuses a message, but for want of memory, exactly where
+/// accepting it would leave no legal history.
+pub fn refusal_law()
+    ensures { RefusesIllegal }
+{}
+
+/// All pairs and marks of a collector that was finished.
+#[derive(Drop)]
+pub struct Outcome {
+    marks: Vec<Mark>,
+    pairs: Vec<(u32, u32)>,
+}
+
+impl Model for Outcome {
+    ghost use Rattle.deliver_core.specs.Collectors.{Delivery};
+
+    ghost Value = { Delivery };
+
+    ghost view = { λ o. record { marks = o.marks.items; pairs = o.pairs.items } };
+}
+
+impl Outcome {
+    /// The accepted pairs, each as often as it was accepted, in ascending order.
+    pub fn pairs(&self) -> &[(u32, u32)]
+        ensures { result.now ≡ self.now.pairs }
+    {
+        self.pairs.as_slice()
+    }
+
+    /// The marks of what was accepted, in this order.
+    pub fn taken(&self) -> &[Mark]
+        ensures { result.now ≡ self.now.marks }
+    {
+        self.marks.as_slice()
+    }
+}

@@ -1,0 +1,28 @@
+//! Delivery: numbered tasks are drawn by workers from one atomic word, and their batches reach one collector through one bounded queue.
+#![tactic(auto)]
+
+mod board;
+mod board_laws;
+mod collector;
+mod mark;
+mod message;
+mod outlet;
+mod outlet_laws;
+mod port;
+mod post;
+mod script;
+mod tap;
+
+pub use board::{Board, BoardSeat};
+pub use board_laws::draws_law;
+pub use collector::{Collector, Finish, Outcome, Refusal, refusal_law};
+pub use mark::Mark;
+pub use message::{Body, Message};
+pub use outlet::Outlet;
+pub use outlet_laws::outlet_law;
+pub use port::Port;
+pub use script::script_law;
+pub use tap::Tap;
+
+#[cfg(test)]
+mod tests;

@@ -1,0 +1,176 @@
+//! The outlet: one bounded queue by which the messages of every port reach the tap.
+use crate::message::{Body, Message};
+use crate::port::Port;
+use crate::post::{InOrder, Make, Meet, Post, Put, Take};
+use crate::tap::Tap;
+use crossbeam_queue::{Pass, RuledArrayQueue};
+use std::alloc::{AllocError, Global};
+use std::sync::Wait;
+use std::thread;
+
+// How many messages may wait.
+const ROOM: usize = 64;
+
+type Queue = RuledArrayQueue<Message, Post, InOrder>;
+
+/// A queue of 64 messages, which the ports fill and the tap empties. Each put is one successful push and each take one
+/// successful pop, so the messages of a port are taken in the order in which it sent them.
+#[derive(Drop)]
+pub struct Outlet {
+    queue: Queue,
+}
+
+impl Outlet {
+    ghost use Rattle.std.specs.Prelude.{◌≡◌, ◌<◌, ◌≤◌, ◌++◌, [], ◌∷◌, true, false, Some, IsSome, IfOk, IfSome, IfNone, All, map, vec_len};
+    ghost use Rattle.std.specs.List.{range_with_len};
+    ghost use mathlib.Core.List.{IsPrefix};
+    ghost use Rattle.crossbeam_queue.specs.Passes.{view, IsPassOf, IsSamePass};
+    ghost use Rattle.deliver_core.specs.Outlets.{of_port};
+    ghost use Rattle.deliver_core.specs.Posts.{is_bye, has_bye, sender_of, is_receiver, sent_of, Begins, IsAfterSend, IsAfterTake, IsAfterMiss, IsAfterMeet};
+    ghost use Rattle.deliver_core.specs.Ports.{index_of, has_said_bye, is_spent, sent_by, taken_by, met_by, port_count, IsPortOf, IsTapOf, IsFreshPort, IsFreshTap, bye_of};
+
+    /// The most ports of an outlet.
+    pub const MAX_PORTS: u32 = 16;
+
+    /// An outlet with 1 to 16 ports, in the order of their indexes, and its tap. It fails only for want of memory.
+    pub fn new(alloc: Global, ports: u32) -> Result<(Outlet, Vec<Port>, Tap), AllocError>
+        requires some { 1 ≤ ports }
+        requires few { ports ≤ Self.MAX_PORTS }
+        ensures count { IfOk result (λ r. vec_len r.1 ≡ ports) }
+        ensures indexes { IfOk result (λ r. map index_of r.1.items ≡ range_with_len 0 ports) }
+        ensures fresh { IfOk result (λ r. All (IsFreshPort r.0) r.1.items) }
+        ensures tap { IfOk result (λ r. IsFreshTap r.0 ports r.2) }
+    {
+        let mut all = Vec::with_capacity(alloc, ports as usize)?;
+        let (queue, mut pass) = Queue::ruled(alloc, ROOM)?;
+        for index in 0..ports {
+            all.push_reserved(Port::new(index, queue.another::<Make>(&mut pass)));
+        }
+        Ok((Outlet { queue }, all, Tap { pass }))
+    }
+
+    /// Puts a message, which has the port's index and is no Bye. It waits while the outlet is full.
+    pub fn put<R: Wait>(&self, rt: &R, port: &mut Port, message: Message)
+        requires outlet { IsPortOf self.now port.old }
+        requires open { has_said_bye port.old ≡ false }
+        requires index { message.port ≡ index_of port.old }
+        requires body { is_bye message ≡ false }
+        ensures outlet { IsPortOf self.now port.new }
+        ensures index { index_of port.new ≡ index_of port.old }
+        ensures open { has_said_bye port.new ≡ false }
+        ensures sent { sent_by port.new ≡ sent_by port.old ++ message ∷ [] }
+    {
+        let Some(pass) = &mut port.pass else {
+            unreachable!()
+        };
+        self.send(rt, pass, message);
+    }
+
+    /// Ends the port's messages with its Bye. It waits while the outlet is full.
+    pub fn bye<R: Wait>(&self, rt: &R, port: &mut Port, ok: bool)
+        requires outlet { IsPortOf self.now port.old }
+        requires open { has_said_bye port.old ≡ false }
+        ensures outlet { IsPortOf self.now port.new }
+        ensures index { index_of port.new ≡ index_of port.old }
+        ensures said { has_said_bye port.new ≡ true }
+        ensures unmet { is_spent port.new ≡ false }
+        ensures sent { sent_by port.new ≡ sent_by port.old ++ bye_of (index_of port.old) ok ∷ [] }
+    {
+        let bye = Message {
+            port: port.index,
+            task: 0,
+            body: Body::Bye(ok),
+        };
+        let Some(pass) = &mut port.pass else {
+            unreachable!()
+        };
+        self.send(rt, pass, bye);
+        port.said_bye = true;
+    }
+
+    /// Takes the message that has waited longest. `None` says that nothing waited at one moment of the call.
+    pub fn take<R: Wait>(&self, rt: &R, tap: &mut Tap) -> Option<Message>
+        requires { IsTapOf self.now tap.old }
+        ensures outlet { IsTapOf self.now tap.new }
+        ensures ports { port_count tap.new ≡ port_count tap.old }
+        ensures met { met_by tap.new ≡ met_by tap.old }
+        ensures some { IfSome result (λ m. taken_by tap.new ≡ taken_by tap.old ++ m ∷ []) }
+        ensures none { IfNone result (taken_by tap.new ≡ taken_by tap.old) }
+        ensures known { IfSome result (λ m. m.port < port_count tap.old) }
+        // Nothing of a port follows its Bye. Of each port that was met, a beginning was taken, and all of it at `None`.
+        ensures live { IfSome result (λ m. has_bye (of_port m.port (taken_by tap.old)) ≡ false) }
+        ensures begins { All (λ p. IsPrefix (of_port p.index (taken_by tap.new)) p.sent) (met_by tap.new) }
+        ensures empty { IfNone result (All (λ p. of_port p.index (taken_by tap.new) ≡ p.sent) (met_by tap.new)) }
+    {
+        self.receive(rt, &mut tap.pass)
+    }
+
+    /// Ties the tap's list to that of a port that has said bye: what was taken of the port is a beginning of what it
+    /// sent, and all of it where its Bye was taken. The port comes back spent, and to meet it again changes nothing. The
+    /// call waits for nobody.
+    pub fn meet<R: Wait>(&self, _rt: &R, tap: &mut Tap, mut port: Port) -> Port
+        requires tap { IsTapOf self.now tap.old }
+        requires port { IsPortOf self.now port }
+        requires said { has_said_bye port ≡ true }
+        ensures tap { IsTapOf self.now tap.new }
+        ensures ports { port_count tap.new ≡ port_count tap.old }
+        ensures taken { taken_by tap.new ≡ taken_by tap.old }
+
+        ensures port { IsPortOf self.now result }
+        ensures index { index_of result ≡ index_of port }
+        ensures said { has_said_bye result ≡ true }
+        ensures spent { is_spent result ≡ true }
+
+        ensures met { is_spent port ≡ false → met_by tap.new ≡ record { index = index_of port; sent = sent_by port } ∷ met_by tap.old }
+        ensures begins { is_spent port ≡ false → IsPrefix (of_port (index_of port) (taken_by tap.new)) (sent_by port) }
+        ensures whole { is_spent port ≡ false → has_bye (of_port (index_of port) (taken_by tap.new)) ≡ true → of_port (index_of port) (taken_by tap.new) ≡ sent_by port }
+        ensures again { is_spent port ≡ true → (result ≡ port) × (tap.new ≡ tap.old) }
+    {
+        if let Some(pass) = port.pass.take() {
+            self.join(&mut tap.pass, pass);
+        }
+        port
+    }
+
+    // Pushes the message, and tries again while the queue is full.
+    fn send<R: Wait>(&self, rt: &R, pass: &mut Pass<Message, Post>, mut message: Message)
+        requires queue { IsPassOf self.now.queue pass.old }
+        requires sender { sender_of (view pass.old) ≡ Some message.port }
+        requires open { has_bye (sent_of (view pass.old)) ≡ false }
+        ensures queue { IsSamePass pass.old pass.new }
+        ensures sent { IsAfterSend message (view pass.old) (view pass.new) }
+    {
+        for _ in rt.forever() {
+            match self.queue.push_as::<Put, R>(rt, pass, message) {
+                Ok(()) => return,
+                Err(back) => message = back,
+            }
+            thread::yield_now();
+        }
+        unreachable!()
+    }
+
+    // Pops a message, if one waits.
+    fn receive<R: Wait>(&self, rt: &R, pass: &mut Pass<Message, Post>) -> Option<Message>
+        requires queue { IsPassOf self.now.queue pass.old }
+        requires receiver { is_receiver (view pass.old) ≡ true }
+        ensures queue { IsSamePass pass.old pass.new }
+        ensures begins { Begins (view pass.new) }
+        ensures some { IfSome result (λ m. IsAfterTake m (view pass.old) (view pass.new)) }
+        ensures none { IfNone result (IsAfterMiss (view pass.old) (view pass.new)) }
+    {
+        self.queue.pop_as::<Take, R>(rt, pass)
+    }
+
+    // Joins the pass of a port to the tap's, and looks at what waits.
+    fn join(&self, pass: &mut Pass<Message, Post>, port: Pass<Message, Post>)
+        requires queue { IsPassOf self.now.queue pass.old × IsPassOf self.now.queue port }
+        requires receiver { is_receiver (view pass.old) ≡ true }
+        requires sender { IsSome (sender_of (view port)) }
+        ensures queue { IsSamePass pass.old pass.new }
+        ensures met { IfSome (sender_of (view port)) (IsAfterMeet (view port) (view pass.old) (view pass.new)) }
+    {
+        self.queue.absorb::<Meet>(pass, port);
+        self.queue.learn_as::<Take>(pass);
+    }
+}
