@@ -18,7 +18,8 @@ use Rattle.geom_core.specs.Joined.{same_corners, same_ends}
 use Rattle.geom_core.specs.Shapes.{dim_of, span_dim}
 use Rattle.geom_core.specs.Matrices.{IsInterior, IsBoundary, IsExterior, IsExtent, IsMatrix}
 use Rattle.geom_core.specs.Masks.{FitsRow, row}
-use Rattle.geom_core.specs.Relations.{mask, masks, FitsOne, Holds, InteriorsMeet}
+use Rattle.geom_core.specs.Relations.{mask, masks, FitsOne, ForbidsDisjoint, Holds, InteriorsMeet}
+use Rattle.geom_core.proofs.SpanLemmas.{common_line}
 use Rattle.geom_core.proofs.OneMatrix.{Share, one_matrix, shared, none_shared, empty, not_empty}
 
 -- a place of a closed interval is inner or not
@@ -351,3 +352,22 @@ touches_law a b m h =
 
 pub inner_swapped : (a b : Shape) → InteriorsMeet a b → InteriorsMeet b a
 inner_swapped a b (u, v, i, j) = (u, v, j, i)
+
+spans_meet_or_not : (a b : Span) → ((u : ℤ) × IsWithin a u × IsWithin b u) ⊎ ¬ ((u : ℤ) × IsWithin a u × IsWithin b u)
+spans_meet_or_not a b =
+    by_lt_z a.hi b.lo
+    (λ before. inr (λ (u, p, q). omega (arith, ints)))
+    (λ h. by_lt_z b.hi a.lo (λ behind. inr (λ (u, p, q). omega (arith, ints))) (λ k. inl (common_line a b k h)))
+
+pub meets_or_not : (a b : Shape) → Meets a b ⊎ ¬ (Meets a b)
+meets_or_not a b = elim (spans_meet_or_not a.x b.x) [
+  | inr n ↦ inr (λ (u, v, p, q). n (u, p.0, q.0))
+  | inl (u, p, q) ↦ elim (spans_meet_or_not a.y b.y) [
+    | inr n ↦ inr (λ (w, v, p, q). n (v, p.1, q.1))
+    | inl (v, r, t) ↦ inl (u, v, (p, r), (q, t))
+  ]
+]
+
+-- shapes for which a relation holds that forbids disjoint shapes meet
+pub forbids_meets : (r : Relation) → ForbidsDisjoint r → (a b : Shape) → Holds r a b → Meets a b
+forbids_meets r f a b h = elim (meets_or_not a b) [ inl meets ↦ meets | inr n ↦ absurd (f a b n h) ]

@@ -51,10 +51,12 @@ impl JoinRelation {
         &self.relation
     }
 
-    /// Whether it holds for two shapes. Shapes that don't meet cost no matrix.
+    /// Whether the relation holds for two shapes, which then meet. This is the inner test of a
+    /// join: shapes that don't meet cost four comparisons.
     #[inline(always)]
     pub fn holds(&self, a: &Shape, b: &Shape) -> bool
-        ensures { IsTrue result ↔ Holds (relation_of self.now) a.now b.now }
+        ensures holds { IsTrue result ↔ Holds (relation_of self.now) a.now b.now }
+        ensures meet { IsTrue result → Meets a.now b.now }
     {
         a.meets(b) && self.relation.holds(a, b)
     }
@@ -76,13 +78,6 @@ fn allows_disjoint(relation: &Relation) -> bool
     false
 }
 
-/// Whether one of the masks fits.
-fn one_fits(masks: &[Mask], matrix: &Matrix) -> bool
-    ensures { IsTrue result ↔ FitsOne masks.now matrix.now }
-{
-    masks.iter().any(|mask| mask.fits(matrix))
-}
-
 /// The same, where the first of the two shapes has this dimension.
 fn allows_disjoint_after(relation: &Relation, first_dim: u8) -> bool
     requires { first_dim < 3 }
@@ -95,6 +90,13 @@ fn allows_disjoint_after(relation: &Relation, first_dim: u8) -> bool
         }
     }
     false
+}
+
+/// Whether one of the masks fits.
+fn one_fits(masks: &[Mask], matrix: &Matrix) -> bool
+    ensures { IsTrue result ↔ FitsOne masks.now matrix.now }
+{
+    masks.iter().any(|mask| mask.fits(matrix))
 }
 
 /// The matrix of two disjoint shapes of these dimensions: each part of one lies in the exterior

@@ -10,14 +10,19 @@ use crate::shape::Shape;
 use arrayvec::ArrayVec;
 use std::cmp::Ordering;
 
+/// The letter `T` of the masks below.
 const T: PatternValue = PatternValue::NotEmpty;
 
+/// The letter `F`.
 const F: PatternValue = PatternValue::Exactly(Extent::Empty);
 
+/// The letter `0`.
 const ZERO: PatternValue = PatternValue::Exactly(Extent::Point);
 
+/// The letter `1`.
 const ONE: PatternValue = PatternValue::Exactly(Extent::Line);
 
+/// The letter `*`.
 const ANY: PatternValue = PatternValue::Any;
 
 /// A relation of two shapes: a mask, or a named predicate (OGC 06-103r4, 6.1.15.3).
@@ -66,7 +71,8 @@ impl Relation {
         }
     }
 
-    /// The masks of which one has to fit, for shapes of these two dimensions.
+    /// The masks of which one has to fit, for shapes of these two dimensions (OGC 06-103r4,
+    /// 6.1.15.3). No masks mean that the relation doesn't hold.
     pub fn masks(&self, first_dim: u8, second_dim: u8) -> ArrayVec<Mask, 4>
         requires first { first_dim ≤ 2 }
         requires second { second_dim ≤ 2 }
@@ -100,7 +106,8 @@ impl Relation {
         }
     }
 
-    /// Whether one of the masks for the two dimensions fits the matrix of the two shapes.
+    /// Whether one of the masks for the two dimensions fits the matrix of the two shapes. Most
+    /// names are tested as sets of points, which costs no matrix.
     #[inline(always)]
     pub fn holds(&self, a: &Shape, b: &Shape) -> bool
         ensures masks { IsTrue result ↔ Holds self.now a.now b.now }
@@ -205,6 +212,7 @@ fn overlaps(matrix: &Matrix, first_dim: u8, second_dim: u8) -> bool
         && matrix.rows.exterior.interior != Extent::Empty
 }
 
+/// What a mask asks of one part of the first shape with each part of the second.
 fn row(
     interior: PatternValue,
     boundary: PatternValue,
@@ -219,6 +227,7 @@ fn row(
     }
 }
 
+/// The mask of three rows.
 fn mask(
     interior: Parts<PatternValue>,
     boundary: Parts<PatternValue>,
@@ -235,6 +244,7 @@ fn mask(
     }
 }
 
+/// The masks as a list that takes no memory.
 fn list(masks: &[Mask]) -> ArrayVec<Mask, 4>
     requires { length masks.now ≤ 4 }
     ensures { result.items ≡ masks.now }
