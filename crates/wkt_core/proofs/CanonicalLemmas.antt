@@ -66,7 +66,9 @@ raw p = record { x = numeral p.x; y = numeral p.y }
 point_printed : (p : Position) → InRange p → PointText (raw p) (pair p)
 unfolding InRange raw
 point_printed p h = record {
-  front = signed_decimal p.x; back = 32 ∷ signed_decimal p.y; first = number_printed p.x h.0;
+  front = signed_decimal p.x;
+  back = 32 ∷ signed_decimal p.y;
+  first = number_printed p.x h.0;
   second = record { front = codes " "; back = signed_decimal p.y; first = (omega arith, (refl, tt)); second = number_printed p.y h.1; whole = refl };
   whole = append_assoc (signed_decimal p.x) (codes " ") (signed_decimal p.y);
 }
@@ -87,20 +89,30 @@ AllInRange ps = AllByRecursion InRange ps
 points_printed : (p : Position) (ps : List Position) (w : List ℕ) → AllInRange (p ∷ ps) → Blanks w → Listed PointText (map raw (p ∷ ps)) (w ++ (listed (p ∷ ps) ++ 41 ∷ []))
 unfolding AllInRange
 points_printed p [] w h blank = record {
-  front = w; back = (pair p ++ []) ++ 41 ∷ []; first = blank;
+  front = w;
+  back = (pair p ++ []) ++ 41 ∷ [];
+  first = blank;
   second = record {
-    front = pair p; back = 41 ∷ []; first = point_printed p h.0;
+    front = pair p;
+    back = 41 ∷ [];
+    first = point_printed p h.0;
     second = record { front = []; back = 41 ∷ []; first = tt; second = refl; whole = refl };
     whole = ap (λ t. t ++ 41 ∷ []) (append-nil (pair p));
   };
   whole = refl;
 }
 points_printed p (q ∷ ps) w h blank = record {
-  front = w; back = (pair p ++ 44 ∷ 32 ∷ listed (q ∷ ps)) ++ 41 ∷ []; first = blank;
+  front = w;
+  back = (pair p ++ 44 ∷ 32 ∷ listed (q ∷ ps)) ++ 41 ∷ [];
+  first = blank;
   second = record {
-    front = pair p; back = 44 ∷ 32 ∷ (listed (q ∷ ps) ++ 41 ∷ []); first = point_printed p h.0;
+    front = pair p;
+    back = 44 ∷ 32 ∷ (listed (q ∷ ps) ++ 41 ∷ []);
+    first = point_printed p h.0;
     second = record {
-      front = []; back = 44 ∷ 32 ∷ (listed (q ∷ ps) ++ 41 ∷ []); first = tt;
+      front = [];
+      back = 44 ∷ 32 ∷ (listed (q ∷ ps) ++ 41 ∷ []);
+      first = tt;
       second = record { front = codes ","; back = 32 ∷ (listed (q ∷ ps) ++ 41 ∷ []); first = refl; second = points_printed q ps (32 ∷ []) h.1 (refl, tt); whole = refl };
       whole = refl;
     };
@@ -116,11 +128,17 @@ ring_printed : (p : Position) (ps : List Position) → AllInRange (p ∷ ps) →
 ring_printed p ps h =
     let list = 40 ∷ (listed (p ∷ ps) ++ 41 ∷ []) in
     record {
-      front = codes "("; back = 40 ∷ (listed (p ∷ ps) ++ 41 ∷ 41 ∷ []); first = refl;
+      front = codes "(";
+      back = 40 ∷ (listed (p ∷ ps) ++ 41 ∷ 41 ∷ []);
+      first = refl;
       second = record {
-        front = []; back = 40 ∷ (listed (p ∷ ps) ++ 41 ∷ 41 ∷ []); first = tt;
+        front = [];
+        back = 40 ∷ (listed (p ∷ ps) ++ 41 ∷ 41 ∷ []);
+        first = tt;
         second = record {
-          front = list; back = 41 ∷ []; first = list_printed p ps h;
+          front = list;
+          back = 41 ∷ [];
+          first = list_printed p ps h;
           second = record { front = []; back = 41 ∷ []; first = tt; second = refl; whole = refl };
           whole = ap (λ t. 40 ∷ t) (sym (append_assoc (listed (p ∷ ps)) (41 ∷ []) (41 ∷ [])));
         };
@@ -132,11 +150,17 @@ ring_printed p ps h =
 -- a keyword, a space and what stands behind it
 text_printed : (keyword : Keyword) (lists : List (List RawPoint)) (word body : List ℕ) → Word keyword word → Body keyword lists body → Raw (word ++ 32 ∷ body) keyword lists
 text_printed keyword lists word body h b = record {
-  front = []; back = word ++ 32 ∷ body; first = tt;
+  front = [];
+  back = word ++ 32 ∷ body;
+  first = tt;
   second = record {
-    front = word; back = 32 ∷ body; first = h;
+    front = word;
+    back = 32 ∷ body;
+    first = h;
     second = record {
-      front = codes " "; back = body; first = (refl, tt);
+      front = codes " ";
+      back = body;
+      first = (refl, tt);
       second = record { front = body; back = []; first = b; second = tt; whole = sym (append-nil body) };
       whole = refl;
     };

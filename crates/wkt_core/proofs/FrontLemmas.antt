@@ -123,10 +123,11 @@ Begins A text x rest = (s : List ℕ) × A x s × (text ≡ s ++ rest)
 unsigned_more : (negative : Bool) (x text : List ℕ) (b : ℕ) (u : List ℕ) (v : Bool) → Sign negative x → text ≡ x ++ b ∷ u → is_ascii_digit b ≡ v →
     IfSome {T = Numeral × List ℕ} (cond v (Some (record { negative = negative; whole = b ∷ digits_at u; decimals = (decimals_at (after_digits u)).0 }, (decimals_at (after_digits u)).1)) None) (λ p. Begins Number text p.0 p.1)
 unsigned_more negative x text b u true h e p =
-    let (y, hy, ey) = decimals_split (after_digits u) in
-    (x ++ ((b ∷ digits_at u) ++ y),
+    let (y, hy, ey) = decimals_split (after_digits u) in (
+      x ++ ((b ∷ digits_at u) ++ y),
       record { front = x; back = (b ∷ digits_at u) ++ y; first = h; second = record { front = b ∷ digits_at u; back = y; first = (omega arith, (p, are_digits u), refl); second = hy; whole = refl }; whole = refl },
-      e ∙ ap (λ w. x ++ b ∷ w) (digits_split u ∙ ap (λ w. digits_at u ++ w) ey) ∙ sym (simp append_assoc))
+      e ∙ ap (λ w. x ++ b ∷ w) (digits_split u ∙ ap (λ w. digits_at u ++ w) ey) ∙ sym (simp append_assoc),
+    )
 unsigned_more negative x text b u false h e p = tt
 
 unsigned_reads : (negative : Bool) (x text u : List ℕ) → Sign negative x → text ≡ x ++ u → IfSome (unsigned_at negative u) (λ p. Begins Number text p.0 p.1)
@@ -157,10 +158,11 @@ point_begins text p rest e =
     let (s, hs, ps) = number_begins text x.0 x.1 at_x in
     let (w, hw, pw) = gap_begins x.1 u at_u in
     let (t, ht, pt) = number_begins u y.0 y.1 at_y in
-    let parts = some_pair_parts _ _ _ _ e3 in
-    (s ++ (w ++ t),
+    let parts = some_pair_parts _ _ _ _ e3 in (
+      s ++ (w ++ t),
       subst (λ q. PointText q (s ++ (w ++ t))) parts.0 (record { front = s; back = w ++ t; first = hs; second = record { front = w; back = t; first = hw; second = ht; whole = refl }; whole = refl }),
-      ps ∙ ap (λ v. s ++ v) (pw ∙ ap (λ v. w ++ v) (pt ∙ ap (λ v. t ++ v) parts.1)) ∙ sym (simp append_assoc)))))
+      ps ∙ ap (λ v. s ++ v) (pw ∙ ap (λ v. w ++ v) (pt ∙ ap (λ v. t ++ v) parts.1)) ∙ sym (simp append_assoc),
+    ))))
 
 -- ---- from the grammar to what is read
 

@@ -18,18 +18,20 @@ module _ {X : Type 0} (A : X → List ℕ → Type 0) (Item : List ℕ → X →
   items_begin reading (x ∷ []) t e (m, i, h) =
       let (w, hw, ew) = blanks_skipped t in
       let (s, hs, es) = reading.begins (skip t) x m i in
-      let (v, hv, ev) = blanks_skipped m in
-      (w ++ (s ++ (v ++ 41 ∷ [])),
+      let (v, hv, ev) = blanks_skipped m in (
+        w ++ (s ++ (v ++ 41 ∷ [])),
         record { front = w; back = s ++ (v ++ 41 ∷ []); first = hw; second = record { front = s; back = v ++ 41 ∷ []; first = hs; second = record { front = v; back = 41 ∷ []; first = hv; second = refl; whole = refl }; whole = refl }; whole = refl },
-        ew ∙ ap (λ u. w ++ u) (es ∙ ap (λ u. s ++ u) (ev ∙ ap (λ u. v ++ u) h)) ∙ sym (simp append_assoc))
+        ew ∙ ap (λ u. w ++ u) (es ∙ ap (λ u. s ++ u) (ev ∙ ap (λ u. v ++ u) h)) ∙ sym (simp append_assoc),
+      )
   items_begin reading (x ∷ y ∷ xs) t e (m, n, i, h, r) =
       let (w, hw, ew) = blanks_skipped t in
       let (s, hs, es) = reading.begins (skip t) x m i in
       let (v, hv, ev) = blanks_skipped m in
-      let (z, hz, ez) = items_begin reading (y ∷ xs) n e r in
-      (w ++ (s ++ (v ++ 44 ∷ z)),
+      let (z, hz, ez) = items_begin reading (y ∷ xs) n e r in (
+        w ++ (s ++ (v ++ 44 ∷ z)),
         record { front = w; back = s ++ (v ++ 44 ∷ z); first = hw; second = record { front = s; back = v ++ 44 ∷ z; first = hs; second = record { front = v; back = 44 ∷ z; first = hv; second = record { front = 44 ∷ []; back = z; first = refl; second = hz; whole = refl }; whole = refl }; whole = refl }; whole = refl },
-        ew ∙ ap (λ u. w ++ u) (es ∙ ap (λ u. s ++ u) (ev ∙ ap (λ u. v ++ u) (h ∙ ap (λ u. 44 ∷ u) ez))) ∙ sym (simp append_assoc))
+        ew ∙ ap (λ u. w ++ u) (es ∙ ap (λ u. s ++ u) (ev ∙ ap (λ u. v ++ u) (h ∙ ap (λ u. 44 ∷ u) ez))) ∙ sym (simp append_assoc),
+      )
 
   -- an item with white space round it, before a comma or the end
   module _ (reading : IsReading A Item) (x : X) (w s v : List ℕ) (hw : Blanks w) (hs : A x s) (hv : Blanks v) (rest : List ℕ) (stop : Stops rest) (solid : NoBlank rest) where
@@ -45,18 +47,23 @@ module _ {X : Type 0} (A : X → List ℕ → Type 0) (Item : List ℕ → X →
       let a = h.second in
       let b = a.second in
       let regrouped : s ++ rest ≡ h.front ++ (a.front ++ (b.front ++ 41 ∷ rest)) = rw (h.whole, a.whole, b.whole, b.second) (simp append_assoc) in
-      rw regrouped (b.front ++ 41 ∷ rest,
+      rw regrouped (
+        b.front ++ 41 ∷ rest,
         item_taken reading x h.front a.front b.front h.first a.first b.first (41 ∷ rest) refl refl,
-        behind_item reading x h.front a.front b.front h.first a.first b.first (41 ∷ rest) refl refl)
+        behind_item reading x h.front a.front b.front h.first a.first b.first (41 ∷ rest) refl refl,
+      )
   items_front reading (x ∷ y ∷ xs) s rest h =
       let a = h.second in
       let b = a.second in
       let d = b.second in
       let regrouped : s ++ rest ≡ h.front ++ (a.front ++ (b.front ++ 44 ∷ (d.back ++ rest))) = rw (h.whole, a.whole, b.whole, d.whole, d.first) (simp append_assoc) in
-      rw regrouped (b.front ++ 44 ∷ (d.back ++ rest), d.back ++ rest,
+      rw regrouped (
+        b.front ++ 44 ∷ (d.back ++ rest),
+        d.back ++ rest,
         item_taken reading x h.front a.front b.front h.first a.first b.first (44 ∷ (d.back ++ rest)) refl refl,
         behind_item reading x h.front a.front b.front h.first a.first b.first (44 ∷ (d.back ++ rest)) refl refl,
-        items_front reading (y ∷ xs) d.back rest d.second)
+        items_front reading (y ∷ xs) d.back rest d.second,
+      )
 
   -- one text, one list
   items_same : IsExact Item → (xs ys : List X) (t e f : List ℕ) → Items Item xs t e → Items Item ys t f → (xs ≡ ys) × (e ≡ f)

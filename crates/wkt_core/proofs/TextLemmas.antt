@@ -149,7 +149,7 @@ raw_taken text keyword lists h =
     let d = b.second in
     let regrouped : text ≡ h.front ++ (a.front ++ (b.front ++ (d.front ++ d.back))) = rw (h.whole, a.whole, b.whole, d.whole) refl in
     let at_word : skip text ≡ a.front ++ (b.front ++ (d.front ++ d.back)) =
-        ap skip regrouped ∙ skip_blanks h.front _ h.first ∙ skip_solid _ (word_solid keyword a.front (b.front ++ (d.front ++ d.back)) a.first) in
+    ap skip regrouped ∙ skip_blanks h.front _ h.first ∙ skip_solid _ (word_solid keyword a.front (b.front ++ (d.front ++ d.back)) a.first) in
     let at_body : skip (b.front ++ (d.front ++ d.back)) ≡ d.front ++ d.back = skip_blanks b.front _ b.first ∙ skip_solid _ (body_solid keyword lists d.front d.back d.first) in
     let at_end : skip d.back ≡ [] = ap skip (sym (append-nil d.back)) ∙ skip_blanks d.back [] d.second in
     (b.front ++ (d.front ++ d.back), d.back, (a.front, a.first ∙ sym (small keyword), at_word), rw at_body (body_front keyword lists d.front d.back d.first), at_end)
@@ -162,9 +162,13 @@ taken_raw text keyword lists (m, e, (w, word, at_word), body, end) =
     let (z, hz, ez) = blanks_skipped e in
     let ended : e ≡ z = ez ∙ ap (λ t. z ++ t) end ∙ append-nil z in
     record {
-      front = u; back = w ++ (v ++ (s ++ z)); first = hu;
+      front = u;
+      back = w ++ (v ++ (s ++ z));
+      first = hu;
       second = record {
-        front = w; back = v ++ (s ++ z); first = word ∙ small keyword;
+        front = w;
+        back = v ++ (s ++ z);
+        first = word ∙ small keyword;
         second = record { front = v; back = s ++ z; first = hv; second = record { front = s; back = z; first = hs; second = hz; whole = refl }; whole = refl };
         whole = refl;
       };

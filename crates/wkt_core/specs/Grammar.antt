@@ -5,7 +5,7 @@ use Rattle.std.specs.Char.{is_ascii_digit, to_ascii_lowercase}
 use Rattle.wkt_core.specs.declared.keyword.Keyword.{Keyword}
 use Rattle.wkt_core.specs.declared.keyword.Keyword.TheVariants.{Point, LineString, Polygon}
 
--- a number as it is written: whether a minus stands before it, its digits before the dot, and those behind it
+-- a number as it is written (its digits as bytes): whether a minus stands before it, its digits before the dot, and those behind it
 pub record Numeral : Type 0 where
   pub negative : Bool
   pub whole : List ℕ

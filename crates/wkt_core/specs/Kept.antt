@@ -7,7 +7,7 @@ use Rattle.wkt_core.specs.Grammar.{RawPoint}
 use Rattle.wkt_core.specs.Spelling.{position}
 use Rattle.wkt_core.specs.Reading.{are_good}
 
--- whether each number is whole and in range, and if so the first points
+-- whether each number is whole and in range, and if so the first six points: one more than a ring has
 pub record Keeps (kept : KeptPoints) (ps : List RawPoint) : Type 0 where
   pub good : kept.good ≡ are_good ps
   pub first : IsTrue (are_good ps) → kept.points.items ≡ take 6 (map position ps)

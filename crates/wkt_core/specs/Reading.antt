@@ -1,4 +1,5 @@
--- What each step of the reader takes from the front of a text, and what it leaves.
+-- What each private step of the reader takes from the front of a text, and what it leaves.
+-- Only contracts inside the crate cite these words; proofs/ ties them to the grammar, in both directions.
 use Rattle.std.specs.Prelude.{◌≡◌, ◌==◌, ◌&&◌, ℕ, nat_le, nat_abs, ℤ, Bool, true, false, List, [], ◌∷◌, ◌++◌, Option, Some, None, is_some, option_and_then, if◌then◌else◌, ◌<◌, ◌≤◌, ◌⊎◌, map, take, drop, codes, length}
 use Rattle.std.specs.List.{list_all}
 use Rattle.std.specs.Char.{is_ascii_digit, to_ascii_lowercase}
@@ -40,12 +41,12 @@ abbrev pub after_digits : List ℕ → List ℕ
 after_digits [] = []
 after_digits (b ∷ text) = if is_ascii_digit b then after_digits text else b ∷ text
 
--- whether a minus stands at the front, and the text behind it or behind a plus
+-- whether a minus (45) stands at the front, and the text behind it or behind a plus (43)
 abbrev pub sign_at : List ℕ → Bool × List ℕ
 sign_at [] = (false, [])
 sign_at (b ∷ text) = if b == 43 then (false, text) else if b == 45 then (true, text) else (false, b ∷ text)
 
--- the digits behind a dot, and what follows them
+-- the digits behind a dot (46), and what follows them
 abbrev pub decimals_at : List ℕ → List ℕ × List ℕ
 decimals_at [] = ([], [])
 decimals_at (b ∷ text) = if b == 46 then (digits_at text, after_digits text) else ([], b ∷ text)
@@ -108,7 +109,7 @@ abbrev pub rest_view : Option (Bor (List ℕ)) → Option (List ℕ)
 rest_view None = None
 rest_view (Some r) = Some r.now
 
--- items behind white space, with commas between them and a closing parenthesis at the end; Item says which value begins a text, and what it leaves
+-- items behind white space, with commas (44) between them and a closing parenthesis (41) at the end; Item says which value begins a text, and what it leaves
 abbrev pub Items : {X : Type 0} → (List ℕ → X → List ℕ → Type 0) → List X → List ℕ → List ℕ → Type 0
 Items Item [] text rest = ⊥
 Items Item (x ∷ []) text rest = (m : List ℕ) × Item (skip text) x m × (skip m ≡ 41 ∷ rest)
@@ -119,9 +120,11 @@ abbrev pub Begun : {X : Type 0} → (List ℕ → X → List ℕ → Type 0) →
 Begun Item [] text rest = rest ≡ text
 Begun Item (x ∷ xs) text rest = (m : List ℕ) × (u : List ℕ) × Item (skip text) x m × (skip m ≡ 44 ∷ u) × Begun Item xs u rest
 
+-- the same behind an opening parenthesis (40)
 abbrev pub Enclosed : {X : Type 0} → (List ℕ → X → List ℕ → Type 0) → List ℕ → List X → List ℕ → Type 0
 Enclosed Item text xs rest = (u : List ℕ) × (text ≡ 40 ∷ u) × Items Item xs u rest
 
+-- a point, a list of points and a list of lists at the front
 abbrev pub TakesPoint : List ℕ → RawPoint → List ℕ → Type 0
 TakesPoint text p rest = point_at text ≡ Some (p, rest)
 

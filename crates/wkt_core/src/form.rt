@@ -5,10 +5,9 @@ ghost use Rattle.geom_core.specs.declared.shape.Shape.{Shape};
 ghost use Rattle.wkt_core.specs.Spelling.{Draws, IsSegment, IsRectangle};
 ghost use Rattle.wkt_core.specs.Corners.{IsSpanned, AreParallel, LeadsRound, HasFourCorners};
 
-use geom_core::Shape;
-
 use crate::keyword::Keyword;
 use crate::position::Position;
+use geom_core::Shape;
 
 /// The smallest shape that has both points, where these are in range.
 #[inline(always)]

@@ -1,8 +1,7 @@
 //! What is kept of the points of a text while it is read.
 
-use arrayvec::ArrayVec;
-
 use crate::position::Position;
+use arrayvec::ArrayVec;
 
 /// One more than the points of the longest list that draws a shape, the ring of a rectangle.
 const KEPT: usize = 6;

@@ -1,6 +1,6 @@
 //! The keyword that a text begins with.
 
-use crate::blank::skip_word;
+use crate::token::skip_word;
 
 /// The kind of a geometry, as its text names it.
 #[derive(Clone, Copy, Debug, PartialEq, Eq)]

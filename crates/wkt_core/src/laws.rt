@@ -11,5 +11,4 @@ pub fn one_shape_law()
     ensures one_raw_form { (text : List ℕ) (k l : Keyword) (xs ys : List (List RawPoint))
         → Raw text k xs → Raw text l ys → (k ≡ l) × (xs ≡ ys) }
     ensures one_shape { (text : List ℕ) (s t : Shape) → Spells text s → Spells text t → s ≡ t }
-{
-}
+{}

@@ -1,7 +1,16 @@
-//! Well-known text of points, axis-parallel segments and rectangles, read and printed.
+//! Well-known text of points, axis-parallel segments and rectangles (OGC 06-103r4, 7.2), read and
+//! printed.
+//!
+//! | Text | Read as |
+//! |---|---|
+//! | `POINT (4 -2)`, ` point(+4.00 -2. )` | the point (4, -2) |
+//! | `LINESTRING (3 0, 1 0)` | the segment from (1, 0) to (3, 0) |
+//! | `POLYGON ((0 0, 4 0, 4 2, 0 2, 0 0))`, `Polygon((4 2,4 0,0 0,0 2,4 2))` | the rectangle from (0, 0) to (4, 2) |
+//! | `POINT EMPTY`, `POINT (1,2)`, `POINT (1e3 0)`, `POINT (1 2) x` | [`WktFault::Text`] |
+//! | `POINT (1.5 0)`, `POINT (1000000001 0)` | [`WktFault::Number`] |
+//! | `LINESTRING (0 0, 1 1)`, `LINESTRING (0 0, 1 0, 2 0)`, `POLYGON ((0 0, 4 0, 4 2, 0 2, 0 1))` | [`WktFault::Form`] |
 #![tactic(auto)]
 
-mod blank;
 mod fault;
 mod form;
 mod kept;
@@ -13,6 +22,7 @@ mod position;
 mod printer;
 mod raw;
 mod reader;
+mod token;
 
 pub use fault::WktFault;
 pub use laws::one_shape_law;

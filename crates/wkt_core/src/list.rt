@@ -5,9 +5,9 @@ ghost use Rattle.wkt_core.specs.Grammar.{RawPoint};
 ghost use Rattle.wkt_core.specs.Reading.{TakesPoints, TakesLists};
 ghost use Rattle.wkt_core.specs.Kept.{Keeps, KeepsLists};
 
-use crate::blank::{Next, read_next, skip_blanks, skip_symbol};
 use crate::kept::{KeptLists, KeptPoints};
 use crate::position::read_point;
+use crate::token::{Next, read_next, skip_blanks, skip_symbol};
 
 /// The list of points at the front of a text, and what follows it.
 pub(crate) fn read_points(text: &[u8]) -> Option<(KeptPoints, &[u8])>

@@ -3,8 +3,8 @@
 ghost use Rattle.std.specs.Prelude.{◌≡◌};
 ghost use Rattle.wkt_core.specs.Reading.{point_at, point_view, read_point_of, position_from};
 
-use crate::blank::skip_gap;
 use crate::number::read_number;
+use crate::token::skip_gap;
 
 /// A point of the plane.
 #[derive(Clone, Copy, Debug, Default, PartialEq, Eq)]

@@ -5,11 +5,10 @@ ghost use Rattle.std.specs.String.{string_bytes};
 ghost use Rattle.geom_core.specs.declared.shape.Shape.{Shape};
 ghost use Rattle.wkt_core.specs.Spelling.{Spells, pair, listed, corner, canonical};
 
+use crate::position::Position;
 use geom_core::Shape;
 use itoa::Buffer;
 use std::alloc::{AllocError, Global};
-
-use crate::position::Position;
 
 /// The greatest count of bytes: a rectangle with ten numbers of eleven bytes.
 const LONGEST: usize = 135;
@@ -65,10 +64,22 @@ pub fn print(alloc: Global, shape: &Shape) -> Result<String, AllocError>
     // The spelling is read again as the shape.
     ensures spells { Spells (canonical shape.now) shape.now }
 {
-    let a = Position { x: shape.x1(), y: shape.y1() };
-    let b = Position { x: shape.x2(), y: shape.y1() };
-    let c = Position { x: shape.x2(), y: shape.y2() };
-    let d = Position { x: shape.x1(), y: shape.y2() };
+    let a = Position {
+        x: shape.x1(),
+        y: shape.y1(),
+    };
+    let b = Position {
+        x: shape.x2(),
+        y: shape.y1(),
+    };
+    let c = Position {
+        x: shape.x2(),
+        y: shape.y2(),
+    };
+    let d = Position {
+        x: shape.x1(),
+        y: shape.y2(),
+    };
     let mut text = String::with_capacity(alloc, LONGEST)?;
     match shape.dim() {
         0 => push_geometry(&mut text, "POINT (", &[a], ")")?,

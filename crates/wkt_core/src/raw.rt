@@ -1,12 +1,11 @@
 //! A whole text by the grammar, and what its points draw.
 
-use geom_core::Shape;
-
-use crate::blank::skip_blanks;
 use crate::form::shape_of;
 use crate::kept::KeptLists;
 use crate::keyword::Keyword;
 use crate::list::{read_lists, read_points, read_single};
+use crate::token::skip_blanks;
+use geom_core::Shape;
 
 /// What is kept of a well formed text.
 #[derive(Drop)]

@@ -4,10 +4,9 @@ ghost use Rattle.std.specs.Prelude.{◌≡◌, ◌↔◌, Ok, IsErrOf};
 ghost use Rattle.geom_core.specs.declared.shape.Shape.{Shape};
 ghost use Rattle.wkt_core.specs.Spelling.{Spells, HasNoRawForm, HasBadNumber, HasNoShape};
 
-use geom_core::Shape;
-
 use crate::fault::WktFault;
 use crate::raw::RawText;
+use geom_core::Shape;
 
 /// The shape that the text spells.
 ///

@@ -1,9 +1,8 @@
 //! Texts read and shapes printed.
 
-use geom_core::{LIMIT, Shape};
-use std::alloc::{AllocError, Global};
-
 use crate::{WktFault, one_shape_law, print, read};
+use geom_core::{LIMIT, relate};
+use std::alloc::{AllocError, Global};
 
 /// The corners of the shape that a text spells.
 fn corners(text: &[u8]) -> Result<(i64, i64, i64, i64), WktFault> {
@@ -26,13 +25,21 @@ fn wkt_readings(rt: HostRuntime) -> Result<(), AllocError> {
     let shapes: [(&[u8], (i64, i64, i64, i64), &str); 5] = [
         (b"POINT (1.000 -0)", (1, 0, 1, 0), "POINT (1 0)"),
         (b" Point(+007. 2 ) ", (7, 2, 7, 2), "POINT (7 2)"),
-        (b"LINESTRING (3 0, 1 0)", (1, 0, 3, 0), "LINESTRING (1 0, 3 0)"),
+        (
+            b"LINESTRING (3 0, 1 0)",
+            (1, 0, 3, 0),
+            "LINESTRING (1 0, 3 0)",
+        ),
         (
             b"POLYGON((4 4,4 0,0 0,0 4,4 4))",
             (0, 0, 4, 4),
             "POLYGON ((0 0, 4 0, 4 4, 0 4, 0 0))",
         ),
-        (b"POINT (1000000000 0)", (LIMIT, 0, LIMIT, 0), "POINT (1000000000 0)"),
+        (
+            b"POINT (1000000000 0)",
+            (LIMIT, 0, LIMIT, 0),
+            "POINT (1000000000 0)",
+        ),
     ];
     for (text, wanted, canonical) in shapes {
         assert_eq!(rt; corners(text), Ok(wanted));
@@ -57,5 +64,84 @@ fn wkt_readings(rt: HostRuntime) -> Result<(), AllocError> {
     for (text, fault) in faults {
         assert_eq!(rt; corners(text), Err(fault));
     }
+    Ok(())
+}
+
+/// The matrix of the shapes that two texts spell.
+fn related(first: &[u8], second: &[u8]) -> Result<[u8; 9], WktFault> {
+    Ok(relate(&read(first)?, &read(second)?).text())
+}
+
+#[test]
+fn relate_points(rt: HostRuntime) {
+    assert_eq!(rt; related(b"POINT (4 4)", b"POINT(4 4)"), Ok(*b"0FFFFFFF2"));
+    assert_eq!(rt; related(b"POINT (4 4)", b"POINT (5 4)"), Ok(*b"FF0FFF0F2"));
+}
+
+#[test]
+fn ring_spellings(rt: HostRuntime) {
+    let square = b"POLYGON ((0 0, 4 0, 4 4, 0 4, 0 0))";
+    let ring = b"polygon((4 4,4 0,0 0,0 4,4 4))";
+    assert_eq!(rt; related(square, ring), Ok(*b"2FFF1FFF2"));
+}
+
+#[test]
+fn white_space_and_cases(rt: HostRuntime) {
+    let spread = b"\tLineString\r\n( \t-1 \n +2.0 ,-1\t00005. ) ";
+    assert_eq!(rt; corners(spread), Ok((-1, 2, -1, 5)));
+    let texts: [&[u8]; 3] = [b"POINT (1 -2.)", b"POINT(1  -2 )", b"pOiNt (1\t-2)"];
+    for text in texts {
+        assert_eq!(rt; corners(text), Ok((1, -2, 1, -2)));
+    }
+    let faults: [(&[u8], WktFault); 8] = [
+        (b"POINT (1-2)", WktFault::Text),
+        (b"POINT (- 1 2)", WktFault::Text),
+        (b"POINT (1 2, 3 4)", WktFault::Text),
+        (b"LINESTRING (0 0 1 0)", WktFault::Text),
+        (
+            b"POLYGON ((0 0, 1 0, 1 1, 0 1, 0 0), (0 0))",
+            WktFault::Form,
+        ),
+        (
+            b"POLYGON ((0 0, 1 0, 1 1, 0 1, 0 0), (0.5 0))",
+            WktFault::Number,
+        ),
+        (b"POLYGON ((0 0, 1 1, 1 0, 0 1, 0 0))", WktFault::Form),
+        (b"POLYGON ((0 0, 1 0, 1 0, 0 0, 0 0))", WktFault::Form),
+    ];
+    for (text, fault) in faults {
+        assert_eq!(rt; corners(text), Err(fault));
+    }
+}
+
+#[test]
+fn long_texts(rt: HostRuntime) -> Result<(), AllocError> {
+    let mut digits = String::from_str(rt.alloc(), "POINT (0 ")?;
+    for _ in 0..1_000_000 {
+        digits.push_str("9")?;
+    }
+    assert_eq!(rt; corners(digits.as_bytes()), Err(WktFault::Text));
+    digits.push_str(")")?;
+    assert_eq!(rt; corners(digits.as_bytes()), Err(WktFault::Number));
+    let mut points = String::from_str(rt.alloc(), "LINESTRING (0 0")?;
+    for _ in 0..10_000 {
+        points.push_str(", 1 0")?;
+    }
+    assert_eq!(rt; corners(points.as_bytes()), Err(WktFault::Text));
+    points.push_str(")")?;
+    assert_eq!(rt; corners(points.as_bytes()), Err(WktFault::Form));
+    Ok(())
+}
+
+#[test]
+fn greatest_rectangle(rt: HostRuntime) -> Result<(), AllocError> {
+    let text =
+        "POLYGON ((-1000000000 -1000000000, 1000000000 -1000000000, 1000000000 1000000000, -1000000000 1000000000, -1000000000 -1000000000))";
+    assert_eq!(rt;
+        corners(text.as_bytes()),
+        Ok((-LIMIT, -LIMIT, LIMIT, LIMIT))
+    );
+    assert_eq!(rt; reprinted(rt.alloc(), text.as_bytes())?.as_str(), text);
+    one_shape_law();
     Ok(())
 }

@@ -17,8 +17,8 @@ returns-in_err-lists-clause-none c =
     let word = rw c.skip_blanks.ensures at c.in_ok-keyword.ensures.some in
     let body = rw c.skip_blanks-2.ensures at c.in_err-lists.ensures.none in
     let none : (keyword : Keyword) (lists : List (List RawPoint)) → TakesText c.args.text.now keyword lists → ⊥ = λ keyword lists h.
-        let (same, (e, b, p)) = read_on c.args.text.now c.in_ok-keyword.keyword c.in_ok-keyword.rest.now word keyword lists h in
-        body lists e b in
+    let (same, (e, b, p)) = read_on c.args.text.now c.in_ok-keyword.keyword c.in_ok-keyword.rest.now word keyword lists h in
+    body lists e b in
     if_none _ none
 
 pub returns-in_default-clause-none : goal.returns-in_default-clause-none

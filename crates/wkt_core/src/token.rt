@@ -1,4 +1,4 @@
-//! The plain parts of a text: white space, words and symbols.
+//! The tokens of a text that carry no number: white space, words and symbols.
 
 ghost use Rattle.std.specs.Prelude.{◌≡◌, ℕ, List, IfSome, IfNone};
 ghost use Rattle.wkt_core.specs.Grammar.{is_blank};
