@@ -1,0 +1,4 @@
+pub mod Lists
+pub mod SlotLemmas
+pub mod TableLemmas
+pub mod RowLemmas

@@ -1,0 +1,17 @@
+use Rattle.std.proofs.Common.{sym, ap}
+use Rattle.std.specs.HashMap.{keys}
+use Rattle.std.specs.Option.{option_map}
+use Rattle.layer_core.proofs.TableLemmas.{with_id-absent, with_id-only}
+use Rattle.layer_core.proofs.features.Features.find.Goals as goal
+
+pub returns-in_err-number : goal.returns-in_err-number
+returns-in_err-number c =
+    let absent = rw c.as_slice.ensures.value at c.in_err-number.ensures.found in
+    let none = with_id-absent (keys c.self.inside.ids) c.self.inside.slots.items c.args.id.now absent in
+    rw (c.from_residual.ensures, ← c.self.view_is) (sym (ap (option_map (λ f. (f.number, f.shape))) none))
+
+pub returns : goal.returns
+returns c =
+    let only = rw c.as_slice.ensures.value at c.in_ok-number.ensures.found in
+    let some = with_id-only (keys c.self.inside.ids) c.self.inside.slots.items c.args.id.now c.in_ok-number.number c.in_ok-number.slot only in
+    rw (← c.self.view_is) (sym (ap (option_map (λ f. (f.number, f.shape))) some))

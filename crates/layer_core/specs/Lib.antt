@@ -1,0 +1,7 @@
+pub mod Edits
+pub mod Layers
+pub mod Refusals
+pub mod Rows
+pub mod Sources
+pub mod Tables
+pub mod Walks

@@ -1,0 +1,70 @@
+//! Edits of two layers.
+
+use crate::fault::LayerFault;
+use crate::layer::Layer;
+use geom_core::Shape;
+
+/// One of the two layers of a join.
+#[derive(Clone, Copy, Debug, PartialEq, Eq)]
+pub enum Side {
+    Left,
+    Right,
+}
+
+/// An insertion into one of two layers, or a deletion from it.
+#[derive(Debug, Drop)]
+pub enum Edit {
+    Insert {
+        side: Side,
+        id: String,
+        shape: Shape,
+    },
+    Delete {
+        side: Side,
+        id: String,
+    },
+}
+
+impl Edit {
+    ghost use Rattle.std.specs.Prelude.{◌≡◌, OnOk, OnErr};
+    ghost use Rattle.layer_core.specs.Refusals.{AnswersWith};
+    ghost use Rattle.layer_core.specs.Edits.{side_of, edited, refusal, both, edited_layers, edit_refusal};
+
+    /// The layer that is edited.
+    pub fn side(&self) -> Side
+        ensures { result ≡ side_of self.now }
+    {
+        match self {
+            Edit::Insert { side, .. } => *side,
+            Edit::Delete { side, .. } => *side,
+        }
+    }
+
+    /// Edits the layer on its side, by [`Layer::insert`] or [`Layer::remove`], whose refusals it
+    /// answers. A refusal changes neither layer.
+    pub fn apply(&self, left: &mut Layer, right: &mut Layer) -> Result<(), LayerFault>
+        ensures ok { OnOk result (both left.new right.new ≡ edited_layers (both left.old right.old) self.now) }
+        ensures err { OnErr result (both left.new right.new ≡ both left.old right.old) }
+        ensures refused { AnswersWith (edit_refusal (both left.old right.old) self.now) result }
+    {
+        match self.side() {
+            Side::Left => self.apply_to(left),
+            Side::Right => self.apply_to(right),
+        }
+    }
+
+    // Edits this layer, whichever side it is on.
+    fn apply_to(&self, layer: &mut Layer) -> Result<(), LayerFault>
+        ensures ok { OnOk result (layer.new ≡ edited layer.old self.now) }
+        ensures err { OnErr result (layer.new ≡ layer.old) }
+        ensures refused { AnswersWith (refusal layer.old self.now) result }
+    {
+        match self {
+            Edit::Insert { id, shape, .. } => layer.insert(id.as_str(), *shape),
+            Edit::Delete { id, .. } => {
+                layer.remove(id.as_str())?;
+                Ok(())
+            }
+        }
+    }
+}

@@ -1,0 +1,159 @@
+//! The features of a layer, found by id and by number.
+ghost use Rattle.std.specs.Prelude.{◌≡◌, Some, slice_get, IfSome, MatchOption};
+ghost use Rattle.std.specs.HashMap.{keys, values};
+ghost use Rattle.layer_core.specs.Tables.{ids_of, IsAbsent, IsOnly, IsTable};
+
+use crate::iter::Iter;
+use geom_core::Shape;
+use indexmap::IndexMap;
+use std::alloc::{AllocError, Global};
+use std::hash::RandomState;
+use std::marker::Model;
+
+/// How many features may ever be inserted in a layer, deleted ones included.
+pub const MAX_FEATURES: usize = 1_000_000;
+
+/// Each id that was ever inserted, with the number of its feature, if it has one now.
+pub(crate) type Ids = IndexMap<String, Option<u32>, RandomState>;
+
+/// A feature, as its number finds it.
+#[derive(Clone, Copy)]
+pub(crate) struct Slot {
+    /// Where its id stands in the map of ids.
+    pub(crate) place: usize,
+    pub(crate) shape: Shape,
+}
+
+/// Features by id and by number.
+///
+/// An id that was ever inserted keeps its place in the map of ids, and has the number of its
+/// feature or, once deleted, none. The slots are in the order of numbers, and a deleted feature's
+/// slot is empty. So no edit moves anything.
+#[derive(Drop)]
+pub(crate) struct Features {
+    ids: Ids,
+    slots: Vec<Option<Slot>>,
+    count: usize,
+}
+
+impl Model for Features {
+    ghost use Rattle.layer_core.specs.Layers.{Contents};
+
+    ghost Value = { Contents };
+
+    ghost use Rattle.std.specs.HashMap.{keys};
+    ghost use Rattle.layer_core.specs.Tables.{contents_of, IsKept};
+
+    ghost view = { λ f. contents_of (keys f.ids) f.slots.items };
+
+    ghost invariant = { λ f. IsKept f.ids.entries f.slots.items f.count };
+}
+
+// The number and the slot of the feature with this id.
+fn locate(ids: &Ids, slots: &[Option<Slot>], id: &str) -> Option<(u32, Slot)>
+    requires { IsTable (values ids.now) slots.now }
+    ensures found { MatchOption result (IsAbsent (ids_of (keys ids.now)) id.now slots.now) (λ f. IsOnly (ids_of (keys ids.now)) id.now slots.now f.0 f.1) }
+    ensures place { IfSome result (λ f. slice_get (values ids.now) f.1.place ≡ Some (Some f.0)) }
+{
+    let place = ids.get_index_of(id)?;
+    let number = ids[place]?;
+    let slot = (*slots.get(number as usize)?)?;
+    Some((number, slot))
+}
+
+impl Features {
+    ghost use Rattle.std.specs.Prelude.{◌≡◌, ◌<◌, length, not, is_some, if◌then◌else◌, IfNone, IfOk, OnErr, string_bytes};
+    ghost use Rattle.std.specs.Option.{option_map};
+    ghost use Rattle.layer_core.specs.Layers.{empty, IsLayer, IdAndShapeAre, NumberAndShapeAre, with_id, with_number, inserted, deleted};
+
+    /// No features. `state` hashes the ids.
+    pub(crate) fn new(alloc: Global, state: RandomState) -> Features
+        ensures { result ≡ empty }
+    {
+        Features {
+            ids: IndexMap::with_hasher(alloc, state),
+            slots: Vec::new(alloc),
+            count: 0,
+        }
+    }
+
+    /// How many features there are.
+    pub(crate) fn len(&self) -> usize
+        ensures len { result ≡ length self.now.features }
+        ensures valid { IsLayer self.now }
+    {
+        self.count
+    }
+
+    /// The allocator of the map and the slots.
+    pub(crate) fn allocator(&self) -> Global {
+        *self.ids.allocator()
+    }
+
+    /// The number that the next feature gets: how many were ever inserted.
+    pub(crate) fn next(&self) -> usize
+        ensures { result ≡ self.now.next }
+    {
+        self.slots.len()
+    }
+
+    /// The number and the shape of the feature with this id.
+    pub(crate) fn find(&self, id: &str) -> Option<(u32, Shape)>
+        ensures { NumberAndShapeAre result (with_id id.now self.now) }
+    {
+        let (number, slot) = locate(&self.ids, self.slots.as_slice(), id)?;
+        Some((number, slot.shape))
+    }
+
+    /// The id and the shape of the feature with this number.
+    pub(crate) fn at(&self, number: u32) -> Option<(&str, Shape)>
+        ensures { IdAndShapeAre result (with_number number self.now) }
+    {
+        let slot = (*self.slots.get(number as usize)?)?;
+        let (id, _) = self.ids.get_index(slot.place)?;
+        Some((id.as_str(), slot.shape))
+    }
+
+    /// The features in the order of their numbers.
+    pub(crate) fn iter(&self) -> Iter<'_>
+        ensures { result ≡ self.now.features }
+    {
+        Iter::new(&self.ids, self.slots.as_slice())
+    }
+
+    /// Deletes the feature with this id, and gives its shape.
+    pub(crate) fn delete(&mut self, id: &str) -> Option<Shape>
+        ensures shape { result ≡ option_map (λ f. f.shape) (with_id id.now self.old) }
+        ensures deleted { self.new ≡ deleted self.old id.now }
+        ensures none { IfNone result (self.new ≡ self.old) }
+    {
+        let (number, slot) = locate(&self.ids, self.slots.as_slice(), id)?;
+        self.slots[number as usize] = None;
+        self.ids[slot.place] = None;
+        self.count -= 1;
+        Some(slot.shape)
+    }
+
+    /// Inserts a feature, or answers false where the id has one.
+    pub(crate) fn insert(&mut self, id: String, shape: Shape) -> Result<bool, AllocError>
+        requires { self.old.next < MAX_FEATURES }
+        ensures absent { IfOk result (λ added. added ≡ not (is_some (with_id (string_bytes id) self.old))) }
+        ensures inserted { IfOk result (λ added. self.new ≡ (if added then inserted self.old (string_bytes id) shape else self.old)) }
+        ensures err { OnErr result (self.new ≡ self.old) }
+    {
+        let number = self.slots.len() as u32;
+        self.slots.reserve(1)?;
+        let (place, before) = self.ids.insert_full(id, Some(number))?;
+        match before.flatten() {
+            Some(live) => {
+                self.ids[place] = Some(live);
+                Ok(false)
+            }
+            None => {
+                self.slots.push_reserved(Some(Slot { place, shape }));
+                self.count += 1;
+                Ok(true)
+            }
+        }
+    }
+}

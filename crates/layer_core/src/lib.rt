@@ -1,0 +1,19 @@
+//! Layers of features, their edits, and the CSV files that they are read from.
+#![tactic(auto)]
+
+mod edit;
+mod fault;
+mod features;
+mod iter;
+mod layer;
+mod read_fault;
+mod rows;
+mod source;
+
+pub use edit::{Edit, Side};
+pub use fault::LayerFault;
+pub use features::MAX_FEATURES;
+pub use iter::{FeatureRef, Iter};
+pub use layer::{Layer, MAX_ID_BYTES};
+pub use read_fault::ReadFault;
+pub use source::{Failed, FromRead, MAX_FILE_BYTES, Source, read_all};

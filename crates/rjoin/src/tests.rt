@@ -1,0 +1,5 @@
+//! The program's calls, from outside.
+
+mod device;
+mod relating;
+mod words;
