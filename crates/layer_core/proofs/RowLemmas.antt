@@ -19,12 +19,15 @@ in_field-end c h = comma (c == 44) refl
     start : (b : Bool) → (c == 13) ≡ b → ends_at_end (after_end term.CRLF c) ≡ false
     start true e = rw e refl
     start false e = rw e refl
+
     feed : (b : Bool) → (c == 44) ≡ false → (c == 13) ≡ false → (c == 10) ≡ b → ends_at_end (in_field default_config c).0 ≡ false
     feed true a b e = rw (a, b, e) refl
     feed false a b e = let none = rw (a, b, e) at h in cc
+
     return : (b : Bool) → (c == 44) ≡ false → (c == 13) ≡ b → ends_at_end (in_field default_config c).0 ≡ false
     return true a e = rw (a, e) refl
     return false a e = feed (c == 10) a e refl
+
     comma : (b : Bool) → (c == 44) ≡ b → ends_at_end (in_field default_config c).0 ≡ false
     comma true e = let none = rw e at h in cc
     comma false e = return (c == 13) e refl
@@ -162,8 +165,10 @@ module _ (a b : Reader (Bor (List ℕ))) (fields : Record) (reading : IsReading 
     where
       left : unread b ≡ z
       left = ap (λ k. unwrap_or k []) known
+
       taken : (length p.2 < length (unread a)) × (ends_at_end p.1 ≡ false)
       taken = takes (reader_state a) (unread a) p reading.between found
+
       between : ends_at_end (reader_state b) ≡ false
       between = sym (ap ends_at_end state) ∙ taken.1
 

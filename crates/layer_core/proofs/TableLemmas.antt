@@ -17,6 +17,7 @@ use native.Mathlib.Decide.{dec_lt}
 use Rattle.std.specs.List.{position_or_len}
 use Rattle.indexmap.specs.IndexMap.{set_value_at, insert_entry}
 use Rattle.indexmap.proofs.MapLemmas.{Found-position, Missing-position, insert_entry-absent, insert_entry-first}
+use Rattle.geom_core.specs.declared.shape.Shape.{Shape}
 use Rattle.layer_core.specs.declared.features.Slot.{Slot}
 use Rattle.layer_core.specs.declared.features.TheConstants.{MAX_FEATURES}
 use Rattle.layer_core.specs.Layers.{IsLayer, with_id, with_number, inserted, deleted}
@@ -448,3 +449,7 @@ pub id-placed : (es : List (String Global × Option ℕ)) (p : ℕ) (key : Strin
 id-placed es p key number h =
     let at_key = slice_get-map (λ e. e.0) es p ∙ ap (option_map (λ e. e.0)) (sym h) in
     get_or_from_slice_get (ids_of (keys_of es)) p (string_bytes key) [] (slice_get-map string_bytes (keys_of es) p ∙ ap (option_map string_bytes) at_key)
+
+pub id-and-shape : (keys : List (String Global)) (slots : List (Option Slot)) (k : ℕ) (slot : Slot) (id : List ℕ) → slice_get slots k ≡ Some (Some slot) → id ≡ id_of (ids_of keys) slot → ◌≡◌ {A = Option (List ℕ × Shape)} (Some (id, slot.shape)) (option_map (λ f. (f.id, f.shape)) (with_number k (contents_of keys slots)))
+id-and-shape keys slots k slot id filled is =
+    ap (λ i. Some (i, slot.shape)) is ∙ sym (ap (option_map (λ f. (f.id, f.shape))) (with_number-contents keys slots k ∙ ap (feature_in (ids_of keys) k) filled))

@@ -1,4 +1,5 @@
 pub mod Edits
+pub mod Files
 pub mod Layers
 pub mod Refusals
 pub mod Rows

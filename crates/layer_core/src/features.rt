@@ -77,6 +77,21 @@ impl Features {
         }
     }
 
+    /// No features, and room for so many.
+    pub(crate) fn with_room(
+        alloc: Global,
+        state: RandomState,
+        count: usize,
+    ) -> Result<Features, AllocError>
+        ensures { IfOk result (λ features. features ≡ empty) }
+    {
+        Ok(Features {
+            ids: IndexMap::with_capacity_and_hasher(alloc, count, state)?,
+            slots: Vec::with_capacity(alloc, count)?,
+            count: 0,
+        })
+    }
+
     /// How many features there are.
     pub(crate) fn len(&self) -> usize
         ensures len { result ≡ length self.now.features }

@@ -41,10 +41,11 @@ pub(crate) fn is_id(id: &str) -> bool
 }
 
 impl Layer {
-    ghost use Rattle.std.specs.Prelude.{◌≡◌, ◌↔◌, [], Some, Ok, length, IsTrue, OnOk, OnErr, IfOk};
+    ghost use Rattle.std.specs.Prelude.{◌≡◌, ◌≢◌, ◌↔◌, [], Some, Ok, Err, length, IsTrue, OnOk, OnErr, IfOk};
     ghost use Rattle.std.specs.Option.{option_map};
     ghost use Rattle.layer_core.specs.Layers.{empty, IsLayer, IdAndShapeAre, NumberAndShapeAre, with_id, with_number, inserted, deleted};
-    ghost use Rattle.layer_core.specs.Refusals.{AnswersWith, insert_refusal, delete_refusal};
+    ghost use Rattle.std.specs.String.{string_bytes};
+    ghost use Rattle.layer_core.specs.Refusals.{is_id, AnswersWith, insert_refusal, delete_refusal};
 
     /// A layer with no features. `state` hashes the ids.
     pub fn new(alloc: Global, state: RandomState) -> Result<Layer, AllocError>
@@ -53,6 +54,24 @@ impl Layer {
         Ok(Layer {
             features: Features::new(alloc, state),
         })
+    }
+
+    /// A layer with no features, and room for so many.
+    pub(crate) fn with_room(
+        alloc: Global,
+        state: RandomState,
+        count: usize,
+    ) -> Result<Layer, AllocError>
+        ensures { IfOk result (λ layer. layer ≡ empty) }
+    {
+        Ok(Layer {
+            features: Features::with_room(alloc, state, count)?,
+        })
+    }
+
+    /// The allocator of the layer.
+    pub(crate) fn allocator(&self) -> Global {
+        self.features.allocator()
     }
 
     /// How many features the layer has.
@@ -102,9 +121,30 @@ impl Layer {
         if self.features.next() >= MAX_FEATURES {
             return Err(LayerFault::LayerFull);
         }
-        let id = String::from_str(self.features.allocator(), id)?;
+        let id = String::from_str(self.allocator(), id)?;
         let _added = self.features.insert(id, shape)?;
         Ok(())
+    }
+
+    /// Inserts a feature at the end of the layer, as `insert` does, under the id that it is given.
+    pub(crate) fn add(&mut self, id: String, shape: Shape) -> Result<(), LayerFault>
+        requires { IsTrue (is_id (string_bytes id)) }
+        ensures ok { OnOk result (self.new ≡ inserted self.old (string_bytes id) shape) }
+        ensures err { OnErr result (self.new ≡ self.old) }
+        // Memory may be refused before another reason is found.
+        ensures refused { result ≢ Err LayerFault.Memory → AnswersWith (insert_refusal self.old (string_bytes id)) result }
+    {
+        if self.features.next() >= MAX_FEATURES {
+            return match self.features.find(id.as_str()) {
+                Some(_) => Err(LayerFault::DoubleId),
+                None => Err(LayerFault::LayerFull),
+            };
+        }
+        if self.features.insert(id, shape)? {
+            Ok(())
+        } else {
+            Err(LayerFault::DoubleId)
+        }
     }
 
     /// Deletes the feature with this id, and gives its shape.

@@ -1,6 +1,6 @@
 //! Why a file can't be read.
 
-ghost use Rattle.std.specs.Prelude.{◌≡◌};
+ghost use Rattle.std.specs.Prelude.{◌≡◌, ◌≢◌};
 ghost use Rattle.layer_core.specs.declared.read_fault.ReadFault.TheVariants.{Memory};
 
 use crate::fault::LayerFault;
@@ -32,6 +32,21 @@ pub enum ReadFault {
     /// Memory was refused.
     #[error("no memory")]
     Memory,
+}
+
+impl ReadFault {
+    ghost use Rattle.layer_core.specs.Files.{fault_of_row};
+
+    /// The layer's refusal of a row. Want of memory is no fault of the row.
+    pub(crate) fn of_row(number: u32, fault: LayerFault) -> ReadFault
+        ensures fault { result ≡ fault_of_row number fault }
+        ensures no_io { result ≢ ReadFault.Io }
+    {
+        match fault {
+            LayerFault::Memory => ReadFault::Memory,
+            _ => ReadFault::Layer(number, fault),
+        }
+    }
 }
 
 impl From<AllocError> for ReadFault {

@@ -19,10 +19,7 @@ pub(crate) fn rows_of(alloc: Global, text: &[u8]) -> Reader<&[u8]>
 }
 
 /// Reads the next record and answers true, or false where there is none left.
-pub(crate) fn next_row(
-    reader: &mut Reader<&[u8]>,
-    row: &mut ByteRecord,
-) -> Result<bool, AllocError>
+pub(crate) fn next_row(reader: &mut Reader<&[u8]>, row: &mut ByteRecord) -> Result<bool, AllocError>
     requires { IsReading reader.old }
     ensures { IfOk result (λ found. MatchBool found (IsNext reader.old (fields_of row.new) reader.new) (rows_left reader.old ≡ [])) }
 {

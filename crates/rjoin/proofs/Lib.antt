@@ -1,3 +1,5 @@
+pub mod JoinLemmas
 pub mod LineLemmas
 pub mod RelatingLemmas
+pub mod ReportLemmas
 pub mod WrittenLemmas

@@ -1,6 +1,10 @@
+pub mod CsvWriting
+pub mod Joins
 pub mod Lines
+pub mod Matches
 pub mod Options
 pub mod Relating
+pub mod Reports
 pub mod Rows
 pub mod Statuses
 pub mod ToWrite

@@ -2,11 +2,13 @@
 #![tactic(auto)]
 
 mod fault;
+mod join;
 mod line;
 mod lines;
 mod options;
 mod program;
 mod relate;
+mod report;
 mod sink;
 mod to_write;
 mod words;

@@ -1,9 +1,9 @@
 -- What a text spells, and which answer is right for it.
-use Rattle.std.proofs.Common.{◌≡◌, ℕ, List, [], ◌∷◌, Result, Ok, Err, refl, sym, ◌∙◌, ap, subst, true}
+use Rattle.std.proofs.Common.{◌≡◌, ℕ, List, [], ◌∷◌, Result, Ok, Err, refl, sym, ◌∙◌, ap, subst}
 use Rattle.std.specs.Prelude.{◌↔◌, IsErrOf, ℤ, IsTrue}
 use Rattle.std.specs.List.{list_all}
 use Rattle.geom_core.specs.declared.shape.Shape.{Shape}
-use Rattle.geom_core.specs.Shapes.{x1, y1, x2, y2, HasCorners}
+use Rattle.geom_core.specs.Shapes.{HasCorners}
 use Rattle.geom_core.specs.Joined.{same_corners}
 use Rattle.wkt_core.specs.declared.fault.WktFault.{WktFault}
 use Rattle.wkt_core.specs.declared.fault.WktFault.TheVariants.{Text, Number, Form}

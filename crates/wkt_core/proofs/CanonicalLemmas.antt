@@ -1,23 +1,21 @@
 -- The canonical spelling of a shape spells it.
-use Rattle.std.proofs.Common.{◌≡◌, ℕ, suc, ◌+◌, ◌<◌, ◌≤◌, ◌^◌, Bool, true, false, cond, eqb, ℤ, pos, negsuc, List, [], ◌∷◌, ◌++◌, map, length, refl, sym, ◌∙◌, ap, ap₂, subst, ◌⊎◌, ⊎_elim, inl, inr, arith}
-use Rattle.std.specs.Prelude.{codes, int_lt, IsTrue, ◌<ℤ◌}
-use Rattle.std.specs.Char.{is_ascii_digit}
-use Rattle.std.specs.List.{AllByRecursion, flat_map}
+use Rattle.std.proofs.Common.{◌≡◌, ℕ, suc, ◌+◌, ◌<◌, ◌^◌, Bool, true, false, cond, eqb, ℤ, pos, negsuc, List, [], ◌∷◌, ◌++◌, map, refl, sym, ap, ap₂, subst, ◌⊎◌, ⊎_elim, inl, inr, arith}
+use Rattle.std.specs.Prelude.{codes, int_lt, ◌<ℤ◌}
+use Rattle.std.specs.List.{AllByRecursion}
 use Rattle.std.specs.Fmt.{decimal, signed_decimal}
-use Rattle.std.specs.Str.Parse.{AllDigits, digits_value}
+use Rattle.std.specs.Str.Parse.{AllDigits}
 use Rattle.std.proofs.lemmas.Bool.Decides.{nat_tests}
 use Rattle.std.proofs.lemmas.Int.{ints}
 use Rattle.std.proofs.lemmas.Fmt.{decimal_is_IsNumeral}
 use Rattle.std.proofs.lemmas.Str.Parse.{digit_from_value}
 use Rattle.std.proofs.lemmas.List.{append_assoc, append-nil}
 use Rattle.geom_core.specs.declared.shape.Shape.{Shape}
-use Rattle.geom_core.specs.declared.span.TheConstants.{LIMIT}
-use Rattle.geom_core.specs.Shapes.{x1, y1, x2, y2, dim_of, IsCoordinate, HasCorners}
+use Rattle.geom_core.specs.Shapes.{x1, y1, x2, y2, IsCoordinate}
 use Rattle.wkt_core.specs.declared.keyword.Keyword.{Keyword}
 use Rattle.wkt_core.specs.declared.keyword.Keyword.TheVariants.{Point, LineString, Polygon}
 use Rattle.wkt_core.specs.declared.position.Position.{Position}
-use Rattle.wkt_core.specs.Grammar.{Numeral, RawPoint, ◌then◌, Blanks, Digits, Number, PointText, Listed, InParentheses, PointList, Body, Word, Raw, spelling}
-use Rattle.wkt_core.specs.Spelling.{value, IsGood, HasGoodNumbers, AllNumbersGood, position, positions, corner, corners, rotated, Forms, Spells, pair, listed, canonical}
+use Rattle.wkt_core.specs.Grammar.{Numeral, RawPoint, Blanks, Digits, Number, PointText, Listed, PointList, Body, Word, Raw}
+use Rattle.wkt_core.specs.Spelling.{value, IsGood, HasGoodNumbers, position, corner, corners, Forms, Spells, pair, listed, canonical}
 
 -- ---- numbers
 

@@ -1,8 +1,7 @@
 -- The points of a text and the shapes that they draw.
-use Rattle.std.proofs.Common.{◌≡◌, ◌≢◌, ℕ, zero, suc, ◌<◌, ◌≤◌, length, List, [], ◌∷◌, ◌⊎◌, inl, inr, get_or, reverse, refl, sym, ◌∙◌, ap, ap₂, ⊎_elim, arith, ℤ}
-use Rattle.std.specs.Prelude.{◌≤ℤ◌, ◌<ℤ◌, ◌↔◌, Option, Some, None, IsSome, IfNone}
+use Rattle.std.proofs.Common.{◌≡◌, ◌≢◌, ℕ, zero, suc, ◌<◌, ◌≤◌, length, List, [], ◌∷◌, ◌⊎◌, inl, inr, get_or, reverse, ap, ap₂, ⊎_elim, arith, ℤ}
+use Rattle.std.specs.Prelude.{◌<ℤ◌, ◌↔◌, Option, Some, None, IsSome, IfNone}
 use Rattle.std.proofs.lemmas.Bool.{false≢true}
-use Rattle.std.specs.Int.{int_min, int_max}
 use Rattle.std.proofs.lemmas.Int.{ints, clamps, by_lt_z}
 use Rattle.geom_core.specs.declared.shape.Shape.{Shape}
 use Rattle.geom_core.specs.Shapes.{x1, y1, x2, y2, HasCorners, AreCorners}

@@ -1,13 +1,12 @@
 -- What the steps of the reader take is what the grammar says, and nothing else.
-use Rattle.std.proofs.Common.{◌||◌, ◌≡◌, ℕ, ◌+◌, ◌<◌, ◌≤◌, Bool, true, false, cond, List, [], ◌∷◌, ◌++◌, length, Option, Some, None, ◌⊎◌, inl, inr, refl, sym, ◌∙◌, ap, subst, arith, eqb, rules}
-use Rattle.std.specs.Prelude.{codes, IfSome}
+use Rattle.std.proofs.Common.{◌||◌, ◌≡◌, ℕ, ◌<◌, ◌≤◌, Bool, true, false, cond, List, [], ◌∷◌, ◌++◌, length, Some, None, inl, inr, refl, sym, ◌∙◌, ap, subst, arith, eqb}
+use Rattle.std.specs.Prelude.{IfSome}
 use Rattle.std.proofs.lemmas.Bool.{eqb-true}
 use Rattle.std.proofs.lemmas.Option.{same_Some, none-some, some_pair_parts, option_and_then_some}
 use Rattle.std.specs.Char.{is_ascii_digit}
 use Rattle.std.proofs.lemmas.Bool.Decides.{nat_tests}
-use Rattle.std.proofs.lemmas.Grind.{common_steps}
-use Rattle.std.proofs.lemmas.List.{append_assoc, append-nil, length-append}
-use Rattle.wkt_core.specs.Grammar.{Numeral, RawPoint, ◌then◌, is_blank, Blanks, Gap, Digits, Sign, Whole, Decimals, Number, PointText}
+use Rattle.std.proofs.lemmas.List.{append_assoc, length-append}
+use Rattle.wkt_core.specs.Grammar.{Numeral, RawPoint, is_blank, Blanks, Gap, Digits, Sign, Whole, Decimals, Number, PointText}
 use Rattle.wkt_core.specs.Reading.{skip, gap_at, digits_at, after_digits, sign_at, decimals_at, unsigned_at, number_at, point_at, symbol_at}
 
 -- what may stand behind a number: white space, a comma or a closing parenthesis

@@ -1,6 +1,6 @@
 -- Numbers that are whole and in range.
-use Rattle.std.proofs.Common.{◌≡◌, ℕ, ◌≤◌, Bool, true, false, List, [], ◌∷◌, ◌&&◌, cond, map, take, Option, Some, None, refl, sym, ◌∙◌, ap, subst, arith}
-use Rattle.std.specs.Prelude.{IsTrue, ℤ, pos, nat_abs, nat_le, is_some}
+use Rattle.std.proofs.Common.{◌≡◌, ℕ, ◌≤◌, Bool, true, false, List, [], ◌∷◌, ◌&&◌, cond, take, Option, Some, None, refl, arith}
+use Rattle.std.specs.Prelude.{ℤ, nat_abs, nat_le, is_some}
 use Rattle.std.specs.List.{list_all, AllByRecursion}
 use Rattle.std.specs.Str.Parse.{digits_value}
 use Rattle.std.proofs.lemmas.Bool.{false≢true}
@@ -13,8 +13,8 @@ use Rattle.wkt_core.specs.declared.keyword.Keyword.{Keyword}
 use Rattle.wkt_core.specs.declared.keyword.Keyword.TheVariants.{Point, LineString, Polygon}
 use Rattle.wkt_core.specs.declared.position.Position.{Position}
 use Rattle.wkt_core.specs.Grammar.{Numeral, RawPoint}
-use Rattle.wkt_core.specs.Spelling.{is_whole, signed, value, IsGood, HasGoodNumbers, AllNumbersGood, Draws}
-use Rattle.wkt_core.specs.Reading.{coordinate, position_from, position_of, are_good}
+use Rattle.wkt_core.specs.Spelling.{signed, IsGood, HasGoodNumbers, AllNumbersGood, Draws}
+use Rattle.wkt_core.specs.Reading.{coordinate, position_from, are_good}
 
 in_range : (negative : Bool) (n : ℕ) → n ≤ nat_abs LIMIT → IsCoordinate (signed negative n)
 in_range true n h = (omega (arith, ints), omega (arith, ints))

@@ -1,5 +1,5 @@
 -- Items one after another: what was read so far, and the one way to go on.
-use Rattle.std.proofs.Common.{◌≡◌, ℕ, ◌+◌, ◌<◌, ◌≤◌, List, [], ◌∷◌, ◌++◌, ◌⊎◌, inl, inr, length, get_or, drop, refl, sym, ◌∙◌, ap, subst, ⊎_elim, arith}
+use Rattle.std.proofs.Common.{◌≡◌, ℕ, ◌<◌, ◌≤◌, List, [], ◌∷◌, ◌++◌, ◌⊎◌, inl, inr, length, get_or, drop, refl, sym, ◌∙◌, ap, subst, ⊎_elim, arith}
 use Rattle.wkt_core.specs.Reading.{skip, Items, Begun, Enclosed}
 use Rattle.wkt_core.proofs.FrontLemmas.{length-skip}
 

@@ -1,7 +1,7 @@
 -- A list in parentheses is read as the grammar says, and nothing else is.
-use Rattle.std.proofs.Common.{◌≡◌, ℕ, ◌+◌, ◌<◌, ◌≤◌, true, List, [], ◌∷◌, ◌++◌, length, get_or, drop, refl, sym, ◌∙◌, ap, ap₂, subst, arith}
+use Rattle.std.proofs.Common.{◌≡◌, ℕ, List, [], ◌∷◌, ◌++◌, drop, refl, sym, ◌∙◌, ap, ap₂, subst}
 use Rattle.std.proofs.lemmas.List.{append_assoc}
-use Rattle.wkt_core.specs.Grammar.{◌then◌, Blanks, Listed, InParentheses}
+use Rattle.wkt_core.specs.Grammar.{Blanks, Listed, InParentheses}
 use Rattle.wkt_core.specs.Reading.{skip, Items, Enclosed}
 use Rattle.wkt_core.proofs.FrontLemmas.{Stops, NoBlank, Begins, Begins-shorter, blanks_skipped, blanks_stop, skip_blanks, skip_solid}
 use Rattle.wkt_core.proofs.ItemLemmas.{IsExact, no_comma_ends, same_rest}

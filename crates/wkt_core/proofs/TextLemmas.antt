@@ -1,16 +1,15 @@
 -- A whole text: one way to read it, which is what the grammar says.
-use Rattle.std.proofs.Common.{◌≡◌, ℕ, ◌<◌, ◌≤◌, Bool, true, false, List, [], ◌∷◌, ◌++◌, map, length, get_or, drop, refl, sym, ◌∙◌, ap, subst, arith}
+use Rattle.std.proofs.Common.{◌≡◌, ℕ, ◌<◌, ◌≤◌, false, List, [], ◌∷◌, ◌++◌, map, length, get_or, drop, refl, sym, ◌∙◌, ap, subst, arith}
 use Rattle.std.specs.Char.{to_ascii_lowercase}
 use Rattle.std.proofs.lemmas.Bool.Decides.{nat_tests}
-use Rattle.std.proofs.lemmas.List.{append_assoc, append-nil, length-map, get_or-map, get_or_append_left}
+use Rattle.std.proofs.lemmas.List.{append-nil, length-map, get_or-map, get_or_append_left}
 use Rattle.std.proofs.lemmas.List.Prefix.{front_rest}
 use Rattle.wkt_core.specs.declared.keyword.Keyword.{Keyword}
 use Rattle.wkt_core.specs.declared.keyword.Keyword.TheVariants.{Point, LineString, Polygon}
-use Rattle.wkt_core.specs.Grammar.{RawPoint, ◌then◌, is_blank, Blanks, PointText, PointList, InParentheses, Body, Word, Raw, spelling}
-use Rattle.wkt_core.specs.Reading.{skip, TakesLetters, TakesWord, TakesPoint, TakesPoints, TakesLists, TakesBody, TakesText}
+use Rattle.wkt_core.specs.Grammar.{RawPoint, is_blank, PointText, PointList, Body, Word, Raw, spelling}
+use Rattle.wkt_core.specs.Reading.{skip, TakesLetters, TakesWord, TakesPoint, TakesPoints, TakesBody, TakesText}
 use Rattle.wkt_core.proofs.FrontLemmas.{NoBlank, Begins, blanks_skipped, skip_blanks, skip_solid}
-use Rattle.wkt_core.proofs.ItemLemmas.{IsExact}
-use Rattle.wkt_core.proofs.ListGrammar.{IsReading, enclosed_front}
+use Rattle.wkt_core.proofs.ListGrammar.{enclosed_front}
 use Rattle.wkt_core.proofs.PointLemmas.{points_reading, lists_exact, lists_reading, text_lists_exact, text_lists_reading}
 
 -- ---- keywords

@@ -1,6 +1,6 @@
 -- What each private step of the reader takes from the front of a text, and what it leaves.
 -- Only contracts inside the crate cite these words; proofs/ ties them to the grammar, in both directions.
-use Rattle.std.specs.Prelude.{◌≡◌, ◌==◌, ◌&&◌, ℕ, nat_le, nat_abs, ℤ, Bool, true, false, List, [], ◌∷◌, ◌++◌, Option, Some, None, is_some, option_and_then, if◌then◌else◌, ◌<◌, ◌≤◌, ◌⊎◌, map, take, drop, codes, length}
+use Rattle.std.specs.Prelude.{◌≡◌, ◌==◌, ◌&&◌, ℕ, nat_le, nat_abs, ℤ, Bool, true, false, List, [], ◌∷◌, ◌++◌, Option, Some, None, is_some, option_and_then, if◌then◌else◌, ◌<◌, ◌⊎◌, map}
 use Rattle.std.specs.List.{list_all}
 use Rattle.std.specs.Char.{is_ascii_digit, to_ascii_lowercase}
 use Rattle.std.specs.Str.Parse.{digits_value}

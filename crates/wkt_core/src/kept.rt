@@ -30,7 +30,7 @@ impl KeptPoints {
         }
     }
 
-    /// Adds a point, or the knowledge that one has a number that isn't whole or is out of range.
+    /// Adds a point, or notes with `None` that one has a number that isn't whole or is out of range.
     #[inline(always)]
     pub(crate) fn push(&mut self, point: Option<Position>)
         ensures { (ps : List RawPoint) (p : RawPoint)

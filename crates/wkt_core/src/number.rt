@@ -25,7 +25,8 @@ fn sign(text: &[u8]) -> (bool, &[u8])
     }
 }
 
-/// The number that the digits at the front write, as long as it is in range, and what follows.
+/// The number that the digits at the front write, and what follows them. Where it is beyond
+/// `LARGEST`, some number beyond `LARGEST` stands for it, however many digits there are.
 #[inline(always)]
 fn magnitude(text: &[u8]) -> (u64, &[u8])
     ensures value { IsCapped result.0 (digits_value 10 (digits_at text.now)) }
@@ -81,8 +82,8 @@ fn signed_number(negative: bool, magnitude: u64) -> Option<i64>
     Some(if negative { -number } else { number })
 }
 
-/// The number at the front of a text, and what follows it: `None` in place of a number that isn't
-/// whole or is out of range.
+/// The number at the front of a text, and what follows it: with `None` in place of the number where
+/// that isn't whole or is out of range. The whole answer is `None` where no number stands there.
 #[inline(always)]
 pub(crate) fn read_number(text: &[u8]) -> Option<(Option<i64>, &[u8])>
     ensures { number_view result ≡ read_number_of (number_at text.now) }

@@ -13,19 +13,30 @@ pub(crate) struct Position {
     pub y: i64,
 }
 
+impl Position {
+    ghost use Rattle.wkt_core.specs.Spelling.{corner};
+
+    #[inline(always)]
+    pub(crate) fn new(x: i64, y: i64) -> Position
+        ensures { result ≡ corner x y }
+    {
+        Position { x, y }
+    }
+}
+
 /// The point with these coordinates, where there are both.
 #[inline(always)]
 fn both(x: Option<i64>, y: Option<i64>) -> Option<Position>
     ensures { result ≡ position_from x y }
 {
     match (x, y) {
-        (Some(x), Some(y)) => Some(Position { x, y }),
+        (Some(x), Some(y)) => Some(Position::new(x, y)),
         _ => None,
     }
 }
 
-/// The point at the front of a text, and what follows it: `None` in place of a point with a number
-/// that isn't whole or is out of range.
+/// The point at the front of a text, and what follows it: with `None` in place of the point where a
+/// number isn't whole or is out of range. The whole answer is `None` where no point stands there.
 #[inline(always)]
 pub(crate) fn read_point(text: &[u8]) -> Option<(Option<Position>, &[u8])>
     ensures { point_view result ≡ read_point_of (point_at text.now) }

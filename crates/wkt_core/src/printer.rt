@@ -10,7 +10,7 @@ use geom_core::Shape;
 use itoa::Buffer;
 use std::alloc::{AllocError, Global};
 
-/// The greatest count of bytes: a rectangle with ten numbers of eleven bytes.
+/// Room for the longest text, a rectangle with ten numbers of at most eleven bytes.
 const LONGEST: usize = 135;
 
 /// Adds the two numbers of a point.
@@ -64,22 +64,11 @@ pub fn print(alloc: Global, shape: &Shape) -> Result<String, AllocError>
     // The spelling is read again as the shape.
     ensures spells { Spells (canonical shape.now) shape.now }
 {
-    let a = Position {
-        x: shape.x1(),
-        y: shape.y1(),
-    };
-    let b = Position {
-        x: shape.x2(),
-        y: shape.y1(),
-    };
-    let c = Position {
-        x: shape.x2(),
-        y: shape.y2(),
-    };
-    let d = Position {
-        x: shape.x1(),
-        y: shape.y2(),
-    };
+    let (x1, y1, x2, y2) = (shape.x1(), shape.y1(), shape.x2(), shape.y2());
+    let a = Position::new(x1, y1);
+    let b = Position::new(x2, y1);
+    let c = Position::new(x2, y2);
+    let d = Position::new(x1, y2);
     let mut text = String::with_capacity(alloc, LONGEST)?;
     match shape.dim() {
         0 => push_geometry(&mut text, "POINT (", &[a], ")")?,

@@ -1,4 +1,3 @@
-use Rattle.std.proofs.Common.{◌≡◌}
 use Rattle.csv.specs.Records.{fields_of}
 use Rattle.layer_core.proofs.RowLemmas.{ok-mapped, row-read}
 use Rattle.layer_core.proofs.rows.next_row.Goals as goal

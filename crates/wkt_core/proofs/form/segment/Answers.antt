@@ -1,4 +1,3 @@
-use Rattle.std.proofs.Common.{arith}
 use Rattle.wkt_core.proofs.FormLemmas.{none_weaker, spanned_segment}
 use Rattle.wkt_core.proofs.form.segment.Goals as goal
 

@@ -1,9 +1,7 @@
 use Rattle.std.proofs.Common.{◌≡◌, get_or, arith, pos}
 use Rattle.std.proofs.lemmas.Option.{IfSome_then}
-use Rattle.geom_core.specs.declared.shape.Shape.{Shape}
 use Rattle.wkt_core.specs.declared.position.Position.{Position}
-use Rattle.wkt_core.specs.Spelling.{Draws}
-use Rattle.wkt_core.proofs.FormLemmas.{none_weaker, same_position, point_drawn, drawn_point, drawn_segment, ring_drawn, drawn_ring}
+use Rattle.wkt_core.proofs.FormLemmas.{none_weaker, same_position, drawn_point, drawn_segment, ring_drawn, drawn_ring}
 use Rattle.wkt_core.proofs.form.shape_of.Goals as goal
 
 -- what a place past the end would read as

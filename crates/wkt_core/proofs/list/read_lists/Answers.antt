@@ -1,7 +1,5 @@
-use Rattle.std.proofs.Common.{rules, ◌≡◌, [], ◌∷◌, List, ℕ, IfSome, IfNone, length, arith, sym, ◌∙◌, ap, refl}
-use Rattle.wkt_core.specs.Grammar.{RawPoint}
-use Rattle.wkt_core.specs.Reading.{skip, TakesPoints, TakesLists}
-use Rattle.wkt_core.specs.Kept.{Keeps, KeepsLists}
+use Rattle.std.proofs.Common.{◌≡◌, [], ◌∷◌, length, arith, sym, ap, refl}
+use Rattle.wkt_core.specs.Reading.{skip, TakesPoints}
 use Rattle.wkt_core.proofs.FrontLemmas.{symbol_begins, length-skip}
 use Rattle.wkt_core.proofs.ItemLemmas.{no_item_follows}
 use Rattle.wkt_core.proofs.PointLemmas.{if_none, lists_exact, list_more, lists_ended, no_lists_end, no_list_follows}

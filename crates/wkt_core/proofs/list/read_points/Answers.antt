@@ -1,7 +1,4 @@
-use Rattle.std.proofs.Common.{rules, ◌≡◌, List, ℕ, Option, Some, None, IfSome, IfNone, ◌∷◌, arith, sym, ◌∙◌, ap}
-use Rattle.std.proofs.lemmas.Grind.{common_steps}
-use Rattle.wkt_core.specs.declared.position.Position.{Position}
-use Rattle.wkt_core.specs.Grammar.{RawPoint}
+use Rattle.std.proofs.Common.{◌≡◌, Some, None, ◌∷◌, sym}
 use Rattle.wkt_core.specs.Reading.{skip, point_at, read_point_of, TakesPoint}
 use Rattle.wkt_core.proofs.FrontLemmas.{symbol_begins}
 use Rattle.wkt_core.proofs.ItemLemmas.{behind_item, no_item_follows, no_end_follows}

@@ -1,4 +1,4 @@
-use Rattle.std.proofs.Common.{◌≡◌, length, List, ◌∷◌}
+use Rattle.std.proofs.Common.{length, List}
 use Rattle.wkt_core.specs.Grammar.{RawPoint}
 use Rattle.wkt_core.specs.Reading.{Begun, TakesPoint}
 use Rattle.wkt_core.specs.Kept.{Keeps}

@@ -1,7 +1,6 @@
-use Rattle.std.proofs.Common.{rules, ◌≡◌, ℕ, ◌+◌, ◌-◌, ◌*◌, ◌<◌, ◌≤◌, length, true, List, [], ◌∷◌, take, drop, arith}
+use Rattle.std.proofs.Common.{arith}
 use Rattle.std.proofs.lemmas.Grind.{common_steps}
-use Rattle.std.specs.Str.Parse.{digits_value, digits_value_after}
-use Rattle.wkt_core.specs.Reading.{digits_at, after_digits}
+use Rattle.wkt_core.specs.Reading.{digits_at}
 use Rattle.wkt_core.proofs.NumberLemmas.{digits_value_after-ge}
 use Rattle.wkt_core.proofs.number.magnitude.Goals as goal
 

@@ -1,4 +1,4 @@
-use Rattle.std.proofs.Common.{◌≡◌, ℕ, List, [], ◌∷◌}
+use Rattle.std.proofs.Common.{ℕ, List, [], ◌∷◌}
 use Rattle.wkt_core.specs.Grammar.{RawPoint}
 use Rattle.wkt_core.specs.Reading.{TakesBody}
 use Rattle.wkt_core.proofs.PointLemmas.{if_none}

@@ -1,0 +1,93 @@
+//! CSV files of layers.
+ghost use Rattle.std.specs.Prelude.{◌≡◌, ◌≢◌, ◌↔◌, false, Ok, Err, IsErrOf, IsTrue, OnOk, IfErr, IfSome};
+ghost use Rattle.csv.specs.Records.{fields_of};
+ghost use Rattle.layer_core.specs.Files.{IsLayerFile, IsLayerHeader, LayerRowGives};
+
+use crate::fault::LayerFault;
+use crate::features::MAX_FEATURES;
+use crate::fields::{id_in, shape_in, two_fields};
+use crate::layer::Layer;
+use crate::read_fault::ReadFault;
+use crate::rows::{next_row, rows_of};
+use crate::source::{MAX_FILE_BYTES, Source, read_all};
+use csv::ByteRecord;
+use std::alloc::Global;
+use std::hash::RandomState;
+
+/// The layer that a CSV file stands for. `state` hashes the ids.
+///
+/// The file is records of comma-separated fields with double quotes where needed (RFC 4180), with
+/// line ends LF or CR LF. Its header is `id,wkt`, in any ASCII case, with or without a byte order
+/// mark before it. Each row inserts a feature, by [`Layer::insert`].
+///
+/// # Errors
+/// [`ReadFault::TooLong`] and [`ReadFault::Header`], in this order, and then the fault of the
+/// first row that has one: [`ReadFault::Row`] where it hasn't two fields, else
+/// [`LayerFault::BadId`], else [`ReadFault::Wkt`], else [`LayerFault::DoubleId`], else
+/// [`LayerFault::LayerFull`]. [`ReadFault::Memory`] may come in place of any other.
+pub fn layer_of_bytes(alloc: Global, state: RandomState, bytes: &[u8]) -> Result<Layer, ReadFault>
+    ensures file { result ≢ Err ReadFault.Memory → IsLayerFile bytes.now result }
+    ensures no_io { result ≢ Err ReadFault.Io }
+{
+    if bytes.len() > MAX_FILE_BYTES {
+        return Err(ReadFault::TooLong);
+    }
+    let mut rows = rows_of(alloc, bytes);
+    let mut row = ByteRecord::new(alloc);
+    if !next_row(&mut rows, &mut row)? || !is_header(&row) {
+        return Err(ReadFault::Header);
+    }
+    let mut layer = Layer::with_room(alloc, state, line_feeds(bytes).min(MAX_FEATURES))?;
+    let mut number = 1;
+    while next_row(&mut rows, &mut row)? {
+        insert_row(&mut layer, number, &row)?;
+        number += 1;
+    }
+    Ok(layer)
+}
+
+/// The layer that a file stands for, which is read from a source that hasn't failed.
+///
+/// # Errors
+/// Those of [`read_all`], and then those of [`layer_of_bytes`].
+pub fn read_layer<S: Source>(
+    alloc: Global,
+    state: RandomState,
+    source: &mut S,
+) -> Result<Layer, ReadFault>
+    requires { S.has_failed source.old ≡ false }
+    ensures io { IsErrOf result ReadFault.Io ↔ IsTrue (S.has_failed source.new) }
+    ensures file { result ≢ Err ReadFault.Io → result ≢ Err ReadFault.Memory → IfSome (S.remaining source.old) (λ bytes. IsLayerFile bytes result) }
+{
+    let bytes = read_all(alloc, source)?;
+    layer_of_bytes(alloc, state, bytes.as_slice())
+}
+
+fn is_header(row: &ByteRecord) -> bool
+    ensures { IsTrue result ↔ IsLayerHeader (fields_of row.now) }
+{
+    match two_fields(row) {
+        Some((id, wkt)) => id.eq_ignore_ascii_case(b"id") && wkt.eq_ignore_ascii_case(b"wkt"),
+        None => false,
+    }
+}
+
+fn line_feeds(bytes: &[u8]) -> usize {
+    bytes.iter().filter(|byte| **byte == b'\n').count()
+}
+
+// Inserts the feature of the row with this number.
+fn insert_row(layer: &mut Layer, number: u32, row: &ByteRecord) -> Result<(), ReadFault>
+    ensures ok { OnOk result (LayerRowGives number layer.old (fields_of row.now) (Ok layer.new)) }
+    ensures err { IfErr result (λ fault. fault ≢ ReadFault.Memory → LayerRowGives number layer.old (fields_of row.now) (Err fault)) }
+    ensures no_io { result ≢ Err ReadFault.Io }
+{
+    let (id, wkt) = two_fields(row).ok_or(ReadFault::Row(number))?;
+    let id = id_in(id).ok_or(ReadFault::Layer(number, LayerFault::BadId))?;
+    let shape = shape_in(wkt).map_err(|fault| ReadFault::Wkt(number, fault))?;
+    let id = String::from_str(layer.allocator(), id)?;
+    match layer.add(id, shape) {
+        Ok(()) => Ok(()),
+        Err(fault) => Err(ReadFault::of_row(number, fault)),
+    }
+}
