@@ -1,0 +1,9 @@
+pub mod Areas
+pub mod ChoiceLemmas
+pub mod NodeLemmas
+pub mod SeedLemmas
+pub mod SplitLemmas
+pub mod CoverLemmas
+pub mod EditLemmas
+pub mod TreeLemmas
+pub mod WindowLemmas

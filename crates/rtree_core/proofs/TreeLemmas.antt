@@ -1,0 +1,175 @@
+-- What a lawful tree keeps, and how large it can be.
+use Rattle.std.proofs.Common.{arith, ◌≡◌, ◌≢◌, ℕ, zero, suc, ◌+◌, ◌^◌, ◌<◌, ◌≤◌, true, cond, List, [], ◌∷◌, ◌++◌, length, refl, sym, ◌∙◌, subst, inl, inr}
+use Rattle.std.specs.Prelude.{All, Option, None, Some, IfSome, IsSomeAnd, count_by, sum_by, nat_eq, nat_lt}
+use Rattle.std.proofs.lemmas.Bool.{cases_lt, cases_eq}
+use Rattle.std.proofs.lemmas.Bool.Decides.{nat_tests}
+use Rattle.std.proofs.lemmas.List.Concat.{length-flat_map}
+use Rattle.std.proofs.lemmas.List.Elements.{All-head, All-tail}
+use Rattle.std.proofs.lemmas.List.Sums.{sum_by-cons}
+use Rattle.rtree_core.specs.declared.node.Entry.{Entry}
+use Rattle.rtree_core.specs.declared.node.Node.{Node}
+use Rattle.rtree_core.specs.Collections.{HasSame, Gains}
+use Rattle.rtree_core.specs.Nodes.{entries_of, level_of, size_of, children_of, IsLawfulAt}
+use Rattle.rtree_core.specs.Trees.{entries_in, height_of, has_number, IsFresh, IsRoot, IsTree}
+use Rattle.geom_core.specs.declared.shape.Shape.{Shape}
+use Rattle.rtree_core.specs.Edits.{StaysOne, ComesInTwo}
+use Rattle.rtree_core.proofs.NodeLemmas.{lawful_level, lawful_is, HasChildren, has_children, has_entries}
+
+-- every item passes the test that all pass
+pub count_all : {T : Type 0} (xs : List T) → count_by (λ _. true) xs ≡ length xs
+count_all [] = refl
+count_all (x ∷ xs) = omega (arith, sum_by-cons (λ _. 1) x xs, count_all xs)
+
+-- collections that are the same have the same length
+pub same_length : {T : Type 0} (xs ys : List T) → HasSame xs ys → length xs ≡ length ys
+same_length xs ys h = sym (count_all xs) ∙ h (λ _. true) ∙ count_all ys
+
+below_suc : (a n : ℕ) → cond {A = ℕ} (nat_lt a (suc n)) 1 0 ≡ cond {A = ℕ} (nat_lt a n) 1 0 + cond {A = ℕ} (nat_eq a n) 1 0
+below_suc a n = grind (arith, nat_tests)
+
+count_suc : (n : ℕ) (xs : List Entry) → count_by (λ e. nat_lt e.number (suc n)) xs ≡ count_by (λ e. nat_lt e.number n) xs + count_by (has_number n) xs
+count_suc n [] = refl
+count_suc n (x ∷ xs) =
+    omega (
+      arith,
+      count_suc n xs,
+      below_suc x.number n,
+      sum_by-cons (λ e. cond {A = ℕ} (nat_lt e.number (suc n)) 1 0) x xs,
+      sum_by-cons (λ e. cond {A = ℕ} (nat_lt e.number n) 1 0) x xs,
+      sum_by-cons (λ e. cond {A = ℕ} (has_number n e) 1 0) x xs,
+    )
+
+is_none_below : (a : ℕ) → cond {A = ℕ} (nat_lt a 0) 1 0 ≡ 0
+is_none_below a = grind (arith, nat_tests)
+
+count_none : (xs : List Entry) → count_by (λ e. nat_lt e.number 0) xs ≡ 0
+count_none [] = refl
+count_none (x ∷ xs) = omega (arith, count_none xs, is_none_below x.number, sum_by-cons (λ e. cond {A = ℕ} (nat_lt e.number 0) 1 0) x xs)
+
+-- how many numbers lie below n, where none comes twice
+count_below_n : (n : ℕ) (xs : List Entry) → ((k : ℕ) → count_by (has_number k) xs ≤ 1) → count_by (λ e. nat_lt e.number n) xs ≤ n
+count_below_n zero xs h = omega (arith, count_none xs)
+count_below_n (suc n) xs h = omega (arith, count_suc n xs, count_below_n n xs h, h n)
+
+itself : (k : ℕ) → cond {A = ℕ} (nat_eq k k) 1 0 ≡ 1
+itself k = grind (arith, nat_tests)
+
+is_below : (a n : ℕ) → a < n → cond {A = ℕ} (nat_lt a n) 1 0 ≡ 1
+is_below a n h = grind (arith, nat_tests)
+
+-- all are below n where none is n or more
+all_below : (n : ℕ) (xs : List Entry) → ((k : ℕ) → n ≤ k → count_by (has_number k) xs ≡ 0) → count_by (λ e. nat_lt e.number n) xs ≡ length xs
+all_below n [] h = refl
+all_below n (x ∷ xs) h =
+    let here : x.number < n = elim (cases_lt x.number n) [
+      | inl p ↦ p
+      | inr p ↦ absurd (omega (arith, h x.number p, itself x.number, sum_by-cons (λ e. cond {A = ℕ} (has_number x.number e) 1 0) x xs))
+    ] in
+    omega (
+      arith,
+      all_below n xs (λ k p. omega (arith, h k p, sum_by-cons (λ e. cond {A = ℕ} (has_number k e) 1 0) x xs)),
+      is_below x.number n here,
+      sum_by-cons (λ e. cond {A = ℕ} (nat_lt e.number n) 1 0) x xs,
+    )
+
+-- a tree has no more entries than there are numbers
+pub tree_length : (root : Option Node) → IsTree root → length (entries_in root) ≤ 2 ^ 32
+tree_length root h = omega (arith, all_below (2 ^ 32) (entries_in root) h.in_range, count_below_n (2 ^ 32) (entries_in root) h.distinct)
+
+two_children : (m : ℕ) (f : Node → ℕ) (xs : List Node) → 2 ≤ length xs → All (λ n. m ≤ f n) xs → m + m ≤ sum_by f xs
+two_children m f [] s h = absurd (omega arith)
+two_children m f (x ∷ []) s h = absurd (omega arith)
+two_children m f (x ∷ y ∷ zs) s h =
+    let first = All-head (λ n. m ≤ f n) x (y ∷ zs) h in
+    let second = All-head (λ n. m ≤ f n) y zs (All-tail (λ n. m ≤ f n) x (y ∷ zs) h) in
+    omega (arith, first, second, sum_by-cons f x (y ∷ zs), sum_by-cons f y zs)
+
+inner_deep : (l : ℕ) (n : Node) →
+    HasChildren l n →
+    ((m : Node) → IsLawfulAt l m → 2 ≤ size_of m → l + 2 ≤ length (entries_of m)) →
+    2 ≤ size_of n →
+    (l + 2) + (l + 2) ≤ length (entries_of n)
+inner_deep l n h deep two =
+    let all : All (λ m. l + 2 ≤ length (entries_of m)) (children_of n) = λ k d lt. deep _ (h.children k d lt) (omega (arith, h.enough k d lt)) in
+    rw (h.entries, length-flat_map) (two_children (l + 2) (λ m. length (entries_of m)) (children_of n) (omega (arith, h.size)) all)
+
+-- a node of two has more entries than levels
+entries_deep : (l : ℕ) (n : Node) → IsLawfulAt l n → 2 ≤ size_of n → l + 2 ≤ length (entries_of n)
+entries_deep zero n h two = omega (arith, (has_entries n h).size)
+entries_deep (suc l) n h two = omega (arith, inner_deep l n (has_children l n h) (entries_deep l) two)
+
+level_below : (l : ℕ) (n : Node) → level_of n ≡ l → IsLawfulAt l n → (0 < level_of n → 2 ≤ size_of n) → length (entries_of n) ≤ 2 ^ 32 → level_of n + 2 < 2 ^ 32
+level_below zero n e h two small = omega arith
+level_below (suc l) n e h two small = omega (arith, inner_deep l n (has_children l n h) (entries_deep l) (two (omega arith)))
+
+-- a tree's height is far below the number of numbers
+pub root_level : (n : Node) → IsTree (Some n) → level_of n + 2 < 2 ^ 32
+root_level n h = level_below (level_of n) n refl h.lawful.lawful h.lawful.two (tree_length (Some n) h)
+
+not_that : (x : Entry) (k : ℕ) → x.number ≢ k → cond {A = ℕ} (has_number k x) 1 0 ≡ 0
+not_that x k h = grind (arith, nat_tests)
+
+at_most_one : (x : Entry) (k : ℕ) → cond {A = ℕ} (has_number k x) 1 0 ≤ 1
+at_most_one x k = grind (arith, nat_tests)
+
+-- an entry whose number is fresh leaves the tree lawful
+pub tree_gains : (x : Entry) (old new : Option Node) →
+    x.number < 2 ^ 32 →
+    IsFresh x.number old →
+    IsTree old →
+    Gains x (entries_in old) (entries_in new) →
+    IfSome new IsRoot →
+    IsTree new
+tree_gains x old new small fresh tree gains lawful = record {
+  lawful = lawful;
+  distinct = λ k. elim (cases_eq x.number k) [
+    | inl e ↦ omega (arith, subst (λ z. count_by (has_number z) (entries_in old) ≡ 0) e fresh, gains (has_number k), sum_by-cons (λ y. cond {A = ℕ} (has_number k y) 1 0) x (entries_in old), at_most_one x k)
+    | inr n ↦ omega (arith, tree.distinct k, gains (has_number k), sum_by-cons (λ y. cond {A = ℕ} (has_number k y) 1 0) x (entries_in old), not_that x k n)
+  ];
+  in_range = λ k h. omega (arith, tree.in_range k h, gains (has_number k), sum_by-cons (λ y. cond {A = ℕ} (has_number k y) 1 0) x (entries_in old), not_that x k (λ e. omega arith));
+}
+
+-- a tree whose root took an entry in
+pub record TookIn (x : Entry) (old new : Option Node) (levels : ℕ) : Type 0 where
+  pub tree : IsTree new
+  pub height : height_of new ≡ height_of old + levels
+  pub gains : Gains x (entries_in old) (entries_in new)
+
+module _ (x : Entry) (s : Shape) (old : Option Node) (n : Node) (is : old ≡ Some n) (tree : IsTree old) (small : x.number < 2 ^ 32) (fresh : IsFresh x.number old) where
+  pub stays : (m : Node) → StaysOne (x ∷ []) s n m → TookIn x old (Some m) 0
+  stays m h =
+      let gains : Gains x (entries_in old) (entries_of m) = rw is h.gains in
+      let level = lawful_level (level_of n) m h.lawful in
+      let root : IsRoot n = (rw is at tree).lawful in
+      record {
+        tree = tree_gains x old (Some m) small fresh tree gains (record {
+          lawful = lawful_is (level_of n) m h.lawful;
+          two = λ k. omega (arith, root.two (omega (arith, level)), h.bigger);
+        });
+        height = rw (is, level) (omega arith);
+        gains = gains;
+      }
+
+  pub splits : (one two : Node) (new : Option Node) →
+      ComesInTwo (x ∷ []) s n one two →
+      IsSomeAnd new (λ m. (size_of m ≡ 2) × IsLawfulAt (suc (level_of two)) m) →
+      entries_in new ≡ entries_of one ++ entries_of two →
+      TookIn x old new 1
+  splits one two None h root entries = absurd root
+  splits one two (Some m) h root entries =
+      let gains : Gains x (entries_in old) (entries_of m) = rw (is, entries) h.gains in
+      let level = lawful_level (suc (level_of two)) m root.1 in
+      let half = lawful_level (level_of n) two h.two_lawful in
+      record {
+        tree = tree_gains x old (Some m) small fresh tree gains (record {
+          lawful = lawful_is (suc (level_of two)) m root.1;
+          two = λ k. omega (arith, root.0);
+        });
+        height = rw (is, level, half) (omega arith);
+        gains = gains;
+      }
+
+-- a number that differs from that of the entry that came in stays fresh
+pub fresh_after : (x : Entry) (old new : Option Node) (k : ℕ) → Gains x (entries_in old) (entries_in new) → x.number ≢ k → IsFresh k old → IsFresh k new
+fresh_after x old new k gains other fresh =
+    omega (arith, gains (has_number k), sum_by-cons (λ y. cond {A = ℕ} (has_number k y) 1 0) x (entries_in old), not_that x k other)

@@ -1,0 +1,12 @@
+pub mod Choices
+pub mod Collections
+pub mod Covers
+pub mod Edits
+pub mod Kept
+pub mod Needs
+pub mod Nodes
+pub mod Roots
+pub mod Seeds
+pub mod Splits
+pub mod Trees
+pub mod Windows

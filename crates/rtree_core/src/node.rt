@@ -1,0 +1,114 @@
+//! A node of the tree: its cover, and the entries or the children below it.
+
+ghost use Rattle.std.specs.Prelude.{◌<◌, length};
+ghost use Rattle.rtree_core.specs.Covers.{IsLeastCover};
+
+use crate::laws::Covered;
+use geom_core::Shape;
+
+/// A shape with the number that names it.
+#[derive(Clone, Copy, Debug, PartialEq, Eq)]
+pub struct Entry {
+    /// What is indexed.
+    pub shape: Shape,
+    /// Differs from that of every other entry of one tree.
+    pub number: u32,
+}
+
+impl Covered for Entry {
+    ghost cover = { λ e. e.shape };
+
+    #[inline(always)]
+    fn cover(&self) -> Shape {
+        self.shape
+    }
+}
+
+/// The smallest shape that contains the covers of all items.
+pub(crate) fn cover_all<T: Covered>(items: &[T]) -> Shape
+    requires { 0 < length items.now }
+    ensures { IsLeastCover T.cover items.now result }
+{
+    let mut cover = items[0].cover();
+    for place in 1..items.len() {
+        cover = cover.cover(&items[place].cover());
+    }
+    cover
+}
+
+/// A node of an R-tree.
+#[cycle(node)]
+#[derive(Drop)]
+pub struct Node {
+    pub(crate) cover: Shape,
+    pub(crate) below: Below,
+}
+
+#[cycle(node)]
+#[derive(Drop)]
+pub(crate) enum Below {
+    Entries(Vec<Entry>),
+    Children(Vec<Node>),
+}
+
+impl Node {
+    ghost use Rattle.std.specs.Prelude.{◌≡◌, ◌+◌, ◌<◌, ◌↔◌, length, IsTrue, All};
+    ghost use Rattle.std.specs.List.{flat_map};
+    ghost use Rattle.geom_core.specs.Cells.{IsIn};
+    ghost use Rattle.rtree_core.specs.Nodes.{entries_of, children_of, level_of, node_cover, IsLeaf, IsLawful};
+    ghost use Rattle.rtree_core.specs.Covers.{IsLeastCover};
+
+    /// Whether it holds entries and no children: it is on level 0.
+    pub fn is_leaf(&self) -> bool
+        ensures leaf { IsTrue result ↔ IsLeaf self.now }
+        ensures level { IsTrue result ↔ (level_of self.now ≡ 0) }
+    {
+        matches!(self.below, Below::Entries(_))
+    }
+
+    /// The entries of a leaf, of which there is at least one.
+    pub fn entries(&self) -> &[Entry]
+        requires { IsLeaf self.now }
+        ensures entries { result.now ≡ entries_of self.now }
+        ensures some { IsLawful self.now → 0 < length result.now }
+    {
+        match &self.below {
+            Below::Entries(entries) => entries,
+            Below::Children(_) => unreachable!(),
+        }
+    }
+
+    /// The children of an inner node, of which there is at least one.
+    pub fn children(&self) -> &[Node]
+        requires { IsLeaf self.now → ⊥ }
+        ensures children { result.now ≡ children_of self.now }
+        ensures entries { entries_of self.now ≡ flat_map entries_of result.now }
+        ensures some { IsLawful self.now → 0 < length result.now }
+        ensures lawful { IsLawful self.now → All IsLawful result.now }
+        ensures levels { IsLawful self.now → All (λ n. level_of n + 1 ≡ level_of self.now) result.now }
+        ensures covers { IsLawful self.now → All (λ n. IsIn (node_cover n) (node_cover self.now)) result.now }
+    {
+        match &self.below {
+            Below::Entries(_) => unreachable!(),
+            Below::Children(children) => children,
+        }
+    }
+
+    /// The smallest shape that contains the shapes of its entries, or the covers of its children.
+    #[inline(always)]
+    pub fn cover(&self) -> Shape
+        ensures value { result ≡ node_cover self.now }
+        ensures tight { IsLawful self.now → IsLeastCover (λ e. e.shape) (entries_of self.now) result }
+    {
+        self.cover
+    }
+}
+
+impl Covered for Node {
+    ghost cover = { λ n. n.cover };
+
+    #[inline(always)]
+    fn cover(&self) -> Shape {
+        self.cover
+    }
+}

@@ -1,0 +1,116 @@
+//! The tree: its root, and the edits and questions of the whole.
+
+ghost use Rattle.std.specs.Prelude.{◌≡◌, ◌+◌, ◌≤◌, [], ◌∷◌, length, vec_len, IsSome, OnOk, OnErr, option_copied};
+
+use crate::edit::{Spare, insert_at_root};
+use crate::node::{Entry, Node};
+use crate::window::collect;
+use geom_core::Shape;
+use std::alloc::{AllocError, Global};
+use std::marker::Model;
+
+/// Guttman's R-tree over entries, no two of which have one number.
+///
+/// Every node other than the root has 3 to 8 entries or children, a root that is a leaf 1 to 8
+/// entries, and one that is inner 2 to 8 children. All leaves are on one level (Guttman 1984, 2).
+#[derive(Drop)]
+pub struct RTree {
+    root: Option<Node>,
+    height: u32,
+    len: usize,
+    spare: Spare,
+}
+
+impl Model for RTree {
+    ghost use Rattle.std.specs.Prelude.{Option};
+    ghost use Rattle.rtree_core.specs.declared.node.Node.{Node};
+    ghost use Rattle.std.specs.Coded.{coded_option};
+    ghost use Rattle.rtree_core.specs.contracts.node.Node as node;
+
+    ghost Value = { Option Node };
+
+    ghost coded = { coded_option node.the_row.coded };
+
+    ghost use Rattle.rtree_core.specs.Kept.{IsWhole};
+
+    ghost view = { λ t. t.root };
+
+    ghost invariant = { IsWhole };
+}
+
+impl RTree {
+    ghost use Rattle.std.specs.Prelude.{◌≡◌, ◌↔◌, None, length, IsTrue, OnOk, OnErr, IfOk, option_copied};
+    ghost use Rattle.rtree_core.specs.Collections.{Gains};
+    ghost use Rattle.rtree_core.specs.Trees.{entries_in, height_of, IsTree, IsFresh};
+    ghost use Rattle.rtree_core.specs.Windows.{AllMet, AllFound};
+    ghost use Rattle.std.specs.List.Sorted.{IsStrictlyIncreasing};
+
+    /// The empty tree.
+    pub fn new(alloc: Global) -> RTree
+        ensures { result ≡ None }
+    {
+        RTree {
+            root: None,
+            height: 0,
+            len: 0,
+            spare: Spare::new(alloc),
+        }
+    }
+
+    /// The root, or `None` where the tree is empty.
+    pub fn root(&self) -> Option<&Node>
+        ensures root { option_copied result ≡ self.now }
+        ensures lawful { IsTree self.now }
+    {
+        self.root.as_ref()
+    }
+
+    /// The number of entries.
+    pub fn len(&self) -> usize
+        ensures { result ≡ length (entries_in self.now) }
+    {
+        self.len
+    }
+
+    /// Whether it holds no entry.
+    pub fn is_empty(&self) -> bool
+        ensures { IsTrue result ↔ (self.now ≡ None) }
+    {
+        self.root.is_none()
+    }
+
+    /// The number of levels: 0 for the empty tree, 1 where the root is a leaf.
+    pub fn height(&self) -> u32
+        ensures { result ≡ height_of self.now }
+    {
+        self.height
+    }
+
+    /// Inserts an entry, whose number the tree doesn't hold.
+    ///
+    /// An `Err` leaves the tree as it was.
+    pub fn insert(&mut self, entry: Entry) -> Result<(), AllocError>
+        requires { IsFresh entry.number self.old }
+        ensures ok { OnOk result (Gains entry (entries_in self.old) (entries_in self.new)) }
+        ensures err { OnErr result (self.new ≡ self.old) }
+    {
+        self.spare.gather(self.height)?;
+        insert_at_root(&mut self.root, &mut self.height, entry, &mut self.spare);
+        self.len += 1;
+        Ok(())
+    }
+
+    /// The numbers of the entries whose shapes meet the window, ascending.
+    pub fn window(&self, alloc: Global, window: &Shape) -> Result<Vec<u32>, AllocError>
+        ensures rising { IfOk result (λ v. IsStrictlyIncreasing v.items) }
+        ensures met { IfOk result (λ v. AllMet window.now (entries_in self.now) v.items) }
+        ensures all { IfOk result (λ v. AllFound window.now (entries_in self.now) v.items) }
+    {
+        let mut found = Vec::new(alloc);
+        if let Some(root) = &self.root {
+            collect(root, window, &mut found)?;
+        }
+        found.sort_unstable();
+        Ok(found)
+    }
+}
