@@ -1,0 +1,81 @@
+//! Readers that fail, that give little at a time, and that never end.
+
+use super::*;
+use std::io::{Error, ErrorKind, Read, Result as IoResult};
+
+/// A reader that gives some bytes of a text with each read, and fails after so many reads.
+#[derive(Drop)]
+pub(super) struct Device<'a> {
+    text: &'a [u8],
+    chunk: usize,
+    good_reads: u32,
+    interrupted: bool,
+}
+
+impl<'a> Device<'a> {
+    pub(super) fn new(text: &'a [u8], chunk: usize, good_reads: u32) -> Device<'a> {
+        Device {
+            text,
+            chunk,
+            good_reads,
+            interrupted: false,
+        }
+    }
+}
+
+impl Read for Device<'_> {
+    fn read(&mut self, buf: &mut [u8]) -> IoResult<usize> {
+        // Each read is interrupted once.
+        self.interrupted = !self.interrupted;
+        if self.interrupted {
+            return Err(Error::from(ErrorKind::Interrupted));
+        }
+        if self.good_reads == 0 {
+            return Err(Error::from(ErrorKind::TimedOut));
+        }
+        self.good_reads -= 1;
+        let count = self.chunk.min(self.text.len()).min(buf.len());
+        let (now, later) = self.text.split_at(count);
+        buf[..count].copy_from_slice(now);
+        self.text = later;
+        Ok(count)
+    }
+}
+
+/// A reader that gives spaces without end.
+#[derive(Drop)]
+pub(super) struct Endless;
+
+impl Read for Endless {
+    fn read(&mut self, buf: &mut [u8]) -> IoResult<usize> {
+        for byte in buf.iter_mut() {
+            *byte = b' ';
+        }
+        Ok(buf.len())
+    }
+}
+
+#[test]
+fn failing_reads(rt: HostRuntime) -> Result<(), Fail> {
+    let text = b"op,layer,id,wkt\ninsert,left,a,POINT (0 0)\n";
+    for good_reads in [0, 1, 20] {
+        let mut source = FromRead::new(Device::new(text, 2, good_reads));
+        let answer = read_edits(rt.alloc(), &mut source);
+        assert_eq!(rt; answer.err(), Some(ReadFault::Io));
+        assert!(rt; source.failed());
+    }
+    Ok(())
+}
+
+#[test]
+fn one_byte_at_a_time(rt: HostRuntime) -> Result<(), Fail> {
+    let text = b"id,wkt\na,POINT (1 2)\n";
+    let mut source = FromRead::new(Device::new(text, 1, 1_000));
+    let bytes = read_all(rt.alloc(), &mut source)?;
+    assert!(rt; bytes.as_slice() == text.as_slice());
+    assert!(rt; !source.failed());
+    let mut source = FromRead::new(Device::new(text, 1, 1_000));
+    let layer = read_layer(rt.alloc(), RandomState::new(&rt)?, &mut source)?;
+    assert_eq!(rt; layer.find("a"), Some((0, point(&rt, 1, 2))));
+    Ok(())
+}
