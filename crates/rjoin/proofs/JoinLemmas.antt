@@ -15,7 +15,7 @@ use Rattle.layer_core.specs.Layers.{Feature, Contents, IsLayer, has_number, with
 use Rattle.rjoin.specs.Joins.{Precedes, StandIn, IsJoinList}
 use Rattle.rjoin.specs.Matches.{Matches, Lists}
 
-contains_at : {X : Type 0} (xs : List X) (k : ℕ) (d : X) → k < length xs → Contains xs (get_or xs k d)
+pub contains_at : {X : Type 0} (xs : List X) (k : ℕ) (d : X) → k < length xs → Contains xs (get_or xs k d)
 contains_at xs k d within = (k, within, get_or_default xs k (get_or xs k d) d within)
 
 contains_here : {X : Type 0} (x : X) (xs : List X) → Contains (x ∷ xs) x

@@ -1,4 +1,5 @@
 pub mod JoinLemmas
+pub mod JoinRunLemmas
 pub mod LineLemmas
 pub mod RelatingLemmas
 pub mod ReportLemmas

@@ -1,5 +1,7 @@
 pub mod CsvWriting
+pub mod JoinRuns
 pub mod Joins
+pub mod EditRuns
 pub mod Lines
 pub mod Matches
 pub mod Options

@@ -1,8 +1,11 @@
 //! The spatial join of two layers of whole-number geometries, as a program.
 #![tactic(auto)]
 
+mod edit_run;
 mod fault;
 mod join;
+mod join_command;
+mod join_files;
 mod line;
 mod lines;
 mod options;
