@@ -33,6 +33,7 @@ pub(crate) struct Slot {
 pub(crate) struct Features {
     ids: Ids,
     slots: Vec<Option<Slot>>,
+    // How many slots are filled.
     count: usize,
 }
 
@@ -157,10 +158,12 @@ impl Features {
         ensures err { OnErr result (self.new ≡ self.old) }
     {
         let number = self.slots.len() as u32;
+        // From here to the map's insertion nothing changes that a refusal would have to undo.
         self.slots.reserve(1)?;
         let (place, before) = self.ids.insert_full(id, Some(number))?;
         match before.flatten() {
             Some(live) => {
+                // The id's feature keeps its number.
                 self.ids[place] = Some(live);
                 Ok(false)
             }

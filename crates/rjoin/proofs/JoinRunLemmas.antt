@@ -1,5 +1,5 @@
 -- The answers of a join of files.
-use Rattle.std.proofs.Common.{◌≡◌, ℕ, List, Option, Some, None, Result, Ok, Err, IsSome, IsErrAnd, IfErr, All, get_or, length, refl, sym, subst, ◌∙◌, map}
+use Rattle.std.proofs.Common.{◌≡◌, ℕ, List, Option, Some, None, Result, Ok, Err, IsSome, IsErrAnd, IfErr, All, get_or, refl, sym, subst, ◌∙◌, map}
 use Rattle.geom_core.specs.declared.relation.Relation.{Relation}
 use Rattle.layer_core.specs.declared.edit.Edit.{Edit as EditType}
 use Rattle.layer_core.specs.declared.fault.LayerFault.{LayerFault}

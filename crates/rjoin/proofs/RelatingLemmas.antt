@@ -1,8 +1,6 @@
 -- Which of two texts is at fault.
-use Rattle.std.proofs.Common.{◌≡◌, ℕ, List, [], ◌∷◌, ◌++◌, Result, Ok, Err, IsErrOf, IsErrAnd, sym, subst, ◌↔◌, ◌∙◌}
+use Rattle.std.proofs.Common.{◌≡◌, ℕ, List, Result, Ok, Err, IsErrOf, IsErrAnd, subst, ◌↔◌}
 use Rattle.geom_core.specs.declared.shape.Shape.{Shape}
-use Rattle.geom_core.specs.declared.matrix.Matrix.{Matrix}
-use Rattle.geom_core.specs.Matrices.{IsMatrix, letters_of}
 use Rattle.wkt_core.specs.declared.fault.WktFault.{WktFault}
 use Rattle.wkt_core.specs.declared.fault.WktFault.TheVariants as wkt
 use Rattle.wkt_core.specs.Spelling.{Spells, HasNoRawForm, HasBadNumber, HasNoShape}
@@ -10,7 +8,7 @@ use Rattle.rjoin.specs.declared.fault.Input.{Input}
 use Rattle.rjoin.specs.declared.fault.Input.TheVariants.{First, Second}
 use Rattle.rjoin.specs.declared.fault.RunFault.{RunFault}
 use Rattle.rjoin.specs.declared.fault.RunFault.TheVariants.{Wkt}
-use Rattle.rjoin.specs.Relating.{HasFault, HasFirstFault, IsMatrixLine}
+use Rattle.rjoin.specs.Relating.{HasFault, HasFirstFault}
 
 -- what `?` hands on
 pub err_is : {T : Type 0} (out : Result T RunFault) (e : RunFault) → IsErrAnd out (λ x. x ≡ e) → out ≡ Err e

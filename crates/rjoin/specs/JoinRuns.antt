@@ -10,7 +10,7 @@ use Rattle.layer_core.specs.Edits.{Layers, both}
 use Rattle.layer_core.specs.Files.{Said, IsLayerFile, IsEditFile}
 use Rattle.rjoin.specs.declared.fault.Input.TheVariants.{Left, Right, Edits}
 use Rattle.rjoin.specs.declared.fault.RunFault.{RunFault}
-use Rattle.rjoin.specs.declared.fault.RunFault.TheVariants.{NoFile, Read, Wkt, Edit, Join, Write, Memory}
+use Rattle.rjoin.specs.declared.fault.RunFault.TheVariants.{Read, Edit}
 use Rattle.rjoin.specs.EditRuns.{edits_give}
 use Rattle.rjoin.specs.Joins.{IsJoinList}
 use Rattle.rjoin.specs.Reports.{IsReport}

@@ -1,5 +1,5 @@
 -- The report of pairs of features.
-use Rattle.std.specs.Prelude.{◌≡◌, ℕ, List, [], ◌∷◌, ◌++◌, Some, All, IsSome, codes}
+use Rattle.std.specs.Prelude.{◌≡◌, ℕ, List, [], ◌∷◌, Some, IsSome, codes}
 use Rattle.std.specs.List.{AllZip, flat_map}
 use Rattle.csv.specs.Writing.{row_text, default_writer}
 use Rattle.geom_core.specs.declared.matrix.Matrix.{Matrix}

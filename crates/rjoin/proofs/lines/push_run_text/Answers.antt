@@ -1,4 +1,3 @@
-use Rattle.std.proofs.Common.{ap, ◌∙◌, ◌++◌}
 use Rattle.rjoin.proofs.LineLemmas.{two_pieces}
 use Rattle.rjoin.proofs.lines.push_run_text.Goals as goal
 

@@ -1,5 +1,4 @@
-use Rattle.std.proofs.Common.{◌≡◌, ◌++◌, ◌∷◌, [], ap, ◌∙◌}
-use Rattle.rjoin.specs.Lines.{word_fault_line}
+use Rattle.std.proofs.Common.{◌++◌, ◌∷◌, [], ap}
 use Rattle.rjoin.proofs.LineLemmas.{ok_as, err_as, three_pieces}
 use Rattle.rjoin.proofs.lines.word_line.Goals as goal
 

@@ -1,4 +1,4 @@
-use Rattle.std.proofs.Common.{◌≡◌, List, ℕ, [], ◌++◌, Vec, Global, Some, ap, refl}
+use Rattle.std.proofs.Common.{◌≡◌, [], refl}
 use Rattle.rjoin.proofs.ReportLemmas.{header_written, pair_written, report_written}
 use Rattle.rjoin.proofs.report.report_text.Goals as goal
 

@@ -1,4 +1,4 @@
-use Rattle.rjoin.proofs.WrittenLemmas.{appends_up_to_start, appends_up_to_more, appends_up_to_end, appends_up_to_kept, not_failed}
+use Rattle.rjoin.proofs.WrittenLemmas.{appends_up_to_more, not_failed}
 use Rattle.rjoin.proofs.sink.write_text.Goals as goal
 
 pub loop-rest-preserved : goal.loop-rest-preserved
