@@ -23,16 +23,16 @@ use Rattle.rtree_core.proofs.SplitLemmas.{split_sums, split_all, split_back}
 use Rattle.rtree_core.proofs.NodeLemmas.{entries_leaf, level_leaf, entries_inner, level_inner, lawful_level, has_children}
 
 -- a leaf by its list
-leaf_entries : (c : Shape) (v : Vec Entry Global) → entries_of (leaf_node c v) ≡ v.items
+pub leaf_entries : (c : Shape) (v : Vec Entry Global) → entries_of (leaf_node c v) ≡ v.items
 leaf_entries c v = entries_leaf (leaf_node c v) v (outs-Entries v)
 
-leaf_level : (c : Shape) (v : Vec Entry Global) → level_of (leaf_node c v) ≡ 0
+pub leaf_level : (c : Shape) (v : Vec Entry Global) → level_of (leaf_node c v) ≡ 0
 leaf_level c v = level_leaf (leaf_node c v) v (outs-Entries v)
 
-leaf_lawful : (c : Shape) (v : Vec Entry Global) → IsPage (λ e. e.shape) c v → IsLawfulAt 0 (leaf_node c v)
+pub leaf_lawful : (c : Shape) (v : Vec Entry Global) → IsPage (λ e. e.shape) c v → IsLawfulAt 0 (leaf_node c v)
 leaf_lawful c v h = rw outs-Entries h
 
-leaf_size : (c : Shape) (v : Vec Entry Global) → size_of (leaf_node c v) ≡ vec_len v
+pub leaf_size : (c : Shape) (v : Vec Entry Global) → size_of (leaf_node c v) ≡ vec_len v
 leaf_size c v = rw outs-Entries refl
 
 -- a list that is not empty has a length
@@ -156,10 +156,10 @@ half_inners l c d old child one two halved p q alike lawful enough child_enough 
 pub inner_entries : (c : Shape) (v : Vec Node Global) → entries_of (inner_node c v) ≡ flat_map entries_of v.items
 inner_entries c v = entries_inner (inner_node c v) v (outs-Children v)
 
-inner_children : (c : Shape) (v : Vec Node Global) → children_of (inner_node c v) ≡ v.items
+pub inner_children : (c : Shape) (v : Vec Node Global) → children_of (inner_node c v) ≡ v.items
 inner_children c v = rw outs-Children refl
 
-inner_size : (c : Shape) (v : Vec Node Global) → size_of (inner_node c v) ≡ vec_len v
+pub inner_size : (c : Shape) (v : Vec Node Global) → size_of (inner_node c v) ≡ vec_len v
 inner_size c v = rw outs-Children refl
 
 -- how many of the entries below some nodes pass a test
@@ -257,50 +257,32 @@ inner_stays added s c d v w o i x y lt at stays items len room e =
       without = λ t h. without_cover c s t (rw e at h);
     }
 
--- the children with one changed and another at the end
-abbrev pub with_two : List Node → ℕ → Node → Node → List Node
-with_two xs i y z = set xs i y ++ z ∷ []
+-- a list of children that holds what an inner node held and the added entries: with the same sums, and in the same shapes with s
+pub record Replaces (added : List Entry) (s c : Shape) (v : Vec Node Global) (xs : List Node) : Type 0 where
+  pub longer : vec_len v ≤ length xs
+  pub sums : (p : Entry → Bool) → sum_by (λ n. count_by p (entries_of n)) xs ≡ count_by p (added ++ flat_map entries_of v.items)
+  pub into : (t : Shape) → IsIn s t → IsIn c t → AllIn (λ n. n.cover) t xs
+  pub out : (t : Shape) → AllIn (λ n. n.cover) t xs → IsIn s t × IsIn c t
 
--- the entries came into a child, which was split
-module _ (added : List Entry) (s c : Shape) (v : Vec Node Global) (o : Opened c v) (i : ℕ) (x y z : Node) (lt : i < length v.items) (at : x ≡ get_or v.items i x) (two : ComesInTwo added s x y z) where
-  sum_of_two : (p : Entry → Bool) → sum_by (λ n. count_by p (entries_of n)) (with_two v.items i y z) ≡ count_by p (added ++ flat_map entries_of v.items)
-  sum_of_two p =
-      let f : Node → ℕ = λ n. count_by p (entries_of n) in
-      let count : Entry → ℕ = λ e. cond (p e) 1 0 in
-      let changed : sum_by f (set v.items i y) + f x ≡ sum_by f v.items + f y = subst (λ n. sum_by f (set v.items i y) + f n ≡ sum_by f v.items + f y) (sym at) (sum_by-set f v.items i y x lt) in
-      omega (arith, sum_by_push f (set v.items i y) z, sum_by-append count added (flat_map entries_of v.items), count_below p v.items, changed, two.gains p, sum_by-append count added (entries_of x), sum_by-append count (entries_of y) (entries_of z))
-
-  in_two : (t : Shape) → IsIn s t → IsIn c t → AllIn (λ n. n.cover) t (with_two v.items i y z)
-  in_two t h k =
-      let all = all_in (λ n. n.cover) v.items c t o.inner.page.tight k in
-      let both = two.within t h (subst (λ n. IsIn n.cover t) (sym at) (all i x lt)) in
-      All-push (λ n. IsIn n.cover t) (set v.items i y) z (All-set (λ n. IsIn n.cover t) v.items i y both.0 all) both.1
-
-  out_of_two : (t : Shape) → AllIn (λ n. n.cover) t (with_two v.items i y z) → IsIn s t × IsIn c t
-  out_of_two t all =
-      let front = All-front (λ n. IsIn n.cover t) (set v.items i y) (z ∷ []) all in
-      let last = All-last (λ n. IsIn n.cover t) (set v.items i y) z all in
-      let here : IsIn y.cover t = subst (λ n. IsIn n.cover t) (get_or-set_same v.items i y x lt) (front i x (rw length-set lt)) in
-      let both = two.without t here last in
-      (both.0, o.inner.page.tight.least t (All-unset (λ n. IsIn n.cover t) v.items i y x (subst (λ n. IsIn n.cover t) at both.1) front))
-
-  pub inner_grows : (d : Shape) (w : Vec Node Global) →
-      w.items ≡ with_two v.items i y z →
+-- the node of such a list has the entries, and so have the two halves where it was split
+module _ (added : List Entry) (s c : Shape) (v : Vec Node Global) (o : Opened c v) (xs : List Node) (r : Replaces added s c v xs) where
+  inner_grows : (d : Shape) (w : Vec Node Global) →
+      w.items ≡ xs →
       IsLawfulAt (suc o.level) (inner_node d w) →
       StaysOne added s (inner_node c v) (inner_node d w)
   inner_grows d w items lawful =
       let facts = has_children o.level (inner_node d w) lawful in
-      let tight : IsLeastCover (λ n. n.cover) (with_two v.items i y z) d = rw (inner_children d w, items) at facts.tight in
+      let tight : IsLeastCover (λ n. n.cover) xs d = rw (inner_children d w, items) at facts.tight in
       record {
-        gains = λ p. rw (inner_entries c v, inner_entries d w, items) (omega (arith, sum_of_two p, count_below p (with_two v.items i y z)));
+        gains = λ p. rw (inner_entries c v, inner_entries d w, items) (omega (arith, r.sums p, count_below p xs));
         lawful = rw o.level_is lawful;
-        bigger = rw (inner_size c v, inner_size d w) (omega (arith, v.ok.0, w.ok.0, ap length items, length-append (set v.items i y) (z ∷ []), length-set v.items i y));
-        within = λ t h k. tight.least t (in_two t h k);
-        without = λ t h. out_of_two t (all_in (λ n. n.cover) (with_two v.items i y z) d t tight h);
+        bigger = rw (inner_size c v, inner_size d w) (omega (arith, w.ok.0, ap length items, r.longer));
+        within = λ t h k. tight.least t (r.into t h k);
+        without = λ t h. r.out t (all_in (λ n. n.cover) xs d t tight h);
       }
 
-  pub inner_splits : (d : Shape) (w : Vec Node Global) (n : Node) →
-      IsSplit (λ m. m.cover) (with_two v.items i y z) w.items (children_of n) →
+  inner_splits : (d : Shape) (w : Vec Node Global) (n : Node) →
+      IsSplit (λ m. m.cover) xs w.items (children_of n) →
       IsLawfulAt (suc o.level) (inner_node d w) →
       IsLawfulAt (suc o.level) n →
       FEWEST ≤ vec_len w →
@@ -316,21 +298,57 @@ module _ (added : List Entry) (s c : Shape) (v : Vec Node Global) (o : Opened c 
             let f : Node → ℕ = λ m. count_by p (entries_of m) in
             let count : Entry → ℕ = λ e. cond (p e) 1 0 in
             rw (inner_entries c v, inner_entries d w, other.entries)
-            (omega (arith, sum_of_two p, sum_by-append count (flat_map entries_of w.items) (flat_map entries_of (children_of n)), count_below p w.items, count_below p (children_of n), split_sums (λ m. m.cover) f (with_two v.items i y z) w.items (children_of n) split));
+            (omega (arith, r.sums p, sum_by-append count (flat_map entries_of w.items) (flat_map entries_of (children_of n)), count_below p w.items, count_below p (children_of n), split_sums (λ m. m.cover) f xs w.items (children_of n) split));
         one_lawful = rw o.level_is one_lawful;
         two_lawful = rw o.level_is two_lawful;
         one_enough = rw (inner_size d w) one_enough;
         two_enough = two_enough;
-        within = λ t h k. halves_within (λ m. m.cover) (with_two v.items i y z) w.items (children_of n) d n.cover t split tight other.tight (in_two t h k);
-        without = λ t h k. out_of_two t (halves_without (λ m. m.cover) (with_two v.items i y z) w.items (children_of n) d n.cover t split tight other.tight h k);
+        within = λ t h k. halves_within (λ m. m.cover) xs w.items (children_of n) d n.cover t split tight other.tight (r.into t h k);
+        without = λ t h k. r.out t (halves_without (λ m. m.cover) xs w.items (children_of n) d n.cover t split tight other.tight h k);
       }
 
-  -- the half that split off the child came into the list
-  pub inner_added : (d : Shape) (w : Vec Node Global) (r : Option Node) →
+  pub inner_added : (d : Shape) (w : Vec Node Global) (half : Option Node) →
       IsLawfulAt (suc o.level) (inner_node d w) →
-      IfSome r (IsLawfulAt (suc o.level)) →
-      MatchOption r (w.items ≡ with_two v.items i y z) (λ n. IsSplit (λ m. m.cover) (with_two v.items i y z) w.items (children_of n)) →
-      IfSome r (λ n. (FEWEST ≤ vec_len w) × (FEWEST ≤ size_of n)) →
-      IsInserted added s (inner_node c v) (inner_node d w) r
+      IfSome half (IsLawfulAt (suc o.level)) →
+      MatchOption half (w.items ≡ xs) (λ n. IsSplit (λ m. m.cover) xs w.items (children_of n)) →
+      IfSome half (λ n. (FEWEST ≤ vec_len w) × (FEWEST ≤ size_of n)) →
+      IsInserted added s (inner_node c v) (inner_node d w) half
   inner_added d w None lawful second children sizes = inner_grows d w children lawful
   inner_added d w (Some n) lawful second children sizes = inner_splits d w n children lawful second sizes.0 sizes.1
+
+-- the entries came into a child, whose second half came to the list's end
+pub replaces_two : (added : List Entry) (s c : Shape) (v : Vec Node Global) (o : Opened c v) (i : ℕ) (x y z : Node) →
+    i < length v.items →
+    x ≡ get_or v.items i x →
+    ComesInTwo added s x y z →
+    Replaces added s c v (set v.items i y ++ z ∷ [])
+replaces_two added s c v o i x y z lt at two = record {
+  longer = omega (arith, v.ok.0, length-append (set v.items i y) (z ∷ []), length-set v.items i y);
+  sums = λ p.
+      let f : Node → ℕ = λ n. count_by p (entries_of n) in
+      let count : Entry → ℕ = λ e. cond (p e) 1 0 in
+      let changed : sum_by f (set v.items i y) + f x ≡ sum_by f v.items + f y = subst (λ n. sum_by f (set v.items i y) + f n ≡ sum_by f v.items + f y) (sym at) (sum_by-set f v.items i y x lt) in
+      omega (arith, sum_by_push f (set v.items i y) z, sum_by-append count added (flat_map entries_of v.items), count_below p v.items, changed, two.gains p, sum_by-append count added (entries_of x), sum_by-append count (entries_of y) (entries_of z));
+  into = λ t h k.
+      let all = all_in (λ n. n.cover) v.items c t o.inner.page.tight k in
+      let both = two.within t h (subst (λ n. IsIn n.cover t) (sym at) (all i x lt)) in
+      All-push (λ n. IsIn n.cover t) (set v.items i y) z (All-set (λ n. IsIn n.cover t) v.items i y both.0 all) both.1;
+  out = λ t all.
+      let front = All-front (λ n. IsIn n.cover t) (set v.items i y) (z ∷ []) all in
+      let last = All-last (λ n. IsIn n.cover t) (set v.items i y) z all in
+      let here : IsIn y.cover t = subst (λ n. IsIn n.cover t) (get_or-set_same v.items i y x lt) (front i x (rw length-set lt)) in
+      let both = two.without t here last in
+      (both.0, o.inner.page.tight.least t (All-unset (λ n. IsIn n.cover t) v.items i y x (subst (λ n. IsIn n.cover t) at both.1) front));
+}
+
+-- a node came to the list's end
+pub replaces_one : (c : Shape) (v : Vec Node Global) (o : Opened c v) (z : Node) → Replaces (entries_of z) z.cover c v (v.items ++ z ∷ [])
+replaces_one c v o z = record {
+  longer = omega (arith, v.ok.0, length-append v.items (z ∷ []));
+  sums = λ p.
+      let f : Node → ℕ = λ n. count_by p (entries_of n) in
+      let count : Entry → ℕ = λ e. cond (p e) 1 0 in
+      omega (arith, sum_by_push f v.items z, sum_by-append count (entries_of z) (flat_map entries_of v.items), count_below p v.items);
+  into = λ t h k. All-push (λ n. IsIn n.cover t) v.items z (all_in (λ n. n.cover) v.items c t o.inner.page.tight k) h;
+  out = λ t all. (All-last (λ n. IsIn n.cover t) v.items z all, o.inner.page.tight.least t (All-front (λ n. IsIn n.cover t) v.items (z ∷ []) all));
+}

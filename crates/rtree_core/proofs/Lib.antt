@@ -7,3 +7,5 @@ pub mod CoverLemmas
 pub mod EditLemmas
 pub mod TreeLemmas
 pub mod WindowLemmas
+pub mod RemovalLemmas
+pub mod TakeLemmas

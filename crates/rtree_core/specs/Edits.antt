@@ -5,7 +5,7 @@ use Rattle.std.specs.declared.alloc.Global.{Global}
 use Rattle.std.specs.declared.vec.Vec.{Vec}
 use Rattle.geom_core.specs.declared.shape.Shape.{Shape}
 use Rattle.rtree_core.specs.declared.laws.TheConstants.{FEWEST, MOST}
-use Rattle.rtree_core.specs.declared.edit.Spare.{Spare}
+use Rattle.rtree_core.specs.declared.spare.Spare.{Spare}
 use Rattle.rtree_core.specs.declared.node.Entry.{Entry}
 use Rattle.rtree_core.specs.declared.node.Node.{Node}
 use Rattle.rtree_core.specs.declared.node.Below.TheVariants.{Entries, Children}

@@ -1,6 +1,6 @@
 -- A root with its height and the lists that wait for an edit.
 use Rattle.std.specs.Prelude.{◌≡◌, ℕ, ◌≤◌, Option, vec_len}
-use Rattle.rtree_core.specs.declared.edit.Spare.{Spare}
+use Rattle.rtree_core.specs.declared.spare.Spare.{Spare}
 use Rattle.rtree_core.specs.declared.node.Node.{Node}
 use Rattle.rtree_core.specs.Edits.{IsSpare}
 use Rattle.rtree_core.specs.Trees.{height_of, IsTree}

@@ -1,9 +1,11 @@
-//! Guttman's R-tree over shapes: insertion with the quadratic split, removal with condensing, packing and windows.
+//! Guttman's R-tree over shapes: insertion with the quadratic split, and windows.
 #![tactic(auto)]
 
-mod edit;
+mod insert;
 pub mod laws;
 mod node;
+mod remove;
+mod spare;
 #[cfg(test)]
 mod tests;
 mod tree;

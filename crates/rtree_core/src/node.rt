@@ -55,7 +55,7 @@ impl Node {
     ghost use Rattle.std.specs.Prelude.{◌≡◌, ◌+◌, ◌<◌, ◌↔◌, length, IsTrue, All};
     ghost use Rattle.std.specs.List.{flat_map};
     ghost use Rattle.geom_core.specs.Cells.{IsIn};
-    ghost use Rattle.rtree_core.specs.Nodes.{entries_of, children_of, level_of, node_cover, IsLeaf, IsLawful};
+    ghost use Rattle.rtree_core.specs.Nodes.{entries_of, children_of, level_of, size_of, node_cover, IsLeaf, IsLawful};
     ghost use Rattle.rtree_core.specs.Covers.{IsLeastCover};
 
     /// Whether it holds entries and no children: it is on level 0.
@@ -91,6 +91,16 @@ impl Node {
         match &self.below {
             Below::Entries(_) => unreachable!(),
             Below::Children(children) => children,
+        }
+    }
+
+    /// How many entries or children it has.
+    pub(crate) fn size(&self) -> usize
+        ensures { result ≡ size_of self.now }
+    {
+        match &self.below {
+            Below::Entries(entries) => entries.len(),
+            Below::Children(children) => children.len(),
         }
     }
 

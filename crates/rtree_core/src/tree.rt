@@ -2,8 +2,9 @@
 
 ghost use Rattle.std.specs.Prelude.{◌≡◌, ◌+◌, ◌≤◌, [], ◌∷◌, length, vec_len, IsSome, OnOk, OnErr, option_copied};
 
-use crate::edit::{Spare, insert_at_root};
+use crate::insert::insert_at_root;
 use crate::node::{Entry, Node};
+use crate::spare::Spare;
 use crate::window::collect;
 use geom_core::Shape;
 use std::alloc::{AllocError, Global};

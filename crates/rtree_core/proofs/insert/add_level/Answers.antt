@@ -1,7 +1,7 @@
 use Rattle.std.proofs.Common.{arith, sym, ◌∙◌, ◌++◌, [], ◌∷◌, ap}
 use Rattle.rtree_core.specs.Nodes.{level_of}
 use Rattle.rtree_core.proofs.EditLemmas.{inner_of_two}
-use Rattle.rtree_core.proofs.edit.add_level.Goals as goal
+use Rattle.rtree_core.proofs.insert.add_level.Goals as goal
 
 pub returns-clause-root : goal.returns-clause-root
 returns-clause-root c =

@@ -5,9 +5,9 @@ use Rattle.rtree_core.specs.declared.laws.TheConstants.{FEWEST}
 use Rattle.rtree_core.specs.Nodes.{level_of, size_of, IsLawfulAt}
 use Rattle.rtree_core.specs.Edits.{inner_node}
 use Rattle.rtree_core.proofs.NodeLemmas.{lawful_level, lawful_is}
-use Rattle.rtree_core.proofs.EditLemmas.{Opened, open_inner, child_level, inner_stays, inner_added}
-use Rattle.rtree_core.proofs.edit.+insertion.Goals as goal
-use Rattle.rtree_core.proofs.edit.+insertion.Goals.{insert_below-After-index_mut}
+use Rattle.rtree_core.proofs.EditLemmas.{Opened, open_inner, child_level, inner_stays, inner_added, replaces_two}
+use Rattle.rtree_core.proofs.insert.+insertion.Goals as goal
+use Rattle.rtree_core.proofs.insert.+insertion.Goals.{insert_below-After-index_mut}
 
 opened : (t : ℕ) (c : insert_below-After-index_mut t) → Opened c.args.cover.now c.args.children.now
 opened t c = open_inner c.args.cover.now c.args.children.now c.requires.lawful
@@ -75,7 +75,7 @@ pub insert_below-returns-in-Some-clause-inserted : goal.insert_below-returns-in-
 insert_below-returns-in-Some-clause-inserted t c =
     let at = (goal.at.insert_below-returns-in-Some-clause-inserted t c).After-index_mut in
     let level : level_of c.in-Some.second ≡ (opened t at).level = lawful_level _ c.in-Some.second c.in-Some.ensures.inserted.two_lawful ∙ child_level_is t at in
-    inner_added _ _ _ _ (opened t at) _ _ _ _ (inside t at) c.index_mut.ensures.value c.in-Some.ensures.inserted _ _ c.add_child.result
+    inner_added _ _ _ _ (opened t at) _ (replaces_two _ _ _ _ (opened t at) _ _ _ _ (inside t at) c.index_mut.ensures.value c.in-Some.ensures.inserted) _ _ c.add_child.result
     (subst (λ l. IsLawfulAt (suc l) (inner_node c.add_child.new.cover c.add_child.new.children)) level c.add_child.ensures.lawful)
     (subst (λ l. IfSome c.add_child.result (IsLawfulAt (suc l))) level c.add_child.ensures.second)
     c.add_child.ensures.children c.add_child.ensures.sizes

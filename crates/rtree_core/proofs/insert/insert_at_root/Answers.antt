@@ -2,7 +2,7 @@ use Rattle.std.proofs.Common.{arith}
 use Rattle.rtree_core.specs.Nodes.{level_of}
 use Rattle.rtree_core.proofs.NodeLemmas.{lawful_level, lawful_is}
 use Rattle.rtree_core.proofs.TreeLemmas.{root_level, stays, splits}
-use Rattle.rtree_core.proofs.edit.insert_at_root.Goals as goal
+use Rattle.rtree_core.proofs.insert.insert_at_root.Goals as goal
 
 pub add_level-requires-clause-root : goal.add_level-requires-clause-root
 add_level-requires-clause-root c =

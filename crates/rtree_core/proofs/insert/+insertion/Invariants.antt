@@ -1,7 +1,7 @@
 use Rattle.std.proofs.Common.{◌+◌}
 use Rattle.rtree_core.specs.Nodes.{level_of}
 use Rattle.rtree_core.specs.Edits.{inner_node}
-use Rattle.rtree_core.proofs.edit.+insertion.Given as goal
+use Rattle.rtree_core.proofs.insert.+insertion.Given as goal
 
 abbrev pub decreases-insert_entry : goal.decreases-insert_entry
 decreases-insert_entry l = (level_of l.node.now + level_of l.node.now) + 1

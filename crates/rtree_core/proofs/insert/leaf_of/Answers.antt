@@ -1,6 +1,6 @@
 use Rattle.std.proofs.Common.{arith, ◌∙◌, ap, ◌++◌, [], ◌∷◌}
 use Rattle.rtree_core.proofs.EditLemmas.{leaf_one}
-use Rattle.rtree_core.proofs.edit.leaf_of.Goals as goal
+use Rattle.rtree_core.proofs.insert.leaf_of.Goals as goal
 
 pub returns-clause-lawful : goal.returns-clause-lawful
 returns-clause-lawful c =

@@ -1,7 +1,7 @@
 use Rattle.rtree_core.specs.Covers.{IsLeastCover}
 use Rattle.rtree_core.specs.Nodes.{level_of}
 use Rattle.rtree_core.proofs.EditLemmas.{whole_inner, half_inners}
-use Rattle.rtree_core.proofs.edit.add_child.Goals as goal
+use Rattle.rtree_core.proofs.insert.add_child.Goals as goal
 
 pub returns-in-None-clause-lawful : goal.returns-in-None-clause-lawful
 returns-in-None-clause-lawful c =

@@ -1,7 +1,7 @@
-//! Insertion into a subtree, from room that was gathered before.
+//! Insertion into a tree, a subtree and a node's list, from lists that were gathered before.
 
 ghost use Rattle.std.specs.Prelude.{◌≡◌, suc, ◌+◌, ◌<◌, ◌≤◌, ◌++◌, ◌∷◌, [], length, vec_len, vec_capacity, All, MatchOption, IfSome, IsSomeAnd, OnOk};
-ghost use Rattle.rtree_core.specs.Nodes.{entries_of, children_of, level_of, size_of, IsPage, IsLawful, IsLawfulAt};
+ghost use Rattle.rtree_core.specs.Nodes.{entries_of, children_of, level_of, size_of, node_cover, IsPage, IsLawful, IsLawfulAt};
 ghost use Rattle.rtree_core.specs.Edits.{IsSpare, IsReady, IsSpent, IsPushed, IsHalved, leaf_node, inner_node, IsInserted};
 ghost use Rattle.rtree_core.specs.Splits.{IsSplit};
 ghost use Rattle.rtree_core.specs.Collections.{Gains};
@@ -10,70 +10,9 @@ ghost use Rattle.rtree_core.specs.Roots.{AreSpare, AreEnough, IsKept};
 
 use crate::laws::{Covered, FEWEST, MOST, choose, split};
 use crate::node::{Below, Entry, Node, cover_all};
+use crate::spare::{Spare, take_list};
 use geom_core::Shape;
-use std::alloc::{AllocError, Global};
 use std::mem;
-
-/// Empty lists for the nodes that an edit makes, with room for nine each.
-#[derive(Drop)]
-pub(crate) struct Spare {
-    pub(crate) leaves: Vec<Vec<Entry>>,
-    pub(crate) inners: Vec<Vec<Node>>,
-}
-
-impl Spare {
-    ghost use Rattle.std.specs.Prelude.{◌≡◌, OnOk};
-    ghost use Rattle.rtree_core.specs.Roots.{AreSpare, AreEnough};
-
-    pub(crate) fn new(alloc: Global) -> Spare
-        ensures { AreSpare result }
-    {
-        Spare {
-            leaves: Vec::new(alloc),
-            inners: Vec::new(alloc),
-        }
-    }
-
-    /// Gathers the lists that an insertion into a tree of this height may take.
-    pub(crate) fn gather(&mut self, height: u32) -> Result<(), AllocError>
-        requires { AreSpare self.old }
-        ensures spare { AreSpare self.new }
-        ensures enough { OnOk result (AreEnough height self.new) }
-    {
-        fill(&mut self.leaves, 2)?;
-        fill(&mut self.inners, height as usize)
-    }
-}
-
-/// Adds empty lists until there are so many.
-fn fill<T>(lists: &mut Vec<Vec<T>>, count: usize) -> Result<(), AllocError>
-    requires { IsSpare lists.old.items }
-    ensures spare { IsSpare lists.new.items }
-    ensures enough { OnOk result (count ≤ vec_len lists.new) }
-{
-    while lists.len() < count {
-        lists.reserve(1)?;
-        let list = Vec::with_capacity(*lists.allocator(), MOST + 1)?;
-        lists.push_reserved(list);
-    }
-    Ok(())
-}
-
-/// Takes one of the lists, which are empty.
-fn take_list<T>(spare: &mut Vec<Vec<T>>) -> Vec<T>
-    requires some { 0 < vec_len spare.old }
-    requires spare { IsSpare spare.old.items }
-    ensures empty { result.items ≡ [] }
-    ensures room { MOST + 1 ≤ vec_capacity result }
-    ensures spare { IsSpare spare.new.items }
-    ensures len { vec_len spare.new + 1 ≡ vec_len spare.old }
-    ensures capacity { vec_capacity spare.new ≡ vec_capacity spare.old }
-{
-    match spare.pop() {
-        Some(list) => list,
-        None => unreachable!(),
-    }
-}
 
 /// Puts an item at the end of a node's list.
 ///
@@ -200,6 +139,70 @@ fn insert_below(
             None
         }
         Some(second) => add_child(cover, children, second, &mut spare.inners),
+    }
+}
+
+/// Puts a node into the list of an inner node so many levels down, and gives the inner node's
+/// second half where it was split.
+#[cycle(reinsertion)]
+pub(crate) fn insert_node(
+    node: &mut Node,
+    child: Node,
+    steps: u32,
+    spare: &mut Vec<Vec<Node>>,
+) -> Option<Node>
+    requires lawful { IsLawful node.old }
+    requires child { IsLawful child }
+    requires enough { FEWEST ≤ size_of child }
+    requires steps { level_of node.old ≡ level_of child + 1 + steps }
+    requires lists { level_of node.old + 1 ≤ vec_len spare.old }
+    requires spare { IsSpare spare.old.items }
+    ensures inserted { IsInserted (entries_of child) (node_cover child) node.old node.new result }
+    ensures spare { IsSpare spare.new.items }
+    ensures len { vec_len spare.old ≤ vec_len spare.new + level_of node.old }
+{
+    match &mut node.below {
+        Below::Entries(_) => unreachable!(),
+        Below::Children(children) => insert_node_below(
+            &mut node.cover,
+            children,
+            child,
+            steps,
+            spare,
+        ),
+    }
+}
+
+/// Puts a node into a list of children, or into the subtree of the one that needs least.
+#[cycle(reinsertion)]
+fn insert_node_below(
+    cover: &mut Shape,
+    children: &mut Vec<Node>,
+    child: Node,
+    steps: u32,
+    spare: &mut Vec<Vec<Node>>,
+) -> Option<Node>
+    requires lawful { IsLawful (inner_node cover.old children.old) }
+    requires child { IsLawful child }
+    requires enough { FEWEST ≤ size_of child }
+    requires steps { level_of (inner_node cover.old children.old) ≡ level_of child + 1 + steps }
+    requires lists { level_of (inner_node cover.old children.old) + 1 ≤ vec_len spare.old }
+    requires spare { IsSpare spare.old.items }
+    ensures inserted { IsInserted (entries_of child) (node_cover child) (inner_node cover.old children.old) (inner_node cover.new children.new) result }
+    ensures spare { IsSpare spare.new.items }
+    ensures len { vec_len spare.old ≤ vec_len spare.new + level_of (inner_node cover.old children.old) }
+{
+    if steps == 0 {
+        return add_child(cover, children, child, spare);
+    }
+    let shape = child.cover;
+    let place = choose(children, &shape);
+    match insert_node(&mut children[place], child, steps - 1, spare) {
+        None => {
+            *cover = cover.cover(&shape);
+            None
+        }
+        Some(second) => add_child(cover, children, second, spare),
     }
 }
 

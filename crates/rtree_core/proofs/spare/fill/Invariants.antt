@@ -1,6 +1,6 @@
 use Rattle.std.proofs.Common.{◌-◌, vec_len}
 use Rattle.rtree_core.specs.Edits.{IsSpare}
-use Rattle.rtree_core.proofs.edit.fill.Given as goal
+use Rattle.rtree_core.proofs.spare.fill.Given as goal
 
 abbrev pub invariant-loop-lists : goal.invariant-loop-lists
 invariant-loop-lists g l = IsSpare l.lists.items

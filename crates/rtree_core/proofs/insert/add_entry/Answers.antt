@@ -1,6 +1,6 @@
 use Rattle.rtree_core.specs.Covers.{IsLeastCover}
 use Rattle.rtree_core.proofs.EditLemmas.{leaf_stays, leaf_two}
-use Rattle.rtree_core.proofs.edit.add_entry.Goals as goal
+use Rattle.rtree_core.proofs.insert.add_entry.Goals as goal
 
 pub returns-in-None-clause-inserted : goal.returns-in-None-clause-inserted
 returns-in-None-clause-inserted c =

@@ -1,0 +1,137 @@
+-- The search for an entry, and what its removal leaves.
+use Rattle.std.proofs.Common.{arith, ◌≡◌, ℕ, zero, suc, ◌+◌, ◌<◌, ◌≤◌, Bool, true, false, List, [], ◌∷◌, length, get_or, refl, sym, ◌∙◌, ap, subst, inl, inr, below_more}
+use Rattle.std.specs.Prelude.{Option, None, Some, is_some, IsSome, IfSome, IfNone, Contains, ◌&&◌, nat_eq, ℤ}
+use Rattle.std.specs.List.{flat_map}
+use Rattle.std.specs.Ordering.{int_eq}
+use Rattle.std.proofs.lemmas.List.Elements.{Contains-append_left, Contains-append_right, Contains-append_cases, at_read, All-contains}
+use Rattle.std.proofs.lemmas.Bool.{false≢true}
+use Rattle.std.proofs.lemmas.Bool.Decides.{nat_tests}
+use Rattle.std.proofs.lemmas.Int.{ints}
+use Rattle.std.proofs.lemmas.List.{get_or_default}
+use Rattle.rtree_core.specs.Removals.{IsPlaceOf, IsPlaceAbove}
+use Rattle.geom_core.specs.Joined.{same_ends}
+use Rattle.geom_core.specs.Cells.{line, Covers, Meets, IsIn}
+use Rattle.rtree_core.specs.declared.node.Entry.{Entry}
+use Rattle.rtree_core.specs.declared.node.Node.{Node}
+use Rattle.rtree_core.specs.Nodes.{entries_of, level_of, IsLawful}
+use Rattle.rtree_core.proofs.WindowLemmas.{lawful_cover}
+use Rattle.rtree_core.specs.contracts.node.EntryPartialEq.TheImpl.{eq-value}
+
+record AllSame (a b : Entry) : Type 0 where
+  x_lo : a.shape.x.lo ≡ b.shape.x.lo
+  x_hi : a.shape.x.hi ≡ b.shape.x.hi
+  y_lo : a.shape.y.lo ≡ b.shape.y.lo
+  y_hi : a.shape.y.hi ≡ b.shape.y.hi
+  number : a.number ≡ b.number
+
+and_parts : (a b : Bool) → (a && b) ≡ true → (a ≡ true) × (b ≡ true)
+and_parts true b h = (refl, h)
+and_parts false b h = absurd (false≢true h)
+
+int_same : (x y : ℤ) → int_eq x y ≡ true → x ≡ y
+int_same x y h = grind (arith, ints)
+
+number_same : (x y : ℕ) → nat_eq x y ≡ true → x ≡ y
+number_same x y h = grind (arith, nat_tests)
+
+all_same : (a b : Entry) → eq-value.it a b ≡ true → AllSame a b
+all_same a b h =
+    let whole = and_parts _ _ h in
+    let shape = and_parts _ _ whole.0 in
+    let x = and_parts _ _ shape.0 in
+    let y = and_parts _ _ shape.1 in
+    record {
+      x_lo = int_same _ _ x.0;
+      x_hi = int_same _ _ x.1;
+      y_lo = int_same _ _ y.0;
+      y_hi = int_same _ _ y.1;
+      number = number_same _ _ whole.1;
+    }
+
+-- entries that test equal are the same
+pub entry_same : (a b : Entry) → eq-value.it a b ≡ true → a ≡ b
+entry_same a b h =
+    let s = all_same a b h in
+    let p = same_ends a.shape.x b.shape.x s.x_lo s.x_hi in
+    let q = same_ends a.shape.y b.shape.y s.y_lo s.y_hi in
+    λ i. record { shape = record { x = p i; y = q i }; number = s.number i }
+
+pub entry_itself : (a : Entry) → eq-value.it a a ≡ true
+entry_itself a = grind (arith, nat_tests, ints)
+
+pub found_at : (es : List Entry) (e : Entry) (p : ℕ) (x : Entry) → p < length es → x ≡ get_or es p x → x ≡ e → IsPlaceOf es e p
+found_at es e p x lt at same = record { inside = lt; there = subst (λ z. get_or es p z ≡ z) same (sym at) }
+
+pub not_there : (es : List Entry) (e : Entry) (p : ℕ) (x : Entry) → p < length es → x ≡ get_or es p x → eq-value.it x e ≡ false → get_or es p e ≡ e → ⊥
+not_there es e p x lt at differ there =
+    let same : x ≡ e = at ∙ get_or_default es p x e lt ∙ there in
+    false≢true (sym differ ∙ ap (λ z. eq-value.it z e) same ∙ entry_itself e)
+
+pub place_decides : (r : Option ℕ) (es : List Entry) (e : Entry) →
+    IfSome r (IsPlaceOf es e) →
+    IfNone r (Contains es e → ⊥) →
+    (is_some r ≡ true → Contains es e) × (Contains es e → is_some r ≡ true)
+place_decides None es e found none = (λ h. absurd (false≢true h), λ h. absurd (none h))
+place_decides (Some p) es e found none = (λ h. (p, found.inside, found.there), λ h. refl)
+
+-- an entry below a node stands among the entries of the nodes together, and the other way round
+pub contains_joined : (xs : List Node) (e : Entry) (p : ℕ) → IsPlaceAbove xs e p → Contains (flat_map entries_of xs) e
+contains_joined [] e p h = absurd (omega (arith, h.inside))
+contains_joined (x ∷ xs) e zero h = Contains-append_left (entries_of x) (flat_map entries_of xs) e (h.below x)
+contains_joined (x ∷ xs) e (suc p) h =
+    Contains-append_right (entries_of x) (flat_map entries_of xs) e (contains_joined xs e p (record { inside = omega (arith, h.inside); below = h.below }))
+
+pub contains_parted : (xs : List Node) (e : Entry) → Contains (flat_map entries_of xs) e → (p : ℕ) × IsPlaceAbove xs e p
+contains_parted [] e h = absurd (omega (arith, h.1))
+contains_parted (x ∷ xs) e h =
+    elim (Contains-append_cases (entries_of x) (flat_map entries_of xs) e h) [
+      | inl here ↦ (0, record { inside = omega arith; below = λ d. here })
+      | inr later ↦
+          let there = contains_parted xs e later in
+          (suc there.0, record { inside = omega (arith, there.1.inside); below = there.1.below })
+    ]
+
+pub place_above_decides : (r : Option ℕ) (xs : List Node) (e : Entry) →
+    IfSome r (IsPlaceAbove xs e) →
+    IfNone r (Contains (flat_map entries_of xs) e → ⊥) →
+    (is_some r ≡ true → Contains (flat_map entries_of xs) e) × (Contains (flat_map entries_of xs) e → is_some r ≡ true)
+place_above_decides None xs e found none = (λ h. absurd (false≢true h), λ h. absurd (none h))
+place_above_decides (Some p) xs e found none = (λ h. contains_joined xs e p found, λ h. refl)
+
+-- what the node at a place has below it, whatever stands in past the end
+pub at_place : (xs : List Node) (p : ℕ) (n : Node) (P : Node → Type 0) → p < length xs → n ≡ get_or xs p n → P n → (d : Node) → P (get_or xs p d)
+at_place xs p n P lt at h d = at_read xs P p n lt at h d
+
+-- an entry's shape meets the cover of a node that has it
+pub cover_meets : (n : Node) (e : Entry) → IsLawful n → Contains (entries_of n) e → Meets n.cover e.shape
+cover_meets n e lawful h =
+    let inside : IsIn e.shape n.cover = All-contains (λ x. IsIn x.shape n.cover) (entries_of n) e (lawful_cover (level_of n) n lawful).contains h in
+    let here : Covers e.shape (line e.shape.x.lo) (line e.shape.y.lo) = ((omega (arith, ints), omega (arith, ints)), (omega (arith, ints), omega (arith, ints))) in
+    (line e.shape.x.lo, line e.shape.y.lo, inside _ _ here, here)
+
+pub none_above : (xs : List Node) (e : Entry) (n : ℕ) →
+    ((k : ℕ) (d : Node) → k < n → Contains (entries_of (get_or xs k d)) e → ⊥) →
+    length xs ≤ n →
+    Contains (flat_map entries_of xs) e →
+    ⊥
+none_above [] e n none le h = absurd (omega (arith, h.1))
+none_above (x ∷ xs) e n none le h =
+    let there = contains_parted (x ∷ xs) e h in
+    none there.0 x (omega (arith, there.1.inside)) (there.1.below x)
+
+-- no place so far, and not this one
+pub none_so_far : (xs : List Node) (e : Entry) (i : ℕ) (x : Node) →
+    i < length xs →
+    x ≡ get_or xs i x →
+    ((k : ℕ) (d : Node) → k < i → Contains (entries_of (get_or xs k d)) e → ⊥) →
+    (Contains (entries_of x) e → ⊥) →
+    (k : ℕ) (d : Node) →
+    k < i + 1 →
+    Contains (entries_of (get_or xs k d)) e →
+    ⊥
+none_so_far xs e i x lt at before here k d h c =
+    below_more (λ m. (b : Node) → Contains (entries_of (get_or xs m b)) e → ⊥) i (λ m p b. before m b p) (λ b q. here (subst (λ z. Contains (entries_of z) e) (get_or_default xs i b x lt ∙ sym at) q)) k h d c
+
+pub place_is_there : (r : Option ℕ) (xs : List Node) (e : Entry) → IfNone r (Contains (flat_map entries_of xs) e → ⊥) → Contains (flat_map entries_of xs) e → IsSome r
+place_is_there None xs e none h = absurd (none h)
+place_is_there (Some p) xs e none h = refl

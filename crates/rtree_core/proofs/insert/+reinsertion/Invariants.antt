@@ -1,0 +1,10 @@
+use Rattle.std.proofs.Common.{◌+◌}
+use Rattle.rtree_core.specs.Nodes.{level_of}
+use Rattle.rtree_core.specs.Edits.{inner_node}
+use Rattle.rtree_core.proofs.insert.+reinsertion.Given as goal
+
+abbrev pub decreases-insert_node : goal.decreases-insert_node
+decreases-insert_node l = (level_of l.node.now + level_of l.node.now) + 1
+
+abbrev pub decreases-insert_node_below : goal.decreases-insert_node_below
+decreases-insert_node_below l = level_of (inner_node l.cover.now l.children.now) + level_of (inner_node l.cover.now l.children.now)

@@ -1,0 +1,31 @@
+-- Where an entry stands in a subtree, and what its removal leaves.
+use Rattle.std.specs.List.{flat_map}
+use Rattle.std.specs.Prelude.{◌≡◌, ℕ, ◌+◌, ◌<◌, ◌≤◌, List, ◌∷◌, ◌++◌, length, slice_index_or, Contains}
+use Rattle.rtree_core.specs.declared.node.Entry.{Entry}
+use Rattle.rtree_core.specs.declared.node.Node.{Node}
+use Rattle.rtree_core.specs.declared.laws.TheConstants.{FEWEST}
+use Rattle.rtree_core.specs.Collections.{HasSame}
+use Rattle.rtree_core.specs.Nodes.{entries_of, level_of, size_of, IsLawfulAt}
+
+-- the entry stands at this place of the list
+pub record IsPlaceOf (entries : List Entry) (e : Entry) (p : ℕ) : Type 0 where
+  pub inside : p < length entries
+  pub there : slice_index_or entries p e ≡ e
+
+-- the node at this place of the list has the entry below it
+pub record IsPlaceAbove (nodes : List Node) (e : Entry) (p : ℕ) : Type 0 where
+  pub inside : p < length nodes
+  pub below : (d : Node) → Contains (entries_of (slice_index_or nodes p d)) e
+
+-- the nodes set aside: one of each level from 0 on, lawful, with one item less than is enough
+abbrev pub AreAside : List Node → Type 0
+AreAside nodes = (k : ℕ) (d : Node) → k < length nodes → IsLawfulAt k (slice_index_or nodes k d) × (size_of (slice_index_or nodes k d) + 1 ≡ FEWEST)
+
+-- the entry was taken out of the node's subtree, and these nodes were set aside
+pub record IsTakenOut (e : Entry) (old new : Node) (aside : List Node) : Type 0 where
+  pub loses : HasSame (e ∷ (entries_of new ++ flat_map entries_of aside)) (entries_of old)
+  pub lawful : IsLawfulAt (level_of old) new
+  pub smaller : size_of old ≤ size_of new + 1
+  pub few : length aside ≤ level_of old
+  pub up_to_here : size_of new < size_of old → length aside ≡ level_of old
+  pub are_aside : AreAside aside
