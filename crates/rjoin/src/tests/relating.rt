@@ -8,6 +8,7 @@ use crate::sink::{Sink, WriteFailed};
 use crate::to_write::ToWrite;
 use std::alloc::Global;
 use std::io;
+use std::io::{ErrorKind, Write};
 use std::process::Abort;
 use std::test::Fail;
 use wkt_core::WktFault;
@@ -147,4 +148,26 @@ fn devices_that_fail(rt: HostRuntime) {
     assert_eq!(rt; fault_line(&RunFault::Write, &mut sink), Err(WriteFailed));
     let written = sink.into_inner().taken;
     assert_eq!(rt; written.as_slice(), b"rjoin".as_slice());
+}
+
+/// A writer that takes all bytes, and whose flush fails.
+#[derive(Drop)]
+struct Unflushed;
+
+impl Write for Unflushed {
+    fn write(&mut self, text: &[u8]) -> io::Result<usize> {
+        Ok(text.len())
+    }
+
+    fn flush(&mut self) -> io::Result<()> {
+        Err(io::Error::from(ErrorKind::StorageFull))
+    }
+}
+
+#[test]
+fn flush_that_fails(rt: HostRuntime) {
+    let mut sink = ToWrite::new(Unflushed);
+    let outcome = run_relate(b"POINT (4 4)", b"POINT (5 4)", &mut sink);
+    assert_eq!(rt; outcome, Err(RunFault::Write));
+    assert!(rt; sink.failed());
 }
