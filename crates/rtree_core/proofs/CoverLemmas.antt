@@ -21,6 +21,9 @@ All-front P xs ys h k d lt = subst P (get_or_append_left xs ys d k lt) (h k d (o
 pub All-back : {T : Type 0} (P : T → Type 0) (xs ys : List T) → All P (xs ++ ys) → All P ys
 All-back P xs ys h k d lt = subst P (get_or-append-add xs ys k d) (h (length xs + k) d (omega (arith, length-append xs ys)))
 
+pub All-mid : {T : Type 0} (P : T → Type 0) (xs : List T) (y : T) (ys : List T) → All P (xs ++ y ∷ ys) → P y
+All-mid P xs y ys h = All-head P y ys (All-back P xs (y ∷ ys) h)
+
 pub All-last : {T : Type 0} (P : T → Type 0) (xs : List T) (x : T) → All P (xs ++ x ∷ []) → P x
 All-last P xs x h = All-head P x [] (All-back P xs (x ∷ []) h)
 

@@ -5,6 +5,7 @@ pub mod SeedLemmas
 pub mod SplitLemmas
 pub mod CoverLemmas
 pub mod EditLemmas
+pub mod RootLemmas
 pub mod TreeLemmas
 pub mod WindowLemmas
 pub mod RemovalLemmas

@@ -1,6 +1,6 @@
 -- The search for an entry, and what its removal leaves.
 use Rattle.std.proofs.Common.{arith, ◌≡◌, ℕ, zero, suc, ◌+◌, ◌<◌, ◌≤◌, Bool, true, false, List, [], ◌∷◌, length, get_or, refl, sym, ◌∙◌, ap, subst, inl, inr, below_more}
-use Rattle.std.specs.Prelude.{Option, None, Some, is_some, IsSome, IfSome, IfNone, Contains, ◌&&◌, nat_eq, ℤ}
+use Rattle.std.specs.Prelude.{Option, None, Some, is_some, IsSome, IfSome, IfNone, Contains, ◌&&◌, not, nat_eq, ℤ}
 use Rattle.std.specs.List.{flat_map}
 use Rattle.std.specs.Ordering.{int_eq}
 use Rattle.std.proofs.lemmas.List.Elements.{Contains-append_left, Contains-append_right, Contains-append_cases, at_read, All-contains}
@@ -13,7 +13,8 @@ use Rattle.geom_core.specs.Joined.{same_ends}
 use Rattle.geom_core.specs.Cells.{line, Covers, Meets, IsIn}
 use Rattle.rtree_core.specs.declared.node.Entry.{Entry}
 use Rattle.rtree_core.specs.declared.node.Node.{Node}
-use Rattle.rtree_core.specs.Nodes.{entries_of, level_of, IsLawful}
+use Rattle.rtree_core.specs.Nodes.{entries_of, level_of, size_of, IsLawful, IsLawfulAt}
+use Rattle.rtree_core.proofs.NodeLemmas.{has_entries}
 use Rattle.rtree_core.proofs.WindowLemmas.{lawful_cover}
 use Rattle.rtree_core.specs.contracts.node.EntryPartialEq.TheImpl.{eq-value}
 
@@ -58,6 +59,24 @@ entry_same a b h =
 
 pub entry_itself : (a : Entry) → eq-value.it a a ≡ true
 entry_itself a = grind (arith, nat_tests, ints)
+
+pub differ_not : (a b : Entry) → not (eq-value.it a b) ≡ false → a ≡ b
+differ_not a b h = entry_same a b (grind (arith, h))
+
+-- a list of one item
+only : {T : Type 0} (xs : List T) (x : T) → length xs ≡ 1 → x ≡ get_or xs 0 x → xs ≡ x ∷ []
+only [] x n at = absurd (omega arith)
+only (y ∷ []) x n at = ap (λ z. z ∷ []) (sym at)
+only (y ∷ z ∷ zs) x n at = absurd (omega arith)
+
+-- the entries of a leaf of one
+pub only_entry : (n : Node) (x : Entry) → IsLawfulAt 0 n → size_of n ≡ 1 → x ≡ get_or (entries_of n) 0 x → entries_of n ≡ x ∷ []
+only_entry n x lawful one at = only (entries_of n) x (sym (has_entries n lawful).size ∙ one) at
+
+-- which holds no other
+pub only_one : (x e : Entry) → Contains (x ∷ []) e → e ≡ x
+only_one x e (zero, lt, there) = sym there
+only_one x e (suc p, lt, there) = absurd (omega arith)
 
 pub found_at : (es : List Entry) (e : Entry) (p : ℕ) (x : Entry) → p < length es → x ≡ get_or es p x → x ≡ e → IsPlaceOf es e p
 found_at es e p x lt at same = record { inside = lt; there = subst (λ z. get_or es p z ≡ z) same (sym at) }

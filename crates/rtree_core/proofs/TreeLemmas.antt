@@ -1,5 +1,5 @@
 -- What a lawful tree keeps, and how large it can be.
-use Rattle.std.proofs.Common.{arith, ◌≡◌, ◌≢◌, ℕ, zero, suc, ◌+◌, ◌^◌, ◌<◌, ◌≤◌, true, cond, List, [], ◌∷◌, ◌++◌, length, refl, sym, ◌∙◌, subst, inl, inr}
+use Rattle.std.proofs.Common.{arith, ◌≡◌, ◌≢◌, ℕ, zero, suc, ◌+◌, ◌^◌, ◌<◌, ◌≤◌, pow_mono, pow-suc, true, cond, List, [], ◌∷◌, ◌++◌, length, refl, sym, ◌∙◌, subst, inl, inr}
 use Rattle.std.specs.Prelude.{All, Option, None, Some, IfSome, IsSomeAnd, count_by, sum_by, nat_eq, nat_lt}
 use Rattle.std.proofs.lemmas.Bool.{cases_lt, cases_eq}
 use Rattle.std.proofs.lemmas.Bool.Decides.{nat_tests}
@@ -11,8 +11,6 @@ use Rattle.rtree_core.specs.declared.node.Node.{Node}
 use Rattle.rtree_core.specs.Collections.{HasSame, Gains}
 use Rattle.rtree_core.specs.Nodes.{entries_of, level_of, size_of, children_of, IsLawfulAt}
 use Rattle.rtree_core.specs.Trees.{entries_in, height_of, has_number, IsFresh, IsRoot, IsTree}
-use Rattle.geom_core.specs.declared.shape.Shape.{Shape}
-use Rattle.rtree_core.specs.Edits.{StaysOne, ComesInTwo}
 use Rattle.rtree_core.proofs.NodeLemmas.{lawful_level, lawful_is, HasChildren, has_children, has_entries}
 
 -- every item passes the test that all pass
@@ -86,25 +84,35 @@ two_children m f (x ∷ y ∷ zs) s h =
 
 inner_deep : (l : ℕ) (n : Node) →
     HasChildren l n →
-    ((m : Node) → IsLawfulAt l m → 2 ≤ size_of m → l + 2 ≤ length (entries_of m)) →
+    ((m : Node) → IsLawfulAt l m → 2 ≤ size_of m → 2 ^ (l + 1) ≤ length (entries_of m)) →
     2 ≤ size_of n →
-    (l + 2) + (l + 2) ≤ length (entries_of n)
+    2 ^ (l + 1) + 2 ^ (l + 1) ≤ length (entries_of n)
 inner_deep l n h deep two =
-    let all : All (λ m. l + 2 ≤ length (entries_of m)) (children_of n) = λ k d lt. deep _ (h.children k d lt) (omega (arith, h.enough k d lt)) in
-    rw (h.entries, length-flat_map) (two_children (l + 2) (λ m. length (entries_of m)) (children_of n) (omega (arith, h.size)) all)
+    let all : All (λ m. 2 ^ (l + 1) ≤ length (entries_of m)) (children_of n) = λ k d lt. deep _ (h.children k d lt) (omega (arith, h.enough k d lt)) in
+    rw (h.entries, length-flat_map) (two_children (2 ^ (l + 1)) (λ m. length (entries_of m)) (children_of n) (omega (arith, h.size)) all)
 
--- a node of two has more entries than levels
-entries_deep : (l : ℕ) (n : Node) → IsLawfulAt l n → 2 ≤ size_of n → l + 2 ≤ length (entries_of n)
+twice : (l : ℕ) → 2 ^ (suc l + 1) ≡ 2 ^ (l + 1) + 2 ^ (l + 1)
+twice l =
+    let one_more : suc l + 1 ≡ suc (l + 1) = omega arith in
+    rw one_more (omega (arith, pow-suc 2 (l + 1)))
+
+-- each level of a node of two at least doubles its entries
+entries_deep : (l : ℕ) (n : Node) → IsLawfulAt l n → 2 ≤ size_of n → 2 ^ (l + 1) ≤ length (entries_of n)
 entries_deep zero n h two = omega (arith, (has_entries n h).size)
-entries_deep (suc l) n h two = omega (arith, inner_deep l n (has_children l n h) (entries_deep l) two)
+entries_deep (suc l) n h two = omega (arith, twice l, inner_deep l n (has_children l n h) (entries_deep l) two)
 
-level_below : (l : ℕ) (n : Node) → level_of n ≡ l → IsLawfulAt l n → (0 < level_of n → 2 ≤ size_of n) → length (entries_of n) ≤ 2 ^ 32 → level_of n + 2 < 2 ^ 32
+level_below : (l : ℕ) (n : Node) → level_of n ≡ l → IsLawfulAt l n → (0 < level_of n → 2 ≤ size_of n) → length (entries_of n) ≤ 2 ^ 32 → level_of n < 32
 level_below zero n e h two small = omega arith
-level_below (suc l) n e h two small = omega (arith, inner_deep l n (has_children l n h) (entries_deep l) (two (omega arith)))
+level_below (suc l) n e h two small =
+    elim (cases_lt l 31) [
+      | inl p ↦ omega arith
+      | inr p ↦ absurd (omega (arith, inner_deep l n (has_children l n h) (entries_deep l) (two (omega arith)), pow_mono {i = 32} {j = l + 1} (omega arith)))
+    ]
 
--- a tree's height is far below the number of numbers
-pub root_level : (n : Node) → IsTree (Some n) → level_of n + 2 < 2 ^ 32
-root_level n h = level_below (level_of n) n refl h.lawful.lawful h.lawful.two (tree_length (Some n) h)
+-- a tree has at most 32 levels, since numbers have 32 bits
+pub tree_height : (root : Option Node) → IsTree root → height_of root ≤ 32
+tree_height None h = omega arith
+tree_height (Some n) h = omega (arith, level_below (level_of n) n refl h.lawful.lawful h.lawful.two (tree_length (Some n) h))
 
 not_that : (x : Entry) (k : ℕ) → x.number ≢ k → cond {A = ℕ} (has_number k x) 1 0 ≡ 0
 not_that x k h = grind (arith, nat_tests)
@@ -129,45 +137,13 @@ tree_gains x old new small fresh tree gains lawful = record {
   in_range = λ k h. omega (arith, tree.in_range k h, gains (has_number k), sum_by-cons (λ y. cond {A = ℕ} (has_number k y) 1 0) x (entries_in old), not_that x k (λ e. omega arith));
 }
 
--- a tree whose root took an entry in
-pub record TookIn (x : Entry) (old new : Option Node) (levels : ℕ) : Type 0 where
-  pub tree : IsTree new
-  pub height : height_of new ≡ height_of old + levels
-  pub gains : Gains x (entries_in old) (entries_in new)
-
-module _ (x : Entry) (s : Shape) (old : Option Node) (n : Node) (is : old ≡ Some n) (tree : IsTree old) (small : x.number < 2 ^ 32) (fresh : IsFresh x.number old) where
-  pub stays : (m : Node) → StaysOne (x ∷ []) s n m → TookIn x old (Some m) 0
-  stays m h =
-      let gains : Gains x (entries_in old) (entries_of m) = rw is h.gains in
-      let level = lawful_level (level_of n) m h.lawful in
-      let root : IsRoot n = (rw is at tree).lawful in
-      record {
-        tree = tree_gains x old (Some m) small fresh tree gains (record {
-          lawful = lawful_is (level_of n) m h.lawful;
-          two = λ k. omega (arith, root.two (omega (arith, level)), h.bigger);
-        });
-        height = rw (is, level) (omega arith);
-        gains = gains;
-      }
-
-  pub splits : (one two : Node) (new : Option Node) →
-      ComesInTwo (x ∷ []) s n one two →
-      IsSomeAnd new (λ m. (size_of m ≡ 2) × IsLawfulAt (suc (level_of two)) m) →
-      entries_in new ≡ entries_of one ++ entries_of two →
-      TookIn x old new 1
-  splits one two None h root entries = absurd root
-  splits one two (Some m) h root entries =
-      let gains : Gains x (entries_in old) (entries_of m) = rw (is, entries) h.gains in
-      let level = lawful_level (suc (level_of two)) m root.1 in
-      let half = lawful_level (level_of n) two h.two_lawful in
-      record {
-        tree = tree_gains x old (Some m) small fresh tree gains (record {
-          lawful = lawful_is (suc (level_of two)) m root.1;
-          two = λ k. omega (arith, root.0);
-        });
-        height = rw (is, level, half) (omega arith);
-        gains = gains;
-      }
+-- a tree without one of its entries is lawful where its root is
+pub tree_loses : (x : Entry) (old new : Option Node) → IsTree old → Gains x (entries_in new) (entries_in old) → IfSome new IsRoot → IsTree new
+tree_loses x old new tree loses lawful = record {
+  lawful = lawful;
+  distinct = λ k. omega (arith, tree.distinct k, loses (has_number k), sum_by-cons (λ y. cond {A = ℕ} (has_number k y) 1 0) x (entries_in new));
+  in_range = λ k h. omega (arith, tree.in_range k h, loses (has_number k), sum_by-cons (λ y. cond {A = ℕ} (has_number k y) 1 0) x (entries_in new));
+}
 
 -- a number that differs from that of the entry that came in stays fresh
 pub fresh_after : (x : Entry) (old new : Option Node) (k : ℕ) → Gains x (entries_in old) (entries_in new) → x.number ≢ k → IsFresh k old → IsFresh k new

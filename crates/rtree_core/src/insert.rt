@@ -1,12 +1,11 @@
 //! Insertion into a tree, a subtree and a node's list, from lists that were gathered before.
 
-ghost use Rattle.std.specs.Prelude.{◌≡◌, suc, ◌+◌, ◌<◌, ◌≤◌, ◌++◌, ◌∷◌, [], length, vec_len, vec_capacity, All, MatchOption, IfSome, IsSomeAnd, OnOk};
+ghost use Rattle.std.specs.Prelude.{◌≡◌, suc, ◌+◌, ◌^◌, ◌<◌, ◌≤◌, ◌++◌, ◌∷◌, [], length, vec_len, vec_capacity, All, MatchOption, IfSome, IsSomeAnd, OnOk};
 ghost use Rattle.rtree_core.specs.Nodes.{entries_of, children_of, level_of, size_of, node_cover, IsPage, IsLawful, IsLawfulAt};
 ghost use Rattle.rtree_core.specs.Edits.{IsSpare, IsReady, IsSpent, IsPushed, IsHalved, leaf_node, inner_node, IsInserted};
 ghost use Rattle.rtree_core.specs.Splits.{IsSplit};
-ghost use Rattle.rtree_core.specs.Collections.{Gains};
-ghost use Rattle.rtree_core.specs.Trees.{entries_in, IsFresh};
-ghost use Rattle.rtree_core.specs.Roots.{AreSpare, AreEnough, IsKept};
+ghost use Rattle.rtree_core.specs.Trees.{entries_in, IsRoot};
+ghost use Rattle.rtree_core.specs.Roots.{AreEnough, IsKept, HasTakenIn};
 
 use crate::laws::{Covered, FEWEST, MOST, choose, split};
 use crate::node::{Below, Entry, Node, cover_all};
@@ -47,10 +46,10 @@ pub(crate) fn insert_at_root(
     spare: &mut Spare,
 )
     requires kept { IsKept root.old height.old spare.old }
-    requires enough { AreEnough height.old spare.old }
-    requires fresh { IsFresh entry.number root.old }
-    ensures kept { IsKept root.new height.new spare.new }
-    ensures gains { Gains entry (entries_in root.old) (entries_in root.new) }
+    requires enough { AreEnough 1 height.old spare.old }
+    requires low { height.old + 1 < 2 ^ 32 }
+    ensures taken_in { HasTakenIn 1 (entry ∷ []) root.old root.new height.old height.new spare.old spare.new }
+    ensures root { IfSome root.old IsRoot → IfSome root.new IsRoot }
 {
     match root {
         None => {
@@ -59,8 +58,35 @@ pub(crate) fn insert_at_root(
         }
         Some(first) => {
             if let Some(second) = insert_entry(first, entry, spare) {
-                add_level(root, second, &mut spare.inners);
-                *height += 1;
+                add_level(root, height, second, &mut spare.inners);
+            }
+        }
+    }
+}
+
+/// Puts a node of a level into a tree that has an inner node of the level above.
+pub(crate) fn insert_node_at_root(
+    root: &mut Option<Node>,
+    height: &mut u32,
+    child: Node,
+    level: u32,
+    spare: &mut Spare,
+)
+    requires kept { IsKept root.old height.old spare.old }
+    requires enough { AreEnough 1 height.old spare.old }
+    requires low { height.old + 1 < 2 ^ 32 }
+    requires child { IsLawful child }
+    requires child_enough { FEWEST ≤ size_of child }
+    requires level { level ≡ level_of child }
+    requires above { level + 2 ≤ height.old }
+    ensures taken_in { HasTakenIn 1 (entries_of child) root.old root.new height.old height.new spare.old spare.new }
+{
+    match root {
+        None => unreachable!(),
+        Some(first) => {
+            let steps = *height - level - 2;
+            if let Some(second) = insert_node(first, child, steps, &mut spare.inners) {
+                add_level(root, height, second, &mut spare.inners);
             }
         }
     }
@@ -73,6 +99,7 @@ fn leaf_of(entry: Entry, spare: &mut Vec<Vec<Entry>>) -> Node
     ensures entries { entries_of result ≡ entry ∷ [] }
     ensures lawful { IsLawfulAt 0 result }
     ensures spare { IsSpare spare.new.items }
+    ensures len { vec_len spare.new + 1 ≡ vec_len spare.old }
 {
     let mut entries = take_list(spare);
     entries.push_reserved(entry);
@@ -83,15 +110,18 @@ fn leaf_of(entry: Entry, spare: &mut Vec<Vec<Entry>>) -> Node
 }
 
 /// Puts a node over the root and its second half.
-fn add_level(root: &mut Option<Node>, second: Node, spare: &mut Vec<Vec<Node>>)
+fn add_level(root: &mut Option<Node>, height: &mut u32, second: Node, spare: &mut Vec<Vec<Node>>)
     requires root { IsSomeAnd root.old (λ n. (FEWEST ≤ size_of n) × IsLawfulAt (level_of second) n) }
     requires second { IsLawful second }
     requires enough { FEWEST ≤ size_of second }
+    requires low { height.old + 1 < 2 ^ 32 }
     requires some { 0 < vec_len spare.old }
     requires spare { IsSpare spare.old.items }
     ensures root { IsSomeAnd root.new (λ n. (size_of n ≡ 2) × IsLawfulAt (suc (level_of second)) n) }
     ensures entries { entries_in root.new ≡ entries_in root.old ++ entries_of second }
+    ensures height { height.new ≡ height.old + 1 }
     ensures spare { IsSpare spare.new.items }
+    ensures len { vec_len spare.new + 1 ≡ vec_len spare.old }
 {
     let first = root.take().unwrap();
     let cover = first.cover.cover(&second.cover);
@@ -102,6 +132,7 @@ fn add_level(root: &mut Option<Node>, second: Node, spare: &mut Vec<Vec<Node>>)
         cover,
         below: Below::Children(children),
     });
+    *height += 1;
 }
 
 /// Puts an entry into the subtree of a node, and gives the node's second half where it was split.

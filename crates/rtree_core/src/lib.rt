@@ -1,6 +1,7 @@
 //! Guttman's R-tree over shapes: insertion with the quadratic split, and windows.
 #![tactic(auto)]
 
+mod condense;
 mod insert;
 pub mod laws;
 mod node;

@@ -1,20 +1,93 @@
-//! Taking an entry out of a subtree, on which the removal from a tree will stand.
+//! Removal from a tree and a subtree, which moves nodes that are left with too few aside.
 
-ghost use Rattle.std.specs.Prelude.{◌≡◌, ◌<◌, ◌≤◌, ◌↔◌, [], length, vec_len, vec_capacity, slice_index_or, All, Contains, IsTrue, IfSome, IfNone};
+ghost use Rattle.std.specs.Prelude.{◌≡◌, ◌+◌, ◌-◌, ◌*◌, ◌<◌, ◌≤◌, ◌↔◌, [], ◌∷◌, None, length, vec_len, vec_capacity, slice_index_or, All, Contains, IsTrue, IsFalse, IfSome, IfNone, IsSomeAnd};
 ghost use Rattle.std.specs.List.{flat_map};
 ghost use Rattle.rtree_core.specs.Edits.{leaf_node, inner_node};
-ghost use Rattle.rtree_core.specs.Nodes.{entries_of, level_of, size_of, IsPage, IsLawful};
+ghost use Rattle.rtree_core.specs.Collections.{Gains};
+ghost use Rattle.rtree_core.specs.Nodes.{entries_of, level_of, size_of, IsPage, IsLawful, IsLawfulAt};
+ghost use Rattle.rtree_core.specs.Trees.{entries_in, IsRoot};
+ghost use Rattle.rtree_core.specs.Roots.{AreEnough, IsKept};
 ghost use Rattle.rtree_core.specs.Removals.{IsPlaceOf, IsPlaceAbove, IsTakenOut};
 
+use crate::condense::{collapse, reinsert};
 use crate::laws::FEWEST;
 use crate::node::{Below, Entry, Node, cover_all};
+use crate::spare::Spare;
 use geom_core::Shape;
+
+/// Takes an entry out of a tree, given its root and its height, and says whether it was there.
+pub(crate) fn remove_at_root(
+    root: &mut Option<Node>,
+    height: &mut u32,
+    entry: &Entry,
+    aside: &mut Vec<Node>,
+    spare: &mut Spare,
+) -> bool
+    requires kept { IsKept root.old height.old spare.old }
+    requires root { IfSome root.old IsRoot }
+    requires enough { AreEnough (2 * (height.old - 1)) height.old spare.old }
+    requires low { height.old ≤ 100 }
+    requires none_aside { aside.old.items ≡ [] }
+    requires room { height.old ≤ vec_capacity aside.old + 1 }
+    ensures kept { IsKept root.new height.new spare.new }
+    ensures root { IfSome root.new IsRoot }
+    ensures held { IsTrue result ↔ Contains (entries_in root.old) entry.now }
+    ensures loses { IsTrue result → Gains entry.now (entries_in root.new) (entries_in root.old) }
+    ensures unchanged { IsFalse result → root.new ≡ root.old }
+    ensures none_aside { aside.new.items ≡ [] }
+{
+    let Some(node) = root else { return false };
+    if node.size() < 2 {
+        return remove_last(root, height, entry);
+    }
+    if !take_out(node, entry, aside) {
+        return false;
+    }
+    reinsert(root, height, aside, spare);
+    collapse(root, height);
+    true
+}
+
+/// Empties a tree whose one entry is this one.
+fn remove_last(root: &mut Option<Node>, height: &mut u32, entry: &Entry) -> bool
+    requires leaf { IsSomeAnd root.old (λ n. IsLawfulAt 0 n × (size_of n ≡ 1)) }
+    ensures held { IsTrue result ↔ Contains (entries_in root.old) entry.now }
+    ensures loses { IsTrue result → (entries_in root.old ≡ entry.now ∷ []) × (root.new ≡ None) × (height.new ≡ 0) }
+    ensures unchanged { IsFalse result → (root.new ≡ root.old) × (height.new ≡ height.old) }
+{
+    let Some(leaf) = root else { return false };
+    if leaf.entries()[0] != *entry {
+        return false;
+    }
+    *root = None;
+    *height = 0;
+    true
+}
+
+/// Takes an entry out of the subtree of a node that has two items at least, and says whether it was
+/// there.
+pub(crate) fn take_out(node: &mut Node, entry: &Entry, aside: &mut Vec<Node>) -> bool
+    requires lawful { IsLawful node.old }
+    requires two { 2 ≤ size_of node.old }
+    requires none_aside { aside.old.items ≡ [] }
+    requires room { level_of node.old ≤ vec_capacity aside.old }
+    ensures held { IsTrue result ↔ Contains (entries_of node.old) entry.now }
+    ensures taken { IsTrue result → IsTakenOut entry.now node.old node.new aside.new.items }
+    ensures unchanged { IsFalse result → (node.new ≡ node.old) × (aside.new.items ≡ []) }
+    ensures capacity { vec_capacity aside.new ≡ vec_capacity aside.old }
+{
+    if !holds(node, entry) {
+        return false;
+    }
+    take_held_out(node, entry, aside);
+    true
+}
 
 /// Takes an entry out of the subtree of a node that holds it and has two items at least.
 ///
 /// Nodes below it that are left with fewer than three are moved to `aside`, lowest level first.
 #[cycle(removal)]
-pub(crate) fn take_out(node: &mut Node, entry: &Entry, aside: &mut Vec<Node>)
+pub(crate) fn take_held_out(node: &mut Node, entry: &Entry, aside: &mut Vec<Node>)
     requires lawful { IsLawful node.old }
     requires two { 2 ≤ size_of node.old }
     requires held { Contains (entries_of node.old) entry.now }
@@ -59,7 +132,7 @@ fn take_from_inner(
     ensures capacity { vec_capacity aside.new ≡ vec_capacity aside.old }
 {
     let place = place_above(children, entry).unwrap();
-    take_out(&mut children[place], entry, aside);
+    take_held_out(&mut children[place], entry, aside);
     if children[place].size() < FEWEST {
         let child = children.remove(place);
         aside.push_reserved(child);

@@ -15,7 +15,7 @@ pub(crate) struct Spare {
 }
 
 impl Spare {
-    ghost use Rattle.std.specs.Prelude.{◌≡◌, OnOk};
+    ghost use Rattle.std.specs.Prelude.{◌≡◌, ◌+◌, ◌≤◌, OnOk};
     ghost use Rattle.rtree_core.specs.Roots.{AreSpare, AreEnough};
 
     pub(crate) fn new(alloc: Global) -> Spare
@@ -27,14 +27,18 @@ impl Spare {
         }
     }
 
-    /// Gathers the lists that an insertion into a tree of this height may take.
-    pub(crate) fn gather(&mut self, height: u32) -> Result<(), AllocError>
-        requires { AreSpare self.old }
+    /// Gathers the lists that so many insertions into a tree of this height may take.
+    ///
+    /// Each may split a node on every level and put a level over the root, and it gives the list
+    /// of a node that it splits back.
+    pub(crate) fn gather(&mut self, count: u32, height: u32) -> Result<(), AllocError>
+        requires spare { AreSpare self.old }
+        requires small { height + count ≤ 1000 }
         ensures spare { AreSpare self.new }
-        ensures enough { OnOk result (AreEnough height self.new) }
+        ensures enough { OnOk result (AreEnough count height self.new) }
     {
-        fill(&mut self.leaves, 2)?;
-        fill(&mut self.inners, height as usize)
+        fill(&mut self.leaves, count as usize + 1)?;
+        fill(&mut self.inners, (count * (height + count)) as usize)
     }
 }
 

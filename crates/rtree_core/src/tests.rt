@@ -190,3 +190,68 @@ fn nine_points_refused(rt: HostRuntime) -> Result<(), Fail> {
     );
     Ok(())
 }
+
+/// The entry of a point (number, 0).
+fn point_entry(number: u32) -> Result<Entry, Fail> {
+    let x = i64::from(number);
+    let shape = Shape::new(x, 0, x, 0).ok_or("a point")?;
+    Ok(Entry { shape, number })
+}
+
+#[test]
+fn removal_extra_1(rt: HostRuntime) -> Result<(), Fail> {
+    let shapes = points(rt.alloc(), 9)?;
+    assert_eq!(rt; shapes.len(), 9);
+    let mut tree = tree_of(rt.alloc(), &shapes)?;
+    assert!(rt; tree.remove(&point_entry(1)?)?);
+    assert!(rt; tree.remove(&point_entry(3)?)?);
+    assert_eq!(rt;
+        Leaves::of(&tree).as_slice(),
+        [0, 2, 4, 6, 8, 5, 7, END].as_slice()
+    );
+    assert_eq!(rt; tree.height(), 1);
+    assert_eq!(rt; tree.len(), 7);
+    assert!(rt; !tree.remove(&point_entry(1)?)?);
+    assert_eq!(rt;
+        Leaves::of(&tree).as_slice(),
+        [0, 2, 4, 6, 8, 5, 7, END].as_slice()
+    );
+    Ok(())
+}
+
+#[test]
+fn removal_extra_2(rt: HostRuntime) -> Result<(), Fail> {
+    let mut shapes = points(rt.alloc(), 9)?;
+    for _ in 0..3 {
+        shapes.push(Shape::new(4, 0, 4, 0).ok_or("a point")?)?;
+    }
+    assert_eq!(rt; shapes.len(), 12);
+    let mut tree = tree_of(rt.alloc(), &shapes)?;
+    assert_eq!(rt;
+        Leaves::of(&tree).as_slice(),
+        [0, 2, 4, 6, 8, 9, 10, 11, END, 1, 3, 5, 7, END].as_slice()
+    );
+    assert!(rt; tree.remove(&point_entry(1)?)?);
+    assert!(rt; tree.remove(&point_entry(3)?)?);
+    assert_eq!(rt;
+        Leaves::of(&tree).as_slice(),
+        [0, 4, 8, 10, 5, 7, END, 2, 6, 9, 11, END].as_slice()
+    );
+    assert_eq!(rt; tree.height(), 2);
+    Ok(())
+}
+
+#[test]
+fn removal_extra_3(rt: HostRuntime) -> Result<(), Fail> {
+    let shapes = points(rt.alloc(), 9)?;
+    assert_eq!(rt; shapes.len(), 9);
+    let mut tree = tree_of(rt.alloc(), &shapes)?;
+    assert!(rt; tree.remove(&point_entry(1)?)?);
+    assert!(rt; tree.remove(&point_entry(3)?)?);
+    for number in [0, 2, 4, 6, 8, 5, 7] {
+        assert!(rt; tree.remove(&point_entry(number)?)?);
+    }
+    assert!(rt; tree.root().is_none());
+    assert_eq!(rt; tree.height(), 0);
+    Ok(())
+}

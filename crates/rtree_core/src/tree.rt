@@ -4,6 +4,7 @@ ghost use Rattle.std.specs.Prelude.{◌≡◌, ◌+◌, ◌≤◌, [], ◌∷◌
 
 use crate::insert::insert_at_root;
 use crate::node::{Entry, Node};
+use crate::remove::remove_at_root;
 use crate::spare::Spare;
 use crate::window::collect;
 use geom_core::Shape;
@@ -20,6 +21,8 @@ pub struct RTree {
     height: u32,
     len: usize,
     spare: Spare,
+    /// The nodes that a removal sets aside, none between edits.
+    aside: Vec<Node>,
 }
 
 impl Model for RTree {
@@ -40,7 +43,7 @@ impl Model for RTree {
 }
 
 impl RTree {
-    ghost use Rattle.std.specs.Prelude.{◌≡◌, ◌↔◌, None, length, IsTrue, OnOk, OnErr, IfOk, option_copied};
+    ghost use Rattle.std.specs.Prelude.{◌≡◌, ◌↔◌, None, length, IsTrue, IsFalse, Contains, OnOk, OnErr, IfOk, option_copied};
     ghost use Rattle.rtree_core.specs.Collections.{Gains};
     ghost use Rattle.rtree_core.specs.Trees.{entries_in, height_of, IsTree, IsFresh};
     ghost use Rattle.rtree_core.specs.Windows.{AllMet, AllFound};
@@ -55,6 +58,7 @@ impl RTree {
             height: 0,
             len: 0,
             spare: Spare::new(alloc),
+            aside: Vec::new(alloc),
         }
     }
 
@@ -95,10 +99,35 @@ impl RTree {
         ensures ok { OnOk result (Gains entry (entries_in self.old) (entries_in self.new)) }
         ensures err { OnErr result (self.new ≡ self.old) }
     {
-        self.spare.gather(self.height)?;
+        self.spare.gather(1, self.height)?;
         insert_at_root(&mut self.root, &mut self.height, entry, &mut self.spare);
         self.len += 1;
         Ok(())
+    }
+
+    /// Removes an entry, equal in shape and number, and says whether the tree held it.
+    ///
+    /// An `Err` leaves the tree as it was.
+    pub fn remove(&mut self, entry: &Entry) -> Result<bool, AllocError>
+        ensures held { IfOk result (λ removed. IsTrue removed ↔ Contains (entries_in self.old) entry.now) }
+        ensures loses { IfOk result (λ removed. IsTrue removed → Gains entry.now (entries_in self.new) (entries_in self.old)) }
+        ensures unchanged { IfOk result (λ removed. IsFalse removed → self.new ≡ self.old) }
+        ensures err { OnErr result (self.new ≡ self.old) }
+    {
+        let levels = self.height.saturating_sub(1);
+        self.aside.reserve(levels as usize)?;
+        self.spare.gather(2 * levels, self.height)?;
+        let removed = remove_at_root(
+            &mut self.root,
+            &mut self.height,
+            entry,
+            &mut self.aside,
+            &mut self.spare,
+        );
+        if removed {
+            self.len -= 1;
+        }
+        Ok(removed)
     }
 
     /// The numbers of the entries whose shapes meet the window, ascending.

@@ -33,9 +33,9 @@ take_from_inner-place_above-requires t c =
     let o = open_inner c.args.cover.now c.args.children.now c.requires.lawful in
     rw c.deref.ensures.value (All-weaker (IsLawfulAt o.level) IsLawful (λ n h. lawful_is o.level n h) c.args.children.now.items o.inner.children)
 
-pub take_from_inner-take_out-requires : goal.take_from_inner-take_out-requires
-take_from_inner-take_out-requires t c =
-    let at = (goal.at.take_from_inner-take_out-requires t c).After-index_mut in
+pub take_from_inner-take_held_out-requires : goal.take_from_inner-take_held_out-requires
+take_from_inner-take_held_out-requires t c =
+    let at = (goal.at.take_from_inner-take_held_out-requires t c).After-index_mut in
     let held : Contains (entries_of c.index_mut.result.now) c.args.entry.now = subst (λ n. Contains (entries_of n) c.args.entry.now) (sym c.index_mut.ensures.value) ((place t at).below c.index_mut.result.now) in (
       omega (arith, c.decreases, child_level_is t at, (opened t at).level_is),
       (lawful_is (opened t at).level _ (child_lawful t at), (omega (arith, child_enough t at), (held, (c.requires.none_aside, omega (arith, c.requires.room, child_level_is t at, (opened t at).level_is))))),
@@ -44,26 +44,26 @@ take_from_inner-take_out-requires t c =
 pub take_from_inner-push_reserved-requires : goal.take_from_inner-push_reserved-requires
 take_from_inner-push_reserved-requires t c =
     let at = (goal.at.take_from_inner-push_reserved-requires t c).After-index_mut in
-    omega (arith, c.take_out.new.aside.ok.0, c.take_out.ensures.taken.few, c.take_out.ensures.capacity, c.requires.room, child_level_is t at, (opened t at).level_is)
+    omega (arith, c.take_held_out.new.aside.ok.0, c.take_held_out.ensures.taken.few, c.take_held_out.ensures.capacity, c.requires.room, child_level_is t at, (opened t at).level_is)
 
 pub take_from_inner-returns-clause-taken : goal.take_from_inner-returns-clause-taken
 take_from_inner-returns-clause-taken t c =
     let at = (goal.at.take_from_inner-returns-clause-taken t c).After-index_mut in
     let tight : IsLeastCover (λ n. n.cover) c.if-size-lt-FEWEST.children.items c.cover_all.result = rw c.deref-2.ensures.value at c.cover_all.ensures in
     let inside = (place t at).inside in
-    let read : c.index.result.now ≡ c.take_out.new.node = c.index.ensures ∙ get_or-set_same c.args.children.now.items c.unwrap-place.result c.take_out.new.node c.index.result.now inside in
-    let size : c.size.result ≡ size_of c.take_out.new.node = c.size.ensures ∙ ap size_of read in
+    let read : c.index.result.now ≡ c.take_held_out.new.node = c.index.ensures ∙ get_or-set_same c.args.children.now.items c.unwrap-place.result c.take_held_out.new.node c.index.result.now inside in
+    let size : c.size.result ≡ size_of c.take_held_out.new.node = c.size.ensures ∙ ap size_of read in
     elim c.if-size-lt-FEWEST.branch [
       | take_from_inner-then-size-lt-FEWEST w ↦
-          let child : w.remove-child.result ≡ c.take_out.new.node = w.remove-child.ensures.value ∙ get_or-set_same c.args.children.now.items c.unwrap-place.result c.take_out.new.node w.remove-child.result inside in
+          let child : w.remove-child.result ≡ c.take_held_out.new.node = w.remove-child.ensures.value ∙ get_or-set_same c.args.children.now.items c.unwrap-place.result c.take_held_out.new.node w.remove-child.result inside in
           rw (w.children-is, w.aside-is, w.push_reserved.ensures.items, child)
-          (child_aside c.args.entry.now c.args.cover.now c.cover_all.result c.args.children.now w.remove-child.new.self (opened t at) c.unwrap-place.result c.index_mut.result.now c.take_out.new.node c.take_out.new.aside.items inside c.index_mut.ensures.value c.take_out.ensures.taken
+          (child_aside c.args.entry.now c.args.cover.now c.cover_all.result c.args.children.now w.remove-child.new.self (opened t at) c.unwrap-place.result c.index_mut.result.now c.take_held_out.new.node c.take_held_out.new.aside.items inside c.index_mut.ensures.value c.take_held_out.ensures.taken
           (rw w.children-is at tight)
           (omega (arith, w.remove-child.ensures.capacity, (opened t at).inner.page.room))
           w.remove-child.ensures.items w.remove-child.ensures.len (omega (arith, c.requires.two, inner_size c.args.cover.now c.args.children.now)) (omega (arith, w.if-size-lt-FEWEST.true, size)))
       | take_from_inner-else-size-lt-FEWEST w ↦
           rw (w.children-is, w.aside-is)
-          (child_kept c.args.entry.now c.args.cover.now c.cover_all.result c.args.children.now _ (opened t at) c.unwrap-place.result c.index_mut.result.now c.take_out.new.node c.take_out.new.aside.items inside c.index_mut.ensures.value c.take_out.ensures.taken
+          (child_kept c.args.entry.now c.args.cover.now c.cover_all.result c.args.children.now _ (opened t at) c.unwrap-place.result c.index_mut.result.now c.take_held_out.new.node c.take_held_out.new.aside.items inside c.index_mut.ensures.value c.take_held_out.ensures.taken
           (rw w.children-is at tight)
           (opened t at).inner.page.room
           refl refl (omega (arith, w.if-size-lt-FEWEST.false, size)))

@@ -17,7 +17,7 @@ pub returns-clause-rising : goal.returns-clause-rising
 returns-clause-rising c =
     let at = (goal.at.returns-clause-rising c).After-sort_unstable in
     window_rises c.args.window.now (entries_in c.args.self.now) c.match-self.found.items c.sort_unstable.new.self.items (collected at) c.sort_unstable.ensures.permutation
-    (rw (← c.self.view_is) c.self.invariant.kept.tree.distinct)
+    (rw (← c.self.view_is) c.self.invariant.tree.distinct)
     (IsNonDecreasingBy-from_sort (λ n. n) c.sort_unstable.new.self.items c.sort_unstable.ensures.sorted)
 
 pub returns-clause-met : goal.returns-clause-met
