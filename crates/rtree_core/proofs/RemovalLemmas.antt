@@ -1,14 +1,19 @@
--- The search for an entry, and what its removal leaves.
+-- The search for an entry, and that one that finds nothing leaves the nodes as they were.
+use mathlib.Core.HLevel.{is_prop→PathP}
+use Rattle.std.specs.Vec.{with_items}
+use Rattle.std.specs.declared.alloc.Global.{Global}
+use Rattle.std.specs.declared.vec.Vec.{Vec}
+use Rattle.std.proofs.Props.{props}
 use Rattle.std.proofs.Common.{arith, ◌≡◌, ℕ, zero, suc, ◌+◌, ◌<◌, ◌≤◌, Bool, true, false, List, [], ◌∷◌, length, get_or, refl, sym, ◌∙◌, ap, subst, inl, inr, below_more}
-use Rattle.std.specs.Prelude.{Option, None, Some, is_some, IsSome, IfSome, IfNone, Contains, ◌&&◌, not, nat_eq, ℤ}
+use Rattle.std.specs.Prelude.{Contains, ◌&&◌, not, nat_eq, ℤ}
 use Rattle.std.specs.List.{flat_map}
 use Rattle.std.specs.Ordering.{int_eq}
-use Rattle.std.proofs.lemmas.List.Elements.{Contains-append_left, Contains-append_right, Contains-append_cases, at_read, All-contains}
+use Rattle.std.proofs.lemmas.List.Elements.{Contains-append_left, Contains-append_right, Contains-append_cases, All-contains}
 use Rattle.std.proofs.lemmas.Bool.{false≢true}
 use Rattle.std.proofs.lemmas.Bool.Decides.{nat_tests}
 use Rattle.std.proofs.lemmas.Int.{ints}
-use Rattle.std.proofs.lemmas.List.{get_or_default}
-use Rattle.rtree_core.specs.Removals.{IsPlaceOf, IsPlaceAbove}
+use Rattle.std.proofs.lemmas.List.{get_or_default, with_items_is}
+use Rattle.rtree_core.specs.Removals.{IsPlaceOf}
 use Rattle.geom_core.specs.Joined.{same_ends}
 use Rattle.geom_core.specs.Cells.{line, Covers, Meets, IsIn}
 use Rattle.rtree_core.specs.declared.node.Entry.{Entry}
@@ -86,40 +91,21 @@ not_there es e p x lt at differ there =
     let same : x ≡ e = at ∙ get_or_default es p x e lt ∙ there in
     false≢true (sym differ ∙ ap (λ z. eq-value.it z e) same ∙ entry_itself e)
 
-pub place_decides : (r : Option ℕ) (es : List Entry) (e : Entry) →
-    IfSome r (IsPlaceOf es e) →
-    IfNone r (Contains es e → ⊥) →
-    (is_some r ≡ true → Contains es e) × (Contains es e → is_some r ≡ true)
-place_decides None es e found none = (λ h. absurd (false≢true h), λ h. absurd (none h))
-place_decides (Some p) es e found none = (λ h. (p, found.inside, found.there), λ h. refl)
-
 -- an entry below a node stands among the entries of the nodes together, and the other way round
-pub contains_joined : (xs : List Node) (e : Entry) (p : ℕ) → IsPlaceAbove xs e p → Contains (flat_map entries_of xs) e
-contains_joined [] e p h = absurd (omega (arith, h.inside))
-contains_joined (x ∷ xs) e zero h = Contains-append_left (entries_of x) (flat_map entries_of xs) e (h.below x)
-contains_joined (x ∷ xs) e (suc p) h =
-    Contains-append_right (entries_of x) (flat_map entries_of xs) e (contains_joined xs e p (record { inside = omega (arith, h.inside); below = h.below }))
+pub contains_joined : (xs : List Node) (e : Entry) (p : ℕ) (x : Node) → p < length xs → x ≡ get_or xs p x → Contains (entries_of x) e → Contains (flat_map entries_of xs) e
+contains_joined [] e p x lt at h = absurd (omega (arith, lt))
+contains_joined (y ∷ ys) e zero x lt at h = Contains-append_left (entries_of y) (flat_map entries_of ys) e (rw at at h)
+contains_joined (y ∷ ys) e (suc p) x lt at h = Contains-append_right (entries_of y) (flat_map entries_of ys) e (contains_joined ys e p x (omega (arith, lt)) at h)
 
-pub contains_parted : (xs : List Node) (e : Entry) → Contains (flat_map entries_of xs) e → (p : ℕ) × IsPlaceAbove xs e p
+contains_parted : (xs : List Node) (e : Entry) → Contains (flat_map entries_of xs) e → (p : ℕ) × (p < length xs) × ((d : Node) → Contains (entries_of (get_or xs p d)) e)
 contains_parted [] e h = absurd (omega (arith, h.1))
 contains_parted (x ∷ xs) e h =
     elim (Contains-append_cases (entries_of x) (flat_map entries_of xs) e h) [
-      | inl here ↦ (0, record { inside = omega arith; below = λ d. here })
+      | inl here ↦ (0, omega arith, λ d. here)
       | inr later ↦
           let there = contains_parted xs e later in
-          (suc there.0, record { inside = omega (arith, there.1.inside); below = there.1.below })
+          (suc there.0, omega (arith, there.1), there.2)
     ]
-
-pub place_above_decides : (r : Option ℕ) (xs : List Node) (e : Entry) →
-    IfSome r (IsPlaceAbove xs e) →
-    IfNone r (Contains (flat_map entries_of xs) e → ⊥) →
-    (is_some r ≡ true → Contains (flat_map entries_of xs) e) × (Contains (flat_map entries_of xs) e → is_some r ≡ true)
-place_above_decides None xs e found none = (λ h. absurd (false≢true h), λ h. absurd (none h))
-place_above_decides (Some p) xs e found none = (λ h. contains_joined xs e p found, λ h. refl)
-
--- what the node at a place has below it, whatever stands in past the end
-pub at_place : (xs : List Node) (p : ℕ) (n : Node) (P : Node → Type 0) → p < length xs → n ≡ get_or xs p n → P n → (d : Node) → P (get_or xs p d)
-at_place xs p n P lt at h d = at_read xs P p n lt at h d
 
 -- an entry's shape meets the cover of a node that has it
 pub cover_meets : (n : Node) (e : Entry) → IsLawful n → Contains (entries_of n) e → Meets n.cover e.shape
@@ -136,7 +122,7 @@ pub none_above : (xs : List Node) (e : Entry) (n : ℕ) →
 none_above [] e n none le h = absurd (omega (arith, h.1))
 none_above (x ∷ xs) e n none le h =
     let there = contains_parted (x ∷ xs) e h in
-    none there.0 x (omega (arith, there.1.inside)) (there.1.below x)
+    none there.0 x (omega (arith, there.1)) (there.2 x)
 
 -- no place so far, and not this one
 pub none_so_far : (xs : List Node) (e : Entry) (i : ℕ) (x : Node) →
@@ -151,6 +137,17 @@ pub none_so_far : (xs : List Node) (e : Entry) (i : ℕ) (x : Node) →
 none_so_far xs e i x lt at before here k d h c =
     below_more (λ m. (b : Node) → Contains (entries_of (get_or xs m b)) e → ⊥) i (λ m p b. before m b p) (λ b q. here (subst (λ z. Contains (entries_of z) e) (get_or_default xs i b x lt ∙ sym at) q)) k h d c
 
-pub place_is_there : (r : Option ℕ) (xs : List Node) (e : Entry) → IfNone r (Contains (flat_map entries_of xs) e → ⊥) → Contains (flat_map entries_of xs) e → IsSome r
-place_is_there None xs e none h = absurd (none h)
-place_is_there (Some p) xs e none h = refl
+-- a list of nodes into which the nodes that it has were written is as it was
+pub list_as_it_was : (v : Vec Node Global) (xs : List Node) → xs ≡ v.items → with_items v xs ≡ v
+list_as_it_was v xs same =
+    let written = with_items v xs in
+    let p : written.items ≡ v.items = with_items_is v xs (ap length same ∙ sym v.ok.0) ∙ same in
+    λ i. record {
+      ptr = v.ptr;
+      len = v.len;
+      cap = v.cap;
+      alloc = v.alloc;
+      items = p i;
+      ok = is_prop→PathP (λ j. (v.len ≡ length (p j)) × (v.len ≤ v.cap)) (λ j. hlevel props) written.ok v.ok i;
+      small = v.small;
+    }

@@ -2,10 +2,11 @@
 use Rattle.std.proofs.Common.{arith, ◌≡◌, ℕ, suc, ◌+◌, ◌<◌, ◌≤◌, Bool, cond, List, [], ◌∷◌, ◌++◌, length, get_or, set, take, drop, sym, ◌∙◌, ap, subst, length-append, length-set, get_or-set_same, vec_len, vec_capacity, inl, inr}
 use Rattle.std.specs.Prelude.{count_by, sum_by, remove}
 use Rattle.std.specs.List.{flat_map}
+use Rattle.std.specs.Vec.{with_items}
 use Rattle.std.specs.declared.alloc.Global.{Global}
 use Rattle.std.specs.declared.vec.Vec.{Vec}
 use Rattle.std.proofs.lemmas.Bool.{cases_lt}
-use Rattle.std.proofs.lemmas.List.{append-nil, get_or_append_left, get_or_push, take-set, drop-set-lt}
+use Rattle.std.proofs.lemmas.List.{append-nil, get_or_append_left, get_or_default, get_or_push, take-set, drop-set-lt, with_items_is}
 use Rattle.std.proofs.lemmas.List.Concat.{flat_map-append}
 use Rattle.std.proofs.lemmas.List.Elements.{All-set, All-get_or}
 use Rattle.std.proofs.lemmas.List.Sums.{sum_by-append, sum_by-cons, sum_by-set, sum_by-remove}
@@ -17,7 +18,7 @@ use Rattle.rtree_core.specs.declared.node.Node.{Node}
 use Rattle.rtree_core.specs.Covers.{IsLeastCover}
 use Rattle.rtree_core.specs.Edits.{leaf_node, inner_node}
 use Rattle.rtree_core.specs.Nodes.{entries_of, level_of, size_of, IsPage, IsLawfulAt}
-use Rattle.rtree_core.specs.Removals.{IsPlaceOf, IsTakenOut}
+use Rattle.rtree_core.specs.Removals.{IsPlaceOf, IsTakenBelow, IsTakenOut}
 use Rattle.rtree_core.proofs.NodeLemmas.{lawful_level}
 use Rattle.rtree_core.proofs.SplitLemmas.{All-remove}
 use Rattle.rtree_core.proofs.EditLemmas.{leaf_entries, leaf_level, leaf_lawful, leaf_size, inner_entries, inner_size, count_below, Opened, child_level}
@@ -42,6 +43,31 @@ leaf_taken c d v w e p page at two items len room tight = record {
   up_to_here = λ h. sym (leaf_level c v);
   are_aside = λ k b h. absurd (omega arith);
 }
+
+-- what was written into a list of nodes from one of which the entry was taken out, told of the node that stands there
+pub record Written (e : Entry) (v w : Vec Node Global) (aside : List Node) (p : ℕ) (y : Node) : Type 0 where
+  pub inside : p < length v.items
+  pub items : w.items ≡ set v.items p y
+  pub at : get_or v.items p y ≡ get_or v.items p (get_or v.items p y)
+  pub taken : IsTakenOut e (get_or v.items p y) y aside
+
+pub written : (e : Entry) (v : Vec Node Global) (xs ys : List Node) (aside : List Node) (p : ℕ) (y : Node) →
+    xs ≡ v.items →
+    IsTakenBelow e xs ys aside p →
+    y ≡ get_or (with_items v ys).items p y →
+    Written e v (with_items v ys) aside p y
+written e v xs ys aside p y is h read =
+    let inside : p < length v.items = rw is at h.inside in
+    let here : ys ≡ set v.items p (get_or ys p y) = rw is at (h.others y) in
+    let len : length ys ≡ v.len = ap length here ∙ length-set v.items p (get_or ys p y) ∙ sym v.ok.0 in
+    let there : (with_items v ys).items ≡ ys = with_items_is v ys len in
+    let node : y ≡ get_or ys p y = read ∙ ap (λ zs. get_or zs p y) there in
+    record {
+      inside = inside;
+      items = there ∙ here ∙ ap (set v.items p) (sym node);
+      at = get_or_default v.items p y (get_or v.items p y) inside;
+      taken = subst (λ z. IsTakenOut e (get_or v.items p y) z aside) (sym node) (subst (λ zs. IsTakenOut e (get_or zs p y) (get_or ys p y) aside) is (h.taken y));
+    }
 
 -- the count of what is left in a child, and of what was set aside
 left : (e : Entry) (x y : Node) (aside : List Node) → IsTakenOut e x y aside → (q : Entry → Bool) →

@@ -1,6 +1,6 @@
 -- Where an entry stands in a subtree, and what its removal leaves.
 use Rattle.std.specs.List.{flat_map}
-use Rattle.std.specs.Prelude.{◌≡◌, ℕ, ◌+◌, ◌<◌, ◌≤◌, List, ◌∷◌, ◌++◌, length, slice_index_or, Contains}
+use Rattle.std.specs.Prelude.{◌≡◌, ℕ, ◌+◌, ◌<◌, ◌≤◌, List, ◌∷◌, ◌++◌, length, slice_index_or, slice_set}
 use Rattle.rtree_core.specs.declared.node.Entry.{Entry}
 use Rattle.rtree_core.specs.declared.node.Node.{Node}
 use Rattle.rtree_core.specs.declared.laws.TheConstants.{FEWEST}
@@ -11,11 +11,6 @@ use Rattle.rtree_core.specs.Nodes.{entries_of, level_of, size_of, IsLawfulAt}
 pub record IsPlaceOf (entries : List Entry) (e : Entry) (p : ℕ) : Type 0 where
   pub inside : p < length entries
   pub there : slice_index_or entries p e ≡ e
-
--- the node at this place of the list has the entry below it
-pub record IsPlaceAbove (nodes : List Node) (e : Entry) (p : ℕ) : Type 0 where
-  pub inside : p < length nodes
-  pub below : (d : Node) → Contains (entries_of (slice_index_or nodes p d)) e
 
 -- the nodes set aside: one of each level from 0 on, lawful, with one item less than is enough
 abbrev pub AreAside : List Node → Type 0
@@ -29,3 +24,9 @@ pub record IsTakenOut (e : Entry) (old new : Node) (aside : List Node) : Type 0 
   pub few : length aside ≤ level_of old
   pub up_to_here : size_of new < size_of old → length aside ≡ level_of old
   pub are_aside : AreAside aside
+
+-- the entry was taken out of the subtree of the node at this place, and these nodes were set aside
+pub record IsTakenBelow (e : Entry) (old new : List Node) (aside : List Node) (p : ℕ) : Type 0 where
+  pub inside : p < length old
+  pub others : (d : Node) → new ≡ slice_set old p (slice_index_or new p d)
+  pub taken : (d : Node) → IsTakenOut e (slice_index_or old p d) (slice_index_or new p d) aside

@@ -1,13 +1,13 @@
-//! Removal from a tree and a subtree, which moves nodes that are left with too few aside.
+//! Removal of an entry from a tree and a subtree, with the nodes set aside that are left with too few.
 
-ghost use Rattle.std.specs.Prelude.{◌≡◌, ◌+◌, ◌-◌, ◌*◌, ◌<◌, ◌≤◌, ◌↔◌, [], ◌∷◌, None, length, vec_len, vec_capacity, slice_index_or, All, Contains, IsTrue, IsFalse, IfSome, IfNone, IsSomeAnd};
+ghost use Rattle.std.specs.Prelude.{◌≡◌, ◌+◌, ◌-◌, ◌*◌, ◌≤◌, ◌↔◌, [], ◌∷◌, None, vec_len, vec_capacity, All, Contains, IsTrue, IsFalse, IsSome, IfSome, IfNone, IsSomeAnd};
 ghost use Rattle.std.specs.List.{flat_map};
-ghost use Rattle.rtree_core.specs.Edits.{leaf_node, inner_node};
 ghost use Rattle.rtree_core.specs.Collections.{Gains};
+ghost use Rattle.rtree_core.specs.Edits.{leaf_node, inner_node};
 ghost use Rattle.rtree_core.specs.Nodes.{entries_of, level_of, size_of, IsPage, IsLawful, IsLawfulAt};
-ghost use Rattle.rtree_core.specs.Trees.{entries_in, IsRoot};
+ghost use Rattle.rtree_core.specs.Removals.{IsPlaceOf, IsTakenBelow, IsTakenOut};
 ghost use Rattle.rtree_core.specs.Roots.{AreEnough, IsKept};
-ghost use Rattle.rtree_core.specs.Removals.{IsPlaceOf, IsPlaceAbove, IsTakenOut};
+ghost use Rattle.rtree_core.specs.Trees.{entries_in, IsRoot};
 
 use crate::condense::{collapse, reinsert};
 use crate::laws::FEWEST;
@@ -66,6 +66,9 @@ fn remove_last(root: &mut Option<Node>, height: &mut u32, entry: &Entry) -> bool
 
 /// Takes an entry out of the subtree of a node that has two items at least, and says whether it was
 /// there.
+///
+/// Nodes below it that are left with fewer than three are moved to `aside`, lowest level first.
+#[cycle(removal)]
 pub(crate) fn take_out(node: &mut Node, entry: &Entry, aside: &mut Vec<Node>) -> bool
     requires lawful { IsLawful node.old }
     requires two { 2 ≤ size_of node.old }
@@ -76,68 +79,75 @@ pub(crate) fn take_out(node: &mut Node, entry: &Entry, aside: &mut Vec<Node>) ->
     ensures unchanged { IsFalse result → (node.new ≡ node.old) × (aside.new.items ≡ []) }
     ensures capacity { vec_capacity aside.new ≡ vec_capacity aside.old }
 {
-    if !holds(node, entry) {
-        return false;
-    }
-    take_held_out(node, entry, aside);
-    true
-}
-
-/// Takes an entry out of the subtree of a node that holds it and has two items at least.
-///
-/// Nodes below it that are left with fewer than three are moved to `aside`, lowest level first.
-#[cycle(removal)]
-pub(crate) fn take_held_out(node: &mut Node, entry: &Entry, aside: &mut Vec<Node>)
-    requires lawful { IsLawful node.old }
-    requires two { 2 ≤ size_of node.old }
-    requires held { Contains (entries_of node.old) entry.now }
-    requires none_aside { aside.old.items ≡ [] }
-    requires room { level_of node.old ≤ vec_capacity aside.old }
-    ensures taken { IsTakenOut entry.now node.old node.new aside.new.items }
-    ensures capacity { vec_capacity aside.new ≡ vec_capacity aside.old }
-{
     match &mut node.below {
         Below::Entries(entries) => take_from_leaf(&mut node.cover, entries, entry),
         Below::Children(children) => take_from_inner(&mut node.cover, children, entry, aside),
     }
 }
 
-/// Takes an entry out of a leaf's list.
-fn take_from_leaf(cover: &mut Shape, entries: &mut Vec<Entry>, entry: &Entry)
+/// Takes an entry out of a leaf's list, and says whether it was there.
+fn take_from_leaf(cover: &mut Shape, entries: &mut Vec<Entry>, entry: &Entry) -> bool
     requires lawful { IsPage (λ e. e.shape) cover.old entries.old }
     requires two { 2 ≤ vec_len entries.old }
-    requires held { Contains entries.old.items entry.now }
-    ensures taken { IsTakenOut entry.now (leaf_node cover.old entries.old) (leaf_node cover.new entries.new) [] }
+    ensures held { IsTrue result ↔ Contains (entries_of (leaf_node cover.old entries.old)) entry.now }
+    ensures taken { IsTrue result → IsTakenOut entry.now (leaf_node cover.old entries.old) (leaf_node cover.new entries.new) [] }
+    ensures unchanged { IsFalse result → (cover.new ≡ cover.old) × (entries.new ≡ entries.old) }
 {
-    let place = place_of(entries, entry).unwrap();
+    let Some(place) = place_of(entries, entry) else {
+        return false;
+    };
     let _ = entries.remove(place);
     *cover = cover_all(entries);
+    true
 }
 
-/// Takes an entry out of the subtree of a child that holds it, and the child out of the list where
-/// it is left with fewer than three.
+/// Takes an entry out of the subtree of one of a node's children, and that child out of the list
+/// where it is left with fewer than three. Says whether the entry was there.
 #[cycle(removal)]
 fn take_from_inner(
     cover: &mut Shape,
     children: &mut Vec<Node>,
     entry: &Entry,
     aside: &mut Vec<Node>,
-)
+) -> bool
     requires lawful { IsLawful (inner_node cover.old children.old) }
     requires two { 2 ≤ size_of (inner_node cover.old children.old) }
-    requires held { Contains (entries_of (inner_node cover.old children.old)) entry.now }
     requires none_aside { aside.old.items ≡ [] }
     requires room { level_of (inner_node cover.old children.old) ≤ vec_capacity aside.old }
-    ensures taken { IsTakenOut entry.now (inner_node cover.old children.old) (inner_node cover.new children.new) aside.new.items }
+    ensures held { IsTrue result ↔ Contains (entries_of (inner_node cover.old children.old)) entry.now }
+    ensures taken { IsTrue result → IsTakenOut entry.now (inner_node cover.old children.old) (inner_node cover.new children.new) aside.new.items }
+    ensures unchanged { IsFalse result → (cover.new ≡ cover.old) × (children.new ≡ children.old) × (aside.new.items ≡ []) }
     ensures capacity { vec_capacity aside.new ≡ vec_capacity aside.old }
 {
-    let place = place_above(children, entry).unwrap();
-    take_held_out(&mut children[place], entry, aside);
+    let Some(place) = take_from_one(children, entry, aside) else {
+        return false;
+    };
     if children[place].size() < FEWEST {
         let child = children.remove(place);
         aside.push_reserved(child);
     }
     *cover = cover_all(children);
+    true
+}
+
+/// Takes an entry out of the subtree of one of some nodes, and gives the place of that node.
+#[cycle(removal)]
+fn take_from_one(nodes: &mut [Node], entry: &Entry, aside: &mut Vec<Node>) -> Option<usize>
+    requires lawful { All IsLawful nodes.old }
+    requires two { All (λ n. 2 ≤ size_of n) nodes.old }
+    requires none_aside { aside.old.items ≡ [] }
+    requires room { All (λ n. level_of n ≤ vec_capacity aside.old) nodes.old }
+    ensures held { IsSome result ↔ Contains (flat_map entries_of nodes.old) entry.now }
+    ensures taken { IfSome result (IsTakenBelow entry.now nodes.old nodes.new aside.new.items) }
+    ensures unchanged { IfNone result ((nodes.new ≡ nodes.old) × (aside.new.items ≡ [])) }
+    ensures capacity { vec_capacity aside.new ≡ vec_capacity aside.old }
+{
+    for (place, node) in nodes.iter_mut().enumerate() {
+        if node.cover.meets(&entry.shape) && take_out(node, entry, aside) {
+            return Some(place);
+        }
+    }
+    None
 }
 
 /// The place of an entry in a list.
@@ -147,33 +157,6 @@ fn place_of(entries: &[Entry], entry: &Entry) -> Option<usize>
 {
     for (place, other) in entries.iter().enumerate() {
         if other == entry {
-            return Some(place);
-        }
-    }
-    None
-}
-
-/// Whether a subtree holds an entry.
-#[cycle(search)]
-pub(crate) fn holds(node: &Node, entry: &Entry) -> bool
-    requires { IsLawful node.now }
-    ensures { IsTrue result ↔ Contains (entries_of node.now) entry.now }
-{
-    match &node.below {
-        Below::Entries(entries) => place_of(entries, entry).is_some(),
-        Below::Children(children) => place_above(children, entry).is_some(),
-    }
-}
-
-/// The place of the child whose subtree holds an entry.
-#[cycle(search)]
-fn place_above(children: &[Node], entry: &Entry) -> Option<usize>
-    requires { All IsLawful children.now }
-    ensures found { IfSome result (IsPlaceAbove children.now entry.now) }
-    ensures none { IfNone result (Contains (flat_map entries_of children.now) entry.now → ⊥) }
-{
-    for (place, child) in children.iter().enumerate() {
-        if child.cover.meets(&entry.shape) && holds(child, entry) {
             return Some(place);
         }
     }

@@ -1,75 +1,134 @@
-use Rattle.std.proofs.Common.{arith, ◌≡◌, ◌≤◌, ℕ, refl, sym, ◌∙◌, ap, subst, get_or-set_same}
-use Rattle.std.specs.Prelude.{Contains}
-use Rattle.std.proofs.lemmas.List.Elements.{All-weaker, All-get_or}
+use Rattle.std.proofs.Common.{arith, ◌≡◌, ◌<◌, ◌≤◌, ◌+◌, ℕ, length, get_or, set, refl, sym, ◌∙◌, ap, subst, vec_capacity, length-set}
+use Rattle.std.specs.Prelude.{All, Contains, remove}
+use Rattle.std.specs.Vec.{with_items}
+use Rattle.std.proofs.lemmas.Bool.{false≢true}
+use Rattle.std.proofs.lemmas.List.{get_or_default, set-get_or}
+use Rattle.std.proofs.lemmas.List.Elements.{All-weaker}
+use Rattle.geom_core.specs.Cells.{Meets}
 use Rattle.rtree_core.specs.declared.laws.TheConstants.{FEWEST}
+use Rattle.rtree_core.specs.declared.node.Below.TheVariants.{outs-Children}
 use Rattle.rtree_core.specs.Covers.{IsLeastCover}
+use Rattle.rtree_core.specs.Edits.{inner_node}
 use Rattle.rtree_core.specs.Nodes.{entries_of, level_of, size_of, IsLawful, IsLawfulAt}
-use Rattle.rtree_core.specs.Removals.{IsPlaceAbove}
-use Rattle.rtree_core.proofs.NodeLemmas.{lawful_level, lawful_is}
+use Rattle.rtree_core.proofs.NodeLemmas.{level_inner, lawful_level, lawful_is, top_level, level-le-top}
 use Rattle.rtree_core.proofs.EditLemmas.{Opened, open_inner, child_level, inner_size, inner_entries}
-use Rattle.std.specs.List.{flat_map}
-use Rattle.rtree_core.proofs.RemovalLemmas.{place_is_there}
-use Rattle.rtree_core.proofs.TakeLemmas.{child_kept, child_aside}
+use Rattle.rtree_core.proofs.RemovalLemmas.{contains_joined, cover_meets, none_above, none_so_far, list_as_it_was}
+use Rattle.rtree_core.proofs.TakeLemmas.{Written, written, child_kept, child_aside}
 use Rattle.rtree_core.proofs.remove.+removal.Goals as goal
-use Rattle.rtree_core.proofs.remove.+removal.Goals.{take_from_inner-After-index_mut, take_from_inner-then-size-lt-FEWEST, take_from_inner-else-size-lt-FEWEST}
+use Rattle.rtree_core.proofs.remove.+removal.Goals.{take_from_inner-After-index, take_from_inner-then-size-lt-FEWEST, take_from_inner-else-size-lt-FEWEST, take_from_one-else-meets-via-then-meets+else-take_out, take_from_one-else-meets-via-else-meets}
 
-opened : (t : ℕ) (c : take_from_inner-After-index_mut t) → Opened c.args.cover.now c.args.children.now
+pub take_from_inner-take_from_one-requires : goal.take_from_inner-take_from_one-requires
+take_from_inner-take_from_one-requires t c =
+    let v = c.args.children.now in
+    let o = open_inner c.args.cover.now v c.requires.lawful in
+    let level : level_of (inner_node c.args.cover.now v) ≡ top_level v.items + 1 = level_inner (inner_node c.args.cover.now v) v (outs-Children v) in
+    let lawful : All IsLawful v.items = All-weaker (IsLawfulAt o.level) IsLawful (λ n h. lawful_is o.level n h) v.items o.inner.children in
+    let two : All (λ n. 2 ≤ size_of n) v.items = All-weaker (λ n. FEWEST ≤ size_of n) (λ n. 2 ≤ size_of n) (λ n h. omega (arith, h)) v.items o.inner.enough in
+    let room : All (λ n. level_of n ≤ vec_capacity c.args.aside.now) v.items = All-weaker (IsLawfulAt o.level) (λ n. level_of n ≤ vec_capacity c.args.aside.now) (λ n h. omega (arith, lawful_level o.level n h, o.level_is, c.requires.room)) v.items o.inner.children in
+    (omega (arith, c.decreases, level, ap top_level c.deref_mut.ensures.value), (rw c.deref_mut.ensures.value lawful, (rw c.deref_mut.ensures.value two, (c.requires.none_aside, rw c.deref_mut.ensures.value room))))
+
+pub take_from_inner-returns-in_default-clause-held : goal.take_from_inner-returns-in_default-clause-held
+take_from_inner-returns-in_default-clause-held t c =
+    let held = rw c.deref_mut.ensures.value at c.in_default.ensures.held in
+    rw (inner_entries c.args.cover.now c.args.children.now) held
+
+pub take_from_inner-returns-in_default-clause-unchanged : goal.take_from_inner-returns-in_default-clause-unchanged
+take_from_inner-returns-in_default-clause-unchanged t c =
+    λ h. (refl, list_as_it_was c.args.children.now c.take_from_one.new.nodes (c.in_default.ensures.unchanged.0 ∙ c.deref_mut.ensures.value), c.in_default.ensures.unchanged.1)
+
+opened : (t : ℕ) (c : take_from_inner-After-index t) → Opened c.args.cover.now c.args.children.now
 opened t c = open_inner c.args.cover.now c.args.children.now c.requires.lawful
 
-place : (t : ℕ) (c : take_from_inner-After-index_mut t) → IsPlaceAbove c.args.children.now.items c.args.entry.now c.unwrap-place.result
-place t c = rw (c.unwrap-place.ensures, c.deref.ensures.value) at c.place_above.ensures.found
+child : (t : ℕ) (c : take_from_inner-After-index t) →
+    Written c.args.entry.now c.args.children.now (with_items c.args.children.now c.take_from_one.new.nodes) c.take_from_one.new.aside.items c.in-Some.place c.index.result.now
+child t c = written c.args.entry.now c.args.children.now c.deref_mut.result.now c.take_from_one.new.nodes c.take_from_one.new.aside.items c.in-Some.place c.index.result.now c.deref_mut.ensures.value c.in-Some.ensures.taken c.index.ensures
 
-child_lawful : (t : ℕ) (c : take_from_inner-After-index_mut t) → IsLawfulAt (opened t c).level c.index_mut.result.now
-child_lawful t c = child_level c.args.cover.now c.args.children.now (opened t c) c.unwrap-place.result c.index_mut.result.now (place t c).inside c.index_mut.ensures.value
-
-child_level_is : (t : ℕ) (c : take_from_inner-After-index_mut t) → level_of c.index_mut.result.now ≡ (opened t c).level
-child_level_is t c = lawful_level (opened t c).level c.index_mut.result.now (child_lawful t c)
-
-child_enough : (t : ℕ) (c : take_from_inner-After-index_mut t) → FEWEST ≤ size_of c.index_mut.result.now
-child_enough t c = subst (λ n. FEWEST ≤ size_of n) (sym c.index_mut.ensures.value) (All-get_or (λ n. FEWEST ≤ size_of n) c.args.children.now.items c.unwrap-place.result c.index_mut.result.now (place t c).inside (opened t c).inner.enough)
-
-pub take_from_inner-place_above-requires : goal.take_from_inner-place_above-requires
-take_from_inner-place_above-requires t c =
-    let o = open_inner c.args.cover.now c.args.children.now c.requires.lawful in
-    rw c.deref.ensures.value (All-weaker (IsLawfulAt o.level) IsLawful (λ n h. lawful_is o.level n h) c.args.children.now.items o.inner.children)
-
-pub take_from_inner-take_held_out-requires : goal.take_from_inner-take_held_out-requires
-take_from_inner-take_held_out-requires t c =
-    let at = (goal.at.take_from_inner-take_held_out-requires t c).After-index_mut in
-    let held : Contains (entries_of c.index_mut.result.now) c.args.entry.now = subst (λ n. Contains (entries_of n) c.args.entry.now) (sym c.index_mut.ensures.value) ((place t at).below c.index_mut.result.now) in (
-      omega (arith, c.decreases, child_level_is t at, (opened t at).level_is),
-      (lawful_is (opened t at).level _ (child_lawful t at), (omega (arith, child_enough t at), (held, (c.requires.none_aside, omega (arith, c.requires.room, child_level_is t at, (opened t at).level_is))))),
-    )
+child_level_is : (t : ℕ) (c : take_from_inner-After-index t) → level_of (get_or c.args.children.now.items c.in-Some.place c.index.result.now) ≡ (opened t c).level
+child_level_is t c =
+    let before = get_or c.args.children.now.items c.in-Some.place c.index.result.now in
+    lawful_level (opened t c).level before (child_level c.args.cover.now c.args.children.now (opened t c) c.in-Some.place before (child t c).inside (child t c).at)
 
 pub take_from_inner-push_reserved-requires : goal.take_from_inner-push_reserved-requires
 take_from_inner-push_reserved-requires t c =
-    let at = (goal.at.take_from_inner-push_reserved-requires t c).After-index_mut in
-    omega (arith, c.take_held_out.new.aside.ok.0, c.take_held_out.ensures.taken.few, c.take_held_out.ensures.capacity, c.requires.room, child_level_is t at, (opened t at).level_is)
+    let at = (goal.at.take_from_inner-push_reserved-requires t c).After-index in
+    omega (arith, c.take_from_one.new.aside.ok.0, (child t at).taken.few, c.in-Some.ensures.capacity, c.requires.room, child_level_is t at, (opened t at).level_is)
+
+pub take_from_inner-returns-clause-held : goal.take_from_inner-returns-clause-held
+take_from_inner-returns-clause-held t c =
+    let held = rw c.deref_mut.ensures.value at c.in-Some.ensures.held in
+    rw (inner_entries c.args.cover.now c.args.children.now) held
 
 pub take_from_inner-returns-clause-taken : goal.take_from_inner-returns-clause-taken
 take_from_inner-returns-clause-taken t c =
-    let at = (goal.at.take_from_inner-returns-clause-taken t c).After-index_mut in
-    let tight : IsLeastCover (λ n. n.cover) c.if-size-lt-FEWEST.children.items c.cover_all.result = rw c.deref-2.ensures.value at c.cover_all.ensures in
-    let inside = (place t at).inside in
-    let read : c.index.result.now ≡ c.take_held_out.new.node = c.index.ensures ∙ get_or-set_same c.args.children.now.items c.unwrap-place.result c.take_held_out.new.node c.index.result.now inside in
-    let size : c.size.result ≡ size_of c.take_held_out.new.node = c.size.ensures ∙ ap size_of read in
-    elim c.if-size-lt-FEWEST.branch [
-      | take_from_inner-then-size-lt-FEWEST w ↦
-          let child : w.remove-child.result ≡ c.take_held_out.new.node = w.remove-child.ensures.value ∙ get_or-set_same c.args.children.now.items c.unwrap-place.result c.take_held_out.new.node w.remove-child.result inside in
-          rw (w.children-is, w.aside-is, w.push_reserved.ensures.items, child)
-          (child_aside c.args.entry.now c.args.cover.now c.cover_all.result c.args.children.now w.remove-child.new.self (opened t at) c.unwrap-place.result c.index_mut.result.now c.take_held_out.new.node c.take_held_out.new.aside.items inside c.index_mut.ensures.value c.take_held_out.ensures.taken
-          (rw w.children-is at tight)
-          (omega (arith, w.remove-child.ensures.capacity, (opened t at).inner.page.room))
-          w.remove-child.ensures.items w.remove-child.ensures.len (omega (arith, c.requires.two, inner_size c.args.cover.now c.args.children.now)) (omega (arith, w.if-size-lt-FEWEST.true, size)))
-      | take_from_inner-else-size-lt-FEWEST w ↦
-          rw (w.children-is, w.aside-is)
-          (child_kept c.args.entry.now c.args.cover.now c.cover_all.result c.args.children.now _ (opened t at) c.unwrap-place.result c.index_mut.result.now c.take_held_out.new.node c.take_held_out.new.aside.items inside c.index_mut.ensures.value c.take_held_out.ensures.taken
-          (rw w.children-is at tight)
+    let at = (goal.at.take_from_inner-returns-clause-taken t c).After-index in
+    let v = c.args.children.now in
+    let w = with_items v c.take_from_one.new.nodes in
+    let place = c.in-Some.place in
+    let y = c.index.result.now in
+    let x = get_or v.items place y in
+    let aside = c.take_from_one.new.aside.items in
+    let tight : IsLeastCover (λ n. n.cover) c.if-size-lt-FEWEST.children.items c.cover_all.result = rw c.deref.ensures.value at c.cover_all.ensures in
+    let inside : place < length w.items = omega (arith, (child t at).inside, ap length (child t at).items, length-set v.items place y) in
+    λ h. elim c.if-size-lt-FEWEST.branch [
+      | take_from_inner-then-size-lt-FEWEST b ↦
+          let removed : b.remove-child.result ≡ y = b.remove-child.ensures.value ∙ get_or_default w.items place b.remove-child.result y inside ∙ sym c.index.ensures in
+          rw (b.children-is, b.aside-is, b.push_reserved.ensures.items, removed)
+          (child_aside c.args.entry.now c.args.cover.now c.cover_all.result v b.remove-child.new.self (opened t at) place x y aside (child t at).inside (child t at).at (child t at).taken
+          (rw b.children-is at tight)
+          (omega (arith, b.remove-child.ensures.capacity, (opened t at).inner.page.room))
+          (b.remove-child.ensures.items ∙ ap (λ zs. remove zs place) (child t at).items) b.remove-child.ensures.len (omega (arith, c.requires.two, inner_size c.args.cover.now v)) (omega (arith, b.if-size-lt-FEWEST.true, c.size.ensures)))
+      | take_from_inner-else-size-lt-FEWEST b ↦
+          rw (b.children-is, b.aside-is)
+          (child_kept c.args.entry.now c.args.cover.now c.cover_all.result v w (opened t at) place x y aside (child t at).inside (child t at).at (child t at).taken
+          (rw b.children-is at tight)
           (opened t at).inner.page.room
-          refl refl (omega (arith, w.if-size-lt-FEWEST.false, size)))
+          (child t at).items refl (omega (arith, b.if-size-lt-FEWEST.false, c.size.ensures)))
     ]
 
-pub take_from_inner-unwrap-place-requires : goal.take_from_inner-unwrap-place-requires
-take_from_inner-unwrap-place-requires t c =
-    let held : Contains (flat_map entries_of c.args.children.now.items) c.args.entry.now = rw (inner_entries c.args.cover.now c.args.children.now) at c.requires.held in
-    place_is_there c.place_above.result c.deref.result.now c.args.entry.now c.place_above.ensures.none (rw c.deref.ensures.value held)
+pub take_from_one-take_out-requires : goal.take_from_one-take_out-requires
+take_from_one-take_out-requires t c =
+    let x = get_or c.loop-place.nodes c.loop-place.place c.index-nodes-place.result in
+    let same : x ≡ get_or c.args.nodes.now c.loop-place.place c.index-nodes-place.result = ap (λ xs. get_or xs c.loop-place.place c.index-nodes-place.result) c.loop-place.invariant.same in
+    let lt = c.loop-place-test.true in
+    let level = level-le-top c.args.nodes.now c.loop-place.place x lt (same ∙ get_or_default c.args.nodes.now c.loop-place.place c.index-nodes-place.result x lt) in
+    let node = c.index-nodes-place.result in (
+      omega (arith, c.decreases, level),
+      (subst IsLawful (sym same) (c.requires.lawful c.loop-place.place node lt), (subst (λ n. 2 ≤ size_of n) (sym same) (c.requires.two c.loop-place.place node lt), (c.loop-place.invariant.none_aside, omega (arith, ap level_of same, c.requires.room c.loop-place.place node lt, c.loop-place.invariant.capacity)))),
+    )
+
+pub take_from_one-returns-then-take_out-clause-held : goal.take_from_one-returns-then-take_out-clause-held
+take_from_one-returns-then-take_out-clause-held t c =
+    let node = c.index-nodes-place.result in
+    let at : node ≡ get_or c.args.nodes.now c.loop-place.place node = c.index-nodes-place.is ∙ ap (λ xs. get_or xs c.loop-place.place node) c.loop-place.invariant.same in
+    let held : Contains (entries_of node) c.args.entry.now = subst (λ n. Contains (entries_of n) c.args.entry.now) (sym c.index-nodes-place.is) (c.take_out.ensures.held.0 c.if-take_out.true) in
+    (λ h. contains_joined c.args.nodes.now c.args.entry.now c.loop-place.place node c.loop-place-test.true at held, λ h. refl)
+
+pub take_from_one-loop-place-preserved : goal.take_from_one-loop-place-preserved
+take_from_one-loop-place-preserved t c =
+    let i = c.loop-place.invariant in
+    let p = c.loop-place.place in
+    let node = c.index-nodes-place.result in
+    let lt = c.loop-place-test.true in
+    let at : node ≡ get_or c.args.nodes.now p node = c.index-nodes-place.is ∙ ap (λ xs. get_or xs p node) i.same in
+    let lawful : IsLawful node = subst IsLawful (sym at) (c.requires.lawful p node lt) in
+    elim c.else-meets.branch [
+      | take_from_one-else-meets-via-then-meets+else-take_out w ↦
+          let kept = w.take_out.ensures.unchanged w.if-take_out.false in
+          record {
+            same = w.nodes-is ∙ ap (set c.loop-place.nodes p) kept.0 ∙ set-get_or c.loop-place.nodes p node ∙ i.same;
+            none_aside = rw w.aside-is kept.1;
+            capacity = ap vec_capacity w.aside-is ∙ w.take_out.ensures.capacity ∙ i.capacity;
+            none = none_so_far c.args.nodes.now c.args.entry.now p node lt at i.none (λ h. false≢true (sym w.if-take_out.false ∙ w.take_out.ensures.held.1 (subst (λ n. Contains (entries_of n) c.args.entry.now) c.index-nodes-place.is h)));
+          }
+      | take_from_one-else-meets-via-else-meets w ↦ record {
+        same = w.nodes-is ∙ set-get_or c.loop-place.nodes p node ∙ i.same;
+        none_aside = rw w.aside-is i.none_aside;
+        capacity = ap vec_capacity w.aside-is ∙ i.capacity;
+        none = none_so_far c.args.nodes.now c.args.entry.now p node lt at i.none (λ h. false≢true (sym w.if-meets.false ∙ c.meets.ensures.1 (subst (λ n. Meets n.cover c.args.entry.now.shape) c.index-nodes-place.is (cover_meets node c.args.entry.now lawful h))));
+      }
+    ]
+
+pub take_from_one-returns-clause-held : goal.take_from_one-returns-clause-held
+take_from_one-returns-clause-held t c =
+    let none = none_above c.args.nodes.now c.args.entry.now c.loop-place.place c.loop-place.invariant.none (omega (arith, c.loop-place-test.false, ap length c.loop-place.invariant.same)) in
+    (λ h. absurd (false≢true h), λ h. absurd (none h))
