@@ -10,3 +10,4 @@ pub mod TreeLemmas
 pub mod WindowLemmas
 pub mod RemovalLemmas
 pub mod TakeLemmas
+pub mod PackLemmas

@@ -45,7 +45,7 @@ count_none [] = refl
 count_none (x ∷ xs) = omega (arith, count_none xs, is_none_below x.number, sum_by-cons (λ e. cond {A = ℕ} (nat_lt e.number 0) 1 0) x xs)
 
 -- how many numbers lie below n, where none comes twice
-count_below_n : (n : ℕ) (xs : List Entry) → ((k : ℕ) → count_by (has_number k) xs ≤ 1) → count_by (λ e. nat_lt e.number n) xs ≤ n
+pub count_below_n : (n : ℕ) (xs : List Entry) → ((k : ℕ) → count_by (has_number k) xs ≤ 1) → count_by (λ e. nat_lt e.number n) xs ≤ n
 count_below_n zero xs h = omega (arith, count_none xs)
 count_below_n (suc n) xs h = omega (arith, count_suc n xs, count_below_n n xs h, h n)
 
@@ -56,7 +56,7 @@ is_below : (a n : ℕ) → a < n → cond {A = ℕ} (nat_lt a n) 1 0 ≡ 1
 is_below a n h = grind (arith, nat_tests)
 
 -- all are below n where none is n or more
-all_below : (n : ℕ) (xs : List Entry) → ((k : ℕ) → n ≤ k → count_by (has_number k) xs ≡ 0) → count_by (λ e. nat_lt e.number n) xs ≡ length xs
+pub all_below : (n : ℕ) (xs : List Entry) → ((k : ℕ) → n ≤ k → count_by (has_number k) xs ≡ 0) → count_by (λ e. nat_lt e.number n) xs ≡ length xs
 all_below n [] h = refl
 all_below n (x ∷ xs) h =
     let here : x.number < n = elim (cases_lt x.number n) [

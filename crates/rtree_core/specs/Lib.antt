@@ -5,6 +5,7 @@ pub mod Edits
 pub mod Kept
 pub mod Needs
 pub mod Nodes
+pub mod Packed
 pub mod Removals
 pub mod Roots
 pub mod Seeds

@@ -5,6 +5,9 @@ mod condense;
 mod insert;
 pub mod laws;
 mod node;
+mod pack;
+#[cfg(test)]
+mod pack_tests;
 mod remove;
 mod spare;
 #[cfg(test)]

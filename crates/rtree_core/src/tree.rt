@@ -4,6 +4,7 @@ ghost use Rattle.std.specs.Prelude.{◌≡◌, ◌+◌, ◌≤◌, [], ◌∷◌
 
 use crate::insert::insert_at_root;
 use crate::node::{Entry, Node};
+use crate::pack::pack_entries;
 use crate::remove::remove_at_root;
 use crate::spare::Spare;
 use crate::window::collect;
@@ -43,9 +44,10 @@ impl Model for RTree {
 }
 
 impl RTree {
-    ghost use Rattle.std.specs.Prelude.{◌≡◌, ◌↔◌, None, length, IsTrue, IsFalse, Contains, OnOk, OnErr, IfOk, option_copied};
-    ghost use Rattle.rtree_core.specs.Collections.{Gains};
-    ghost use Rattle.rtree_core.specs.Trees.{entries_in, height_of, IsTree, IsFresh};
+    ghost use Rattle.std.specs.Prelude.{◌≡◌, ◌↔◌, ℕ, ◌≤◌, None, count_by, length, IsTrue, IsFalse, Contains, OnOk, OnErr, IfOk, IfSome, option_copied};
+    ghost use Rattle.rtree_core.specs.Collections.{HasSame, Gains};
+    ghost use Rattle.rtree_core.specs.Packed.{IsPacked};
+    ghost use Rattle.rtree_core.specs.Trees.{entries_in, height_of, has_number, IsTree, IsFresh};
     ghost use Rattle.rtree_core.specs.Windows.{AllMet, AllFound};
     ghost use Rattle.std.specs.List.Sorted.{IsStrictlyIncreasing};
 
@@ -60,6 +62,29 @@ impl RTree {
             spare: Spare::new(alloc),
             aside: Vec::new(alloc),
         }
+    }
+
+    /// Packs entries, no two of which have one number, by Sort-Tile-Recursive (Leutenegger, Lopez
+    /// and Edgington 1997).
+    ///
+    /// Each node below the root has 4 to 8 entries or children. An `Err` drops the list.
+    pub fn pack(alloc: Global, entries: Vec<Entry>) -> Result<RTree, AllocError>
+        requires distinct { (k : ℕ) → count_by (has_number k) entries.items ≤ 1 }
+        ensures entries { IfOk result (λ t. HasSame entries.items (entries_in t)) }
+        ensures packed { IfOk result (λ t. IfSome t IsPacked) }
+    {
+        if entries.is_empty() {
+            return Ok(RTree::new(alloc));
+        }
+        let len = entries.len();
+        let (root, height) = pack_entries(alloc, entries)?;
+        Ok(RTree {
+            root: Some(root),
+            height,
+            len,
+            spare: Spare::new(alloc),
+            aside: Vec::new(alloc),
+        })
     }
 
     /// The root, or `None` where the tree is empty.

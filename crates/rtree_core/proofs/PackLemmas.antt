@@ -1,0 +1,349 @@
+-- How a list of items is cut into the nodes of the level above, and what that makes of the whole.
+use Rattle.std.proofs.Common.{arith, ◌≡◌, ℕ, zero, suc, ◌+◌, ◌-◌, ◌*◌, ◌/◌, ◌%◌, ◌^◌, ◌<◌, ◌≤◌, Bool, cond, inl, inr, List, [], ◌∷◌, ◌++◌, map, min, length, refl, sym, ◌∙◌, ap, subst, append_assoc, append-nil, length-append, take, drop, vec_len, vec_capacity}
+use Rattle.std.specs.Prelude.{All, count_by, sum_by}
+use Rattle.std.specs.Int.{div_ceil}
+use Rattle.std.specs.List.{flat_map}
+use Rattle.std.specs.List.Sorted.{IsPermutation}
+use Rattle.std.specs.declared.alloc.Global.{Global}
+use Rattle.std.specs.declared.vec.Vec.{Vec}
+use Rattle.std.proofs.Math.Nat.{mul-le-mul_left}
+use Rattle.std.proofs.lemmas.Bool.{cases_lt}
+use Rattle.std.proofs.lemmas.Bool.Decides.{nat_tests}
+use Rattle.std.proofs.lemmas.List.{flat_map_more, take_all, drop_all}
+use Rattle.std.proofs.lemmas.List.Concat.{flat_map-append, flat_map-cons}
+use Rattle.std.proofs.lemmas.List.Elements.{All-nil, All-head, All-tail, All-push, All-append, All-weaker}
+use Rattle.std.proofs.lemmas.List.Sorted.{All-permutation, IsPermutation-sym, sum_by-IsPermutation, length_permutation}
+use Rattle.std.proofs.lemmas.List.Sums.{sum_by-append, sum_by-cons}
+use Rattle.geom_core.specs.declared.shape.Shape.{Shape}
+use Rattle.rtree_core.specs.declared.laws.TheConstants.{FEWEST, MOST}
+use Rattle.rtree_core.specs.declared.node.Entry.{Entry}
+use Rattle.rtree_core.specs.declared.node.Below.TheVariants.{outs-Children}
+use Rattle.rtree_core.specs.declared.node.Node.{Node}
+use Rattle.rtree_core.specs.Collections.{HasSame}
+use Rattle.rtree_core.specs.Covers.{IsLeastCover}
+use Rattle.rtree_core.specs.Edits.{leaf_node, inner_node}
+use Rattle.rtree_core.specs.Nodes.{entries_of, level_of, size_of, IsPage, IsLawfulAt}
+use Rattle.rtree_core.specs.Packed.{IsPackedAt, IsPacked, entry_alone, entry_fits, has_u32, node_fits, IsNodeList, IsNodeOf, AreNodesOf, IsPackedTree}
+use Rattle.rtree_core.specs.Trees.{has_number}
+use Rattle.rtree_core.proofs.CoverLemmas.{All-front, All-back}
+use Rattle.rtree_core.proofs.NodeLemmas.{lawful_level, lawful_is}
+use Rattle.rtree_core.proofs.TreeLemmas.{all_below, count_below_n}
+use Rattle.rtree_core.proofs.EditLemmas.{leaf_entries, leaf_lawful, leaf_size, inner_entries, inner_size, inner_children}
+
+-- a list whose items were moved through the slice of all of them
+pub through_slice : {T : Type 0} (n : ℕ) (old new : List T) → n ≡ length old → IsPermutation old new → IsPermutation old (take n (new ++ drop (length new) old))
+through_slice n old new e perm =
+    let len : length new ≡ length old = length_permutation old new perm in
+    let none : drop (length new) old ≡ [] = drop_all (length new) old (omega arith) in
+    rw (none, append-nil new, take_all n new (omega arith)) perm
+
+-- the last item of a list of one
+pub only_one : {T : Type 0} (all front : List T) (x : T) → all ≡ front ++ x ∷ [] → length all ≤ 1 → all ≡ x ∷ []
+only_one all [] x e h = e
+only_one all (y ∷ ys) x e h = absurd (omega (arith, ap length e, length-append ys (x ∷ [])))
+
+each_alone : (es : List Entry) → flat_map entry_alone es ≡ es
+each_alone [] = refl
+each_alone (e ∷ es) = ap (λ xs. e ∷ xs) (each_alone es)
+
+leaf_is_lowest : (level : ℕ) (es : List Entry) → 0 < length es → All (entry_fits level) es → level ≡ 0
+leaf_is_lowest level [] some all = absurd (omega arith)
+leaf_is_lowest level (e ∷ es) some all = All-head (entry_fits level) e es all
+
+list_page : {K : Type 0} (cover : K → Shape) (c : Shape) (v : Vec K Global) → IsNodeList v → IsLeastCover cover v.items c → IsPage cover c v
+list_page cover c v list tight = record { some = list.some; few = list.few; room = list.room; tight = tight }
+
+-- the leaf of a list
+pub leaf_made : (c : Shape) (v : Vec Entry Global) → IsNodeList v → IsLeastCover (λ e. e.shape) v.items c → IsNodeOf entry_alone entry_fits v.items (leaf_node c v)
+leaf_made c v list tight =
+    let lowest : (level : ℕ) → All (entry_fits level) v.items → level ≡ 0 = λ level all. leaf_is_lowest level v.items (omega (arith, v.ok.0, list.some)) all in
+    record {
+      size = omega (arith, leaf_size c v, v.ok.0);
+      entries_are = leaf_entries c v ∙ sym (each_alone v.items);
+      lawful = λ level all. subst (λ l. IsLawfulAt l (leaf_node c v)) (sym (lowest level all)) (leaf_lawful c v (list_page (λ e. e.shape) c v list tight));
+      packed = λ level all. subst (λ l. IsPackedAt l (leaf_node c v)) (sym (lowest level all)) tt;
+    }
+
+none_fits : (ns : List Node) → 0 < length ns → All (node_fits 0) ns → ⊥
+none_fits [] some all = omega arith
+none_fits (n ∷ ns) some all = All-head (node_fits 0) n ns all
+
+inner_lawful : (level : ℕ) (c : Shape) (v : Vec Node Global) → IsPage (λ n. n.cover) c v → 0 < length v.items → All (node_fits level) v.items → IsLawfulAt level (inner_node c v)
+inner_lawful zero c v page some all = absurd (none_fits v.items some all)
+inner_lawful (suc level) c v page some all =
+    rw outs-Children (record {
+      page = page;
+      children = All-weaker (node_fits (suc level)) (IsLawfulAt level) (λ n h. h.0) v.items all;
+      enough = All-weaker (node_fits (suc level)) (λ n. FEWEST ≤ size_of n) (λ n h. omega (arith, h.1)) v.items all;
+    })
+
+inner_packed : (level : ℕ) (c : Shape) (v : Vec Node Global) → 0 < length v.items → All (node_fits level) v.items → IsPackedAt level (inner_node c v)
+inner_packed zero c v some all = absurd (none_fits v.items some all)
+inner_packed (suc level) c v some all =
+    rw (inner_children c v)
+    (All-weaker (node_fits (suc level)) (λ n. (4 ≤ size_of n) × IsPackedAt level n) (λ n h. (h.1, h.2)) v.items all)
+
+-- the inner node of a list
+pub inner_made : (c : Shape) (v : Vec Node Global) → IsNodeList v → IsLeastCover (λ n. n.cover) v.items c → IsNodeOf entries_of node_fits v.items (inner_node c v)
+inner_made c v list tight =
+    let some : 0 < length v.items = omega (arith, v.ok.0, list.some) in
+    record {
+      size = omega (arith, inner_size c v, v.ok.0);
+      entries_are = inner_entries c v;
+      lawful = λ level all. inner_lawful level c v (list_page (λ n. n.cover) c v list tight) some all;
+      packed = λ level all. inner_packed level c v some all;
+    }
+
+-- the first pages have no more items than all
+pub first_within : (first pages items : ℕ) → 0 < pages → first ≤ pages → first * (items / pages) + min first (items % pages) ≤ items
+first_within first pages items some h = omega (arith, mul-le-mul_left (items / pages) h)
+
+-- a number whose square is as large as a number above 0 is above 0
+pub root_some : (m n : ℕ) → n ≤ m * m → 0 < n → 0 < m
+root_some zero n h some = absurd (omega arith)
+root_some (suc m) n h some = omega arith
+
+-- how many of some items the first page has, where so many others follow
+pub record IsShare (size others items : ℕ) : Type 0 where
+  pub most : (m : ℕ) → items ≤ m * (others + 1) → size ≤ m
+  pub least : (m : ℕ) → m * (others + 1) ≤ items → m ≤ size
+  pub leaves_few : (m : ℕ) → items ≤ m * (others + 1) → items ≤ m * others + size
+  pub leaves_many : (m : ℕ) → m * (others + 1) ≤ items → m * others + size ≤ items
+
+-- the shares of equal pages, with one more in the foremost
+share_most : (q r o m : ℕ) → r < o + 1 → (o + 1) * q + r ≤ m * (o + 1) → q + min 1 r ≤ m
+share_most q r o m lt h =
+    elim (cases_lt m q) [
+      | inl more ↦ let wide : m + 1 ≤ q = omega arith in absurd (omega (arith, mul-le-mul_left (o + 1) wide))
+      | inr less ↦ elim (cases_lt q m) [
+        | inl below ↦ omega arith
+        | inr up ↦ let same : q ≡ m = omega arith in omega (arith, mul-le-mul_left (o + 1) up)
+      ]
+    ]
+
+share_least : (q r o m : ℕ) → r < o + 1 → m * (o + 1) ≤ (o + 1) * q + r → m ≤ q
+share_least q r o m lt h =
+    elim (cases_lt q m) [
+      | inl more ↦ let wide : q + 1 ≤ m = omega arith in absurd (omega (arith, mul-le-mul_left (o + 1) wide))
+      | inr less ↦ less
+    ]
+
+share_few : (q r o m : ℕ) → r < o + 1 → (o + 1) * q + r ≤ m * (o + 1) → (o + 1) * q + r ≤ m * o + (q + min 1 r)
+share_few q r o m lt h =
+    elim (cases_lt q m) [
+      | inl below ↦ let wide : q + 1 ≤ m = omega arith in omega (arith, mul-le-mul_left o wide)
+      | inr up ↦ let wide : m ≤ q = up in omega (arith, share_most q r o m lt h, mul-le-mul_left o (share_most q r o m lt h))
+    ]
+
+share_many : (q r o m : ℕ) → r < o + 1 → m * (o + 1) ≤ (o + 1) * q + r → m * o + (q + min 1 r) ≤ (o + 1) * q + r
+share_many q r o m lt h = omega (arith, mul-le-mul_left o (share_least q r o m lt h))
+
+pub share_of : (size others pages items : ℕ) → pages ≡ others + 1 → size ≡ 1 * (items / pages) + min 1 (items % pages) → IsShare size others items
+share_of size others pages items e is =
+    let q = items / pages in
+    let r = items % pages in
+    let lt : r < others + 1 = omega arith in
+    let whole : items ≡ (others + 1) * q + r = rw (← e) (omega arith) in
+    let size_is : size ≡ q + min 1 r = omega arith in
+    record {
+      most = λ m h. rw size_is (share_most q r others m lt (rw whole at h));
+      least = λ m h. omega (arith, share_least q r others m lt (omega arith));
+      leaves_few = λ m h. omega (arith, share_few q r others m lt (omega arith));
+      leaves_many = λ m h. omega (arith, share_many q r others m lt (omega arith));
+    }
+
+-- the share of the page at a place
+pub share_at : (pages place len items size : ℕ) → place < pages → len ≡ items → size ≡ 1 * (len / (pages - place)) + min 1 (len % (pages - place)) → IsShare size (pages - (place + 1)) items
+share_at pages place len items size lt e is = share_of size (pages - (place + 1)) (pages - place) items (omega arith) (rw e at is)
+
+-- the first so many of some pages were cut from the items as these nodes, and the rest is left
+pub record IsCut {K : Type 0} (entries : K → List Entry) (fits : ℕ → K → Type 0) (InRange : K → Type 0) (items : List K) (pages place : ℕ) (nodes : List Node) (rest : List K) : Type 0 where
+  pub joined : flat_map entries items ≡ flat_map entries_of nodes ++ flat_map entries rest
+  pub count : length nodes ≡ place
+  pub few : length rest ≤ MOST * (pages - place)
+  pub many : (m : ℕ) → m * pages ≤ length items → m * (pages - place) ≤ length rest
+  pub big : (m : ℕ) → m * pages ≤ length items → All (λ n. m ≤ size_of n) nodes
+  pub fit : (level : ℕ) → All (fits level) items → All (fits level) rest
+  pub lawful : (level : ℕ) → All (fits level) items → All (IsLawfulAt level) nodes
+  pub packed : (level : ℕ) → All (fits level) items → All (IsPackedAt level) nodes
+  pub in_range : All InRange rest → All InRange items
+
+nothing : {T : Type 0} (xs : List T) → length xs ≡ 0 → xs ≡ []
+nothing [] h = refl
+nothing (x ∷ xs) h = absurd (omega arith)
+
+module _ {K : Type 0} (entries : K → List Entry) (fits : ℕ → K → Type 0) (InRange : K → Type 0) where
+  pub cut_none : (items : List K) (pages : ℕ) → length items ≤ MOST * pages → IsCut entries fits InRange items pages 0 [] items
+  cut_none items pages h = let all : pages - 0 ≡ pages = omega arith in record {
+    joined = refl;
+    count = refl;
+    few = rw all h;
+    many = λ m k. rw all k;
+    big = λ m k. All-nil (λ n. m ≤ size_of n);
+    fit = λ level all. all;
+    lawful = λ level all. All-nil (IsLawfulAt level);
+    packed = λ level all. All-nil (IsPackedAt level);
+    in_range = λ all. all;
+  }
+
+  -- the next page has an item, and no more than the most
+  pub share_some : (items : List K) (pages place : ℕ) (nodes : List Node) (rest : List K) (size : ℕ) →
+      place < pages →
+      pages ≤ length items →
+      IsCut entries fits InRange items pages place nodes rest →
+      IsShare size (pages - (place + 1)) (length rest) →
+      0 < size
+  share_some items pages place nodes rest size lt enough cut share = omega (arith, share.least 1 (omega (arith, cut.many 1 (omega arith))))
+
+  pub share_fits : (items : List K) (pages place : ℕ) (nodes : List Node) (rest : List K) (size : ℕ) →
+      place < pages →
+      IsCut entries fits InRange items pages place nodes rest →
+      IsShare size (pages - (place + 1)) (length rest) →
+      size ≤ MOST
+  share_fits items pages place nodes rest size lt cut share = share.most MOST (omega (arith, cut.few))
+
+  pub cut_more : (items : List K) (pages place : ℕ) (nodes : List Node) (rest page left : List K) (n : Node) →
+      place < pages →
+      IsCut entries fits InRange items pages place nodes rest →
+      rest ≡ page ++ left →
+      IsShare (length page) (pages - (place + 1)) (length rest) →
+      IsNodeOf entries fits page n →
+      All InRange page →
+      IsCut entries fits InRange items pages (place + 1) (nodes ++ n ∷ []) left
+  cut_more items pages place nodes rest page left n lt cut e share node known =
+      let others = pages - (place + 1) in
+      let pages_left : pages - place ≡ others + 1 = omega arith in
+      let few : length rest ≤ MOST * (others + 1) = rw pages_left at cut.few in
+      let len : length rest ≡ length page + length left = ap length e ∙ length-append page left in
+      record {
+        joined =
+            cut.joined
+            ∙ ap (λ xs. flat_map entries_of nodes ++ flat_map entries xs) e
+            ∙ ap (λ xs. flat_map entries_of nodes ++ xs) (flat_map-append entries page left)
+            ∙ sym (append_assoc (flat_map entries_of nodes) (flat_map entries page) (flat_map entries left))
+            ∙ ap (λ xs. xs ++ flat_map entries left) (ap (λ xs. flat_map entries_of nodes ++ xs) (sym (node.entries_are)) ∙ flat_map_more entries_of [] nodes n);
+        count = omega (arith, cut.count, length-append nodes (n ∷ []));
+        few = omega (arith, share.leaves_few MOST few, len);
+        many = λ m h. let many : m * (others + 1) ≤ length rest = rw pages_left at (cut.many m h) in omega (arith, share.leaves_many m many, len);
+        big = λ m h.
+            let many : m * (others + 1) ≤ length rest = rw pages_left at (cut.many m h) in
+            All-push (λ k. m ≤ size_of k) nodes n (cut.big m h) (omega (arith, share.least m many, node.size));
+        fit = λ level all. All-back (fits level) page left (rw e at (cut.fit level all));
+        lawful = λ level all. All-push (IsLawfulAt level) nodes n (cut.lawful level all) (node.lawful level (All-front (fits level) page left (rw e at (cut.fit level all))));
+        packed = λ level all. All-push (IsPackedAt level) nodes n (cut.packed level all) (node.packed level (All-front (fits level) page left (rw e at (cut.fit level all))));
+        in_range = λ all. cut.in_range (rw e (All-append InRange page left known all));
+      }
+
+  count_each : (p : Entry → Bool) (xs : List K) → count_by p (flat_map entries xs) ≡ sum_by (λ x. count_by p (entries x)) xs
+  count_each p [] = refl
+  count_each p (x ∷ xs) =
+      omega (arith, sum_by-append (λ y. cond (p y) 1 0) (entries x) (flat_map entries xs), count_each p xs, sum_by-cons (λ y. count_by p (entries y)) x xs)
+
+  -- all pages were cut from the items, which were sorted before
+  pub cut_all : (unsorted items : List K) (pages : ℕ) (nodes : List Node) (rest : List K) →
+      IsPermutation unsorted items →
+      pages ≡ div_ceil (length unsorted) MOST →
+      IsCut entries fits InRange items pages pages nodes rest →
+      AreNodesOf entries fits unsorted nodes
+  cut_all unsorted items pages nodes rest perm e cut =
+      let len : length items ≡ length unsorted = length_permutation unsorted items perm in
+      let none : rest ≡ [] = nothing rest (omega (arith, cut.few)) in
+      let all : flat_map entries items ≡ flat_map entries_of nodes = cut.joined ∙ rw none (append-nil (flat_map entries_of nodes)) in
+      record {
+        same = λ p. count_each p unsorted ∙ sym (sum_by-IsPermutation (λ x. count_by p (entries x)) unsorted items perm) ∙ sym (count_each p items) ∙ ap (count_by p) all;
+        count = cut.count ∙ e;
+        two = λ h. cut.big 2 (omega arith);
+        four = λ h. cut.big 4 (omega (arith, cut.count));
+        lawful = λ level h. cut.lawful level (All-permutation (fits level) unsorted items perm h);
+        packed = λ level h. cut.packed level (All-permutation (fits level) unsorted items perm h);
+      }
+
+  pub cut_in_range : (unsorted items : List K) (pages : ℕ) (nodes : List Node) (rest : List K) →
+      IsPermutation unsorted items →
+      IsCut entries fits InRange items pages pages nodes rest →
+      All InRange unsorted
+  cut_in_range unsorted items pages nodes rest perm cut =
+      let none : rest ≡ [] = nothing rest (omega (arith, cut.few)) in
+      All-permutation InRange items unsorted (IsPermutation-sym unsorted items perm) (cut.in_range (rw none (All-nil InRange)))
+
+-- all nodes of a level of the tree, with the height of the tree up to it
+pub record IsRow (all : List Entry) (nodes : List Node) (height : ℕ) : Type 0 where
+  pub level : ℕ
+  pub height_is : height ≡ level + 1
+  pub some : 0 < length nodes
+  pub same : HasSame all (flat_map entries_of nodes)
+  pub lawful : All (IsLawfulAt level) nodes
+  pub packed : All (IsPackedAt level) nodes
+  pub two : 0 < level → All (λ n. 2 ≤ size_of n) nodes
+  pub four : 2 ≤ length nodes → All (λ n. 4 ≤ size_of n) nodes
+
+pub row_first : (all : List Entry) (nodes : List Node) → 0 < length all → AreNodesOf entry_alone entry_fits all nodes → IsRow all nodes 1
+row_first all nodes some made = record {
+  level = 0;
+  height_is = refl;
+  some = omega (arith, made.count);
+  same = rw (each_alone all) at made.same;
+  lawful = made.lawful 0 (λ k d lt. refl);
+  packed = made.packed 0 (λ k d lt. refl);
+  two = λ h. absurd (omega arith);
+  four = made.four;
+}
+
+row_fits : (all : List Entry) (nodes : List Node) (height : ℕ) (row : IsRow all nodes height) → 2 ≤ length nodes → All (node_fits (suc row.level)) nodes
+row_fits all nodes height row many k d lt = (row.lawful k d lt, row.four many k d lt, row.packed k d lt)
+
+pub row_next : (all : List Entry) (nodes above : List Node) (height : ℕ) →
+    2 ≤ length nodes →
+    IsRow all nodes height →
+    AreNodesOf entries_of node_fits nodes above →
+    IsRow all above (height + 1)
+row_next all nodes above height many row made = record {
+  level = suc row.level;
+  height_is = omega (arith, row.height_is);
+  some = omega (arith, made.count);
+  same = λ p. row.same p ∙ made.same p;
+  lawful = made.lawful (suc row.level) (row_fits all nodes height row many);
+  packed = made.packed (suc row.level) (row_fits all nodes height row many);
+  two = λ h. made.two many;
+  four = made.four;
+}
+
+-- there are fewer nodes on the level above
+pub fewer_above : (nodes above : List Node) → 2 ≤ length nodes → AreNodesOf entries_of node_fits nodes above → length above < length nodes
+fewer_above nodes above many made = omega (arith, made.count)
+
+other_number : (e : Entry) (k : ℕ) → e.number < 2 ^ 32 → 2 ^ 32 ≤ k → cond {A = ℕ} (has_number k e) 1 0 ≡ 0
+other_number e k small large = grind (arith, nat_tests)
+
+-- no number has more than 32 bits
+none_beyond : (k : ℕ) (all : List Entry) → 2 ^ 32 ≤ k → All has_u32 all → count_by (has_number k) all ≡ 0
+none_beyond k [] large small = refl
+none_beyond k (e ∷ es) large small =
+    omega (arith, none_beyond k es large (All-tail has_u32 e es small), other_number e k (All-head has_u32 e es small) large, sum_by-cons (λ x. cond {A = ℕ} (has_number k x) 1 0) e es)
+
+-- there are no more entries than numbers
+pub few_entries : (all : List Entry) → ((k : ℕ) → count_by (has_number k) all ≤ 1) → All has_u32 all → length all ≤ 2 ^ 32
+few_entries all distinct small = omega (arith, all_below (2 ^ 32) all (λ k large. none_beyond k all large small), count_below_n (2 ^ 32) all distinct)
+
+pub row_root : (all : List Entry) (n : Node) (height : ℕ) →
+    ((k : ℕ) → count_by (has_number k) all ≤ 1) →
+    All has_u32 all →
+    IsRow all (n ∷ []) height →
+    IsPackedTree all n height
+row_root all n height distinct small row =
+    let lawful : IsLawfulAt row.level n = All-head (IsLawfulAt row.level) n [] row.lawful in
+    let level = lawful_level row.level n lawful in
+    let same : HasSame all (entries_of n) = rw (append-nil (entries_of n)) at row.same in
+    record {
+      same = same;
+      tree = record {
+        lawful = record {
+          lawful = lawful_is row.level n lawful;
+          two = λ h. All-head (λ m. 2 ≤ size_of m) n [] (row.two (omega arith));
+        };
+        distinct = λ k. omega (arith, distinct k, same (has_number k));
+        in_range = λ k large. omega (arith, none_beyond k all large small, same (has_number k));
+      };
+      packed = subst (λ l. IsPackedAt l n) (sym level) (All-head (IsPackedAt row.level) n [] row.packed);
+      height_is = omega (arith, row.height_is, level);
+    }

@@ -1,0 +1,236 @@
+//! Packing by Sort-Tile-Recursive: a tree made from all its entries at once.
+
+ghost use Rattle.std.specs.Prelude.{◌≡◌, ℕ, ◌+◌, ◌*◌, ◌/◌, ◌%◌, ◌<◌, ◌≤◌, ◌++◌, map, length, vec_len, vec_capacity, min, count_by, All, IfOk, OnOk};
+ghost use Rattle.std.specs.List.Sorted.{IsPermutation};
+ghost use Rattle.std.specs.Vec.Iter.{into_iter_items, into_iter_len};
+ghost use Rattle.rtree_core.specs.Packed.{AreNodesOf, IsPackedTree};
+ghost use Rattle.rtree_core.specs.Trees.{has_number};
+
+use crate::laws::{Covered, MOST};
+use crate::node::{Below, Entry, Node, cover_all};
+use geom_core::Shape;
+use std::alloc::{AllocError, Global};
+use std::vec::IntoIter;
+
+/// What the nodes of a level hold: entries, or the nodes of the level below.
+pub(crate) trait Packable: Covered + Drop {
+    ghost use Rattle.std.specs.Prelude.{◌≡◌, ℕ, List};
+    ghost use Rattle.rtree_core.specs.declared.node.Entry.{Entry};
+    ghost use Rattle.rtree_core.specs.Packed.{IsNodeList, IsNodeOf};
+
+    /// What a node keeps of it.
+    type Kept;
+
+    ghost kept: { Self → Self.Kept };
+
+    ghost entries: { Self.Kept → List Entry };
+
+    ghost fits: { ℕ → Self.Kept → Type 0 };
+
+    ghost in_range: { Self.Kept → Type 0 };
+
+    /// Its rank among those of the same centre.
+    fn rank(&self) -> usize;
+
+    /// Drops what only the sorts read.
+    fn keep(self) -> Self::Kept
+        ensures kept { result ≡ kept self }
+        ensures in_range { in_range (kept self) };
+
+    /// The node of a list.
+    fn node(page: Vec<Self::Kept>) -> Node
+        requires { IsNodeList page }
+        ensures { IsNodeOf entries fits page.items result };
+}
+
+impl Packable for Entry {
+    ghost use Rattle.rtree_core.specs.Packed.{entry_alone, entry_fits, has_u32, IsNodeList, IsNodeOf};
+
+    type Kept = Entry;
+
+    ghost kept = { λ e. e };
+
+    ghost entries = { entry_alone };
+
+    ghost fits = { entry_fits };
+
+    ghost in_range = { has_u32 };
+
+    #[inline(always)]
+    fn rank(&self) -> usize {
+        self.number as usize
+    }
+
+    #[inline(always)]
+    fn keep(self) -> Entry {
+        self
+    }
+
+    fn node(page: Vec<Entry>) -> Node
+        requires { IsNodeList page }
+        ensures { IsNodeOf entry_alone entry_fits page.items result }
+    {
+        Node {
+            cover: cover_all(&page),
+            below: Below::Entries(page),
+        }
+    }
+}
+
+/// A node with its place in the list of its level.
+#[derive(Drop)]
+pub(crate) struct Placed {
+    node: Node,
+    place: usize,
+}
+
+impl Covered for Placed {
+    ghost cover = { λ p. p.node.cover };
+
+    #[inline(always)]
+    fn cover(&self) -> Shape {
+        self.node.cover
+    }
+}
+
+impl Packable for Placed {
+    ghost use Rattle.rtree_core.specs.Nodes.{entries_of};
+    ghost use Rattle.rtree_core.specs.Packed.{node_fits, IsNodeList, IsNodeOf};
+
+    type Kept = Node;
+
+    ghost kept = { λ p. p.node };
+
+    ghost entries = { entries_of };
+
+    ghost fits = { node_fits };
+
+    ghost in_range = { λ _. Unit {0} };
+
+    #[inline(always)]
+    fn rank(&self) -> usize {
+        self.place
+    }
+
+    #[inline(always)]
+    fn keep(self) -> Node {
+        self.node
+    }
+
+    fn node(page: Vec<Node>) -> Node
+        requires { IsNodeList page }
+        ensures { IsNodeOf entries_of node_fits page.items result }
+    {
+        Node {
+            cover: cover_all(&page),
+            below: Below::Children(page),
+        }
+    }
+}
+
+/// Twice the centre of a shape along the first axis.
+#[inline(always)]
+fn twice_x(shape: &Shape) -> i64 {
+    shape.x1() + shape.x2()
+}
+
+/// Twice the centre of a shape along the second axis.
+#[inline(always)]
+fn twice_y(shape: &Shape) -> i64 {
+    shape.y1() + shape.y2()
+}
+
+/// The least number whose square is no less.
+fn ceil_sqrt(n: usize) -> usize
+    ensures square { n ≤ result * result }
+    ensures least { (k : ℕ) → n ≤ k * k → result ≤ k }
+{
+    let root = n.isqrt();
+    if root * root < n { root + 1 } else { root }
+}
+
+/// How many items the first of some pages have: as many in each, or one more in the foremost.
+fn items_in(first: usize, pages: usize, items: usize) -> usize
+    requires some { 0 < pages }
+    requires first { first ≤ pages }
+    ensures value { result ≡ first * (items / pages) + min first (items % pages) }
+    ensures within { result ≤ items }
+{
+    first * (items / pages) + first.min(items % pages)
+}
+
+/// Sorts the items of a level into the order of their pages.
+fn tile<T: Packable>(items: &mut [T], pages: usize)
+    ensures { IsPermutation items.old items.new }
+{
+    items.sort_unstable_by_key(|item| (twice_x(&item.cover()), item.rank()));
+    let most = ceil_sqrt(pages);
+    let mut start = 0;
+    let mut left = pages;
+    while left > 0 {
+        let slice = most.min(left);
+        let end = start + items_in(slice, left, items.len() - start);
+        items[start..end].sort_unstable_by_key(|item| (twice_y(&item.cover()), item.rank()));
+        start = end;
+        left -= slice;
+    }
+}
+
+/// Takes the first so many items into a list, with room for one more than the most.
+fn next_page<T: Packable>(
+    alloc: Global,
+    items: &mut IntoIter<T, Global>,
+    size: usize,
+) -> Result<Vec<T::Kept>, AllocError>
+    requires enough { size ≤ into_iter_len items.old }
+    requires few { size ≤ MOST }
+    ensures taken { IfOk result (λ v. map T.kept (into_iter_items items.old) ≡ v.items ++ map T.kept (into_iter_items items.new)) }
+    ensures len { IfOk result (λ v. vec_len v ≡ size) }
+    ensures room { IfOk result (λ v. MOST + 1 ≤ vec_capacity v) }
+    ensures rest { OnOk result (into_iter_len items.new + size ≡ into_iter_len items.old) }
+    ensures in_range { IfOk result (λ v. All T.in_range v.items) }
+{
+    let mut page = Vec::with_capacity(alloc, MOST + 1)?;
+    for _ in 0..size {
+        if let Some(item) = items.next() {
+            page.push_reserved(item.keep());
+        }
+    }
+    Ok(page)
+}
+
+/// The nodes of a level, given what they hold.
+fn level<T: Packable>(alloc: Global, mut items: Vec<T>) -> Result<Vec<Placed>, AllocError>
+    ensures nodes { IfOk result (λ v. AreNodesOf T.entries T.fits (map T.kept items.items) (map (λ p. p.node) v.items)) }
+    ensures in_range { OnOk result (All T.in_range (map T.kept items.items)) }
+{
+    let pages = items.len().div_ceil(MOST);
+    tile(&mut items, pages);
+    let mut rest = items.into_iter();
+    let mut nodes = Vec::with_capacity(alloc, pages)?;
+    for place in 0..pages {
+        let size = items_in(1, pages - place, rest.len());
+        let page = next_page(alloc, &mut rest, size)?;
+        let node = T::node(page);
+        nodes.push_reserved(Placed { node, place });
+    }
+    Ok(nodes)
+}
+
+/// The root of the packed tree of some entries, and its height.
+pub(crate) fn pack_entries(alloc: Global, entries: Vec<Entry>) -> Result<(Node, u32), AllocError>
+    requires some { 0 < vec_len entries }
+    requires distinct { (k : ℕ) → count_by (has_number k) entries.items ≤ 1 }
+    ensures { IfOk result (λ r. IsPackedTree entries.items r.0 r.1) }
+{
+    let mut nodes = level(alloc, entries)?;
+    let mut height = 1;
+    while nodes.len() > 1 {
+        nodes = level(alloc, nodes)?;
+        height += 1;
+    }
+    match nodes.pop() {
+        Some(root) => Ok((root.keep(), height)),
+        None => unreachable!(),
+    }
+}
