@@ -1,6 +1,7 @@
 pub mod Areas
 pub mod ChoiceLemmas
 pub mod NodeLemmas
+pub mod NumberLemmas
 pub mod SeedLemmas
 pub mod SplitLemmas
 pub mod CoverLemmas

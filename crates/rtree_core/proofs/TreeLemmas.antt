@@ -114,10 +114,10 @@ pub tree_height : (root : Option Node) → IsTree root → height_of root ≤ 32
 tree_height None h = omega arith
 tree_height (Some n) h = omega (arith, level_below (level_of n) n refl h.lawful.lawful h.lawful.two (tree_length (Some n) h))
 
-not_that : (x : Entry) (k : ℕ) → x.number ≢ k → cond {A = ℕ} (has_number k x) 1 0 ≡ 0
+pub not_that : (x : Entry) (k : ℕ) → x.number ≢ k → cond {A = ℕ} (has_number k x) 1 0 ≡ 0
 not_that x k h = grind (arith, nat_tests)
 
-at_most_one : (x : Entry) (k : ℕ) → cond {A = ℕ} (has_number k x) 1 0 ≤ 1
+pub at_most_one : (x : Entry) (k : ℕ) → cond {A = ℕ} (has_number k x) 1 0 ≤ 1
 at_most_one x k = grind (arith, nat_tests)
 
 -- an entry whose number is fresh leaves the tree lawful

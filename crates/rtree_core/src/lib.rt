@@ -1,4 +1,4 @@
-//! Guttman's R-tree over shapes: insertion with the quadratic split, and windows.
+//! Guttman's R-tree over shapes: insertion with the quadratic split, removal, packing and windows.
 #![tactic(auto)]
 
 mod condense;
@@ -6,8 +6,6 @@ mod insert;
 pub mod laws;
 mod node;
 mod pack;
-#[cfg(test)]
-mod pack_tests;
 mod remove;
 mod spare;
 #[cfg(test)]

@@ -1,9 +1,9 @@
-//! The worked rows of packing.
+//! Rows of packing.
 
-ghost use Rattle.std.specs.Prelude.{ℕ, ◌≤◌, IfOk, count_by};
-ghost use Rattle.rtree_core.specs.Trees.{has_number};
+ghost use Rattle.std.specs.Prelude.{◌≡◌, IfOk, vec_len};
 
-use crate::{Entry, Node, RTree};
+use super::{has_leaves, numbered, point, points};
+use crate::RTree;
 use geom_core::Shape;
 use std::alloc::{AllocError, Global};
 use std::process::Abort;
@@ -16,54 +16,25 @@ const TWENTY: [&[u32]; 3] = [
     &[14, 15, 16, 17, 18, 19],
 ];
 
-/// So many points (0, 0), (1, 0) and on, or where `falls` those that fall to (count - 1, 0).
-fn points(alloc: Global, count: u32, falls: bool) -> Result<Vec<Entry>, AllocError>
-    ensures { IfOk result (λ v. (k : ℕ) → count_by (has_number k) v.items ≤ 1) }
+/// The packed tree of so many points (0, 0), (1, 0) and on.
+pub(super) fn packed_points(alloc: Global, count: u8) -> Result<RTree, AllocError> {
+    RTree::pack(alloc, numbered(alloc, &points(alloc, count)?)?)
+}
+
+/// The points (0, 19), (1, 18) and on to (19, 0).
+fn diagonal(alloc: Global) -> Result<Vec<Shape>, AllocError>
+    ensures { IfOk result (λ v. vec_len v ≡ 20) }
 {
-    let mut entries = Vec::new(alloc);
-    for number in 0..count {
-        let x = i64::from(number);
-        let y = if falls {
-            i64::from(count - 1 - number)
-        } else {
-            0
-        };
-        if let Some(shape) = Shape::new(x, y, x, y) {
-            entries.push(Entry { shape, number })?;
-        }
+    let mut points = Vec::new(alloc);
+    for x in 0..20u8 {
+        points.push(point(x, 19 - x))?;
     }
-    Ok(entries)
-}
-
-/// Whether a leaf has these numbers, in this order.
-fn has_numbers(node: &Node, numbers: &[u32]) -> bool {
-    node.is_leaf()
-        && node
-            .entries()
-            .iter()
-            .map(|e| e.number)
-            .eq(numbers.iter().copied())
-}
-
-/// Whether a tree of two levels has these leaves, in this order.
-fn has_leaves(tree: &RTree, leaves: &[&[u32]]) -> bool {
-    match tree.root() {
-        None => false,
-        Some(root) => {
-            !root.is_leaf()
-                && root.children().len() == leaves.len()
-                && root
-                    .children()
-                    .iter()
-                    .zip(leaves)
-                    .all(|(node, numbers)| has_numbers(node, numbers))
-        }
-    }
+    Ok(points)
 }
 
 #[test]
 fn packed_twenty(rt: HostRuntime) -> Result<(), Fail> {
-    let tree = RTree::pack(rt.alloc(), points(rt.alloc(), 20, false)?)?;
+    let tree = packed_points(rt.alloc(), 20)?;
     assert!(rt; has_leaves(&tree, &TWENTY));
     assert_eq!(rt; tree.height(), 2);
     assert_eq!(rt; tree.len(), 20);
@@ -74,7 +45,7 @@ fn packed_twenty(rt: HostRuntime) -> Result<(), Fail> {
     );
     let window = Shape::new(20, 0, 21, 5).ok_or("a window")?;
     assert!(rt; tree.window(rt.alloc(), &window)?.is_empty());
-    let tree = RTree::pack(rt.alloc(), points(rt.alloc(), 9, false)?)?;
+    let tree = packed_points(rt.alloc(), 9)?;
     assert!(rt; has_leaves(&tree, &[&[0, 1, 2, 3, 4], &[5, 6, 7, 8]]));
     let tree = RTree::pack(rt.alloc(), Vec::new(rt.alloc()))?;
     assert!(rt; tree.is_empty());
@@ -90,10 +61,11 @@ fn packed_diagonal(rt: HostRuntime) -> Result<(), Fail> {
         &[13, 12, 11, 10, 9, 8, 7],
         &[6, 5, 4, 3, 2, 1, 0],
     ];
-    let ascending = points(rt.alloc(), 20, true)?;
+    let shapes = diagonal(rt.alloc())?;
+    let ascending = numbered(rt.alloc(), &shapes)?;
     let tree = RTree::pack(rt.alloc(), ascending)?;
     assert!(rt; has_leaves(&tree, &leaves));
-    let mut descending = points(rt.alloc(), 20, true)?;
+    let mut descending = numbered(rt.alloc(), &shapes)?;
     descending.reverse();
     let tree = RTree::pack(rt.alloc(), descending)?;
     assert!(rt; has_leaves(&tree, &leaves));
@@ -103,10 +75,8 @@ fn packed_diagonal(rt: HostRuntime) -> Result<(), Fail> {
 /// Packs the twenty points, again where memory was refused.
 fn pack_at_last(alloc: Global) -> Result<RTree, Fail> {
     for _ in 0..10 {
-        if let Ok(entries) = points(alloc, 20, false) {
-            if let Ok(tree) = RTree::pack(alloc, entries) {
-                return Ok(tree);
-            }
+        if let Ok(tree) = packed_points(alloc, 20) {
+            return Ok(tree);
         }
     }
     Err(Fail::new("no memory"))

@@ -1,7 +1,0 @@
-use Rattle.std.proofs.Common.{arith}
-use Rattle.rtree_core.proofs.TreeLemmas.{fresh_after}
-use Rattle.rtree_core.proofs.tests.nine_points_refused.Goals as goal
-
-pub loop-number-preserved : goal.loop-number-preserved
-loop-number-preserved g c = λ k h.
-    fresh_after _ c.loop-number.tree c.insert_at_last.new.tree k (rw c.if-not-insert_at_last.false at c.insert_at_last.ensures.done) (λ e. omega arith) (c.loop-number.invariant k (omega arith))
