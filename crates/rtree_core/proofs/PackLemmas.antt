@@ -1,5 +1,5 @@
 -- How a list of items is cut into the nodes of the level above, and what that makes of the whole.
-use Rattle.std.proofs.Common.{arith, ◌≡◌, ℕ, zero, suc, ◌+◌, ◌-◌, ◌*◌, ◌/◌, ◌%◌, ◌^◌, ◌<◌, ◌≤◌, Bool, cond, inl, inr, List, [], ◌∷◌, ◌++◌, map, min, length, refl, sym, ◌∙◌, ap, subst, append_assoc, append-nil, length-append, take, drop, vec_len, vec_capacity}
+use Rattle.std.proofs.Common.{arith, ◌≡◌, ℕ, zero, suc, ◌+◌, ◌-◌, ◌*◌, ◌/◌, ◌%◌, ◌^◌, ◌<◌, ◌≤◌, Bool, cond, inl, inr, List, [], ◌∷◌, ◌++◌, min, length, refl, sym, ◌∙◌, ap, subst, append_assoc, append-nil, length-append, take, drop}
 use Rattle.std.specs.Prelude.{All, count_by, sum_by}
 use Rattle.std.specs.Int.{div_ceil}
 use Rattle.std.specs.List.{flat_map}
@@ -10,7 +10,7 @@ use Rattle.std.proofs.Math.Nat.{mul-le-mul_left}
 use Rattle.std.proofs.lemmas.Bool.{cases_lt}
 use Rattle.std.proofs.lemmas.Bool.Decides.{nat_tests}
 use Rattle.std.proofs.lemmas.List.{flat_map_more, take_all, drop_all}
-use Rattle.std.proofs.lemmas.List.Concat.{flat_map-append, flat_map-cons}
+use Rattle.std.proofs.lemmas.List.Concat.{flat_map-append}
 use Rattle.std.proofs.lemmas.List.Elements.{All-nil, All-head, All-tail, All-push, All-append, All-weaker}
 use Rattle.std.proofs.lemmas.List.Sorted.{All-permutation, IsPermutation-sym, sum_by-IsPermutation, length_permutation}
 use Rattle.std.proofs.lemmas.List.Sums.{sum_by-append, sum_by-cons}
@@ -22,8 +22,8 @@ use Rattle.rtree_core.specs.declared.node.Node.{Node}
 use Rattle.rtree_core.specs.Collections.{HasSame}
 use Rattle.rtree_core.specs.Covers.{IsLeastCover}
 use Rattle.rtree_core.specs.Edits.{leaf_node, inner_node}
-use Rattle.rtree_core.specs.Nodes.{entries_of, level_of, size_of, IsPage, IsLawfulAt}
-use Rattle.rtree_core.specs.Packed.{IsPackedAt, IsPacked, entry_alone, entry_fits, has_u32, node_fits, IsNodeList, IsNodeOf, AreNodesOf, IsPackedTree}
+use Rattle.rtree_core.specs.Nodes.{entries_of, size_of, IsPage, IsLawfulAt}
+use Rattle.rtree_core.specs.Packed.{IsPackedAt, entry_alone, entry_fits, has_u32, node_fits, IsNodeList, IsNodeOf, AreNodesOf, IsPackedTree}
 use Rattle.rtree_core.specs.Trees.{has_number}
 use Rattle.rtree_core.proofs.CoverLemmas.{All-front, All-back}
 use Rattle.rtree_core.proofs.NodeLemmas.{lawful_level, lawful_is}

@@ -1,8 +1,15 @@
 //! Packing by Sort-Tile-Recursive: a tree made from all its entries at once.
+//!
+//! The items of a level, at first the entries, are to make P pages of at most eight. They are sorted
+//! by the centres of their covers along the first axis and cut into slices of √P pages, rounded up;
+//! each slice is sorted along the second axis and cut into its pages. Page sizes differ by one at
+//! most, larger ones first. The pages are the items of the next level, until there is one, the root
+//! (Leutenegger, Lopez and Edgington 1997, 2.2). Ties go by number, and among nodes by their places.
 
-ghost use Rattle.std.specs.Prelude.{◌≡◌, ℕ, ◌+◌, ◌*◌, ◌/◌, ◌%◌, ◌<◌, ◌≤◌, ◌++◌, map, length, vec_len, vec_capacity, min, count_by, All, IfOk, OnOk};
+ghost use Rattle.std.specs.Prelude.{◌≡◌, ℕ, ◌+◌, ◌*◌, ◌/◌, ◌%◌, ◌<◌, ◌≤◌, ◌++◌, ◌+ℤ◌, map, length, vec_len, vec_capacity, min, count_by, All, IfOk, OnOk};
 ghost use Rattle.std.specs.List.Sorted.{IsPermutation};
 ghost use Rattle.std.specs.Vec.Iter.{into_iter_items, into_iter_len};
+ghost use Rattle.geom_core.specs.Shapes.{x1, y1, x2, y2};
 ghost use Rattle.rtree_core.specs.Packed.{AreNodesOf, IsPackedTree};
 ghost use Rattle.rtree_core.specs.Trees.{has_number};
 
@@ -29,8 +36,11 @@ pub(crate) trait Packable: Covered + Drop {
 
     ghost in_range: { Self.Kept → Type 0 };
 
-    /// Its rank among those of the same centre.
-    fn rank(&self) -> usize;
+    ghost rank_of: { Self → ℕ };
+
+    /// What ranks it among those of the same centre: no two items of a level have one rank.
+    fn rank(&self) -> usize
+        ensures { result ≡ rank_of self.now };
 
     /// Drops what only the sorts read.
     fn keep(self) -> Self::Kept
@@ -55,6 +65,8 @@ impl Packable for Entry {
     ghost fits = { entry_fits };
 
     ghost in_range = { has_u32 };
+
+    ghost rank_of = { λ e. e.number };
 
     #[inline(always)]
     fn rank(&self) -> usize {
@@ -107,6 +119,8 @@ impl Packable for Placed {
 
     ghost in_range = { λ _. Unit {0} };
 
+    ghost rank_of = { λ p. p.place };
+
     #[inline(always)]
     fn rank(&self) -> usize {
         self.place
@@ -130,17 +144,21 @@ impl Packable for Placed {
 
 /// Twice the centre of a shape along the first axis.
 #[inline(always)]
-fn twice_x(shape: &Shape) -> i64 {
+fn twice_x(shape: &Shape) -> i64
+    ensures { result ≡ x1 shape.now +ℤ x2 shape.now }
+{
     shape.x1() + shape.x2()
 }
 
 /// Twice the centre of a shape along the second axis.
 #[inline(always)]
-fn twice_y(shape: &Shape) -> i64 {
+fn twice_y(shape: &Shape) -> i64
+    ensures { result ≡ y1 shape.now +ℤ y2 shape.now }
+{
     shape.y1() + shape.y2()
 }
 
-/// The least number whose square is no less.
+/// The square root, rounded up.
 fn ceil_sqrt(n: usize) -> usize
     ensures square { n ≤ result * result }
     ensures least { (k : ℕ) → n ≤ k * k → result ≤ k }
@@ -149,7 +167,7 @@ fn ceil_sqrt(n: usize) -> usize
     if root * root < n { root + 1 } else { root }
 }
 
-/// How many items the first of some pages have: as many in each, or one more in the foremost.
+/// How many of some items lie in the first of some pages, of which the foremost have one more.
 fn items_in(first: usize, pages: usize, items: usize) -> usize
     requires some { 0 < pages }
     requires first { first ≤ pages }
@@ -159,7 +177,8 @@ fn items_in(first: usize, pages: usize, items: usize) -> usize
     first * (items / pages) + first.min(items % pages)
 }
 
-/// Sorts the items of a level into the order of their pages.
+/// Sorts the items of a level into the order of their pages: slice by slice along the first axis,
+/// and along the second in each slice.
 fn tile<T: Packable>(items: &mut [T], pages: usize)
     ensures { IsPermutation items.old items.new }
 {
@@ -176,7 +195,7 @@ fn tile<T: Packable>(items: &mut [T], pages: usize)
     }
 }
 
-/// Takes the first so many items into a list, with room for one more than the most.
+/// Takes the first so many items into a list, which has room for one more than the most.
 fn next_page<T: Packable>(
     alloc: Global,
     items: &mut IntoIter<T, Global>,

@@ -1,6 +1,6 @@
 //! Rows of packing.
 
-ghost use Rattle.std.specs.Prelude.{◌≡◌, IfOk, vec_len};
+ghost use Rattle.std.specs.Prelude.{◌≡◌, ◌<◌, IfOk, length, vec_len};
 
 use super::{has_leaves, numbered, point, points};
 use crate::RTree;
@@ -16,9 +16,20 @@ const TWENTY: [&[u32]; 3] = [
     &[14, 15, 16, 17, 18, 19],
 ];
 
+/// The packed tree of shapes numbered by their places, given in that order or turned round.
+fn packed(alloc: Global, shapes: &[Shape], turned: bool) -> Result<RTree, AllocError>
+    requires { length shapes.now < 1000 }
+{
+    let mut entries = numbered(alloc, shapes)?;
+    if turned {
+        entries.reverse();
+    }
+    RTree::pack(alloc, entries)
+}
+
 /// The packed tree of so many points (0, 0), (1, 0) and on.
 pub(super) fn packed_points(alloc: Global, count: u8) -> Result<RTree, AllocError> {
-    RTree::pack(alloc, numbered(alloc, &points(alloc, count)?)?)
+    packed(alloc, &points(alloc, count)?, false)
 }
 
 /// The points (0, 19), (1, 18) and on to (19, 0).
@@ -28,6 +39,17 @@ fn diagonal(alloc: Global) -> Result<Vec<Shape>, AllocError>
     let mut points = Vec::new(alloc);
     for x in 0..20u8 {
         points.push(point(x, 19 - x))?;
+    }
+    Ok(points)
+}
+
+/// The points (0, 0), (1, 1), (2, 0) and on to (23, 1).
+fn zigzag(alloc: Global) -> Result<Vec<Shape>, AllocError>
+    ensures { IfOk result (λ v. vec_len v ≡ 24) }
+{
+    let mut points = Vec::new(alloc);
+    for x in 0..24u8 {
+        points.push(point(x, x % 2))?;
     }
     Ok(points)
 }
@@ -47,7 +69,7 @@ fn packed_twenty(rt: HostRuntime) -> Result<(), Fail> {
     assert!(rt; tree.window(rt.alloc(), &window)?.is_empty());
     let tree = packed_points(rt.alloc(), 9)?;
     assert!(rt; has_leaves(&tree, &[&[0, 1, 2, 3, 4], &[5, 6, 7, 8]]));
-    let tree = RTree::pack(rt.alloc(), Vec::new(rt.alloc()))?;
+    let tree = packed_points(rt.alloc(), 0)?;
     assert!(rt; tree.is_empty());
     assert_eq!(rt; tree.height(), 0);
     assert_eq!(rt; tree.len(), 0);
@@ -62,13 +84,22 @@ fn packed_diagonal(rt: HostRuntime) -> Result<(), Fail> {
         &[6, 5, 4, 3, 2, 1, 0],
     ];
     let shapes = diagonal(rt.alloc())?;
-    let ascending = numbered(rt.alloc(), &shapes)?;
-    let tree = RTree::pack(rt.alloc(), ascending)?;
-    assert!(rt; has_leaves(&tree, &leaves));
-    let mut descending = numbered(rt.alloc(), &shapes)?;
-    descending.reverse();
-    let tree = RTree::pack(rt.alloc(), descending)?;
-    assert!(rt; has_leaves(&tree, &leaves));
+    assert!(rt; has_leaves(&packed(rt.alloc(), &shapes, false)?, &leaves));
+    assert!(rt; has_leaves(&packed(rt.alloc(), &shapes, true)?, &leaves));
+    Ok(())
+}
+
+/// A slice of two pages and one of one; in each the lower points come first, in turn by number.
+#[test]
+fn packed_zigzag(rt: HostRuntime) -> Result<(), Fail> {
+    let leaves: [&[u32]; 3] = [
+        &[0, 2, 4, 6, 8, 10, 12, 14],
+        &[16, 18, 20, 22, 17, 19, 21, 23],
+        &[1, 3, 5, 7, 9, 11, 13, 15],
+    ];
+    let shapes = zigzag(rt.alloc())?;
+    assert!(rt; has_leaves(&packed(rt.alloc(), &shapes, false)?, &leaves));
+    assert!(rt; has_leaves(&packed(rt.alloc(), &shapes, true)?, &leaves));
     Ok(())
 }
 

@@ -1,8 +1,8 @@
-use Rattle.std.proofs.Common.{arith, ◌≡◌, ◌-◌, ◌+◌, ◌≤◌, [], ◌∷◌, map, length, sym, ◌∙◌, ap}
+use Rattle.std.proofs.Common.{arith, ◌≡◌, ◌-◌, ◌+◌, map, length}
 use Rattle.std.proofs.lemmas.List.{length-map, map-append}
 use Rattle.std.proofs.lemmas.List.Sorted.{IsPermutation-map, length_permutation}
 use Rattle.std.specs.List.Sorted.{IsPermutation}
-use Rattle.std.specs.Vec.Iter.{into_iter_items, into_iter_len}
+use Rattle.std.specs.Vec.Iter.{into_iter_items}
 use Rattle.rtree_core.specs.declared.pack.Placed.{Placed}
 use Rattle.rtree_core.specs.declared.node.Node.{Node}
 use Rattle.rtree_core.proofs.PackLemmas.{IsShare, share_at, share_some, share_fits, cut_none, cut_more, cut_all, cut_in_range, through_slice}

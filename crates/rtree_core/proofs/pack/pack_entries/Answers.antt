@@ -1,7 +1,6 @@
-use Rattle.std.proofs.Common.{arith, ◌≡◌, ◌≤◌, ◌<◌, [], ◌∷◌, ◌∙◌, ap, map, length, sym}
+use Rattle.std.proofs.Common.{arith, ◌≡◌, ◌≤◌, [], ◌∷◌, map, length}
 use Rattle.std.proofs.lemmas.List.{length-map, map-id}
 use Rattle.rtree_core.specs.declared.pack.Placed.{Placed}
-use Rattle.rtree_core.specs.declared.node.Node.{Node}
 use Rattle.rtree_core.proofs.PackLemmas.{row_first, row_next, row_root, fewer_above, only_one, few_entries}
 use Rattle.rtree_core.proofs.pack.pack_entries.Goals as goal
 
