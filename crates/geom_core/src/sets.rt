@@ -55,7 +55,7 @@ impl Shape {
 
     /// Whether each point of the closed shape is one of the other.
     #[inline(always)]
-    fn is_in(&self, other: &Shape) -> bool
+    pub fn is_in(&self, other: &Shape) -> bool
         ensures { IsTrue result ↔ IsIn self.now other.now }
     {
         self.x().is_in(other.x()) && self.y().is_in(other.y())

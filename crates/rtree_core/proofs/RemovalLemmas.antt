@@ -107,12 +107,9 @@ contains_parted (x ∷ xs) e h =
           (suc there.0, omega (arith, there.1), there.2)
     ]
 
--- an entry's shape meets the cover of a node that has it
-pub cover_meets : (n : Node) (e : Entry) → IsLawful n → Contains (entries_of n) e → Meets n.cover e.shape
-cover_meets n e lawful h =
-    let inside : IsIn e.shape n.cover = All-contains (λ x. IsIn x.shape n.cover) (entries_of n) e (lawful_cover (level_of n) n lawful).contains h in
-    let here : Covers e.shape (line e.shape.x.lo) (line e.shape.y.lo) = ((omega (arith, ints), omega (arith, ints)), (omega (arith, ints), omega (arith, ints))) in
-    (line e.shape.x.lo, line e.shape.y.lo, inside _ _ here, here)
+-- an entry's shape lies in the cover of a node that has it
+pub cover_holds : (n : Node) (e : Entry) → IsLawful n → Contains (entries_of n) e → IsIn e.shape n.cover
+cover_holds n e lawful h = All-contains (λ x. IsIn x.shape n.cover) (entries_of n) e (lawful_cover (level_of n) n lawful).contains h
 
 pub none_above : (xs : List Node) (e : Entry) (n : ℕ) →
     ((k : ℕ) (d : Node) → k < n → Contains (entries_of (get_or xs k d)) e → ⊥) →

@@ -143,7 +143,7 @@ fn take_from_one(nodes: &mut [Node], entry: &Entry, aside: &mut Vec<Node>) -> Op
     ensures capacity { vec_capacity aside.new ≡ vec_capacity aside.old }
 {
     for (place, node) in nodes.iter_mut().enumerate() {
-        if node.cover.meets(&entry.shape) && take_out(node, entry, aside) {
+        if entry.shape.is_in(&node.cover) && take_out(node, entry, aside) {
             return Some(place);
         }
     }

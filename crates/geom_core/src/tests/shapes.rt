@@ -35,6 +35,8 @@ fn meeting_and_covering(rt: HostRuntime) {
     assert!(rt; a.meets(&b));
     assert!(rt; !a.meets(&c));
     assert_eq!(rt; a.cover(&c), shape(&rt, 0, 0, 6, 4));
+    assert!(rt; c.is_in(&a.cover(&c)));
+    assert!(rt; !c.is_in(&a));
 }
 
 #[test]

@@ -4,7 +4,7 @@ use Rattle.std.specs.Vec.{with_items}
 use Rattle.std.proofs.lemmas.Bool.{false≢true}
 use Rattle.std.proofs.lemmas.List.{get_or_default, set-get_or}
 use Rattle.std.proofs.lemmas.List.Elements.{All-weaker}
-use Rattle.geom_core.specs.Cells.{Meets}
+use Rattle.geom_core.specs.Cells.{IsIn}
 use Rattle.rtree_core.specs.declared.laws.TheConstants.{FEWEST}
 use Rattle.rtree_core.specs.declared.node.Below.TheVariants.{outs-Children}
 use Rattle.rtree_core.specs.Covers.{IsLeastCover}
@@ -12,10 +12,10 @@ use Rattle.rtree_core.specs.Edits.{inner_node}
 use Rattle.rtree_core.specs.Nodes.{entries_of, level_of, size_of, IsLawful, IsLawfulAt}
 use Rattle.rtree_core.proofs.NodeLemmas.{level_inner, lawful_level, lawful_is, top_level, level-le-top}
 use Rattle.rtree_core.proofs.EditLemmas.{Opened, open_inner, child_level, inner_size, inner_entries}
-use Rattle.rtree_core.proofs.RemovalLemmas.{contains_joined, cover_meets, none_above, none_so_far, list_as_it_was}
+use Rattle.rtree_core.proofs.RemovalLemmas.{contains_joined, cover_holds, none_above, none_so_far, list_as_it_was}
 use Rattle.rtree_core.proofs.TakeLemmas.{Written, written, child_kept, child_aside}
 use Rattle.rtree_core.proofs.remove.+removal.Goals as goal
-use Rattle.rtree_core.proofs.remove.+removal.Goals.{take_from_inner-After-index, take_from_inner-then-size-lt-FEWEST, take_from_inner-else-size-lt-FEWEST, take_from_one-else-meets-via-then-meets+else-take_out, take_from_one-else-meets-via-else-meets}
+use Rattle.rtree_core.proofs.remove.+removal.Goals.{take_from_inner-After-index, take_from_inner-then-size-lt-FEWEST, take_from_inner-else-size-lt-FEWEST, take_from_one-else-is_in-via-then-is_in+else-take_out, take_from_one-else-is_in-via-else-is_in}
 
 pub take_from_inner-take_from_one-requires : goal.take_from_inner-take_from_one-requires
 take_from_inner-take_from_one-requires t c =
@@ -111,8 +111,8 @@ take_from_one-loop-place-preserved t c =
     let lt = c.loop-place-test.true in
     let at : node ≡ get_or c.args.nodes.now p node = c.index-nodes-place.is ∙ ap (λ xs. get_or xs p node) i.same in
     let lawful : IsLawful node = subst IsLawful (sym at) (c.requires.lawful p node lt) in
-    elim c.else-meets.branch [
-      | take_from_one-else-meets-via-then-meets+else-take_out w ↦
+    elim c.else-is_in.branch [
+      | take_from_one-else-is_in-via-then-is_in+else-take_out w ↦
           let kept = w.take_out.ensures.unchanged w.if-take_out.false in
           record {
             same = w.nodes-is ∙ ap (set c.loop-place.nodes p) kept.0 ∙ set-get_or c.loop-place.nodes p node ∙ i.same;
@@ -120,11 +120,11 @@ take_from_one-loop-place-preserved t c =
             capacity = ap vec_capacity w.aside-is ∙ w.take_out.ensures.capacity ∙ i.capacity;
             none = none_so_far c.args.nodes.now c.args.entry.now p node lt at i.none (λ h. false≢true (sym w.if-take_out.false ∙ w.take_out.ensures.held.1 (subst (λ n. Contains (entries_of n) c.args.entry.now) c.index-nodes-place.is h)));
           }
-      | take_from_one-else-meets-via-else-meets w ↦ record {
+      | take_from_one-else-is_in-via-else-is_in w ↦ record {
         same = w.nodes-is ∙ set-get_or c.loop-place.nodes p node ∙ i.same;
         none_aside = rw w.aside-is i.none_aside;
         capacity = ap vec_capacity w.aside-is ∙ i.capacity;
-        none = none_so_far c.args.nodes.now c.args.entry.now p node lt at i.none (λ h. false≢true (sym w.if-meets.false ∙ c.meets.ensures.1 (subst (λ n. Meets n.cover c.args.entry.now.shape) c.index-nodes-place.is (cover_meets node c.args.entry.now lawful h))));
+        none = none_so_far c.args.nodes.now c.args.entry.now p node lt at i.none (λ h. false≢true (sym w.if-is_in.false ∙ c.is_in.ensures.1 (subst (λ n. IsIn c.args.entry.now.shape n.cover) c.index-nodes-place.is (cover_holds node c.args.entry.now lawful h))));
       }
     ]
 
