@@ -23,7 +23,7 @@ use Rattle.rtree_core.specs.Collections.{HasSame}
 use Rattle.rtree_core.specs.Covers.{IsLeastCover}
 use Rattle.rtree_core.specs.Edits.{leaf_node, inner_node}
 use Rattle.rtree_core.specs.Nodes.{entries_of, size_of, IsPage, IsLawfulAt}
-use Rattle.rtree_core.specs.Packed.{IsPackedAt, entry_alone, entry_fits, has_u32, node_fits, IsNodeList, IsNodeOf, AreNodesOf, IsPackedTree}
+use Rattle.rtree_core.specs.Packed.{IsPackedAt, entry_alone, FitsLeaf, HasU32, FitsInner, IsNodeList, IsNodeOf, AreNodesOf, IsPackedTree}
 use Rattle.rtree_core.specs.Trees.{has_number}
 use Rattle.rtree_core.proofs.CoverLemmas.{All-front, All-back}
 use Rattle.rtree_core.proofs.NodeLemmas.{lawful_level, lawful_is}
@@ -46,17 +46,17 @@ each_alone : (es : List Entry) → flat_map entry_alone es ≡ es
 each_alone [] = refl
 each_alone (e ∷ es) = ap (λ xs. e ∷ xs) (each_alone es)
 
-leaf_is_lowest : (level : ℕ) (es : List Entry) → 0 < length es → All (entry_fits level) es → level ≡ 0
+leaf_is_lowest : (level : ℕ) (es : List Entry) → 0 < length es → All (FitsLeaf level) es → level ≡ 0
 leaf_is_lowest level [] some all = absurd (omega arith)
-leaf_is_lowest level (e ∷ es) some all = All-head (entry_fits level) e es all
+leaf_is_lowest level (e ∷ es) some all = All-head (FitsLeaf level) e es all
 
 list_page : {K : Type 0} (cover : K → Shape) (c : Shape) (v : Vec K Global) → IsNodeList v → IsLeastCover cover v.items c → IsPage cover c v
 list_page cover c v list tight = record { some = list.some; few = list.few; room = list.room; tight = tight }
 
 -- the leaf of a list
-pub leaf_made : (c : Shape) (v : Vec Entry Global) → IsNodeList v → IsLeastCover (λ e. e.shape) v.items c → IsNodeOf entry_alone entry_fits v.items (leaf_node c v)
+pub leaf_made : (c : Shape) (v : Vec Entry Global) → IsNodeList v → IsLeastCover (λ e. e.shape) v.items c → IsNodeOf entry_alone FitsLeaf v.items (leaf_node c v)
 leaf_made c v list tight =
-    let lowest : (level : ℕ) → All (entry_fits level) v.items → level ≡ 0 = λ level all. leaf_is_lowest level v.items (omega (arith, v.ok.0, list.some)) all in
+    let lowest : (level : ℕ) → All (FitsLeaf level) v.items → level ≡ 0 = λ level all. leaf_is_lowest level v.items (omega (arith, v.ok.0, list.some)) all in
     record {
       size = omega (arith, leaf_size c v, v.ok.0);
       entries_are = leaf_entries c v ∙ sym (each_alone v.items);
@@ -64,27 +64,27 @@ leaf_made c v list tight =
       packed = λ level all. subst (λ l. IsPackedAt l (leaf_node c v)) (sym (lowest level all)) tt;
     }
 
-none_fits : (ns : List Node) → 0 < length ns → All (node_fits 0) ns → ⊥
+none_fits : (ns : List Node) → 0 < length ns → All (FitsInner 0) ns → ⊥
 none_fits [] some all = omega arith
-none_fits (n ∷ ns) some all = All-head (node_fits 0) n ns all
+none_fits (n ∷ ns) some all = All-head (FitsInner 0) n ns all
 
-inner_lawful : (level : ℕ) (c : Shape) (v : Vec Node Global) → IsPage (λ n. n.cover) c v → 0 < length v.items → All (node_fits level) v.items → IsLawfulAt level (inner_node c v)
+inner_lawful : (level : ℕ) (c : Shape) (v : Vec Node Global) → IsPage (λ n. n.cover) c v → 0 < length v.items → All (FitsInner level) v.items → IsLawfulAt level (inner_node c v)
 inner_lawful zero c v page some all = absurd (none_fits v.items some all)
 inner_lawful (suc level) c v page some all =
     rw outs-Children (record {
       page = page;
-      children = All-weaker (node_fits (suc level)) (IsLawfulAt level) (λ n h. h.0) v.items all;
-      enough = All-weaker (node_fits (suc level)) (λ n. FEWEST ≤ size_of n) (λ n h. omega (arith, h.1)) v.items all;
+      children = All-weaker (FitsInner (suc level)) (IsLawfulAt level) (λ n h. h.0) v.items all;
+      enough = All-weaker (FitsInner (suc level)) (λ n. FEWEST ≤ size_of n) (λ n h. omega (arith, h.1)) v.items all;
     })
 
-inner_packed : (level : ℕ) (c : Shape) (v : Vec Node Global) → 0 < length v.items → All (node_fits level) v.items → IsPackedAt level (inner_node c v)
+inner_packed : (level : ℕ) (c : Shape) (v : Vec Node Global) → 0 < length v.items → All (FitsInner level) v.items → IsPackedAt level (inner_node c v)
 inner_packed zero c v some all = absurd (none_fits v.items some all)
 inner_packed (suc level) c v some all =
     rw (inner_children c v)
-    (All-weaker (node_fits (suc level)) (λ n. (4 ≤ size_of n) × IsPackedAt level n) (λ n h. (h.1, h.2)) v.items all)
+    (All-weaker (FitsInner (suc level)) (λ n. (4 ≤ size_of n) × IsPackedAt level n) (λ n h. (h.1, h.2)) v.items all)
 
 -- the inner node of a list
-pub inner_made : (c : Shape) (v : Vec Node Global) → IsNodeList v → IsLeastCover (λ n. n.cover) v.items c → IsNodeOf entries_of node_fits v.items (inner_node c v)
+pub inner_made : (c : Shape) (v : Vec Node Global) → IsNodeList v → IsLeastCover (λ n. n.cover) v.items c → IsNodeOf entries_of FitsInner v.items (inner_node c v)
 inner_made c v list tight =
     let some : 0 < length v.items = omega (arith, v.ok.0, list.some) in
     record {
@@ -277,7 +277,7 @@ pub record IsRow (all : List Entry) (nodes : List Node) (height : ℕ) : Type 0 
   pub two : 0 < level → All (λ n. 2 ≤ size_of n) nodes
   pub four : 2 ≤ length nodes → All (λ n. 4 ≤ size_of n) nodes
 
-pub row_first : (all : List Entry) (nodes : List Node) → 0 < length all → AreNodesOf entry_alone entry_fits all nodes → IsRow all nodes 1
+pub row_first : (all : List Entry) (nodes : List Node) → 0 < length all → AreNodesOf entry_alone FitsLeaf all nodes → IsRow all nodes 1
 row_first all nodes some made = record {
   level = 0;
   height_is = refl;
@@ -289,13 +289,13 @@ row_first all nodes some made = record {
   four = made.four;
 }
 
-row_fits : (all : List Entry) (nodes : List Node) (height : ℕ) (row : IsRow all nodes height) → 2 ≤ length nodes → All (node_fits (suc row.level)) nodes
+row_fits : (all : List Entry) (nodes : List Node) (height : ℕ) (row : IsRow all nodes height) → 2 ≤ length nodes → All (FitsInner (suc row.level)) nodes
 row_fits all nodes height row many k d lt = (row.lawful k d lt, row.four many k d lt, row.packed k d lt)
 
 pub row_next : (all : List Entry) (nodes above : List Node) (height : ℕ) →
     2 ≤ length nodes →
     IsRow all nodes height →
-    AreNodesOf entries_of node_fits nodes above →
+    AreNodesOf entries_of FitsInner nodes above →
     IsRow all above (height + 1)
 row_next all nodes above height many row made = record {
   level = suc row.level;
@@ -309,25 +309,25 @@ row_next all nodes above height many row made = record {
 }
 
 -- there are fewer nodes on the level above
-pub fewer_above : (nodes above : List Node) → 2 ≤ length nodes → AreNodesOf entries_of node_fits nodes above → length above < length nodes
+pub fewer_above : (nodes above : List Node) → 2 ≤ length nodes → AreNodesOf entries_of FitsInner nodes above → length above < length nodes
 fewer_above nodes above many made = omega (arith, made.count)
 
 other_number : (e : Entry) (k : ℕ) → e.number < 2 ^ 32 → 2 ^ 32 ≤ k → cond {A = ℕ} (has_number k e) 1 0 ≡ 0
 other_number e k small large = grind (arith, nat_tests)
 
 -- no number has more than 32 bits
-none_beyond : (k : ℕ) (all : List Entry) → 2 ^ 32 ≤ k → All has_u32 all → count_by (has_number k) all ≡ 0
+none_beyond : (k : ℕ) (all : List Entry) → 2 ^ 32 ≤ k → All HasU32 all → count_by (has_number k) all ≡ 0
 none_beyond k [] large small = refl
 none_beyond k (e ∷ es) large small =
-    omega (arith, none_beyond k es large (All-tail has_u32 e es small), other_number e k (All-head has_u32 e es small) large, sum_by-cons (λ x. cond {A = ℕ} (has_number k x) 1 0) e es)
+    omega (arith, none_beyond k es large (All-tail HasU32 e es small), other_number e k (All-head HasU32 e es small) large, sum_by-cons (λ x. cond {A = ℕ} (has_number k x) 1 0) e es)
 
 -- there are no more entries than numbers
-pub few_entries : (all : List Entry) → ((k : ℕ) → count_by (has_number k) all ≤ 1) → All has_u32 all → length all ≤ 2 ^ 32
+pub few_entries : (all : List Entry) → ((k : ℕ) → count_by (has_number k) all ≤ 1) → All HasU32 all → length all ≤ 2 ^ 32
 few_entries all distinct small = omega (arith, all_below (2 ^ 32) all (λ k large. none_beyond k all large small), count_below_n (2 ^ 32) all distinct)
 
 pub row_root : (all : List Entry) (n : Node) (height : ℕ) →
     ((k : ℕ) → count_by (has_number k) all ≤ 1) →
-    All has_u32 all →
+    All HasU32 all →
     IsRow all (n ∷ []) height →
     IsPackedTree all n height
 row_root all n height distinct small row =

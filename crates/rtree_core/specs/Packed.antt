@@ -21,17 +21,17 @@ abbrev pub IsPacked : Node → Type 0
 IsPacked n = IsPackedAt (level_of n) n
 
 -- a leaf, of level 0, may hold an entry
-abbrev pub entry_fits : ℕ → Entry → Type 0
-entry_fits level e = level ≡ 0
+abbrev pub FitsLeaf : ℕ → Entry → Type 0
+FitsLeaf level e = level ≡ 0
 
 -- its number has 32 bits
-abbrev pub has_u32 : Entry → Type 0
-has_u32 e = e.number < 2 ^ 32
+abbrev pub HasU32 : Entry → Type 0
+HasU32 e = e.number < 2 ^ 32
 
 -- an inner node of this level may hold this node
-abbrev pub node_fits : ℕ → Node → Type 0
-node_fits zero n = ⊥
-node_fits (suc level) n = IsLawfulAt level n × (4 ≤ size_of n) × IsPackedAt level n
+abbrev pub FitsInner : ℕ → Node → Type 0
+FitsInner zero n = ⊥
+FitsInner (suc level) n = IsLawfulAt level n × (4 ≤ size_of n) × IsPackedAt level n
 
 abbrev pub entry_alone : Entry → List Entry
 entry_alone e = e ∷ []

@@ -30,10 +30,13 @@ pub(crate) trait Packable: Covered + Drop {
 
     ghost kept: { Self → Self.Kept };
 
+    // The entries below it.
     ghost entries: { Self.Kept → List Entry };
 
+    // A node of this level may hold it.
     ghost fits: { ℕ → Self.Kept → Type 0 };
 
+    // What its type says of its numbers.
     ghost in_range: { Self.Kept → Type 0 };
 
     ghost rank_of: { Self → ℕ };
@@ -54,7 +57,7 @@ pub(crate) trait Packable: Covered + Drop {
 }
 
 impl Packable for Entry {
-    ghost use Rattle.rtree_core.specs.Packed.{entry_alone, entry_fits, has_u32, IsNodeList, IsNodeOf};
+    ghost use Rattle.rtree_core.specs.Packed.{entry_alone, FitsLeaf, HasU32, IsNodeList, IsNodeOf};
 
     type Kept = Entry;
 
@@ -62,9 +65,9 @@ impl Packable for Entry {
 
     ghost entries = { entry_alone };
 
-    ghost fits = { entry_fits };
+    ghost fits = { FitsLeaf };
 
-    ghost in_range = { has_u32 };
+    ghost in_range = { HasU32 };
 
     ghost rank_of = { λ e. e.number };
 
@@ -80,7 +83,7 @@ impl Packable for Entry {
 
     fn node(page: Vec<Entry>) -> Node
         requires { IsNodeList page }
-        ensures { IsNodeOf entry_alone entry_fits page.items result }
+        ensures { IsNodeOf entry_alone FitsLeaf page.items result }
     {
         Node {
             cover: cover_all(&page),
@@ -107,7 +110,7 @@ impl Covered for Placed {
 
 impl Packable for Placed {
     ghost use Rattle.rtree_core.specs.Nodes.{entries_of};
-    ghost use Rattle.rtree_core.specs.Packed.{node_fits, IsNodeList, IsNodeOf};
+    ghost use Rattle.rtree_core.specs.Packed.{FitsInner, IsNodeList, IsNodeOf};
 
     type Kept = Node;
 
@@ -115,7 +118,7 @@ impl Packable for Placed {
 
     ghost entries = { entries_of };
 
-    ghost fits = { node_fits };
+    ghost fits = { FitsInner };
 
     ghost in_range = { λ _. Unit {0} };
 
@@ -133,7 +136,7 @@ impl Packable for Placed {
 
     fn node(page: Vec<Node>) -> Node
         requires { IsNodeList page }
-        ensures { IsNodeOf entries_of node_fits page.items result }
+        ensures { IsNodeOf entries_of FitsInner page.items result }
     {
         Node {
             cover: cover_all(&page),

@@ -43,6 +43,17 @@ fn diagonal(alloc: Global) -> Result<Vec<Shape>, AllocError>
     Ok(points)
 }
 
+/// The points (15, 0), (14, 0) and on to (0, 0).
+fn backward(alloc: Global) -> Result<Vec<Shape>, AllocError>
+    ensures { IfOk result (λ v. vec_len v ≡ 16) }
+{
+    let mut points = Vec::new(alloc);
+    for x in 0..16u8 {
+        points.push(point(15 - x, 0))?;
+    }
+    Ok(points)
+}
+
 /// The points (0, 0), (1, 1), (2, 0) and on to (23, 1).
 fn zigzag(alloc: Global) -> Result<Vec<Shape>, AllocError>
     ensures { IfOk result (λ v. vec_len v ≡ 24) }
@@ -100,6 +111,15 @@ fn packed_zigzag(rt: HostRuntime) -> Result<(), Fail> {
     let shapes = zigzag(rt.alloc())?;
     assert!(rt; has_leaves(&packed(rt.alloc(), &shapes, false)?, &leaves));
     assert!(rt; has_leaves(&packed(rt.alloc(), &shapes, true)?, &leaves));
+    Ok(())
+}
+
+/// Entries of one height go by number, and leaves of one height by their places.
+#[test]
+fn packed_backward(rt: HostRuntime) -> Result<(), Fail> {
+    let tree = packed(rt.alloc(), &backward(rt.alloc())?, false)?;
+    let leaves: [&[u32]; 2] = [&[0, 1, 2, 3, 4, 5, 6, 7], &[8, 9, 10, 11, 12, 13, 14, 15]];
+    assert!(rt; has_leaves(&tree, &leaves));
     Ok(())
 }
 
