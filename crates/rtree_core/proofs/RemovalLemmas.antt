@@ -15,7 +15,7 @@ use Rattle.std.proofs.lemmas.Int.{ints}
 use Rattle.std.proofs.lemmas.List.{get_or_default, with_items_is}
 use Rattle.rtree_core.specs.Removals.{IsPlaceOf}
 use Rattle.geom_core.specs.Joined.{same_ends}
-use Rattle.geom_core.specs.Cells.{line, Covers, Meets, IsIn}
+use Rattle.geom_core.specs.Cells.{IsIn}
 use Rattle.rtree_core.specs.declared.node.Entry.{Entry}
 use Rattle.rtree_core.specs.declared.node.Node.{Node}
 use Rattle.rtree_core.specs.Nodes.{entries_of, level_of, size_of, IsLawful, IsLawfulAt}

@@ -1,6 +1,6 @@
 -- What insertions at a root do, one after another.
-use Rattle.std.proofs.Common.{arith, ◌≡◌, ℕ, suc, ◌+◌, ◌*◌, ◌≤◌, cond, List, [], ◌∷◌, ◌++◌, refl, ◌∙◌, ap, sym}
-use Rattle.std.specs.Prelude.{vec_len, Option, None, Some, IfSome, IsSomeAnd, sum_by}
+use Rattle.std.proofs.Common.{arith, ◌≡◌, ℕ, suc, ◌+◌, ◌*◌, ◌≤◌, cond, List, [], ◌++◌, refl, ◌∙◌, ap}
+use Rattle.std.specs.Prelude.{vec_len, Option, None, Some, IfSome, IsSomeAnd}
 use Rattle.std.proofs.lemmas.Nat.{mul-le}
 use Rattle.std.proofs.lemmas.List.Sums.{sum_by-append}
 use Rattle.geom_core.specs.declared.shape.Shape.{Shape}

@@ -1,6 +1,6 @@
 -- What a lawful tree keeps, and how large it can be.
-use Rattle.std.proofs.Common.{arith, ◌≡◌, ◌≢◌, ℕ, zero, suc, ◌+◌, ◌^◌, ◌<◌, ◌≤◌, pow_mono, pow-suc, true, cond, List, [], ◌∷◌, ◌++◌, length, refl, sym, ◌∙◌, subst, inl, inr}
-use Rattle.std.specs.Prelude.{All, Option, None, Some, IfSome, IsSomeAnd, count_by, sum_by, nat_eq, nat_lt}
+use Rattle.std.proofs.Common.{arith, ◌≡◌, ◌≢◌, ℕ, zero, suc, ◌+◌, ◌^◌, ◌<◌, ◌≤◌, pow_mono, pow-suc, Bool, true, false, cond, List, [], ◌∷◌, length, refl, sym, ◌∙◌, subst, inl, inr}
+use Rattle.std.specs.Prelude.{All, IsTrue, IsFalse, Option, None, Some, IfSome, count_by, sum_by, nat_eq, nat_lt}
 use Rattle.std.proofs.lemmas.Bool.{cases_lt, cases_eq}
 use Rattle.std.proofs.lemmas.Bool.Decides.{nat_tests}
 use Rattle.std.proofs.lemmas.List.Concat.{length-flat_map}
@@ -11,7 +11,7 @@ use Rattle.rtree_core.specs.declared.node.Node.{Node}
 use Rattle.rtree_core.specs.Collections.{HasSame, Gains}
 use Rattle.rtree_core.specs.Nodes.{entries_of, level_of, size_of, children_of, IsLawfulAt}
 use Rattle.rtree_core.specs.Trees.{entries_in, height_of, has_number, IsFresh, IsRoot, IsTree}
-use Rattle.rtree_core.proofs.NodeLemmas.{lawful_level, lawful_is, HasChildren, has_children, has_entries}
+use Rattle.rtree_core.proofs.NodeLemmas.{HasChildren, has_children, has_entries}
 
 -- every item passes the test that all pass
 pub count_all : {T : Type 0} (xs : List T) → count_by (λ _. true) xs ≡ length xs
@@ -149,3 +149,13 @@ tree_loses x old new tree loses lawful = record {
 pub fresh_after : (x : Entry) (old new : Option Node) (k : ℕ) → Gains x (entries_in old) (entries_in new) → x.number ≢ k → IsFresh k old → IsFresh k new
 fresh_after x old new k gains other fresh =
     omega (arith, gains (has_number k), sum_by-cons (λ y. cond {A = ℕ} (has_number k y) 1 0) x (entries_in old), not_that x k other)
+
+-- a fresh number stays fresh at a removal
+pub fresh_still : (x : Entry) (old new : Option Node) (removed : Bool) (k : ℕ) →
+    (IsTrue removed → Gains x (entries_in new) (entries_in old)) →
+    (IsFalse removed → new ≡ old) →
+    IsFresh k old →
+    IsFresh k new
+fresh_still x old new true k loses kept fresh =
+    omega (arith, fresh, loses refl (has_number k), sum_by-cons (λ y. cond {A = ℕ} (has_number k y) 1 0) x (entries_in new))
+fresh_still x old new false k loses kept fresh = rw (kept refl) fresh

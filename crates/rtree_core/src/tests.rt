@@ -4,6 +4,7 @@ ghost use Rattle.std.specs.Prelude.{◌≡◌, ℕ, ◌<◌, ◌≤◌, IfOk, le
 ghost use Rattle.rtree_core.specs.Trees.{has_number, IsFresh};
 
 mod insertion;
+mod mixed;
 mod packing;
 mod removal;
 

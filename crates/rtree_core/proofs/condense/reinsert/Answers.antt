@@ -1,4 +1,4 @@
-use Rattle.std.proofs.Common.{arith, ◌≡◌, ℕ, ◌-◌, ◌+◌, ◌*◌, ◌≤◌, ◌<◌, ◌++◌, [], ◌∷◌, length, take, drop, ap, sym, ◌∙◌, get_or, drop-drop, get_or-drop, add-zero, subst}
+use Rattle.std.proofs.Common.{arith, ◌≡◌, ◌-◌, ◌+◌, ◌*◌, ◌<◌, ◌++◌, [], ◌∷◌, length, take, drop, ap, sym, ◌∙◌, get_or, drop-drop, get_or-drop, add-zero, subst}
 use Rattle.std.proofs.lemmas.Bool.Decides.{nat_tests}
 use Rattle.std.proofs.lemmas.List.{append-nil, take_more, length-drop}
 use Rattle.std.proofs.lemmas.List.Concat.{flat_map-append}

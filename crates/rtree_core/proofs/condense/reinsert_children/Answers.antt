@@ -1,12 +1,10 @@
-use Rattle.std.proofs.Common.{arith, ◌≡◌, ℕ, ◌-◌, ◌+◌, ◌≤◌, ◌++◌, [], ◌∷◌, length, ap, sym, ◌∙◌, append_assoc, length-append, subst}
+use Rattle.std.proofs.Common.{arith, ◌≡◌, ◌-◌, ◌+◌, ◌≤◌, ◌++◌, [], ◌∷◌, length, ap, sym, ◌∙◌, append_assoc, length-append}
 use Rattle.std.proofs.lemmas.List.Concat.{flat_map-append}
 use Rattle.std.proofs.lemmas.List.{append-nil}
-use Rattle.std.specs.Vec.Iter.{into_iter_items, into_iter_len}
-use Rattle.std.specs.Prelude.{All}
+use Rattle.std.specs.Vec.Iter.{into_iter_items}
 use Rattle.std.specs.List.{flat_map}
 use Rattle.rtree_core.specs.declared.laws.TheConstants.{FEWEST}
 use Rattle.rtree_core.specs.Nodes.{entries_of, size_of, IsLawfulAt}
-use Rattle.rtree_core.specs.Roots.{HasTakenIn}
 use Rattle.rtree_core.proofs.CoverLemmas.{All-mid}
 use Rattle.rtree_core.proofs.NodeLemmas.{lawful_level, lawful_is}
 use Rattle.rtree_core.proofs.RootLemmas.{enough_less, took_both}

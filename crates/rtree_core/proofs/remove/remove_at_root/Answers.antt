@@ -1,8 +1,7 @@
-use Rattle.std.proofs.Common.{arith, ◌≡◌, [], ◌∷◌, sym, ◌∙◌, ap, refl}
+use Rattle.std.proofs.Common.{arith, ap, refl}
 use Rattle.rtree_core.specs.Nodes.{level_of}
 use Rattle.rtree_core.specs.Trees.{height_of}
 use Rattle.rtree_core.proofs.NodeLemmas.{lawful_level, lawful_is}
-use Rattle.rtree_core.proofs.RootLemmas.{enough_less}
 use Rattle.rtree_core.proofs.remove.remove_at_root.Goals as goal
 
 pub reinsert-requires-clause-kept : goal.reinsert-requires-clause-kept

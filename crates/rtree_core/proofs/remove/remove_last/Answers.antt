@@ -1,6 +1,4 @@
 use Rattle.std.proofs.Common.{arith, ◌≡◌, [], ◌∷◌, sym, ◌∙◌, ap, refl}
-use Rattle.std.specs.Prelude.{Contains}
-use Rattle.rtree_core.specs.Nodes.{entries_of}
 use Rattle.rtree_core.specs.Trees.{entries_in}
 use Rattle.rtree_core.proofs.RemovalLemmas.{differ_not, only_entry}
 use Rattle.rtree_core.proofs.remove.remove_last.Goals as goal
