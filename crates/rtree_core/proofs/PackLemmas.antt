@@ -94,10 +94,6 @@ inner_made c v list tight =
       packed = λ level all. inner_packed level c v some all;
     }
 
--- the first pages have no more items than all
-pub first_within : (first pages items : ℕ) → 0 < pages → first ≤ pages → first * (items / pages) + min first (items % pages) ≤ items
-first_within first pages items some h = omega (arith, mul-le-mul_left (items / pages) h)
-
 -- a number whose square is as large as a number above 0 is above 0
 pub root_some : (m n : ℕ) → n ≤ m * m → 0 < n → 0 < m
 root_some zero n h some = absurd (omega arith)

@@ -16,6 +16,8 @@ use crate::spare::Spare;
 use geom_core::Shape;
 
 /// Takes an entry out of a tree, given its root and its height, and says whether it was there.
+///
+/// A tree has at most 32 levels, so the bound asked for is far off.
 pub(crate) fn remove_at_root(
     root: &mut Option<Node>,
     height: &mut u32,

@@ -30,7 +30,7 @@ impl Spare {
     /// Gathers the lists that so many insertions into a tree of this height may take.
     ///
     /// Each may split a node on every level and put a level over the root, and it gives the list
-    /// of a node that it splits back.
+    /// of a node that it splits back. A tree has at most 32 levels, so the bound asked for is far off.
     pub(crate) fn gather(&mut self, count: u32, height: u32) -> Result<(), AllocError>
         requires spare { AreSpare self.old }
         requires small { height + count ≤ 1000 }

@@ -30,14 +30,14 @@ fn has_leaves(tree: &RTree, leaves: &[&[u32]]) -> bool {
             if root.is_leaf() {
                 leaves.len() == 1 && leaves.iter().all(|numbers| has_numbers(root, numbers))
             } else {
-                have_numbers(root.children(), leaves)
+                are_leaves(root.children(), leaves)
             }
         }
     }
 }
 
-/// Whether nodes are leaves that have these numbers.
-fn have_numbers(nodes: &[Node], leaves: &[&[u32]]) -> bool {
+/// Whether nodes are leaves that have these numbers, in this order.
+fn are_leaves(nodes: &[Node], leaves: &[&[u32]]) -> bool {
     nodes.len() == leaves.len()
         && nodes
             .iter()
