@@ -4,13 +4,13 @@ use Rattle.std.proofs.lemmas.Bool.{MatchBool-at_true, MatchBool-at_false, lt-ltb
 use mathlib.Core.Option.{none}
 use Rattle.atomic_table.specs.Table.{step}
 use Rattle.atomic_table.specs.declared.shared.Seat.{Seat}
-use Rattle.deliver_core.specs.declared.board.rule.Drawer.{Drawer}
+use Rattle.deliver_core.specs.declared.board.rule.SeatView.{SeatView}
 use Rattle.deliver_core.specs.Draws.{SeatState, seat_after}
-use Rattle.deliver_core.specs.Drawers.{drawer, Drew}
+use Rattle.deliver_core.specs.BoardRule.{seat_view, Drew}
 use Rattle.deliver_core.specs.Boards.{BoardValue, SeatValue, board_of, seat_value, IsCounted, IsCountedSeat}
 
 abbrev Place : Type 0
-Place = Seat (Unit {0}) Drawer
+Place = Seat (Unit {0}) SeatView
 
 -- the hand after a draw of a number, and after one of none
 pub seat_number : (tasks word : ℕ) (h : SeatState) → word < tasks → seat_after tasks word h ≡ record { drawn = h.drawn ++ word ∷ []; done = h.done }
@@ -23,7 +23,8 @@ seat_end tasks word h past = rw (le-ltb word tasks past) refl
 module _ (p : Option Place) (count : ℕ) (done : Bool) (place : Place) (there : p ≡ Some place) where
   pub board_at : (s : SeatValue) (b : BoardValue) → seat_value p count done ≡ s → s.board ≡ Some b → board_of place ≡ b
   board_at s b is own =
-      let same : Some (board_of place) ≡ Some b = sym (ap (λ (q : Option Place). (seat_value q count done).board) there) ∙ (ap (λ (t : SeatValue). t.board) is ∙ own) in cc
+      let same : Some (board_of place) ≡ Some b = sym (ap (λ (q : Option Place). (seat_value q count done).board) there)
+      ∙ (ap (λ (t : SeatValue). t.board) is ∙ own) in cc
 
   pub drawn_at : (s : SeatValue) → seat_value p count done ≡ s → place.me.0.drawn ≡ s.drawn
   drawn_at s is = sym (ap (λ (q : Option Place). (seat_value q count done).drawn) there) ∙ ap (λ (t : SeatValue). t.drawn) is
@@ -47,21 +48,22 @@ pub record EndMet (old new : Place) (count : ℕ) : Type 0 where
   pub board : board_of new ≡ board_of old
   pub drawn : new.me.0.drawn ≡ old.me.0.drawn
 
-module _ (old new : Place) (count word : ℕ) (counts : IsCounted old count false) (same : new.table_id ≡ old.table_id) (drew : Drew (step 0 0 1 0 none) old.me word new.me) where
-  board_kept : (parts : ℕ) (drawn : List ℕ) (over : ℕ) → new.me.0 ≡ drawer old.me.0.tasks old.me.0.seats parts drawn over → board_of new ≡ board_of old
+module _ (old new : Place) (count word : ℕ) (counts : IsCounted old count false) (same : new.table_id ≡ old.table_id)
+    (drew : Drew (step 0 0 1 0 none) old.me word new.me) where
+  board_kept : (parts : ℕ) (drawn : List ℕ) (over : ℕ) → new.me.0 ≡ seat_view old.me.0.tasks old.me.0.seats parts drawn over → board_of new ≡ board_of old
   board_kept parts drawn over is = λ i. record { id = same i; tasks = (is i).tasks; seats = (is i).seats }
 
   pub number_drawn : word < old.me.0.tasks → NumberDrawn old new count word
   number_drawn below =
       let told = MatchBool-at_true _ _ (lt-ltb _ _ below) drew.2 in
-      let drawn : new.me.0.drawn ≡ old.me.0.drawn ++ word ∷ [] = ap (λ (v : Drawer). v.drawn) told.2 in
+      let drawn : new.me.0.drawn ≡ old.me.0.drawn ++ word ∷ [] = ap (λ (v : SeatView). v.drawn) told.2 in
       let was = counts.count_is in
       let few = told.1 in record {
         counted = record {
-          one = ap (λ (v : Drawer). v.parts) told.2 ∙ counts.one;
+          one = ap (λ (v : SeatView). v.parts) told.2 ∙ counts.one;
           slots = drew.1 ∙ counts.slots;
           count_is = sym (ap length drawn ∙ (length-append old.me.0.drawn (word ∷ []) ∙ ap (λ n. n + 1) (sym was)));
-          over_is = ap (λ (v : Drawer). v.over) told.2 ∙ counts.over_is;
+          over_is = ap (λ (v : SeatView). v.over) told.2 ∙ counts.over_is;
         };
         board = board_kept _ _ _ told.2;
         drawn = drawn;
@@ -72,12 +74,12 @@ module _ (old new : Place) (count word : ℕ) (counts : IsCounted old count fals
   pub end_met : old.me.0.tasks ≤ word → EndMet old new count
   end_met past =
       let told = MatchBool-at_false _ _ (le-ltb _ _ past) drew.2 in
-      let drawn : new.me.0.drawn ≡ old.me.0.drawn = ap (λ (v : Drawer). v.drawn) told in record {
+      let drawn : new.me.0.drawn ≡ old.me.0.drawn = ap (λ (v : SeatView). v.drawn) told in record {
         counted = record {
-          one = ap (λ (v : Drawer). v.parts) told ∙ counts.one;
+          one = ap (λ (v : SeatView). v.parts) told ∙ counts.one;
           slots = drew.1 ∙ counts.slots;
           count_is = counts.count_is ∙ ap length (sym drawn);
-          over_is = ap (λ (v : Drawer). v.over) told ∙ ap (λ n. n + 1) counts.over_is;
+          over_is = ap (λ (v : SeatView). v.over) told ∙ ap (λ n. n + 1) counts.over_is;
         };
         board = board_kept _ _ _ told;
         drawn = drawn;

@@ -3,12 +3,12 @@ use Rattle.std.proofs.Common.{◌≡◌, ℕ, ◌+◌, ◌-◌, ◌<◌, cond, L
 use Rattle.std.proofs.lemmas.List.{flat_map_more, get_or-append_right, length-map}
 use Rattle.std.proofs.lemmas.List.Sums.{sum_by_push}
 use Rattle.atomic_table.specs.declared.shared.Seat.{Seat}
-use Rattle.deliver_core.specs.declared.board.rule.Drawer.{Drawer}
-use Rattle.deliver_core.specs.Drawers.{drawer}
+use Rattle.deliver_core.specs.declared.board.rule.SeatView.{SeatView}
+use Rattle.deliver_core.specs.BoardRule.{seat_view}
 use Rattle.deliver_core.specs.Boards.{BoardValue, SeatValue, board_of, IsCounted}
 
 -- it is the board's, and has the seats of the list, what they drew, in their order, and the draws of theirs beyond the tasks
-pub record IsGathered (b : BoardValue) (xs : List SeatValue) (all : Seat (Unit {0}) Drawer) : Type 0 where
+pub record IsGathered (b : BoardValue) (xs : List SeatValue) (all : Seat (Unit {0}) SeatView) : Type 0 where
   pub board : board_of all ≡ b
   pub slots : all.me.1 ≡ []
   pub parts : all.me.0.parts ≡ length xs
@@ -20,10 +20,15 @@ abbrev pub IsCountRight : SeatValue → Type 0
 IsCountRight s = s.count ≡ length s.drawn
 
 -- one more
-pub gathers_more : (b : BoardValue) (xs : List SeatValue) (all all' : Seat (Unit {0}) Drawer) (s : SeatValue) (count : ℕ) (place : Seat (Unit {0}) Drawer) → IsGathered b xs all
+pub gathers_more : (b : BoardValue) (xs : List SeatValue) (all all' : Seat (Unit {0}) SeatView) (s : SeatValue) (count : ℕ)
+    (place : Seat (Unit {0}) SeatView) → IsGathered b xs all
     → IsCounted place count s.done → place.me.0.drawn ≡ s.drawn
     → all'.table_id ≡ all.table_id
-    → all'.me ≡ (drawer all.me.0.tasks all.me.0.seats (all.me.0.parts + place.me.0.parts) (all.me.0.drawn ++ place.me.0.drawn) (all.me.0.over + place.me.0.over), all.me.1)
+    → all'.me ≡ (
+      seat_view all.me.0.tasks all.me.0.seats (all.me.0.parts + place.me.0.parts) (all.me.0.drawn ++ place.me.0.drawn)
+          (all.me.0.over + place.me.0.over),
+      all.me.1,
+    )
     → IsGathered b (xs ++ s ∷ []) all'
 gathers_more b xs all all' s count place g counted drawn same now =
     let parts : all'.me.0.parts ≡ all.me.0.parts + place.me.0.parts = ap (λ m. m.0.parts) now in
@@ -41,4 +46,5 @@ gathers_more b xs all all' s count place g counted drawn same now =
 pub untouched : {X : Type 0} (f : X → X) (xs ys : List X) (i : ℕ) (d : X) → i < length xs → ys ≡ map f (take i xs) ++ drop i xs → get_or ys i d ≡ get_or xs i d
 untouched f xs ys i d h is =
     let front : length (map f (take i xs)) ≡ i = omega (arith, length-map (take i xs) f, length-take i xs) in
-    ap (λ l. get_or l i d) is ∙ (get_or-append_right (map f (take i xs)) (drop i xs) i i d front (le_refl i) ∙ (get_or-drop i xs (i - i) d ∙ ap (λ k. get_or xs k d) (omega arith)))
+    ap (λ l. get_or l i d) is ∙ (get_or-append_right (map f (take i xs)) (drop i xs) i i d front (le_refl i)
+    ∙ (get_or-drop i xs (i - i) d ∙ ap (λ k. get_or xs k d) (omega arith)))

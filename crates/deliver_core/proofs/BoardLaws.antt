@@ -26,9 +26,11 @@ at_place (x ∷ hs) zero h e = let same : x ≡ h = cc in ap some same
 at_place (x ∷ hs) (suc i) h e = at_place hs i h e
 
 -- what holds of each holder holds of the one at a place
-All_at : (hs : List SeatState) (i : ℕ) (h : SeatState) → get_elem? hs i ≡ some h → All (λ (g : SeatState). IsStrictlyIncreasing g.drawn) hs → IsStrictlyIncreasing h.drawn
+All_at : (hs : List SeatState) (i : ℕ) (h : SeatState) → get_elem? hs i ≡ some h → All (λ (g : SeatState). IsStrictlyIncreasing g.drawn) hs
+    → IsStrictlyIncreasing h.drawn
 All_at [] i h at all = absurd (some-ne-none h (sym at))
-All_at (x ∷ hs) zero h at all = subst (λ (g : SeatState). IsStrictlyIncreasing g.drawn) (some-injective x h at) (All-head (λ (g : SeatState). IsStrictlyIncreasing g.drawn) x hs all)
+All_at (x ∷ hs) zero h at all =
+    subst (λ (g : SeatState). IsStrictlyIncreasing g.drawn) (some-injective x h at) (All-head (λ (g : SeatState). IsStrictlyIncreasing g.drawn) x hs all)
 All_at (x ∷ hs) (suc i) h at all = All_at hs i h at (All-tail (λ (g : SeatState). IsStrictlyIncreasing g.drawn) x hs all)
 
 pub lawful_new : (tasks seats : ℕ) → IsLawful tasks seats (opened seats)
@@ -36,7 +38,8 @@ lawful_new tasks seats =
     let none : SeatState = record { drawn = []; done = false } in
     let m : min 0 tasks ≡ 0 = omega arith in record {
       tally = record {
-        numbers = λ x. sum_by-replicate (λ (h : SeatState). times x h.drawn) seats none ∙ (zero_times seats ∙ sym (ap (λ n. once_below n x) m ∙ once_below_zero x));
+        numbers = λ x. sum_by-replicate (λ (h : SeatState). times x h.drawn) seats none
+            ∙ (zero_times seats ∙ sym (ap (λ n. once_below n x) m ∙ once_below_zero x));
         lengths = sum_by-replicate (λ (h : SeatState). length h.drawn) seats none ∙ (zero_times seats ∙ sym m);
         word_is = let overs = sum_by-replicate (λ (h : SeatState). cond h.done 1 0) seats none ∙ zero_times seats in omega arith;
       };
@@ -65,8 +68,10 @@ lawful_draw tasks seats b place l = at_seat (slice_get b.seats place) refl
         let is = seat_number tasks b.word h below in
         let drawn = ap (λ (g : SeatState). g.drawn) is in
         let all = tally_below (λ (g : SeatState). g.drawn) (λ (g : SeatState). cond g.done 1 0) tasks b.word b.seats l.tally place h at in record {
-          tally = tally_draws (λ (g : SeatState). g.drawn) (λ (g : SeatState). cond g.done 1 0) tasks b.word b.seats l.tally place h w at below drawn (ap (λ (g : SeatState). cond {A = ℕ} g.done 1 0) is);
-          rising = All-set (λ (g : SeatState). IsStrictlyIncreasing g.drawn) b.seats place w (subst IsStrictlyIncreasing (sym drawn) (increasing_push h.drawn b.word (rises h at) all)) l.rising;
+          tally = tally_draws (λ (g : SeatState). g.drawn) (λ (g : SeatState). cond g.done 1 0) tasks b.word b.seats l.tally place h w at below drawn
+              (ap (λ (g : SeatState). cond {A = ℕ} g.done 1 0) is);
+          rising = All-set (λ (g : SeatState). IsStrictlyIncreasing g.drawn) b.seats place w
+              (subst IsStrictlyIncreasing (sym drawn) (increasing_push h.drawn b.word (rises h at) all)) l.rising;
           count = length-set b.seats place w ∙ l.count;
         }
 
@@ -77,12 +82,14 @@ lawful_draw tasks seats b place l = at_seat (slice_get b.seats place) refl
         let drawn = ap (λ (g : SeatState). g.drawn) is in
         let over = ap (λ (g : SeatState). cond {A = ℕ} g.done 1 0) is in
         let before = ap (λ (d : Bool). cond {A = ℕ} d 1 0) still in record {
-          tally = tally_ends (λ (g : SeatState). g.drawn) (λ (g : SeatState). cond g.done 1 0) tasks b.word b.seats l.tally place h w at past_all drawn (omega arith);
+          tally = tally_ends (λ (g : SeatState). g.drawn) (λ (g : SeatState). cond g.done 1 0) tasks b.word b.seats l.tally place h w at past_all drawn
+              (omega arith);
           rising = All-set (λ (g : SeatState). IsStrictlyIncreasing g.drawn) b.seats place w (subst IsStrictlyIncreasing (sym drawn) (rises h at)) l.rising;
           count = length-set b.seats place w ∙ l.count;
         }
 
-    of_state : (h : SeatState) → get_elem? b.seats place ≡ some h → (d : Bool) → h.done ≡ d → IsLawful tasks seats (cond d b (record { word = b.word + 1; seats = set b.seats place (seat_after tasks b.word h) }))
+    of_state : (h : SeatState) → get_elem? b.seats place ≡ some h → (d : Bool) → h.done ≡ d
+        → IsLawful tasks seats (cond d b (record { word = b.word + 1; seats = set b.seats place (seat_after tasks b.word h) }))
     of_state h at true is = l
     of_state h at false is = ⊎_elim (number h at) (past h at is) (cases_lt b.word tasks)
 

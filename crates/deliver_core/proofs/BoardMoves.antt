@@ -9,10 +9,10 @@ use mathlib.Core.Option.{none, some}
 use lib.ListN.{get_elem?}
 use Rattle.atomic_table.specs.Table.{State, Me, Act, step, keeps, Valid, stepped, carried_after, Allows, Splits, Joins}
 use Rattle.atomic_table.proofs.Lists.{at_set, at_snoc, set_else}
-use Rattle.deliver_core.specs.declared.board.rule.Drawer.{Drawer}
+use Rattle.deliver_core.specs.declared.board.rule.SeatView.{SeatView}
 use Rattle.deliver_core.specs.declared.board.rule.Size.{Size}
 use Rattle.deliver_core.specs.Draws.{times, AreNumbersBelow}
-use Rattle.deliver_core.specs.Drawers.{drawer, FitsBoard, ObeysRule, TableObeysRule, Drew}
+use Rattle.deliver_core.specs.BoardRule.{seat_view, FitsBoard, ObeysRule, TableObeysRule, Drew}
 use Rattle.deliver_core.proofs.BoardTallies.{sum_at, part_le, tally_draws, tally_ends, tally_same, tally_below, tally_length, times-append}
 
 -- a number above all the others goes behind them
@@ -40,15 +40,16 @@ sums_le f g (x ∷ xs) le =
     omega (arith, sum_by-cons f x xs, sum_by-cons g x xs)
 
 -- the word never passes the numbers of tasks and seats together
-pub word_bound : (size : Size) (word : ℕ) (views : List Drawer) → ObeysRule size word views → word ≤ size.tasks + size.seats
+pub word_bound : (size : Size) (word : ℕ) (views : List SeatView) → ObeysRule size word views → word ≤ size.tasks + size.seats
 word_bound size word views k =
-    let overs = sums_le (λ (v : Drawer). v.over) (λ (v : Drawer). v.parts) views (λ i v at. (k.each i v at).over) in
+    let overs = sums_le (λ (v : SeatView). v.over) (λ (v : SeatView). v.parts) views (λ i v at. (k.each i v at).over) in
     let parts = k.parts in
     let is = k.tally.word_is in
     omega arith
 
-each_set : (size : Size) (views : List Drawer) (i : ℕ) (w : Drawer) → ((j : ℕ) (u : Drawer) → get_elem? views j ≡ some u → FitsBoard size u) → FitsBoard size w
-    → (j : ℕ) (u : Drawer) → get_elem? (set views i w) j ≡ some u → FitsBoard size u
+each_set : (size : Size) (views : List SeatView) (i : ℕ) (w : SeatView) → ((j : ℕ) (u : SeatView) → get_elem? views j ≡ some u → FitsBoard size u)
+    → FitsBoard size w
+    → (j : ℕ) (u : SeatView) → get_elem? (set views i w) j ≡ some u → FitsBoard size u
 each_set size views i w each here j u at =
     ⊎_elim
     (λ (t : (j ≡ i) × (w ≡ u)). subst (FitsBoard size) t.1 here)
@@ -57,103 +58,107 @@ each_set size views i w each here j u at =
 
 -- a draw of a seat of one part that has not met the end
 
-module _ (size : Size) (word : ℕ) (views : List Drawer) (k : ObeysRule size word views) (i : ℕ) (v : Drawer) (at : get_elem? views i ≡ some v) (one : v.parts ≡ 1) where
-  number_drawn : word < v.tasks → ObeysRule size (word + 1) (set views i (drawer v.tasks v.seats v.parts (v.drawn ++ word ∷ []) v.over))
+module _ (size : Size) (word : ℕ) (views : List SeatView) (k : ObeysRule size word views) (i : ℕ) (v : SeatView) (at : get_elem? views i ≡ some v)
+    (one : v.parts ≡ 1) where
+  number_drawn : word < v.tasks → ObeysRule size (word + 1) (set views i (seat_view v.tasks v.seats v.parts (v.drawn ++ word ∷ []) v.over))
   number_drawn below =
-      let w : Drawer = drawer v.tasks v.seats v.parts (v.drawn ++ word ∷ []) v.over in
+      let w : SeatView = seat_view v.tasks v.seats v.parts (v.drawn ++ word ∷ []) v.over in
       let mine = k.each i v at in
       let live = mine.live (omega arith) in
-      let s = sum_at (λ (u : Drawer). u.parts) views i v w at in
+      let s = sum_at (λ (u : SeatView). u.parts) views i v w at in
       let parts = k.parts in record {
         parts = omega arith;
-        tally = tally_draws (λ (u : Drawer). u.drawn) (λ (u : Drawer). u.over) size.tasks word views k.tally i v w at (omega arith) refl refl;
+        tally = tally_draws (λ (u : SeatView). u.drawn) (λ (u : SeatView). u.over) size.tasks word views k.tally i v w at (omega arith) refl refl;
         each = each_set size views i w k.each (record {
           live = mine.live;
           over = mine.over;
           idle = λ e. absurd (omega arith);
-          rises = λ h. increasing_push v.drawn word (mine.rises h) (tally_below (λ (u : Drawer). u.drawn) (λ (u : Drawer). u.over) size.tasks word views k.tally i v at);
+          rises = λ h. increasing_push v.drawn word (mine.rises h)
+              (tally_below (λ (u : SeatView). u.drawn) (λ (u : SeatView). u.over) size.tasks word views k.tally i v at);
         });
       }
 
-  end_met : v.tasks ≤ word → v.over ≡ 0 → ObeysRule size (word + 1) (set views i (drawer v.tasks v.seats v.parts v.drawn (v.over + 1)))
+  end_met : v.tasks ≤ word → v.over ≡ 0 → ObeysRule size (word + 1) (set views i (seat_view v.tasks v.seats v.parts v.drawn (v.over + 1)))
   end_met past zero_over =
-      let w : Drawer = drawer v.tasks v.seats v.parts v.drawn (v.over + 1) in
+      let w : SeatView = seat_view v.tasks v.seats v.parts v.drawn (v.over + 1) in
       let mine = k.each i v at in
       let live = mine.live (omega arith) in
-      let s = sum_at (λ (u : Drawer). u.parts) views i v w at in
+      let s = sum_at (λ (u : SeatView). u.parts) views i v w at in
       let parts = k.parts in record {
         parts = omega arith;
-        tally = tally_ends (λ (u : Drawer). u.drawn) (λ (u : Drawer). u.over) size.tasks word views k.tally i v w at (omega arith) refl refl;
+        tally = tally_ends (λ (u : SeatView). u.drawn) (λ (u : SeatView). u.over) size.tasks word views k.tally i v w at (omega arith) refl refl;
         each = each_set size views i w k.each (record { live = mine.live; over = omega arith; idle = mine.idle; rises = mine.rises });
       }
 
 -- the rule of a table whose word went up by one
-table_set : (size : Size) (s : State (Unit {0}) Drawer) (i : ℕ) (me : Me (Unit {0}) Drawer) (w : Drawer) → length s.words ≡ 1 → size.tasks < 2 ^ 32 → size.seats < 2 ^ 32
+table_set : (size : Size) (s : State (Unit {0}) SeatView) (i : ℕ) (me : Me (Unit {0}) SeatView) (w : SeatView) → length s.words ≡ 1 → size.tasks < 2 ^ 32
+    → size.seats < 2 ^ 32
     → ObeysRule size (slice_index s.words 0 + 1) (set s.views i w) → TableObeysRule size (stepped s 0 ((slice_index s.words 0 + 1) % 2 ^ 64) i me.1 w keeps)
-table_set size s i me w wide tasks seats kept =
+table_set size s i me w wide tasks seats ruled =
     let word : ℕ = slice_index s.words 0 in
-    let bound : word + 1 ≤ size.tasks + size.seats = word_bound size (word + 1) (set s.views i w) kept in
+    let bound : word + 1 ≤ size.tasks + size.seats = word_bound size (word + 1) (set s.views i w) ruled in
     let fits : word + 1 ≡ (word + 1) % 2 ^ 64 = omega arith in
     let now : (word + 1) % 2 ^ 64 ≡ get_or (set s.words 0 ((word + 1) % 2 ^ 64)) 0 0 = sym (get_or-set_same s.words 0 ((word + 1) % 2 ^ 64) 0 (omega arith)) in
-    (length-set s.words 0 ((word + 1) % 2 ^ 64) ∙ wide, subst (λ (n : ℕ). ObeysRule size n (set s.views i w)) (fits ∙ now) kept)
+    (length-set s.words 0 ((word + 1) % 2 ^ 64) ∙ wide, subst (λ (n : ℕ). ObeysRule size n (set s.views i w)) (fits ∙ now) ruled)
 
-pub draws : (size : Size) (slots i : ℕ) (me : Me (Unit {0}) Drawer) → me.0.parts ≡ 1 → me.0.over ≡ 0 → size.tasks < 2 ^ 32 → size.seats < 2 ^ 32
+pub draws : (size : Size) (slots i : ℕ) (me : Me (Unit {0}) SeatView) → me.0.parts ≡ 1 → me.0.over ≡ 0 → size.tasks < 2 ^ 32 → size.seats < 2 ^ 32
     → Allows (TableObeysRule size) slots i me 0 (λ n. (n + 1) % 2 ^ 64) (Drew (step slots 0 1 0 none) me)
 draws size slots i me one zero_over tasks seats s holds _ at _ = go (nat_lt word v.tasks) refl
   where
-    v : Drawer
+    v : SeatView
     v = me.0
 
     word : ℕ
     word = slice_index s.words 0
 
-    Tells : Bool → Drawer → Type 0
+    Tells : Bool → SeatView → Type 0
     Tells b w =
         MatchBool b
-        (All (λ k. k < word) v.drawn × (length v.drawn ≤ word) × (w ≡ drawer v.tasks v.seats v.parts (v.drawn ++ word ∷ []) v.over))
-        (w ≡ drawer v.tasks v.seats v.parts v.drawn (v.over + 1))
+        (All (λ k. k < word) v.drawn × (length v.drawn ≤ word) × (w ≡ seat_view v.tasks v.seats v.parts (v.drawn ++ word ∷ []) v.over))
+        (w ≡ seat_view v.tasks v.seats v.parts v.drawn (v.over + 1))
 
-    moved : (w : Drawer) → ObeysRule size (word + 1) (set s.views i w) → TableObeysRule size (stepped s 0 ((word + 1) % 2 ^ 64) i me.1 w keeps) × (word < v.tasks + v.seats)
-    moved w kept =
+    moved : (w : SeatView) → ObeysRule size (word + 1) (set s.views i w)
+        → TableObeysRule size (stepped s 0 ((word + 1) % 2 ^ 64) i me.1 w keeps) × (word < v.tasks + v.seats)
+    moved w ruled =
         let live = (holds.1.each i v at).live (omega arith) in
-        let bound = word_bound size (word + 1) (set s.views i w) kept in
-        (table_set size s i me w holds.0 tasks seats kept, omega arith)
+        let bound = word_bound size (word + 1) (set s.views i w) ruled in
+        (table_set size s i me w holds.0 tasks seats ruled, omega arith)
 
     go : (b : Bool) → nat_lt word v.tasks ≡ b
-        → (w : Drawer) × (a : Act (Unit {0})) × Valid s.homes me.1 a × TableObeysRule size (stepped s 0 ((word + 1) % 2 ^ 64) i me.1 w a)
+        → (w : SeatView) × (a : Act (Unit {0})) × Valid s.homes me.1 a × TableObeysRule size (stepped s 0 ((word + 1) % 2 ^ 64) i me.1 w a)
         × ((word < v.tasks + v.seats) × (carried_after me.1 a ≡ me.1) × Tells b w)
     go true is =
-        let w : Drawer = drawer v.tasks v.seats v.parts (v.drawn ++ word ∷ []) v.over in
+        let w : SeatView = seat_view v.tasks v.seats v.parts (v.drawn ++ word ∷ []) v.over in
         let below : word < v.tasks = grind (arith, nat_tests) in
         let m = moved w (number_drawn size word s.views holds.1 i v at one below) in
         let t = holds.1.tally in
-        let all = tally_below (λ (u : Drawer). u.drawn) (λ (u : Drawer). u.over) size.tasks word s.views t i v at in
-        let few = tally_length (λ (u : Drawer). u.drawn) (λ (u : Drawer). u.over) size.tasks word s.views t i v at in
+        let all = tally_below (λ (u : SeatView). u.drawn) (λ (u : SeatView). u.over) size.tasks word s.views t i v at in
+        let few = tally_length (λ (u : SeatView). u.drawn) (λ (u : SeatView). u.over) size.tasks word s.views t i v at in
         (w, keeps, tt, m.0, (m.1, refl, (all, few, refl)))
     go false is =
-        let w : Drawer = drawer v.tasks v.seats v.parts v.drawn (v.over + 1) in
+        let w : SeatView = seat_view v.tasks v.seats v.parts v.drawn (v.over + 1) in
         let past : v.tasks ≤ word = grind (arith, nat_tests) in
         let m = moved w (end_met size word s.views holds.1 i v at one past zero_over) in
         (w, keeps, tt, m.0, (m.1, refl, refl))
 
 -- one seat of several that have drawn nothing goes to a view of its own
-pub splits : (size : Size) (i : ℕ) (v : Drawer) → 1 < v.parts → v.drawn ≡ [] → v.over ≡ 0
-    → Splits (TableObeysRule size) i v (drawer v.tasks v.seats (v.parts - 1) v.drawn v.over) (drawer v.tasks v.seats 1 [] 0)
-splits size i v several nothing zero_over s holds at = (holds.0, kept)
+pub splits : (size : Size) (i : ℕ) (v : SeatView) → 1 < v.parts → v.drawn ≡ [] → v.over ≡ 0
+    → Splits (TableObeysRule size) i v (seat_view v.tasks v.seats (v.parts - 1) v.drawn v.over) (seat_view v.tasks v.seats 1 [] 0)
+splits size i v several nothing zero_over s holds at = (holds.0, ruled)
   where
-    left : Drawer
-    left = drawer v.tasks v.seats (v.parts - 1) v.drawn v.over
+    left : SeatView
+    left = seat_view v.tasks v.seats (v.parts - 1) v.drawn v.over
 
-    right : Drawer
-    right = drawer v.tasks v.seats 1 [] 0
+    right : SeatView
+    right = seat_view v.tasks v.seats 1 [] 0
 
-    views : List Drawer
+    views : List SeatView
     views = set s.views i left ++ right ∷ []
 
     word : ℕ
     word = slice_index s.words 0
 
-    same : (f : Drawer → ℕ) → f left ≡ f v → f right ≡ 0 → sum_by f views ≡ sum_by f s.views
+    same : (f : SeatView → ℕ) → f left ≡ f v → f right ≡ 0 → sum_by f views ≡ sum_by f s.views
     same f stays nil =
         let one = sum_at f s.views i v left at in
         omega (arith, sum_by_push f (set s.views i left) right)
@@ -161,7 +166,7 @@ splits size i v several nothing zero_over s holds at = (holds.0, kept)
     rises_empty : IsStrictlyIncreasing []
     rises_empty k h = absurd (omega arith)
 
-    each : (j : ℕ) (u : Drawer) → get_elem? views j ≡ some u → FitsBoard size u
+    each : (j : ℕ) (u : SeatView) → get_elem? views j ≡ some u → FitsBoard size u
     each j u there =
         let mine = holds.1.each i v at in
         let live = mine.live (omega arith) in
@@ -172,42 +177,44 @@ splits size i v several nothing zero_over s holds at = (holds.0, kept)
           rises = λ _. subst IsStrictlyIncreasing (sym nothing) rises_empty;
         } in
         let of_right : FitsBoard size right = record { live = λ _. live; over = omega arith; idle = λ _. refl; rises = λ _. rises_empty } in
-        ⊎_elim (each_set size s.views i left holds.1.each of_left j u) (λ (e : right ≡ u). subst (FitsBoard size) e of_right) (at_snoc (set s.views i left) right u j there)
+        ⊎_elim (each_set size s.views i left holds.1.each of_left j u) (λ (e : right ≡ u). subst (FitsBoard size) e of_right)
+        (at_snoc (set s.views i left) right u j there)
 
-    kept : ObeysRule size word views
-    kept =
-        let one = sum_at (λ (u : Drawer). u.parts) s.views i v left at in
+    ruled : ObeysRule size word views
+    ruled =
+        let one = sum_at (λ (u : SeatView). u.parts) s.views i v left at in
         let parts = holds.1.parts in record {
-          parts = omega (arith, sum_by_push (λ (u : Drawer). u.parts) (set s.views i left) right);
-          tally = tally_same (λ (u : Drawer). u.drawn) (λ (u : Drawer). u.over) size.tasks word s.views holds.1.tally views
-              (λ x. same (λ (u : Drawer). times x u.drawn) refl refl) (same (λ (u : Drawer). length u.drawn) refl refl) (same (λ (u : Drawer). u.over) refl refl);
+          parts = omega (arith, sum_by_push (λ (u : SeatView). u.parts) (set s.views i left) right);
+          tally = tally_same (λ (u : SeatView). u.drawn) (λ (u : SeatView). u.over) size.tasks word s.views holds.1.tally views
+              (λ x. same (λ (u : SeatView). times x u.drawn) refl refl) (same (λ (u : SeatView). length u.drawn) refl refl)
+              (same (λ (u : SeatView). u.over) refl refl);
           each = each;
         }
 
 -- one view takes over what another has
-pub joins : (size : Size) (i : ℕ) (v : Drawer) (other : ℕ) (w : Drawer) → 0 < v.parts → 0 < w.parts
-    → Joins (TableObeysRule size) i v other w (drawer v.tasks v.seats (v.parts + w.parts) (v.drawn ++ w.drawn) (v.over + w.over)) (drawer 0 0 0 [] 0)
-joins size i v other w here there s holds at apart other_at = (holds.0, kept)
+pub joins : (size : Size) (i : ℕ) (v : SeatView) (other : ℕ) (w : SeatView) → 0 < v.parts → 0 < w.parts
+    → Joins (TableObeysRule size) i v other w (seat_view v.tasks v.seats (v.parts + w.parts) (v.drawn ++ w.drawn) (v.over + w.over)) (seat_view 0 0 0 [] 0)
+joins size i v other w here there s holds at apart other_at = (holds.0, ruled)
   where
-    both : Drawer
-    both = drawer v.tasks v.seats (v.parts + w.parts) (v.drawn ++ w.drawn) (v.over + w.over)
+    both : SeatView
+    both = seat_view v.tasks v.seats (v.parts + w.parts) (v.drawn ++ w.drawn) (v.over + w.over)
 
-    spent : Drawer
-    spent = drawer 0 0 0 [] 0
+    spent : SeatView
+    spent = seat_view 0 0 0 [] 0
 
-    views : List Drawer
+    views : List SeatView
     views = set (set s.views i both) other spent
 
     word : ℕ
     word = slice_index s.words 0
 
-    same : (f : Drawer → ℕ) → f both ≡ f v + f w → f spent ≡ 0 → sum_by f views ≡ sum_by f s.views
+    same : (f : SeatView → ℕ) → f both ≡ f v + f w → f spent ≡ 0 → sum_by f views ≡ sum_by f s.views
     same f adds nil =
         let one = sum_at f s.views i v both at in
         let two = sum_at f (set s.views i both) other w spent other_at in
         omega arith
 
-    each : (j : ℕ) (u : Drawer) → get_elem? views j ≡ some u → FitsBoard size u
+    each : (j : ℕ) (u : SeatView) → get_elem? views j ≡ some u → FitsBoard size u
     each =
         let mine = holds.1.each i v at in
         let theirs = holds.1.each other w (sym (set_else s.views i other both apart) ∙ other_at) in
@@ -219,16 +226,17 @@ joins size i v other w here there s holds at apart other_at = (holds.0, kept)
           idle = λ e. absurd (omega arith);
           rises = λ e. absurd (omega arith);
         } in
-        let of_spent : FitsBoard size spent = record { live = λ e. absurd (omega arith); over = omega arith; idle = λ _. refl; rises = λ e. absurd (omega arith) } in
+        let of_spent : FitsBoard size spent =
+        record { live = λ e. absurd (omega arith); over = omega arith; idle = λ _. refl; rises = λ e. absurd (omega arith) } in
         each_set size (set s.views i both) other spent (each_set size s.views i both holds.1.each of_both) of_spent
 
-    kept : ObeysRule size word views
-    kept = record {
-      parts = same (λ (u : Drawer). u.parts) refl refl ∙ holds.1.parts;
-      tally = tally_same (λ (u : Drawer). u.drawn) (λ (u : Drawer). u.over) size.tasks word s.views holds.1.tally views
-          (λ x. same (λ (u : Drawer). times x u.drawn) (times-append x v.drawn w.drawn) refl)
-          (same (λ (u : Drawer). length u.drawn) (length-append v.drawn w.drawn) refl)
-          (same (λ (u : Drawer). u.over) refl refl);
+    ruled : ObeysRule size word views
+    ruled = record {
+      parts = same (λ (u : SeatView). u.parts) refl refl ∙ holds.1.parts;
+      tally = tally_same (λ (u : SeatView). u.drawn) (λ (u : SeatView). u.over) size.tasks word s.views holds.1.tally views
+          (λ x. same (λ (u : SeatView). times x u.drawn) (times-append x v.drawn w.drawn) refl)
+          (same (λ (u : SeatView). length u.drawn) (length-append v.drawn w.drawn) refl)
+          (same (λ (u : SeatView). u.over) refl refl);
       each = each;
     }
 
@@ -240,26 +248,29 @@ sum_none f (x ∷ xs) nil =
     omega (arith, sum_by-cons f x xs)
 
 -- a view that stands for all seats has all that was drawn
-module _ (size : Size) (word : ℕ) (views : List Drawer) (k : ObeysRule size word views) (i : ℕ) (v : Drawer) (at : get_elem? views i ≡ some v) (all : v.parts ≡ size.seats) where
-  alone : (f : Drawer → ℕ) → ((u : Drawer) → FitsBoard size u → u.parts ≡ 0 → f u ≡ 0) → sum_by f views ≡ f v
+module _ (size : Size) (word : ℕ) (views : List SeatView) (k : ObeysRule size word views) (i : ℕ) (v : SeatView) (at : get_elem? views i ≡ some v)
+    (all : v.parts ≡ size.seats) where
+  alone : (f : SeatView → ℕ) → ((u : SeatView) → FitsBoard size u → u.parts ≡ 0 → f u ≡ 0) → sum_by f views ≡ f v
   alone f idle =
-      let spent : Drawer = drawer 0 0 0 [] 0 in
-      let of_spent : FitsBoard size spent = record { live = λ e. absurd (omega arith); over = omega arith; idle = λ _. refl; rises = λ e. absurd (omega arith) } in
-      let others : List Drawer = set views i spent in
-      let each : (j : ℕ) (u : Drawer) → get_elem? others j ≡ some u → FitsBoard size u = each_set size views i spent k.each of_spent in
+      let spent : SeatView = seat_view 0 0 0 [] 0 in
+      let of_spent : FitsBoard size spent =
+      record { live = λ e. absurd (omega arith); over = omega arith; idle = λ _. refl; rises = λ e. absurd (omega arith) } in
+      let others : List SeatView = set views i spent in
+      let each : (j : ℕ) (u : SeatView) → get_elem? others j ≡ some u → FitsBoard size u = each_set size views i spent k.each of_spent in
       let parts = k.parts in
-      let left = sum_at (λ (u : Drawer). u.parts) views i v spent at in
-      let nobody : sum_by (λ (u : Drawer). u.parts) others ≡ 0 = omega arith in
-      let nil : sum_by f others ≡ 0 = sum_none f others (λ j u there. idle u (each j u there) (let part = part_le (λ (x : Drawer). x.parts) others j u there in omega arith)) in
+      let left = sum_at (λ (u : SeatView). u.parts) views i v spent at in
+      let nobody : sum_by (λ (u : SeatView). u.parts) others ≡ 0 = omega arith in
+      let nil : sum_by f others ≡ 0 =
+      sum_none f others (λ j u there. idle u (each j u there) (let part = part_le (λ (x : SeatView). x.parts) others j u there in omega arith)) in
       let zero_at_none : f spent ≡ 0 = idle spent of_spent refl in
       let s = sum_at f views i v spent at in
       omega arith
 
   pub all_drawn : AreNumbersBelow (min word size.tasks) v.drawn
-  all_drawn x = sym (alone (λ (u : Drawer). times x u.drawn) (λ u stands idle. ap (times x) (stands.idle idle))) ∙ k.tally.numbers x
+  all_drawn x = sym (alone (λ (u : SeatView). times x u.drawn) (λ u stands idle. ap (times x) (stands.idle idle))) ∙ k.tally.numbers x
 
   pub all_over : word ≡ min word size.tasks + v.over
-  all_over = k.tally.word_is ∙ ap (λ n. min word size.tasks + n) (alone (λ (u : Drawer). u.over) (λ u stands idle. let over = stands.over in omega arith))
+  all_over = k.tally.word_is ∙ ap (λ n. min word size.tasks + n) (alone (λ (u : SeatView). u.over) (λ u stands idle. let over = stands.over in omega arith))
 
   -- where some seat has met the end, the word has passed all tasks
   pub end_passed : 0 < v.over → min word size.tasks ≡ size.tasks

@@ -62,7 +62,8 @@ some_done done xs (k, x, inside, is, yes_done) =
 
 module _ {X : Type 0} (drawn : X → List ℕ) (over : X → ℕ) (tasks word : ℕ) (xs : List X) (t : Tally drawn over tasks word xs) where
   -- a holder draws the word
-  pub tally_draws : (i : ℕ) (v w : X) → get_elem? xs i ≡ some v → word < tasks → drawn w ≡ drawn v ++ word ∷ [] → over w ≡ over v → Tally drawn over tasks (word + 1) (set xs i w)
+  pub tally_draws : (i : ℕ) (v w : X) → get_elem? xs i ≡ some v → word < tasks → drawn w ≡ drawn v ++ word ∷ [] → over w ≡ over v
+      → Tally drawn over tasks (word + 1) (set xs i w)
   tally_draws i v w at below more same = record {
     numbers = λ x.
         let s = sum_at (λ h. times x (drawn h)) xs i v w at in
@@ -82,7 +83,8 @@ module _ {X : Type 0} (drawn : X → List ℕ) (over : X → ℕ) (tasks word : 
   }
 
   -- a holder meets the end of the numbers
-  pub tally_ends : (i : ℕ) (v w : X) → get_elem? xs i ≡ some v → tasks ≤ word → drawn w ≡ drawn v → over w ≡ over v + 1 → Tally drawn over tasks (word + 1) (set xs i w)
+  pub tally_ends : (i : ℕ) (v w : X) → get_elem? xs i ≡ some v → tasks ≤ word → drawn w ≡ drawn v → over w ≡ over v + 1
+      → Tally drawn over tasks (word + 1) (set xs i w)
   tally_ends i v w at past same more = record {
     numbers = λ x.
         let s = sum_at (λ h. times x (drawn h)) xs i v w at in

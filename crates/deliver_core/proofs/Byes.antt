@@ -2,7 +2,7 @@
 use Rattle.std.proofs.Common.{◌≡◌, ◌||◌, Bool, true, false, List, [], ◌∷◌, ◌++◌, refl, ap, ◌∙◌}
 use Rattle.std.proofs.lemmas.List.Folds.{list_any-append}
 use Rattle.deliver_core.specs.declared.message.Message.{Message}
-use Rattle.deliver_core.specs.Posts.{is_bye, has_bye, EndsAtBye}
+use Rattle.deliver_core.specs.Byes.{is_bye, has_bye, EndsAtBye}
 
 or_false : (b : Bool) → (false || (b || false)) ≡ b
 or_false true = refl

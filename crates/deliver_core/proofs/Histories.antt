@@ -8,14 +8,15 @@ use Rattle.std.proofs.lemmas.List.Elements.{All-push, filter-append}
 use Rattle.std.proofs.lemmas.List.Folds.{list_any-append}
 use Rattle.std.proofs.lemmas.List.FromFn.{map-range_with_len_more, sum_by-map-range_with_len_more}
 use Rattle.std.proofs.lemmas.List.Sums.{count_by-le-length, length-filter, sum_by-append}
+use mathlib.Core.List.{IsPrefix}
 use Rattle.deliver_core.specs.declared.mark.Mark.{Mark}
 use Rattle.deliver_core.specs.declared.mark.Mark.TheVariants.{Batch, End}
 use Rattle.deliver_core.specs.declared.collector.Progress.{Progress}
-use Rattle.deliver_core.specs.declared.collector.Finish.TheVariants.{Open}
-use Rattle.deliver_core.specs.declared.collector.Refusal.{Refusal}
-use Rattle.deliver_core.specs.declared.collector.Refusal.TheVariants.{Stranger, AfterEnd}
+use Rattle.deliver_core.specs.declared.faults.Finish.TheVariants.{Open}
+use Rattle.deliver_core.specs.declared.faults.Refusal.{Refusal}
+use Rattle.deliver_core.specs.declared.faults.Refusal.TheVariants.{Stranger, AfterEnd}
 use Rattle.deliver_core.specs.Collectors.{Collection, IsLeastOpen, awaited}
-use Rattle.deliver_core.specs.Marks.{task_of, is_end, marks_of, batch_count, has_end, batch_marks, script_marks, IsPrefix, IsLegalHistory, IsClosed}
+use Rattle.deliver_core.specs.Marks.{task_of, is_end, marks_of, batch_count, has_end, batch_marks, script_marks, IsLegalHistory, IsClosed}
 use Rattle.deliver_core.specs.Progress.{told, Tells}
 
 -- no batch is an end
@@ -41,8 +42,13 @@ list_any-told task p =
 
 pub count_by-told : (task : ℕ) (p : Progress) → count_by (λ mark. not (is_end mark)) (told task p) ≡ p.next
 count_by-told task p =
-    rw (sum_by-append (λ mark. cond (not (is_end mark)) 1 0) (batch_marks task p.next) (cond p.ended (End task p.next ∷ []) []), count_by-batch_marks task p.next)
-    (elim p.ended as (λ e. p.next + count_by (λ mark. not (is_end mark)) (cond e (End task p.next ∷ []) []) ≡ p.next) [ true ↦ omega arith | false ↦ omega arith ])
+    rw (
+      sum_by-append (λ mark. cond (not (is_end mark)) 1 0) (batch_marks task p.next)
+          (cond p.ended (End task p.next ∷ []) []),
+      count_by-batch_marks task p.next,
+    )
+    (elim p.ended as (λ e. p.next + count_by (λ mark. not (is_end mark)) (cond e (End task p.next ∷ []) []) ≡ p.next)
+    [ true ↦ omega arith | false ↦ omega arith ])
 
 pub told-prefix : (task : ℕ) (p : Progress) → IsPrefix (told task p) (script_marks task p.next)
 told-prefix task p =
@@ -60,13 +66,21 @@ told-end task p going = rw (going, append-nil (batch_marks task p.next)) refl
 
 batch_count-le-length : (task : ℕ) (marks : List Mark) → batch_count task marks ≤ length marks
 batch_count-le-length task marks =
-    omega (arith, count_by-le-length (λ mark. not (is_end mark)) (marks_of task marks), length-filter (λ mark. eqb (task_of mark) task) marks, count_by-le-length (λ mark. eqb (task_of mark) task) marks)
+    omega (
+      arith,
+      count_by-le-length (λ mark. not (is_end mark)) (marks_of task marks),
+      length-filter
+          (λ mark. eqb (task_of mark) task) marks,
+      count_by-le-length (λ mark. eqb (task_of mark) task) marks,
+    )
 
 -- one more mark
-marks_of-push : (task : ℕ) (marks : List Mark) (mark : Mark) → marks_of task (marks ++ mark ∷ []) ≡ marks_of task marks ++ cond (eqb (task_of mark) task) (mark ∷ []) []
+marks_of-push : (task : ℕ) (marks : List Mark) (mark : Mark)
+    → marks_of task (marks ++ mark ∷ []) ≡ marks_of task marks ++ cond (eqb (task_of mark) task) (mark ∷ []) []
 marks_of-push task marks mark = filter-append (λ m. eqb (task_of m) task) marks (mark ∷ [])
 
-pub marks_of-push_same : (task : ℕ) (marks : List Mark) (mark : Mark) → task_of mark ≡ task → marks_of task (marks ++ mark ∷ []) ≡ marks_of task marks ++ mark ∷ []
+pub marks_of-push_same : (task : ℕ) (marks : List Mark) (mark : Mark) → task_of mark ≡ task
+    → marks_of task (marks ++ mark ∷ []) ≡ marks_of task marks ++ mark ∷ []
 marks_of-push_same task marks mark same =
     let passes : eqb (task_of mark) task ≡ true = grind (arith, nat_tests) in
     marks_of-push task marks mark ∙ ap (λ b. marks_of task marks ++ cond b (mark ∷ []) []) passes
@@ -84,7 +98,8 @@ module _ (progress : List Progress) (marks : List Mark) (tells : Tells progress 
   batch_count-tells task d inside = ap (count_by (λ mark. not (is_end mark))) (tells.each task d inside) ∙ count_by-told task (get_or progress task d)
 
   -- one more mark of a task, of which its new counter tells
-  pub Tells-push : (task : ℕ) (d q : Progress) (mark : Mark) → task < length progress → task_of mark ≡ task → told task q ≡ told task (get_or progress task d) ++ mark ∷ [] → Tells (set progress task q) (marks ++ mark ∷ [])
+  pub Tells-push : (task : ℕ) (d q : Progress) (mark : Mark) → task < length progress → task_of mark ≡ task
+      → told task q ≡ told task (get_or progress task d) ++ mark ∷ [] → Tells (set progress task q) (marks ++ mark ∷ [])
   Tells-push task d q mark inside same more = record {
     numbered = simp length-set tells.numbered;
     known = simp length-set (All-push (λ m. task_of m < length progress) marks mark tells.known (subst (λ t. t < length progress) (sym same) inside));
@@ -93,10 +108,12 @@ module _ (progress : List Progress) (marks : List Mark) (tells : Tells progress 
         elim (eqb_tells task t) [
           | inl here ↦
               rw (← here.1)
-              (marks_of-push_same task marks mark same ∙ ap (λ front. front ++ mark ∷ []) (tells.each task d inside) ∙ sym more ∙ ap (told task) (sym (get_or-set_same progress task q e inside)))
+              (marks_of-push_same task marks mark same ∙ ap (λ front. front ++ mark ∷ []) (tells.each task d inside) ∙ sym more
+              ∙ ap (told task) (sym (get_or-set_same progress task q e inside)))
           | inr there ↦
               let other : t ≢ task = λ h. there.1 (sym h) in
-              marks_of-push_other t marks mark (λ h. there.1 (sym same ∙ h)) ∙ tells.each t e old ∙ ap (told t) (sym (get_or-set_other progress task t q e other))
+              marks_of-push_other t marks mark (λ h. there.1 (sym same ∙ h)) ∙ tells.each t e old
+              ∙ ap (told t) (sym (get_or-set_other progress task t q e other))
         ];
   }
 
@@ -104,8 +121,11 @@ module _ (progress : List Progress) (marks : List Mark) (tells : Tells progress 
   Tells-history = record {
     known = tells.known;
     in_turn = λ task inside.
-        let p = get_or progress task (record { next = 0; ended = false }) in
-        (p.next, subst (λ front. IsPrefix front (script_marks task p.next)) (sym (tells.each task (record { next = 0; ended = false }) inside)) (told-prefix task p));
+        let p = get_or progress task (record { next = 0; ended = false }) in (
+          p.next,
+          subst (λ front. IsPrefix front (script_marks task p.next)) (sym (tells.each task (record { next = 0; ended = false }) inside))
+              (told-prefix task p),
+        );
   }
 
   has_end-at : (b : Bool) (task : ℕ) → task < length progress → HoldsAt (λ p. p.ended ≡ b) progress task → has_end task marks ≡ b
@@ -116,23 +136,28 @@ module _ (progress : List Progress) (marks : List Mark) (tells : Tells progress 
   pub IsClosed-tells : All (λ p. p.ended ≡ true) progress → IsClosed (length progress) marks
   IsClosed-tells ended = λ task inside. has_end-at true task inside (λ d. ended task d inside)
 
-  pub IsLeastOpen-tells : (pairs : List (ℕ × ℕ)) (task : ℕ) → task < length progress → HoldsAt (λ p. p.ended ≡ false) progress task → AllWithin (λ p. p.ended ≡ true) progress 0 task → IsLeastOpen (record { tasks = length progress; marks = marks; pairs = pairs }) (Open task)
+  pub IsLeastOpen-tells : (pairs : List (ℕ × ℕ)) (task : ℕ) → task < length progress → HoldsAt (λ p. p.ended ≡ false) progress task
+      → AllWithin (λ p. p.ended ≡ true) progress 0 task → IsLeastOpen (record { tasks = length progress; marks = marks; pairs = pairs }) (Open task)
   IsLeastOpen-tells pairs task inside going ended =
       (inside, has_end-at false task inside going, λ other below. has_end-at true other (omega arith) (λ d. ended other d (omega arith) below))
 
 -- where a task takes one more message
-choice-Ok : (past ended : Bool) (counted next : ℕ) → ◌≡◌ {A = Result ℕ Refusal} (Ok next) (cond past (Err Stranger) (cond ended (Err AfterEnd) (Ok counted))) → (past ≡ false) × (ended ≡ false) × (counted ≡ next)
+choice-Ok : (past ended : Bool) (counted next : ℕ)
+    → ◌≡◌ {A = Result ℕ Refusal} (Ok next) (cond past (Err Stranger) (cond ended (Err AfterEnd) (Ok counted)))
+    → (past ≡ false) × (ended ≡ false) × (counted ≡ next)
 choice-Ok true ended counted next e = cc
 choice-Ok false true counted next e = cc
 choice-Ok false false counted next e = (refl, refl, cc)
 
-pub awaited-Ok : (c : Collection) (task next : ℕ) → Ok next ≡ awaited c task → (task < c.tasks) × (has_end task c.marks ≡ false) × (batch_count task c.marks ≡ next)
+pub awaited-Ok : (c : Collection) (task next : ℕ) → Ok next ≡ awaited c task
+    → (task < c.tasks) × (has_end task c.marks ≡ false) × (batch_count task c.marks ≡ next)
 awaited-Ok c task next e =
     let found = choice-Ok (leb c.tasks task) (has_end task c.marks) (batch_count task c.marks) next e in
     let inside : leb c.tasks task ≡ false = found.0 in
     (grind (arith, nat_tests), found.1, found.2)
 
-choice-from : (past ended : Bool) (counted next : ℕ) → past ≡ false → ended ≡ false → counted ≡ next → ◌≡◌ {A = Result ℕ Refusal} (Ok next) (cond past (Err Stranger) (cond ended (Err AfterEnd) (Ok counted)))
+choice-from : (past ended : Bool) (counted next : ℕ) → past ≡ false → ended ≡ false → counted ≡ next
+    → ◌≡◌ {A = Result ℕ Refusal} (Ok next) (cond past (Err Stranger) (cond ended (Err AfterEnd) (Ok counted)))
 choice-from true ended counted next p q r = cc
 choice-from false true counted next p q r = cc
 choice-from false false counted next p q r = cc
@@ -142,7 +167,9 @@ Ok-awaited c task next inside going counted =
     choice-from (leb c.tasks task) (has_end task c.marks) (batch_count task c.marks) next (grind (arith, nat_tests)) going counted
 
 -- a task that takes one more message, whose counter is p
-module _ (progress : List Progress) (marks : List Mark) (tells : Tells progress marks) (pairs : List (ℕ × ℕ)) (c : Collection) (view_is : record { tasks = length progress; marks = marks; pairs = pairs } ≡ c) (task next : ℕ) (taking : Ok next ≡ awaited c task) (p : Progress) (read : p ≡ get_or progress task p) where
+module _ (progress : List Progress) (marks : List Mark) (tells : Tells progress marks) (pairs : List (ℕ × ℕ)) (c : Collection)
+    (view_is : record { tasks = length progress; marks = marks; pairs = pairs } ≡ c) (task next : ℕ) (taking : Ok next ≡ awaited c task) (p : Progress)
+    (read : p ≡ get_or progress task p) where
   inside-taking : task < length progress
   inside-taking =
       let found = awaited-Ok c task next taking in
@@ -166,14 +193,16 @@ module _ (progress : List Progress) (marks : List Mark) (tells : Tells progress 
       let same : p.next ≡ (get_or progress task p).next = ap (λ q. q.next) read in
       omega arith
 
-  pub Tells-batch : (number : ℕ) → number ≡ next → (new : List Mark) → new ≡ marks ++ Batch task number ∷ [] → Tells (set progress task (record { next = p.next + 1; ended = p.ended })) new
+  pub Tells-batch : (number : ℕ) → number ≡ next → (new : List Mark) → new ≡ marks ++ Batch task number ∷ []
+      → Tells (set progress task (record { next = p.next + 1; ended = p.ended })) new
   Tells-batch number same new is =
       let mark : Batch task number ≡ Batch task p.next = ap (λ n. Batch task n) (same ∙ sym next-taking) in
       subst (Tells (set progress task (record { next = p.next + 1; ended = p.ended }))) (sym is)
       (Tells-push progress marks tells task p (record { next = p.next + 1; ended = p.ended }) (Batch task number) inside-taking refl
       (told-batch task p ended-taking ∙ ap (λ m. told task p ++ m ∷ []) (sym mark) ∙ ap (λ q. told task q ++ Batch task number ∷ []) read))
 
-  pub Tells-end : (count : ℕ) → count ≡ next → (new : List Mark) → new ≡ marks ++ End task count ∷ [] → Tells (set progress task (record { next = p.next; ended = true })) new
+  pub Tells-end : (count : ℕ) → count ≡ next → (new : List Mark) → new ≡ marks ++ End task count ∷ []
+      → Tells (set progress task (record { next = p.next; ended = true })) new
   Tells-end count same new is =
       let mark : End task count ≡ End task p.next = ap (λ n. End task n) (same ∙ sym next-taking) in
       subst (Tells (set progress task (record { next = p.next; ended = true }))) (sym is)

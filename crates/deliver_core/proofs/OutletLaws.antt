@@ -22,10 +22,13 @@ lawful_put ports port m s below is law =
     let regroup : s.taken ++ (s.waiting ++ m ∷ []) ≡ (s.taken ++ s.waiting) ++ m ∷ [] = sym (append_assoc s.taken s.waiting (m ∷ [])) in
     record {
       each = λ p. ap (of_port p) regroup ∙ ⊎_elim
-          (λ (same : (eqb p port ≡ true) × (p ≡ port)). of_port-same p (s.taken ++ s.waiting) m (is ∙ sym same.1) ∙ (ap (λ l. l ++ m ∷ []) (law.each p) ∙ (rw same.0 refl)))
-          (λ (other : (eqb p port ≡ false) × (p ≡ port → ⊥)). of_port-other p (s.taken ++ s.waiting) m (λ e. other.1 (sym e ∙ is)) ∙ (law.each p ∙ (rw other.0 refl)))
+          (λ (same : (eqb p port ≡ true) × (p ≡ port)). of_port-same p (s.taken ++ s.waiting) m (is ∙ sym same.1)
+          ∙ (ap (λ l. l ++ m ∷ []) (law.each p) ∙ (rw same.0 refl)))
+          (λ (other : (eqb p port ≡ false) × (p ≡ port → ⊥)). of_port-other p (s.taken ++ s.waiting) m (λ e. other.1 (sym e ∙ is))
+          ∙ (law.each p ∙ (rw other.0 refl)))
           (eqb_tells p port);
-      known = All-same (λ (n : Message). n.port < ports) _ _ regroup (All-push (λ (n : Message). n.port < ports) (s.taken ++ s.waiting) m law.known (subst (λ (p : ℕ). p < ports) (sym is) below));
+      known = All-same (λ (n : Message). n.port < ports) _ _ regroup
+          (All-push (λ (n : Message). n.port < ports) (s.taken ++ s.waiting) m law.known (subst (λ (p : ℕ). p < ports) (sym is) below));
     }
 
 lawful_take : (ports : ℕ) (waiting : List Message) (s : State) → s.waiting ≡ waiting → IsLawful ports s → IsLawful ports (after_take waiting s)
@@ -44,7 +47,8 @@ lawful_after ports Take s legal law = lawful_take ports s.waiting s refl law
 lawful_all : (ports : ℕ) (events : List Event) (s : State) → All (IsEventOf ports) events → IsLawful ports s → IsLawful ports (after_all events s)
 lawful_all ports [] s legal law = law
 lawful_all ports (event ∷ events) s legal law =
-    lawful_all ports events (after event s) (All-tail (IsEventOf ports) event events legal) (lawful_after ports event s (All-head (IsEventOf ports) event events legal) law)
+    lawful_all ports events (after event s) (All-tail (IsEventOf ports) event events legal)
+    (lawful_after ports event s (All-head (IsEventOf ports) event events legal) law)
 
 pub lawful : OutletLaw
 lawful ports events legal = lawful_all ports events initial legal (lawful_initial ports)

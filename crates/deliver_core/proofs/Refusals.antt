@@ -6,12 +6,13 @@ use Rattle.std.proofs.lemmas.Bool.Decides.{nat_tests, eqb_tells, leb_tells}
 use Rattle.std.proofs.lemmas.List.{append-nil, same_from_push, take_all, take-append-le}
 use Rattle.std.proofs.lemmas.List.Elements.{All-push, All-contains, Contains-push}
 use Rattle.std.proofs.lemmas.List.FromFn.{length-map-range_with_len, take-map-range_with_len}
+use mathlib.Core.List.{IsPrefix}
 use Rattle.deliver_core.specs.declared.mark.Mark.{Mark}
 use Rattle.deliver_core.specs.declared.mark.Mark.TheVariants.{Batch, End}
 use Rattle.deliver_core.specs.declared.collector.Progress.{Progress}
-use Rattle.deliver_core.specs.declared.collector.Refusal.{Refusal}
+use Rattle.deliver_core.specs.declared.faults.Refusal.{Refusal}
 use Rattle.deliver_core.specs.Collectors.{Collection, awaited, batch_refusal, end_refusal, refusal_of, accept, RefusesIllegal}
-use Rattle.deliver_core.specs.Marks.{task_of, is_end, marks_of, batch_count, has_end, batch_marks, script_marks, IsPrefix, IsLegalHistory}
+use Rattle.deliver_core.specs.Marks.{task_of, is_end, marks_of, batch_count, has_end, batch_marks, script_marks, IsLegalHistory}
 use Rattle.deliver_core.specs.Progress.{told}
 use Rattle.deliver_core.specs.Scripts.{Content, batch_of, end_of, bye}
 use Rattle.deliver_core.proofs.Histories.{list_any-told, count_by-told, told-prefix, told-batch, told-end, marks_of-push_same, marks_of-push_other, batch_marks-more, list_any-batch_marks, count_by-batch_marks, awaited-Ok, Ok-awaited}
@@ -26,7 +27,8 @@ counter_from_prefix task count front prefix =
       | inl short ↦
           let within : length front ≤ length (batch_marks task count) = omega arith in (
             record { next = length front; ended = false },
-            front_is ∙ take-append-le (length front) (batch_marks task count) (End task count ∷ []) within ∙ take-map-range_with_len (λ number. Batch task number) 0 count (length front) short.1 ∙ sym (append-nil (batch_marks task (length front))),
+            front_is ∙ take-append-le (length front) (batch_marks task count) (End task count ∷ []) within
+                ∙ take-map-range_with_len (λ number. Batch task number) 0 count (length front) short.1 ∙ sym (append-nil (batch_marks task (length front))),
           )
       | inr full ↦
           let within : length (script_marks task count) ≤ length front = omega (arith, length-append (batch_marks task count) (End task count ∷ [])) in
@@ -34,7 +36,8 @@ counter_from_prefix task count front prefix =
     ]
 
 -- one more mark keeps a history legal where some counter tells of its task's marks
-IsLegalHistory-push : (tasks : ℕ) (marks : List Mark) → IsLegalHistory tasks marks → (mark : Mark) → task_of mark < tasks → (p : Progress) → marks_of (task_of mark) (marks ++ mark ∷ []) ≡ told (task_of mark) p → IsLegalHistory tasks (marks ++ mark ∷ [])
+IsLegalHistory-push : (tasks : ℕ) (marks : List Mark) → IsLegalHistory tasks marks → (mark : Mark) → task_of mark < tasks → (p : Progress)
+    → marks_of (task_of mark) (marks ++ mark ∷ []) ≡ told (task_of mark) p → IsLegalHistory tasks (marks ++ mark ∷ [])
 IsLegalHistory-push tasks marks legal mark known p tells = record {
   known = All-push (λ m. task_of m < tasks) marks mark legal.known known;
   in_turn = λ task inside.
@@ -64,16 +67,20 @@ module _ (c : Collection) (legal : IsLegalHistory c.tasks c.marks) (task next : 
   legal-batch =
       let p = counter.0 in
       IsLegalHistory-push c.tasks c.marks legal (Batch task next) (awaited-Ok c task next taking).0 (record { next = p.next + 1; ended = p.ended })
-      (marks_of-push_same task c.marks (Batch task next) refl ∙ ap (λ front. front ++ Batch task next ∷ []) counter.1 ∙ ap (λ n. told task p ++ Batch task n ∷ []) (sym counted) ∙ sym (told-batch task p going))
+      (marks_of-push_same task c.marks (Batch task next) refl ∙ ap (λ front. front ++ Batch task next ∷ []) counter.1
+      ∙ ap (λ n. told task p ++ Batch task n ∷ []) (sym counted) ∙ sym (told-batch task p going))
 
   legal-end : IsLegalHistory c.tasks (c.marks ++ End task next ∷ [])
   legal-end =
       let p = counter.0 in
       IsLegalHistory-push c.tasks c.marks legal (End task next) (awaited-Ok c task next taking).0 (record { next = p.next; ended = true })
-      (marks_of-push_same task c.marks (End task next) refl ∙ ap (λ front. front ++ End task next ∷ []) counter.1 ∙ ap (λ n. told task p ++ End task n ∷ []) (sym counted) ∙ sym (told-end task p going))
+      (marks_of-push_same task c.marks (End task next) refl ∙ ap (λ front. front ++ End task next ∷ []) counter.1
+      ∙ ap (λ n. told task p ++ End task n ∷ []) (sym counted) ∙ sym (told-end task p going))
 
 -- the last mark that a counter tells of
-last_told : (task next : ℕ) (ended : Bool) (front : List Mark) (mark : Mark) → front ++ mark ∷ [] ≡ batch_marks task next ++ cond ended (End task next ∷ []) [] → (count : ℕ) × (front ≡ batch_marks task count) × ((mark ≡ Batch task count) ⊎ (mark ≡ End task count))
+last_told : (task next : ℕ) (ended : Bool) (front : List Mark) (mark : Mark)
+    → front ++ mark ∷ [] ≡ batch_marks task next ++ cond ended (End task next ∷ []) []
+    → (count : ℕ) × (front ≡ batch_marks task count) × ((mark ≡ Batch task count) ⊎ (mark ≡ End task count))
 last_told task next true front mark e =
     let same = same_from_push front (batch_marks task next) mark (End task next) e in
     (next, same.0, inr same.1)
@@ -85,7 +92,9 @@ last_told task (suc count) false front mark e =
     (count, same.0, inl same.1)
 
 -- a mark with which the marks of its task are a prefix of a script's is the one that is awaited
-taking_from_prefix : (c : Collection) (mark : Mark) → task_of mark < c.tasks → (count : ℕ) → IsPrefix (marks_of (task_of mark) (c.marks ++ mark ∷ [])) (script_marks (task_of mark) count) → (next : ℕ) × (Ok next ≡ awaited c (task_of mark)) × ((mark ≡ Batch (task_of mark) next) ⊎ (mark ≡ End (task_of mark) next))
+taking_from_prefix : (c : Collection) (mark : Mark) → task_of mark < c.tasks → (count : ℕ)
+    → IsPrefix (marks_of (task_of mark) (c.marks ++ mark ∷ [])) (script_marks (task_of mark) count)
+    → (next : ℕ) × (Ok next ≡ awaited c (task_of mark)) × ((mark ≡ Batch (task_of mark) next) ⊎ (mark ≡ End (task_of mark) next))
 taking_from_prefix c mark inside count prefix =
     let task = task_of mark in
     let p = counter_from_prefix task count (marks_of task (c.marks ++ mark ∷ [])) prefix in
@@ -109,13 +118,15 @@ end_refusal-None (Ok next) count e = ap (λ n. Ok n) (grind (arith, nat_tests))
 end_refusal-same : (next : ℕ) → end_refusal (Ok next) next ≡ None
 end_refusal-same next = grind (arith, nat_tests)
 
-legal_from_None : (c : Collection) (content : Content) → IsLegalHistory c.tasks c.marks → refusal_of c content ≡ None → IsLegalHistory c.tasks (accept c content).marks
+legal_from_None : (c : Collection) (content : Content) → IsLegalHistory c.tasks c.marks → refusal_of c content ≡ None
+    → IsLegalHistory c.tasks (accept c content).marks
 legal_from_None c (batch_of task number pairs) legal none = legal-batch c legal task number (batch_refusal-None (awaited c task) number none)
 legal_from_None c (end_of task count) legal none = legal-end c legal task count (end_refusal-None (awaited c task) count none)
 legal_from_None c (bye ok) legal none = subst (IsLegalHistory c.tasks) (sym (append-nil c.marks)) legal
 
 -- what the next mark of a script brings is not refused
-pub batch-None : (c : Collection) (task number : ℕ) (pairs : List (ℕ × ℕ)) → task < c.tasks → (count : ℕ) → IsPrefix (marks_of task (c.marks ++ Batch task number ∷ [])) (script_marks task count) → refusal_of c (batch_of task number pairs) ≡ None
+pub batch-None : (c : Collection) (task number : ℕ) (pairs : List (ℕ × ℕ)) → task < c.tasks → (count : ℕ)
+    → IsPrefix (marks_of task (c.marks ++ Batch task number ∷ [])) (script_marks task count) → refusal_of c (batch_of task number pairs) ≡ None
 batch-None c task number pairs inside count prefix =
     let found = taking_from_prefix c (Batch task number) inside count prefix in
     elim found.2 [
@@ -125,7 +136,8 @@ batch-None c task number pairs inside count prefix =
       | inr wrong ↦ absurd (cc wrong)
     ]
 
-pub end-None : (c : Collection) (task ended : ℕ) → task < c.tasks → (count : ℕ) → IsPrefix (marks_of task (c.marks ++ End task ended ∷ [])) (script_marks task count) → refusal_of c (end_of task ended) ≡ None
+pub end-None : (c : Collection) (task ended : ℕ) → task < c.tasks → (count : ℕ)
+    → IsPrefix (marks_of task (c.marks ++ End task ended ∷ [])) (script_marks task count) → refusal_of c (end_of task ended) ≡ None
 end-None c task ended inside count prefix =
     let found = taking_from_prefix c (End task ended) inside count prefix in
     elim found.2 [
@@ -137,11 +149,13 @@ end-None c task ended inside count prefix =
 
 None_from_legal : (c : Collection) (content : Content) → IsLegalHistory c.tasks (accept c content).marks → refusal_of c content ≡ None
 None_from_legal c (batch_of task number pairs) legal =
-    let inside : task < c.tasks = All-contains (λ m. task_of m < c.tasks) (c.marks ++ Batch task number ∷ []) (Batch task number) legal.known (Contains-push c.marks (Batch task number)) in
+    let inside : task < c.tasks = All-contains (λ m. task_of m < c.tasks) (c.marks ++ Batch task number ∷ []) (Batch task number) legal.known
+    (Contains-push c.marks (Batch task number)) in
     let turn = legal.in_turn task inside in
     batch-None c task number pairs inside turn.0 turn.1
 None_from_legal c (end_of task count) legal =
-    let inside : task < c.tasks = All-contains (λ m. task_of m < c.tasks) (c.marks ++ End task count ∷ []) (End task count) legal.known (Contains-push c.marks (End task count)) in
+    let inside : task < c.tasks = All-contains (λ m. task_of m < c.tasks) (c.marks ++ End task count ∷ []) (End task count) legal.known
+    (Contains-push c.marks (End task count)) in
     let turn = legal.in_turn task inside in
     end-None c task count inside turn.0 turn.1
 None_from_legal c (bye ok) legal = refl
@@ -150,7 +164,8 @@ pub refuses_illegal : RefusesIllegal
 refuses_illegal c content legal = (legal_from_None c content legal, None_from_legal c content)
 
 -- a task with its end has all marks of a script
-pub marks_of-ended : (tasks : ℕ) (marks : List Mark) → IsLegalHistory tasks marks → (task : ℕ) → task < tasks → has_end task marks ≡ true → marks_of task marks ≡ script_marks task (batch_count task marks)
+pub marks_of-ended : (tasks : ℕ) (marks : List Mark) → IsLegalHistory tasks marks → (task : ℕ) → task < tasks → has_end task marks ≡ true
+    → marks_of task marks ≡ script_marks task (batch_count task marks)
 marks_of-ended tasks marks legal task inside ended =
     let turn = legal.in_turn task inside in
     let p = counter_from_prefix task turn.0 (marks_of task marks) turn.1 in

@@ -12,7 +12,8 @@ use Rattle.deliver_core.specs.Marks.{batch_marks, script_marks}
 use Rattle.deliver_core.specs.Scripts.{batch_of, end_of, marks_in, pairs_in, batches_for, piece_of, script_batches, script}
 
 -- the marks
-marks_in-numbers : (task size : ℕ) (row : List (ℕ × ℕ)) (numbers : List ℕ) → flat_map marks_in (map (λ number. batch_of task number (piece_of size row number)) numbers) ≡ map (λ number. Batch task number) numbers
+marks_in-numbers : (task size : ℕ) (row : List (ℕ × ℕ)) (numbers : List ℕ)
+    → flat_map marks_in (map (λ number. batch_of task number (piece_of size row number)) numbers) ≡ map (λ number. Batch task number) numbers
 marks_in-numbers task size row [] = refl
 marks_in-numbers task size row (number ∷ numbers) = ap (λ marks. Batch task number ∷ marks) (marks_in-numbers task size row numbers)
 
@@ -60,7 +61,8 @@ pairs_in-script task size row some =
     ∙ take_all (batches_for size row * size) row (batches-reach size row some)
 
 -- each batch has a pair and at most `size`, and each but the last has `size`
-pub length-piece_of : (size : ℕ) (row : List (ℕ × ℕ)) → 0 < size → (number : ℕ) → number < batches_for size row → (0 < length (piece_of size row number)) × (length (piece_of size row number) ≤ size)
+pub length-piece_of : (size : ℕ) (row : List (ℕ × ℕ)) → 0 < size → (number : ℕ) → number < batches_for size row
+    → (0 < length (piece_of size row number)) × (length (piece_of size row number) ≤ size)
 length-piece_of size row some number below =
     let reached = number-reach size row some number below in
     simp (length-take, length-drop) (omega arith, omega arith)
@@ -74,7 +76,8 @@ length-full_piece size row some number below =
 seven : List (ℕ × ℕ)
 seven = (7, 7) ∷ (8, 8) ∷ (9, 9) ∷ (10, 10) ∷ (11, 11) ∷ (12, 12) ∷ (13, 13) ∷ []
 
-by_three : script 1 3 seven ≡ batch_of 1 0 ((7, 7) ∷ (8, 8) ∷ (9, 9) ∷ []) ∷ batch_of 1 1 ((10, 10) ∷ (11, 11) ∷ (12, 12) ∷ []) ∷ batch_of 1 2 ((13, 13) ∷ []) ∷ end_of 1 3 ∷ []
+by_three : script 1 3 seven ≡ batch_of 1 0 ((7, 7) ∷ (8, 8) ∷ (9, 9) ∷ []) ∷ batch_of 1 1 ((10, 10) ∷ (11, 11) ∷ (12, 12) ∷ []) ∷ batch_of 1 2
+    ((13, 13) ∷ []) ∷ end_of 1 3 ∷ []
 unfolding seven
 by_three = refl
 

@@ -1,11 +1,11 @@
 -- What contracts see of a board and of its seats.
-use Rattle.std.specs.Prelude.{◌≡◌, ℕ, ◌≤◌, Bool, false, List, [], length, if◌then◌else◌, Option, Some, None}
+use Rattle.std.specs.Prelude.{◌≡◌, ℕ, ◌+◌, ◌<◌, ◌≤◌, Bool, true, false, List, [], ◌∷◌, ◌++◌, length, All, if◌then◌else◌, Option, Some, None}
 use Rattle.atomic_table.specs.Seated.{TableId}
 use Rattle.atomic_table.specs.declared.shared.Seat.{Seat}
-use Rattle.deliver_core.specs.declared.board.TheConstants.Board.{MAX_TASKS, MAX_SEATS}
-use Rattle.deliver_core.specs.declared.board.rule.Drawer.{Drawer}
+use Rattle.deliver_core.specs.declared.board.rule.SeatView.{SeatView}
 use Rattle.deliver_core.specs.declared.board.rule.Size.{Size}
-use Rattle.deliver_core.specs.Draws.{SeatState}
+use Rattle.deliver_core.specs.Draws.{SeatState, seat_after}
+use Rattle.deliver_core.specs.Limits.{most_tasks, most_seats}
 
 -- a board: what no other board shares with it, its number of tasks and its number of seats
 pub record BoardValue : Type 0 where
@@ -13,7 +13,8 @@ pub record BoardValue : Type 0 where
   pub tasks : ℕ
   pub seats : ℕ
 
--- a seat: the board that it draws from, until that is closed and the seat is spent; the numbers that it has drawn from it, in order; how many these are; and whether it has met the end of the numbers
+-- a seat: the board that it draws from, until that is closed and the seat is spent; the numbers
+-- that it has drawn from it, in order; how many these are; and whether it has met the end of them
 pub record SeatValue : Type 0 where
   pub board : Option BoardValue
   pub drawn : List ℕ
@@ -36,28 +37,48 @@ state_of s = record { drawn = s.drawn; done = s.done }
 abbrev pub IsSeatOf : BoardValue → SeatValue → Type 0
 IsSeatOf b s = s.board ≡ Some b
 
+-- the seat before and after it drew the number of a task, which is above all that it had drawn
+pub record IsAfterNumber (b : BoardValue) (s t : SeatValue) (number : ℕ) : Type 0 where
+  pub task : number < b.tasks
+  pub above : All (λ earlier. earlier < number) s.drawn
+  pub drawn : t.drawn ≡ s.drawn ++ number ∷ []
+  pub before : s.done ≡ false
+  pub after : t.done ≡ false
+
+-- the seat before and after it met the end of the numbers, or had met it already
+pub record IsAfterEnd (s t : SeatValue) : Type 0 where
+  pub drawn : t.drawn ≡ s.drawn
+  pub done : t.done ≡ true
+
+-- the seat before and after one draw, which found some word
+abbrev pub IsDraw : BoardValue → SeatValue → SeatValue → Type 0
+IsDraw b s t = (word : ℕ) × (word < b.tasks + b.seats)
+    × (state_of t ≡ seat_after b.tasks word (state_of s))
+
 -- what a board is made for
 abbrev pub size_of : BoardValue → Size
 size_of b = record { tasks = b.tasks; seats = b.seats }
 
 -- the board of a seat at a table
-abbrev pub board_of : Seat (Unit {0}) Drawer → BoardValue
+abbrev pub board_of : Seat (Unit {0}) SeatView → BoardValue
 board_of s = record { id = s.table_id; tasks = s.me.0.tasks; seats = s.me.0.seats }
 
 -- the seat of which this is the seat at the table, if it isn't spent
-abbrev pub seat_value : Option (Seat (Unit {0}) Drawer) → ℕ → Bool → SeatValue
-seat_value (Some place) count done = record { board = Some (board_of place); drawn = place.me.0.drawn; count = count; done = done }
+abbrev pub seat_value : Option (Seat (Unit {0}) SeatView) → ℕ → Bool → SeatValue
+seat_value (Some place) count done =
+    record { board = Some (board_of place); drawn = place.me.0.drawn; count = count; done = done }
 seat_value None count done = record { board = None; drawn = []; count = count; done = done }
 
--- what the seat at the table knows is what is counted beside it: it stands for one seat and holds no slot
-pub record IsCounted (s : Seat (Unit {0}) Drawer) (count : ℕ) (done : Bool) : Type 0 where
+-- what the seat at the table knows is what is counted beside it: it stands for one seat, holds no
+-- slot, and is done once a draw of its has met the end
+pub record IsCounted (s : Seat (Unit {0}) SeatView) (count : ℕ) (done : Bool) : Type 0 where
   pub one : s.me.0.parts ≡ 1
   pub slots : s.me.1 ≡ []
   pub count_is : count ≡ length s.me.0.drawn
   pub over_is : s.me.0.over ≡ (if done then 1 else 0)
 
 -- the same of a seat that may be spent
-abbrev pub IsCountedSeat : Option (Seat (Unit {0}) Drawer) → ℕ → Bool → Type 0
+abbrev pub IsCountedSeat : Option (Seat (Unit {0}) SeatView) → ℕ → Bool → Type 0
 IsCountedSeat (Some place) count done = IsCounted place count done
 IsCountedSeat None count done = Unit {0}
 
@@ -66,6 +87,6 @@ pub record IsMadeFor (id : TableId) (size : Size) (tasks : ℕ) : Type 0 where
   pub words : id.words ≡ 1
   pub slots : id.slots ≡ 0
   pub tasks_are : tasks ≡ size.tasks
-  pub most_tasks : size.tasks ≤ MAX_TASKS
+  pub few_tasks : size.tasks ≤ most_tasks
   pub some_seats : 1 ≤ size.seats
-  pub most_seats : size.seats ≤ MAX_SEATS
+  pub few_seats : size.seats ≤ most_seats

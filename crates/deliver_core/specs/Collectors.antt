@@ -3,10 +3,10 @@ use Rattle.std.specs.Prelude.{◌≡◌, ◌↔◌, ℕ, ◌<◌, false, nat_lt,
 use Rattle.std.specs.Ordering.{nat_cmp, ordering_then}
 use Rattle.std.specs.declared.cmp.Ordering.{Ordering}
 use Rattle.deliver_core.specs.declared.mark.Mark.{Mark}
-use Rattle.deliver_core.specs.declared.collector.Refusal.{Refusal}
-use Rattle.deliver_core.specs.declared.collector.Refusal.TheVariants.{Stranger, AfterEnd, Double, Gap, WrongCount}
-use Rattle.deliver_core.specs.declared.collector.Finish.{Finish}
-use Rattle.deliver_core.specs.declared.collector.Finish.TheVariants.{Open}
+use Rattle.deliver_core.specs.declared.faults.Refusal.{Refusal}
+use Rattle.deliver_core.specs.declared.faults.Refusal.TheVariants.{Stranger, AfterEnd, Double, Gap, WrongCount}
+use Rattle.deliver_core.specs.declared.faults.Finish.{Finish}
+use Rattle.deliver_core.specs.declared.faults.Finish.TheVariants.{Open}
 use Rattle.deliver_core.specs.Marks.{has_end, batch_count, IsLegalHistory}
 use Rattle.deliver_core.specs.Scripts.{Content, batch_of, end_of, bye, marks_in, pairs_in}
 
@@ -44,8 +44,11 @@ refusal_of c (bye ok) = None
 
 -- the collection once it has accepted a message: its mark and its pairs stand last
 abbrev pub accept : Collection → Content → Collection
-accept c content =
-    record { tasks = c.tasks; marks = c.marks ++ marks_in content; pairs = c.pairs ++ pairs_in content }
+accept c content = record {
+  tasks = c.tasks;
+  marks = c.marks ++ marks_in content;
+  pairs = c.pairs ++ pairs_in content;
+}
 
 -- a message is refused exactly where its mark would leave no legal history
 abbrev pub RefusesIllegal : Type 0
@@ -56,7 +59,8 @@ RefusesIllegal =
 -- the fault of a collection that is not closed: the least task without an end
 abbrev pub IsLeastOpen : Collection → Finish → Type 0
 IsLeastOpen c (Open task) =
-    (task < c.tasks) × (has_end task c.marks ≡ false) × ((other : ℕ) → other < task → IsTrue (has_end other c.marks))
+    (task < c.tasks) × (has_end task c.marks ≡ false)
+    × ((other : ℕ) → other < task → IsTrue (has_end other c.marks))
 
 -- the order of pairs: by the first number, and then by the second
 abbrev pub pair_cmp : ℕ × ℕ → ℕ × ℕ → Ordering

@@ -16,17 +16,22 @@ pub record BoardState : Type 0 where
 abbrev pub opened : ℕ → BoardState
 opened seats = record { word = 0; seats = replicate seats (record { drawn = []; done = false }) }
 
--- a seat after a draw that found this word: the word is drawn where it is below the number of tasks, else the seat is done
+-- a seat after a draw that found this word: the word is drawn where it is below the number of
+-- tasks, else the seat is done
 abbrev pub seat_after : ℕ → ℕ → SeatState → SeatState
 seat_after tasks word s =
-    if nat_lt word tasks then record { drawn = s.drawn ++ word ∷ []; done = s.done } else record { drawn = s.drawn; done = true }
+    if nat_lt word tasks then record { drawn = s.drawn ++ word ∷ []; done = s.done }
+    else record { drawn = s.drawn; done = true }
 
--- the board after a draw of the seat at this place, which is s: the word rises by one. A seat that is done doesn't draw
+-- the board after a draw of the seat at this place, which is s: the word rises by one. A seat that
+-- is done doesn't draw
 abbrev pub drawn_by : ℕ → BoardState → ℕ → SeatState → BoardState
 drawn_by tasks b place s =
-    if s.done then b else record { word = b.word + 1; seats = slice_set b.seats place (seat_after tasks b.word s) }
+    if s.done then b
+    else record { word = b.word + 1; seats = slice_set b.seats place (seat_after tasks b.word s) }
 
--- the board after the event Draw of the seat at this place. Where there is no such seat, or it is done, there is no event
+-- the board after the event Draw of the seat at this place. Where there is no such seat, or it is
+-- done, there is no event
 abbrev pub after_draw : ℕ → BoardState → ℕ → BoardState
 after_draw tasks b place = option_map_or (drawn_by tasks b place) (slice_get b.seats place) b
 
@@ -46,8 +51,11 @@ once_below n x = if nat_lt x n then 1 else 0
 abbrev pub AreNumbersBelow : ℕ → List ℕ → Type 0
 AreNumbersBelow n xs = (x : ℕ) → times x xs ≡ once_below n x
 
--- What holders have drawn of a word together: the numbers below it, as far as there are tasks, each once; the other draws, which found no number, are counted by `over`.
-pub record Tally {X : Type 0} (drawn : X → List ℕ) (over : X → ℕ) (tasks word : ℕ) (holders : List X) : Type 0 where
-  pub numbers : (x : ℕ) → sum_by (λ h. times x (drawn h)) holders ≡ once_below (min word tasks) x
+-- What holders have drawn of a word together: the numbers below it, as far as there are tasks, each
+-- once; the other draws, which found no number, are counted by `over`.
+pub record Tally {X : Type 0} (drawn : X → List ℕ) (over : X → ℕ)
+    (tasks word : ℕ) (holders : List X) : Type 0 where
+  pub numbers : (x : ℕ)
+      → sum_by (λ h. times x (drawn h)) holders ≡ once_below (min word tasks) x
   pub lengths : sum_by (λ h. length (drawn h)) holders ≡ min word tasks
   pub word_is : word ≡ min word tasks + sum_by over holders

@@ -1,6 +1,7 @@
 -- the marks of a collector, and which lists of them are a legal history
 use Rattle.std.specs.Prelude.{◌≡◌, ℕ, ◌<◌, ◌==◌, Bool, true, false, not, List, [], ◌∷◌, ◌++◌, map, filter, count_by, All, IsTrue}
 use Rattle.std.specs.List.{list_any, range_with_len}
+use mathlib.Core.List.{IsPrefix}
 use Rattle.deliver_core.specs.declared.mark.Mark.{Mark}
 use Rattle.deliver_core.specs.declared.mark.Mark.TheVariants.{Batch, End}
 
@@ -32,13 +33,12 @@ batch_marks task count = map (λ number. Batch task number) (range_with_len 0 co
 abbrev pub script_marks : ℕ → ℕ → List Mark
 script_marks task count = batch_marks task count ++ End task count ∷ []
 
-abbrev pub IsPrefix : {X : Type 0} → List X → List X → Type 0
-IsPrefix {X} front all = (rest : List X) × (front ++ rest ≡ all)
-
--- each mark is of a task below the number of tasks, and each task's marks are, in order, a prefix of those of a script
+-- each mark is of a task below the number of tasks, and each task's marks are, in order, a prefix
+-- of those of a script
 pub record IsLegalHistory (tasks : ℕ) (marks : List Mark) : Type 0 where
   pub known : All (λ mark. task_of mark < tasks) marks
-  pub in_turn : (task : ℕ) → task < tasks → (count : ℕ) × IsPrefix (marks_of task marks) (script_marks task count)
+  pub in_turn : (task : ℕ) → task < tasks
+      → (count : ℕ) × IsPrefix (marks_of task marks) (script_marks task count)
 
 -- each task has its end
 abbrev pub IsClosed : ℕ → List Mark → Type 0

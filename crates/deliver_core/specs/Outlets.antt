@@ -36,7 +36,8 @@ after_put port message s = record {
 -- the front of these waiting messages ends what was taken. Where nothing waits, nothing changes
 abbrev pub after_take : List Message → State → State
 after_take [] s = s
-after_take (front ∷ rest) s = record { waiting = rest; sent = s.sent; taken = s.taken ++ front ∷ [] }
+after_take (front ∷ rest) s =
+    record { waiting = rest; sent = s.sent; taken = s.taken ++ front ∷ [] }
 
 abbrev pub after : Event → State → State
 after (Put port message) s = after_put port message s
@@ -46,11 +47,13 @@ abbrev pub after_all : List Event → State → State
 after_all [] s = s
 after_all (event ∷ events) s = after_all events (after event s)
 
--- What was taken of a port, and then what waits of it, is what it sent. Nothing taken or waiting is of another port
+-- What was taken of a port, and then what waits of it, is what it sent. Nothing taken or waiting is
+-- of another port
 pub record IsLawful (ports : ℕ) (s : State) : Type 0 where
   pub each : (port : ℕ) → of_port port (s.taken ++ s.waiting) ≡ s.sent port
   pub known : All (λ m. m.port < ports) (s.taken ++ s.waiting)
 
 -- the law of an outlet, for every list of events
 abbrev pub OutletLaw : Type 0
-OutletLaw = (ports : ℕ) (events : List Event) → All (IsEventOf ports) events → IsLawful ports (after_all events initial)
+OutletLaw = (ports : ℕ) (events : List Event)
+    → All (IsEventOf ports) events → IsLawful ports (after_all events initial)

@@ -1,16 +1,15 @@
 -- What clauses see of a port and of a tap, and which of them are of an outlet.
 use Rattle.std.specs.Prelude.{◌≡◌, ℕ, Bool, false, Option, Some, None, List, [], is_none}
 use Rattle.std.specs.Option.{ForSome}
-use Rattle.crossbeam_queue.specs.Passes.{Pass, IsPassOf, view}
+use Rattle.crossbeam_queue.specs.Passes.{Pass, IsPassOf, view, ruled_capacity}
 use Rattle.deliver_core.specs.declared.message.Message.{Message}
-use Rattle.deliver_core.specs.declared.message.Body.TheVariants.{Bye}
-use Rattle.deliver_core.specs.declared.post.Met.{Met}
-use Rattle.deliver_core.specs.declared.post.Post.{Post}
-use Rattle.deliver_core.specs.declared.post.Post.TheVariants.{Sender}
+use Rattle.deliver_core.specs.declared.pass_view.Met.{Met}
+use Rattle.deliver_core.specs.declared.pass_view.PassView.{PassView}
+use Rattle.deliver_core.specs.declared.pass_view.PassView.TheVariants.{Sender}
 use Rattle.deliver_core.specs.declared.port.Port.{Port}
 use Rattle.deliver_core.specs.declared.tap.Tap.{Tap}
 use Rattle.deliver_core.specs.declared.outlet.Outlet.{Outlet}
-use Rattle.deliver_core.specs.Posts.{sent_of, taken_of, met_of, ports_of}
+use Rattle.deliver_core.specs.PassViews.{sent_of, taken_of, met_of, ports_of}
 
 abbrev pub index_of : Port → ℕ
 index_of port = port.index
@@ -23,7 +22,7 @@ abbrev pub is_spent : Port → Bool
 is_spent port = is_none port.pass
 
 -- what a port has sent, unless it is spent
-abbrev pub sent_with : Option (Pass Message Post) → List Message
+abbrev pub sent_with : Option (Pass Message PassView) → List Message
 sent_with (Some pass) = sent_of (view pass)
 sent_with None = []
 
@@ -50,27 +49,14 @@ abbrev pub IsTapOf : Outlet → Tap → Type 0
 IsTapOf outlet tap = IsPassOf outlet.queue tap.pass
 
 -- the pass of a port that has sent nothing, and that port
-abbrev pub IsNewPass : ℕ → Pass Message Post → Type 0
+abbrev pub IsNewPass : ℕ → Pass Message PassView → Type 0
 IsNewPass index pass = view pass ≡ Sender index []
 
-pub record IsNewPort (index : ℕ) (pass : Pass Message Post) (port : Port) : Type 0 where
+pub record IsNewPort (index : ℕ) (pass : Pass Message PassView) (port : Port) : Type 0 where
   pub holds : port.pass ≡ Some pass
   pub numbered : port.index ≡ index
   pub silent : port.said_bye ≡ false
 
--- a port of the outlet that has sent nothing
-pub record IsFreshPort (outlet : Outlet) (port : Port) : Type 0 where
-  pub belongs : IsPortOf outlet port
-  pub silent : has_said_bye port ≡ false
-  pub empty : sent_by port ≡ []
-
--- the tap of an outlet with so many ports, none of which was met, that has taken nothing
-pub record IsFreshTap (outlet : Outlet) (ports : ℕ) (tap : Tap) : Type 0 where
-  pub belongs : IsTapOf outlet tap
-  pub count : port_count tap ≡ ports
-  pub idle : taken_by tap ≡ []
-  pub alone : met_by tap ≡ []
-
--- the Bye of a port
-abbrev pub bye_of : ℕ → Bool → Message
-bye_of index ok = record { port = index; task = 0; body = Bye ok }
+-- how many messages may wait in the outlet
+abbrev pub room_of : Outlet → ℕ
+room_of outlet = ruled_capacity outlet.queue

@@ -12,4 +12,5 @@ told task p = batch_marks task p.next ++ (if p.ended then End task p.next ∷ []
 pub record Tells (progress : List Progress) (marks : List Mark) : Type 0 where
   pub numbered : length progress < 2 ^ 32
   pub known : All (λ mark. task_of mark < length progress) marks
-  pub each : (task : ℕ) (d : Progress) → task < length progress → marks_of task marks ≡ told task (slice_index_or progress task d)
+  pub each : (task : ℕ) (d : Progress) → task < length progress
+      → marks_of task marks ≡ told task (slice_index_or progress task d)

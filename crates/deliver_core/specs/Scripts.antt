@@ -7,7 +7,8 @@ use Rattle.deliver_core.specs.declared.message.Body.{Body}
 use Rattle.deliver_core.specs.declared.message.Body.TheVariants as body
 use Rattle.deliver_core.specs.declared.message.Message.{Message}
 
--- what a message says, whichever port it came by: a batch of a task with its number and pairs, the end of a task with the number of its batches, or a bye
+-- what a message says, whichever port it came by: a batch of a task with its number and pairs, the
+-- end of a task with the number of its batches, or a bye
 pub data Content : Type 0 where
   batch_of : ℕ → ℕ → List (ℕ × ℕ) → Content
   end_of : ℕ → ℕ → Content
@@ -50,7 +51,8 @@ abbrev pub script_batches : ℕ → ℕ → List (ℕ × ℕ) → ℕ → List C
 script_batches task size row count =
     map (λ number. batch_of task number (piece_of size row number)) (range_with_len 0 count)
 
--- the script of a task: its row cut into batches of `size` pairs, the last being what is left, numbered from 0, and then the end with their number
+-- the script of a task: its row cut into batches of `size` pairs, the last being what is left,
+-- numbered from 0, and then the end with their number
 abbrev pub script : ℕ → ℕ → List (ℕ × ℕ) → List Content
 script task size row =
     script_batches task size row (batches_for size row) ++ end_of task (batches_for size row) ∷ []

@@ -1,22 +1,23 @@
 //! The board, from which workers draw the numbers of tasks.
 ghost use Rattle.std.specs.Prelude.{◌≡◌, ℕ, ◌+◌, ◌<◌, ◌≤◌, List, [], ◌∷◌, ◌++◌, true, false, All, Any, None, IfSome, IfNone, IfOk, map, replicate, length, flat_map};
-ghost use Rattle.deliver_core.specs.Draws.{seat_after, AreNumbersBelow};
-ghost use Rattle.deliver_core.specs.Drawers.{ObeysRule};
-ghost use Rattle.deliver_core.specs.declared.board.rule.Drawer.{Drawer};
+ghost use Rattle.deliver_core.specs.Draws.{AreNumbersBelow};
+ghost use Rattle.deliver_core.specs.BoardRule.{ObeysRule};
+ghost use Rattle.deliver_core.specs.declared.board.rule.SeatView.{SeatView};
 
 mod rule;
 mod seat;
 
 use atomic_table::Table;
-use rule::{Draw, Drawer, EachOnce, JoinSeats, Size, SplitSeat};
+use rule::{Draw, EachOnce, JoinSeats, SeatView, Size, SplitSeat};
 pub use seat::BoardSeat;
 use std::alloc::{AllocError, Global};
 use std::marker::Model;
 
-/// The numbers of tasks, from 0, each of which one seat draws, once. It is one atomic word, the number that is drawn next.
+/// The numbers of tasks, from 0, each of which one seat draws, once. It is one atomic word, the
+/// number that is drawn next.
 #[derive(Drop)]
 pub struct Board {
-    table: Table<(), Drawer, Size, EachOnce, Global>,
+    table: Table<(), SeatView, Size, EachOnce, Global>,
     tasks: u32,
 }
 
@@ -25,13 +26,17 @@ impl Model for Board {
 
     ghost Value = { BoardValue };
 
-    ghost view = { λ b. record { id = b.table.shared.table_id; tasks = b.tasks; seats = b.table.shared.key.seats } };
+    ghost view = { λ b. record {
+      id = b.table.shared.table_id;
+      tasks = b.tasks;
+      seats = b.table.shared.key.seats;
+    } };
 
     ghost invariant = { λ b. IsMadeFor b.table.shared.table_id b.table.shared.key b.tasks };
 }
 
 impl Board {
-    ghost use Rattle.deliver_core.specs.Boards.{fresh_seat, spent_seat, state_of, size_of, IsSeatOf};
+    ghost use Rattle.deliver_core.specs.Boards.{fresh_seat, spent_seat, size_of, IsSeatOf, IsAfterNumber, IsAfterEnd, IsDraw};
 
     /// The most tasks of a board.
     pub const MAX_TASKS: u32 = 65_536;
@@ -57,27 +62,21 @@ impl Board {
 
     /// Draws the next number for this seat, or tells that there is none left.
     ///
-    /// It is one `fetch_add` of 1 on the board's word, or no step at all where the seat has met the end before. It takes no
-    /// memory, waits for nobody and always returns.
+    /// It is one `fetch_add` of 1 on the board's word, or no step at all where the seat has met the
+    /// end before. It takes no memory, waits for nobody and always returns.
     pub fn claim(&self, seat: &mut BoardSeat) -> Option<u32>
         requires { IsSeatOf self.now seat.old }
         ensures seat { IsSeatOf self.now seat.new }
 
         // The number of a task, above all that the seat has drawn, which gains it.
-        ensures number { IfSome result (λ k. (k < self.now.tasks) × All (λ j. j < k) seat.old.drawn) }
-        ensures drawn { IfSome result
-            (λ k. (seat.new.drawn ≡ seat.old.drawn ++ k ∷ []) × (seat.new.done ≡ false)) }
-        ensures none { IfNone result
-            ((seat.new.drawn ≡ seat.old.drawn) × (seat.new.done ≡ true)) }
+        ensures number { IfSome result (IsAfterNumber self.now seat.old seat.new) }
+        ensures none { IfNone result (IsAfterEnd seat.old seat.new) }
 
-        // A seat that is done makes no step. Each other one makes a draw, which found some word.
-        ensures done { seat.old.done ≡ true → result ≡ None }
-        ensures draw { seat.old.done ≡ false
-            → (word : ℕ) × (word < self.now.tasks + self.now.seats)
-            × (state_of seat.new ≡ seat_after self.now.tasks word (state_of seat.old)) }
+        // A seat that isn't done makes a draw, which found some word. One that is makes no step.
+        ensures draw { seat.old.done ≡ false → IsDraw self.now seat.old seat.new }
 
         // Whatever the word and what the seats know are, while the board's rule holds of them.
-        ensures word_bound { (word : ℕ) (views : List Drawer)
+        ensures word_bound { (word : ℕ) (views : List SeatView)
             → ObeysRule (size_of self.now) word views → word ≤ self.now.tasks + self.now.seats }
     {
         if seat.done {
@@ -101,8 +100,10 @@ impl Board {
         requires all { length seats.items ≡ self.seats }
         requires own { All (IsSeatOf self) seats.items }
 
-        // Each number was drawn by one seat, once; and all of them were, where a seat has met the end.
-        ensures numbers { (n : ℕ) × AreNumbersBelow n (flat_map (λ s. s.drawn) seats.items)
+        // Each number that was drawn is one task's, and one seat drew it, once. All tasks' were
+        // drawn, where a seat has met the end.
+        ensures numbers { (n : ℕ) × (n ≤ self.tasks)
+            × AreNumbersBelow n (flat_map (λ s. s.drawn) seats.items)
             × (Any (λ s. s.done ≡ true) seats.items → n ≡ self.tasks) }
         ensures counted { All (λ s. s.count ≡ length s.drawn) seats.items }
         ensures spent { result.items ≡ map spent_seat seats.items }

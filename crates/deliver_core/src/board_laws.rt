@@ -3,12 +3,13 @@ ghost use Rattle.std.specs.Prelude.{◌≡◌, ℕ, ◌+◌, ◌<◌, ◌≤◌,
 ghost use Rattle.std.specs.List.Sorted.{IsStrictlyIncreasing};
 ghost use Rattle.deliver_core.specs.Draws.{AreNumbersBelow, after_draws};
 
-/// The laws of a board with any number of tasks and of seats, after every list of draws, each named by the place of its
-/// seat.
+/// The laws of a board with any number of tasks and of seats, after every list of draws, each named
+/// by the place of its seat.
 ///
-/// The seats' lists together are the numbers below the word, as far as there are tasks, each once, and each list rises.
-/// The word is the number of all these and of the seats that are done. Where any seat is done, the word has passed the
-/// number of tasks; and it never passes the numbers of tasks and seats together.
+/// The seats' lists together are the numbers below the word, as far as there are tasks, each once,
+/// and each list rises. The word is the number of all these and of the seats that are done. Where
+/// any seat is done, the word has passed the number of tasks; and it never passes the numbers of
+/// tasks and seats together.
 pub fn draws_law()
     ensures numbers { (tasks seats : ℕ) (events : List ℕ)
         → let b = after_draws tasks seats events in

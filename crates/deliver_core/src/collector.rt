@@ -1,49 +1,16 @@
-//! The collector: it accepts each task's batches in order, each once, and then its end, and gives all pairs in ascending order.
+//! The collector: it accepts each task's batches in order, each once, and then its end, and gives
+//! all pairs in ascending order.
 ghost use Rattle.std.specs.Prelude.{◌≡◌, ◌↔◌, ◌<◌, [], true, false, length, All, IfOk, IfErr, IsOk, OnOk, OnErr, IsOkUnless, IfSome, IfNone, IsPermutation, IsSorted};
 ghost use Rattle.std.specs.List.{AllWithin, HoldsAt};
-ghost use Rattle.deliver_core.specs.declared.collector.Refusal.TheVariants.{Memory};
 ghost use Rattle.deliver_core.specs.Marks.{IsLegalHistory, IsClosed};
 ghost use Rattle.deliver_core.specs.Scripts.{content_of, batch_of, end_of, IsBye};
 ghost use Rattle.deliver_core.specs.Collectors.{awaited, refusal_of, accept, RefusesIllegal, IsLeastOpen, pair_cmp};
 
+use crate::faults::{Finish, Refusal};
 use crate::mark::Mark;
 use crate::message::{Body, Message};
 use std::alloc::{AllocError, Global};
 use std::marker::Model;
-use thiserror::Error;
-
-/// Why a collector refuses a message; the first that applies is answered.
-#[derive(Clone, Copy, Debug, PartialEq, Eq, Error)]
-pub enum Refusal {
-    #[error("the task isn't one of the collector's")]
-    Stranger,
-    #[error("the task has ended")]
-    AfterEnd,
-    #[error("the batch was accepted before")]
-    Double,
-    #[error("a batch before this one is missing")]
-    Gap,
-    #[error("the end doesn't give the number of the task's batches")]
-    WrongCount,
-    #[error("out of memory")]
-    Memory,
-}
-
-impl From<AllocError> for Refusal {
-    ghost from_gives = { λ _ refusal. refusal ≡ Memory };
-
-    fn from(_error: AllocError) -> Refusal {
-        Refusal::Memory
-    }
-}
-
-/// Why a collector can't be finished.
-#[derive(Clone, Copy, Debug, PartialEq, Eq, Error)]
-pub enum Finish {
-    /// The least task without an end.
-    #[error("task {0} has no end")]
-    Open(u32),
-}
 
 /// How far a task has come: how many batches of it were accepted, and whether its end was.
 #[derive(Clone, Copy)]
@@ -68,7 +35,11 @@ impl Model for Collector {
 
     ghost Value = { Collection };
 
-    ghost view = { λ c. record { tasks = length c.progress.items; marks = c.marks.items; pairs = c.pairs.items } };
+    ghost view = { λ c. record {
+      tasks = length c.progress.items;
+      marks = c.marks.items;
+      pairs = c.pairs.items;
+    } };
 
     ghost invariant = { λ c. Tells c.progress.items c.marks.items };
 }
@@ -182,8 +153,8 @@ impl Collector {
         ensures accepted { IfNone (refusal_of self.old (end_of task count))
             (IsOkUnless result Refusal.Memory) }
     {
-        let next = self.awaited(task)?;
-        if count != next {
+        let batches = self.awaited(task)?;
+        if count != batches {
             return Err(Refusal::WrongCount);
         }
         self.marks.reserve(1)?;
@@ -208,7 +179,8 @@ impl Collector {
 fn first_open(progress: &[Progress]) -> Option<usize>
     ensures none { IfNone result (All (λ p. p.ended ≡ true) progress.now) }
     ensures within { IfSome result (λ task. task < length progress.now) }
-    ensures not_ended { IfSome result (λ task. HoldsAt (λ p. p.ended ≡ false) progress.now task) }
+    ensures not_ended { IfSome result
+        (λ task. HoldsAt (λ p. p.ended ≡ false) progress.now task) }
     ensures first { IfSome result (AllWithin (λ p. p.ended ≡ true) progress.now 0) }
 {
     progress.iter().position(|p| !p.ended)

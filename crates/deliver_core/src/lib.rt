@@ -1,21 +1,24 @@
-//! Delivery: numbered tasks are drawn by workers from one atomic word, and their batches reach one collector through one bounded queue.
+//! Delivery: numbered tasks are drawn by workers from one atomic word, and their batches reach one
+//! collector through one bounded queue.
 #![tactic(auto)]
 
 mod board;
 mod board_laws;
 mod collector;
+mod faults;
 mod mark;
 mod message;
 mod outlet;
 mod outlet_laws;
+mod pass_view;
 mod port;
-mod post;
 mod script;
 mod tap;
 
 pub use board::{Board, BoardSeat};
 pub use board_laws::draws_law;
-pub use collector::{Collector, Finish, Outcome, Refusal, refusal_law};
+pub use collector::{Collector, Outcome, refusal_law};
+pub use faults::{Finish, Refusal};
 pub use mark::Mark;
 pub use message::{Body, Message};
 pub use outlet::Outlet;
@@ -23,6 +26,3 @@ pub use outlet_laws::outlet_law;
 pub use port::Port;
 pub use script::script_law;
 pub use tap::Tap;
-
-#[cfg(test)]
-mod tests;

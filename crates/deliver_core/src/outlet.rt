@@ -1,7 +1,7 @@
 //! The outlet: one bounded queue by which the messages of every port reach the tap.
 use crate::message::{Body, Message};
+use crate::pass_view::{InOrder, Make, Meet, PassView, Put, Take};
 use crate::port::Port;
-use crate::post::{InOrder, Make, Meet, Post, Put, Take};
 use crate::tap::Tap;
 use crossbeam_queue::{Pass, RuledArrayQueue};
 use std::alloc::{AllocError, Global};
@@ -11,10 +11,11 @@ use std::thread;
 // How many messages may wait.
 const ROOM: usize = 64;
 
-type Queue = RuledArrayQueue<Message, Post, InOrder>;
+type Queue = RuledArrayQueue<Message, PassView, InOrder>;
 
-/// A queue of 64 messages, which the ports fill and the tap empties. Each put is one successful push and each take one
-/// successful pop, so the messages of a port are taken in the order in which it sent them.
+/// A queue of 64 messages, which the ports fill and the tap empties. Each put is one successful
+/// push and each take one successful pop, so the messages of a port are taken in the order in which
+/// it sent them.
 #[derive(Drop)]
 pub struct Outlet {
     queue: Queue,
@@ -25,21 +26,26 @@ impl Outlet {
     ghost use Rattle.std.specs.List.{range_with_len};
     ghost use mathlib.Core.List.{IsPrefix};
     ghost use Rattle.crossbeam_queue.specs.Passes.{view, IsPassOf, IsSamePass};
+    ghost use Rattle.deliver_core.specs.Byes.{has_bye};
+    ghost use Rattle.deliver_core.specs.Limits.{most_ports, room};
+    ghost use Rattle.deliver_core.specs.OutletCalls.{IsFreshPort, IsFreshTap, IsOpenPort, IsEndedPort, IsForPort, bye_of, IsAfterTaking, IsAfterNothing, IsSameTap, IsSpentPort, IsAfterMeeting};
+    ghost use Rattle.deliver_core.specs.OutletSteps.{Begins, IsAfterSend, IsAfterTake, IsAfterMiss, IsAfterMeet};
     ghost use Rattle.deliver_core.specs.Outlets.{of_port};
-    ghost use Rattle.deliver_core.specs.Posts.{is_bye, has_bye, sender_of, is_receiver, sent_of, Begins, IsAfterSend, IsAfterTake, IsAfterMiss, IsAfterMeet};
-    ghost use Rattle.deliver_core.specs.Ports.{index_of, has_said_bye, is_spent, sent_by, taken_by, met_by, port_count, IsPortOf, IsTapOf, IsFreshPort, IsFreshTap, bye_of};
+    ghost use Rattle.deliver_core.specs.PassViews.{sender_of, is_receiver, sent_of};
+    ghost use Rattle.deliver_core.specs.Ports.{index_of, is_spent, sent_by, taken_by, met_by, port_count, room_of, IsTapOf};
 
     /// The most ports of an outlet.
     pub const MAX_PORTS: u32 = 16;
 
-    /// An outlet with 1 to 16 ports, in the order of their indexes, and its tap. It fails only for want of memory.
+    /// An outlet, in which 64 messages may wait, its 1 to 16 ports, in the order of their indexes,
+    /// and its tap. It fails only for want of memory.
     pub fn new(alloc: Global, ports: u32) -> Result<(Outlet, Vec<Port>, Tap), AllocError>
-        requires some { 1 ≤ ports }
-        requires few { ports ≤ Self.MAX_PORTS }
-        ensures count { IfOk result (λ r. vec_len r.1 ≡ ports) }
+        requires ports { (1 ≤ ports) × (ports ≤ Self.MAX_PORTS) }
+        ensures count { IfOk result (λ r. (vec_len r.1 ≡ ports) × (ports ≤ most_ports)) }
         ensures indexes { IfOk result (λ r. map index_of r.1.items ≡ range_with_len 0 ports) }
         ensures fresh { IfOk result (λ r. All (IsFreshPort r.0) r.1.items) }
         ensures tap { IfOk result (λ r. IsFreshTap r.0 ports r.2) }
+        ensures room { IfOk result (λ r. room_of r.0 ≡ room) }
     {
         let mut all = Vec::with_capacity(alloc, ports as usize)?;
         let (queue, mut pass) = Queue::ruled(alloc, ROOM)?;
@@ -51,13 +57,10 @@ impl Outlet {
 
     /// Puts a message, which has the port's index and is no Bye. It waits while the outlet is full.
     pub fn put<R: Wait>(&self, rt: &R, port: &mut Port, message: Message)
-        requires outlet { IsPortOf self.now port.old }
-        requires open { has_said_bye port.old ≡ false }
-        requires index { message.port ≡ index_of port.old }
-        requires body { is_bye message ≡ false }
-        ensures outlet { IsPortOf self.now port.new }
+        requires port { IsOpenPort self.now port.old }
+        requires message { IsForPort port.old message }
+        ensures port { IsOpenPort self.now port.new }
         ensures index { index_of port.new ≡ index_of port.old }
-        ensures open { has_said_bye port.new ≡ false }
         ensures sent { sent_by port.new ≡ sent_by port.old ++ message ∷ [] }
     {
         let Some(pass) = &mut port.pass else {
@@ -68,12 +71,10 @@ impl Outlet {
 
     /// Ends the port's messages with its Bye. It waits while the outlet is full.
     pub fn bye<R: Wait>(&self, rt: &R, port: &mut Port, ok: bool)
-        requires outlet { IsPortOf self.now port.old }
-        requires open { has_said_bye port.old ≡ false }
-        ensures outlet { IsPortOf self.now port.new }
-        ensures index { index_of port.new ≡ index_of port.old }
-        ensures said { has_said_bye port.new ≡ true }
+        requires port { IsOpenPort self.now port.old }
+        ensures port { IsEndedPort self.now port.new }
         ensures unmet { is_spent port.new ≡ false }
+        ensures index { index_of port.new ≡ index_of port.old }
         ensures sent { sent_by port.new ≡ sent_by port.old ++ bye_of (index_of port.old) ok ∷ [] }
     {
         let bye = Message {
@@ -88,42 +89,32 @@ impl Outlet {
         port.said_bye = true;
     }
 
-    /// Takes the message that has waited longest. `None` says that nothing waited at one moment of the call.
+    /// Takes the message that has waited longest. `None` says that nothing waited at one moment of
+    /// the call.
     pub fn take<R: Wait>(&self, rt: &R, tap: &mut Tap) -> Option<Message>
         requires { IsTapOf self.now tap.old }
-        ensures outlet { IsTapOf self.now tap.new }
-        ensures ports { port_count tap.new ≡ port_count tap.old }
-        ensures met { met_by tap.new ≡ met_by tap.old }
-        ensures some { IfSome result (λ m. taken_by tap.new ≡ taken_by tap.old ++ m ∷ []) }
-        ensures none { IfNone result (taken_by tap.new ≡ taken_by tap.old) }
-        ensures known { IfSome result (λ m. m.port < port_count tap.old) }
-        // Nothing of a port follows its Bye. Of each port that was met, a beginning was taken, and all of it at `None`.
-        ensures live { IfSome result (λ m. has_bye (of_port m.port (taken_by tap.old)) ≡ false) }
-        ensures begins { All (λ p. IsPrefix (of_port p.index (taken_by tap.new)) p.sent) (met_by tap.new) }
-        ensures empty { IfNone result (All (λ p. of_port p.index (taken_by tap.new) ≡ p.sent) (met_by tap.new)) }
+        ensures tap { IsTapOf self.now tap.new }
+        ensures ports { (port_count tap.new ≡ port_count tap.old)
+            × (met_by tap.new ≡ met_by tap.old) }
+        ensures some { IfSome result (IsAfterTaking tap.old tap.new) }
+        ensures none { IfNone result (IsAfterNothing tap.old tap.new) }
+
+        // Of each port that was met, a beginning was taken.
+        ensures begins { All (λ p. IsPrefix (of_port p.index (taken_by tap.new)) p.sent)
+            (met_by tap.new) }
     {
         self.receive(rt, &mut tap.pass)
     }
 
-    /// Ties the tap's list to that of a port that has said bye: what was taken of the port is a beginning of what it
-    /// sent, and all of it where its Bye was taken. The port comes back spent, and to meet it again changes nothing. The
-    /// call waits for nobody.
+    /// Ties the tap's list to that of a port that has said bye: what was taken of the port is a
+    /// beginning of what it sent, and all of it where its Bye was taken. The port comes back spent,
+    /// and to meet it again changes nothing. The call waits for nobody.
     pub fn meet<R: Wait>(&self, _rt: &R, tap: &mut Tap, mut port: Port) -> Port
         requires tap { IsTapOf self.now tap.old }
-        requires port { IsPortOf self.now port }
-        requires said { has_said_bye port ≡ true }
-        ensures tap { IsTapOf self.now tap.new }
-        ensures ports { port_count tap.new ≡ port_count tap.old }
-        ensures taken { taken_by tap.new ≡ taken_by tap.old }
-
-        ensures port { IsPortOf self.now result }
-        ensures index { index_of result ≡ index_of port }
-        ensures said { has_said_bye result ≡ true }
-        ensures spent { is_spent result ≡ true }
-
-        ensures met { is_spent port ≡ false → met_by tap.new ≡ record { index = index_of port; sent = sent_by port } ∷ met_by tap.old }
-        ensures begins { is_spent port ≡ false → IsPrefix (of_port (index_of port) (taken_by tap.new)) (sent_by port) }
-        ensures whole { is_spent port ≡ false → has_bye (of_port (index_of port) (taken_by tap.new)) ≡ true → of_port (index_of port) (taken_by tap.new) ≡ sent_by port }
+        requires port { IsEndedPort self.now port }
+        ensures tap { IsSameTap self.now tap.old tap.new }
+        ensures port { IsSpentPort self.now port result }
+        ensures met { is_spent port ≡ false → IsAfterMeeting port tap.old tap.new }
         ensures again { is_spent port ≡ true → (result ≡ port) × (tap.new ≡ tap.old) }
     {
         if let Some(pass) = port.pass.take() {
@@ -133,7 +124,7 @@ impl Outlet {
     }
 
     // Pushes the message, and tries again while the queue is full.
-    fn send<R: Wait>(&self, rt: &R, pass: &mut Pass<Message, Post>, mut message: Message)
+    fn send<R: Wait>(&self, rt: &R, pass: &mut Pass<Message, PassView>, mut message: Message)
         requires queue { IsPassOf self.now.queue pass.old }
         requires sender { sender_of (view pass.old) ≡ Some message.port }
         requires open { has_bye (sent_of (view pass.old)) ≡ false }
@@ -151,7 +142,7 @@ impl Outlet {
     }
 
     // Pops a message, if one waits.
-    fn receive<R: Wait>(&self, rt: &R, pass: &mut Pass<Message, Post>) -> Option<Message>
+    fn receive<R: Wait>(&self, rt: &R, pass: &mut Pass<Message, PassView>) -> Option<Message>
         requires queue { IsPassOf self.now.queue pass.old }
         requires receiver { is_receiver (view pass.old) ≡ true }
         ensures queue { IsSamePass pass.old pass.new }
@@ -163,12 +154,13 @@ impl Outlet {
     }
 
     // Joins the pass of a port to the tap's, and looks at what waits.
-    fn join(&self, pass: &mut Pass<Message, Post>, port: Pass<Message, Post>)
+    fn join(&self, pass: &mut Pass<Message, PassView>, port: Pass<Message, PassView>)
         requires queue { IsPassOf self.now.queue pass.old × IsPassOf self.now.queue port }
         requires receiver { is_receiver (view pass.old) ≡ true }
         requires sender { IsSome (sender_of (view port)) }
         ensures queue { IsSamePass pass.old pass.new }
-        ensures met { IfSome (sender_of (view port)) (IsAfterMeet (view port) (view pass.old) (view pass.new)) }
+        ensures met { IfSome (sender_of (view port))
+            (IsAfterMeet (view port) (view pass.old) (view pass.new)) }
     {
         self.queue.absorb::<Meet>(pass, port);
         self.queue.learn_as::<Take>(pass);

@@ -2,20 +2,22 @@
 ghost use Rattle.std.specs.Prelude.{◌≡◌, true, false, Some, is_some};
 ghost use Rattle.std.specs.Option.{ForSome};
 ghost use Rattle.crossbeam_queue.specs.Passes.{view};
-ghost use Rattle.deliver_core.specs.Posts.{sender_of, sent_of, has_bye};
+ghost use Rattle.deliver_core.specs.Byes.{has_bye};
+ghost use Rattle.deliver_core.specs.PassViews.{sender_of, sent_of};
 
 use crate::message::Message;
-use crate::post::Post;
+use crate::pass_view::PassView;
 use crossbeam_queue::Pass;
 
-/// The right of one sender to put messages into its outlet. Contracts see which messages it has put; a port that was
-/// met is spent, and the tap has that list in its place.
+/// The right of one sender to put messages into its outlet. Contracts see which messages it has
+/// put; a port that was met is spent, and the tap has that list in its place.
 #[derive(Drop)]
 pub struct Port {
-    pub(crate) pass: Option<Pass<Message, Post>>,
+    pub(crate) pass: Option<Pass<Message, PassView>>,
     pub(crate) index: u32,
     pub(crate) said_bye: bool,
-    ghost carried: { ForSome pass (λ p. (sender_of (view p) ≡ Some index) × (has_bye (sent_of (view p)) ≡ said_bye)) },
+    ghost carried: { ForSome pass
+        (λ p. (sender_of (view p) ≡ Some index) × (has_bye (sent_of (view p)) ≡ said_bye)) },
     ghost open: { said_bye ≡ false → is_some pass ≡ true },
 }
 
@@ -23,7 +25,7 @@ impl Port {
     ghost use Rattle.deliver_core.specs.Ports.{index_of, has_said_bye, IsNewPass, IsNewPort};
 
     /// The port of a new pass.
-    pub(crate) fn new(index: u32, pass: Pass<Message, Post>) -> Port
+    pub(crate) fn new(index: u32, pass: Pass<Message, PassView>) -> Port
         requires { IsNewPass index pass }
         ensures { IsNewPort index pass result }
     {

@@ -1,16 +1,16 @@
 //! The tap: the collector's end of an outlet.
 ghost use Rattle.std.specs.Prelude.{◌≡◌, true};
 ghost use Rattle.crossbeam_queue.specs.Passes.{view};
-ghost use Rattle.deliver_core.specs.Posts.{is_receiver};
+ghost use Rattle.deliver_core.specs.PassViews.{is_receiver};
 
 use crate::message::Message;
-use crate::post::Post;
+use crate::pass_view::PassView;
 use crossbeam_queue::Pass;
 
-/// The right to take messages out of an outlet. Contracts see which messages it has taken, and of each port that it
-/// met what the port had sent.
+/// The right to take messages out of an outlet. Contracts see which messages it has taken, and of
+/// each port that it met what the port had sent.
 #[derive(Drop)]
 pub struct Tap {
-    pub(crate) pass: Pass<Message, Post>,
+    pub(crate) pass: Pass<Message, PassView>,
     ghost carried: { is_receiver (view pass) ≡ true },
 }

@@ -9,9 +9,10 @@ pub struct Size {
     pub seats: u32,
 }
 
-/// What a seat at the board's table knows: the board's numbers of tasks and of seats, how many of these seats it stands
-/// for (its parts), what they have drawn, and how many of their draws found no number. No value of it is made.
-pub struct Drawer {
+/// What a seat at the board's table knows: the board's numbers of tasks and of seats, how many of
+/// these seats it stands for (its parts), what they have drawn, and how many of their draws found
+/// no number. No value of it is made.
+pub struct SeatView {
     pub tasks: u32,
     pub seats: u32,
     pub parts: u32,
@@ -22,20 +23,20 @@ pub struct Drawer {
 /// The numbers below the word, as far as there are tasks, were drawn, each once.
 pub struct EachOnce;
 
-impl TableRule<(), Drawer, Size> for EachOnce {
+impl TableRule<(), SeatView, Size> for EachOnce {
     ghost use Rattle.std.specs.Prelude.{[]};
-    ghost use Rattle.deliver_core.specs.Drawers.{TableObeysRule, drawer};
+    ghost use Rattle.deliver_core.specs.BoardRule.{TableObeysRule, seat_view};
 
     ghost holds = { TableObeysRule };
 
-    ghost first = { λ size. drawer size.tasks size.seats size.seats [] 0 };
+    ghost first = { λ size. seat_view size.tasks size.seats size.seats [] 0 };
 }
 
 /// One draw: a `fetch_add` of 1 on the word.
 pub struct Draw;
 
-impl Play<(), Drawer> for Draw {
-    ghost use Rattle.deliver_core.specs.Drawers.{Drew};
+impl Play<(), SeatView> for Draw {
+    ghost use Rattle.deliver_core.specs.BoardRule.{Drew};
 
     ghost then = { Drew };
 }
@@ -43,23 +44,24 @@ impl Play<(), Drawer> for Draw {
 /// One of the seats that a view stands for goes to a view of its own.
 pub struct SplitSeat;
 
-impl Split<Drawer> for SplitSeat {
+impl Split<SeatView> for SplitSeat {
     ghost use Rattle.std.specs.Prelude.{◌-◌, []};
-    ghost use Rattle.deliver_core.specs.Drawers.{drawer};
+    ghost use Rattle.deliver_core.specs.BoardRule.{seat_view};
 
-    ghost left = { λ v. drawer v.tasks v.seats (v.parts - 1) v.drawn v.over };
+    ghost left = { λ v. seat_view v.tasks v.seats (v.parts - 1) v.drawn v.over };
 
-    ghost right = { λ v. drawer v.tasks v.seats 1 [] 0 };
+    ghost right = { λ v. seat_view v.tasks v.seats 1 [] 0 };
 }
 
 /// One view takes over another's seats and what they drew.
 pub struct JoinSeats;
 
-impl Join<Drawer> for JoinSeats {
+impl Join<SeatView> for JoinSeats {
     ghost use Rattle.std.specs.Prelude.{◌+◌, ◌++◌, []};
-    ghost use Rattle.deliver_core.specs.Drawers.{drawer};
+    ghost use Rattle.deliver_core.specs.BoardRule.{seat_view};
 
-    ghost both = { λ v w. drawer v.tasks v.seats (v.parts + w.parts) (v.drawn ++ w.drawn) (v.over + w.over) };
+    ghost both = { λ v w.
+        seat_view v.tasks v.seats (v.parts + w.parts) (v.drawn ++ w.drawn) (v.over + w.over) };
 
-    ghost spent = { drawer 0 0 0 [] 0 };
+    ghost spent = { seat_view 0 0 0 [] 0 };
 }

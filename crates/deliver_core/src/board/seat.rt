@@ -1,15 +1,16 @@
 //! A worker's seat at the board.
 ghost use Rattle.std.specs.Prelude.{◌≡◌, [], length, IsSome};
 
-use super::rule::Drawer;
+use super::rule::SeatView;
 use atomic_table::Seat;
 use std::marker::Model;
 
-/// The right of one worker to draw from one board. It counts what it has drawn; the numbers themselves only contracts see.
+/// The right of one worker to draw from one board. It counts what it has drawn; the numbers
+/// themselves only contracts see.
 #[derive(Drop)]
 pub struct BoardSeat {
     // The seat at the board's table, until the board is closed.
-    pub(super) place: Option<Seat<(), Drawer>>,
+    pub(super) place: Option<Seat<(), SeatView>>,
     pub(super) count: u32,
     pub(super) done: bool,
 }
@@ -28,9 +29,10 @@ impl BoardSeat {
     ghost use Rattle.deliver_core.specs.Boards.{fresh_seat, spent_seat, board_of, IsCounted};
 
     // A seat that has drawn nothing.
-    pub(super) fn fresh(place: Seat<(), Drawer>) -> BoardSeat
+    pub(super) fn fresh(place: Seat<(), SeatView>) -> BoardSeat
         requires slots { place.me.1 ≡ [] }
-        requires view { (place.me.0.parts ≡ 1) × (place.me.0.drawn ≡ []) × (place.me.0.over ≡ 0) }
+        requires view { (place.me.0.parts ≡ 1) × (place.me.0.drawn ≡ [])
+            × (place.me.0.over ≡ 0) }
         ensures { result ≡ fresh_seat (board_of place) }
     {
         BoardSeat {
@@ -41,7 +43,7 @@ impl BoardSeat {
     }
 
     // Takes the seat at the table out, and leaves the seat spent.
-    pub(super) fn retire(&mut self) -> Seat<(), Drawer>
+    pub(super) fn retire(&mut self) -> Seat<(), SeatView>
         requires { IsSome self.old.board }
         ensures spent { self.new ≡ spent_seat self.old }
         ensures board { self.old.board ≡ Some (board_of result) }

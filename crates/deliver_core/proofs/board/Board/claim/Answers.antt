@@ -19,9 +19,14 @@ fetch_add-word-requires c =
     let own = board_at _ _ _ c.in-Some.place c.in-Some.is c.args.seat.now c.args.self.now c.seat.view_is c.requires in
     let counts = counted_at _ _ _ c.in-Some.place c.in-Some.is false c.if-seat.false c.seat.invariant in
     let words = c.self.invariant.words in
-    let tasks = c.self.invariant.most_tasks in
-    let seats = c.self.invariant.most_seats in
-    (ap (λ (b : BoardValue). b.id) (own ∙ sym c.self.view_is), omega arith, draws c.self.inside.table.shared.key _ _ c.in-Some.place.me counts.one counts.over_is (omega arith) (omega arith))
+    let tasks = c.self.invariant.few_tasks in
+    let seats = c.self.invariant.few_seats in (
+      ap (λ (b : BoardValue). b.id)
+          (own ∙ sym c.self.view_is),
+      omega arith,
+      draws c.self.inside.table.shared.key _ _ c.in-Some.place.me counts.one counts.over_is (omega arith)
+          (omega arith),
+    )
 
 -- the word is the number of a task, and is drawn
 number : (c : Then-word-from) → NumberDrawn c.in-Some.place c.fetch_add-word.new.seat c.seat.inside.count c.fetch_add-word.result
@@ -44,12 +49,13 @@ past c =
 pub overflow_add-seat : goal.overflow_add-seat
 overflow_add-seat c =
     let few = (number c).few in
-    let most = c.self.invariant.most_tasks in
+    let most = c.self.invariant.few_tasks in
     let same = c.self.invariant.tasks_are in
     omega arith
 
 pub invariant_of-seat : goal.invariant_of-seat
-invariant_of-seat c = subst (λ (d : Bool). IsCounted c.fetch_add-word.new.seat (c.seat.inside.count + 1) d) (sym c.if-seat.false) (number (goal.at.invariant_of-seat c).Then-word-from).counted
+invariant_of-seat c = subst (λ (d : Bool). IsCounted c.fetch_add-word.new.seat (c.seat.inside.count + 1) d) (sym c.if-seat.false)
+    (number (goal.at.invariant_of-seat c).Then-word-from).counted
 
 pub invariant_of-seat-else-word-from : goal.invariant_of-seat-else-word-from
 invariant_of-seat-else-word-from c = (past (goal.at.invariant_of-seat-else-word-from c).Else-word-from).counted
@@ -58,12 +64,14 @@ pub returns-then-word-from-clause-number : goal.returns-then-word-from-clause-nu
 returns-then-word-from-clause-number c =
     let tasks = ap (λ (b : BoardValue). b.tasks) c.self.view_is in
     let drawn = drawn_at _ _ _ c.in-Some.place c.in-Some.is c.args.seat.now c.seat.view_is in
-    (omega arith, subst (λ (xs : List ℕ). All (λ k. k < c.fetch_add-word.result) xs) drawn (number (goal.at.returns-then-word-from-clause-number c).Then-word-from).above)
-
-pub returns-then-word-from-clause-drawn : goal.returns-then-word-from-clause-drawn
-returns-then-word-from-clause-drawn c =
-    let drawn = drawn_at _ _ _ c.in-Some.place c.in-Some.is c.args.seat.now c.seat.view_is in
-    ((number (goal.at.returns-then-word-from-clause-drawn c).Then-word-from).drawn ∙ ap (λ (xs : List ℕ). xs ++ c.fetch_add-word.result ∷ []) drawn, c.if-seat.false)
+    let done = done_at _ _ _ c.in-Some.place c.in-Some.is c.args.seat.now c.seat.view_is in
+    let now = number (goal.at.returns-then-word-from-clause-number c).Then-word-from in record {
+      task = omega arith;
+      above = subst (λ (xs : List ℕ). All (λ k. k < c.fetch_add-word.result) xs) drawn now.above;
+      drawn = now.drawn ∙ ap (λ (xs : List ℕ). xs ++ c.fetch_add-word.result ∷ []) drawn;
+      before = sym done ∙ c.if-seat.false;
+      after = c.if-seat.false;
+    }
 
 pub returns-then-word-from-clause-draw : goal.returns-then-word-from-clause-draw
 returns-then-word-from-clause-draw c fresh =
@@ -73,12 +81,21 @@ returns-then-word-from-clause-draw c fresh =
     let tasks' = ap (λ (b : BoardValue). b.tasks) c.self.view_is in
     let seats = ap (λ (b : BoardValue). b.seats) own in
     let below = c.fetch_add-word.ensures.2.0 in
-    let word = c.fetch_add-word.result in
-    (word, omega arith, same_state ((number (goal.at.returns-then-word-from-clause-draw c).Then-word-from).drawn ∙ ap (λ (xs : List ℕ). xs ++ word ∷ []) drawn) (done_at _ _ _ c.in-Some.place c.in-Some.is c.args.seat.now c.seat.view_is) ∙ sym (seat_number c.args.self.now.tasks word (state_of c.args.seat.now) (omega arith)))
+    let word = c.fetch_add-word.result in (
+      word,
+      omega arith,
+      same_state
+          ((number (goal.at.returns-then-word-from-clause-draw c).Then-word-from).drawn ∙ ap (λ (xs : List ℕ). xs ++ word ∷ []) drawn)
+          (done_at _ _ _ c.in-Some.place c.in-Some.is c.args.seat.now c.seat.view_is)
+          ∙ sym (seat_number c.args.self.now.tasks word (state_of c.args.seat.now) (omega arith)),
+    )
 
 pub returns-else-word-from-clause-none : goal.returns-else-word-from-clause-none
-returns-else-word-from-clause-none c =
-    ((past (goal.at.returns-else-word-from-clause-none c).Else-word-from).drawn ∙ drawn_at _ _ _ c.in-Some.place c.in-Some.is c.args.seat.now c.seat.view_is, refl)
+returns-else-word-from-clause-none c = record {
+  drawn = (past (goal.at.returns-else-word-from-clause-none c).Else-word-from).drawn
+      ∙ drawn_at _ _ _ c.in-Some.place c.in-Some.is c.args.seat.now c.seat.view_is;
+  done = refl;
+}
 
 pub returns-else-word-from-clause-draw : goal.returns-else-word-from-clause-draw
 returns-else-word-from-clause-draw c fresh =
@@ -88,5 +105,9 @@ returns-else-word-from-clause-draw c fresh =
     let tasks' = ap (λ (b : BoardValue). b.tasks) c.self.view_is in
     let seats = ap (λ (b : BoardValue). b.seats) own in
     let below = c.fetch_add-word.ensures.2.0 in
-    let word = c.fetch_add-word.result in
-    (word, omega arith, same_state ((past (goal.at.returns-else-word-from-clause-draw c).Else-word-from).drawn ∙ drawn) refl ∙ sym (seat_end c.args.self.now.tasks word (state_of c.args.seat.now) (omega arith)))
+    let word = c.fetch_add-word.result in (
+      word,
+      omega arith,
+      same_state ((past (goal.at.returns-else-word-from-clause-draw c).Else-word-from).drawn ∙ drawn) refl
+          ∙ sym (seat_end c.args.self.now.tasks word (state_of c.args.seat.now) (omega arith)),
+    )

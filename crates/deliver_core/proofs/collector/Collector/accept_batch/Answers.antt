@@ -9,7 +9,8 @@ pub overflow_add-index_mut : goal.overflow_add-index_mut
 overflow_add-index_mut c =
     let a = c.self.inside in
     let taking : Ok c.in_ok-next.next ≡ awaited c.args.self.now c.args.task = cc c.in_ok-next.ensures in
-    let few = next-le-length a.progress.items a.marks.items c.self.invariant a.pairs.items c.args.self.now c.self.view_is c.args.task c.in_ok-next.next taking c.index_mut.result.now c.index_mut.ensures.value in
+    let few = next-le-length a.progress.items a.marks.items c.self.invariant a.pairs.items c.args.self.now c.self.view_is c.args.task c.in_ok-next.next
+    taking c.index_mut.result.now c.index_mut.ensures.value in
     let more = c.push_reserved.ensures.len in
     grind (arith, common_steps)
 
@@ -17,4 +18,5 @@ pub invariant_of-self-2 : goal.invariant_of-self-2
 invariant_of-self-2 c =
     let a = c.self.inside in
     let taking : Ok c.in_ok-next.next ≡ awaited c.args.self.now c.args.task = cc c.in_ok-next.ensures in
-    Tells-batch a.progress.items a.marks.items c.self.invariant a.pairs.items c.args.self.now c.self.view_is c.args.task c.in_ok-next.next taking c.index_mut.result.now c.index_mut.ensures.value c.args.number (omega arith) c.push_reserved.new.self.items (cc)
+    Tells-batch a.progress.items a.marks.items c.self.invariant a.pairs.items c.args.self.now c.self.view_is c.args.task c.in_ok-next.next taking
+    c.index_mut.result.now c.index_mut.ensures.value c.args.number (omega arith) c.push_reserved.new.self.items (cc)

@@ -4,7 +4,7 @@ use Rattle.deliver_core.proofs.Histories.{Tells-history, IsClosed-tells, IsLeast
 use Rattle.deliver_core.proofs.collector.Collector.finish.Goals as goal
 use Rattle.deliver_core.proofs.collector.Collector.finish.Goals.{After-drop-progress}
 use Rattle.deliver_core.specs.Collectors.{IsLeastOpen}
-use Rattle.deliver_core.specs.declared.collector.Finish.TheVariants.{Open}
+use Rattle.deliver_core.specs.declared.faults.Finish.TheVariants.{Open}
 
 least_open : (c : After-drop-progress) → IsLeastOpen c.args.self (Open c.in-Some.task)
 least_open c =

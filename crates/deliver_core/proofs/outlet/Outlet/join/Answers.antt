@@ -1,7 +1,8 @@
 use Rattle.std.proofs.Common.{◌∙◌, ap, sym, subst}
 use Rattle.crossbeam_queue.specs.Passes.{view}
-use Rattle.deliver_core.specs.declared.post.Post.{Post}
-use Rattle.deliver_core.specs.Posts.{sender_of, is_receiver, TellsWaiting}
+use Rattle.deliver_core.specs.declared.pass_view.PassView.{PassView}
+use Rattle.deliver_core.specs.PassViews.{sender_of, is_receiver}
+use Rattle.deliver_core.specs.OutletSteps.{TellsWaiting}
 use Rattle.deliver_core.proofs.OutletRule.{meets, waits}
 use Rattle.deliver_core.proofs.OutletCalls.{the_index, after_meet, receiver_after_meet}
 use Rattle.deliver_core.proofs.outlet.Outlet.join.Goals as goal
@@ -16,5 +17,6 @@ pub returns-clause-met : goal.returns-clause-met
 returns-clause-met c =
     let items = c.learn_as.ensures.rule.0 in
     let same = c.learn_as.ensures.queue.1 in
-    let told = subst (λ (w : Post). TellsWaiting w items) (sym same) c.learn_as.ensures.rule.1 in
-    after_meet (view c.args.pass.now) (view c.args.port) (view c.learn_as.new.pass) items c.requires.receiver c.requires.sender (same ∙ c.absorb.ensures.rule) told
+    let told = subst (λ (w : PassView). TellsWaiting w items) (sym same) c.learn_as.ensures.rule.1 in
+    after_meet (view c.args.pass.now) (view c.args.port) (view c.learn_as.new.pass) items c.requires.receiver c.requires.sender
+    (same ∙ c.absorb.ensures.rule) told

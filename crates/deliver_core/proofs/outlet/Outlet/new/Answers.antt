@@ -1,7 +1,8 @@
 use Rattle.std.proofs.Common.{ap, ◌∙◌, arith, map}
 use Rattle.std.proofs.lemmas.List.Elements.{All-push, All-same}
-use Rattle.deliver_core.specs.Posts.{is_receiver, with_port, new_port}
-use Rattle.deliver_core.specs.Ports.{index_of, IsFreshPort}
+use Rattle.deliver_core.specs.PassViews.{is_receiver, with_port, new_port}
+use Rattle.deliver_core.specs.OutletCalls.{IsFreshPort}
+use Rattle.deliver_core.specs.Ports.{index_of}
 use Rattle.deliver_core.proofs.OutletRule.{begins, makes}
 use Rattle.deliver_core.proofs.OutletCalls.{more_indexes, fresh_port}
 use Rattle.deliver_core.proofs.outlet.Outlet.new.Goals as goal
@@ -17,11 +18,13 @@ loop-index-preserved c =
     let before = c.loop-index.invariant in
     let same = c.another.ensures.queue.0 in
     let port = c.new.result in
-    let fresh = fresh_port (record { queue = c.in_ok-queue.queue }) c.loop-index.index c.another.result port c.another.ensures.queue.1 c.new.ensures (c.another.ensures.rule.1 ∙ ap new_port before.seen) in
+    let fresh = fresh_port (record { queue = c.in_ok-queue.queue }) c.loop-index.index c.another.result port c.another.ensures.queue.1 c.new.ensures
+    (c.another.ensures.rule.1 ∙ ap new_port before.seen) in
     record {
       pass = (same.0 ∙ before.pass.0, same.2 ∙ before.pass.1);
       seen = c.another.ensures.rule.0 ∙ ap with_port before.seen;
-      indexes = ap (map index_of) c.push_reserved.ensures.items ∙ more_indexes c.loop-index.all.items port c.loop-index.index before.indexes c.new.ensures.numbered;
+      indexes = ap (map index_of) c.push_reserved.ensures.items
+          ∙ more_indexes c.loop-index.all.items port c.loop-index.index before.indexes c.new.ensures.numbered;
       fresh = All-same (IsFreshPort (record { queue = c.in_ok-queue.queue })) _ _ c.push_reserved.ensures.items
           (All-push (IsFreshPort (record { queue = c.in_ok-queue.queue })) c.loop-index.all.items port before.fresh fresh);
       len = omega (arith, c.push_reserved.ensures.len);

@@ -1,8 +1,9 @@
 use Rattle.std.proofs.Common.{◌≡◌, ◌≤◌, [], All, map, vec_len, vec_capacity}
 use Rattle.std.specs.List.{range_with_len}
 use Rattle.crossbeam_queue.specs.Passes.{view, IsPassOf}
-use Rattle.deliver_core.specs.declared.post.Post.TheVariants.{Receiver}
-use Rattle.deliver_core.specs.Ports.{index_of, IsFreshPort}
+use Rattle.deliver_core.specs.declared.pass_view.PassView.TheVariants.{Receiver}
+use Rattle.deliver_core.specs.OutletCalls.{IsFreshPort}
+use Rattle.deliver_core.specs.Ports.{index_of}
 use Rattle.deliver_core.proofs.outlet.Outlet.new.Given as goal
 
 abbrev pub invariant-loop-index : goal.invariant-loop-index

@@ -1,6 +1,7 @@
 use Rattle.std.proofs.Common.{◌≡◌, Some, false}
 use Rattle.crossbeam_queue.specs.Passes.{view}
-use Rattle.deliver_core.specs.Posts.{sender_of, has_bye, sent_of, with_sent}
+use Rattle.deliver_core.specs.Byes.{has_bye}
+use Rattle.deliver_core.specs.PassViews.{sender_of, sent_of, with_sent}
 use Rattle.deliver_core.proofs.OutletRule.{sends}
 use Rattle.deliver_core.proofs.OutletCalls.{after_send}
 use Rattle.deliver_core.proofs.outlet.Outlet.send.Goals as goal

@@ -1,0 +1,86 @@
+//! What the passes of an outlet's queue know, and the rule that ties it to what waits. It exists in
+//! proofs alone.
+use crate::message::Message;
+use crossbeam_queue::protocol::{Join, Lesson, Outcome, Protocol, Split};
+use std::collections::LinkedList;
+
+/// A port that was met: its index, and all that it sent.
+pub struct Met {
+    pub index: u32,
+    pub sent: LinkedList<Message>,
+}
+
+/// The view of a pass. No value of it is made.
+pub enum PassView {
+    /// Of a port: its index, and what it has sent.
+    Sender(u32, LinkedList<Message>),
+    /// Of the tap: how many ports were made, what it has taken, and which ports it met.
+    Receiver(u32, LinkedList<Message>, LinkedList<Met>),
+    /// Of a port that was met.
+    Spent,
+}
+
+/// The rule: of each port, what was taken and then what waits is what it sent.
+pub struct InOrder;
+
+impl Protocol<Message, PassView> for InOrder {
+    ghost use Rattle.std.specs.Prelude.{[]};
+    ghost use Rattle.deliver_core.specs.declared.pass_view.PassView.TheVariants.{Receiver};
+    ghost use Rattle.deliver_core.specs.OutletRule.{Delivers};
+
+    ghost holds = { λ items views. Delivers items views };
+
+    ghost first = { Receiver 0 [] [] };
+}
+
+/// A port is made.
+pub struct Make;
+
+impl Split<PassView> for Make {
+    ghost use Rattle.deliver_core.specs.PassViews.{with_port, new_port};
+
+    ghost left = { with_port };
+
+    ghost right = { new_port };
+}
+
+/// A port puts a message.
+pub struct Put;
+
+impl Outcome<Message, PassView> for Put {
+    ghost use Rattle.std.specs.Prelude.{◌≡◌};
+    ghost use Rattle.deliver_core.specs.PassViews.{with_sent};
+
+    ghost then = { λ v m w. w ≡ with_sent v m };
+}
+
+impl Lesson<Message, PassView> for Put {
+    ghost fact = { λ v items. Unit {0} };
+}
+
+/// The tap takes a message, or looks at what waits.
+pub struct Take;
+
+impl Outcome<Message, PassView> for Take {
+    ghost use Rattle.deliver_core.specs.OutletSteps.{IsAfterTake};
+
+    ghost then = { λ v m w. IsAfterTake m v w };
+}
+
+impl Lesson<Message, PassView> for Take {
+    ghost use Rattle.deliver_core.specs.OutletSteps.{TellsWaiting};
+
+    ghost fact = { TellsWaiting };
+}
+
+/// The tap meets a port.
+pub struct Meet;
+
+impl Join<PassView> for Meet {
+    ghost use Rattle.deliver_core.specs.declared.pass_view.PassView.TheVariants.{Spent};
+    ghost use Rattle.deliver_core.specs.PassViews.{with_met};
+
+    ghost both = { with_met };
+
+    ghost spent = { Spent };
+}

@@ -1,0 +1,11 @@
+//! Tests of `deliver_core` from outside: worked examples, growths that are refused, and threads.
+#![tactic(auto)]
+
+#[cfg(test)]
+mod board;
+#[cfg(test)]
+mod collector;
+#[cfg(test)]
+mod full_outlet;
+#[cfg(test)]
+mod outlet;

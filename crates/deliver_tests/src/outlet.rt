@@ -1,0 +1,236 @@
+//! Rows of the outlet, its growths, and sixteen ports at once.
+ghost use Rattle.std.specs.Prelude.{◌≡◌, ◌≤◌, true, false, IfSome, IfOk, All};
+ghost use Rattle.deliver_core.specs.Byes.{is_bye};
+ghost use Rattle.deliver_core.specs.OutletCalls.{IsFreshPort, IsEndedPort};
+ghost use Rattle.deliver_core.specs.Ports.{IsTapOf};
+
+use deliver_core::{Body, Message, Outlet, Port, Tap, outlet_law};
+use std::alloc::{AllocError, Global};
+use std::process::Abort;
+use std::sync::Wait;
+use std::test::Fail;
+use std::thread;
+use std::thread::Threads;
+use std::time::{Clock, Duration};
+
+// The last of these ports.
+pub(crate) fn last_port(outlet: &Outlet, ports: &mut Vec<Port>) -> Option<Port>
+    requires { All (IsFreshPort outlet.now) ports.old.items }
+    ensures rest { All (IsFreshPort outlet.now) ports.new.items }
+    ensures port { IfSome result (IsFreshPort outlet.now) }
+{
+    ports.pop()
+}
+
+// Batch `number` of task `port`, with one pair.
+fn batch(alloc: Global, port: u32, number: u64) -> Result<Message, AllocError>
+    ensures port { IfOk result (λ m. m.port ≡ port) }
+    ensures body { IfOk result (λ m. is_bye m ≡ false) }
+{
+    let pairs = Vec::from_slice(alloc, &[(port, 7)])?;
+    Ok(Message {
+        port,
+        task: port,
+        body: Body::Batch(number, pairs),
+    })
+}
+
+// The end of task `port`, which had these many batches.
+fn end(port: u32, batches: u64) -> Message
+    ensures port { result.port ≡ port }
+    ensures body { is_bye result ≡ false }
+{
+    Message {
+        port,
+        task: port,
+        body: Body::End(batches),
+    }
+}
+
+// Takes, and sees these answers.
+fn take_these<R: Wait + Abort>(rt: &R, outlet: &Outlet, tap: &mut Tap, wanted: &[Option<Message>])
+    requires { IsTapOf outlet.now tap.old }
+{
+    for want in wanted {
+        assert!(rt; outlet.take(rt, tap) == *want);
+    }
+}
+
+// Puts these many batches of the port's own task, their end and the port's Bye. Each fourth port
+// is slow.
+fn put_all<R: Wait + Clock>(
+    rt: &R,
+    alloc: Global,
+    outlet: &Outlet,
+    mut port: Port,
+    batches: u64,
+) -> Port
+    requires { IsFreshPort outlet.now port }
+    ensures { IsEndedPort outlet.now result }
+{
+    let index = port.index();
+    for number in 0..batches {
+        let Ok(message) = batch(alloc, index, number) else {
+            outlet.bye(rt, &mut port, false);
+            return port;
+        };
+        outlet.put(rt, &mut port, message);
+        if index % 4 == 3 && number % 256 == 0 {
+            thread::sleep(rt, Duration::from_millis(1));
+        }
+    }
+    outlet.put(rt, &mut port, end(index, batches));
+    outlet.bye(rt, &mut port, true);
+    port
+}
+
+// Checks a message against the number of messages that were taken of its port. True for a Bye.
+fn checked(rt: &impl Abort, message: &Message, taken: u64, batches: u64) -> bool {
+    match &message.body {
+        Body::Batch(number, pairs) => {
+            assert_eq!(rt; *number, taken);
+            assert_eq!(rt; pairs.as_slice(), [(message.port, 7)].as_slice());
+            false
+        }
+        Body::End(count) => {
+            assert_eq!(rt; (*count, taken), (batches, batches));
+            false
+        }
+        Body::Bye(ok) => {
+            assert_eq!(rt; (*ok, taken), (true, batches.saturating_add(1)));
+            true
+        }
+    }
+}
+
+// Takes the messages of each port, in order and whole, until all ports have said bye.
+fn take_all<R: Wait + Abort>(
+    rt: &R,
+    outlet: &Outlet,
+    mut tap: Tap,
+    ports: usize,
+    batches: u64,
+) -> Tap
+    requires { IsTapOf outlet.now tap }
+    ensures { IsTapOf outlet.now result }
+{
+    let mut taken = [0u64; 16];
+    let mut left = ports;
+    for _ in rt.forever() {
+        if left == 0 {
+            break;
+        }
+        let Some(message) = outlet.take(rt, &mut tap) else {
+            thread::yield_now();
+            continue;
+        };
+        let count = taken
+            .get_mut(message.port as usize)
+            .expect(rt, "one of the ports");
+        if checked(rt, &message, *count, batches) {
+            left -= 1;
+        }
+        *count = count.saturating_add(1);
+    }
+    tap
+}
+
+// Meets each port, twice.
+fn meet_all<R: Wait + Abort>(rt: &R, outlet: &Outlet, tap: &mut Tap, mut ports: Vec<Port>)
+    requires tap { IsTapOf outlet.now tap.old }
+    requires ports { All (IsEndedPort outlet.now) ports.items }
+    ensures { IsTapOf outlet.now tap.new }
+{
+    while let Some(port) = ports.pop() {
+        let index = port.index();
+        let spent = outlet.meet(rt, tap, port);
+        assert_eq!(rt; outlet.take(rt, tap), None);
+        let spent = outlet.meet(rt, tap, spent);
+        assert_eq!(rt; (spent.index(), spent.said_bye()), (index, true));
+        assert_eq!(rt; outlet.take(rt, tap), None);
+    }
+}
+
+// Puts in a thread for each port.
+fn put_in_threads<R: Threads + Wait + Clock + Sync>(
+    rt: &R,
+    alloc: Global,
+    outlet: &Outlet,
+    ports: Vec<Port>,
+    batches: u64,
+) -> Result<Vec<Port>, AllocError>
+    requires { All (IsFreshPort outlet.now) ports.items }
+    ensures { IfOk result (λ ended. All (IsEndedPort outlet.now) ended.items) }
+{
+    thread::map_vec(rt, ports, &|port| put_all(rt, alloc, outlet, port, batches))
+}
+
+// Puts in a thread for each port, and takes in another.
+fn exchange<R: Threads + Wait + Clock + Abort + Sync>(
+    rt: &R,
+    alloc: Global,
+    ports: u32,
+    batches: u64,
+) -> Result<(), AllocError>
+    requires some { 1 ≤ ports }
+    requires few { ports ≤ 16 }
+{
+    let (outlet, ports, tap) = Outlet::new(alloc, ports)?;
+    let count = ports.len();
+    let shared = &outlet;
+    let (ended, mut tap) = thread::join(
+        rt,
+        || -> Result<Vec<Port>, AllocError>
+            requires { All (IsFreshPort shared.now) ports.items }
+            ensures { IfOk result (λ ended. All (IsEndedPort shared.entry.now) ended.items) }
+        { put_in_threads(rt, alloc, shared, ports, batches) },
+        || -> Tap
+            requires { IsTapOf shared.now tap }
+            ensures { IsTapOf shared.entry.now result }
+        { take_all(rt, shared, tap, count, batches) },
+    );
+    meet_all(rt, shared, &mut tap, ended?);
+    Ok(())
+}
+
+#[test]
+fn board_and_outlet(rt: HostRuntime) -> Result<(), Fail> {
+    let alloc = rt.alloc();
+    let (outlet, mut ports, mut tap) = Outlet::new(alloc, 2)?;
+    let mut one = last_port(&outlet, &mut ports).ok_or("port 1")?;
+    let mut zero = last_port(&outlet, &mut ports).ok_or("port 0")?;
+    assert_eq!(rt; (zero.index(), one.index(), ports.len()), (0, 1, 0));
+    outlet.put(&rt, &mut zero, batch(alloc, 0, 5)?);
+    outlet.put(&rt, &mut one, end(1, 0));
+    outlet.bye(&rt, &mut zero, true);
+    assert_eq!(rt; (zero.said_bye(), one.said_bye()), (true, false));
+    let bye = Message {
+        port: 0,
+        task: 0,
+        body: Body::Bye(true),
+    };
+    let wanted = [Some(batch(alloc, 0, 5)?), Some(end(1, 0)), Some(bye), None];
+    take_these(&rt, &outlet, &mut tap, &wanted);
+    Ok(())
+}
+
+#[test]
+fn outlet_thousand(rt: HostRuntime) -> Result<(), AllocError> {
+    outlet_law();
+    exchange(&rt, rt.alloc(), 1, 1000)
+}
+
+#[test]
+fn sixteen_ports(rt: HostRuntime) -> Result<(), AllocError> {
+    exchange(&rt, rt.alloc(), 16, 2000)
+}
+
+// Growth N of `new` is refused under `rt try --test --fail-alloc N`, for N up to 5. An outlet is
+// whole or isn't made.
+#[test]
+fn outlet_without_memory(rt: HostRuntime) {
+    match Outlet::new(rt.alloc(), 16) {
+        Ok((_, ports, _)) => assert_eq!(rt; ports.len(), 16),
+        Err(AllocError) => {}
+    }
+}
