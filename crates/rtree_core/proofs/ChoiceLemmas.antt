@@ -8,9 +8,9 @@ use Rattle.std.proofs.lemmas.List.{get_or_default}
 use Rattle.std.proofs.lemmas.List.Elements.{at_read}
 use Rattle.geom_core.specs.declared.shape.Shape.{Shape}
 use Rattle.geom_core.specs.Shapes.{area_of}
-use Rattle.rtree_core.specs.declared.laws.Need.{Need}
+use Rattle.rtree_core.specs.declared.measures.Need.{Need}
 use Rattle.rtree_core.specs.Choices.{enlargement, needs_less}
-use Rattle.rtree_core.specs.Needs.{is_less_need}
+use Rattle.rtree_core.specs.Orders.{is_less_need}
 
 pub needs_less_ranks : {T : Type 0} (cover : T → Shape) (s : Shape) → IsStrictWeakOrder (λ (x y : T). needs_less s (cover x) (cover y))
 needs_less_ranks cover s =
@@ -42,7 +42,8 @@ module _ {T : Type 0} (cover : T → Shape) (s : Shape) (items : List T) where
       is_less_need need least ≡ false →
       IsLeastSoFar cover s items (i + 1) b least
   least_keeps i b x need least h lt at n less = record {
-    best = IsFirstBest-keeps (needs_less_ranks cover s) items i b x (get_or items b x) h.best lt at (seen_itself items b x (omega arith)) (sym (need_tests s _ _ need least n (h.need x)) ∙ less);
+    best = IsFirstBest-keeps (needs_less_ranks cover s) items i b x (get_or items b x) h.best lt at (seen_itself items b x (omega arith))
+        (sym (need_tests s _ _ need least n (h.need x)) ∙ less);
     need = h.need;
   }
 
@@ -54,6 +55,7 @@ module _ {T : Type 0} (cover : T → Shape) (s : Shape) (items : List T) where
       is_less_need need least ≡ true →
       IsLeastSoFar cover s items (i + 1) i need
   least_takes i b x need least h lt at n less = record {
-    best = IsFirstBest-takes (needs_less_ranks cover s) items i b x (get_or items b x) h.best lt at (seen_itself items b x (omega arith)) (sym (need_tests s _ _ need least n (h.need x)) ∙ less);
+    best = IsFirstBest-takes (needs_less_ranks cover s) items i b x (get_or items b x) h.best lt at (seen_itself items b x (omega arith))
+        (sym (need_tests s _ _ need least n (h.need x)) ∙ less);
     need = at_read items (λ y. IsNeed need (cover y) s) i x lt at n;
   }

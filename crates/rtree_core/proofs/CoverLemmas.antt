@@ -51,7 +51,8 @@ module _ {T : Type 0} (cover : T → Shape) where
   cover_push xs x c h = record {
     contains =
         All-push (λ y. IsIn (cover y) (cover_of c (cover x))) xs x
-        (All-weaker (λ y. IsIn (cover y) c) (λ y. IsIn (cover y) (cover_of c (cover x))) (λ y k. in_trans (cover y) c (cover_of c (cover x)) k (in_cover_first c (cover x))) xs h.contains)
+        (All-weaker (λ y. IsIn (cover y) c) (λ y. IsIn (cover y) (cover_of c (cover x)))
+        (λ y k. in_trans (cover y) c (cover_of c (cover x)) k (in_cover_first c (cover x))) xs h.contains)
         (in_cover_second c (cover x));
     least = λ s k. cover_least c (cover x) s (h.least s (All-front (λ y. IsIn (cover y) s) xs (x ∷ []) k)) (All-last (λ y. IsIn (cover y) s) xs x k);
   }

@@ -1,12 +1,12 @@
 pub mod Areas
 pub mod ChoiceLemmas
 pub mod NodeLemmas
-pub mod NumberLemmas
 pub mod SeedLemmas
 pub mod SplitLemmas
 pub mod CoverLemmas
-pub mod EditLemmas
-pub mod RootLemmas
+pub mod ItemLemmas
+pub mod InsertionLemmas
+pub mod TrunkLemmas
 pub mod TreeLemmas
 pub mod WindowLemmas
 pub mod RemovalLemmas

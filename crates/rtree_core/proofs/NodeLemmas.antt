@@ -12,7 +12,7 @@ use Rattle.rtree_core.specs.declared.node.Below.TheOpen.{Below-F, Entries, Child
 use Rattle.rtree_core.specs.declared.node.Node.{Node, fold_out-Node}
 use Rattle.std.proofs.lemmas.List.{length-map, get_or-map}
 use Rattle.std.proofs.lemmas.List.Elements.{All-head, All-tail, All-map, All-weaker}
-use Rattle.rtree_core.specs.declared.laws.TheConstants.{FEWEST}
+use Rattle.rtree_core.specs.Limits.{fewest}
 use Rattle.rtree_core.specs.Covers.{IsLeastCover}
 use Rattle.rtree_core.specs.Nodes.{entries_step, entries_of, level_step, level_of, size_of, children_of, leaf_law, inner_law, IsLawfulAt, IsLawful}
 
@@ -23,7 +23,8 @@ flat_map-map f g (x ∷ xs) = ap (λ ys. g (f x) ++ ys) (flat_map-map f g xs)
 entries_unfold : (n : Node) → entries_of n ≡ fold-Below (List Entry) (List Entry) entries_step (λ m. m.below) n.below
 entries_unfold n = fold_out-Node (List Entry) (List Entry) entries_step (λ m. m.below) n
 
-below_unfold : (b : Below) → fold-Below (List Entry) (List Entry) entries_step (λ m. m.below) b ≡ entries_step (map-Below _ _ _ _ (fold-Below (List Entry) (List Entry) entries_step (λ m. m.below)) entries_of (out-Below b))
+below_unfold : (b : Below) → fold-Below (List Entry) (List Entry) entries_step (λ m. m.below) b ≡ entries_step
+    (map-Below _ _ _ _ (fold-Below (List Entry) (List Entry) entries_step (λ m. m.below)) entries_of (out-Below b))
 below_unfold b = fold_out-Below (List Entry) (List Entry) entries_step (λ m. m.below) b
 
 -- the entries of a leaf are those in it
@@ -68,7 +69,8 @@ inner_level : (l : ℕ) (n : Node) (b : Below-F Below Node) →
     level_of n ≡ suc l
 inner_level l n (Entries v) ih e h = absurd h
 inner_level l n (Children v) ih e h =
-    let all : All (λ x. x ≡ l) (map level_of v.items) = All-map (λ x. x ≡ l) level_of v.items (All-weaker (IsLawfulAt l) (λ m. level_of m ≡ l) ih v.items h.children) in
+    let all : All (λ x. x ≡ l) (map level_of v.items) = All-map (λ x. x ≡ l) level_of v.items
+    (All-weaker (IsLawfulAt l) (λ m. level_of m ≡ l) ih v.items h.children) in
     let some : 0 < length (map level_of v.items) = rw length-map (omega (arith, h.page.some, v.ok.0)) in
     level_inner n v e ∙ rw (fold_max_same l (map level_of v.items) some all, add-one) refl
 
@@ -86,7 +88,7 @@ pub record HasChildren (l : ℕ) (n : Node) : Type 0 where
   pub some : 0 < length (children_of n)
   pub tight : IsLeastCover (λ m. m.cover) (children_of n) n.cover
   pub children : All (IsLawfulAt l) (children_of n)
-  pub enough : All (λ m. FEWEST ≤ size_of m) (children_of n)
+  pub enough : All (λ m. fewest ≤ size_of m) (children_of n)
   pub size : size_of n ≡ length (children_of n)
 
 has_children_by : (l : ℕ) (n : Node) (b : Below-F Below Node) → out-Below n.below ≡ b → inner_law (IsLawfulAt l) n.cover b → HasChildren l n
@@ -163,7 +165,8 @@ children_lawful n v e h =
 pub children_level : (n : Node) (v : Vec Node Global) → n.below ≡ made_children v → IsLawful n → All (λ m. level_of m + 1 ≡ level_of n) v.items
 children_level n v e h =
     let inner = inner_facts n v e h in
-    rw inner.items at (All-weaker (IsLawfulAt (top_level v.items)) (λ m. level_of m + 1 ≡ level_of n) (λ m k. omega (arith, lawful_level (top_level v.items) m k, inner.level)) (children_of n) inner.facts.children)
+    rw inner.items at (All-weaker (IsLawfulAt (top_level v.items)) (λ m. level_of m + 1 ≡ level_of n)
+    (λ m k. omega (arith, lawful_level (top_level v.items) m k, inner.level)) (children_of n) inner.facts.children)
 
 -- their covers lie in its cover
 pub children_inside : (n : Node) (v : Vec Node Global) → n.below ≡ made_children v → IsLawful n → All (λ m. IsIn m.cover n.cover) v.items

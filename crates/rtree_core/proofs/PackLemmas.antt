@@ -4,31 +4,27 @@ use Rattle.std.specs.Prelude.{All, count_by, sum_by}
 use Rattle.std.specs.Int.{div_ceil}
 use Rattle.std.specs.List.{flat_map}
 use Rattle.std.specs.List.Sorted.{IsPermutation}
-use Rattle.std.specs.declared.alloc.Global.{Global}
-use Rattle.std.specs.declared.vec.Vec.{Vec}
 use Rattle.std.proofs.Math.Nat.{mul-le-mul_left}
 use Rattle.std.proofs.lemmas.Bool.{cases_lt}
 use Rattle.std.proofs.lemmas.Bool.Decides.{nat_tests}
 use Rattle.std.proofs.lemmas.List.{flat_map_more, take_all, drop_all}
 use Rattle.std.proofs.lemmas.List.Concat.{flat_map-append}
-use Rattle.std.proofs.lemmas.List.Elements.{All-nil, All-head, All-tail, All-push, All-append, All-weaker}
+use Rattle.std.proofs.lemmas.List.Elements.{All-nil, All-head, All-tail, All-push, All-append}
 use Rattle.std.proofs.lemmas.List.Sorted.{All-permutation, IsPermutation-sym, sum_by-IsPermutation, length_permutation}
 use Rattle.std.proofs.lemmas.List.Sums.{sum_by-append, sum_by-cons}
 use Rattle.geom_core.specs.declared.shape.Shape.{Shape}
-use Rattle.rtree_core.specs.declared.laws.TheConstants.{FEWEST, MOST}
+use Rattle.rtree_core.specs.Limits.{most}
 use Rattle.rtree_core.specs.declared.node.Entry.{Entry}
-use Rattle.rtree_core.specs.declared.node.Below.TheVariants.{outs-Children}
 use Rattle.rtree_core.specs.declared.node.Node.{Node}
 use Rattle.rtree_core.specs.Collections.{HasSame}
-use Rattle.rtree_core.specs.Covers.{IsLeastCover}
-use Rattle.rtree_core.specs.Edits.{leaf_node, inner_node}
-use Rattle.rtree_core.specs.Nodes.{entries_of, size_of, IsPage, IsLawfulAt}
-use Rattle.rtree_core.specs.Packed.{IsPackedAt, entry_alone, FitsLeaf, HasU32, FitsInner, IsNodeList, IsNodeOf, AreNodesOf, IsPackedTree}
+use Rattle.rtree_core.specs.Items.{entry_alone, FitsLeaf, FitsInner, IsNodeOf}
+use Rattle.rtree_core.specs.Nodes.{entries_of, size_of, IsLawfulAt}
+use Rattle.rtree_core.specs.Packed.{IsPackedAt, HasU32, FitsPacked, IsPackedOf, AreNodesOf, IsPackedTree}
 use Rattle.rtree_core.specs.Trees.{has_number}
 use Rattle.rtree_core.proofs.CoverLemmas.{All-front, All-back}
 use Rattle.rtree_core.proofs.NodeLemmas.{lawful_level, lawful_is}
 use Rattle.rtree_core.proofs.TreeLemmas.{all_below, count_below_n}
-use Rattle.rtree_core.proofs.EditLemmas.{leaf_entries, leaf_lawful, leaf_size, inner_entries, inner_size, inner_children}
+use Rattle.rtree_core.proofs.ItemLemmas.{each_alone}
 
 -- a list whose items were moved through the slice of all of them
 pub through_slice : {T : Type 0} (n : ℕ) (old new : List T) → n ≡ length old → IsPermutation old new → IsPermutation old (take n (new ++ drop (length new) old))
@@ -42,58 +38,6 @@ pub only_one : {T : Type 0} (all front : List T) (x : T) → all ≡ front ++ x 
 only_one all [] x e h = e
 only_one all (y ∷ ys) x e h = absurd (omega (arith, ap length e, length-append ys (x ∷ [])))
 
-each_alone : (es : List Entry) → flat_map entry_alone es ≡ es
-each_alone [] = refl
-each_alone (e ∷ es) = ap (λ xs. e ∷ xs) (each_alone es)
-
-leaf_is_lowest : (level : ℕ) (es : List Entry) → 0 < length es → All (FitsLeaf level) es → level ≡ 0
-leaf_is_lowest level [] some all = absurd (omega arith)
-leaf_is_lowest level (e ∷ es) some all = All-head (FitsLeaf level) e es all
-
-list_page : {K : Type 0} (cover : K → Shape) (c : Shape) (v : Vec K Global) → IsNodeList v → IsLeastCover cover v.items c → IsPage cover c v
-list_page cover c v list tight = record { some = list.some; few = list.few; room = list.room; tight = tight }
-
--- the leaf of a list
-pub leaf_made : (c : Shape) (v : Vec Entry Global) → IsNodeList v → IsLeastCover (λ e. e.shape) v.items c → IsNodeOf entry_alone FitsLeaf v.items (leaf_node c v)
-leaf_made c v list tight =
-    let lowest : (level : ℕ) → All (FitsLeaf level) v.items → level ≡ 0 = λ level all. leaf_is_lowest level v.items (omega (arith, v.ok.0, list.some)) all in
-    record {
-      size = omega (arith, leaf_size c v, v.ok.0);
-      entries_are = leaf_entries c v ∙ sym (each_alone v.items);
-      lawful = λ level all. subst (λ l. IsLawfulAt l (leaf_node c v)) (sym (lowest level all)) (leaf_lawful c v (list_page (λ e. e.shape) c v list tight));
-      packed = λ level all. subst (λ l. IsPackedAt l (leaf_node c v)) (sym (lowest level all)) tt;
-    }
-
-none_fits : (ns : List Node) → 0 < length ns → All (FitsInner 0) ns → ⊥
-none_fits [] some all = omega arith
-none_fits (n ∷ ns) some all = All-head (FitsInner 0) n ns all
-
-inner_lawful : (level : ℕ) (c : Shape) (v : Vec Node Global) → IsPage (λ n. n.cover) c v → 0 < length v.items → All (FitsInner level) v.items → IsLawfulAt level (inner_node c v)
-inner_lawful zero c v page some all = absurd (none_fits v.items some all)
-inner_lawful (suc level) c v page some all =
-    rw outs-Children (record {
-      page = page;
-      children = All-weaker (FitsInner (suc level)) (IsLawfulAt level) (λ n h. h.0) v.items all;
-      enough = All-weaker (FitsInner (suc level)) (λ n. FEWEST ≤ size_of n) (λ n h. omega (arith, h.1)) v.items all;
-    })
-
-inner_packed : (level : ℕ) (c : Shape) (v : Vec Node Global) → 0 < length v.items → All (FitsInner level) v.items → IsPackedAt level (inner_node c v)
-inner_packed zero c v some all = absurd (none_fits v.items some all)
-inner_packed (suc level) c v some all =
-    rw (inner_children c v)
-    (All-weaker (FitsInner (suc level)) (λ n. (4 ≤ size_of n) × IsPackedAt level n) (λ n h. (h.1, h.2)) v.items all)
-
--- the inner node of a list
-pub inner_made : (c : Shape) (v : Vec Node Global) → IsNodeList v → IsLeastCover (λ n. n.cover) v.items c → IsNodeOf entries_of FitsInner v.items (inner_node c v)
-inner_made c v list tight =
-    let some : 0 < length v.items = omega (arith, v.ok.0, list.some) in
-    record {
-      size = omega (arith, inner_size c v, v.ok.0);
-      entries_are = inner_entries c v;
-      lawful = λ level all. inner_lawful level c v (list_page (λ n. n.cover) c v list tight) some all;
-      packed = λ level all. inner_packed level c v some all;
-    }
-
 -- a number whose square is as large as a number above 0 is above 0
 pub root_some : (m n : ℕ) → n ≤ m * m → 0 < n → 0 < m
 root_some zero n h some = absurd (omega arith)
@@ -101,8 +45,8 @@ root_some (suc m) n h some = omega arith
 
 -- how many of some items the first page has, where so many others follow
 pub record IsShare (size others items : ℕ) : Type 0 where
-  pub most : (m : ℕ) → items ≤ m * (others + 1) → size ≤ m
-  pub least : (m : ℕ) → m * (others + 1) ≤ items → m ≤ size
+  pub at_most : (m : ℕ) → items ≤ m * (others + 1) → size ≤ m
+  pub at_least : (m : ℕ) → m * (others + 1) ≤ items → m ≤ size
   pub leaves_few : (m : ℕ) → items ≤ m * (others + 1) → items ≤ m * others + size
   pub leaves_many : (m : ℕ) → m * (others + 1) ≤ items → m * others + size ≤ items
 
@@ -142,34 +86,37 @@ share_of size others pages items e is =
     let whole : items ≡ (others + 1) * q + r = rw (← e) (omega arith) in
     let size_is : size ≡ q + min 1 r = omega arith in
     record {
-      most = λ m h. rw size_is (share_most q r others m lt (rw whole at h));
-      least = λ m h. omega (arith, share_least q r others m lt (omega arith));
+      at_most = λ m h. rw size_is (share_most q r others m lt (rw whole at h));
+      at_least = λ m h. omega (arith, share_least q r others m lt (omega arith));
       leaves_few = λ m h. omega (arith, share_few q r others m lt (omega arith));
       leaves_many = λ m h. omega (arith, share_many q r others m lt (omega arith));
     }
 
 -- the share of the page at a place
-pub share_at : (pages place len items size : ℕ) → place < pages → len ≡ items → size ≡ 1 * (len / (pages - place)) + min 1 (len % (pages - place)) → IsShare size (pages - (place + 1)) items
+pub share_at : (pages place len items size : ℕ) → place < pages → len ≡ items → size ≡ 1 * (len / (pages - place)) + min 1 (len % (pages - place)) → IsShare
+    size (pages - (place + 1)) items
 share_at pages place len items size lt e is = share_of size (pages - (place + 1)) (pages - place) items (omega arith) (rw e at is)
 
 -- the first so many of some pages were cut from the items as these nodes, and the rest is left
-pub record IsCut {K : Type 0} (entries : K → List Entry) (fits : ℕ → K → Type 0) (InRange : K → Type 0) (items : List K) (pages place : ℕ) (nodes : List Node) (rest : List K) : Type 0 where
+pub record IsCut {K : Type 0} (entries : K → List Entry) (fits fits_packed : ℕ → K → Type 0) (InRange : K → Type 0) (items : List K) (pages place : ℕ)
+    (nodes : List Node) (rest : List K) : Type 0 where
   pub joined : flat_map entries items ≡ flat_map entries_of nodes ++ flat_map entries rest
   pub count : length nodes ≡ place
-  pub few : length rest ≤ MOST * (pages - place)
+  pub few : length rest ≤ most * (pages - place)
   pub many : (m : ℕ) → m * pages ≤ length items → m * (pages - place) ≤ length rest
   pub big : (m : ℕ) → m * pages ≤ length items → All (λ n. m ≤ size_of n) nodes
   pub fit : (level : ℕ) → All (fits level) items → All (fits level) rest
   pub lawful : (level : ℕ) → All (fits level) items → All (IsLawfulAt level) nodes
-  pub packed : (level : ℕ) → All (fits level) items → All (IsPackedAt level) nodes
+  pub fit_packed : (level : ℕ) → All (fits_packed level) items → All (fits_packed level) rest
+  pub packed : (level : ℕ) → All (fits_packed level) items → All (IsPackedAt level) nodes
   pub in_range : All InRange rest → All InRange items
 
 nothing : {T : Type 0} (xs : List T) → length xs ≡ 0 → xs ≡ []
 nothing [] h = refl
 nothing (x ∷ xs) h = absurd (omega arith)
 
-module _ {K : Type 0} (entries : K → List Entry) (fits : ℕ → K → Type 0) (InRange : K → Type 0) where
-  pub cut_none : (items : List K) (pages : ℕ) → length items ≤ MOST * pages → IsCut entries fits InRange items pages 0 [] items
+module _ {K : Type 0} (entries : K → List Entry) (fits fits_packed : ℕ → K → Type 0) (InRange : K → Type 0) where
+  pub cut_none : (items : List K) (pages : ℕ) → length items ≤ most * pages → IsCut entries fits fits_packed InRange items pages 0 [] items
   cut_none items pages h = let all : pages - 0 ≡ pages = omega arith in record {
     joined = refl;
     count = refl;
@@ -177,6 +124,7 @@ module _ {K : Type 0} (entries : K → List Entry) (fits : ℕ → K → Type 0)
     many = λ m k. rw all k;
     big = λ m k. All-nil (λ n. m ≤ size_of n);
     fit = λ level all. all;
+    fit_packed = λ level all. all;
     lawful = λ level all. All-nil (IsLawfulAt level);
     packed = λ level all. All-nil (IsPackedAt level);
     in_range = λ all. all;
@@ -186,30 +134,31 @@ module _ {K : Type 0} (entries : K → List Entry) (fits : ℕ → K → Type 0)
   pub share_some : (items : List K) (pages place : ℕ) (nodes : List Node) (rest : List K) (size : ℕ) →
       place < pages →
       pages ≤ length items →
-      IsCut entries fits InRange items pages place nodes rest →
+      IsCut entries fits fits_packed InRange items pages place nodes rest →
       IsShare size (pages - (place + 1)) (length rest) →
       0 < size
-  share_some items pages place nodes rest size lt enough cut share = omega (arith, share.least 1 (omega (arith, cut.many 1 (omega arith))))
+  share_some items pages place nodes rest size lt enough cut share = omega (arith, share.at_least 1 (omega (arith, cut.many 1 (omega arith))))
 
   pub share_fits : (items : List K) (pages place : ℕ) (nodes : List Node) (rest : List K) (size : ℕ) →
       place < pages →
-      IsCut entries fits InRange items pages place nodes rest →
+      IsCut entries fits fits_packed InRange items pages place nodes rest →
       IsShare size (pages - (place + 1)) (length rest) →
-      size ≤ MOST
-  share_fits items pages place nodes rest size lt cut share = share.most MOST (omega (arith, cut.few))
+      size ≤ most
+  share_fits items pages place nodes rest size lt cut share = share.at_most most (omega (arith, cut.few))
 
-  pub cut_more : (items : List K) (pages place : ℕ) (nodes : List Node) (rest page left : List K) (n : Node) →
+  pub cut_more : (cover : K → Shape) (items : List K) (pages place : ℕ) (nodes : List Node) (rest page left : List K) (n : Node) →
       place < pages →
-      IsCut entries fits InRange items pages place nodes rest →
+      IsCut entries fits fits_packed InRange items pages place nodes rest →
       rest ≡ page ++ left →
       IsShare (length page) (pages - (place + 1)) (length rest) →
-      IsNodeOf entries fits page n →
+      IsNodeOf cover entries fits page n →
+      IsPackedOf fits_packed page n →
       All InRange page →
-      IsCut entries fits InRange items pages (place + 1) (nodes ++ n ∷ []) left
-  cut_more items pages place nodes rest page left n lt cut e share node known =
+      IsCut entries fits fits_packed InRange items pages (place + 1) (nodes ++ n ∷ []) left
+  cut_more cover items pages place nodes rest page left n lt cut e share node packed known =
       let others = pages - (place + 1) in
       let pages_left : pages - place ≡ others + 1 = omega arith in
-      let few : length rest ≤ MOST * (others + 1) = rw pages_left at cut.few in
+      let few : length rest ≤ most * (others + 1) = rw pages_left at cut.few in
       let len : length rest ≡ length page + length left = ap length e ∙ length-append page left in
       record {
         joined =
@@ -217,16 +166,20 @@ module _ {K : Type 0} (entries : K → List Entry) (fits : ℕ → K → Type 0)
             ∙ ap (λ xs. flat_map entries_of nodes ++ flat_map entries xs) e
             ∙ ap (λ xs. flat_map entries_of nodes ++ xs) (flat_map-append entries page left)
             ∙ sym (append_assoc (flat_map entries_of nodes) (flat_map entries page) (flat_map entries left))
-            ∙ ap (λ xs. xs ++ flat_map entries left) (ap (λ xs. flat_map entries_of nodes ++ xs) (sym (node.entries_are)) ∙ flat_map_more entries_of [] nodes n);
+            ∙ ap (λ xs. xs ++ flat_map entries left) (ap (λ xs. flat_map entries_of nodes ++ xs) (sym (node.entries_are)) ∙ flat_map_more entries_of []
+            nodes n);
         count = omega (arith, cut.count, length-append nodes (n ∷ []));
-        few = omega (arith, share.leaves_few MOST few, len);
+        few = omega (arith, share.leaves_few most few, len);
         many = λ m h. let many : m * (others + 1) ≤ length rest = rw pages_left at (cut.many m h) in omega (arith, share.leaves_many m many, len);
         big = λ m h.
             let many : m * (others + 1) ≤ length rest = rw pages_left at (cut.many m h) in
-            All-push (λ k. m ≤ size_of k) nodes n (cut.big m h) (omega (arith, share.least m many, node.size));
+            All-push (λ k. m ≤ size_of k) nodes n (cut.big m h) (omega (arith, share.at_least m many, node.size));
         fit = λ level all. All-back (fits level) page left (rw e at (cut.fit level all));
-        lawful = λ level all. All-push (IsLawfulAt level) nodes n (cut.lawful level all) (node.lawful level (All-front (fits level) page left (rw e at (cut.fit level all))));
-        packed = λ level all. All-push (IsPackedAt level) nodes n (cut.packed level all) (node.packed level (All-front (fits level) page left (rw e at (cut.fit level all))));
+        fit_packed = λ level all. All-back (fits_packed level) page left (rw e at (cut.fit_packed level all));
+        lawful = λ level all. All-push (IsLawfulAt level) nodes n (cut.lawful level all)
+            (node.lawful level (All-front (fits level) page left (rw e at (cut.fit level all))));
+        packed = λ level all. All-push (IsPackedAt level) nodes n (cut.packed level all)
+            (packed level (All-front (fits_packed level) page left (rw e at (cut.fit_packed level all))));
         in_range = λ all. cut.in_range (rw e (All-append InRange page left known all));
       }
 
@@ -238,25 +191,26 @@ module _ {K : Type 0} (entries : K → List Entry) (fits : ℕ → K → Type 0)
   -- all pages were cut from the items, which were sorted before
   pub cut_all : (unsorted items : List K) (pages : ℕ) (nodes : List Node) (rest : List K) →
       IsPermutation unsorted items →
-      pages ≡ div_ceil (length unsorted) MOST →
-      IsCut entries fits InRange items pages pages nodes rest →
-      AreNodesOf entries fits unsorted nodes
+      pages ≡ div_ceil (length unsorted) most →
+      IsCut entries fits fits_packed InRange items pages pages nodes rest →
+      AreNodesOf entries fits fits_packed unsorted nodes
   cut_all unsorted items pages nodes rest perm e cut =
       let len : length items ≡ length unsorted = length_permutation unsorted items perm in
       let none : rest ≡ [] = nothing rest (omega (arith, cut.few)) in
       let all : flat_map entries items ≡ flat_map entries_of nodes = cut.joined ∙ rw none (append-nil (flat_map entries_of nodes)) in
       record {
-        same = λ p. count_each p unsorted ∙ sym (sum_by-IsPermutation (λ x. count_by p (entries x)) unsorted items perm) ∙ sym (count_each p items) ∙ ap (count_by p) all;
+        same = λ p. count_each p unsorted ∙ sym (sum_by-IsPermutation (λ x. count_by p (entries x)) unsorted items perm) ∙ sym (count_each p items) ∙ ap
+            (count_by p) all;
         count = cut.count ∙ e;
         two = λ h. cut.big 2 (omega arith);
         four = λ h. cut.big 4 (omega (arith, cut.count));
         lawful = λ level h. cut.lawful level (All-permutation (fits level) unsorted items perm h);
-        packed = λ level h. cut.packed level (All-permutation (fits level) unsorted items perm h);
+        packed = λ level h. cut.packed level (All-permutation (fits_packed level) unsorted items perm h);
       }
 
   pub cut_in_range : (unsorted items : List K) (pages : ℕ) (nodes : List Node) (rest : List K) →
       IsPermutation unsorted items →
-      IsCut entries fits InRange items pages pages nodes rest →
+      IsCut entries fits fits_packed InRange items pages pages nodes rest →
       All InRange unsorted
   cut_in_range unsorted items pages nodes rest perm cut =
       let none : rest ≡ [] = nothing rest (omega (arith, cut.few)) in
@@ -273,25 +227,28 @@ pub record IsRow (all : List Entry) (nodes : List Node) (height : ℕ) : Type 0 
   pub two : 0 < level → All (λ n. 2 ≤ size_of n) nodes
   pub four : 2 ≤ length nodes → All (λ n. 4 ≤ size_of n) nodes
 
-pub row_first : (all : List Entry) (nodes : List Node) → 0 < length all → AreNodesOf entry_alone FitsLeaf all nodes → IsRow all nodes 1
+pub row_first : (all : List Entry) (nodes : List Node) → 0 < length all → AreNodesOf entry_alone FitsLeaf (λ _ _. Unit {0}) all nodes → IsRow all nodes 1
 row_first all nodes some made = record {
   level = 0;
   height_is = refl;
   some = omega (arith, made.count);
   same = rw (each_alone all) at made.same;
   lawful = made.lawful 0 (λ k d lt. refl);
-  packed = made.packed 0 (λ k d lt. refl);
+  packed = made.packed 0 (λ k d lt. tt);
   two = λ h. absurd (omega arith);
   four = made.four;
 }
 
 row_fits : (all : List Entry) (nodes : List Node) (height : ℕ) (row : IsRow all nodes height) → 2 ≤ length nodes → All (FitsInner (suc row.level)) nodes
-row_fits all nodes height row many k d lt = (row.lawful k d lt, row.four many k d lt, row.packed k d lt)
+row_fits all nodes height row many k d lt = (row.lawful k d lt, omega (arith, row.four many k d lt))
+
+row_fits_packed : (all : List Entry) (nodes : List Node) (height : ℕ) (row : IsRow all nodes height) → 2 ≤ length nodes → All (FitsPacked (suc row.level)) nodes
+row_fits_packed all nodes height row many k d lt = (row.four many k d lt, row.packed k d lt)
 
 pub row_next : (all : List Entry) (nodes above : List Node) (height : ℕ) →
     2 ≤ length nodes →
     IsRow all nodes height →
-    AreNodesOf entries_of FitsInner nodes above →
+    AreNodesOf entries_of FitsInner FitsPacked nodes above →
     IsRow all above (height + 1)
 row_next all nodes above height many row made = record {
   level = suc row.level;
@@ -299,13 +256,13 @@ row_next all nodes above height many row made = record {
   some = omega (arith, made.count);
   same = λ p. row.same p ∙ made.same p;
   lawful = made.lawful (suc row.level) (row_fits all nodes height row many);
-  packed = made.packed (suc row.level) (row_fits all nodes height row many);
+  packed = made.packed (suc row.level) (row_fits_packed all nodes height row many);
   two = λ h. made.two many;
   four = made.four;
 }
 
 -- there are fewer nodes on the level above
-pub fewer_above : (nodes above : List Node) → 2 ≤ length nodes → AreNodesOf entries_of FitsInner nodes above → length above < length nodes
+pub fewer_above : (nodes above : List Node) → 2 ≤ length nodes → AreNodesOf entries_of FitsInner FitsPacked nodes above → length above < length nodes
 fewer_above nodes above many made = omega (arith, made.count)
 
 other_number : (e : Entry) (k : ℕ) → e.number < 2 ^ 32 → 2 ^ 32 ≤ k → cond {A = ℕ} (has_number k e) 1 0 ≡ 0
@@ -315,7 +272,13 @@ other_number e k small large = grind (arith, nat_tests)
 none_beyond : (k : ℕ) (all : List Entry) → 2 ^ 32 ≤ k → All HasU32 all → count_by (has_number k) all ≡ 0
 none_beyond k [] large small = refl
 none_beyond k (e ∷ es) large small =
-    omega (arith, none_beyond k es large (All-tail HasU32 e es small), other_number e k (All-head HasU32 e es small) large, sum_by-cons (λ x. cond {A = ℕ} (has_number k x) 1 0) e es)
+    omega (
+      arith,
+      none_beyond k es large (All-tail HasU32 e es small),
+      other_number e k (All-head HasU32 e es small) large,
+      sum_by-cons
+          (λ x. cond {A = ℕ} (has_number k x) 1 0) e es,
+    )
 
 -- there are no more entries than numbers
 pub few_entries : (all : List Entry) → ((k : ℕ) → count_by (has_number k) all ≤ 1) → All HasU32 all → length all ≤ 2 ^ 32

@@ -5,7 +5,7 @@ use Rattle.std.specs.declared.alloc.Global.{Global}
 use Rattle.std.specs.declared.vec.Vec.{Vec}
 use Rattle.std.proofs.Props.{props}
 use Rattle.std.proofs.Common.{arith, ◌≡◌, ℕ, zero, suc, ◌+◌, ◌<◌, ◌≤◌, Bool, true, false, List, [], ◌∷◌, length, get_or, refl, sym, ◌∙◌, ap, subst, inl, inr, below_more}
-use Rattle.std.specs.Prelude.{Contains, ◌&&◌, not, nat_eq, ℤ}
+use Rattle.std.specs.Prelude.{Contains, Option, Some, ◌&&◌, not, nat_eq, ℤ}
 use Rattle.std.specs.List.{flat_map}
 use Rattle.std.specs.Ordering.{int_eq}
 use Rattle.std.proofs.lemmas.List.Elements.{Contains-append_left, Contains-append_right, Contains-append_cases, All-contains}
@@ -19,6 +19,7 @@ use Rattle.geom_core.specs.Cells.{IsIn}
 use Rattle.rtree_core.specs.declared.node.Entry.{Entry}
 use Rattle.rtree_core.specs.declared.node.Node.{Node}
 use Rattle.rtree_core.specs.Nodes.{entries_of, level_of, size_of, IsLawful, IsLawfulAt}
+use Rattle.rtree_core.specs.Trees.{entries_in}
 use Rattle.rtree_core.proofs.NodeLemmas.{has_entries}
 use Rattle.rtree_core.proofs.WindowLemmas.{lawful_cover}
 use Rattle.rtree_core.specs.contracts.node.EntryPartialEq.TheImpl.{eq-value}
@@ -78,10 +79,38 @@ only (y ∷ z ∷ zs) x n at = absurd (omega arith)
 pub only_entry : (n : Node) (x : Entry) → IsLawfulAt 0 n → size_of n ≡ 1 → x ≡ get_or (entries_of n) 0 x → entries_of n ≡ x ∷ []
 only_entry n x lawful one at = only (entries_of n) x (sym (has_entries n lawful).size ∙ one) at
 
+-- which are those of a root that is this leaf
+pub the_entry : (root : Option Node) (leaf : Node) (x e : Entry) (es : List Entry) →
+    root ≡ Some leaf →
+    IsLawfulAt 0 leaf × (size_of leaf ≡ 1) →
+    es ≡ entries_of leaf →
+    x ≡ get_or es 0 x →
+    x ≡ e →
+    entries_in root ≡ e ∷ []
+the_entry root leaf x e es is one held there same = ap entries_in is ∙ only_entry leaf x one.0 one.1 (rw held at there) ∙ ap (λ z. z ∷ []) same
+
+pub holds_only : (es : List Entry) (e : Entry) → es ≡ e ∷ [] → Contains es e
+holds_only es e is = rw is (0, omega arith, refl)
+
 -- which holds no other
 pub only_one : (x e : Entry) → Contains (x ∷ []) e → e ≡ x
 only_one x e (zero, lt, there) = sym there
 only_one x e (suc p, lt, there) = absurd (omega arith)
+
+-- the one entry of a root that is a leaf differs from this one, which is not there
+pub other_entry : (root : Option Node) (leaf : Node) (x e : Entry) (es : List Entry) →
+    root ≡ Some leaf →
+    IsLawfulAt 0 leaf × (size_of leaf ≡ 1) →
+    es ≡ entries_of leaf →
+    x ≡ get_or es 0 x →
+    not (eq-value.it x e) ≡ true →
+    Contains (entries_in root) e →
+    ⊥
+other_entry root leaf x e es is one held there differs h =
+    let only : entries_in root ≡ x ∷ [] = ap entries_in is ∙ only_entry leaf x one.0 one.1 (rw held at there) in
+    let same : e ≡ x = only_one x e (rw only at h) in
+    let equal : eq-value.it x e ≡ true = ap (λ z. eq-value.it x z) same ∙ entry_itself x in
+    false≢true (ap not (sym equal) ∙ differs)
 
 pub found_at : (es : List Entry) (e : Entry) (p : ℕ) (x : Entry) → p < length es → x ≡ get_or es p x → x ≡ e → IsPlaceOf es e p
 found_at es e p x lt at same = record { inside = lt; there = subst (λ z. get_or es p z ≡ z) same (sym at) }
@@ -92,12 +121,15 @@ not_there es e p x lt at differ there =
     false≢true (sym differ ∙ ap (λ z. eq-value.it z e) same ∙ entry_itself e)
 
 -- an entry below a node stands among the entries of the nodes together, and the other way round
-pub contains_joined : (xs : List Node) (e : Entry) (p : ℕ) (x : Node) → p < length xs → x ≡ get_or xs p x → Contains (entries_of x) e → Contains (flat_map entries_of xs) e
+pub contains_joined : (xs : List Node) (e : Entry) (p : ℕ) (x : Node) → p < length xs → x ≡ get_or xs p x → Contains (entries_of x) e → Contains
+    (flat_map entries_of xs) e
 contains_joined [] e p x lt at h = absurd (omega (arith, lt))
 contains_joined (y ∷ ys) e zero x lt at h = Contains-append_left (entries_of y) (flat_map entries_of ys) e (rw at at h)
-contains_joined (y ∷ ys) e (suc p) x lt at h = Contains-append_right (entries_of y) (flat_map entries_of ys) e (contains_joined ys e p x (omega (arith, lt)) at h)
+contains_joined (y ∷ ys) e (suc p) x lt at h = Contains-append_right (entries_of y) (flat_map entries_of ys) e
+    (contains_joined ys e p x (omega (arith, lt)) at h)
 
-contains_parted : (xs : List Node) (e : Entry) → Contains (flat_map entries_of xs) e → (p : ℕ) × (p < length xs) × ((d : Node) → Contains (entries_of (get_or xs p d)) e)
+contains_parted : (xs : List Node) (e : Entry) → Contains (flat_map entries_of xs) e → (p : ℕ) × (p < length xs) ×
+    ((d : Node) → Contains (entries_of (get_or xs p d)) e)
 contains_parted [] e h = absurd (omega (arith, h.1))
 contains_parted (x ∷ xs) e h =
     elim (Contains-append_cases (entries_of x) (flat_map entries_of xs) e h) [
@@ -132,7 +164,8 @@ pub none_so_far : (xs : List Node) (e : Entry) (i : ℕ) (x : Node) →
     Contains (entries_of (get_or xs k d)) e →
     ⊥
 none_so_far xs e i x lt at before here k d h c =
-    below_more (λ m. (b : Node) → Contains (entries_of (get_or xs m b)) e → ⊥) i (λ m p b. before m b p) (λ b q. here (subst (λ z. Contains (entries_of z) e) (get_or_default xs i b x lt ∙ sym at) q)) k h d c
+    below_more (λ m. (b : Node) → Contains (entries_of (get_or xs m b)) e → ⊥) i (λ m p b. before m b p)
+    (λ b q. here (subst (λ z. Contains (entries_of z) e) (get_or_default xs i b x lt ∙ sym at) q)) k h d c
 
 -- a list of nodes into which the nodes that it has were written is as it was
 pub list_as_it_was : (v : Vec Node Global) (xs : List Node) → xs ≡ v.items → with_items v xs ≡ v

@@ -4,7 +4,7 @@ use Rattle.std.specs.Prelude.{Bool, true, false, cond, if◌then◌else◌, ◌�
 use Rattle.std.proofs.lemmas.Bool.{cases_lt}
 use Rattle.std.proofs.lemmas.Int.{ints}
 use Rattle.geom_core.specs.declared.shape.Shape.{Shape}
-use Rattle.rtree_core.specs.declared.laws.Seeds.{Seeds}
+use Rattle.rtree_core.specs.declared.choices.Seeds.{Seeds}
 use Rattle.rtree_core.specs.Choices.{waste_at, IsBefore, AreSeeds}
 use Rattle.rtree_core.specs.Seeds.{IsBestBefore}
 

@@ -10,11 +10,11 @@ use Rattle.std.proofs.lemmas.List.Sums.{sum_by-append, sum_by_push, sum_by-remov
 use Rattle.geom_core.specs.declared.shape.Shape.{Shape}
 use Rattle.geom_core.specs.Shapes.{area_of}
 use Rattle.rtree_core.proofs.CoverLemmas.{All-front, All-back, All-last}
-use Rattle.rtree_core.specs.declared.laws.Cost.{Cost}
-use Rattle.rtree_core.specs.declared.laws.TheConstants.{FEWEST}
+use Rattle.rtree_core.specs.declared.split.Cost.{Cost}
+use Rattle.rtree_core.specs.Limits.{fewest}
 use Rattle.rtree_core.specs.Choices.{enlargement}
 use Rattle.rtree_core.specs.Collections.{HasSame}
-use Rattle.rtree_core.specs.Needs.{is_less_cost}
+use Rattle.rtree_core.specs.Orders.{is_less_cost}
 use Rattle.rtree_core.specs.Splits.{Group, joined, costs_less, CanChoose, IsTaken, IsDealt, done, rest_to_one, rest_to_two, to_one, to_two, IsSplit}
 
 -- what a group needs to take in a shape
@@ -26,7 +26,8 @@ pub record IsCost {T : Type 0} (cost : Cost) (group : Group T) (s : Shape) : Typ
 cost_tests : {T : Type 0} (s : Shape) (one two : Group T) (m n : Cost) → IsCost m one s → IsCost n two s → is_less_cost m n ≡ costs_less s one two
 cost_tests s one two m n p q = rw (p.enlargement, p.area, p.size, q.enlargement, q.area, q.size)
 
-module _ {T : Type 0} (cover : T → Shape) (rest : List T) (one two : Group T) (k : ℕ) (x : T) (taken : IsTaken cover rest one two k x) (m n : Cost) (cost_one : IsCost m one (cover x)) (cost_two : IsCost n two (cover x)) where
+module _ {T : Type 0} (cover : T → Shape) (rest : List T) (one two : Group T) (k : ℕ) (x : T) (taken : IsTaken cover rest one two k x) (m n : Cost)
+    (cost_one : IsCost m one (cover x)) (cost_two : IsCost n two (cover x)) where
   pub step_to_one : (rest' : List T) (one' : Group T) →
       is_less_cost n m ≡ false →
       rest' ≡ remove rest k →
@@ -121,11 +122,11 @@ dealt_back cover P h k (to_two {rest} {one} {two} {k = i} {x} t c d) =
 
 -- both groups end with enough
 pub dealt_enough : {T : Type 0} (cover : T → Shape) {rest : List T} {one two : Group T} {a b : List T} →
-    FEWEST ≤ length one.items + length rest →
-    FEWEST ≤ length two.items + length rest →
-    FEWEST + FEWEST ≤ length one.items + length two.items + length rest →
+    fewest ≤ length one.items + length rest →
+    fewest ≤ length two.items + length rest →
+    fewest + fewest ≤ length one.items + length two.items + length rest →
     IsDealt cover rest one two a b →
-    (FEWEST ≤ length a) × (FEWEST ≤ length b)
+    (fewest ≤ length a) × (fewest ≤ length b)
 dealt_enough cover m n o done = (omega arith, omega arith)
 dealt_enough cover m n o (rest_to_one h) = (simp length-append (omega arith), omega arith)
 dealt_enough cover m n o (rest_to_two h) = (omega arith, simp length-append (omega arith))
@@ -141,12 +142,12 @@ dealt_enough cover m n o (to_two {rest} {one} {two} {k} {x} t c h) =
     dealt_enough cover (omega arith) (omega arith) (omega arith) h
 
 -- the second group takes what is left where nothing is, or where it needs all
-two_needs_all : (rest one two : ℕ) → 0 < rest → (CanChoose rest one two → ⊥) → one + rest ≢ FEWEST → two + rest ≡ FEWEST
+two_needs_all : (rest one two : ℕ) → 0 < rest → (CanChoose rest one two → ⊥) → one + rest ≢ fewest → two + rest ≡ fewest
 two_needs_all rest one two some none can_wait =
-    elim (cases_lt (two + rest) FEWEST) [
+    elim (cases_lt (two + rest) fewest) [
       | inl h ↦ absurd (none (record { some = some; one_can_wait = can_wait; two_can_wait = λ e. omega arith }))
       | inr h ↦
-          elim (cases_lt FEWEST (two + rest)) [
+          elim (cases_lt fewest (two + rest)) [
             | inl k ↦ absurd (none (record { some = some; one_can_wait = can_wait; two_can_wait = λ e. omega arith }))
             | inr k ↦ omega arith
           ]
@@ -154,7 +155,7 @@ two_needs_all rest one two some none can_wait =
 
 pub deal_ends : {T : Type 0} (cover : T → Shape) (rest : List T) (one two : Group T) →
     (CanChoose (length rest) (length one.items) (length two.items) → ⊥) →
-    length one.items + length rest ≢ FEWEST →
+    length one.items + length rest ≢ fewest →
     IsDealt cover rest one two one.items (two.items ++ rest)
 deal_ends cover [] one two none can_wait = rw (append-nil two.items) done
 deal_ends cover (x ∷ rest) one two none can_wait =
@@ -170,7 +171,8 @@ split_sums cover f items one two s =
     let shorter = length-remove items s.j s.seeds.in_range in
     let kept : s.x ≡ get_or (remove items s.j) s.i s.x = s.first_seed ∙ sym (get_or-remove_below items s.j s.x s.i s.seeds.ordered s.seeds.in_range) in
     let both : sum_by f (remove (remove items s.j) s.i) + f s.x ≡ sum_by f (remove items s.j) =
-    subst (λ z. sum_by f (remove (remove items s.j) s.i) + f z ≡ sum_by f (remove items s.j)) (sym kept) (sum_by-remove f (remove items s.j) s.i s.x (omega (arith, shorter, s.seeds.ordered, s.seeds.in_range))) in
+    subst (λ z. sum_by f (remove (remove items s.j) s.i) + f z ≡ sum_by f (remove items s.j)) (sym kept)
+    (sum_by-remove f (remove items s.j) s.i s.x (omega (arith, shorter, s.seeds.ordered, s.seeds.in_range))) in
     omega (arith, dealt_sums cover f s.dealt)
 
 seed_kept : {T : Type 0} (cover : T → Shape) (items one two : List T) (s : IsSplit cover items one two) → s.x ≡ get_or (remove items s.j) s.i s.x

@@ -1,6 +1,6 @@
 -- What a lawful tree keeps, and how large it can be.
-use Rattle.std.proofs.Common.{arith, ◌≡◌, ◌≢◌, ℕ, zero, suc, ◌+◌, ◌^◌, ◌<◌, ◌≤◌, pow_mono, pow-suc, Bool, true, false, cond, List, [], ◌∷◌, length, refl, sym, ◌∙◌, subst, inl, inr}
-use Rattle.std.specs.Prelude.{All, IsTrue, IsFalse, Option, None, Some, IfSome, count_by, sum_by, nat_eq, nat_lt}
+use Rattle.std.proofs.Common.{arith, ◌≡◌, ◌≢◌, ℕ, zero, suc, ◌+◌, ◌^◌, ◌<◌, ◌≤◌, pow_mono, pow-suc, true, cond, List, [], ◌∷◌, length, refl, sym, ◌∙◌, subst, inl, inr}
+use Rattle.std.specs.Prelude.{All, Option, None, Some, IfSome, count_by, sum_by, nat_eq, nat_lt}
 use Rattle.std.proofs.lemmas.Bool.{cases_lt, cases_eq}
 use Rattle.std.proofs.lemmas.Bool.Decides.{nat_tests}
 use Rattle.std.proofs.lemmas.List.Concat.{length-flat_map}
@@ -131,10 +131,24 @@ pub tree_gains : (x : Entry) (old new : Option Node) →
 tree_gains x old new small fresh tree gains lawful = record {
   lawful = lawful;
   distinct = λ k. elim (cases_eq x.number k) [
-    | inl e ↦ omega (arith, subst (λ z. count_by (has_number z) (entries_in old) ≡ 0) e fresh, gains (has_number k), sum_by-cons (λ y. cond {A = ℕ} (has_number k y) 1 0) x (entries_in old), at_most_one x k)
+    | inl e ↦ omega (
+      arith,
+      subst (λ z. count_by (has_number z) (entries_in old) ≡ 0) e fresh,
+      gains (has_number k),
+      sum_by-cons
+          (λ y. cond {A = ℕ} (has_number k y) 1 0) x (entries_in old),
+      at_most_one x k,
+    )
     | inr n ↦ omega (arith, tree.distinct k, gains (has_number k), sum_by-cons (λ y. cond {A = ℕ} (has_number k y) 1 0) x (entries_in old), not_that x k n)
   ];
-  in_range = λ k h. omega (arith, tree.in_range k h, gains (has_number k), sum_by-cons (λ y. cond {A = ℕ} (has_number k y) 1 0) x (entries_in old), not_that x k (λ e. omega arith));
+  in_range = λ k h. omega (
+    arith,
+    tree.in_range k h,
+    gains (has_number k),
+    sum_by-cons (λ y. cond {A = ℕ} (has_number k y) 1 0) x
+        (entries_in old),
+    not_that x k (λ e. omega arith),
+  );
 }
 
 -- a tree without one of its entries is lawful where its root is
@@ -144,18 +158,3 @@ tree_loses x old new tree loses lawful = record {
   distinct = λ k. omega (arith, tree.distinct k, loses (has_number k), sum_by-cons (λ y. cond {A = ℕ} (has_number k y) 1 0) x (entries_in new));
   in_range = λ k h. omega (arith, tree.in_range k h, loses (has_number k), sum_by-cons (λ y. cond {A = ℕ} (has_number k y) 1 0) x (entries_in new));
 }
-
--- a number that differs from that of the entry that came in stays fresh
-pub fresh_after : (x : Entry) (old new : Option Node) (k : ℕ) → Gains x (entries_in old) (entries_in new) → x.number ≢ k → IsFresh k old → IsFresh k new
-fresh_after x old new k gains other fresh =
-    omega (arith, gains (has_number k), sum_by-cons (λ y. cond {A = ℕ} (has_number k y) 1 0) x (entries_in old), not_that x k other)
-
--- a fresh number stays fresh at a removal
-pub fresh_still : (x : Entry) (old new : Option Node) (removed : Bool) (k : ℕ) →
-    (IsTrue removed → Gains x (entries_in new) (entries_in old)) →
-    (IsFalse removed → new ≡ old) →
-    IsFresh k old →
-    IsFresh k new
-fresh_still x old new true k loses kept fresh =
-    omega (arith, fresh, loses refl (has_number k), sum_by-cons (λ y. cond {A = ℕ} (has_number k y) 1 0) x (entries_in new))
-fresh_still x old new false k loses kept fresh = rw (kept refl) fresh

@@ -38,7 +38,8 @@ inner_cover : (l : ℕ) (n : Node) →
 inner_cover l n h deep = record {
   contains = rw h.entries (all_joined (λ e. IsIn e.shape n.cover) entries_of (children_of n) (λ k d lt.
       let m = get_or (children_of n) k d in
-      All-weaker (λ e. IsIn e.shape m.cover) (λ e. IsIn e.shape n.cover) (λ e i. in_trans e.shape m.cover n.cover i (h.tight.contains k d lt)) (entries_of m) (deep m (h.children k d lt)).contains));
+      All-weaker (λ e. IsIn e.shape m.cover) (λ e. IsIn e.shape n.cover) (λ e i. in_trans e.shape m.cover n.cover i (h.tight.contains k d lt))
+      (entries_of m) (deep m (h.children k d lt)).contains));
   least = λ s all.
       let parts = all_parted (λ e. IsIn e.shape s) entries_of (children_of n) (rw h.entries at all) in
       h.tight.least s (λ k d lt. (deep _ (h.children k d lt)).least s (parts k d lt));
@@ -82,22 +83,27 @@ adds_more_met w es i e a b c lt at p h items =
 pub adds_more_missed : (w : Shape) (es : List Entry) (i : ℕ) (e : Entry) (a b : List ℕ) →
     i < length es → e ≡ get_or es i e → Adds w (take i es) a b → (Meets e.shape w → ⊥) → Adds w (take (i + 1) es) a b
 adds_more_missed w es i e a b lt at p h =
-    rw (take_more es i e lt) (adds_append w (take i es) (get_or es i e ∷ []) a b b p (subst (λ x. Adds w (x ∷ []) b b) at (adds_missed w (e ∷ []) b (All-cons (λ x. Meets x.shape w → ⊥) e [] h (All-nil (λ x. Meets x.shape w → ⊥))))))
+    rw (take_more es i e lt) (adds_append w (take i es) (get_or es i e ∷ []) a b b p
+    (subst (λ x. Adds w (x ∷ []) b b) at (adds_missed w (e ∷ []) b (All-cons (λ x. Meets x.shape w → ⊥) e [] h (All-nil (λ x. Meets x.shape w → ⊥))))))
 
 -- one child more
-below_more : (xs : List Node) (i : ℕ) (n : Node) → i < length xs → n ≡ get_or xs i n → flat_map entries_of (take (i + 1) xs) ≡ flat_map entries_of (take i xs) ++ entries_of n
+below_more : (xs : List Node) (i : ℕ) (n : Node) → i < length xs → n ≡ get_or xs i n → flat_map entries_of (take (i + 1) xs) ≡ flat_map entries_of
+    (take i xs) ++ entries_of n
 below_more xs i n lt at =
-    ap (flat_map entries_of) (take_more xs i n lt) ∙ flat_map-append entries_of (take i xs) (get_or xs i n ∷ []) ∙ ap (λ ys. flat_map entries_of (take i xs) ++ ys) (append-nil (entries_of (get_or xs i n)) ∙ ap entries_of (sym at))
+    ap (flat_map entries_of) (take_more xs i n lt) ∙ flat_map-append entries_of (take i xs) (get_or xs i n ∷ []) ∙ ap
+    (λ ys. flat_map entries_of (take i xs) ++ ys) (append-nil (entries_of (get_or xs i n)) ∙ ap entries_of (sym at))
 
 pub adds_more_child : (w : Shape) (xs : List Node) (i : ℕ) (n : Node) (a b c : List ℕ) →
-    i < length xs → n ≡ get_or xs i n → Adds w (flat_map entries_of (take i xs)) a b → Adds w (entries_of n) b c → Adds w (flat_map entries_of (take (i + 1) xs)) a c
+    i < length xs → n ≡ get_or xs i n → Adds w (flat_map entries_of (take i xs)) a b → Adds w (entries_of n) b c → Adds w
+    (flat_map entries_of (take (i + 1) xs)) a c
 adds_more_child w xs i n a b c lt at p q = rw (below_more xs i n lt at) (adds_append w (flat_map entries_of (take i xs)) (entries_of n) a b c p q)
 
 -- no entry meets a window that its node's cover doesn't meet
 pub adds_pruned : (w : Shape) (l : ℕ) (n : Node) (old : List ℕ) → IsLawfulAt l n → (Meets n.cover w → ⊥) → Adds w (entries_of n) old old
 adds_pruned w l n old lawful h =
     adds_missed w (entries_of n) old
-    (All-weaker (λ e. IsIn e.shape n.cover) (λ e. Meets e.shape w → ⊥) (λ e i m. h (m.0, m.1, i m.0 m.1 m.2, m.3)) (entries_of n) (lawful_cover l n lawful).contains)
+    (All-weaker (λ e. IsIn e.shape n.cover) (λ e. Meets e.shape w → ⊥) (λ e i m. h (m.0, m.1, i m.0 m.1 m.2, m.3)) (entries_of n)
+    (lawful_cover l n lawful).contains)
 
 any_later : {T : Type 0} (P : T → Type 0) (x : T) (xs : List T) → Any P xs → Any P (x ∷ xs)
 any_later P x xs h = (suc h.0, h.1, omega (arith, h.2), h.3, h.4)
@@ -113,16 +119,19 @@ picks_met w none = All-nil _
 picks_met w (met {e} {es} {ks} h p) =
     All-cons (λ k. Any (λ x. (x.number ≡ k) × Meets x.shape w) (e ∷ es)) e.number ks
     (any_first (λ x. (x.number ≡ e.number) × Meets x.shape w) e es (refl, h))
-    (All-weaker (λ k. Any (λ x. (x.number ≡ k) × Meets x.shape w) es) (λ k. Any (λ x. (x.number ≡ k) × Meets x.shape w) (e ∷ es)) (λ k a. any_later (λ x. (x.number ≡ k) × Meets x.shape w) e es a) ks (picks_met w p))
+    (All-weaker (λ k. Any (λ x. (x.number ≡ k) × Meets x.shape w) es) (λ k. Any (λ x. (x.number ≡ k) × Meets x.shape w) (e ∷ es))
+    (λ k a. any_later (λ x. (x.number ≡ k) × Meets x.shape w) e es a) ks (picks_met w p))
 picks_met w (missed {e} {es} {ks} h p) =
-    All-weaker (λ k. Any (λ x. (x.number ≡ k) × Meets x.shape w) es) (λ k. Any (λ x. (x.number ≡ k) × Meets x.shape w) (e ∷ es)) (λ k a. any_later (λ x. (x.number ≡ k) × Meets x.shape w) e es a) ks (picks_met w p)
+    All-weaker (λ k. Any (λ x. (x.number ≡ k) × Meets x.shape w) es) (λ k. Any (λ x. (x.number ≡ k) × Meets x.shape w) (e ∷ es))
+    (λ k a. any_later (λ x. (x.number ≡ k) × Meets x.shape w) e es a) ks (picks_met w p)
 
 picks_found : (w : Shape) {es : List Entry} {ks : List ℕ} → Picks w es ks → AllFound w es ks
 picks_found w none = All-nil _
 picks_found w (met {e} {es} {ks} h p) =
     All-cons (λ x. Meets x.shape w → Contains (e.number ∷ ks) x.number) e es
     (λ m. (0, omega arith, refl))
-    (All-weaker (λ x. Meets x.shape w → Contains ks x.number) (λ x. Meets x.shape w → Contains (e.number ∷ ks) x.number) (λ x c m. contains_later e.number x.number ks (c m)) es (picks_found w p))
+    (All-weaker (λ x. Meets x.shape w → Contains ks x.number) (λ x. Meets x.shape w → Contains (e.number ∷ ks) x.number)
+    (λ x c m. contains_later e.number x.number ks (c m)) es (picks_found w p))
 picks_found w (missed {e} {es} {ks} h p) =
     All-cons (λ x. Meets x.shape w → Contains ks x.number) e es (λ m. absurd (h m)) (picks_found w p)
 
@@ -160,7 +169,8 @@ module _ (w : Shape) (es : List Entry) (found sorted : List ℕ) (adds : Adds w 
 
   pub window_all : AllFound w es sorted
   window_all =
-      All-weaker (λ e. Meets e.shape w → Contains found e.number) (λ e. Meets e.shape w → Contains sorted e.number) (λ e c m. Contains-permutation found sorted e.number same (c m)) es (picks_found w here)
+      All-weaker (λ e. Meets e.shape w → Contains found e.number) (λ e. Meets e.shape w → Contains sorted e.number)
+      (λ e c m. Contains-permutation found sorted e.number same (c m)) es (picks_found w here)
 
   pub window_rises : ((k : ℕ) → count_by (has_number k) es ≤ 1) → IsNonDecreasing sorted → IsStrictlyIncreasing sorted
   window_rises once up =

@@ -17,7 +17,8 @@ waste a b = (pos (area_of (cover_of a b)) -ℤ pos (area_of a)) -ℤ pos (area_o
 
 -- compares two covers by what they grow to take in a shape, and then by area
 abbrev pub by_need : Shape → Shape → Shape → Ordering
-by_need s a b = ordering_then (nat_cmp (enlargement a s) (enlargement b s)) (nat_cmp (area_of a) (area_of b))
+by_need s a b =
+    ordering_then (nat_cmp (enlargement a s) (enlargement b s)) (nat_cmp (area_of a) (area_of b))
 
 -- the test of the first of two covers being the better one for a shape
 abbrev pub needs_less : Shape → Shape → Shape → Bool
@@ -25,7 +26,8 @@ needs_less s a b = is_lt (by_need s a b)
 
 -- the first place of those whose cover needs least for a shape
 abbrev pub IsChoice : {T : Type 0} → (T → Shape) → List T → Shape → ℕ → Type 0
-IsChoice cover items s r = IsFirstBest (λ x y. needs_less s (cover x) (cover y)) items (length items) r
+IsChoice cover items s r =
+    IsFirstBest (λ x y. needs_less s (cover x) (cover y)) items (length items) r
 
 -- how far apart two covers are in what they grow to take in a shape
 abbrev pub difference : Shape → Shape → Shape → ℕ
@@ -33,11 +35,13 @@ difference one two s = abs_diff (enlargement one s) (enlargement two s)
 
 -- the first place of those that matter most to the choice between two covers
 abbrev pub IsNext : {T : Type 0} → (T → Shape) → List T → Shape → Shape → ℕ → Type 0
-IsNext cover items one two r = IsFirstMaxByKey (λ x. difference one two (cover x)) items (length items) r
+IsNext cover items one two r =
+    IsFirstMaxByKey (λ x. difference one two (cover x)) items (length items) r
 
 -- the waste of the items at two places; d stands in past the end
 abbrev pub waste_at : {T : Type 0} → (T → Shape) → List T → T → ℕ → ℕ → ℤ
-waste_at cover items d i j = waste (cover (slice_index_or items i d)) (cover (slice_index_or items j d))
+waste_at cover items d i j =
+    waste (cover (slice_index_or items i d)) (cover (slice_index_or items j d))
 
 -- the pair of places (k, l) stands before (i, j)
 abbrev pub IsBefore : ℕ → ℕ → ℕ → ℕ → Type 0
@@ -47,5 +51,7 @@ IsBefore k l i j = (k < i) ⊎ ((k ≡ i) × (l < j))
 pub record AreSeeds {T : Type 0} (cover : T → Shape) (items : List T) (i j : ℕ) : Type 0 where
   pub ordered : i < j
   pub in_range : j < length items
-  pub greatest : (d : T) (k l : ℕ) → k < l → l < length items → waste_at cover items d k l ≤ℤ waste_at cover items d i j
-  pub first : (d : T) (k l : ℕ) → k < l → l < length items → IsBefore k l i j → waste_at cover items d k l <ℤ waste_at cover items d i j
+  pub greatest : (d : T) (k l : ℕ) → k < l → l < length items →
+      waste_at cover items d k l ≤ℤ waste_at cover items d i j
+  pub first : (d : T) (k l : ℕ) → k < l → l < length items → IsBefore k l i j →
+      waste_at cover items d k l <ℤ waste_at cover items d i j

@@ -4,7 +4,7 @@ use Rattle.std.specs.List.{flat_map, fold}
 use Rattle.std.specs.declared.alloc.Global.{Global}
 use Rattle.std.specs.declared.vec.Vec.{Vec}
 use Rattle.geom_core.specs.declared.shape.Shape.{Shape}
-use Rattle.rtree_core.specs.declared.laws.TheConstants.{FEWEST, MOST}
+use Rattle.rtree_core.specs.Limits.{fewest, most}
 use Rattle.rtree_core.specs.declared.node.Entry.{Entry}
 use Rattle.rtree_core.specs.declared.node.Below.{Below, out-Below}
 use Rattle.rtree_core.specs.declared.node.Below.TheOpen.{Below-F, Entries, Children}
@@ -57,18 +57,18 @@ size_below (Children v) = vec_len v
 abbrev pub size_of : Node → ℕ
 size_of n = size_below (out-Below n.below)
 
--- a node's list: not empty, not too long, with room for one more than the most, and with this as its cover
+-- a node's list with its cover: not empty, not too long, and with room for one more than the most
 pub record IsPage {T : Type 0} (cover : T → Shape) (c : Shape) (v : Vec T Global) : Type 0 where
   pub some : 0 < vec_len v
-  pub few : vec_len v ≤ MOST
-  pub room : MOST + 1 ≤ vec_capacity v
+  pub few : vec_len v ≤ most
+  pub room : most + 1 ≤ vec_capacity v
   pub tight : IsLeastCover cover v.items c
 
 -- a page of children of which each is lawful and has enough
 pub record IsInner (IsChild : Node → Type 0) (c : Shape) (v : Vec Node Global) : Type 0 where
   pub page : IsPage (λ n. n.cover) c v
   pub children : All IsChild v.items
-  pub enough : All (λ n. FEWEST ≤ size_of n) v.items
+  pub enough : All (λ n. fewest ≤ size_of n) v.items
 
 abbrev pub leaf_law : Shape → Below-F Below Node → Type 0
 leaf_law c (Entries v) = IsPage (λ e. e.shape) c v
@@ -78,7 +78,8 @@ abbrev pub inner_law : (Node → Type 0) → Shape → Below-F Below Node → Ty
 inner_law IsChild c (Entries v) = ⊥
 inner_law IsChild c (Children v) = IsInner IsChild c v
 
--- a node of this level by Guttman's bounds: tight covers, 1 to 8 in it and 3 to 8 in each node below it, all leaves on level 0
+-- a node of this level by Guttman's bounds: tight covers, 1 to 8 in it and 3 to 8 in each node
+-- below it, all leaves on level 0
 abbrev pub IsLawfulAt : ℕ → Node → Type 0
 IsLawfulAt zero n = leaf_law n.cover (out-Below n.below)
 IsLawfulAt (suc level) n = inner_law (IsLawfulAt level) n.cover (out-Below n.below)

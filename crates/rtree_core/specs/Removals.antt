@@ -3,7 +3,7 @@ use Rattle.std.specs.List.{flat_map}
 use Rattle.std.specs.Prelude.{◌≡◌, ℕ, ◌+◌, ◌<◌, ◌≤◌, List, ◌∷◌, ◌++◌, length, slice_index_or, slice_set}
 use Rattle.rtree_core.specs.declared.node.Entry.{Entry}
 use Rattle.rtree_core.specs.declared.node.Node.{Node}
-use Rattle.rtree_core.specs.declared.laws.TheConstants.{FEWEST}
+use Rattle.rtree_core.specs.Limits.{fewest}
 use Rattle.rtree_core.specs.Collections.{HasSame}
 use Rattle.rtree_core.specs.Nodes.{entries_of, level_of, size_of, IsLawfulAt}
 
@@ -12,9 +12,13 @@ pub record IsPlaceOf (entries : List Entry) (e : Entry) (p : ℕ) : Type 0 where
   pub inside : p < length entries
   pub there : slice_index_or entries p e ≡ e
 
--- the nodes set aside: one of each level from 0 on, lawful, with one item less than is enough
+-- a lawful node of this level, with one item less than is enough
+abbrev pub IsShort : ℕ → Node → Type 0
+IsShort level n = IsLawfulAt level n × (size_of n + 1 ≡ fewest)
+
+-- the nodes set aside: one of each level from 0 on
 abbrev pub AreAside : List Node → Type 0
-AreAside nodes = (k : ℕ) (d : Node) → k < length nodes → IsLawfulAt k (slice_index_or nodes k d) × (size_of (slice_index_or nodes k d) + 1 ≡ FEWEST)
+AreAside nodes = (k : ℕ) (d : Node) → k < length nodes → IsShort k (slice_index_or nodes k d)
 
 -- the entry was taken out of the node's subtree, and these nodes were set aside
 pub record IsTakenOut (e : Entry) (old new : Node) (aside : List Node) : Type 0 where

@@ -3,13 +3,16 @@ use Rattle.std.specs.Prelude.{◌≡◌, ◌≢◌, ℕ, ◌+◌, ◌<◌, Bool,
 use Rattle.std.specs.Ordering.{nat_cmp, ordering_then, is_lt}
 use Rattle.geom_core.specs.declared.shape.Shape.{Shape}
 use Rattle.geom_core.specs.Shapes.{area_of, cover_of}
-use Rattle.rtree_core.specs.declared.laws.TheConstants.{FEWEST}
+use Rattle.rtree_core.specs.Limits.{fewest}
 use Rattle.rtree_core.specs.Choices.{enlargement, IsNext, AreSeeds}
 
 -- a group of a split as it stands: its items in the order in which they came, and their cover
 pub record Group (T : Type 0) : Type 0 where
   pub items : List T
   pub cover : Shape
+
+abbrev pub group : {T : Type 0} → List T → Shape → Group T
+group xs c = record { items = xs; cover = c }
 
 -- the group of one item
 abbrev pub begun : {T : Type 0} → (T → Shape) → T → Group T
@@ -19,34 +22,39 @@ begun cover x = record { items = x ∷ []; cover = cover x }
 abbrev pub joined : {T : Type 0} → (T → Shape) → Group T → T → Group T
 joined cover g x = record { items = g.items ++ x ∷ []; cover = cover_of g.cover (cover x) }
 
--- the test of the first of two groups being the better one for a shape: it needs less enlargement, or else is smaller, or else has fewer items
+-- the test of the first of two groups being the better one for a shape: it needs less enlargement,
+-- or else is smaller, or else has fewer items
 abbrev pub costs_less : {T : Type 0} → Shape → Group T → Group T → Bool
 costs_less s one two =
     is_lt
     (ordering_then
     (nat_cmp (enlargement one.cover s) (enlargement two.cover s))
-    (ordering_then (nat_cmp (area_of one.cover) (area_of two.cover)) (nat_cmp (length one.items) (length two.items))))
+    (ordering_then
+    (nat_cmp (area_of one.cover) (area_of two.cover))
+    (nat_cmp (length one.items) (length two.items))))
 
 -- of so many items that remain neither of two groups, of so many items, needs all
 pub record CanChoose (rest one two : ℕ) : Type 0 where
   pub some : 0 < rest
-  pub one_can_wait : one + rest ≢ FEWEST
-  pub two_can_wait : two + rest ≢ FEWEST
+  pub one_can_wait : one + rest ≢ fewest
+  pub two_can_wait : two + rest ≢ fewest
 
 -- the item x at place k of the rest is the next to be dealt
-pub record IsTaken {T : Type 0} (cover : T → Shape) (rest : List T) (one two : Group T) (k : ℕ) (x : T) : Type 0 where
+pub record IsTaken {T : Type 0} (cover : T → Shape) (rest : List T) (one two : Group T) (k : ℕ)
+    (x : T) : Type 0 where
   pub can_choose : CanChoose (length rest) (length one.items) (length two.items)
   pub next : IsNext cover rest one.cover two.cover k
   pub item : x ≡ slice_index_or rest k x
 
 -- dealing the rest to two groups, as they stand, ends with the lists a and b
-pub data IsDealt {T : Type 0} (cover : T → Shape) : List T → Group T → Group T → List T → List T → Type 0 where
+pub data IsDealt {T : Type 0} (cover : T → Shape) :
+    List T → Group T → Group T → List T → List T → Type 0 where
   done : {one two : Group T} → IsDealt cover [] one two one.items two.items
   rest_to_one : {rest : List T} {one two : Group T} →
-      length one.items + length rest ≡ FEWEST →
+      length one.items + length rest ≡ fewest →
       IsDealt cover rest one two (one.items ++ rest) two.items
   rest_to_two : {rest : List T} {one two : Group T} →
-      length two.items + length rest ≡ FEWEST →
+      length two.items + length rest ≡ fewest →
       IsDealt cover rest one two one.items (two.items ++ rest)
   to_one : {rest : List T} {one two : Group T} {k : ℕ} {x : T} {a b : List T} →
       IsTaken cover rest one two k x →

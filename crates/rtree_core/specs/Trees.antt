@@ -27,7 +27,7 @@ pub record IsRoot (n : Node) : Type 0 where
   pub lawful : IsLawful n
   pub two : 0 < level_of n → 2 ≤ size_of n
 
--- the lawful tree: the root is lawful by Guttman's bounds, no number comes twice, and each has 32 bits
+-- the lawful tree: the root is lawful by Guttman's bounds, and the numbers differ and have 32 bits
 pub record IsTree (root : Option Node) : Type 0 where
   pub lawful : IfSome root IsRoot
   pub distinct : (k : ℕ) → count_by (has_number k) (entries_in root) ≤ 1

@@ -15,8 +15,14 @@ AllFound w entries numbers = All (λ e. Meets e.shape w → Contains numbers e.n
 -- the numbers of the entries whose shapes meet the window, in the order of the entries
 pub data Picks (w : Shape) : List Entry → List ℕ → Type 0 where
   none : Picks w [] []
-  met : {e : Entry} {es : List Entry} {ks : List ℕ} → Meets e.shape w → Picks w es ks → Picks w (e ∷ es) (e.number ∷ ks)
-  missed : {e : Entry} {es : List Entry} {ks : List ℕ} → (Meets e.shape w → ⊥) → Picks w es ks → Picks w (e ∷ es) ks
+  met : {e : Entry} {es : List Entry} {ks : List ℕ} →
+      Meets e.shape w →
+      Picks w es ks →
+      Picks w (e ∷ es) (e.number ∷ ks)
+  missed : {e : Entry} {es : List Entry} {ks : List ℕ} →
+      (Meets e.shape w → ⊥) →
+      Picks w es ks →
+      Picks w (e ∷ es) ks
 
 -- the second list is the first with those numbers at its end
 pub record Adds (w : Shape) (entries : List Entry) (old new : List ℕ) : Type 0 where

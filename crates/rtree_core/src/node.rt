@@ -3,8 +3,14 @@
 ghost use Rattle.std.specs.Prelude.{◌<◌, length};
 ghost use Rattle.rtree_core.specs.Covers.{IsLeastCover};
 
-use crate::laws::Covered;
+use crate::measures::Covered;
 use geom_core::Shape;
+
+/// The fewest entries or children of a node other than the root (Guttman's m).
+pub const FEWEST: usize = 3;
+
+/// The most entries or children of a node (Guttman's M).
+pub const MOST: usize = 8;
 
 /// A shape with the number that names it.
 #[derive(Clone, Copy, Debug, PartialEq, Eq)]
@@ -85,8 +91,10 @@ impl Node {
         ensures entries { entries_of self.now ≡ flat_map entries_of result.now }
         ensures some { IsLawful self.now → 0 < length result.now }
         ensures lawful { IsLawful self.now → All IsLawful result.now }
-        ensures levels { IsLawful self.now → All (λ n. level_of n + 1 ≡ level_of self.now) result.now }
-        ensures covers { IsLawful self.now → All (λ n. IsIn (node_cover n) (node_cover self.now)) result.now }
+        ensures levels { let level = level_of self.now in
+            IsLawful self.now → All (λ n. level_of n + 1 ≡ level) result.now }
+        ensures covers { let cover = node_cover self.now in
+            IsLawful self.now → All (λ n. IsIn (node_cover n) cover) result.now }
     {
         match &self.below {
             Below::Entries(_) => unreachable!(),
@@ -108,7 +116,8 @@ impl Node {
     #[inline(always)]
     pub fn cover(&self) -> Shape
         ensures value { result ≡ node_cover self.now }
-        ensures tight { IsLawful self.now → IsLeastCover (λ e. e.shape) (entries_of self.now) result }
+        ensures tight { let entries = entries_of self.now in
+            IsLawful self.now → IsLeastCover (λ e. e.shape) entries result }
     {
         self.cover
     }

@@ -1,10 +1,11 @@
 //! Packing by Sort-Tile-Recursive: a tree made from all its entries at once.
 //!
-//! The items of a level, at first the entries, are to make P pages of at most eight. They are sorted
-//! by the centres of their covers along the first axis and cut into slices of √P pages, rounded up;
-//! each slice is sorted along the second axis and cut into its pages. Page sizes differ by one at
-//! most, larger ones first. The pages are the items of the next level, until there is one, the root
-//! (Leutenegger, Lopez and Edgington 1997, 2.2). Ties go by number, and among nodes by their places.
+//! The items of a level, at first the entries, are to make P pages of at most eight. They are
+//! sorted by the centres of their covers along the first axis and cut into slices of √P pages,
+//! rounded up; each slice is sorted along the second axis and cut into its pages. Page sizes differ
+//! by one at most, larger ones first. The pages are the items of the next level, until there is
+//! one, the root (Leutenegger, Lopez and Edgington 1997, 2.2). Ties go by number, and among nodes
+//! by their places.
 
 ghost use Rattle.std.specs.Prelude.{◌≡◌, ℕ, ◌+◌, ◌*◌, ◌/◌, ◌%◌, ◌<◌, ◌≤◌, ◌++◌, ◌+ℤ◌, map, length, vec_len, vec_capacity, min, count_by, All, IfOk, OnOk};
 ghost use Rattle.std.specs.List.Sorted.{IsPermutation};
@@ -12,32 +13,26 @@ ghost use Rattle.std.specs.Vec.Iter.{into_iter_items, into_iter_len};
 ghost use Rattle.geom_core.specs.Shapes.{x1, y1, x2, y2};
 ghost use Rattle.rtree_core.specs.Packed.{AreNodesOf, IsPackedTree};
 ghost use Rattle.rtree_core.specs.Trees.{has_number};
+ghost use Rattle.rtree_core.specs.Limits.{most};
 
-use crate::laws::{Covered, MOST};
-use crate::node::{Below, Entry, Node, cover_all};
+use crate::item::Item;
+use crate::measures::Covered;
+use crate::node::{Entry, MOST, Node};
 use geom_core::Shape;
 use std::alloc::{AllocError, Global};
 use std::vec::IntoIter;
 
-/// What the nodes of a level hold: entries, or the nodes of the level below.
+/// What the sorts of a level put in order: entries, or the nodes of the level below.
 pub(crate) trait Packable: Covered + Drop {
-    ghost use Rattle.std.specs.Prelude.{◌≡◌, ℕ, List};
-    ghost use Rattle.rtree_core.specs.declared.node.Entry.{Entry};
-    ghost use Rattle.rtree_core.specs.Packed.{IsNodeList, IsNodeOf};
+    ghost use Rattle.std.specs.Prelude.{◌≡◌, ℕ};
 
-    /// What a node keeps of it.
-    type Kept;
+    /// What a node of the level holds of it.
+    type Held: Item;
 
-    ghost kept: { Self → Self.Kept };
-
-    // The entries below it.
-    ghost entries: { Self.Kept → List Entry };
-
-    // A node of this level may hold it.
-    ghost fits: { ℕ → Self.Kept → Type 0 };
+    ghost held: { Self → Self.Held };
 
     // What its type says of its numbers.
-    ghost in_range: { Self.Kept → Type 0 };
+    ghost in_range: { Self.Held → Type 0 };
 
     ghost rank_of: { Self → ℕ };
 
@@ -46,26 +41,17 @@ pub(crate) trait Packable: Covered + Drop {
         ensures { result ≡ rank_of self.now };
 
     /// Drops what only the sorts read.
-    fn keep(self) -> Self::Kept
-        ensures kept { result ≡ kept self }
-        ensures in_range { in_range (kept self) };
-
-    /// The node of a list.
-    fn node(page: Vec<Self::Kept>) -> Node
-        requires { IsNodeList page }
-        ensures { IsNodeOf entries fits page.items result };
+    fn into_held(self) -> Self::Held
+        ensures held { result ≡ held self }
+        ensures in_range { in_range (held self) };
 }
 
 impl Packable for Entry {
-    ghost use Rattle.rtree_core.specs.Packed.{entry_alone, FitsLeaf, HasU32, IsNodeList, IsNodeOf};
+    ghost use Rattle.rtree_core.specs.Packed.{HasU32};
 
-    type Kept = Entry;
+    type Held = Entry;
 
-    ghost kept = { λ e. e };
-
-    ghost entries = { entry_alone };
-
-    ghost fits = { FitsLeaf };
+    ghost held = { λ e. e };
 
     ghost in_range = { HasU32 };
 
@@ -77,18 +63,8 @@ impl Packable for Entry {
     }
 
     #[inline(always)]
-    fn keep(self) -> Entry {
+    fn into_held(self) -> Entry {
         self
-    }
-
-    fn node(page: Vec<Entry>) -> Node
-        requires { IsNodeList page }
-        ensures { IsNodeOf entry_alone FitsLeaf page.items result }
-    {
-        Node {
-            cover: cover_all(&page),
-            below: Below::Entries(page),
-        }
     }
 }
 
@@ -109,16 +85,9 @@ impl Covered for Placed {
 }
 
 impl Packable for Placed {
-    ghost use Rattle.rtree_core.specs.Nodes.{entries_of};
-    ghost use Rattle.rtree_core.specs.Packed.{FitsInner, IsNodeList, IsNodeOf};
+    type Held = Node;
 
-    type Kept = Node;
-
-    ghost kept = { λ p. p.node };
-
-    ghost entries = { entries_of };
-
-    ghost fits = { FitsInner };
+    ghost held = { λ p. p.node };
 
     ghost in_range = { λ _. Unit {0} };
 
@@ -130,18 +99,8 @@ impl Packable for Placed {
     }
 
     #[inline(always)]
-    fn keep(self) -> Node {
+    fn into_held(self) -> Node {
         self.node
-    }
-
-    fn node(page: Vec<Node>) -> Node
-        requires { IsNodeList page }
-        ensures { IsNodeOf entries_of FitsInner page.items result }
-    {
-        Node {
-            cover: cover_all(&page),
-            below: Below::Children(page),
-        }
     }
 }
 
@@ -203,19 +162,21 @@ fn next_page<T: Packable>(
     alloc: Global,
     items: &mut IntoIter<T, Global>,
     size: usize,
-) -> Result<Vec<T::Kept>, AllocError>
+) -> Result<Vec<T::Held>, AllocError>
     requires enough { size ≤ into_iter_len items.old }
-    requires few { size ≤ MOST }
-    ensures taken { IfOk result (λ v. map T.kept (into_iter_items items.old) ≡ v.items ++ map T.kept (into_iter_items items.new)) }
+    requires few { size ≤ most }
+    ensures taken { let all = map T.held (into_iter_items items.old) in
+        let rest = map T.held (into_iter_items items.new) in
+        IfOk result (λ v. all ≡ v.items ++ rest) }
     ensures len { IfOk result (λ v. vec_len v ≡ size) }
-    ensures room { IfOk result (λ v. MOST + 1 ≤ vec_capacity v) }
+    ensures room { IfOk result (λ v. most + 1 ≤ vec_capacity v) }
     ensures rest { OnOk result (into_iter_len items.new + size ≡ into_iter_len items.old) }
     ensures in_range { IfOk result (λ v. All T.in_range v.items) }
 {
     let mut page = Vec::with_capacity(alloc, MOST + 1)?;
     for _ in 0..size {
         if let Some(item) = items.next() {
-            page.push_reserved(item.keep());
+            page.push_reserved(item.into_held());
         }
     }
     Ok(page)
@@ -223,8 +184,10 @@ fn next_page<T: Packable>(
 
 /// The nodes of a level, given what they hold.
 fn level<T: Packable>(alloc: Global, mut items: Vec<T>) -> Result<Vec<Placed>, AllocError>
-    ensures nodes { IfOk result (λ v. AreNodesOf T.entries T.fits (map T.kept items.items) (map (λ p. p.node) v.items)) }
-    ensures in_range { OnOk result (All T.in_range (map T.kept items.items)) }
+    ensures nodes { let held = map T.held items.items in
+        let AreNodes = AreNodesOf T.Held.entries T.Held.fits T.Held.fits_packed held in
+        IfOk result (λ v. AreNodes (map (λ p. p.node) v.items)) }
+    ensures in_range { OnOk result (All T.in_range (map T.held items.items)) }
 {
     let pages = items.len().div_ceil(MOST);
     tile(&mut items, pages);
@@ -233,7 +196,7 @@ fn level<T: Packable>(alloc: Global, mut items: Vec<T>) -> Result<Vec<Placed>, A
     for place in 0..pages {
         let size = items_in(1, pages - place, rest.len());
         let page = next_page(alloc, &mut rest, size)?;
-        let node = T::node(page);
+        let node = T::Held::node_of(page);
         nodes.push_reserved(Placed { node, place });
     }
     Ok(nodes)
@@ -252,7 +215,7 @@ pub(crate) fn pack_entries(alloc: Global, entries: Vec<Entry>) -> Result<(Node, 
         height += 1;
     }
     match nodes.pop() {
-        Some(root) => Ok((root.keep(), height)),
+        Some(root) => Ok((root.into_held(), height)),
         None => unreachable!(),
     }
 }

@@ -1,69 +1,66 @@
-//! Removal of an entry from a tree and a subtree, with the nodes set aside that are left with too few.
+//! Removal of an entry from a tree and a subtree; nodes that are left with too few are set aside.
 
-ghost use Rattle.std.specs.Prelude.{◌≡◌, ◌+◌, ◌-◌, ◌*◌, ◌≤◌, ◌↔◌, [], ◌∷◌, None, vec_len, vec_capacity, All, Contains, IsTrue, IsFalse, IsSome, IfSome, IfNone, IsSomeAnd};
+ghost use Rattle.std.specs.Prelude.{◌≡◌, ◌+◌, ◌≤◌, ◌↔◌, [], vec_len, vec_capacity, All, Contains, IsTrue, IsFalse, IsSome, IfSome, IfNone};
 ghost use Rattle.std.specs.List.{flat_map};
-ghost use Rattle.rtree_core.specs.Collections.{Gains};
-ghost use Rattle.rtree_core.specs.Edits.{leaf_node, inner_node};
-ghost use Rattle.rtree_core.specs.Nodes.{entries_of, level_of, size_of, IsPage, IsLawful, IsLawfulAt};
+ghost use Rattle.rtree_core.specs.Items.{leaf_node, inner_node};
+ghost use Rattle.rtree_core.specs.Nodes.{entries_of, level_of, size_of, IsPage, IsLawful};
 ghost use Rattle.rtree_core.specs.Removals.{IsPlaceOf, IsTakenBelow, IsTakenOut};
-ghost use Rattle.rtree_core.specs.Roots.{AreEnough, IsKept};
-ghost use Rattle.rtree_core.specs.Trees.{entries_in, IsRoot};
 
-use crate::condense::{collapse, reinsert};
-use crate::laws::FEWEST;
-use crate::node::{Below, Entry, Node, cover_all};
-use crate::spare::Spare;
+use crate::node::{Below, Entry, FEWEST, Node, cover_all};
+use crate::trunk::Trunk;
 use geom_core::Shape;
 
-/// Takes an entry out of a tree, given its root and its height, and says whether it was there.
-///
-/// A tree has at most 32 levels, so the bound asked for is far off.
-pub(crate) fn remove_at_root(
-    root: &mut Option<Node>,
-    height: &mut u32,
-    entry: &Entry,
-    aside: &mut Vec<Node>,
-    spare: &mut Spare,
-) -> bool
-    requires kept { IsKept root.old height.old spare.old }
-    requires root { IfSome root.old IsRoot }
-    requires enough { AreEnough (2 * (height.old - 1)) height.old spare.old }
-    requires low { height.old ≤ 100 }
-    requires none_aside { aside.old.items ≡ [] }
-    requires room { height.old ≤ vec_capacity aside.old + 1 }
-    ensures kept { IsKept root.new height.new spare.new }
-    ensures root { IfSome root.new IsRoot }
-    ensures held { IsTrue result ↔ Contains (entries_in root.old) entry.now }
-    ensures loses { IsTrue result → Gains entry.now (entries_in root.new) (entries_in root.old) }
-    ensures unchanged { IsFalse result → root.new ≡ root.old }
-    ensures none_aside { aside.new.items ≡ [] }
-{
-    let Some(node) = root else { return false };
-    if node.size() < 2 {
-        return remove_last(root, height, entry);
-    }
-    if !take_out(node, entry, aside) {
-        return false;
-    }
-    reinsert(root, height, aside, spare);
-    collapse(root, height);
-    true
-}
+impl Trunk {
+    ghost use Rattle.std.specs.Prelude.{◌≡◌, ◌+◌, ◌-◌, ◌*◌, ◌≤◌, ◌↔◌, [], ◌∷◌, None, vec_capacity, Contains, IsTrue, IsFalse, IsSomeAnd};
+    ghost use Rattle.rtree_core.specs.Collections.{Gains};
+    ghost use Rattle.rtree_core.specs.Nodes.{size_of, IsLawfulAt};
+    ghost use Rattle.rtree_core.specs.Trees.{entries_in};
+    ghost use Rattle.rtree_core.specs.Trunks.{IsRooted, CanTake};
 
-/// Empties a tree whose one entry is this one.
-fn remove_last(root: &mut Option<Node>, height: &mut u32, entry: &Entry) -> bool
-    requires leaf { IsSomeAnd root.old (λ n. IsLawfulAt 0 n × (size_of n ≡ 1)) }
-    ensures held { IsTrue result ↔ Contains (entries_in root.old) entry.now }
-    ensures loses { IsTrue result → (entries_in root.old ≡ entry.now ∷ []) × (root.new ≡ None) × (height.new ≡ 0) }
-    ensures unchanged { IsFalse result → (root.new ≡ root.old) × (height.new ≡ height.old) }
-{
-    let Some(leaf) = root else { return false };
-    if leaf.entries()[0] != *entry {
-        return false;
+    /// Takes an entry out, and says whether it was there.
+    pub(crate) fn remove(&mut self, entry: &Entry, aside: &mut Vec<Node>) -> bool
+        requires rooted { IsRooted self.old }
+        requires can_take { CanTake (2 * (self.old.height - 1)) self.old }
+        requires none_aside { aside.old.items ≡ [] }
+        requires room { self.old.height ≤ vec_capacity aside.old + 1 }
+        ensures rooted { IsRooted self.new }
+        ensures held { IsTrue result ↔ Contains (entries_in self.old.root) entry.now }
+        ensures loses { let old = entries_in self.old.root in
+            let new = entries_in self.new.root in
+            IsTrue result → Gains entry.now new old }
+        ensures unchanged { IsFalse result → self.new.root ≡ self.old.root }
+        ensures none_aside { aside.new.items ≡ [] }
+    {
+        let Some(node) = &mut self.root else {
+            return false
+        };
+        if node.size() < 2 {
+            return self.remove_last(entry);
+        }
+        if !take_out(node, entry, aside) {
+            return false;
+        }
+        self.reinsert(aside);
+        self.collapse();
+        true
     }
-    *root = None;
-    *height = 0;
-    true
+
+    /// Empties a tree whose one entry is this one.
+    fn remove_last(&mut self, entry: &Entry) -> bool
+        requires leaf { IsSomeAnd self.old.root (λ n. IsLawfulAt 0 n × (size_of n ≡ 1)) }
+        ensures held { IsTrue result ↔ Contains (entries_in self.old.root) entry.now }
+        ensures last { IsTrue result → entries_in self.old.root ≡ entry.now ∷ [] }
+        ensures emptied { IsTrue result → self.new ≡ record self.old { root = None; height = 0 } }
+        ensures unchanged { IsFalse result → self.new ≡ self.old }
+    {
+        let Some(leaf) = &self.root else { return false };
+        if leaf.entries()[0] != *entry {
+            return false;
+        }
+        self.root = None;
+        self.height = 0;
+        true
+    }
 }
 
 /// Takes an entry out of the subtree of a node that has two items at least, and says whether it was
@@ -91,8 +88,10 @@ pub(crate) fn take_out(node: &mut Node, entry: &Entry, aside: &mut Vec<Node>) ->
 fn take_from_leaf(cover: &mut Shape, entries: &mut Vec<Entry>, entry: &Entry) -> bool
     requires lawful { IsPage (λ e. e.shape) cover.old entries.old }
     requires two { 2 ≤ vec_len entries.old }
-    ensures held { IsTrue result ↔ Contains (entries_of (leaf_node cover.old entries.old)) entry.now }
-    ensures taken { IsTrue result → IsTakenOut entry.now (leaf_node cover.old entries.old) (leaf_node cover.new entries.new) [] }
+    ensures held { let old = leaf_node cover.old entries.old in
+        IsTrue result ↔ Contains (entries_of old) entry.now }
+    ensures taken { let old = leaf_node cover.old entries.old in
+        IsTrue result → IsTakenOut entry.now old (leaf_node cover.new entries.new) [] }
     ensures unchanged { IsFalse result → (cover.new ≡ cover.old) × (entries.new ≡ entries.old) }
 {
     let Some(place) = place_of(entries, entry) else {
@@ -116,9 +115,13 @@ fn take_from_inner(
     requires two { 2 ≤ size_of (inner_node cover.old children.old) }
     requires none_aside { aside.old.items ≡ [] }
     requires room { level_of (inner_node cover.old children.old) ≤ vec_capacity aside.old }
-    ensures held { IsTrue result ↔ Contains (entries_of (inner_node cover.old children.old)) entry.now }
-    ensures taken { IsTrue result → IsTakenOut entry.now (inner_node cover.old children.old) (inner_node cover.new children.new) aside.new.items }
-    ensures unchanged { IsFalse result → (cover.new ≡ cover.old) × (children.new ≡ children.old) × (aside.new.items ≡ []) }
+    ensures held { let old = inner_node cover.old children.old in
+        IsTrue result ↔ Contains (entries_of old) entry.now }
+    ensures taken { let old = inner_node cover.old children.old in
+        let new = inner_node cover.new children.new in
+        IsTrue result → IsTakenOut entry.now old new aside.new.items }
+    ensures unchanged { IsFalse result →
+        (cover.new ≡ cover.old) × (children.new ≡ children.old) × (aside.new.items ≡ []) }
     ensures capacity { vec_capacity aside.new ≡ vec_capacity aside.old }
 {
     let Some(place) = take_from_one(children, entry, aside) else {

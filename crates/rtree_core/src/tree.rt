@@ -2,11 +2,10 @@
 
 ghost use Rattle.std.specs.Prelude.{◌≡◌, ◌+◌, ◌≤◌, [], ◌∷◌, length, vec_len, IsSome, OnOk, OnErr, option_copied};
 
-use crate::insert::insert_at_root;
 use crate::node::{Entry, Node};
 use crate::pack::pack_entries;
-use crate::remove::remove_at_root;
 use crate::spare::Spare;
+use crate::trunk::Trunk;
 use crate::window::collect;
 use geom_core::Shape;
 use std::alloc::{AllocError, Global};
@@ -18,10 +17,8 @@ use std::marker::Model;
 /// entries, and one that is inner 2 to 8 children. All leaves are on one level (Guttman 1984, 2).
 #[derive(Drop)]
 pub struct RTree {
-    root: Option<Node>,
-    height: u32,
+    trunk: Trunk,
     len: usize,
-    spare: Spare,
     /// The nodes that a removal sets aside, none between edits.
     aside: Vec<Node>,
 }
@@ -36,11 +33,11 @@ impl Model for RTree {
 
     ghost coded = { coded_option node.the_row.coded };
 
-    ghost use Rattle.rtree_core.specs.Kept.{IsWhole};
+    ghost use Rattle.rtree_core.specs.TreeInvariant.{IsConsistent};
 
-    ghost view = { λ t. t.root };
+    ghost view = { λ t. t.trunk.root };
 
-    ghost invariant = { IsWhole };
+    ghost invariant = { IsConsistent };
 }
 
 impl RTree {
@@ -56,10 +53,8 @@ impl RTree {
         ensures { result ≡ None }
     {
         RTree {
-            root: None,
-            height: 0,
+            trunk: Trunk::new(alloc),
             len: 0,
-            spare: Spare::new(alloc),
             aside: Vec::new(alloc),
         }
     }
@@ -78,11 +73,14 @@ impl RTree {
         }
         let len = entries.len();
         let (root, height) = pack_entries(alloc, entries)?;
-        Ok(RTree {
+        let trunk = Trunk {
             root: Some(root),
             height,
-            len,
             spare: Spare::new(alloc),
+        };
+        Ok(RTree {
+            trunk,
+            len,
             aside: Vec::new(alloc),
         })
     }
@@ -92,7 +90,7 @@ impl RTree {
         ensures root { option_copied result ≡ self.now }
         ensures lawful { IsTree self.now }
     {
-        self.root.as_ref()
+        self.trunk.root.as_ref()
     }
 
     /// The number of entries.
@@ -106,14 +104,14 @@ impl RTree {
     pub fn is_empty(&self) -> bool
         ensures { IsTrue result ↔ (self.now ≡ None) }
     {
-        self.root.is_none()
+        self.trunk.root.is_none()
     }
 
     /// The number of levels: 0 for the empty tree, 1 where the root is a leaf.
     pub fn height(&self) -> u32
         ensures { result ≡ height_of self.now }
     {
-        self.height
+        self.trunk.height
     }
 
     /// Inserts an entry, whose number the tree doesn't hold.
@@ -124,8 +122,8 @@ impl RTree {
         ensures ok { OnOk result (Gains entry (entries_in self.old) (entries_in self.new)) }
         ensures err { OnErr result (self.new ≡ self.old) }
     {
-        self.spare.gather(1, self.height)?;
-        insert_at_root(&mut self.root, &mut self.height, entry, &mut self.spare);
+        self.trunk.gather(1)?;
+        self.trunk.insert_entry(entry);
         self.len += 1;
         Ok(())
     }
@@ -134,21 +132,17 @@ impl RTree {
     ///
     /// An `Err` leaves the tree as it was.
     pub fn remove(&mut self, entry: &Entry) -> Result<bool, AllocError>
-        ensures held { IfOk result (λ removed. IsTrue removed ↔ Contains (entries_in self.old) entry.now) }
-        ensures loses { IfOk result (λ removed. IsTrue removed → Gains entry.now (entries_in self.new) (entries_in self.old)) }
+        ensures held { let there = Contains (entries_in self.old) entry.now in
+            IfOk result (λ removed. IsTrue removed ↔ there) }
+        ensures loses { let lost = Gains entry.now (entries_in self.new) (entries_in self.old) in
+            IfOk result (λ removed. IsTrue removed → lost) }
         ensures unchanged { IfOk result (λ removed. IsFalse removed → self.new ≡ self.old) }
         ensures err { OnErr result (self.new ≡ self.old) }
     {
-        let levels = self.height.saturating_sub(1);
+        let levels = self.trunk.height.saturating_sub(1);
         self.aside.reserve(levels as usize)?;
-        self.spare.gather(2 * levels, self.height)?;
-        let removed = remove_at_root(
-            &mut self.root,
-            &mut self.height,
-            entry,
-            &mut self.aside,
-            &mut self.spare,
-        );
+        self.trunk.gather(2 * levels)?;
+        let removed = self.trunk.remove(entry, &mut self.aside);
         if removed {
             self.len -= 1;
         }
@@ -162,7 +156,7 @@ impl RTree {
         ensures all { IfOk result (λ v. AllFound window.now (entries_in self.now) v.items) }
     {
         let mut found = Vec::new(alloc);
-        if let Some(root) = &self.root {
+        if let Some(root) = &self.trunk.root {
             collect(root, window, &mut found)?;
         }
         found.sort_unstable();

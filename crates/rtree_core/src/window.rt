@@ -29,7 +29,8 @@ fn collect_children(
     found: &mut Vec<u32>,
 ) -> Result<(), AllocError>
     requires { All IsLawful children.now }
-    ensures { OnOk result (Adds window.now (flat_map entries_of children.now) found.old.items found.new.items) }
+    ensures { let entries = flat_map entries_of children.now in
+        OnOk result (Adds window.now entries found.old.items found.new.items) }
 {
     for child in children {
         if child.cover.meets(window) {

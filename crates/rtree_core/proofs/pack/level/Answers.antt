@@ -10,23 +10,39 @@ use Rattle.rtree_core.proofs.pack.level.Goals as goal
 use Rattle.rtree_core.proofs.pack.level.Goals.{In_ok-nodes, After-items_in-size}
 
 share : (g : _) (c : After-items_in-size g) →
-    IsShare c.items_in-size.result (c.div_ceil-pages.result - (c.loop-place.place + 1)) (length (map g.T.Packable.kept (into_iter_items c.loop-place.rest)))
+    IsShare c.items_in-size.result (c.div_ceil-pages.result - (c.loop-place.place + 1)) (length (map g.T.Packable.held (into_iter_items c.loop-place.rest)))
 share g c =
-    share_at _ _ _ _ _ c.loop-place-test.true (omega (arith, c.len-in-loop-place.ensures, c.loop-place.rest.rest.ok.0, length-map (into_iter_items c.loop-place.rest) g.T.Packable.kept)) c.items_in-size.ensures.value
+    share_at _ _ _ _ _ c.loop-place-test.true (omega (
+      arith,
+      c.len-in-loop-place.ensures,
+      c.loop-place.rest.rest.ok.0,
+      length-map
+          (into_iter_items c.loop-place.rest) g.T.Packable.held,
+    )) c.items_in-size.ensures.value
 
 pub next_page-requires-clause-few : goal.next_page-requires-clause-few
 next_page-requires-clause-few g c =
     let at = (goal.at.next_page-requires-clause-few g c).After-items_in-size in
-    share_fits _ _ _ _ _ _ _ _ _ c.loop-place-test.true c.loop-place.invariant.cut (share g at)
+    share_fits _ _ _ _ _ _ _ _ _ _ c.loop-place-test.true c.loop-place.invariant.cut (share g at)
 
-sorted : (g : _) (c : In_ok-nodes g) → IsPermutation (map g.T.Packable.kept c.args.items.items) (map g.T.Packable.kept (into_iter_items c.into_iter-rest.result))
-sorted g c = IsPermutation-map g.T.Packable.kept _ _ (rw (c.into_iter-rest.ensures.rest, ← c.deref_mut.ensures.value) (through_slice _ _ _ (omega (arith, c.deref_mut.ensures.len)) c.tile.ensures))
+sorted : (g : _) (c : In_ok-nodes g) → IsPermutation (map g.T.Packable.held c.args.items.items)
+    (map g.T.Packable.held (into_iter_items c.into_iter-rest.result))
+sorted g c = IsPermutation-map g.T.Packable.held _ _ (rw (c.into_iter-rest.ensures.rest, ← c.deref_mut.ensures.value)
+    (through_slice _ _ _ (omega (arith, c.deref_mut.ensures.len)) c.tile.ensures))
 
-pub node-node-requires : goal.node-node-requires
-node-node-requires g c =
-    let at = (goal.at.node-node-requires g c).After-items_in-size in
-    let some = share_some _ _ _ _ _ _ _ _ _ c.loop-place-test.true (omega (arith, length_permutation _ _ (sorted g (goal.at.node-node-requires g c).In_ok-nodes), length-map c.args.items.items g.T.Packable.kept, c.args.items.ok.0, c.div_ceil-pages.ensures, c.len.ensures)) c.loop-place.invariant.cut (share g at) in
-    let few = share_fits _ _ _ _ _ _ _ _ _ c.loop-place-test.true c.loop-place.invariant.cut (share g at) in
+pub node_of-node-requires : goal.node_of-node-requires
+node_of-node-requires g c =
+    let at = (goal.at.node_of-node-requires g c).After-items_in-size in
+    let some = share_some _ _ _ _ _ _ _ _ _ _ c.loop-place-test.true (omega (
+      arith,
+      length_permutation _ _ (sorted g (goal.at.node_of-node-requires g c).In_ok-nodes),
+      length-map c.args.items.items
+          g.T.Packable.held,
+      c.args.items.ok.0,
+      c.div_ceil-pages.ensures,
+      c.len.ensures,
+    )) c.loop-place.invariant.cut (share g at) in
+    let few = share_fits _ _ _ _ _ _ _ _ _ _ c.loop-place-test.true c.loop-place.invariant.cut (share g at) in
     record {
       some = omega (arith, c.in_ok-page.ensures.len, some);
       few = omega (arith, c.in_ok-page.ensures.len, few);
@@ -37,7 +53,15 @@ pub loop-place-init : goal.loop-place-init
 loop-place-init g c = record {
   cut =
       rw c.in_ok-nodes.ensures.items
-      (cut_none _ _ _ _ _ (omega (arith, length_permutation _ _ (sorted g c), length-map c.args.items.items g.T.Packable.kept, c.args.items.ok.0, c.div_ceil-pages.ensures, c.len.ensures)));
+      (cut_none _ _ _ _ _ _ (omega (
+        arith,
+        length_permutation _ _ (sorted g c),
+        length-map c.args.items.items
+            g.T.Packable.held,
+        c.args.items.ok.0,
+        c.div_ceil-pages.ensures,
+        c.len.ensures,
+      )));
   room = c.in_ok-nodes.ensures.exact;
 }
 
@@ -48,16 +72,20 @@ loop-place-preserved g c =
       cut =
           let node : Placed → Node = λ p. p.node in
           rw (c.push_reserved.ensures.items, map-append node)
-          (cut_more _ _ _ _ _ _ _ _ c.in_ok-page.page.items _ c.node-node.result c.loop-place-test.true c.loop-place.invariant.cut c.in_ok-page.ensures.taken (rw (← c.in_ok-page.page.ok.0, c.in_ok-page.ensures.len) (share g at)) c.node-node.ensures c.in_ok-page.ensures.in_range);
+          (cut_more _ _ _ _ _ _ _ _ _ _ c.in_ok-page.page.items _ c.node_of-node.result c.loop-place-test.true c.loop-place.invariant.cut
+          c.in_ok-page.ensures.taken (rw (← c.in_ok-page.page.ok.0, c.in_ok-page.ensures.len) (share g at)) c.node_of-node.ensures.node
+          c.node_of-node.ensures.packed c.in_ok-page.ensures.in_range);
       room = omega (arith, c.push_reserved.ensures.capacity, c.loop-place.invariant.room);
     }
 
 pub returns-clause-nodes : goal.returns-clause-nodes
 returns-clause-nodes g c =
     let all : c.loop-place.place ≡ c.div_ceil-pages.result = omega arith in
-    cut_all _ _ _ _ _ c.div_ceil-pages.result _ _ (sorted g (goal.at.returns-clause-nodes g c).In_ok-nodes) (omega (arith, length-map c.args.items.items g.T.Packable.kept, c.args.items.ok.0, c.div_ceil-pages.ensures, c.len.ensures)) (rw all at c.loop-place.invariant.cut)
+    cut_all _ _ _ _ _ _ c.div_ceil-pages.result _ _ (sorted g (goal.at.returns-clause-nodes g c).In_ok-nodes)
+    (omega (arith, length-map c.args.items.items g.T.Packable.held, c.args.items.ok.0, c.div_ceil-pages.ensures, c.len.ensures))
+    (rw all at c.loop-place.invariant.cut)
 
 pub returns-clause-in_range : goal.returns-clause-in_range
 returns-clause-in_range g c =
     let all : c.loop-place.place ≡ c.div_ceil-pages.result = omega arith in
-    cut_in_range _ _ _ _ _ c.div_ceil-pages.result _ _ (sorted g (goal.at.returns-clause-in_range g c).In_ok-nodes) (rw all at c.loop-place.invariant.cut)
+    cut_in_range _ _ _ _ _ _ c.div_ceil-pages.result _ _ (sorted g (goal.at.returns-clause-in_range g c).In_ok-nodes) (rw all at c.loop-place.invariant.cut)

@@ -5,6 +5,8 @@ use Rattle.rtree_core.proofs.pack.level.Given as goal
 
 abbrev pub invariant-loop-place : goal.invariant-loop-place
 invariant-loop-place g l = record {
-  cut : IsCut g.T.Packable.entries g.T.Packable.fits g.T.Packable.in_range (map g.T.Packable.kept (into_iter_items l.initial.rest)) l.pages l.place (map (λ p. p.node) l.nodes.items) (map g.T.Packable.kept (into_iter_items l.rest));
+  cut : IsCut g.T.Held.Item.entries g.T.Held.Item.fits g.T.Held.Item.fits_packed g.T.Packable.in_range
+      (map g.T.Packable.held (into_iter_items l.initial.rest)) l.pages l.place (map (λ p. p.node) l.nodes.items)
+      (map g.T.Packable.held (into_iter_items l.rest));
   room : vec_capacity l.nodes ≡ l.pages;
 }

@@ -15,14 +15,25 @@ loop-alloc-init c =
 
 pub loop-alloc-preserved : goal.loop-alloc-preserved
 loop-alloc-preserved c =
-    let many : 2 ≤ length (map (λ (p : Placed). p.node) c.loop-alloc.nodes.items) = omega (arith, c.len.ensures, c.loop-alloc-test.true, c.loop-alloc.nodes.ok.0, length-map c.loop-alloc.nodes.items (λ (p : Placed). p.node)) in
+    let many : 2 ≤ length (map (λ (p : Placed). p.node) c.loop-alloc.nodes.items) = omega
+    (arith, c.len.ensures, c.loop-alloc-test.true, c.loop-alloc.nodes.ok.0, length-map c.loop-alloc.nodes.items (λ (p : Placed). p.node)) in
     let fewer = fewer_above _ _ many c.in_ok-nodes-2.ensures.nodes in
     record {
       row = row_next _ _ _ _ many c.loop-alloc.invariant.row c.in_ok-nodes-2.ensures.nodes;
-      small = omega (arith, fewer, c.loop-alloc.invariant.small, c.loop-alloc.nodes.ok.0, c.in_ok-nodes-2.nodes.ok.0, length-map c.loop-alloc.nodes.items (λ (p : Placed). p.node), length-map c.in_ok-nodes-2.nodes.items (λ (p : Placed). p.node));
+      small = omega (
+        arith,
+        fewer,
+        c.loop-alloc.invariant.small,
+        c.loop-alloc.nodes.ok.0,
+        c.in_ok-nodes-2.nodes.ok.0,
+        length-map c.loop-alloc.nodes.items
+            (λ (p : Placed). p.node),
+        length-map c.in_ok-nodes-2.nodes.items (λ (p : Placed). p.node),
+      );
     }
 
 pub returns : goal.returns
 returns c =
-    let one : c.loop-alloc.nodes.items ≡ c.in-Some.root ∷ [] = only_one _ _ _ c.in-Some.ensures.items (omega (arith, c.len.ensures, c.loop-alloc-test.false, c.loop-alloc.nodes.ok.0)) in
-    rw c.keep.ensures.kept (row_root _ _ _ c.requires.distinct (rw map-id at c.in_ok-nodes.ensures.in_range) (rw one at c.loop-alloc.invariant.row))
+    let one : c.loop-alloc.nodes.items ≡ c.in-Some.root ∷ [] = only_one _ _ _ c.in-Some.ensures.items
+    (omega (arith, c.len.ensures, c.loop-alloc-test.false, c.loop-alloc.nodes.ok.0)) in
+    rw c.into_held.ensures.held (row_root _ _ _ c.requires.distinct (rw map-id at c.in_ok-nodes.ensures.in_range) (rw one at c.loop-alloc.invariant.row))

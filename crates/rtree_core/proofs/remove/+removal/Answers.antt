@@ -5,13 +5,13 @@ use Rattle.std.proofs.lemmas.Bool.{false≢true}
 use Rattle.std.proofs.lemmas.List.{get_or_default, set-get_or}
 use Rattle.std.proofs.lemmas.List.Elements.{All-weaker}
 use Rattle.geom_core.specs.Cells.{IsIn}
-use Rattle.rtree_core.specs.declared.laws.TheConstants.{FEWEST}
+use Rattle.rtree_core.specs.Limits.{fewest}
 use Rattle.rtree_core.specs.declared.node.Below.TheVariants.{outs-Children}
 use Rattle.rtree_core.specs.Covers.{IsLeastCover}
-use Rattle.rtree_core.specs.Edits.{inner_node}
+use Rattle.rtree_core.specs.Items.{inner_node}
 use Rattle.rtree_core.specs.Nodes.{entries_of, level_of, size_of, IsLawful, IsLawfulAt}
 use Rattle.rtree_core.proofs.NodeLemmas.{level_inner, lawful_level, lawful_is, top_level, level-le-top}
-use Rattle.rtree_core.proofs.EditLemmas.{Opened, open_inner, child_level, inner_size, inner_entries}
+use Rattle.rtree_core.proofs.ItemLemmas.{Opened, open_inner, child_level, inner_size, inner_entries}
 use Rattle.rtree_core.proofs.RemovalLemmas.{contains_joined, cover_holds, none_above, none_so_far, list_as_it_was}
 use Rattle.rtree_core.proofs.TakeLemmas.{Written, written, child_kept, child_aside}
 use Rattle.rtree_core.proofs.remove.+removal.Goals as goal
@@ -23,9 +23,17 @@ take_from_inner-take_from_one-requires t c =
     let o = open_inner c.args.cover.now v c.requires.lawful in
     let level : level_of (inner_node c.args.cover.now v) ≡ top_level v.items + 1 = level_inner (inner_node c.args.cover.now v) v (outs-Children v) in
     let lawful : All IsLawful v.items = All-weaker (IsLawfulAt o.level) IsLawful (λ n h. lawful_is o.level n h) v.items o.inner.children in
-    let two : All (λ n. 2 ≤ size_of n) v.items = All-weaker (λ n. FEWEST ≤ size_of n) (λ n. 2 ≤ size_of n) (λ n h. omega (arith, h)) v.items o.inner.enough in
-    let room : All (λ n. level_of n ≤ vec_capacity c.args.aside.now) v.items = All-weaker (IsLawfulAt o.level) (λ n. level_of n ≤ vec_capacity c.args.aside.now) (λ n h. omega (arith, lawful_level o.level n h, o.level_is, c.requires.room)) v.items o.inner.children in
-    (omega (arith, c.decreases, level, ap top_level c.deref_mut.ensures.value), (rw c.deref_mut.ensures.value lawful, (rw c.deref_mut.ensures.value two, (c.requires.none_aside, rw c.deref_mut.ensures.value room))))
+    let two : All (λ n. 2 ≤ size_of n) v.items = All-weaker (λ n. fewest ≤ size_of n) (λ n. 2 ≤ size_of n) (λ n h. omega (arith, h)) v.items o.inner.enough in
+    let room : All (λ n. level_of n ≤ vec_capacity c.args.aside.now) v.items = All-weaker (IsLawfulAt o.level)
+    (λ n. level_of n ≤ vec_capacity c.args.aside.now) (λ n h. omega (arith, lawful_level o.level n h, o.level_is, c.requires.room)) v.items
+    o.inner.children in (
+      omega (arith, c.decreases, level, ap top_level c.deref_mut.ensures.value),
+      (
+        rw c.deref_mut.ensures.value
+            lawful,
+        (rw c.deref_mut.ensures.value two, (c.requires.none_aside, rw c.deref_mut.ensures.value room)),
+      ),
+    )
 
 pub take_from_inner-returns-in_default-clause-held : goal.take_from_inner-returns-in_default-clause-held
 take_from_inner-returns-in_default-clause-held t c =
@@ -34,24 +42,42 @@ take_from_inner-returns-in_default-clause-held t c =
 
 pub take_from_inner-returns-in_default-clause-unchanged : goal.take_from_inner-returns-in_default-clause-unchanged
 take_from_inner-returns-in_default-clause-unchanged t c =
-    λ h. (refl, list_as_it_was c.args.children.now c.take_from_one.new.nodes (c.in_default.ensures.unchanged.0 ∙ c.deref_mut.ensures.value), c.in_default.ensures.unchanged.1)
+    λ h. (
+      refl,
+      list_as_it_was c.args.children.now c.take_from_one.new.nodes
+          (c.in_default.ensures.unchanged.0 ∙ c.deref_mut.ensures.value),
+      c.in_default.ensures.unchanged.1,
+    )
 
 opened : (t : ℕ) (c : take_from_inner-After-index t) → Opened c.args.cover.now c.args.children.now
 opened t c = open_inner c.args.cover.now c.args.children.now c.requires.lawful
 
 child : (t : ℕ) (c : take_from_inner-After-index t) →
-    Written c.args.entry.now c.args.children.now (with_items c.args.children.now c.take_from_one.new.nodes) c.take_from_one.new.aside.items c.in-Some.place c.index.result.now
-child t c = written c.args.entry.now c.args.children.now c.deref_mut.result.now c.take_from_one.new.nodes c.take_from_one.new.aside.items c.in-Some.place c.index.result.now c.deref_mut.ensures.value c.in-Some.ensures.taken c.index.ensures
+    Written c.args.entry.now c.args.children.now (with_items c.args.children.now c.take_from_one.new.nodes) c.take_from_one.new.aside.items c.in-Some.place
+    c.index.result.now
+child t c = written c.args.entry.now c.args.children.now c.deref_mut.result.now c.take_from_one.new.nodes c.take_from_one.new.aside.items c.in-Some.place
+    c.index.result.now c.deref_mut.ensures.value c.in-Some.ensures.taken c.index.ensures
 
-child_level_is : (t : ℕ) (c : take_from_inner-After-index t) → level_of (get_or c.args.children.now.items c.in-Some.place c.index.result.now) ≡ (opened t c).level
+child_level_is : (t : ℕ) (c : take_from_inner-After-index t) → level_of (get_or c.args.children.now.items c.in-Some.place c.index.result.now) ≡
+    (opened t c).level
 child_level_is t c =
     let before = get_or c.args.children.now.items c.in-Some.place c.index.result.now in
-    lawful_level (opened t c).level before (child_level c.args.cover.now c.args.children.now (opened t c) c.in-Some.place before (child t c).inside (child t c).at)
+    lawful_level (opened t c).level before (child_level c.args.cover.now c.args.children.now (opened t c) c.in-Some.place before (child t c).inside
+    (child t c).at)
 
 pub take_from_inner-push_reserved-requires : goal.take_from_inner-push_reserved-requires
 take_from_inner-push_reserved-requires t c =
     let at = (goal.at.take_from_inner-push_reserved-requires t c).After-index in
-    omega (arith, c.take_from_one.new.aside.ok.0, (child t at).taken.few, c.in-Some.ensures.capacity, c.requires.room, child_level_is t at, (opened t at).level_is)
+    omega (
+      arith,
+      c.take_from_one.new.aside.ok.0,
+      (child t at).taken.few,
+      c.in-Some.ensures.capacity,
+      c.requires.room,
+      child_level_is t
+          at,
+      (opened t at).level_is,
+    )
 
 pub take_from_inner-returns-clause-held : goal.take_from_inner-returns-clause-held
 take_from_inner-returns-clause-held t c =
@@ -71,15 +97,19 @@ take_from_inner-returns-clause-taken t c =
     let inside : place < length w.items = omega (arith, (child t at).inside, ap length (child t at).items, length-set v.items place y) in
     λ h. elim c.if-size-lt-FEWEST.branch [
       | take_from_inner-then-size-lt-FEWEST b ↦
-          let removed : b.remove-child.result ≡ y = b.remove-child.ensures.value ∙ get_or_default w.items place b.remove-child.result y inside ∙ sym c.index.ensures in
+          let removed : b.remove-child.result ≡ y = b.remove-child.ensures.value ∙ get_or_default w.items place b.remove-child.result y inside ∙ sym
+          c.index.ensures in
           rw (b.children-is, b.aside-is, b.push_reserved.ensures.items, removed)
-          (child_aside c.args.entry.now c.args.cover.now c.cover_all.result v b.remove-child.new.self (opened t at) place x y aside (child t at).inside (child t at).at (child t at).taken
+          (child_aside c.args.entry.now c.args.cover.now c.cover_all.result v b.remove-child.new.self (opened t at) place x y aside (child t at).inside
+          (child t at).at (child t at).taken
           (rw b.children-is at tight)
           (omega (arith, b.remove-child.ensures.capacity, (opened t at).inner.page.room))
-          (b.remove-child.ensures.items ∙ ap (λ zs. remove zs place) (child t at).items) b.remove-child.ensures.len (omega (arith, c.requires.two, inner_size c.args.cover.now v)) (omega (arith, b.if-size-lt-FEWEST.true, c.size.ensures)))
+          (b.remove-child.ensures.items ∙ ap (λ zs. remove zs place) (child t at).items) b.remove-child.ensures.len
+          (omega (arith, c.requires.two, inner_size c.args.cover.now v)) (omega (arith, b.if-size-lt-FEWEST.true, c.size.ensures)))
       | take_from_inner-else-size-lt-FEWEST b ↦
           rw (b.children-is, b.aside-is)
-          (child_kept c.args.entry.now c.args.cover.now c.cover_all.result v w (opened t at) place x y aside (child t at).inside (child t at).at (child t at).taken
+          (child_kept c.args.entry.now c.args.cover.now c.cover_all.result v w (opened t at) place x y aside (child t at).inside
+          (child t at).at (child t at).taken
           (rw b.children-is at tight)
           (opened t at).inner.page.room
           (child t at).items refl (omega (arith, b.if-size-lt-FEWEST.false, c.size.ensures)))
@@ -88,19 +118,34 @@ take_from_inner-returns-clause-taken t c =
 pub take_from_one-take_out-requires : goal.take_from_one-take_out-requires
 take_from_one-take_out-requires t c =
     let x = get_or c.loop-place.nodes c.loop-place.place c.index-nodes-place.result in
-    let same : x ≡ get_or c.args.nodes.now c.loop-place.place c.index-nodes-place.result = ap (λ xs. get_or xs c.loop-place.place c.index-nodes-place.result) c.loop-place.invariant.same in
+    let same : x ≡ get_or c.args.nodes.now c.loop-place.place c.index-nodes-place.result = ap
+    (λ xs. get_or xs c.loop-place.place c.index-nodes-place.result) c.loop-place.invariant.same in
     let lt = c.loop-place-test.true in
-    let level = level-le-top c.args.nodes.now c.loop-place.place x lt (same ∙ get_or_default c.args.nodes.now c.loop-place.place c.index-nodes-place.result x lt) in
+    let level = level-le-top c.args.nodes.now c.loop-place.place x lt (same ∙ get_or_default c.args.nodes.now c.loop-place.place c.index-nodes-place.result
+    x lt) in
     let node = c.index-nodes-place.result in (
       omega (arith, c.decreases, level),
-      (subst IsLawful (sym same) (c.requires.lawful c.loop-place.place node lt), (subst (λ n. 2 ≤ size_of n) (sym same) (c.requires.two c.loop-place.place node lt), (c.loop-place.invariant.none_aside, omega (arith, ap level_of same, c.requires.room c.loop-place.place node lt, c.loop-place.invariant.capacity)))),
+      (
+        subst IsLawful (sym same) (c.requires.lawful c.loop-place.place node lt),
+        (
+          subst (λ n. 2 ≤ size_of n) (sym same)
+              (c.requires.two c.loop-place.place node lt),
+          (
+            c.loop-place.invariant.none_aside,
+            omega
+                (arith, ap level_of same, c.requires.room c.loop-place.place node lt, c.loop-place.invariant.capacity),
+          ),
+        ),
+      ),
     )
 
 pub take_from_one-returns-then-take_out-clause-held : goal.take_from_one-returns-then-take_out-clause-held
 take_from_one-returns-then-take_out-clause-held t c =
     let node = c.index-nodes-place.result in
-    let at : node ≡ get_or c.args.nodes.now c.loop-place.place node = c.index-nodes-place.is ∙ ap (λ xs. get_or xs c.loop-place.place node) c.loop-place.invariant.same in
-    let held : Contains (entries_of node) c.args.entry.now = subst (λ n. Contains (entries_of n) c.args.entry.now) (sym c.index-nodes-place.is) (c.take_out.ensures.held.0 c.if-take_out.true) in
+    let at : node ≡ get_or c.args.nodes.now c.loop-place.place node = c.index-nodes-place.is ∙ ap (λ xs. get_or xs c.loop-place.place node)
+    c.loop-place.invariant.same in
+    let held : Contains (entries_of node) c.args.entry.now = subst (λ n. Contains (entries_of n) c.args.entry.now) (sym c.index-nodes-place.is)
+    (c.take_out.ensures.held.0 c.if-take_out.true) in
     (λ h. contains_joined c.args.nodes.now c.args.entry.now c.loop-place.place node c.loop-place-test.true at held, λ h. refl)
 
 pub take_from_one-loop-place-preserved : goal.take_from_one-loop-place-preserved
@@ -118,17 +163,22 @@ take_from_one-loop-place-preserved t c =
             same = w.nodes-is ∙ ap (set c.loop-place.nodes p) kept.0 ∙ set-get_or c.loop-place.nodes p node ∙ i.same;
             none_aside = rw w.aside-is kept.1;
             capacity = ap vec_capacity w.aside-is ∙ w.take_out.ensures.capacity ∙ i.capacity;
-            none = none_so_far c.args.nodes.now c.args.entry.now p node lt at i.none (λ h. false≢true (sym w.if-take_out.false ∙ w.take_out.ensures.held.1 (subst (λ n. Contains (entries_of n) c.args.entry.now) c.index-nodes-place.is h)));
+            none = none_so_far c.args.nodes.now c.args.entry.now p node lt at i.none
+                (λ h. false≢true (sym w.if-take_out.false ∙ w.take_out.ensures.held.1
+                (subst (λ n. Contains (entries_of n) c.args.entry.now) c.index-nodes-place.is h)));
           }
       | take_from_one-else-is_in-via-else-is_in w ↦ record {
         same = w.nodes-is ∙ set-get_or c.loop-place.nodes p node ∙ i.same;
         none_aside = rw w.aside-is i.none_aside;
         capacity = ap vec_capacity w.aside-is ∙ i.capacity;
-        none = none_so_far c.args.nodes.now c.args.entry.now p node lt at i.none (λ h. false≢true (sym w.if-is_in.false ∙ c.is_in.ensures.1 (subst (λ n. IsIn c.args.entry.now.shape n.cover) c.index-nodes-place.is (cover_holds node c.args.entry.now lawful h))));
+        none = none_so_far c.args.nodes.now c.args.entry.now p node lt at i.none
+            (λ h. false≢true (sym w.if-is_in.false ∙ c.is_in.ensures.1
+            (subst (λ n. IsIn c.args.entry.now.shape n.cover) c.index-nodes-place.is (cover_holds node c.args.entry.now lawful h))));
       }
     ]
 
 pub take_from_one-returns-clause-held : goal.take_from_one-returns-clause-held
 take_from_one-returns-clause-held t c =
-    let none = none_above c.args.nodes.now c.args.entry.now c.loop-place.place c.loop-place.invariant.none (omega (arith, c.loop-place-test.false, ap length c.loop-place.invariant.same)) in
+    let none = none_above c.args.nodes.now c.args.entry.now c.loop-place.place c.loop-place.invariant.none
+    (omega (arith, c.loop-place-test.false, ap length c.loop-place.invariant.same)) in
     (λ h. absurd (false≢true h), λ h. absurd (none h))

@@ -2,7 +2,7 @@ use Rattle.std.proofs.Common.{◌+◌, ◌*◌, ◌≡◌, ℕ, ◌<◌, [], get
 use Rattle.std.specs.Prelude.{Contains}
 use Rattle.rtree_core.specs.declared.node.Node.{Node}
 use Rattle.rtree_core.specs.Nodes.{entries_of, level_of}
-use Rattle.rtree_core.specs.Edits.{inner_node}
+use Rattle.rtree_core.specs.Items.{inner_node}
 use Rattle.rtree_core.proofs.NodeLemmas.{top_level}
 use Rattle.rtree_core.proofs.remove.+removal.Given as goal
 

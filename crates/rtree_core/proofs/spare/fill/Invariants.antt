@@ -1,5 +1,5 @@
 use Rattle.std.proofs.Common.{◌-◌, vec_len}
-use Rattle.rtree_core.specs.Edits.{IsSpare}
+use Rattle.rtree_core.specs.Spares.{IsSpare}
 use Rattle.rtree_core.proofs.spare.fill.Given as goal
 
 abbrev pub invariant-loop-lists : goal.invariant-loop-lists

@@ -10,12 +10,19 @@ use Rattle.rtree_core.proofs.window.+window.Goals.{collect_children-then-meets+i
 
 pub collect-collect_children-requires : goal.collect-collect_children-requires
 collect-collect_children-requires t c =
-    let level = level_inner c.args.node.now c.in-Children.children (ap out-Below c.in-Children.is ∙ outs-Children c.in-Children.children) in
-    (omega (arith, c.decreases, level, ap top_level c.deref-in-Children.ensures.value), rw c.deref-in-Children.ensures.value (children_lawful c.args.node.now c.in-Children.children c.in-Children.is c.requires))
+    let level = level_inner c.args.node.now c.in-Children.children (ap out-Below c.in-Children.is ∙ outs-Children c.in-Children.children) in (
+      omega (arith, c.decreases, level, ap top_level c.deref-in-Children.ensures.value),
+      rw c.deref-in-Children.ensures.value
+          (children_lawful c.args.node.now c.in-Children.children c.in-Children.is c.requires),
+    )
 
 pub collect-returns-in-Children : goal.collect-returns-in-Children
 collect-returns-in-Children t c =
-    rw (entries_inner c.args.node.now c.in-Children.children (ap out-Below c.in-Children.is ∙ outs-Children c.in-Children.children), ← c.deref-in-Children.ensures.value) c.collect_children.ensures
+    rw (
+      entries_inner c.args.node.now c.in-Children.children (ap out-Below c.in-Children.is ∙ outs-Children c.in-Children.children),
+      ←
+          c.deref-in-Children.ensures.value,
+    ) c.collect_children.ensures
 
 pub collect_children-loop-child-init : goal.collect_children-loop-child-init
 collect_children-loop-child-init t c = adds_none c.args.window.now c.args.found.now.items
@@ -24,9 +31,13 @@ pub collect_children-loop-child-preserved : goal.collect_children-loop-child-pre
 collect_children-loop-child-preserved t c =
     elim c.if-meets.branch [
       | collect_children-then-meets+in_ok-collect w ↦
-          rw w.found-is (adds_more_child c.args.window.now c.args.children.now c.loop-child.child-index c.child-item.result _ _ _ c.loop-child-test.true c.child-item.is c.loop-child.invariant w.in_ok-collect.ensures)
+          rw w.found-is (adds_more_child c.args.window.now c.args.children.now c.loop-child.child-index c.child-item.result _ _ _ c.loop-child-test.true
+          c.child-item.is c.loop-child.invariant w.in_ok-collect.ensures)
       | collect_children-else-meets w ↦
-          rw w.found-is (adds_more_child c.args.window.now c.args.children.now c.loop-child.child-index c.child-item.result _ _ _ c.loop-child-test.true c.child-item.is c.loop-child.invariant (adds_pruned c.args.window.now (level_of c.child-item.result) c.child-item.result _ (rw (sym c.child-item.is) at (c.requires c.loop-child.child-index c.child-item.result c.loop-child-test.true)) (λ m. false≢true (rw w.if-meets.false at (c.meets.ensures.1 m)))))
+          rw w.found-is (adds_more_child c.args.window.now c.args.children.now c.loop-child.child-index c.child-item.result _ _ _ c.loop-child-test.true
+          c.child-item.is c.loop-child.invariant (adds_pruned c.args.window.now (level_of c.child-item.result) c.child-item.result _
+          (rw (sym c.child-item.is) at (c.requires c.loop-child.child-index c.child-item.result c.loop-child-test.true))
+          (λ m. false≢true (rw w.if-meets.false at (c.meets.ensures.1 m)))))
     ]
 
 pub collect_children-collect-requires : goal.collect_children-collect-requires

@@ -8,7 +8,7 @@ invariant_of-result c =
     let made = c.in_ok-root.ensures in
     record {
       tree = made.tree;
-      kept = record { lawful = made.tree.lawful.lawful; height_is = made.height_is; lists = c.new-2.ensures };
+      sound = record { lawful = made.tree.lawful.lawful; height_is = made.height_is; lists = c.new-2.ensures };
       len = omega (arith, c.len-len.ensures, c.args.entries.ok.0, same_length c.args.entries.items (entries_of c.in_ok-root.root) made.same);
       none_aside = c.new-3.ensures.items;
     }

@@ -16,14 +16,17 @@ collected c =
 pub returns-clause-rising : goal.returns-clause-rising
 returns-clause-rising c =
     let at = (goal.at.returns-clause-rising c).After-sort_unstable in
-    window_rises c.args.window.now (entries_in c.args.self.now) c.match-self.found.items c.sort_unstable.new.self.items (collected at) c.sort_unstable.ensures.permutation
+    window_rises c.args.window.now (entries_in c.args.self.now) c.match-self.found.items c.sort_unstable.new.self.items (collected at)
+    c.sort_unstable.ensures.permutation
     (rw (← c.self.view_is) c.self.invariant.tree.distinct)
     (IsNonDecreasingBy-from_sort (λ n. n) c.sort_unstable.new.self.items c.sort_unstable.ensures.sorted)
 
 pub returns-clause-met : goal.returns-clause-met
 returns-clause-met c =
-    window_met c.args.window.now (entries_in c.args.self.now) c.match-self.found.items c.sort_unstable.new.self.items (collected (goal.at.returns-clause-met c).After-sort_unstable) c.sort_unstable.ensures.permutation
+    window_met c.args.window.now (entries_in c.args.self.now) c.match-self.found.items c.sort_unstable.new.self.items
+    (collected (goal.at.returns-clause-met c).After-sort_unstable) c.sort_unstable.ensures.permutation
 
 pub returns-clause-all : goal.returns-clause-all
 returns-clause-all c =
-    window_all c.args.window.now (entries_in c.args.self.now) c.match-self.found.items c.sort_unstable.new.self.items (collected (goal.at.returns-clause-all c).After-sort_unstable) c.sort_unstable.ensures.permutation
+    window_all c.args.window.now (entries_in c.args.self.now) c.match-self.found.items c.sort_unstable.new.self.items
+    (collected (goal.at.returns-clause-all c).After-sort_unstable) c.sort_unstable.ensures.permutation

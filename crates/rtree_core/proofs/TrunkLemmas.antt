@@ -1,0 +1,171 @@
+-- What insertions into a trunk do, one after another.
+use Rattle.std.proofs.Common.{arith, ◌≡◌, ℕ, suc, ◌+◌, ◌*◌, ◌≤◌, cond, List, [], ◌∷◌, ◌++◌, refl, ◌∙◌, ap, append-nil}
+use Rattle.std.specs.Prelude.{vec_len, Option, None, Some, IsSomeAnd}
+use Rattle.std.proofs.lemmas.Nat.{mul-le}
+use Rattle.std.proofs.lemmas.List.Elements.{All-push, All-cons, All-nil}
+use Rattle.std.proofs.lemmas.List.Sums.{sum_by-append}
+use Rattle.geom_core.specs.declared.shape.Shape.{Shape}
+use Rattle.rtree_core.specs.declared.node.Entry.{Entry}
+use Rattle.rtree_core.specs.declared.node.Node.{Node}
+use Rattle.rtree_core.specs.declared.trunk.Trunk.{Trunk}
+use Rattle.rtree_core.specs.Insertions.{StaysOne, ComesInTwo}
+use Rattle.rtree_core.specs.Items.{entry_alone, FitsLeaf, FitsInner, IsNodeOf}
+use Rattle.rtree_core.specs.Nodes.{entries_of, level_of, size_of, IsLawfulAt}
+use Rattle.rtree_core.specs.Spares.{AreSpare, IsSpent}
+use Rattle.rtree_core.specs.Trees.{entries_in, height_of, IsRoot}
+use Rattle.rtree_core.specs.Trunks.{IsSound, CanTake, HasTakenIn, HasGrownBy}
+use Rattle.rtree_core.proofs.NodeLemmas.{lawful_level, lawful_is}
+
+-- lists for more insertions are enough for fewer
+pub can_take_less : (m n : ℕ) (t : Trunk) → m ≤ n → CanTake n t → CanTake m t
+can_take_less m n t le e = record {
+  leaves = omega (arith, e.leaves);
+  inners = omega (arith, e.inners, mul-le m (t.height + m) n (t.height + n) le (omega arith));
+  low = omega (arith, e.low);
+}
+
+one_more : (n b : ℕ) → (1 + n) * b ≡ b + n * b
+one_more n b = omega arith
+
+-- after an insertion, which takes so many lists, there are enough for the others
+can_take_after : (n : ℕ) (s t : Trunk) →
+    t.height ≤ s.height + 1 →
+    vec_len s.spare.leaves ≤ vec_len t.spare.leaves + 1 →
+    vec_len s.spare.inners ≤ vec_len t.spare.inners + s.height →
+    CanTake (1 + n) s →
+    CanTake n t
+can_take_after n s t le leaf inner e = record {
+  leaves = omega (arith, e.leaves);
+  inners = omega (arith, e.inners, one_more n (s.height + (1 + n)), mul-le n (t.height + n) n (s.height + (1 + n)) (omega arith) (omega arith));
+  low = omega (arith, e.low);
+}
+
+some_of : (r : Option Node) (P : Node → Type 0) → IsSomeAnd r P → (m : Node) × (r ≡ Some m) × P m
+some_of None P h = absurd h
+some_of (Some m) P h = (m, refl, h)
+
+-- an entry came into a tree that had none
+pub planted : (x : Entry) (old new : Trunk) (n : Node) →
+    old.root ≡ None →
+    new.root ≡ Some n →
+    new.height ≡ 1 →
+    IsNodeOf (λ e. e.shape) entry_alone FitsLeaf (x ∷ []) n →
+    AreSpare new.spare →
+    IsSound old →
+    vec_len old.spare.leaves ≤ vec_len new.spare.leaves + 1 →
+    vec_len old.spare.inners ≤ vec_len new.spare.inners →
+    HasTakenIn 1 (x ∷ []) old new
+planted x old new n none is one node lists sound leaf inner =
+    let lawful : IsLawfulAt 0 n = node.lawful 0 (λ k d lt. refl) in
+    let level = lawful_level 0 n lawful in
+    let low : old.height ≡ 0 = sound.height_is ∙ ap height_of none in
+    record {
+      sound = record {
+        lawful = rw is (lawful_is 0 n lawful);
+        height_is = rw (is, level) one;
+        lists = lists;
+      };
+      gains = rw (none, is, node.entries_are) (λ p. refl);
+      no_lower = omega arith;
+      spent = λ k e. can_take_after k old new (omega arith) leaf (omega arith) e;
+      rooted = λ h. rw is (record { lawful = lawful_is 0 n lawful; two = λ above. absurd (omega arith) });
+    }
+
+module _ (added : List Entry) (shape : Shape) (old : Trunk) (n : Node) (is : old.root ≡ Some n) (sound : IsSound old) where
+  height : old.height ≡ level_of n + 1
+  height = sound.height_is ∙ ap height_of is
+
+  -- a root took the entries in
+  pub root_stays : (new : Trunk) (m : Node) →
+      new.root ≡ Some m →
+      new.height ≡ old.height →
+      StaysOne added shape n m →
+      IsSpent (level_of n) old.spare new.spare →
+      HasTakenIn 1 added old new
+  root_stays new m there same stays spent =
+      let level = lawful_level (level_of n) m stays.lawful in
+      record {
+        sound = record {
+          lawful = rw there (lawful_is (level_of n) m stays.lawful);
+          height_is = rw (there, level) (same ∙ height);
+          lists = spent.lists;
+        };
+        gains = rw (is, there) stays.gains;
+        no_lower = omega arith;
+        spent = λ k e. can_take_after k old new (omega arith) spent.leaf (omega (arith, height, spent.inner)) e;
+        rooted = λ h.
+            let was : IsRoot n = rw is at h in
+            rw there (record { lawful = lawful_is (level_of n) m stays.lawful; two = λ k. omega (arith, was.two (omega (arith, level)), stays.bigger) });
+      }
+
+  -- a root was split, and a level came over it
+  pub root_splits : (mid new : Trunk) (one two : Node) →
+      mid.root ≡ Some one →
+      mid.height ≡ old.height →
+      ComesInTwo added shape n one two →
+      IsSpent (level_of n) old.spare mid.spare →
+      HasGrownBy two mid new →
+      HasTakenIn 1 added old new
+  root_splits mid new one two there same splits spent grown =
+      let root = some_of new.root (λ m. (size_of m ≡ 2) × IsLawfulAt (suc (level_of two)) m) grown.root in
+      let m : Node = root.0 in
+      let root_is : new.root ≡ Some m = root.1 in
+      let lawful : IsLawfulAt (suc (level_of two)) m = root.2.1 in
+      let level = lawful_level (suc (level_of two)) m lawful in
+      let two_level = lawful_level (level_of n) two splits.two_lawful in
+      record {
+        sound = record {
+          lawful = rw root_is (lawful_is (suc (level_of two)) m lawful);
+          height_is = rw (root_is, level) (omega (arith, grown.height_is, height, two_level));
+          lists = grown.lists;
+        };
+        gains = rw (is, grown.entries, there) splits.gains;
+        no_lower = omega (arith, grown.height_is);
+        spent = λ k e. can_take_after k old new (omega (arith, grown.height_is)) (omega (arith, spent.leaf, ap vec_len grown.leaf))
+            (omega (arith, height, spent.inner, grown.inner)) e;
+        rooted = λ h. rw root_is (record { lawful = lawful_is (suc (level_of two)) m lawful; two = λ k. omega (arith, root.2.0) });
+      }
+
+-- two nodes have a parent
+pub of_two : (l : ℕ) (a b n : Node) →
+    FitsInner (suc l) a →
+    FitsInner (suc l) b →
+    IsNodeOf (λ m. m.cover) entries_of FitsInner ((a ∷ []) ++ b ∷ []) n →
+    (size_of n ≡ 2) × IsLawfulAt (suc l) n × (entries_of n ≡ entries_of a ++ entries_of b)
+of_two l a b n p q node = (
+  node.size,
+  node.lawful (suc l) (All-push (FitsInner (suc l)) (a ∷ []) b (All-cons (FitsInner (suc l)) a [] p (All-nil (FitsInner (suc l)))) q),
+  node.entries_are ∙ ap (λ es. entries_of a ++ es) (append-nil (entries_of b)),
+)
+
+pub took_none : (t : Trunk) → IsSound t → HasTakenIn 0 [] t t
+took_none t sound = record {
+  sound = sound;
+  gains = λ p. refl;
+  no_lower = omega arith;
+  spent = λ n e. can_take_less n (0 + n) t (omega arith) e;
+  rooted =
+      λ h. h;
+}
+
+pub took_both : (i j : ℕ) (xs ys : List Entry) (r q p : Trunk) →
+    HasTakenIn i xs r q →
+    HasTakenIn j ys q p →
+    HasTakenIn (i + j) (xs ++ ys) r p
+took_both i j xs ys r q p first second = record {
+  sound = second.sound;
+  gains = λ b.
+      let count : Entry → ℕ = λ e. cond (b e) 1 0 in
+      omega (
+        arith,
+        first.gains b,
+        second.gains b,
+        sum_by-append count (xs ++ ys) (entries_in r.root),
+        sum_by-append count xs ys,
+        sum_by-append count xs (entries_in r.root),
+        sum_by-append count ys (entries_in q.root),
+      );
+  no_lower = omega (arith, first.no_lower, second.no_lower);
+  spent = λ n e. second.spent n (first.spent (j + n) (can_take_less (i + (j + n)) ((i + j) + n) r (omega arith) e));
+  rooted = λ h. second.rooted (first.rooted h);
+}

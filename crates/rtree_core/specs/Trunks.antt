@@ -1,0 +1,43 @@
+-- A root with its height and the lists that wait for edits, and what insertions do to it.
+use Rattle.std.specs.Prelude.{◌≡◌, ℕ, ◌+◌, ◌*◌, ◌^◌, ◌<◌, ◌≤◌, suc, List, ◌++◌, IfSome, IsSomeAnd, vec_len}
+use Rattle.rtree_core.specs.declared.node.Entry.{Entry}
+use Rattle.rtree_core.specs.declared.node.Node.{Node}
+use Rattle.rtree_core.specs.declared.trunk.Trunk.{Trunk}
+use Rattle.rtree_core.specs.Collections.{HasSame}
+use Rattle.rtree_core.specs.Nodes.{entries_of, level_of, size_of, IsLawful, IsLawfulAt}
+use Rattle.rtree_core.specs.Spares.{AreSpare}
+use Rattle.rtree_core.specs.Trees.{entries_in, height_of, IsRoot}
+
+-- the root is lawful, though it may have one child while a removal goes on, and its height is told
+pub record IsSound (t : Trunk) : Type 0 where
+  pub lawful : IfSome t.root IsLawful
+  pub height_is : t.height ≡ height_of t.root
+  pub lists : AreSpare t.spare
+
+-- the root is that of a lawful tree
+pub record IsRooted (t : Trunk) : Type 0 where
+  pub sound : IsSound t
+  pub root : IfSome t.root IsRoot
+
+-- it has the lists that so many insertions may take, and its height has room to grow
+pub record CanTake (count : ℕ) (t : Trunk) : Type 0 where
+  pub leaves : count + 1 ≤ vec_len t.spare.leaves
+  pub inners : count * (t.height + count) ≤ vec_len t.spare.inners
+  pub low : t.height + count < 2 ^ 32
+
+-- what so many insertions do, which together add these entries
+pub record HasTakenIn (count : ℕ) (added : List Entry) (old new : Trunk) : Type 0 where
+  pub sound : IsSound new
+  pub gains : HasSame (added ++ entries_in old.root) (entries_in new.root)
+  pub no_lower : old.height ≤ new.height
+  pub spent : (n : ℕ) → CanTake (count + n) old → CanTake n new
+  pub rooted : IfSome old.root IsRoot → IfSome new.root IsRoot
+
+-- a node of the two stands over the root and a second one, which had a level in common
+pub record HasGrownBy (second : Node) (old new : Trunk) : Type 0 where
+  pub root : IsSomeAnd new.root (λ n. (size_of n ≡ 2) × IsLawfulAt (suc (level_of second)) n)
+  pub entries : entries_in new.root ≡ entries_in old.root ++ entries_of second
+  pub height_is : new.height ≡ old.height + 1
+  pub lists : AreSpare new.spare
+  pub leaf : new.spare.leaves ≡ old.spare.leaves
+  pub inner : vec_len old.spare.inners ≡ vec_len new.spare.inners + 1

@@ -1,0 +1,72 @@
+//! What a node holds: entries, or the nodes of the level below.
+
+use crate::measures::Covered;
+use crate::node::{Below, Entry, Node, cover_all};
+
+/// What a node holds: an entry, or a node of the level below.
+pub(crate) trait Item: Covered + Drop {
+    ghost use Rattle.std.specs.Prelude.{ℕ, List};
+    ghost use Rattle.rtree_core.specs.declared.node.Entry.{Entry};
+    ghost use Rattle.rtree_core.specs.Items.{IsNodeList, IsNodeOf};
+    ghost use Rattle.rtree_core.specs.Packed.{IsPackedOf};
+
+    // The entries below it.
+    ghost entries: { Self → List Entry };
+
+    // A node of this level may hold it.
+    ghost fits: { ℕ → Self → Type 0 };
+
+    // A node of this level may hold it in a packed tree.
+    ghost fits_packed: { ℕ → Self → Type 0 };
+
+    /// The node of a list.
+    fn node_of(page: Vec<Self>) -> Node
+        requires { IsNodeList page }
+        ensures node { IsNodeOf Self.cover entries fits page.items result }
+        ensures packed { IsPackedOf fits_packed page.items result };
+}
+
+impl Item for Entry {
+    ghost use Rattle.rtree_core.specs.Items.{entry_alone, FitsLeaf, IsNodeList, IsNodeOf};
+    ghost use Rattle.rtree_core.specs.Packed.{IsPackedOf};
+
+    ghost entries = { entry_alone };
+
+    ghost fits = { FitsLeaf };
+
+    ghost fits_packed = { λ _ _. Unit {0} };
+
+    fn node_of(page: Vec<Entry>) -> Node
+        requires { IsNodeList page }
+        ensures node { IsNodeOf (λ e. e.shape) entry_alone FitsLeaf page.items result }
+        ensures packed { IsPackedOf (λ _ _. Unit {0}) page.items result }
+    {
+        Node {
+            cover: cover_all(&page),
+            below: Below::Entries(page),
+        }
+    }
+}
+
+impl Item for Node {
+    ghost use Rattle.rtree_core.specs.Items.{FitsInner, IsNodeList, IsNodeOf};
+    ghost use Rattle.rtree_core.specs.Nodes.{entries_of};
+    ghost use Rattle.rtree_core.specs.Packed.{FitsPacked, IsPackedOf};
+
+    ghost entries = { entries_of };
+
+    ghost fits = { FitsInner };
+
+    ghost fits_packed = { FitsPacked };
+
+    fn node_of(page: Vec<Node>) -> Node
+        requires { IsNodeList page }
+        ensures node { IsNodeOf (λ n. n.cover) entries_of FitsInner page.items result }
+        ensures packed { IsPackedOf FitsPacked page.items result }
+    {
+        Node {
+            cover: cover_all(&page),
+            below: Below::Children(page),
+        }
+    }
+}

@@ -1,0 +1,241 @@
+//! A long mixed list of edits of a tree, beside a plain list of its entries.
+
+ghost use Rattle.std.specs.Prelude.{ℕ, ◌<◌, ◌≤◌, IfOk};
+ghost use Rattle.rtree_core.specs.Nodes.{IsLeaf, IsLawful};
+ghost use Rattle.rtree_core.specs.Trees.{IsFresh};
+
+use geom_core::Shape;
+use rtree_core::{Entry, Node, RTree};
+use std::alloc::{AllocError, Global};
+use std::test::Fail;
+
+/// Knuth's linear congruential generator of 64 bits.
+#[derive(Drop)]
+struct Random {
+    state: u64,
+}
+
+impl Random {
+    /// A number below `end`.
+    fn below(&mut self, end: usize) -> usize
+        requires { 0 < end }
+        ensures { result < end }
+    {
+        self.state = self
+            .state
+            .wrapping_mul(6364136223846793005)
+            .wrapping_add(1442695040888963407);
+        (self.state >> 33) as usize % end
+    }
+
+    /// A coordinate near one of three centres, and one that is up to three more.
+    fn span(&mut self) -> (i64, i64) {
+        let lo = 1000 * self.below(3) + self.below(20);
+        let hi = lo + self.below(4);
+        (lo as i64 - 1000, hi as i64 - 1000)
+    }
+
+    /// A point, a segment or a rectangle near one of nine centres.
+    fn shape(&mut self) -> Result<Shape, Fail> {
+        let (x1, x2) = self.span();
+        let (y1, y2) = self.span();
+        Ok(Shape::new(x1, y1, x2, y2).ok_or("a shape")?)
+    }
+
+    /// One of the entries, if there are any.
+    fn entry(&mut self, entries: &[Entry]) -> Option<Entry> {
+        let place = self.below(entries.len().max(1));
+        entries.get(place).copied()
+    }
+
+    /// The shape of one of the entries one time in four, or else another.
+    fn shape_beside(&mut self, entries: &[Entry]) -> Result<Shape, Fail> {
+        match self.entry(entries) {
+            Some(entry) if self.below(4) == 0 => Ok(entry.shape),
+            _ => self.shape(),
+        }
+    }
+
+    /// One of the entries, or sometimes one that has an absent number or shape.
+    fn entry_beside(&mut self, entries: &[Entry], absent: u32) -> Result<Entry, Fail> {
+        let shape = self.shape()?;
+        let number = absent;
+        Ok(match (self.entry(entries), self.below(16)) {
+            (None, _) => Entry { shape, number },
+            (Some(entry), 0) => Entry { number, ..entry },
+            (Some(entry), 1) => Entry { shape, ..entry },
+            (Some(entry), _) => entry,
+        })
+    }
+}
+
+/// A tree, and a plain list of its entries, ascending by number.
+#[derive(Drop)]
+struct Trial {
+    tree: RTree,
+    list: Vec<Entry>,
+}
+
+impl Trial {
+    /// Inserts an entry of this number, whose shape is often that of another entry.
+    fn insert(&mut self, random: &mut Random, number: u32) -> Result<(), Fail>
+        requires { (k : ℕ) → number ≤ k → IsFresh k self.old.tree }
+        ensures { IfOk result (λ _. (k : ℕ) → number < k → IsFresh k self.new.tree) }
+    {
+        let shape = random.shape_beside(&self.list)?;
+        let entry = Entry { shape, number };
+        self.tree.insert(entry)?;
+        self.list.push(entry)?;
+        Ok(())
+    }
+
+    /// Removes an entry, sometimes one that has an absent number or shape, and says whether tree
+    /// and list agree on it.
+    fn remove(&mut self, random: &mut Random, absent: u32) -> Result<bool, Fail>
+        ensures { IfOk result (λ _. (k : ℕ) → IsFresh k self.old.tree → IsFresh k self.new.tree) }
+    {
+        let entry = random.entry_beside(&self.list, absent)?;
+        let removed = self.tree.remove(&entry)?;
+        Ok(removed == remove_from(&mut self.list, &entry))
+    }
+
+    /// Edits with these numbers, so many in nine of them insertions, and compares along the way.
+    fn edit(
+        &mut self,
+        alloc: Global,
+        random: &mut Random,
+        first: u32,
+        end: u32,
+        insertions: usize,
+    ) -> Result<(), Fail>
+        requires order { first ≤ end }
+        requires fresh { (k : ℕ) → first ≤ k → IsFresh k self.old.tree }
+        ensures { IfOk result (λ _. (k : ℕ) → end ≤ k → IsFresh k self.new.tree) }
+    {
+        for number in first..end {
+            if random.below(9) < insertions {
+                self.insert(random, number)?;
+            } else if !self.remove(random, number)? {
+                return Err(Fail::new("a removal differs"));
+            }
+            if number % 50 == 0 || self.list.len() < 20 {
+                self.compare(alloc, random)?;
+            }
+        }
+        Ok(())
+    }
+
+    /// Compares entries and some windows, and sees that the tree is lawful.
+    fn compare(&self, alloc: Global, random: &mut Random) -> Result<(), Fail> {
+        if !self.is_lawful(alloc)? {
+            return Err(Fail::new("the tree is unlawful, or its entries differ"));
+        }
+        let all = Shape::new(-1000, -1000, 2000, 2000).ok_or("a window")?;
+        let far = Shape::new(5000, 5000, 6000, 6000).ok_or("a window")?;
+        let (one, two) = (random.shape()?, random.shape()?);
+        for window in [all, far, one, two, one.cover(&two)] {
+            if !self.agrees_at(alloc, &window)? {
+                return Err(Fail::new("a window differs"));
+            }
+        }
+        Ok(())
+    }
+
+    /// Whether the tree is lawful and has the entries of the list.
+    fn is_lawful(&self, alloc: Global) -> Result<bool, AllocError> {
+        let height = self.tree.height();
+        let mut entries = Vec::new(alloc);
+        let lawful = match self.tree.root() {
+            None => height == 0,
+            Some(root) if root.is_leaf() => visit(root, height, 1, &mut entries)?,
+            Some(root) => visit(root, height, 2, &mut entries)?,
+        };
+        entries.sort_unstable_by_key(|entry| entry.number);
+        Ok(
+            lawful
+                && self.tree.len() == self.list.len()
+                && entries.as_slice() == self.list.as_slice(),
+        )
+    }
+
+    /// Whether the tree finds the entries of the list that meet a window.
+    fn agrees_at(&self, alloc: Global, window: &Shape) -> Result<bool, AllocError> {
+        let mut numbers = Vec::new(alloc);
+        for entry in &self.list {
+            if entry.shape.meets(window) {
+                numbers.push(entry.number)?;
+            }
+        }
+        let found = self.tree.window(alloc, window)?;
+        Ok(found.as_slice() == numbers.as_slice())
+    }
+}
+
+/// Removes an entry from a list, and says whether the list held it.
+fn remove_from(list: &mut Vec<Entry>, entry: &Entry) -> bool {
+    for (place, held) in list.iter().enumerate() {
+        if held == entry {
+            let _ = list.remove(place);
+            return true;
+        }
+    }
+    false
+}
+
+/// Adds a node's entries, and says whether the node, of so many levels, is lawful and has `fewest`
+/// entries or children or more.
+fn visit(
+    node: &Node,
+    levels: u32,
+    fewest: usize,
+    entries: &mut Vec<Entry>,
+) -> Result<bool, AllocError>
+    requires { IsLawful node.now }
+{
+    if node.is_leaf() {
+        let lawful = visit_leaf(node, fewest, entries)?;
+        return Ok(lawful && levels == 1);
+    }
+    let children = node.children();
+    let mut cover = children[0].cover();
+    let mut lawful = levels > 1 && fewest <= children.len() && children.len() <= 8;
+    for child in children {
+        cover = cover.cover(&child.cover());
+        lawful &= visit(child, levels.saturating_sub(1), 3, entries)?;
+    }
+    Ok(lawful && cover == node.cover())
+}
+
+/// Adds a leaf's entries, and says whether these are `fewest` or more, at most eight, and covered
+/// tightly.
+fn visit_leaf(leaf: &Node, fewest: usize, entries: &mut Vec<Entry>) -> Result<bool, AllocError>
+    requires lawful { IsLawful leaf.now }
+    requires leaf { IsLeaf leaf.now }
+{
+    let held = leaf.entries();
+    let mut cover = held[0].shape;
+    for entry in held {
+        cover = cover.cover(&entry.shape);
+        entries.push(*entry)?;
+    }
+    Ok(fewest <= held.len() && held.len() <= 8 && cover == leaf.cover())
+}
+
+#[test]
+fn mixed_edits(rt: HostRuntime) -> Result<(), Fail> {
+    let alloc = rt.alloc();
+    let mut random = Random { state: 1 };
+    let mut trial = Trial {
+        tree: RTree::new(alloc),
+        list: Vec::new(alloc),
+    };
+    trial.edit(alloc, &mut random, 0, 2000, 6)?;
+    assert_eq!(rt; trial.tree.height(), 4);
+    trial.edit(alloc, &mut random, 2000, 4000, 2)?;
+    assert!(rt; trial.tree.height() < 2);
+    trial.edit(alloc, &mut random, 4000, 6000, 6)?;
+    assert_eq!(rt; trial.tree.height(), 4);
+    trial.edit(alloc, &mut random, 6000, 8000, 2)?;
+    assert!(rt; trial.tree.height() < 2);
+    Ok(())
+}
