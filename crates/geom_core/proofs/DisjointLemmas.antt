@@ -4,7 +4,7 @@ use Rattle.std.specs.Prelude.{ℤ, pos, ◌+ℤ◌, ◌≤ℤ◌, ◌<ℤ◌, Li
 use Rattle.std.specs.List.{HoldsAt, AllWithin}
 use Rattle.std.proofs.lemmas.Int.{ints, by_lt_z}
 use Rattle.geom_core.specs.declared.span.Span.{Span}
-use Rattle.geom_core.specs.declared.span.TheConstants.{LIMIT}
+use Rattle.geom_core.specs.Limits.{greatest_coordinate}
 use Rattle.geom_core.specs.declared.shape.Shape.{Shape}
 use Rattle.geom_core.specs.declared.extent.Extent.{Extent}
 use Rattle.geom_core.specs.declared.extent.Extent.TheVariants.{Empty, Point, Line, Area}
@@ -15,8 +15,8 @@ use Rattle.geom_core.specs.Cells.{line, parity, IsWithin, IsInner, Meets}
 use Rattle.geom_core.specs.Shapes.{dim_of, span_dim}
 use Rattle.geom_core.specs.Matrices.{IsInterior, IsBoundary, IsExterior, IsExtent, IsMatrix}
 use Rattle.geom_core.specs.Masks.{Fits}
-use Rattle.geom_core.specs.Relations.{masks, FitsOne, Holds}
-use Rattle.geom_core.specs.DisjointShapes.{interior_extent, boundary_extent, disjoint_matrix}
+use Rattle.geom_core.specs.Relations.{masks, FitsOne, Holds, HoldsForDisjoint}
+use Rattle.geom_core.specs.DisjointShapes.{interior_extent, boundary_extent, disjoint_matrix, FitsDisjoint}
 use Rattle.geom_core.proofs.Zones.{line_even, gap_right, parity_le}
 use Rattle.geom_core.proofs.Products.{Reaches, Fills}
 use Rattle.geom_core.proofs.OneMatrix.{one_matrix}
@@ -69,10 +69,19 @@ interior_reaches s =
 boundary_reaches : (s : Shape) (d : ℕ) → dim_of s ≡ d + 1 → Reaches (IsBoundary s) d
 boundary_reaches s d e = record {
   reached = by_lt_z s.x.lo s.x.hi
-      (λ long. let y = greatest_inner s.y in
-      (line s.x.lo, y.0, ((((omega (arith, ints), omega (arith, ints)), (inner_within s.y y.0 y.1))), λ h. not_inner_end s.x long h.0), omega (arith, line_even s.x.lo, y.2, span_dim_long s.x long)))
+      (λ long. let y = greatest_inner s.y in (
+        line s.x.lo,
+        y.0,
+        (((omega (arith, ints), omega (arith, ints)), inner_within s.y y.0 y.1), λ h. not_inner_end s.x long h.0),
+        omega (arith, line_even s.x.lo, y.2, span_dim_long s.x long),
+      ))
       (λ short. by_lt_z s.y.lo s.y.hi
-      (λ long. (line s.x.lo, line s.y.lo, (((omega (arith, ints), omega (arith, ints)), (omega (arith, ints), omega (arith, ints))), λ h. not_inner_end s.y long h.1), omega (arith, line_even s.x.lo, line_even s.y.lo, span_dim_short s.x short, span_dim_long s.y long)))
+      (λ long. (
+        line s.x.lo,
+        line s.y.lo,
+        (((omega (arith, ints), omega (arith, ints)), (omega (arith, ints), omega (arith, ints))), λ h. not_inner_end s.y long h.1),
+        omega (arith, line_even s.x.lo, line_even s.y.lo, span_dim_short s.x short, span_dim_long s.y long),
+      ))
       (λ flat. absurd (omega (arith, span_dim_short s.x short, span_dim_short s.y flat))));
   bound = λ u v c. elim (inner_or_not s.x u) [
     | inl x ↦ elim (inner_or_not s.y v) [
@@ -112,7 +121,7 @@ extent_second P Q Line to h = record { reached = (h.reached.0, h.reached.1, to _
 extent_second P Q Area to h = record { reached = (h.reached.0, h.reached.1, to _ _ h.reached.2, h.reached.2, h.reached.3); bound = λ u v p q. h.bound u v q }
 
 -- behind the last line of the range there is room outside of both
-outside : (s : Shape) → IsExterior s (line LIMIT +ℤ pos 1) (pos 1)
+outside : (s : Shape) → IsExterior s (line (pos greatest_coordinate) +ℤ pos 1) (pos 1)
 outside s h = absurd (omega (arith, ints))
 
 -- the matrix of two shapes without a common cell
@@ -137,7 +146,7 @@ disjoint_is_matrix a b n =
         interior = extent_second (IsExterior a) (IsInterior b) _ (λ u v p c. n (u, v, c, interior_covers b u v p)) ib;
         boundary = extent_second (IsExterior a) (IsBoundary b) _ (λ u v p c. n (u, v, c, p.0)) bb;
         exterior = record {
-          reached = (line LIMIT +ℤ pos 1, pos 1, outside a, outside b, omega (arith, gap_right LIMIT));
+          reached = (line (pos greatest_coordinate) +ℤ pos 1, pos 1, outside a, outside b, omega (arith, gap_right (pos greatest_coordinate)));
           bound = λ u v p q. omega (arith, parity_le u, parity_le v);
         };
       };
@@ -145,7 +154,13 @@ disjoint_is_matrix a b n =
 
 -- an interval of this length from a place on
 sample_span : (from length : ℕ) → from ≤ 4 → length ≤ 1 → Span
-sample_span from length h k = record { lo = pos from; hi = pos (from + length); ordered = omega (arith, ints); above = omega (arith, ints); below = omega (arith, ints) }
+sample_span from length h k = record {
+  lo = pos from;
+  hi = pos (from + length);
+  ordered = omega (arith, ints);
+  above = omega (arith, ints);
+  below = omega (arith, ints);
+}
 
 sample_dim : (from length : ℕ) (h : from ≤ 4) (k : length ≤ 1) → span_dim (sample_span from length h k) ≡ length
 unfolding sample_span
@@ -176,7 +191,7 @@ sample from (suc (suc zero)) h k = (
 sample from (suc (suc (suc d))) h k = absurd (omega arith)
 
 -- a mask that fits a matrix of disjoint shapes fits that of some two shapes
-pub disjoint_pair : (r : Relation) (da db : ℕ) → da < 3 → db < 3 → FitsOne (masks r da db) (disjoint_matrix da db) → (a : Shape) × (b : Shape) × ¬ (Meets a b) × Holds r a b
+pub disjoint_pair : (r : Relation) (da db : ℕ) → da < 3 → db < 3 → FitsDisjoint r da db → HoldsForDisjoint r
 disjoint_pair r da db h k f =
     let (a, p) = sample 0 da (omega arith) (omega arith) in
     let (b, q) = sample 4 db (omega arith) (omega arith) in
@@ -192,10 +207,12 @@ disjoint_pair r da db h k f =
     )
 
 -- a relation that holds for two shapes without a common cell has a mask that fits the matrix of their dimensions
-pub fits_disjoint : (r : Relation) (a b : Shape) → ¬ (Meets a b) → Holds r a b → (da : ℕ) × (db : ℕ) × (da < 3) × (db < 3) × FitsOne (masks r da db) (disjoint_matrix da db)
+pub fits_disjoint : (r : Relation) (a b : Shape) → ¬ (Meets a b) → Holds r a b →
+    (da : ℕ) × (db : ℕ) × (da < 3) × (db < 3) × FitsDisjoint r da db
 fits_disjoint r a b n h =
     let F : Matrix → Type 0 = λ m. FitsOne (masks r (dim_of a) (dim_of b)) m in
-    (dim_of a, dim_of b, omega (arith, dim_at_most a), omega (arith, dim_at_most b), subst F (one_matrix a b h.matrix (disjoint_matrix (dim_of a) (dim_of b)) h.is (disjoint_is_matrix a b n)) h.fits)
+    let same = one_matrix a b h.matrix (disjoint_matrix (dim_of a) (dim_of b)) h.is (disjoint_is_matrix a b n) in
+    (dim_of a, dim_of b, omega (arith, dim_at_most a), omega (arith, dim_at_most b), subst F same h.fits)
 
 fits_at : (ms : List Mask) (m : Matrix) (k : ℕ) → k < length ms → HoldsAt (λ mask. Fits mask m) ms k → FitsOne ms m
 fits_at [] m k h w = absurd (omega arith)

@@ -12,7 +12,7 @@ use Rattle.geom_core.specs.declared.pattern_value.PatternValue.TheVariants.{Any,
 use Rattle.geom_core.specs.declared.mask.Mask.{Mask}
 use Rattle.geom_core.specs.declared.mask.MaskFault.{MaskFault}
 use Rattle.geom_core.specs.declared.mask.MaskFault.TheVariants.{Length, Letter}
-use Rattle.geom_core.specs.Masks.{letter_of_value, text_of, IsLetter, IsFirstBad, IsFirstBadFrom, SpellsRow, SpellsRows}
+use Rattle.geom_core.specs.Masks.{letter_of_value, text_of, IsLetter, IsLetterOf, IsFirstBad, SpellsRow, SpellsRows, TellsBad}
 
 -- the value that a capital letter stands for
 abbrev value_of : ℕ → Option PatternValue
@@ -114,52 +114,61 @@ near P first k low high a b c =
     let three : (j : ℕ) → j < first + 2 + 1 → Q j = below_more Q (first + 2) (λ j h. two j (omega arith)) (λ _. c) in
     three k (omega arith) low
 
-pub bad_second : (text : List ℕ) (first : ℕ) (value : PatternValue) (fault : MaskFault) → first + 3 ≤ length text → to_ascii_uppercase (slice_index text first) ≡ letter_of_value value → (fault ≡ Letter (first + 1)) × ¬ (IsLetter (slice_index text (first + 1))) → (place : ℕ) × (fault ≡ Letter place) × (place < first + 3) × IsFirstBadFrom text first place
-bad_second text first value fault n good bad =
-    let L : ℕ → Type 0 = λ k. IsLetter (slice_index text k) in (
-      first + 1,
-      bad.0,
-      omega arith,
-      record {
-        behind = omega arith;
-        within = omega arith;
-        bad = bad.1;
-        before = λ k low high. let e : first ≡ k = omega arith in subst L e (value, good);
-      },
-    )
-
-pub bad_third : (text : List ℕ) (first : ℕ) (v w : PatternValue) (fault : MaskFault) → first + 3 ≤ length text → to_ascii_uppercase (slice_index text first) ≡ letter_of_value v → to_ascii_uppercase (slice_index text (first + 1)) ≡ letter_of_value w → (fault ≡ Letter (first + 2)) × ¬ (IsLetter (slice_index text (first + 2))) → (place : ℕ) × (fault ≡ Letter place) × (place < first + 3) × IsFirstBadFrom text first place
-bad_third text first v w fault n good next bad =
-    let L : ℕ → Type 0 = λ k. IsLetter (slice_index text k) in (
-      first + 2,
-      bad.0,
-      omega arith,
-      record {
-        behind = omega arith;
-        within = omega arith;
-        bad = bad.1;
-        before = λ k low high.
-            below_more (λ j. first ≤ j → L j) (first + 1)
-            (λ j h g. let e : first ≡ j = omega arith in subst L e (v, good)) (λ _. (w, next)) k (omega arith) low;
-      },
-    )
-
 -- each byte of a row that was read is a letter
-letters_of_row : (text : List ℕ) (first : ℕ) (row : Parts PatternValue) → SpellsRow text first row → (k : ℕ) → first ≤ k → k < first + 3 → IsLetter (slice_index text k)
+letters_of_row : (text : List ℕ) (first : ℕ) (row : Parts PatternValue) → SpellsRow text first row →
+    (k : ℕ) → first ≤ k → k < first + 3 → IsLetter (slice_index text k)
 letters_of_row text first row h k low high =
     near (λ j. IsLetter (slice_index text j)) first k low high (row.interior, h.interior) (row.boundary, h.boundary) (row.exterior, h.exterior)
 
 by_below : {P : Type 0} (j k : ℕ) → (j < k → P) → (k ≤ j → P) → P
 by_below j k below above = by_lt_z (pos j) (pos k) (λ h. below (omega (arith, ints))) (λ h. above (omega (arith, ints)))
 
--- behind a row that was read the first bad byte is the first of all
-pub behind_row : (text : List ℕ) (first place : ℕ) (row : Parts PatternValue) → SpellsRow text first row → IsFirstBadFrom text (first + 3) place → IsFirstBadFrom text first place
-behind_row text first place row h bad = record {
-  behind = omega (arith, bad.behind);
-  within = bad.within;
-  bad = bad.bad;
-  before = λ k low high. by_below k (first + 3) (λ l. letters_of_row text first row h k low l) (λ g. bad.before k g high);
+-- behind bytes that are letters the first bad byte is that of the whole piece
+behind_letters : (text : List ℕ) (first middle end stop : ℕ) (fault : MaskFault) → first ≤ middle → end ≤ stop →
+    ((k : ℕ) → first ≤ k → k < middle → IsLetter (slice_index text k)) → TellsBad text middle end fault → TellsBad text first stop fault
+behind_letters text first middle end stop fault low high letters bad = record {
+  place = bad.place;
+  told = bad.told;
+  before_end = omega arith;
+  first_bad = record {
+    behind = omega (arith, bad.first_bad.behind);
+    within = bad.first_bad.within;
+    bad = bad.first_bad.bad;
+    before = λ k from below. by_below k middle (letters k from) (λ reached. bad.first_bad.before k reached below);
+  };
 }
+
+-- the first bad byte of a piece is that of a longer one
+pub sooner : (text : List ℕ) (first end stop : ℕ) (fault : MaskFault) → end ≤ stop → TellsBad text first end fault → TellsBad text first stop fault
+sooner text first end stop fault high bad =
+    behind_letters text first first end stop fault (omega arith) high (λ k from below. absurd (omega arith)) bad
+
+-- a bad byte at the beginning of a row is the row's
+pub bad_first : (text : List ℕ) (first : ℕ) (fault : MaskFault) → TellsBad text first (first + 1) fault → TellsBad text first (first + 3) fault
+bad_first text first fault bad = sooner text first (first + 1) (first + 3) fault (omega arith) bad
+
+-- and so is one behind one letter or two
+pub bad_second : (text : List ℕ) (first : ℕ) (v : PatternValue) (fault : MaskFault) → IsLetterOf v (slice_index text first) →
+    TellsBad text (first + 1) (first + 1 + 1) fault → TellsBad text first (first + 3) fault
+bad_second text first v fault good bad =
+    let L : ℕ → Type 0 = λ k. IsLetter (slice_index text k) in
+    behind_letters text first (first + 1) (first + 1 + 1) (first + 3) fault (omega arith) (omega arith)
+    (λ k from below. let e : first ≡ k = omega arith in subst L e (v, good)) bad
+
+pub bad_third : (text : List ℕ) (first : ℕ) (v w : PatternValue) (fault : MaskFault) →
+    IsLetterOf v (slice_index text first) → IsLetterOf w (slice_index text (first + 1)) →
+    TellsBad text (first + 2) (first + 2 + 1) fault → TellsBad text first (first + 3) fault
+bad_third text first v w fault good next bad =
+    let L : ℕ → Type 0 = λ k. IsLetter (slice_index text k) in
+    behind_letters text first (first + 2) (first + 2 + 1) (first + 3) fault (omega arith) (omega arith)
+    (λ k from below. below_more (λ j. first ≤ j → L j) (first + 1)
+    (λ j h g. let e : first ≡ j = omega arith in subst L e (v, good)) (λ _. (w, next)) k (omega arith) from) bad
+
+-- behind a row that was read the first bad byte is that of the longer piece
+pub behind_row : (text : List ℕ) (first end stop : ℕ) (row : Parts PatternValue) (fault : MaskFault) → end ≤ stop →
+    SpellsRow text first row → TellsBad text (first + 3) end fault → TellsBad text first stop fault
+behind_row text first end stop row fault high h bad =
+    behind_letters text first (first + 3) end stop fault (omega arith) high (letters_of_row text first row h) bad
 
 -- what reading a text as a mask gives
 abbrev pub Reads : List ℕ → Result Mask MaskFault → Type 0
@@ -202,5 +211,5 @@ capitals (v ∷ vs) = cc (capital v, capitals vs)
 pub exact_text : (text : List ℕ) (r : Result Mask MaskFault) → Reads text r → (m : Mask) → text ≡ text_of m → r ≡ Ok m
 exact_text text r h m e = (exact_ok text r h m).1 (ap str_to_ascii_uppercase e ∙ capitals (values m))
 
-pub reads_fault : (text : List ℕ) (fault : MaskFault) → length text ≡ 9 → (place : ℕ) × (fault ≡ Letter place) × IsFirstBad text place → Reads text (Err fault)
-reads_fault text fault n (place, e, bad) = subst (λ (f : MaskFault). Reads text (Err f)) (sym e) (n, bad)
+pub reads_fault : (text : List ℕ) (fault : MaskFault) → length text ≡ 9 → TellsBad text 0 9 fault → Reads text (Err fault)
+reads_fault text fault n bad = subst (λ (f : MaskFault). Reads text (Err f)) (sym bad.told) (n, bad.first_bad)

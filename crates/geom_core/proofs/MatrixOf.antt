@@ -1,6 +1,5 @@
--- Each two shapes have a matrix, so it is a function of them, and so is whether a relation holds.
-use Rattle.std.proofs.Common.{◌≡◌, ◌↔◌, ◌⊎◌, ◌==◌, ◌&&◌, ◌||◌, Bool, true, false, not, Decides, List, [], ◌∷◌, refl, ap, arith, inl, inr}
-use Rattle.std.proofs.lemmas.Bool.Decides.{Decides-and, Decides-or, Decides-not, Decides-like, Decides-eqb}
+-- Each two shapes have a matrix, so a relation says the same of their matrix and of the two sets.
+use Rattle.std.proofs.Common.{◌≡◌, ◌↔◌, Bool, true, arith, inl, inr}
 use Rattle.std.specs.Prelude.{ℤ, ◌<ℤ◌}
 use Rattle.std.proofs.lemmas.Int.{ints, by_lt_z}
 use Rattle.geom_core.specs.declared.span.Span.{Span}
@@ -9,22 +8,15 @@ use Rattle.geom_core.specs.declared.matrix.Matrix.{Matrix}
 use Rattle.geom_core.specs.declared.meeting.Meeting.{Meeting}
 use Rattle.geom_core.specs.declared.meeting.Meeting.TheVariants.{Disjoint, Meet, Overlap, Inside, CoveredBy, Contains, Covers, Equal, PointDisjoint, PointAtEnd, PointInside, DisjointPoint, EndAtPoint, ContainsPoint, PointsDisjoint, PointsEqual}
 use Rattle.geom_core.specs.declared.relation.Relation.TheVariants as relations
-use Rattle.geom_core.specs.Cells.{IsIn, Meets}
 use Rattle.geom_core.specs.Meetings.{IsMeeting}
 use Rattle.geom_core.specs.Axes.{axis_of, entries_of}
-use Rattle.geom_core.specs.declared.extent.Extent.{Extent}
-use Rattle.geom_core.specs.declared.extent.Extent.TheVariants.{Empty}
-use Rattle.geom_core.specs.declared.part.Parts.{Parts}
-use Rattle.geom_core.specs.declared.pattern_value.PatternValue.{PatternValue}
-use Rattle.geom_core.specs.declared.pattern_value.PatternValue.TheVariants.{Any, NotEmpty, Exactly}
-use Rattle.geom_core.specs.declared.mask.Mask.{Mask}
 use Rattle.geom_core.specs.declared.relation.Relation.{Relation}
-use Rattle.geom_core.specs.Matrices.{IsMatrix, letter_of}
+use Rattle.geom_core.specs.declared.mask.Mask.{Mask}
+use Rattle.geom_core.specs.Matrices.{IsMatrix}
+use Rattle.geom_core.specs.Masks.{Fits}
 use Rattle.geom_core.specs.Shapes.{dim_of}
-use Rattle.geom_core.specs.Masks.{Allows, Fits, FitsRow}
-use Rattle.geom_core.specs.Relations.{FitsOne, Holds, InteriorsMeet, masks}
-use Rattle.geom_core.proofs.MaskLemmas.{same_value}
-use Rattle.geom_core.proofs.OneMatrix.{one_matrix}
+use Rattle.geom_core.specs.Relations.{FitsOne, Holds, masks}
+use Rattle.geom_core.specs.Sets.{HoldsOfSets}
 use Rattle.geom_core.proofs.PartLemmas.{rows_hold}
 use Rattle.geom_core.proofs.SetLaws.{fits_where_holds, disjoint_law, intersects_law, touches_law, within_law, contains_law, equals_law}
 
@@ -108,9 +100,6 @@ pub matrix_of_is : (a b : Shape) → IsMatrix a b (matrix_of a b)
 unfolding matrix_of
 matrix_of_is a b = (some_matrix a b).1
 
-pub matrix_of_alone : (a b : Shape) (m : Matrix) → IsMatrix a b m → m ≡ matrix_of a b
-matrix_of_alone a b m h = one_matrix a b m (matrix_of a b) h (matrix_of_is a b)
-
 -- what the matrix says of a relation, the relation says
 holds_by : (r : Relation) (a b : Shape) (P : Type 0) → ((m : Matrix) → IsMatrix a b m → FitsOne (masks r (dim_of a) (dim_of b)) m ↔ P) → Holds r a b ↔ P
 holds_by r a b P law = (
@@ -118,78 +107,39 @@ holds_by r a b P law = (
   λ p. let is = matrix_of_is a b in record { matrix = matrix_of a b; is = is; fits = (law (matrix_of a b) is).1 p },
 )
 
-pub disjoint_holds : (a b : Shape) → Holds relations.Disjoint a b ↔ ¬ (Meets a b)
-disjoint_holds a b = holds_by relations.Disjoint a b _ (disjoint_law a b)
+-- what a relation says of the two sets holds exactly where one of its masks fits
+pub sets_law : (r : Relation) (a b : Shape) → Holds r a b ↔ HoldsOfSets r a b
+sets_law (relations.Mask m) a b = (λ h. h, λ h. h)
+sets_law relations.Disjoint a b = holds_by relations.Disjoint a b _ (disjoint_law a b)
+sets_law relations.Intersects a b = holds_by relations.Intersects a b _ (intersects_law a b)
+sets_law relations.Touches a b = holds_by relations.Touches a b _ (touches_law a b)
+sets_law relations.Crosses a b = (λ h. h, λ h. h)
+sets_law relations.Within a b = holds_by relations.Within a b _ (within_law a b)
+sets_law relations.Contains a b = holds_by relations.Contains a b _ (contains_law a b)
+sets_law relations.Overlaps a b = (λ h. h, λ h. h)
+sets_law relations.Equals a b = holds_by relations.Equals a b _ (equals_law a b)
 
-pub intersects_holds : (a b : Shape) → Holds relations.Intersects a b ↔ Meets a b
-intersects_holds a b = holds_by relations.Intersects a b _ (intersects_law a b)
+-- what a test says of a relation of two shapes
+pub record Tells (r : Relation) (a b : Shape) (answer : Bool) : Type 0 where
+  pub masks : (answer ≡ true) ↔ Holds r a b
+  pub sets : (answer ≡ true) ↔ HoldsOfSets r a b
 
-pub touches_holds : (a b : Shape) → Holds relations.Touches a b ↔ (Meets a b × ¬ (InteriorsMeet a b))
-touches_holds a b = holds_by relations.Touches a b _ (touches_law a b)
+-- a test of the two sets
+pub by_sets : (r : Relation) (a b : Shape) (answer : Bool) → (answer ≡ true) ↔ HoldsOfSets r a b → Tells r a b answer
+by_sets r a b answer test = let law = sets_law r a b in record { masks = (λ e. law.1 (test.0 e), λ h. test.1 (law.0 h)); sets = test }
 
-pub within_holds : (a b : Shape) → Holds relations.Within a b ↔ (IsIn a b × InteriorsMeet a b)
-within_holds a b = holds_by relations.Within a b _ (within_law a b)
-
-pub contains_holds : (a b : Shape) → Holds relations.Contains a b ↔ (IsIn b a × InteriorsMeet a b)
-contains_holds a b = holds_by relations.Contains a b _ (contains_law a b)
-
-pub equals_holds : (a b : Shape) → Holds relations.Equals a b ↔ (IsIn a b × IsIn b a)
-equals_holds a b = holds_by relations.Equals a b _ (equals_law a b)
-
--- a test of a fact
-pub record Test (P : Type 0) : Type 0 where
-  pub answer : Bool
-  pub decides : Decides answer P
-
-both : (P Q : Type 0) → Test P → Test Q → Test (P × Q)
-both P Q p q = record { answer = p.answer && q.answer; decides = Decides-and p.answer q.answer p.decides q.decides }
-
-either : (P Q : Type 0) → Test P → Test Q → Test (P ⊎ Q)
-either P Q p q = record { answer = p.answer || q.answer; decides = Decides-or p.answer q.answer p.decides q.decides }
-
-like : (P Q : Type 0) → (P → Q) → (Q → P) → Test P → Test Q
-like P Q to from p = record { answer = p.answer; decides = Decides-like p.answer to from p.decides }
-
-test_same : (wanted extent : Extent) → Test (extent ≡ wanted)
-test_same wanted extent =
-    let letters = Decides-eqb (letter_of extent) (letter_of wanted) in
-    record {
-      answer = letter_of extent == letter_of wanted;
-      decides = (
-        λ e. let s : Exactly extent ≡ Exactly wanted = same_value (Exactly extent) (Exactly wanted) (letters.0 e) in cc,
-        λ s. letters.1 (ap letter_of s),
-      );
+-- a test of their matrix
+pub by_matrix : (r : Relation) (a b : Shape) (m : Matrix) (answer : Bool) → IsMatrix a b m →
+    (answer ≡ true) ↔ FitsOne (masks r (dim_of a) (dim_of b)) m → Tells r a b answer
+by_matrix r a b m answer is test =
+    let fits = fits_where_holds r a b m is in
+    let law = sets_law r a b in record {
+      masks = (λ e. fits.0 (test.0 e), λ h. test.1 (fits.1 h));
+      sets = (λ e. law.0 (fits.0 (test.0 e)), λ s. test.1 (fits.1 (law.1 s)));
     }
 
-test_value : (value : PatternValue) (extent : Extent) → Test (Allows value extent)
-test_value Any extent = record { answer = true; decides = (λ _. tt, λ _. refl) }
-test_value NotEmpty extent =
-    let t = test_same Empty extent in record { answer = not t.answer; decides = Decides-not t.answer t.decides }
-test_value (Exactly wanted) extent = test_same wanted extent
-
-test_row : (row : Parts PatternValue) (entries : Parts Extent) → Test (FitsRow row entries)
-test_row row entries =
-    like _ _ (λ (i, (b, e)). record { interior = i; boundary = b; exterior = e }) (λ r. (r.interior, (r.boundary, r.exterior)))
-    (both _ _ (test_value row.interior entries.interior) (both _ _ (test_value row.boundary entries.boundary) (test_value row.exterior entries.exterior)))
-
-test_mask : (mask : Mask) (matrix : Matrix) → Test (Fits mask matrix)
-test_mask mask matrix =
-    like _ _ (λ (i, (b, e)). record { interior = i; boundary = b; exterior = e }) (λ r. (r.interior, (r.boundary, r.exterior)))
-    (both _ _ (test_row mask.rows.interior matrix.rows.interior) (both _ _ (test_row mask.rows.boundary matrix.rows.boundary) (test_row mask.rows.exterior matrix.rows.exterior)))
-
-test_one : (ms : List Mask) (matrix : Matrix) → Test (FitsOne ms matrix)
-test_one [] matrix = record { answer = false; decides = (λ e. absurd cc, λ x. absurd x) }
-test_one (m ∷ ms) matrix = either _ _ (test_mask m matrix) (test_one ms matrix)
-
--- whether a relation holds for two shapes
-pub test_relation : (r : Relation) (a b : Shape) → Test (Holds r a b)
-test_relation r a b =
-    let law = fits_where_holds r a b (matrix_of a b) (matrix_of_is a b) in
-    like _ _ law.0 law.1 (test_one (masks r (dim_of a) (dim_of b)) (matrix_of a b))
-
-pub holds_of : Relation → Shape → Shape → Bool
-holds_of r a b = (test_relation r a b).answer
-
-pub holds_of-decides : (r : Relation) (a b : Shape) → Decides (holds_of r a b) (Holds r a b)
-unfolding holds_of
-holds_of-decides r a b = (test_relation r a b).decides
+-- a test of one mask
+pub by_mask : (mask : Mask) (a b : Shape) (m : Matrix) (answer : Bool) → IsMatrix a b m →
+    (answer ≡ true) ↔ Fits mask m → Tells (relations.Mask mask) a b answer
+by_mask mask a b m answer is test =
+    by_matrix (relations.Mask mask) a b m answer is (λ e. inl (test.0 e), λ f. elim f [ inl k ↦ test.1 k | inr x ↦ absurd x ])

@@ -349,7 +349,10 @@ point_at_end_right a b p q r = record {
 point_inside : (a b : Span) → b.lo <ℤ a.lo → a.lo ≡ a.hi → a.hi <ℤ b.hi → IsTable a b PointInside
 point_inside a b p q r = record {
   interior = record {
-    interior = ((line a.lo, inr (omega (arith, ints), omega (arith, ints)), inl (omega (arith, ints), omega (arith, ints))), λ u s t. point_is_line a u (omega (arith, ints)) s);
+    interior = (
+      (line a.lo, inr (omega (arith, ints), omega (arith, ints)), inl (omega (arith, ints), omega (arith, ints))),
+      λ u s t. point_is_line a u (omega (arith, ints)) s,
+    );
     boundary = λ u s t. grind (arith, ints);
     exterior = λ u s t. grind (arith, ints);
   };
@@ -444,7 +447,10 @@ end_at_point_right a b p q r = record {
 contains_point : (a b : Span) → a.lo <ℤ b.lo → b.lo ≡ b.hi → b.hi <ℤ a.hi → IsTable a b ContainsPoint
 contains_point a b p q r = record {
   interior = record {
-    interior = ((line b.lo, inl (omega (arith, ints), omega (arith, ints)), inr (omega (arith, ints), omega (arith, ints))), λ u s t. point_is_line b u (omega (arith, ints)) t);
+    interior = (
+      (line b.lo, inl (omega (arith, ints), omega (arith, ints)), inr (omega (arith, ints), omega (arith, ints))),
+      λ u s t. point_is_line b u (omega (arith, ints)) t,
+    );
     boundary = λ u s t. grind (arith, ints);
     exterior = (line a.lo +ℤ pos 1, inl (omega (arith, ints), omega (arith, ints)), inl (omega (arith, ints)), gap_right a.lo);
   };
@@ -501,7 +507,10 @@ points_disjoint_right a b p q r = record {
 points_equal : (a b : Span) → a.lo ≡ a.hi → a.hi ≡ b.lo → b.lo ≡ b.hi → IsTable a b PointsEqual
 points_equal a b p q r = record {
   interior = record {
-    interior = ((line a.lo, inr (omega (arith, ints), omega (arith, ints)), inr (omega (arith, ints), omega (arith, ints))), λ u s t. point_is_line a u (omega (arith, ints)) s);
+    interior = (
+      (line a.lo, inr (omega (arith, ints), omega (arith, ints)), inr (omega (arith, ints), omega (arith, ints))),
+      λ u s t. point_is_line a u (omega (arith, ints)) s,
+    );
     boundary = λ u s t. grind (arith, ints);
     exterior = λ u s t. grind (arith, ints);
   };

@@ -143,7 +143,8 @@ greatest P Q R d to from h =
     }
 
 -- the extent of two sets is that of the cells in both
-extent_from_fills : (P Q R : ℤ → ℤ → Type 0) (e : Extent) → ((u v : ℤ) → P u v → Q u v → R u v) → ((u v : ℤ) → R u v → P u v × Q u v) → Fills R e → IsExtent P Q e
+extent_from_fills : (P Q R : ℤ → ℤ → Type 0) (e : Extent) →
+    ((u v : ℤ) → P u v → Q u v → R u v) → ((u v : ℤ) → R u v → P u v × Q u v) → Fills R e → IsExtent P Q e
 extent_from_fills P Q R extents.Empty to from h = λ u v p q. h u v (to u v p q)
 extent_from_fills P Q R extents.Point to from h = greatest P Q R 0 to from h
 extent_from_fills P Q R extents.Line to from h = greatest P Q R 1 to from h

@@ -18,8 +18,8 @@ use Rattle.geom_core.specs.Joined.{same_corners, same_ends}
 use Rattle.geom_core.specs.Shapes.{dim_of, span_dim}
 use Rattle.geom_core.specs.Matrices.{IsInterior, IsBoundary, IsExterior, IsExtent, IsMatrix}
 use Rattle.geom_core.specs.Masks.{FitsRow, row}
-use Rattle.geom_core.specs.Relations.{mask, masks, FitsOne, ForbidsDisjoint, Holds, InteriorsMeet}
-use Rattle.geom_core.proofs.SpanLemmas.{common_line}
+use Rattle.geom_core.specs.Relations.{mask, masks, FitsOne, Holds}
+use Rattle.geom_core.specs.Sets.{InteriorsMeet, AreTouching, LiesWithin, AreSameSet}
 use Rattle.geom_core.proofs.OneMatrix.{Share, one_matrix, shared, none_shared, empty, not_empty}
 
 -- a place of a closed interval is inner or not
@@ -179,13 +179,29 @@ intersects_law a b m h =
         ]
       ],
       λ meets. meet_somewhere a b _ meets
-          (λ u v p q. inl (record { interior = record { interior = r.ii.1 (u, v, p, q); boundary = tt; exterior = tt }; boundary = nothing_asked _; exterior = nothing_asked _ }))
-          (λ u v p q. inr (inl (record { interior = record { interior = tt; boundary = r.ib.1 (u, v, p, q); exterior = tt }; boundary = nothing_asked _; exterior = nothing_asked _ })))
-          (λ u v p q. inr (inr (inl (record { interior = nothing_asked _; boundary = record { interior = r.bi.1 (u, v, p, q); boundary = tt; exterior = tt }; exterior = nothing_asked _ }))))
-          (λ u v p q. inr (inr (inr (inl (record { interior = nothing_asked _; boundary = record { interior = tt; boundary = r.bb.1 (u, v, p, q); exterior = tt }; exterior = nothing_asked _ }))))),
+          (λ u v p q. inl (record {
+            interior = record { interior = r.ii.1 (u, v, p, q); boundary = tt; exterior = tt };
+            boundary = nothing_asked _;
+            exterior = nothing_asked _;
+          }))
+          (λ u v p q. inr (inl (record {
+            interior = record { interior = tt; boundary = r.ib.1 (u, v, p, q); exterior = tt };
+            boundary = nothing_asked _;
+            exterior = nothing_asked _;
+          })))
+          (λ u v p q. inr (inr (inl (record {
+            interior = nothing_asked _;
+            boundary = record { interior = r.bi.1 (u, v, p, q); boundary = tt; exterior = tt };
+            exterior = nothing_asked _;
+          }))))
+          (λ u v p q. inr (inr (inr (inl (record {
+            interior = nothing_asked _;
+            boundary = record { interior = tt; boundary = r.bb.1 (u, v, p, q); exterior = tt };
+            exterior = nothing_asked _;
+          }))))),
     )
 
-pub within_law : (a b : Shape) (m : Matrix) → IsMatrix a b m → FitsOne (masks relations.Within (dim_of a) (dim_of b)) m ↔ (IsIn a b × InteriorsMeet a b)
+pub within_law : (a b : Shape) (m : Matrix) → IsMatrix a b m → FitsOne (masks relations.Within (dim_of a) (dim_of b)) m ↔ LiesWithin a b
 within_law a b m h =
     let r = read a b m h in (
       λ f. elim f [ inl k ↦ (r.first_in.0 (k.interior.exterior, k.boundary.exterior), r.ii.0 k.interior.interior) | inr x ↦ absurd x ],
@@ -197,13 +213,19 @@ within_law a b m h =
           }),
     )
 
-pub contains_law : (a b : Shape) (m : Matrix) → IsMatrix a b m → FitsOne (masks relations.Contains (dim_of a) (dim_of b)) m ↔ (IsIn b a × InteriorsMeet a b)
+inner_swapped : (a b : Shape) → InteriorsMeet a b → InteriorsMeet b a
+inner_swapped a b (u, v, i, j) = (u, v, j, i)
+
+pub contains_law : (a b : Shape) (m : Matrix) → IsMatrix a b m → FitsOne (masks relations.Contains (dim_of a) (dim_of b)) m ↔ LiesWithin b a
 contains_law a b m h =
     let r = read a b m h in (
-      λ f. elim f [ inl k ↦ (r.second_in.0 (k.exterior.interior, k.exterior.boundary), r.ii.0 k.interior.interior) | inr x ↦ absurd x ],
+      λ f. elim f [
+        | inl k ↦ (r.second_in.0 (k.exterior.interior, k.exterior.boundary), inner_swapped a b (r.ii.0 k.interior.interior))
+        | inr x ↦ absurd x
+      ],
       λ w. let i = r.second_in.1 w.0 in
           inl (record {
-            interior = record { interior = r.ii.1 w.1; boundary = tt; exterior = tt };
+            interior = record { interior = r.ii.1 (inner_swapped b a w.1); boundary = tt; exterior = tt };
             boundary = nothing_asked _;
             exterior = record { interior = i.0; boundary = i.1; exterior = tt };
           }),
@@ -254,10 +276,14 @@ apart_inner a b u h k =
 -- shapes with the same cells are one
 pub same_cells : (a b : Shape) → IsIn a b → IsIn b a → a ≡ b
 same_cells a b h k =
-    let low : Covers b (line a.x.lo) (line a.y.lo) = h (line a.x.lo) (line a.y.lo) ((omega (arith, ints), omega (arith, ints)), (omega (arith, ints), omega (arith, ints))) in
-    let high : Covers b (line a.x.hi) (line a.y.hi) = h (line a.x.hi) (line a.y.hi) ((omega (arith, ints), omega (arith, ints)), (omega (arith, ints), omega (arith, ints))) in
-    let low' : Covers a (line b.x.lo) (line b.y.lo) = k (line b.x.lo) (line b.y.lo) ((omega (arith, ints), omega (arith, ints)), (omega (arith, ints), omega (arith, ints))) in
-    let high' : Covers a (line b.x.hi) (line b.y.hi) = k (line b.x.hi) (line b.y.hi) ((omega (arith, ints), omega (arith, ints)), (omega (arith, ints), omega (arith, ints))) in
+    let low : Covers b (line a.x.lo) (line a.y.lo) =
+    h (line a.x.lo) (line a.y.lo) ((omega (arith, ints), omega (arith, ints)), (omega (arith, ints), omega (arith, ints))) in
+    let high : Covers b (line a.x.hi) (line a.y.hi) =
+    h (line a.x.hi) (line a.y.hi) ((omega (arith, ints), omega (arith, ints)), (omega (arith, ints), omega (arith, ints))) in
+    let low' : Covers a (line b.x.lo) (line b.y.lo) =
+    k (line b.x.lo) (line b.y.lo) ((omega (arith, ints), omega (arith, ints)), (omega (arith, ints), omega (arith, ints))) in
+    let high' : Covers a (line b.x.hi) (line b.y.hi) =
+    k (line b.x.hi) (line b.y.hi) ((omega (arith, ints), omega (arith, ints)), (omega (arith, ints), omega (arith, ints))) in
     same_corners a b (omega (arith, ints)) (omega (arith, ints)) (omega (arith, ints)) (omega (arith, ints))
 
 -- the interiors of shapes with the same cells meet
@@ -268,7 +294,7 @@ inner_of_same a b h k =
     let I : Shape → Type 0 = λ s. IsInterior s x.0 y.0 in
     (x.0, y.0, (x.1, y.1), subst I (same_cells a b h k) (x.1, y.1))
 
-pub equals_law : (a b : Shape) (m : Matrix) → IsMatrix a b m → FitsOne (masks relations.Equals (dim_of a) (dim_of b)) m ↔ (IsIn a b × IsIn b a)
+pub equals_law : (a b : Shape) (m : Matrix) → IsMatrix a b m → FitsOne (masks relations.Equals (dim_of a) (dim_of b)) m ↔ AreSameSet a b
 equals_law a b m h =
     let r = read a b m h in (
       λ f. elim f [
@@ -314,7 +340,7 @@ touches_masks =
     ∷ []
 
 -- one of the masks of touches fits where the shapes meet and their interiors don't
-touches_fits : (a b : Shape) (m : Matrix) → IsMatrix a b m → FitsOne touches_masks m ↔ (Meets a b × ¬ (InteriorsMeet a b))
+touches_fits : (a b : Shape) (m : Matrix) → IsMatrix a b m → FitsOne touches_masks m ↔ AreTouching a b
 unfolding touches_masks
 touches_fits a b m h =
     let r = read a b m h in (
@@ -331,16 +357,28 @@ touches_fits a b m h =
       λ w. let ii = r.no_ii.1 w.1 in
           meet_somewhere a b _ w.0
           (λ u v p q. absurd (w.1 (u, v, p, q)))
-          (λ u v p q. inl (record { interior = record { interior = ii; boundary = r.ib.1 (u, v, p, q); exterior = tt }; boundary = nothing_asked _; exterior = nothing_asked _ }))
-          (λ u v p q. inr (inl (record { interior = record { interior = ii; boundary = tt; exterior = tt }; boundary = record { interior = r.bi.1 (u, v, p, q); boundary = tt; exterior = tt }; exterior = nothing_asked _ })))
-          (λ u v p q. inr (inr (inl (record { interior = record { interior = ii; boundary = tt; exterior = tt }; boundary = record { interior = tt; boundary = r.bb.1 (u, v, p, q); exterior = tt }; exterior = nothing_asked _ })))),
+          (λ u v p q. inl (record {
+            interior = record { interior = ii; boundary = r.ib.1 (u, v, p, q); exterior = tt };
+            boundary = nothing_asked _;
+            exterior = nothing_asked _;
+          }))
+          (λ u v p q. inr (inl (record {
+            interior = record { interior = ii; boundary = tt; exterior = tt };
+            boundary = record { interior = r.bi.1 (u, v, p, q); boundary = tt; exterior = tt };
+            exterior = nothing_asked _;
+          })))
+          (λ u v p q. inr (inr (inl (record {
+            interior = record { interior = ii; boundary = tt; exterior = tt };
+            boundary = record { interior = tt; boundary = r.bb.1 (u, v, p, q); exterior = tt };
+            exterior = nothing_asked _;
+          })))),
     )
 
 not_points : (a b : Shape) → Meets a b → ¬ (InteriorsMeet a b) → (t : Bool) → ((dim_of a == 0) && (dim_of b == 0)) ≡ t → t ≡ false
 not_points a b meets apart true e = absurd (apart (points_meet_inside a b e meets))
 not_points a b meets apart false e = refl
 
-pub touches_law : (a b : Shape) (m : Matrix) → IsMatrix a b m → FitsOne (masks relations.Touches (dim_of a) (dim_of b)) m ↔ (Meets a b × ¬ (InteriorsMeet a b))
+pub touches_law : (a b : Shape) (m : Matrix) → IsMatrix a b m → FitsOne (masks relations.Touches (dim_of a) (dim_of b)) m ↔ AreTouching a b
 unfolding touches_masks
 touches_law a b m h =
     let points = (dim_of a == 0) && (dim_of b == 0) in
@@ -349,25 +387,3 @@ touches_law a b m h =
       λ f. law.0 (test.0 f).1,
       λ w. test.1 (not_points a b w.0 w.1 points refl, law.1 w),
     )
-
-pub inner_swapped : (a b : Shape) → InteriorsMeet a b → InteriorsMeet b a
-inner_swapped a b (u, v, i, j) = (u, v, j, i)
-
-spans_meet_or_not : (a b : Span) → ((u : ℤ) × IsWithin a u × IsWithin b u) ⊎ ¬ ((u : ℤ) × IsWithin a u × IsWithin b u)
-spans_meet_or_not a b =
-    by_lt_z a.hi b.lo
-    (λ before. inr (λ (u, p, q). omega (arith, ints)))
-    (λ h. by_lt_z b.hi a.lo (λ behind. inr (λ (u, p, q). omega (arith, ints))) (λ k. inl (common_line a b k h)))
-
-pub meets_or_not : (a b : Shape) → Meets a b ⊎ ¬ (Meets a b)
-meets_or_not a b = elim (spans_meet_or_not a.x b.x) [
-  | inr n ↦ inr (λ (u, v, p, q). n (u, p.0, q.0))
-  | inl (u, p, q) ↦ elim (spans_meet_or_not a.y b.y) [
-    | inr n ↦ inr (λ (w, v, p, q). n (v, p.1, q.1))
-    | inl (v, r, t) ↦ inl (u, v, (p, r), (q, t))
-  ]
-]
-
--- shapes for which a relation holds that forbids disjoint shapes meet
-pub forbids_meets : (r : Relation) → ForbidsDisjoint r → (a b : Shape) → Holds r a b → Meets a b
-forbids_meets r f a b h = elim (meets_or_not a b) [ inl meets ↦ meets | inr n ↦ absurd (f a b n h) ]

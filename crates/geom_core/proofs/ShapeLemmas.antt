@@ -1,12 +1,12 @@
 -- The smallest shape that contains two, and the greatest area.
 use Rattle.std.proofs.Common.{arith}
 use Rattle.std.proofs.Math.Nat.{mul-le-mul}
-use Rattle.std.specs.Prelude.{ℕ, ◌≤◌, ◌*◌, ◌≤ℤ◌, nat_abs}
+use Rattle.std.specs.Prelude.{ℕ, ◌≤◌, ◌*◌, ◌≤ℤ◌}
 use Rattle.std.proofs.lemmas.Int.{ints}
-use Rattle.geom_core.specs.declared.span.TheConstants.{LIMIT}
 use Rattle.geom_core.specs.declared.shape.Shape.{Shape}
 use Rattle.geom_core.specs.Cells.{line, Covers, IsIn}
-use Rattle.geom_core.specs.Shapes.{cover_of, greatest_area}
+use Rattle.geom_core.specs.Limits.{greatest_coordinate, greatest_area}
+use Rattle.geom_core.specs.Shapes.{cover_of}
 use Rattle.geom_core.proofs.SpanLemmas.{within_joined_first, within_joined_second, within_joined_least}
 
 pub in_cover_first : (a b : Shape) → IsIn a (cover_of a b)
@@ -24,8 +24,10 @@ record Reaches (s a : Shape) : Type 0 where
 
 reaches : (a s : Shape) → IsIn a s → Reaches s a
 reaches a s h =
-    let low : Covers s (line a.x.lo) (line a.y.lo) = h (line a.x.lo) (line a.y.lo) ((omega (arith, ints), omega (arith, ints)), (omega (arith, ints), omega (arith, ints))) in
-    let high : Covers s (line a.x.hi) (line a.y.hi) = h (line a.x.hi) (line a.y.hi) ((omega (arith, ints), omega (arith, ints)), (omega (arith, ints), omega (arith, ints))) in
+    let low : Covers s (line a.x.lo) (line a.y.lo) =
+    h (line a.x.lo) (line a.y.lo) ((omega (arith, ints), omega (arith, ints)), (omega (arith, ints), omega (arith, ints))) in
+    let high : Covers s (line a.x.hi) (line a.y.hi) =
+    h (line a.x.hi) (line a.y.hi) ((omega (arith, ints), omega (arith, ints)), (omega (arith, ints), omega (arith, ints))) in
     record { from_x = omega (arith, ints); to_x = omega (arith, ints); from_y = omega (arith, ints); to_y = omega (arith, ints) }
 
 pub cover_least : (a b s : Shape) → IsIn a s → IsIn b s → IsIn (cover_of a b) s
@@ -36,5 +38,5 @@ cover_least a b s h k u v w =
       within_joined_least a.y b.y s.y v p.from_y q.from_y p.to_y q.to_y w.1,
     )
 
-pub area_bound : (m n : ℕ) → m ≤ 2 * nat_abs LIMIT → n ≤ 2 * nat_abs LIMIT → m * n ≤ greatest_area
+pub area_bound : (m n : ℕ) → m ≤ 2 * greatest_coordinate → n ≤ 2 * greatest_coordinate → m * n ≤ greatest_area
 area_bound m n h k = mul-le-mul h k

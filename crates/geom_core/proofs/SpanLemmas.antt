@@ -3,7 +3,7 @@ use Rattle.std.proofs.Common.{arith}
 use Rattle.std.specs.Prelude.{◌≤◌, ◌*◌, ◌-ℤ◌, nat_abs, ℤ, ◌≤ℤ◌}
 use Rattle.std.proofs.lemmas.Int.{ints, clamps, by_lt_z}
 use Rattle.geom_core.specs.declared.span.Span.{Span}
-use Rattle.geom_core.specs.declared.span.TheConstants.{LIMIT}
+use Rattle.geom_core.specs.Limits.{greatest_coordinate}
 use Rattle.geom_core.specs.Cells.{line, IsWithin}
 use Rattle.geom_core.specs.Shapes.{joined}
 
@@ -25,5 +25,5 @@ pub within_joined_least : (a b s : Span) (u : ℤ) → s.lo ≤ℤ a.lo → s.lo
 within_joined_least a b s u p q r t h = (omega (arith, ints, clamps), omega (arith, ints, clamps))
 
 -- no interval is longer than the whole range
-pub length_bound : (a : Span) → nat_abs (a.hi -ℤ a.lo) ≤ 2 * nat_abs LIMIT
+pub length_bound : (a : Span) → nat_abs (a.hi -ℤ a.lo) ≤ 2 * greatest_coordinate
 length_bound a = omega (arith, ints)

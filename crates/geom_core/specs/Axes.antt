@@ -1,5 +1,6 @@
--- What the private steps of `relate` compute: what the narrow and wide zones of two intervals share, and the
--- products of two axes. That this is the matrix of the two sets of cells is the contract of `relate`.
+-- What the private steps of `relate` compute: what the narrow and wide zones of two intervals
+-- share, and the products of two axes. That this is the matrix of the two sets of cells is the
+-- contract of `relate`.
 use Rattle.geom_core.specs.declared.part.Parts.{Parts}
 use Rattle.geom_core.specs.declared.extent.Extent.{Extent}
 use Rattle.geom_core.specs.declared.extent.Extent.TheVariants as extents
@@ -17,23 +18,43 @@ larger_of Point Nothing = Point
 larger_of Nothing b = b
 
 abbrev pub joined_row : Parts Shared → Parts Shared → Parts Shared
-joined_row a b = record { interior = larger_of a.interior b.interior; boundary = larger_of a.boundary b.boundary; exterior = larger_of a.exterior b.exterior }
+joined_row a b = record {
+  interior = larger_of a.interior b.interior;
+  boundary = larger_of a.boundary b.boundary;
+  exterior = larger_of a.exterior b.exterior;
+}
 
 abbrev pub widened : Parts Shared → Parts Shared
-widened r = record { interior = r.interior; boundary = larger_of r.interior r.boundary; exterior = larger_of (larger_of r.interior r.boundary) r.exterior }
+widened r = record {
+  interior = r.interior;
+  boundary = larger_of r.interior r.boundary;
+  exterior = larger_of (larger_of r.interior r.boundary) r.exterior;
+}
+
+-- what the narrow and the wide zone of the first share with those of a part of the second
+abbrev pub zone_pairs : Shared → Shared → Shared → Shared → ZonePairs
+zone_pairs nn nw wn ww = record {
+  narrow_narrow = nn;
+  narrow_wide = nw;
+  wide_narrow = wn;
+  wide_wide = ww;
+}
 
 abbrev pub pairs_of : Parts Shared → Parts Shared → Parts ZonePairs
 pairs_of n w = record {
-  interior = record { narrow_narrow = n.interior; narrow_wide = (widened n).interior; wide_narrow = w.interior; wide_wide = (widened w).interior };
-  boundary = record { narrow_narrow = n.boundary; narrow_wide = (widened n).boundary; wide_narrow = w.boundary; wide_wide = (widened w).boundary };
-  exterior = record { narrow_narrow = n.exterior; narrow_wide = (widened n).exterior; wide_narrow = w.exterior; wide_wide = (widened w).exterior };
+  interior = zone_pairs n.interior (widened n).interior w.interior (widened w).interior;
+  boundary = zone_pairs n.boundary (widened n).boundary w.boundary (widened w).boundary;
+  exterior = zone_pairs n.exterior (widened n).exterior w.exterior (widened w).exterior;
 }
 
 -- the wide zones: inner part, inner part and ends, the whole axis
 abbrev pub axis_of : Meeting → Parts (Parts ZonePairs)
 axis_of m =
-    let within = joined_row (interior_of m) (boundary_of m) in
-    record { interior = pairs_of (interior_of m) (interior_of m); boundary = pairs_of (boundary_of m) within; exterior = pairs_of (exterior_of m) (joined_row within (exterior_of m)) }
+    let within = joined_row (interior_of m) (boundary_of m) in record {
+      interior = pairs_of (interior_of m) (interior_of m);
+      boundary = pairs_of (boundary_of m) within;
+      exterior = pairs_of (exterior_of m) (joined_row within (exterior_of m));
+    }
 
 -- what two products of zones share
 abbrev pub product_of : Shared → Shared → Extent
@@ -60,8 +81,16 @@ larger_extent extents.Empty b = b
 -- a part is the narrow zone of one axis by the wide zone of the other, either way round
 abbrev pub entry_of : ZonePairs → ZonePairs → Extent
 entry_of x y = larger_extent
-    (larger_extent (product_of x.narrow_narrow y.wide_wide) (product_of x.narrow_wide y.wide_narrow))
-    (larger_extent (product_of x.wide_narrow y.narrow_wide) (product_of x.wide_wide y.narrow_narrow))
+    (larger_extent
+    (product_of x.narrow_narrow y.wide_wide)
+    (product_of x.narrow_wide y.wide_narrow))
+    (larger_extent
+    (product_of x.wide_narrow y.narrow_wide)
+    (product_of x.wide_wide y.narrow_narrow))
 
 abbrev pub entries_of : Parts ZonePairs → Parts ZonePairs → Parts Extent
-entries_of x y = record { interior = entry_of x.interior y.interior; boundary = entry_of x.boundary y.boundary; exterior = entry_of x.exterior y.exterior }
+entries_of x y = record {
+  interior = entry_of x.interior y.interior;
+  boundary = entry_of x.boundary y.boundary;
+  exterior = entry_of x.exterior y.exterior;
+}

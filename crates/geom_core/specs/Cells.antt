@@ -1,5 +1,6 @@
 -- The plane as cells, and the cells that a shape covers.
--- A cell is a pair of whole numbers (u, v). An even number is a grid line, an odd one the open gap between two lines.
+-- A cell is a pair of whole numbers (u, v). An even number is a grid line, an odd one the open gap
+-- between two lines.
 use Rattle.std.specs.Prelude.{◌≡◌, ℕ, ◌+◌, ◌%◌, ℤ, pos, negsuc, ◌+ℤ◌, ◌≤ℤ◌, ◌<ℤ◌, ◌⊎◌}
 use Rattle.geom_core.specs.declared.span.Span.{Span}
 use Rattle.geom_core.specs.declared.shape.Shape.{Shape}

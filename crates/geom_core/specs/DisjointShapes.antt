@@ -3,6 +3,8 @@ use Rattle.std.specs.Prelude.{ℕ, ◌==◌, if◌then◌else◌}
 use Rattle.geom_core.specs.declared.extent.Extent.{Extent}
 use Rattle.geom_core.specs.declared.extent.Extent.TheVariants.{Empty, Point, Line, Area}
 use Rattle.geom_core.specs.declared.matrix.Matrix.{Matrix}
+use Rattle.geom_core.specs.declared.relation.Relation.{Relation}
+use Rattle.geom_core.specs.Relations.{FitsOne, masks}
 
 -- what the interior of a shape of this dimension amounts to
 abbrev pub interior_extent : ℕ → Extent
@@ -17,6 +19,14 @@ disjoint_matrix da db = record {
   rows = record {
     interior = record { interior = Empty; boundary = Empty; exterior = interior_extent da };
     boundary = record { interior = Empty; boundary = Empty; exterior = boundary_extent da };
-    exterior = record { interior = interior_extent db; boundary = boundary_extent db; exterior = Area };
+    exterior = record {
+      interior = interior_extent db;
+      boundary = boundary_extent db;
+      exterior = Area;
+    };
   };
 }
+
+-- one of the masks of a relation fits the matrix of disjoint shapes of these dimensions
+abbrev pub FitsDisjoint : Relation → ℕ → ℕ → Type 0
+FitsDisjoint relation da db = FitsOne (masks relation da db) (disjoint_matrix da db)

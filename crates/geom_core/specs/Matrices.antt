@@ -1,4 +1,5 @@
--- The matrix of two shapes: for each two of their parts, the greatest dimension of the cells that lie in both.
+-- The matrix of two shapes: for each two of their parts, the greatest dimension of the cells that
+-- lie in both.
 use Rattle.std.specs.Prelude.{◌≡◌, ◌≤◌, ℕ, ℤ, List, [], ◌∷◌}
 use Rattle.geom_core.specs.declared.shape.Shape.{Shape}
 use Rattle.geom_core.specs.declared.part.Parts.{Parts}
@@ -49,8 +50,11 @@ letter_of Line = 49  -- 1
 letter_of Area = 50  -- 2
 
 abbrev pub row_letters : Parts Extent → List ℕ → List ℕ
-row_letters row rest = letter_of row.interior ∷ letter_of row.boundary ∷ letter_of row.exterior ∷ rest
+row_letters row rest =
+    letter_of row.interior ∷ letter_of row.boundary ∷ letter_of row.exterior ∷ rest
 
 -- the nine letters, row by row
 abbrev pub letters_of : Matrix → List ℕ
-letters_of m = row_letters m.rows.interior (row_letters m.rows.boundary (row_letters m.rows.exterior []))
+letters_of m =
+    row_letters m.rows.interior
+    (row_letters m.rows.boundary (row_letters m.rows.exterior []))

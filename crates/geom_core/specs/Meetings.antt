@@ -1,4 +1,5 @@
--- How two intervals of an axis lie to each other, and what their inner part, their ends and their outside then share.
+-- How two intervals of an axis lie to each other, and what their inner part, their ends and their
+-- outside then share.
 use Rattle.std.specs.Prelude.{◌≡◌, ◌<ℤ◌, ◌⊎◌}
 use Rattle.geom_core.specs.declared.span.Span.{Span}
 use Rattle.geom_core.specs.declared.part.Parts.{Parts}
@@ -46,10 +47,11 @@ IsMeeting PointsDisjoint a b =
     ⊎ ((b.lo ≡ b.hi) × (b.hi <ℤ a.lo) × (a.lo ≡ a.hi))
 IsMeeting PointsEqual a b = (a.lo ≡ a.hi) × (a.hi ≡ b.lo) × (b.lo ≡ b.hi)
 
+-- what is shared with the inner part, the ends and the outside of the second interval
 abbrev pub shares : Shared → Shared → Shared → Parts Shared
 shares i b e = record { interior = i; boundary = b; exterior = e }
 
--- what the inner part of the first interval shares with the inner part, the ends and the outside of the second
+-- what the inner part of the first interval shares
 abbrev pub interior_of : Meeting → Parts Shared
 interior_of Disjoint = shares Nothing Nothing Interval
 interior_of Meet = shares Nothing Nothing Interval
@@ -68,7 +70,7 @@ interior_of ContainsPoint = shares Point Nothing Interval
 interior_of PointsDisjoint = shares Nothing Nothing Point
 interior_of PointsEqual = shares Point Nothing Nothing
 
--- what the ends of the first interval shares with the inner part, the ends and the outside of the second
+-- what the ends of the first interval share
 abbrev pub boundary_of : Meeting → Parts Shared
 boundary_of Disjoint = shares Nothing Nothing Point
 boundary_of Meet = shares Nothing Point Point
@@ -87,7 +89,7 @@ boundary_of ContainsPoint = shares Nothing Nothing Point
 boundary_of PointsDisjoint = shares Nothing Nothing Nothing
 boundary_of PointsEqual = shares Nothing Nothing Nothing
 
--- what the outside of the first interval shares with the inner part, the ends and the outside of the second
+-- what the outside of the first interval shares
 abbrev pub exterior_of : Meeting → Parts Shared
 exterior_of Disjoint = shares Interval Point Interval
 exterior_of Meet = shares Interval Point Interval

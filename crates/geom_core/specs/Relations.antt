@@ -1,6 +1,7 @@
--- Relations of two shapes: their names, their masks, when they hold, and which forbid disjoint shapes.
-use Rattle.std.specs.Prelude.{◌≡◌, ⊤, ℕ, ℤ, ◌==◌, ◌&&◌, ◌⊎◌, nat_lt, if◌then◌else◌, List, [], ◌∷◌, codes}
-use Rattle.std.specs.Str.{str_to_ascii_lowercase, str_to_ascii_uppercase}
+-- Relations of two shapes: their names, their masks, when they hold, and which of them hold for
+-- disjoint shapes.
+use Rattle.std.specs.Prelude.{◌≡◌, ⊤, ℕ, ◌==◌, ◌&&◌, ◌⊎◌, nat_lt, if◌then◌else◌, List, [], ◌∷◌, codes}
+use Rattle.std.specs.Str.{str_to_ascii_lowercase}
 use Rattle.geom_core.specs.declared.extent.Extent.TheVariants.{Empty, Point, Line}
 use Rattle.geom_core.specs.declared.part.Parts.{Parts}
 use Rattle.geom_core.specs.declared.matrix.Matrix.{Matrix}
@@ -12,12 +13,12 @@ use Rattle.geom_core.specs.declared.relation.Relation.{Relation}
 use Rattle.geom_core.specs.declared.relation.Relation.TheVariants.{Mask, Disjoint, Intersects, Touches, Crosses, Within, Contains, Overlaps, Equals}
 use Rattle.geom_core.specs.Cells.{Meets}
 use Rattle.geom_core.specs.Shapes.{dim_of}
-use Rattle.geom_core.specs.Matrices.{IsInterior, IsMatrix}
-use Rattle.geom_core.specs.Masks.{Fits, row, text_of}
+use Rattle.geom_core.specs.Matrices.{IsMatrix}
+use Rattle.geom_core.specs.Masks.{Fits, SpellsMask, row}
 
 -- the text is the name of the relation, in any case, or spells its mask
 abbrev pub Spells : Relation → List ℕ → Type 0
-Spells (Mask mask) text = str_to_ascii_uppercase text ≡ text_of mask
+Spells (Mask mask) text = SpellsMask text mask
 Spells Disjoint text = str_to_ascii_lowercase text ≡ codes "disjoint"
 Spells Intersects text = str_to_ascii_lowercase text ≡ codes "intersects"
 Spells Touches text = str_to_ascii_lowercase text ≡ codes "touches"
@@ -26,6 +27,10 @@ Spells Within text = str_to_ascii_lowercase text ≡ codes "within"
 Spells Contains text = str_to_ascii_lowercase text ≡ codes "contains"
 Spells Overlaps text = str_to_ascii_lowercase text ≡ codes "overlaps"
 Spells Equals text = str_to_ascii_lowercase text ≡ codes "equals"
+
+-- the text is no name and spells no mask
+abbrev pub SpellsNothing : List ℕ → Type 0
+SpellsNothing text = (relation : Relation) → ¬ (Spells relation text)
 
 -- a relation that has a name
 abbrev pub IsNamed : Relation → Type 0
@@ -80,7 +85,10 @@ masks Crosses da db =
     if nat_lt da db then mask (row T any T) (row any any any) (row any any any) ∷ []
     else (
     if nat_lt db da then mask (row T any any) (row any any any) (row T any any) ∷ []
-    else (if da == 1 then mask (row zero_dim any any) (row any any any) (row any any any) ∷ [] else [])
+    else (
+    if da == 1 then mask (row zero_dim any any) (row any any any) (row any any any) ∷ []
+    else []
+    )
     )
 masks Within da db = mask (row T any F) (row any any F) (row any any any) ∷ []
 masks Contains da db = mask (row T any any) (row any any any) (row F F any) ∷ []
@@ -103,10 +111,10 @@ pub record Holds (relation : Relation) (a b : Shape) : Type 0 where
   pub is : IsMatrix a b matrix
   pub fits : FitsOne (masks relation (dim_of a) (dim_of b)) matrix
 
+-- it holds for some two shapes without a common cell
+abbrev pub HoldsForDisjoint : Relation → Type 0
+HoldsForDisjoint relation = (a : Shape) × (b : Shape) × ¬ (Meets a b) × Holds relation a b
+
 -- it holds for no two shapes without a common cell
 abbrev pub ForbidsDisjoint : Relation → Type 0
 ForbidsDisjoint relation = (a b : Shape) → ¬ (Meets a b) → ¬ (Holds relation a b)
-
--- some cell is in both interiors
-abbrev pub InteriorsMeet : Shape → Shape → Type 0
-InteriorsMeet a b = (u : ℤ) × (v : ℤ) × IsInterior a u v × IsInterior b u v

@@ -1,9 +1,9 @@
 -- The corners of a shape, and what follows from them alone.
-use Rattle.std.specs.Prelude.{◌≡◌, ℕ, ◌+◌, ◌*◌, ℤ, ◌-ℤ◌, ◌≤ℤ◌, neg_ℤ, nat_abs, int_lt, if◌then◌else◌}
+use Rattle.std.specs.Prelude.{◌≡◌, ℕ, ◌+◌, ◌*◌, ℤ, ◌-ℤ◌, ◌≤ℤ◌, nat_abs, int_lt, if◌then◌else◌}
 use Rattle.std.specs.Int.{int_min, int_max}
 use Rattle.geom_core.specs.declared.span.Span.{Span}
-use Rattle.geom_core.specs.declared.span.TheConstants.{LIMIT}
 use Rattle.geom_core.specs.declared.shape.Shape.{Shape}
+pub use Rattle.geom_core.specs.Limits.{greatest_coordinate, greatest_area, IsCoordinate}
 use Rattle.geom_core.specs.Joined.{joined_ordered, joined_above, joined_below}
 
 abbrev pub x1 : Shape → ℤ
@@ -17,10 +17,6 @@ x2 s = s.x.hi
 
 abbrev pub y2 : Shape → ℤ
 y2 s = s.y.hi
-
--- a coordinate within the limit
-abbrev pub IsCoordinate : ℤ → Type 0
-IsCoordinate c = (neg_ℤ LIMIT ≤ℤ c) × (c ≤ℤ LIMIT)
 
 -- ends of an interval: in range and in order
 pub record AreEnds (a b : ℤ) : Type 0 where
@@ -48,13 +44,15 @@ pub record HasCorners (a b c d : ℤ) (s : Shape) : Type 0 where
 abbrev pub area_of : Shape → ℕ
 area_of s = nat_abs (x2 s -ℤ x1 s) * nat_abs (y2 s -ℤ y1 s)
 
--- no area is greater
-abbrev pub greatest_area : ℕ
-greatest_area = (2 * nat_abs LIMIT) * (2 * nat_abs LIMIT)
-
 -- the interval from the lower of two beginnings to the higher of two ends
 abbrev pub joined : Span → Span → Span
-joined a b = record { lo = int_min a.lo b.lo; hi = int_max a.hi b.hi; ordered = joined_ordered a b; above = joined_above a b; below = joined_below a b }
+joined a b = record {
+  lo = int_min a.lo b.lo;
+  hi = int_max a.hi b.hi;
+  ordered = joined_ordered a b;
+  above = joined_above a b;
+  below = joined_below a b;
+}
 
 -- the shape from the least corner of two shapes to the greatest
 abbrev pub cover_of : Shape → Shape → Shape

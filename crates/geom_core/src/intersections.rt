@@ -21,13 +21,15 @@ pub fn relate(a: &Shape, b: &Shape) -> Matrix
 {
     let x = axis_table(Meeting::of(a.x(), b.x()));
     let y = axis_table(Meeting::of(a.y(), b.y()));
-    Matrix {
-        rows: Parts {
-            interior: entries(&x.interior, &y.interior),
-            boundary: entries(&x.boundary, &y.boundary),
-            exterior: entries(&x.exterior, &y.exterior),
-        },
-    }
+    let interior = entries(&x.interior, &y.interior);
+    let boundary = entries(&x.boundary, &y.boundary);
+    let exterior = entries(&x.exterior, &y.exterior);
+    let rows = Parts {
+        interior,
+        boundary,
+        exterior,
+    };
+    Matrix { rows }
 }
 
 /// What a part of the first shape shares with each part of the second.

@@ -8,7 +8,8 @@ use crate::matrix::Matrix;
 use crate::part::Parts;
 use crate::relation::Relation;
 use crate::shape::Shape;
-use thiserror::Error;
+use std::error::Error;
+use std::fmt;
 
 /// A relation that holds for no two disjoint shapes.
 #[derive(Clone, Copy, Debug, PartialEq, Eq)]
@@ -18,14 +19,38 @@ pub struct JoinRelation {
 }
 
 /// The relation holds for some two disjoint shapes.
-#[derive(Clone, Copy, Debug, PartialEq, Eq, Error)]
-#[error("disjoint features may fit")]
+#[derive(Clone, Copy, Debug, PartialEq, Eq)]
 pub struct AllowsDisjoint;
+
+impl AllowsDisjoint {
+    ghost use Rattle.std.specs.Prelude.{◌≡◌};
+    ghost use Rattle.geom_core.specs.FaultTexts.{allows_disjoint_text};
+
+    /// What a user reads of the fault.
+    pub fn text(&self) -> &'static str
+        ensures { result.now ≡ allows_disjoint_text }
+    {
+        "disjoint features may fit"
+    }
+}
+
+impl fmt::Display for AllowsDisjoint {
+    ghost use Rattle.std.specs.Prelude.{Some};
+    ghost use Rattle.geom_core.specs.FaultTexts.{allows_disjoint_text};
+
+    ghost output = { λ _. Some allows_disjoint_text };
+
+    fn fmt<W: fmt::Write>(&self, f: &mut fmt::Formatter<W>) -> fmt::Result {
+        f.write_str(self.text())
+    }
+}
+
+impl Error for AllowsDisjoint {}
 
 impl JoinRelation {
     ghost use Rattle.std.specs.Prelude.{◌≡◌, ◌↔◌, IsTrue, IsOk, IfOk, OnErr};
     ghost use Rattle.geom_core.specs.Cells.{Meets};
-    ghost use Rattle.geom_core.specs.Relations.{Holds};
+    ghost use Rattle.geom_core.specs.Relations.{Holds, HoldsForDisjoint};
     ghost use Rattle.geom_core.specs.JoinRelations.{relation_of};
 
     /// The relation, if no two disjoint shapes of any dimensions stand in it.
@@ -35,7 +60,7 @@ impl JoinRelation {
     pub fn new(relation: Relation) -> Result<JoinRelation, AllowsDisjoint>
         ensures ok { IsOk result ↔ ForbidsDisjoint relation }
         ensures same { IfOk result (λ join. relation_of join ≡ relation) }
-        ensures err { OnErr result ((a : Shape) × (b : Shape) × ¬ (Meets a b) × Holds relation a b) }
+        ensures err { OnErr result (HoldsForDisjoint relation) }
     {
         if allows_disjoint(&relation) {
             Err(AllowsDisjoint)
@@ -63,12 +88,13 @@ impl JoinRelation {
 }
 
 ghost use Rattle.std.specs.Prelude.{◌≡◌, ℕ, ◌<◌, ◌↔◌, IsTrue};
-ghost use Rattle.geom_core.specs.Relations.{FitsOne, masks};
-ghost use Rattle.geom_core.specs.DisjointShapes.{boundary_extent, disjoint_matrix, interior_extent};
+ghost use Rattle.geom_core.specs.Relations.{FitsOne};
+ghost use Rattle.geom_core.specs.DisjointShapes.{FitsDisjoint, boundary_extent, disjoint_matrix, interior_extent};
 
 /// Whether one of the relation's masks fits the matrix of disjoint shapes of some dimensions.
 fn allows_disjoint(relation: &Relation) -> bool
-    ensures { IsTrue result ↔ ((da : ℕ) × (db : ℕ) × (da < 3) × (db < 3) × FitsOne (masks relation.now da db) (disjoint_matrix da db)) }
+    ensures { IsTrue result ↔
+        ((da : ℕ) × (db : ℕ) × (da < 3) × (db < 3) × FitsDisjoint relation.now da db) }
 {
     for first_dim in 0..3 {
         if allows_disjoint_after(relation, first_dim) {
@@ -81,7 +107,8 @@ fn allows_disjoint(relation: &Relation) -> bool
 /// The same, where the first of the two shapes has this dimension.
 fn allows_disjoint_after(relation: &Relation, first_dim: u8) -> bool
     requires { first_dim < 3 }
-    ensures { IsTrue result ↔ ((db : ℕ) × (db < 3) × FitsOne (masks relation.now first_dim db) (disjoint_matrix first_dim db)) }
+    ensures { IsTrue result ↔
+        ((db : ℕ) × (db < 3) × FitsDisjoint relation.now first_dim db) }
 {
     for second_dim in 0..3 {
         let masks = relation.masks(first_dim, second_dim);

@@ -25,6 +25,3 @@ pub use pattern_value::PatternValue;
 pub use relation::Relation;
 pub use shape::{Area, Shape};
 pub use span::LIMIT;
-
-#[cfg(test)]
-mod tests;

@@ -4,7 +4,8 @@ use crate::extent::Extent;
 use crate::matrix::Matrix;
 use crate::part::Parts;
 use crate::pattern_value::PatternValue;
-use thiserror::Error;
+use std::error::Error;
+use std::fmt;
 
 /// A pattern of matrices (a pattern matrix, OGC 06-103r4, 6.1.15.2).
 #[derive(Clone, Copy, Debug, PartialEq, Eq)]
@@ -13,30 +14,61 @@ pub struct Mask {
 }
 
 /// Why a text is no mask.
-#[derive(Clone, Copy, Debug, PartialEq, Eq, Error)]
+#[derive(Clone, Copy, Debug, PartialEq, Eq)]
 pub enum MaskFault {
     /// It hasn't nine bytes.
-    #[error("not a name or a mask of nine letters")]
     Length,
     /// At this place, counted from 0, is the first byte that is no letter of a mask.
-    #[error("bad letter at place {0}")]
     Letter(u32),
 }
 
+impl MaskFault {
+    ghost use Rattle.std.specs.Prelude.{◌≡◌};
+    ghost use Rattle.geom_core.specs.FaultTexts.{mask_words};
+
+    /// What a user reads of the fault, without the place.
+    pub fn text(&self) -> &'static str
+        ensures { result.now ≡ mask_words self.now }
+    {
+        match self {
+            MaskFault::Length => "not a name or a mask of nine letters",
+            MaskFault::Letter(_) => "bad letter at place ",
+        }
+    }
+}
+
+impl fmt::Display for MaskFault {
+    ghost use Rattle.std.specs.Prelude.{Some};
+    ghost use Rattle.geom_core.specs.FaultTexts.{mask_text};
+
+    ghost output = { λ fault. Some (mask_text fault) };
+
+    fn fmt<W: fmt::Write>(&self, f: &mut fmt::Formatter<W>) -> fmt::Result {
+        let text = self.text();
+        match self {
+            MaskFault::Length => f.write_str(text),
+            MaskFault::Letter(place) => write!(f, "{text}{place}"),
+        }
+    }
+}
+
+impl Error for MaskFault {}
+
 impl Mask {
     ghost use Rattle.std.specs.Prelude.{◌≡◌, ◌≢◌, ℕ, ◌↔◌, length, IsTrue};
-    ghost use Rattle.std.specs.Str.{str_to_ascii_uppercase};
-    ghost use Rattle.geom_core.specs.Masks.{Fits, IsFirstBad, text_of};
+    ghost use Rattle.geom_core.specs.Masks.{Fits, HasBadLetter, SpellsMask, text_of};
 
     /// Reads nine letters of `T`, `F`, `*`, `0`, `1` and `2`, in the order of
     /// [`Matrix::text`]; `T` and `F` may be small.
     ///
     /// # Errors
-    /// `Length` where the text hasn't nine bytes, else `Letter` with the place of the first bad byte.
+    /// `Length` where the text hasn't nine bytes, else `Letter` with the place of the first bad
+    /// byte.
     pub fn read(text: &[u8]) -> Result<Mask, MaskFault>
-        ensures ok { (mask : Mask) → (result ≡ Ok mask) ↔ (str_to_ascii_uppercase text.now ≡ text_of mask) }
+        ensures ok { (mask : Mask) → (result ≡ Ok mask) ↔ SpellsMask text.now mask }
         ensures length { (result ≡ Err MaskFault.Length) ↔ (length text.now ≢ 9) }
-        ensures letter { (place : ℕ) → (result ≡ Err (MaskFault.Letter place)) ↔ ((length text.now ≡ 9) × IsFirstBad text.now place) }
+        ensures letter { (place : ℕ) →
+            (result ≡ Err (MaskFault.Letter place)) ↔ HasBadLetter text.now place }
         ensures text { (mask : Mask) → text.now ≡ text_of mask → result ≡ Ok mask }
     {
         if text.len() != 9 {
@@ -103,14 +135,13 @@ impl Default for Mask {
 }
 
 ghost use Rattle.std.specs.Prelude.{◌≡◌, ℕ, ◌+◌, ◌<◌, ◌≤◌, ◌↔◌, length, slice_index, IfOk, IfErr, IsTrue};
-ghost use Rattle.std.specs.Char.{to_ascii_uppercase};
-ghost use Rattle.geom_core.specs.Masks.{FitsRow, IsFirstBad, IsFirstBadFrom, IsLetter, SpellsRow, SpellsRows, letter_of_value};
+ghost use Rattle.geom_core.specs.Masks.{FitsRow, IsLetterOf, SpellsRow, SpellsRows, TellsBad};
 
 /// The values that the nine bytes stand for, row by row.
 fn read_rows(text: &[u8]) -> Result<Parts<Parts<PatternValue>>, MaskFault>
     requires { length text.now ≡ 9 }
     ensures ok { IfOk result (SpellsRows text.now) }
-    ensures err { IfErr result (λ fault. (place : ℕ) × (fault ≡ MaskFault.Letter place) × IsFirstBad text.now place) }
+    ensures err { IfErr result (TellsBad text.now 0 9) }
 {
     Ok(Parts {
         interior: read_row(text, 0)?,
@@ -124,7 +155,7 @@ fn read_row(text: &[u8], first: u32) -> Result<Parts<PatternValue>, MaskFault>
     requires within { first + 3 ≤ length text.now }
     requires short { length text.now ≡ 9 }
     ensures ok { IfOk result (SpellsRow text.now first) }
-    ensures err { IfErr result (λ fault. (place : ℕ) × (fault ≡ MaskFault.Letter place) × (place < first + 3) × IsFirstBadFrom text.now first place) }
+    ensures err { IfErr result (TellsBad text.now first (first + 3)) }
 {
     Ok(Parts {
         interior: read_value(text, first)?,
@@ -136,8 +167,8 @@ fn read_row(text: &[u8], first: u32) -> Result<Parts<PatternValue>, MaskFault>
 /// The value that the byte at a place stands for.
 fn read_value(text: &[u8], place: u32) -> Result<PatternValue, MaskFault>
     requires { place < length text.now }
-    ensures ok { IfOk result (λ value. to_ascii_uppercase (slice_index text.now place) ≡ letter_of_value value) }
-    ensures err { IfErr result (λ fault. (fault ≡ MaskFault.Letter place) × ¬ (IsLetter (slice_index text.now place))) }
+    ensures ok { IfOk result (λ value. IsLetterOf value (slice_index text.now place)) }
+    ensures err { IfErr result (TellsBad text.now place (place + 1)) }
 {
     PatternValue::of_letter(text[place as usize]).ok_or(MaskFault::Letter(place))
 }

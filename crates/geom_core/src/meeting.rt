@@ -151,8 +151,7 @@ impl Meeting {
         }
     }
 
-    /// What the inner part of the first interval shares with the inner part, the ends and the outside of
-    /// the second.
+    /// What the inner part of the first interval shares with each part of the second.
     #[inline(always)]
     pub fn interior(self) -> Parts<Shared>
         ensures { result ≡ interior_of self }
@@ -177,8 +176,7 @@ impl Meeting {
         }
     }
 
-    /// What the ends of the first interval shares with the inner part, the ends and the outside of
-    /// the second.
+    /// What the ends of the first interval share with each part of the second.
     #[inline(always)]
     pub fn boundary(self) -> Parts<Shared>
         ensures { result ≡ boundary_of self }
@@ -203,8 +201,7 @@ impl Meeting {
         }
     }
 
-    /// What what lies outside the first interval shares with the inner part, the ends and the outside of
-    /// the second.
+    /// What the outside of the first interval shares with each part of the second.
     #[inline(always)]
     pub fn exterior(self) -> Parts<Shared>
         ensures { result ≡ exterior_of self }

@@ -15,12 +15,11 @@ pub enum PatternValue {
 
 impl PatternValue {
     ghost use Rattle.std.specs.Prelude.{◌≡◌, ◌↔◌, MatchOption, IsTrue};
-    ghost use Rattle.std.specs.Char.{to_ascii_uppercase};
-    ghost use Rattle.geom_core.specs.Masks.{Allows, IsLetter, letter_of_value};
+    ghost use Rattle.geom_core.specs.Masks.{Allows, IsLetter, IsLetterOf, letter_of_value};
 
     /// The value that a letter stands for, `T` and `F` in either case.
     pub(crate) fn of_letter(letter: u8) -> Option<PatternValue>
-        ensures { MatchOption result (¬ (IsLetter letter)) (λ value. to_ascii_uppercase letter ≡ letter_of_value value) }
+        ensures { MatchOption result (¬ (IsLetter letter)) (λ value. IsLetterOf value letter) }
     {
         match letter {
             b'*' => Some(PatternValue::Any),

@@ -52,9 +52,9 @@ pub enum Relation {
 
 impl Relation {
     ghost use Rattle.std.specs.Prelude.{◌≡◌, ◌≢◌, ◌≤◌, ℕ, ◌↔◌, length, IsTrue};
-    ghost use Rattle.geom_core.specs.Cells.{Meets, IsIn};
-    ghost use Rattle.geom_core.specs.Masks.{IsFirstBad};
-    ghost use Rattle.geom_core.specs.Relations.{Holds, InteriorsMeet, Spells, masks};
+    ghost use Rattle.geom_core.specs.Masks.{HasBadLetter};
+    ghost use Rattle.geom_core.specs.Relations.{Holds, Spells, SpellsNothing, masks};
+    ghost use Rattle.geom_core.specs.Sets.{HoldsOfSets};
 
     /// Reads one of the eight names, in any ASCII case, or else a mask.
     ///
@@ -62,8 +62,10 @@ impl Relation {
     /// Those of [`Mask::read`]. No name has nine letters.
     pub fn read(text: &[u8]) -> Result<Relation, MaskFault>
         ensures ok { (relation : Relation) → (result ≡ Ok relation) ↔ Spells relation text.now }
-        ensures length { (result ≡ Err MaskFault.Length) ↔ ((length text.now ≢ 9) × ((relation : Relation) → ¬ (Spells relation text.now))) }
-        ensures letter { (place : ℕ) → (result ≡ Err (MaskFault.Letter place)) ↔ ((length text.now ≡ 9) × IsFirstBad text.now place) }
+        ensures length { (result ≡ Err MaskFault.Length) ↔
+            ((length text.now ≢ 9) × SpellsNothing text.now) }
+        ensures letter { (place : ℕ) →
+            (result ≡ Err (MaskFault.Letter place)) ↔ HasBadLetter text.now place }
     {
         match named(text) {
             Some(relation) => Ok(relation),
@@ -111,12 +113,7 @@ impl Relation {
     #[inline(always)]
     pub fn holds(&self, a: &Shape, b: &Shape) -> bool
         ensures masks { IsTrue result ↔ Holds self.now a.now b.now }
-        ensures disjoint { self.now ≡ Relation.Disjoint → (IsTrue result ↔ ¬ (Meets a.now b.now)) }
-        ensures intersects { self.now ≡ Relation.Intersects → (IsTrue result ↔ Meets a.now b.now) }
-        ensures touches { self.now ≡ Relation.Touches → (IsTrue result ↔ (Meets a.now b.now × ¬ (InteriorsMeet a.now b.now))) }
-        ensures within { self.now ≡ Relation.Within → (IsTrue result ↔ (IsIn a.now b.now × InteriorsMeet a.now b.now)) }
-        ensures contains { self.now ≡ Relation.Contains → (IsTrue result ↔ (IsIn b.now a.now × InteriorsMeet a.now b.now)) }
-        ensures equals { self.now ≡ Relation.Equals → (IsTrue result ↔ (IsIn a.now b.now × IsIn b.now a.now)) }
+        ensures sets { IsTrue result ↔ HoldsOfSets self.now a.now b.now }
     {
         match self {
             Relation::Mask(mask) => mask.fits(&relate(a, b)),
@@ -139,7 +136,8 @@ ghost use Rattle.geom_core.specs.Relations.{FitsOne, IsNamed, Spells, mask, mask
 /// The relation of a name.
 fn named(text: &[u8]) -> Option<Relation>
     ensures some { IfSome result (λ relation. IsNamed relation × Spells relation text.now) }
-    ensures none { IfNone result ((relation : Relation) → IsNamed relation → ¬ (Spells relation text.now)) }
+    ensures none { IfNone result
+        ((relation : Relation) → IsNamed relation → ¬ (Spells relation text.now)) }
 {
     if text.eq_ignore_ascii_case(b"disjoint") {
         Some(Relation::Disjoint)

@@ -1,7 +1,7 @@
 //! A closed interval of whole numbers: what a shape covers of one axis.
 
-ghost use Rattle.std.specs.Prelude.{◌≤ℤ◌, neg_ℤ};
-ghost use Rattle.geom_core.specs.declared.span.TheConstants.{LIMIT};
+ghost use Rattle.std.specs.Prelude.{◌≤ℤ◌, pos, neg_ℤ};
+ghost use Rattle.geom_core.specs.Limits.{greatest_coordinate};
 
 use crate::shape::Area;
 
@@ -14,8 +14,8 @@ pub struct Span {
     pub lo: i64,
     pub hi: i64,
     ghost ordered: { lo ≤ℤ hi },
-    ghost above: { neg_ℤ LIMIT ≤ℤ lo },
-    ghost below: { hi ≤ℤ LIMIT },
+    ghost above: { neg_ℤ (pos greatest_coordinate) ≤ℤ lo },
+    ghost below: { hi ≤ℤ pos greatest_coordinate },
 }
 
 impl Span {

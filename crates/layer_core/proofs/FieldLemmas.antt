@@ -2,7 +2,7 @@
 use Rattle.std.proofs.Common.{◌≡◌, ◌<◌, ◌≢◌, ℕ, List, [], ◌∷◌, length, Some, None, sym, arith}
 use Rattle.csv.specs.Records.{field_at}
 use Rattle.csv.proofs.RecordFacts.{field-there}
-use Rattle.layer_core.specs.Rows.{Record}
+use Rattle.layer_core.specs.Records.{Record}
 
 pub field-missing : (fields : Record) (i n : ℕ) → None ≡ field_at fields i → i < n → length fields ≢ n
 field-missing fields i n none within e = field-there fields i (omega arith) (sym none)
@@ -17,7 +17,8 @@ two-fields (x ∷ []) a b n p q = absurd (omega arith)
 two-fields (x ∷ y ∷ []) a b n p q = (λ i. same-some a x p i ∷ same-some b y q i ∷ [])
 two-fields (x ∷ y ∷ z ∷ zs) a b n p q = absurd (omega arith)
 
-pub four-fields : (fields : Record) (a b c d : List ℕ) → length fields ≡ 4 → Some a ≡ field_at fields 0 → Some b ≡ field_at fields 1 → Some c ≡ field_at fields 2 → Some d ≡ field_at fields 3 → fields ≡ a ∷ b ∷ c ∷ d ∷ []
+pub four-fields : (fields : Record) (a b c d : List ℕ) → length fields ≡ 4 → Some a ≡ field_at fields 0 → Some b ≡ field_at fields 1
+    → Some c ≡ field_at fields 2 → Some d ≡ field_at fields 3 → fields ≡ a ∷ b ∷ c ∷ d ∷ []
 unfolding field_at
 four-fields [] a b c d n p q r s = absurd (omega arith)
 four-fields (x ∷ []) a b c d n p q r s = absurd (omega arith)

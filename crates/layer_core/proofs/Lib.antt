@@ -1,6 +1,7 @@
 pub mod Lists
 pub mod SlotLemmas
-pub mod TableLemmas
-pub mod RowLemmas
+pub mod MapLemmas
+pub mod RecordLemmas
 pub mod FieldLemmas
+pub mod HeaderLemmas
 pub mod FileLemmas

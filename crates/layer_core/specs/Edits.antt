@@ -1,6 +1,7 @@
--- What an edit does to two layers, and when it is refused.
-use Rattle.std.specs.Prelude.{Option}
+-- What edits do to two layers, and when one is refused.
+use Rattle.std.specs.Prelude.{ℕ, ◌+◌, List, [], ◌∷◌, Option, Some, None, Result, Ok, Err}
 use Rattle.std.specs.String.{string_bytes}
+use Rattle.geom_core.specs.declared.shape.Shape.{Shape}
 use Rattle.layer_core.specs.declared.edit.Edit.{Edit}
 use Rattle.layer_core.specs.declared.edit.Edit.TheVariants.{Insert, Delete}
 use Rattle.layer_core.specs.declared.edit.Side.{Side}
@@ -9,20 +10,34 @@ use Rattle.layer_core.specs.declared.fault.LayerFault.{LayerFault}
 use Rattle.layer_core.specs.Layers.{Contents, inserted, deleted}
 use Rattle.layer_core.specs.Refusals.{insert_refusal, delete_refusal}
 
--- the layer that an edit is for
-abbrev pub side_of : Edit → Side
-side_of (Insert side id shape) = side
-side_of (Delete side id) = side
+-- what an edit says: the layer and the id, and the shape to insert or, to delete, none
+pub record EditContent : Type 0 where
+  pub side : Side
+  pub id : List ℕ
+  pub shape : Option Shape
 
--- that layer after the edit
-abbrev pub edited : Contents → Edit → Contents
-edited layer (Insert side id shape) = inserted layer (string_bytes id) shape
-edited layer (Delete side id) = deleted layer (string_bytes id)
+abbrev pub content_of : Edit → EditContent
+content_of (Insert side id shape) =
+    record { side = side; id = string_bytes id; shape = Some shape }
+content_of (Delete side id) = record { side = side; id = string_bytes id; shape = None }
+
+-- a layer with the feature of this id inserted, or deleted where no shape is given
+abbrev pub changed : Contents → List ℕ → Option Shape → Contents
+changed layer id (Some shape) = inserted layer id shape
+changed layer id None = deleted layer id
+
+-- why it can't be changed so, want of memory aside
+abbrev pub change_refusal : Contents → List ℕ → Option Shape → Option LayerFault
+change_refusal layer id (Some shape) = insert_refusal layer id
+change_refusal layer id None = delete_refusal layer id
+
+-- the layer that an edit is for, after the edit
+abbrev pub edited : Contents → EditContent → Contents
+edited layer edit = changed layer edit.id edit.shape
 
 -- why it can't be edited so, want of memory aside
-abbrev pub refusal : Contents → Edit → Option LayerFault
-refusal layer (Insert side id shape) = insert_refusal layer (string_bytes id)
-refusal layer (Delete side id) = delete_refusal layer (string_bytes id)
+abbrev pub refusal : Contents → EditContent → Option LayerFault
+refusal layer edit = change_refusal layer edit.id edit.shape
 
 -- two layers
 pub record Layers : Type 0 where
@@ -41,9 +56,24 @@ with_layer_on Left layers layer = record layers { left = layer }
 with_layer_on Right layers layer = record layers { right = layer }
 
 -- both after an edit: that of its side is edited, the other stays
-abbrev pub edited_layers : Layers → Edit → Layers
-edited_layers layers edit = with_layer_on (side_of edit) layers (edited (layer_on (side_of edit) layers) edit)
+abbrev pub edited_layers : Layers → EditContent → Layers
+edited_layers layers edit =
+    with_layer_on edit.side layers (edited (layer_on edit.side layers) edit)
 
 -- why they can't be edited so, want of memory aside
-abbrev pub edit_refusal : Layers → Edit → Option LayerFault
-edit_refusal layers edit = refusal (layer_on (side_of edit) layers) edit
+abbrev pub edit_refusal : Layers → EditContent → Option LayerFault
+edit_refusal layers edit = refusal (layer_on edit.side layers) edit
+
+-- what edits give, the first of which is on this row, where this is its refusal
+abbrev pub unless_refused : ℕ → Option LayerFault
+    → Result Layers (ℕ × LayerFault) → Result Layers (ℕ × LayerFault)
+unless_refused row (Some fault) rest = Err (row, fault)
+unless_refused row None rest = rest
+
+-- both after the edits, the first of which is on this row,
+-- or the row and the fault of the first edit that is refused
+abbrev pub edits_give : ℕ → Layers → List EditContent → Result Layers (ℕ × LayerFault)
+edits_give row layers [] = Ok layers
+edits_give row layers (edit ∷ edits) =
+    unless_refused row (edit_refusal layers edit)
+    (edits_give (row + 1) (edited_layers layers edit) edits)

@@ -1,8 +1,9 @@
 -- A layer, as the list of its features.
-use Rattle.std.specs.Prelude.{◌≡◌, ◌≢◌, ◌==◌, ℕ, ◌+◌, ◌<◌, Bool, not, List, [], ◌∷◌, ◌++◌, Option, All, AllPairs, filter, find, option_map}
+use Rattle.std.specs.Prelude.{◌≡◌, ◌≢◌, ◌==◌, ℕ, ◌+◌, ◌<◌, ◌≤◌, Bool, not, List, [], ◌∷◌, ◌++◌, Option, All, AllPairs, filter, find, option_map}
 use Rattle.std.specs.Borrow.{Bor}
 use Rattle.std.specs.Str.{bytes_eq}
 use Rattle.geom_core.specs.declared.shape.Shape.{Shape}
+use Rattle.layer_core.specs.Limits.{most_features}
 
 -- a feature: its id, the number that it was given, and its shape
 pub record Feature : Type 0 where
@@ -18,11 +19,12 @@ pub record Contents : Type 0 where
 abbrev pub empty : Contents
 empty = record { features = []; next = 0 }
 
--- ids differ, and numbers rise and are below the next
+-- ids differ, and numbers rise and are below the next, which is at most 1,000,000
 pub record IsLayer (layer : Contents) : Type 0 where
   pub distinct : AllPairs (λ f g. f.id ≢ g.id) layer.features
   pub rising : AllPairs (λ f g. f.number < g.number) layer.features
   pub below_next : All (λ f. f.number < layer.next) layer.features
+  pub few : layer.next ≤ most_features
 
 abbrev pub has_id : List ℕ → Feature → Bool
 has_id id f = bytes_eq id f.id
@@ -55,7 +57,8 @@ NumberAndShapeAre answer feature = answer ≡ option_map (λ f. (f.number, f.sha
 
 -- what a look-up by number answers: the id and the shape
 abbrev pub IdAndShapeAre : Option (Bor (List ℕ) × Shape) → Option Feature → Type 0
-IdAndShapeAre answer feature = option_map id_and_shape answer ≡ option_map (λ f. (f.id, f.shape)) feature
+IdAndShapeAre answer feature =
+    option_map id_and_shape answer ≡ option_map (λ f. (f.id, f.shape)) feature
   where
     id_and_shape : Bor (List ℕ) × Shape → List ℕ × Shape
     id_and_shape p = (p.0.now, p.1)

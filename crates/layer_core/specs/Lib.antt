@@ -1,8 +1,13 @@
+pub mod EditFiles
 pub mod Edits
-pub mod Files
+pub mod FaultTexts
+pub mod Fields
+pub mod LayerFiles
 pub mod Layers
+pub mod Limits
+pub mod MapAndSlots
+pub mod Records
 pub mod Refusals
 pub mod Rows
 pub mod Sources
-pub mod Tables
 pub mod Walks

@@ -2,20 +2,19 @@
 use Rattle.std.specs.Prelude.{◌≡◌, ◌&&◌, ℕ, Bool, not, List, length, nat_le, Option, Some, None, is_some, Result, Err, IsOkUnless, if◌then◌else◌}
 use Rattle.layer_core.specs.declared.fault.LayerFault.{LayerFault}
 use Rattle.layer_core.specs.declared.fault.LayerFault.TheVariants.{BadId, DoubleId, LayerFull, NoSuchId, Memory}
-use Rattle.layer_core.specs.declared.features.TheConstants.{MAX_FEATURES}
-use Rattle.layer_core.specs.declared.layer.TheConstants.{MAX_ID_BYTES}
+use Rattle.layer_core.specs.Limits.{most_features, most_id_bytes}
 use Rattle.layer_core.specs.Layers.{Contents, with_id}
 
 -- whether a text has as many bytes as an id may have
 abbrev pub is_id : List ℕ → Bool
-is_id id = nat_le 1 (length id) && nat_le (length id) MAX_ID_BYTES
+is_id id = nat_le 1 (length id) && nat_le (length id) most_id_bytes
 
 -- why this id can't be inserted, want of memory aside
 abbrev pub insert_refusal : Contents → List ℕ → Option LayerFault
 insert_refusal layer id =
     if not (is_id id) then Some BadId
     else if is_some (with_id id layer) then Some DoubleId
-    else if nat_le MAX_FEATURES layer.next then Some LayerFull
+    else if nat_le most_features layer.next then Some LayerFull
     else None
 
 -- why this id can't be deleted, want of memory aside

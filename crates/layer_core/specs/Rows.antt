@@ -1,40 +1,75 @@
--- The records of a CSV text, and those that a reader of it has left.
-use Rattle.std.specs.Prelude.{◌≡◌, ◌+◌, ℕ, false, List, [], ◌∷◌, length, Option, Some, unwrap_or}
-use Rattle.std.specs.Borrow.{Bor}
-use Rattle.csv.specs.Machine.{ends_at_end}
-use Rattle.csv.specs.Reading.{Ready, default_config, reader_config, reader_state, reader_trim, records, records_from, source_of, strip_bom}
-use Rattle.csv.specs.declared.reader.Reader.{Reader}
-use Rattle.csv.specs.declared.reader.Trim.TheVariants as trim
+-- The rows of a CSV file: what they give together, and how they are read in turn.
+use Rattle.std.specs.Prelude.{◌≡◌, ◌≤◌, ◌+◌, ◌⊎◌, ℕ, List, [], ◌∷◌, length, map, nat_lt, Result, Ok, Err, MatchResult}
+use Rattle.std.specs.Bool.{MatchBool}
+use Rattle.std.specs.Char.{to_ascii_lowercase}
+use Rattle.csv.specs.Records.{fields_of}
+use Rattle.layer_core.specs.declared.read_fault.ReadFault.{ReadFault}
+use Rattle.layer_core.specs.declared.read_fault.ReadFault.TheVariants.{TooLong, Header}
+use Rattle.layer_core.specs.declared.rows.Rows.{Rows}
+use Rattle.layer_core.specs.Limits.{most_file_bytes}
+use Rattle.layer_core.specs.Records.{Record, records_of, records_left, IsBetweenRecords}
 
--- a record, as the list of its fields
-abbrev pub Record : Type 0
-Record = List (List ℕ)
+abbrev pub lowercase : Record → Record
+lowercase fields = map (map to_ascii_lowercase) fields
 
--- the records that `csv` reads from a text, a byte order mark at its start aside
-abbrev pub records_of : List ℕ → List Record
-records_of text = records default_config (strip_bom text)
+-- the record names these columns, in any ASCII case
+abbrev pub IsHeader : List (List ℕ) → Record → Type 0
+IsHeader columns header = lowercase header ≡ lowercase columns
 
-abbrev pub source : Reader (Bor (List ℕ)) → Option (List ℕ)
-source reader = source_of (λ s. Some s.now) reader
+-- the records behind a header of these columns, or why there are none
+abbrev pub AreBehindHeader : List (List ℕ) → List Record → Result (List Record) ReadFault → Type 0
+AreBehindHeader columns [] rows = rows ≡ Err Header
+AreBehindHeader columns (header ∷ others) rows =
+    (IsHeader columns header × (rows ≡ Ok others))
+    ⊎ (¬ (IsHeader columns header) × (rows ≡ Err Header))
 
--- the bytes that a reader has left
-abbrev pub unread : Reader (Bor (List ℕ)) → List ℕ
-unread reader = unwrap_or (source reader) []
+-- the rows of a file of these columns, which may have so many bytes, or why there are none
+abbrev pub AreRows : List (List ℕ) → List ℕ → Result (List Record) ReadFault → Type 0
+AreRows columns bytes rows =
+    MatchBool (nat_lt most_file_bytes (length bytes))
+    (rows ≡ Err TooLong)
+    (AreBehindHeader columns (records_of bytes) rows)
 
--- the records that a reader has left
-abbrev pub rows_left : Reader (Bor (List ℕ)) → List Record
-rows_left reader =
-    records_from default_config (length (unread reader) + 1) (reader_state reader) (unread reader)
+-- the rows in turn, the first of this number, each from what those before it gave:
+-- what all of them give, or the fault of the first that has one
+abbrev pub RowsGive : {A : Type 0} → (ℕ → A → Record → Result A ReadFault → Type 0)
+    → ℕ → A → List Record → Result A ReadFault → Type 0
+RowsGive RowGives n sofar [] answer = answer ≡ Ok sofar
+RowsGive {A} RowGives n sofar (row ∷ rows) answer =
+    (next : Result A ReadFault) × RowGives n sofar row next
+    × MatchResult next (λ a. RowsGive RowGives (n + 1) a rows answer) (λ fault. answer ≡ Err fault)
 
--- the reader stands between two records, and reads each as it is
-pub record IsReading (reader : Reader (Bor (List ℕ))) : Type 0 where
-  pub trim : reader_trim reader ≡ trim.None
-  pub ready : Ready reader
-  pub config : reader_config reader ≡ default_config
-  pub known : source reader ≡ Some (unread reader)
-  pub between : ends_at_end (reader_state reader) ≡ false
+-- a file of these columns gives what its rows give, numbered from 1, or why it has none
+abbrev pub FileGives : {A : Type 0} → List (List ℕ) → (ℕ → A → Record → Result A ReadFault → Type 0)
+    → A → List ℕ → Result A ReadFault → Type 0
+FileGives columns RowGives start bytes answer =
+    (rows : Result (List Record) ReadFault) × AreRows columns bytes rows
+    × MatchResult rows (λ rows. RowsGive RowGives 1 start rows answer) (λ fault. answer ≡ Err fault)
 
--- the record was the first left, and the others are left
-pub record IsNext (old : Reader (Bor (List ℕ))) (row : Record) (new : Reader (Bor (List ℕ))) : Type 0 where
-  pub rows : rows_left old ≡ row ∷ rows_left new
+-- ---- reading them
+
+-- the fields of the row that was read last
+abbrev pub last_row : Rows → Record
+last_row rows = fields_of rows.row
+
+-- the rows that are left
+abbrev pub rows_left : Rows → List Record
+rows_left rows = records_left rows.reader
+
+-- the reader stands between two rows, and no file has more rows than bytes
+pub record IsReading (rows : Rows) : Type 0 where
+  pub reader : IsBetweenRecords rows.reader
+  pub few : rows.count + length (rows_left rows) ≤ most_file_bytes
+
+-- the rows of a file of these columns, none of which was read
+pub record IsOpened (columns : List (List ℕ)) (bytes : List ℕ) (rows : Rows) : Type 0 where
+  pub behind_header : AreRows columns bytes (Ok (rows_left rows))
+  pub none_read : rows.count ≡ 0
+  pub reading : IsReading rows
+
+-- the first row left was read, and this is its number
+pub record ReadsRow (old : Rows) (number : ℕ) (new : Rows) : Type 0 where
+  pub row : rows_left old ≡ last_row new ∷ rows_left new
+  pub numbered : number ≡ old.count + 1
+  pub counted : new.count ≡ number
   pub reading : IsReading new

@@ -28,11 +28,11 @@ pub enum Edit {
 impl Edit {
     ghost use Rattle.std.specs.Prelude.{◌≡◌, OnOk, OnErr};
     ghost use Rattle.layer_core.specs.Refusals.{AnswersWith};
-    ghost use Rattle.layer_core.specs.Edits.{side_of, edited, refusal, both, edited_layers, edit_refusal};
+    ghost use Rattle.layer_core.specs.Edits.{content_of, edited, refusal, both, edited_layers, edit_refusal};
 
     /// The layer that is edited.
     pub fn side(&self) -> Side
-        ensures { result ≡ side_of self.now }
+        ensures { result ≡ (content_of self.now).side }
     {
         match self {
             Edit::Insert { side, .. } => *side,
@@ -43,9 +43,11 @@ impl Edit {
     /// Edits the layer on its side, by [`Layer::insert`] or [`Layer::remove`], whose refusals it
     /// answers. A refusal changes neither layer.
     pub fn apply(&self, left: &mut Layer, right: &mut Layer) -> Result<(), LayerFault>
-        ensures ok { OnOk result (both left.new right.new ≡ edited_layers (both left.old right.old) self.now) }
+        ensures ok { OnOk result (both left.new right.new
+            ≡ edited_layers (both left.old right.old) (content_of self.now)) }
         ensures err { OnErr result (both left.new right.new ≡ both left.old right.old) }
-        ensures refused { AnswersWith (edit_refusal (both left.old right.old) self.now) result }
+        ensures refused { AnswersWith
+            (edit_refusal (both left.old right.old) (content_of self.now)) result }
     {
         match self.side() {
             Side::Left => self.apply_to(left),
@@ -55,9 +57,9 @@ impl Edit {
 
     // Edits this layer, whichever side it is on.
     fn apply_to(&self, layer: &mut Layer) -> Result<(), LayerFault>
-        ensures ok { OnOk result (layer.new ≡ edited layer.old self.now) }
+        ensures ok { OnOk result (layer.new ≡ edited layer.old (content_of self.now)) }
         ensures err { OnErr result (layer.new ≡ layer.old) }
-        ensures refused { AnswersWith (refusal layer.old self.now) result }
+        ensures refused { AnswersWith (refusal layer.old (content_of self.now)) result }
     {
         match self {
             Edit::Insert { id, shape, .. } => layer.insert(id.as_str(), *shape),

@@ -1,14 +1,16 @@
 //! CSV files of edits.
-ghost use Rattle.std.specs.Prelude.{◌≡◌, ◌≢◌, ◌↔◌, false, Ok, Err, IsErrOf, IsTrue, IfOk, IfErr, IfSome};
+ghost use Rattle.std.specs.Prelude.{◌≡◌, ◌≢◌, ◌↔◌, ◌≤◌, length, false, Ok, Err, IsErrOf, IsTrue, IfOk, IfErr, IfSome};
 ghost use Rattle.csv.specs.Records.{fields_of};
-ghost use Rattle.layer_core.specs.Files.{edits_said, DeletionGives, EditRowGives, InsertionGives, IsEditFile, IsEditHeader, said};
+ghost use Rattle.layer_core.specs.Edits.{content_of};
+ghost use Rattle.layer_core.specs.EditFiles.{edit_contents, DeletionGives, EditRowGives, InsertionGives, IsEditFile};
+ghost use Rattle.layer_core.specs.Limits.{most_file_bytes};
 
 use crate::edit::{Edit, Side};
 use crate::fault::LayerFault;
-use crate::fields::{four_fields, id_in, shape_in, side_in};
+use crate::fields::{four_fields, id_in, side_in};
 use crate::read_fault::ReadFault;
-use crate::rows::{next_row, rows_of};
-use crate::source::{MAX_FILE_BYTES, Source, read_all};
+use crate::rows::Rows;
+use crate::source::{Source, read_all};
 use csv::ByteRecord;
 use std::alloc::{AllocError, Global};
 
@@ -24,23 +26,15 @@ use std::alloc::{AllocError, Global};
 /// [`LayerFault::BadId`], else, in an insertion, [`ReadFault::Wkt`]. [`ReadFault::Memory`] may
 /// come in place of any other.
 pub fn edits_of_bytes(alloc: Global, bytes: &[u8]) -> Result<Vec<Edit>, ReadFault>
-    ensures file { result ≢ Err ReadFault.Memory → IsEditFile bytes.now (edits_said result) }
+    ensures file { result ≢ Err ReadFault.Memory → IsEditFile bytes.now (edit_contents result) }
+    ensures few { IfOk result (λ edits. length edits.items ≤ most_file_bytes) }
     ensures no_io { result ≢ Err ReadFault.Io }
 {
-    if bytes.len() > MAX_FILE_BYTES {
-        return Err(ReadFault::TooLong);
-    }
-    let mut rows = rows_of(alloc, bytes);
-    let mut row = ByteRecord::new(alloc);
-    if !next_row(&mut rows, &mut row)? || !is_header(&row) {
-        return Err(ReadFault::Header);
-    }
+    let mut rows = Rows::open(alloc, bytes, &["op", "layer", "id", "wkt"])?;
     let mut edits = Vec::new(alloc);
-    let mut number = 1;
-    while next_row(&mut rows, &mut row)? {
-        let edit = edit_of_row(alloc, number, &row)?;
+    while let Some(number) = rows.next()? {
+        let edit = edit_of_row(alloc, number, rows.row())?;
         edits.push(edit).map_err(AllocError::from)?;
-        number += 1;
     }
     Ok(edits)
 }
@@ -52,30 +46,20 @@ pub fn edits_of_bytes(alloc: Global, bytes: &[u8]) -> Result<Vec<Edit>, ReadFaul
 pub fn read_edits<S: Source>(alloc: Global, source: &mut S) -> Result<Vec<Edit>, ReadFault>
     requires { S.has_failed source.old ≡ false }
     ensures io { IsErrOf result ReadFault.Io ↔ IsTrue (S.has_failed source.new) }
-    ensures file { result ≢ Err ReadFault.Io → result ≢ Err ReadFault.Memory → IfSome (S.remaining source.old) (λ bytes. IsEditFile bytes (edits_said result)) }
+    ensures file { result ≢ Err ReadFault.Io → result ≢ Err ReadFault.Memory
+        → IfSome (S.remaining source.old) (λ bytes. IsEditFile bytes (edit_contents result)) }
+    ensures few { IfOk result (λ edits. length edits.items ≤ most_file_bytes) }
 {
     let bytes = read_all(alloc, source)?;
     edits_of_bytes(alloc, bytes.as_slice())
 }
 
-fn is_header(row: &ByteRecord) -> bool
-    ensures { IsTrue result ↔ IsEditHeader (fields_of row.now) }
-{
-    match four_fields(row) {
-        Some((op, layer, id, wkt)) => {
-            op.eq_ignore_ascii_case(b"op")
-                && layer.eq_ignore_ascii_case(b"layer")
-                && id.eq_ignore_ascii_case(b"id")
-                && wkt.eq_ignore_ascii_case(b"wkt")
-        }
-        None => false,
-    }
-}
-
 // The edit of the row with this number.
 fn edit_of_row(alloc: Global, number: u32, row: &ByteRecord) -> Result<Edit, ReadFault>
-    ensures ok { IfOk result (λ edit. EditRowGives number (fields_of row.now) (Ok (said edit))) }
-    ensures err { IfErr result (λ fault. fault ≢ ReadFault.Memory → EditRowGives number (fields_of row.now) (Err fault)) }
+    ensures ok { IfOk result
+        (λ edit. EditRowGives number (fields_of row.now) (Ok (content_of edit))) }
+    ensures err { IfErr result (λ fault. fault ≢ ReadFault.Memory
+        → EditRowGives number (fields_of row.now) (Err fault)) }
     ensures no_io { result ≢ Err ReadFault.Io }
 {
     let (op, layer, id, wkt) = four_fields(row).ok_or(ReadFault::Row(number))?;
@@ -96,19 +80,22 @@ fn insertion(
     id: &[u8],
     wkt: &[u8],
 ) -> Result<Edit, ReadFault>
-    ensures ok { IfOk result (λ edit. InsertionGives number side id.now wkt.now (Ok (said edit))) }
-    ensures err { IfErr result (λ fault. fault ≢ ReadFault.Memory → InsertionGives number side id.now wkt.now (Err fault)) }
+    ensures ok { IfOk result
+        (λ edit. InsertionGives number side id.now wkt.now (Ok (content_of edit))) }
+    ensures err { IfErr result (λ fault. fault ≢ ReadFault.Memory
+        → InsertionGives number side id.now wkt.now (Err fault)) }
     ensures no_io { result ≢ Err ReadFault.Io }
 {
     let id = id_in(id).ok_or(ReadFault::Layer(number, LayerFault::BadId))?;
-    let shape = shape_in(wkt).map_err(|fault| ReadFault::Wkt(number, fault))?;
+    let shape = wkt_core::read(wkt).map_err(|fault| ReadFault::Wkt(number, fault))?;
     let id = String::from_str(alloc, id)?;
     Ok(Edit::Insert { side, id, shape })
 }
 
 fn deletion(alloc: Global, number: u32, side: Side, id: &[u8]) -> Result<Edit, ReadFault>
-    ensures ok { IfOk result (λ edit. DeletionGives number side id.now (Ok (said edit))) }
-    ensures err { IfErr result (λ fault. fault ≢ ReadFault.Memory → DeletionGives number side id.now (Err fault)) }
+    ensures ok { IfOk result (λ edit. DeletionGives number side id.now (Ok (content_of edit))) }
+    ensures err { IfErr result (λ fault. fault ≢ ReadFault.Memory
+        → DeletionGives number side id.now (Err fault)) }
     ensures no_io { result ≢ Err ReadFault.Io }
 {
     let id = id_in(id).ok_or(ReadFault::Layer(number, LayerFault::BadId))?;

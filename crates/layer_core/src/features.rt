@@ -1,7 +1,7 @@
 //! The features of a layer, found by id and by number.
 ghost use Rattle.std.specs.Prelude.{◌≡◌, Some, slice_get, IfSome, MatchOption};
 ghost use Rattle.std.specs.HashMap.{keys, values};
-ghost use Rattle.layer_core.specs.Tables.{ids_of, IsAbsent, IsOnly, IsTable};
+ghost use Rattle.layer_core.specs.MapAndSlots.{ids_of, IsAbsent, IsOnly, AreInverse};
 
 use crate::iter::Iter;
 use geom_core::Shape;
@@ -43,17 +43,19 @@ impl Model for Features {
     ghost Value = { Contents };
 
     ghost use Rattle.std.specs.HashMap.{keys};
-    ghost use Rattle.layer_core.specs.Tables.{contents_of, IsKept};
+    ghost use Rattle.layer_core.specs.MapAndSlots.{contents_of, StandForLayer};
 
     ghost view = { λ f. contents_of (keys f.ids) f.slots.items };
 
-    ghost invariant = { λ f. IsKept f.ids.entries f.slots.items f.count };
+    ghost invariant = { λ f. StandForLayer f.ids.entries f.slots.items f.count };
 }
 
 // The number and the slot of the feature with this id.
 fn locate(ids: &Ids, slots: &[Option<Slot>], id: &str) -> Option<(u32, Slot)>
-    requires { IsTable (values ids.now) slots.now }
-    ensures found { MatchOption result (IsAbsent (ids_of (keys ids.now)) id.now slots.now) (λ f. IsOnly (ids_of (keys ids.now)) id.now slots.now f.0 f.1) }
+    requires { AreInverse (values ids.now) slots.now }
+    ensures found { MatchOption result
+        (IsAbsent (ids_of (keys ids.now)) id.now slots.now)
+        (λ f. IsOnly (ids_of (keys ids.now)) id.now slots.now f.0 f.1) }
     ensures place { IfSome result (λ f. slice_get (values ids.now) f.1.place ≡ Some (Some f.0)) }
 {
     let place = ids.get_index_of(id)?;
@@ -66,6 +68,7 @@ impl Features {
     ghost use Rattle.std.specs.Prelude.{◌≡◌, ◌<◌, length, not, is_some, if◌then◌else◌, IfNone, IfOk, OnErr, string_bytes};
     ghost use Rattle.std.specs.Option.{option_map};
     ghost use Rattle.layer_core.specs.Layers.{empty, IsLayer, IdAndShapeAre, NumberAndShapeAre, with_id, with_number, inserted, deleted};
+    ghost use Rattle.layer_core.specs.Limits.{most_features};
 
     /// No features. `state` hashes the ids.
     pub(crate) fn new(alloc: Global, state: RandomState) -> Features
@@ -96,7 +99,7 @@ impl Features {
     /// How many features there are.
     pub(crate) fn len(&self) -> usize
         ensures len { result ≡ length self.now.features }
-        ensures valid { IsLayer self.now }
+        ensures layer { IsLayer self.now }
     {
         self.count
     }
@@ -115,7 +118,8 @@ impl Features {
 
     /// The number and the shape of the feature with this id.
     pub(crate) fn find(&self, id: &str) -> Option<(u32, Shape)>
-        ensures { NumberAndShapeAre result (with_id id.now self.now) }
+        ensures found { NumberAndShapeAre result (with_id id.now self.now) }
+        ensures layer { IsLayer self.now }
     {
         let (number, slot) = locate(&self.ids, self.slots.as_slice(), id)?;
         Some((number, slot.shape))
@@ -123,7 +127,8 @@ impl Features {
 
     /// The id and the shape of the feature with this number.
     pub(crate) fn at(&self, number: u32) -> Option<(&str, Shape)>
-        ensures { IdAndShapeAre result (with_number number self.now) }
+        ensures found { IdAndShapeAre result (with_number number self.now) }
+        ensures layer { IsLayer self.now }
     {
         let slot = (*self.slots.get(number as usize)?)?;
         let (id, _) = self.ids.get_index(slot.place)?;
@@ -132,7 +137,8 @@ impl Features {
 
     /// The features in the order of their numbers.
     pub(crate) fn iter(&self) -> Iter<'_>
-        ensures { result ≡ self.now.features }
+        ensures features { result ≡ self.now.features }
+        ensures layer { IsLayer self.now }
     {
         Iter::new(&self.ids, self.slots.as_slice())
     }
@@ -152,9 +158,11 @@ impl Features {
 
     /// Inserts a feature, or answers false where the id has one.
     pub(crate) fn insert(&mut self, id: String, shape: Shape) -> Result<bool, AllocError>
-        requires { self.old.next < MAX_FEATURES }
-        ensures absent { IfOk result (λ added. added ≡ not (is_some (with_id (string_bytes id) self.old))) }
-        ensures inserted { IfOk result (λ added. self.new ≡ (if added then inserted self.old (string_bytes id) shape else self.old)) }
+        requires { self.old.next < most_features }
+        ensures absent { IfOk result
+            (λ added. added ≡ not (is_some (with_id (string_bytes id) self.old))) }
+        ensures inserted { IfOk result (λ added. self.new
+            ≡ (if added then inserted self.old (string_bytes id) shape else self.old)) }
         ensures err { OnErr result (self.new ≡ self.old) }
     {
         let number = self.slots.len() as u32;

@@ -1,14 +1,12 @@
 //! The fields of a record, and what they say.
-ghost use Rattle.std.specs.Prelude.{◌≡◌, ◌≢◌, [], ◌∷◌, codes, length, IsTrue, ◌↔◌, IfSome, IfNone, IfErr};
+ghost use Rattle.std.specs.Prelude.{◌≡◌, ◌≢◌, [], ◌∷◌, codes, length, IsTrue, ◌↔◌, IfSome, IfNone};
 ghost use Rattle.csv.specs.Records.{fields_of};
-ghost use Rattle.layer_core.specs.Files.{IsId, Reads, side_named};
+ghost use Rattle.layer_core.specs.Fields.{IsId, side_named};
 
 use crate::edit::Side;
 use crate::layer::is_id;
 use csv::ByteRecord;
-use geom_core::Shape;
 use std::str::from_utf8;
-use wkt_core::WktFault;
 
 /// The fields of a record that has two.
 pub(crate) fn two_fields(row: &ByteRecord) -> Option<(&[u8], &[u8])>
@@ -23,7 +21,8 @@ pub(crate) fn two_fields(row: &ByteRecord) -> Option<(&[u8], &[u8])>
 
 /// The fields of a record that has four.
 pub(crate) fn four_fields(row: &ByteRecord) -> Option<(&[u8], &[u8], &[u8], &[u8])>
-    ensures some { IfSome result (λ f. fields_of row.now ≡ f.0.now ∷ f.1.now ∷ f.2.now ∷ f.3.now ∷ []) }
+    ensures some { IfSome result
+        (λ f. fields_of row.now ≡ f.0.now ∷ f.1.now ∷ f.2.now ∷ f.3.now ∷ []) }
     ensures none { IfNone result (length (fields_of row.now) ≢ 4) }
 {
     if row.len() != 4 {
@@ -41,13 +40,6 @@ pub(crate) fn id_in(field: &[u8]) -> Option<&str>
         Ok(id) if is_id(id) => Some(id),
         _ => None,
     }
-}
-
-/// The shape that a field spells.
-pub(crate) fn shape_in(field: &[u8]) -> Result<Shape, WktFault>
-    ensures { Reads field.now result }
-{
-    wkt_core::read(field)
 }
 
 /// The side that a field names.

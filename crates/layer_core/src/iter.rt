@@ -2,7 +2,7 @@
 ghost use Rattle.std.specs.Prelude.{◌≡◌};
 ghost use Rattle.std.specs.HashMap.{keys};
 ghost use Rattle.std.specs.Iterator.{YieldsFirstBy, item_count};
-ghost use Rattle.layer_core.specs.Tables.{features_from, ids_of, IsWalk};
+ghost use Rattle.layer_core.specs.MapAndSlots.{features_from, ids_of, IsWalk};
 ghost use Rattle.layer_core.specs.Walks.{feature_read};
 
 use crate::features::{Ids, Slot};
@@ -33,7 +33,7 @@ impl<'a> Model for Iter<'a> {
     ghost Value = { List Feature };
 
     ghost use Rattle.std.specs.HashMap.{keys};
-    ghost use Rattle.layer_core.specs.Tables.{features_from, ids_of, IsWalk};
+    ghost use Rattle.layer_core.specs.MapAndSlots.{features_from, ids_of, IsWalk};
 
     ghost view = { λ it. features_from (ids_of (keys it.ids.now)) it.number it.slots.now };
 

@@ -91,14 +91,16 @@ impl Layer {
 
     /// The number and the shape of the feature with this id.
     pub fn find(&self, id: &str) -> Option<(u32, Shape)>
-        ensures { NumberAndShapeAre result (with_id id.now self.now) }
+        ensures found { NumberAndShapeAre result (with_id id.now self.now) }
+        ensures layer { IsLayer self.now }
     {
         self.features.find(id)
     }
 
     /// The id and the shape of the feature with this number.
     pub fn at(&self, number: u32) -> Option<(&str, Shape)>
-        ensures { IdAndShapeAre result (with_number number self.now) }
+        ensures found { IdAndShapeAre result (with_number number self.now) }
+        ensures layer { IsLayer self.now }
     {
         self.features.at(number)
     }
@@ -132,7 +134,8 @@ impl Layer {
         ensures ok { OnOk result (self.new ≡ inserted self.old (string_bytes id) shape) }
         ensures err { OnErr result (self.new ≡ self.old) }
         // Memory may be refused before another reason is found.
-        ensures refused { result ≢ Err LayerFault.Memory → AnswersWith (insert_refusal self.old (string_bytes id)) result }
+        ensures refused { result ≢ Err LayerFault.Memory
+            → AnswersWith (insert_refusal self.old (string_bytes id)) result }
     {
         if self.features.next() >= MAX_FEATURES {
             return match self.features.find(id.as_str()) {
@@ -153,7 +156,8 @@ impl Layer {
     /// holds. A refusal changes nothing.
     pub fn remove(&mut self, id: &str) -> Result<Shape, LayerFault>
         ensures ok { OnOk result (self.new ≡ deleted self.old id.now) }
-        ensures shape { IfOk result (λ s. option_map (λ f. f.shape) (with_id id.now self.old) ≡ Some s) }
+        ensures shape { IfOk result
+            (λ s. option_map (λ f. f.shape) (with_id id.now self.old) ≡ Some s) }
         ensures err { OnErr result (self.new ≡ self.old) }
         ensures refused { AnswersWith (delete_refusal self.old id.now) result }
     {
@@ -162,9 +166,11 @@ impl Layer {
         }
         self.features.delete(id).ok_or(LayerFault::NoSuchId)
     }
+
     /// The features in layer order.
     pub fn iter(&self) -> Iter<'_>
-        ensures { result ≡ self.now.features }
+        ensures features { result ≡ self.now.features }
+        ensures layer { IsLayer self.now }
     {
         self.features.iter()
     }

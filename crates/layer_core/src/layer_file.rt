@@ -1,15 +1,15 @@
 //! CSV files of layers.
 ghost use Rattle.std.specs.Prelude.{◌≡◌, ◌≢◌, ◌↔◌, false, Ok, Err, IsErrOf, IsTrue, OnOk, IfErr, IfSome};
 ghost use Rattle.csv.specs.Records.{fields_of};
-ghost use Rattle.layer_core.specs.Files.{IsLayerFile, IsLayerHeader, LayerRowGives};
+ghost use Rattle.layer_core.specs.LayerFiles.{IsLayerFile, LayerRowGives};
 
 use crate::fault::LayerFault;
 use crate::features::MAX_FEATURES;
-use crate::fields::{id_in, shape_in, two_fields};
+use crate::fields::{id_in, two_fields};
 use crate::layer::Layer;
 use crate::read_fault::ReadFault;
-use crate::rows::{next_row, rows_of};
-use crate::source::{MAX_FILE_BYTES, Source, read_all};
+use crate::rows::Rows;
+use crate::source::{Source, read_all};
 use csv::ByteRecord;
 use std::alloc::Global;
 use std::hash::RandomState;
@@ -29,19 +29,10 @@ pub fn layer_of_bytes(alloc: Global, state: RandomState, bytes: &[u8]) -> Result
     ensures file { result ≢ Err ReadFault.Memory → IsLayerFile bytes.now result }
     ensures no_io { result ≢ Err ReadFault.Io }
 {
-    if bytes.len() > MAX_FILE_BYTES {
-        return Err(ReadFault::TooLong);
-    }
-    let mut rows = rows_of(alloc, bytes);
-    let mut row = ByteRecord::new(alloc);
-    if !next_row(&mut rows, &mut row)? || !is_header(&row) {
-        return Err(ReadFault::Header);
-    }
+    let mut rows = Rows::open(alloc, bytes, &["id", "wkt"])?;
     let mut layer = Layer::with_room(alloc, state, line_feeds(bytes).min(MAX_FEATURES))?;
-    let mut number = 1;
-    while next_row(&mut rows, &mut row)? {
-        insert_row(&mut layer, number, &row)?;
-        number += 1;
+    while let Some(number) = rows.next()? {
+        insert_row(&mut layer, number, rows.row())?;
     }
     Ok(layer)
 }
@@ -57,19 +48,11 @@ pub fn read_layer<S: Source>(
 ) -> Result<Layer, ReadFault>
     requires { S.has_failed source.old ≡ false }
     ensures io { IsErrOf result ReadFault.Io ↔ IsTrue (S.has_failed source.new) }
-    ensures file { result ≢ Err ReadFault.Io → result ≢ Err ReadFault.Memory → IfSome (S.remaining source.old) (λ bytes. IsLayerFile bytes result) }
+    ensures file { result ≢ Err ReadFault.Io → result ≢ Err ReadFault.Memory
+        → IfSome (S.remaining source.old) (λ bytes. IsLayerFile bytes result) }
 {
     let bytes = read_all(alloc, source)?;
     layer_of_bytes(alloc, state, bytes.as_slice())
-}
-
-fn is_header(row: &ByteRecord) -> bool
-    ensures { IsTrue result ↔ IsLayerHeader (fields_of row.now) }
-{
-    match two_fields(row) {
-        Some((id, wkt)) => id.eq_ignore_ascii_case(b"id") && wkt.eq_ignore_ascii_case(b"wkt"),
-        None => false,
-    }
 }
 
 fn line_feeds(bytes: &[u8]) -> usize {
@@ -79,12 +62,13 @@ fn line_feeds(bytes: &[u8]) -> usize {
 // Inserts the feature of the row with this number.
 fn insert_row(layer: &mut Layer, number: u32, row: &ByteRecord) -> Result<(), ReadFault>
     ensures ok { OnOk result (LayerRowGives number layer.old (fields_of row.now) (Ok layer.new)) }
-    ensures err { IfErr result (λ fault. fault ≢ ReadFault.Memory → LayerRowGives number layer.old (fields_of row.now) (Err fault)) }
+    ensures err { IfErr result (λ fault. fault ≢ ReadFault.Memory
+        → LayerRowGives number layer.old (fields_of row.now) (Err fault)) }
     ensures no_io { result ≢ Err ReadFault.Io }
 {
     let (id, wkt) = two_fields(row).ok_or(ReadFault::Row(number))?;
     let id = id_in(id).ok_or(ReadFault::Layer(number, LayerFault::BadId))?;
-    let shape = shape_in(wkt).map_err(|fault| ReadFault::Wkt(number, fault))?;
+    let shape = wkt_core::read(wkt).map_err(|fault| ReadFault::Wkt(number, fault))?;
     let id = String::from_str(layer.allocator(), id)?;
     match layer.add(id, shape) {
         Ok(()) => Ok(()),

@@ -22,6 +22,3 @@ pub use layer::{Layer, MAX_ID_BYTES};
 pub use layer_file::{layer_of_bytes, read_layer};
 pub use read_fault::ReadFault;
 pub use source::{Failed, FromRead, MAX_FILE_BYTES, Source, read_all};
-
-#[cfg(test)]
-mod tests;

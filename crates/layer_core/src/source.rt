@@ -1,6 +1,7 @@
 //! Where bytes are read from, and reading all of them.
 ghost use Rattle.std.specs.Prelude.{◌≡◌, ◌≤◌, ◌<◌, ◌↔◌, ℕ, List, Option, None, Bool, true, false, length, is_err, IfOk, IfErr, IfSome, IsErrOf, IsTrue};
 ghost use Rattle.std.specs.Io.KnownBytes.{ReadConsumes};
+ghost use Rattle.layer_core.specs.Limits.{most_file_bytes};
 ghost use Rattle.layer_core.specs.Sources.{IsReadingFault};
 
 use crate::read_fault::ReadFault;
@@ -87,9 +88,11 @@ impl<R: Read> Source for FromRead<R> {
 /// [`MAX_FILE_BYTES`] come, and [`ReadFault::Memory`].
 pub fn read_all<S: Source>(alloc: Global, source: &mut S) -> Result<Vec<u8>, ReadFault>
     requires { S.has_failed source.old ≡ false }
-    ensures bytes { IfOk result (λ all. IfSome (S.remaining source.old) (λ left. all.items ≡ left)) }
-    ensures few { IfOk result (λ all. length all.items ≤ MAX_FILE_BYTES) }
-    ensures too_long { IsErrOf result ReadFault.TooLong → IfSome (S.remaining source.old) (λ left. MAX_FILE_BYTES < length left) }
+    ensures bytes { IfOk result
+        (λ all. IfSome (S.remaining source.old) (λ left. all.items ≡ left)) }
+    ensures few { IfOk result (λ all. length all.items ≤ most_file_bytes) }
+    ensures too_long { IsErrOf result ReadFault.TooLong
+        → IfSome (S.remaining source.old) (λ left. most_file_bytes < length left) }
     ensures io { IsErrOf result ReadFault.Io ↔ IsTrue (S.has_failed source.new) }
     ensures others { IfErr result IsReadingFault }
 {

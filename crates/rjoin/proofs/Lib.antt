@@ -1,6 +1,2 @@
-pub mod JoinLemmas
-pub mod JoinRunLemmas
-pub mod LineLemmas
-pub mod RelatingLemmas
-pub mod ReportLemmas
-pub mod WrittenLemmas
+pub mod CommandLemmas
+pub mod WordLemmas

@@ -1,13 +1,4 @@
-pub mod CsvWriting
-pub mod JoinRuns
-pub mod Joins
-pub mod EditRuns
-pub mod Lines
-pub mod Matches
-pub mod Options
-pub mod Relating
-pub mod Reports
-pub mod Rows
-pub mod Statuses
-pub mod ToWrite
-pub mod Written
+pub mod Commands
+pub mod Endings
+pub mod Opening
+pub mod WordFaults

@@ -1,34 +1,35 @@
 //! The program: from the words of the command line to the exit status.
 
-ghost use Rattle.std.specs.Prelude.{◌≡◌, false, IsTrue};
+ghost use Rattle.std.specs.Prelude.{◌≡◌, ◌⊎◌, false, IsTrue, Result};
+ghost use Rattle.join_core.specs.declared.fault.RunFault.{RunFault};
+ghost use Rattle.rjoin.specs.declared.words.Command.{Command};
+ghost use Rattle.rjoin.specs.declared.words.WordFault.{WordFault};
+ghost use Rattle.rjoin.specs.Commands.{CommandEnds};
+ghost use Rattle.rjoin.specs.Endings.{IsToldBy, IsShownBy};
 
-use crate::fault::RunFault;
-use crate::join_files::{JoinPaths, join_files};
-use crate::lines::{fault_line, word_line};
-use crate::relate::run_relate;
-use crate::sink::{Sink, WriteFailed};
-use crate::words::{Command, WordFault, read_words, word_status};
+use crate::command::{FAILED, run_command};
+use crate::inputs::Inputs;
+use crate::word_line::{word_line, word_status};
+use crate::words::{WordFault, read_words};
+use join_core::{RunFault, Sink, WriteFailed, fault_line};
 use std::alloc::AllocError;
 use std::random::RandomSource;
-use std::rt::{Env, Files};
+use std::rt::Env;
 use std::{env, io};
-
-/// The status of a command that failed.
-const FAILED: u8 = 1;
 
 /// Does what the words of the command line ask for, and returns the exit status. What they ask for,
 /// help included, goes to `output`, and the line of a fault to `errors`.
-pub fn run_program<R: Env + Files + RandomSource + AllocGlobal, O: Sink, E: Sink>(
+pub fn run_program<R: Env + RandomSource + AllocGlobal, I: Inputs, O: Sink, E: Sink>(
     rt: &R,
+    inputs: &I,
     output: &mut O,
     errors: &mut E,
 ) -> u8
     requires output { O.has_failed output.old ≡ false }
     requires errors { E.has_failed errors.old ≡ false }
-    ensures { IsTrue (O.has_failed output.new) → result ≡ FAILED }
 {
     match given_words(rt) {
-        Ok(words) => run_words(rt, words.as_slice(), output, errors),
+        Ok(words) => run_words(rt, words.as_slice(), inputs, output, errors),
         Err(fault) => show_word_fault(&fault, output, errors),
     }
 }
@@ -45,15 +46,17 @@ fn given_words<R: Env + AllocGlobal>(rt: &R) -> Result<Vec<String>, WordFault> {
     }
 }
 
-fn run_words<R: Files + RandomSource + AllocGlobal, O: Sink, E: Sink>(
+/// Does what words ask for: they are read as a command, which is run, or as the fault that is
+/// shown.
+pub fn run_words<R: RandomSource + AllocGlobal, I: Inputs, O: Sink, E: Sink>(
     rt: &R,
     words: &[String],
+    inputs: &I,
     output: &mut O,
     errors: &mut E,
 ) -> u8
     requires output { O.has_failed output.old ≡ false }
     requires errors { E.has_failed errors.old ≡ false }
-    ensures { IsTrue (O.has_failed output.new) → result ≡ FAILED }
 {
     let words: Result<Vec<&str>, AllocError> = words
         .iter()
@@ -63,52 +66,17 @@ fn run_words<R: Files + RandomSource + AllocGlobal, O: Sink, E: Sink>(
         return show_word_fault(&WordFault::Memory, output, errors);
     };
     match read_words(rt.alloc(), words.as_slice()) {
-        Ok(command) => run_command(rt, command, output, errors),
+        Ok(command) => run_command(rt, inputs, &command, output, errors),
         Err(fault) => show_word_fault(&fault, output, errors),
     }
 }
 
-fn run_command<R: Files + RandomSource + AllocGlobal, O: Sink, E: Sink>(
-    rt: &R,
-    command: Command<'_>,
-    output: &mut O,
-    errors: &mut E,
-) -> u8
-    requires output { O.has_failed output.old ≡ false }
-    requires errors { E.has_failed errors.old ≡ false }
-    ensures { IsTrue (O.has_failed output.new) → result ≡ FAILED }
-{
-    let outcome = match command {
-        Command::Relate { a, b } => run_relate(a.as_bytes(), b.as_bytes(), output),
-        Command::Join {
-            left_path,
-            right_path,
-            edits_path,
-            relation,
-            options,
-        } => {
-            let paths = JoinPaths {
-                left: left_path,
-                right: right_path,
-                edits: edits_path,
-            };
-            join_files(rt, paths, &relation, &options, output)
-        }
-    };
-    match outcome {
-        Ok(()) => 0,
-        Err(fault) => {
-            // Where standard error fails too, the status is all that is left to tell.
-            let _ = fault_line(&fault, errors);
-            FAILED
-        }
-    }
-}
-
+/// Shows what is wrong with words, or the help that they ask for, and returns the exit status.
 fn show_word_fault<O: Sink, E: Sink>(fault: &WordFault, output: &mut O, errors: &mut E) -> u8
     requires output { O.has_failed output.old ≡ false }
     requires errors { E.has_failed errors.old ≡ false }
-    ensures { IsTrue (O.has_failed output.new) → result ≡ FAILED }
+    ensures { IsShownBy O.written O.has_failed output.old output.new
+        E.written E.has_failed errors.old errors.new fault.now result }
 {
     let status = word_status(fault);
     if status != 0 {

@@ -1,6 +1,5 @@
-//! The program's calls, from outside.
+//! The program from outside: its words, and its commands over files in memory.
 
-mod device;
-mod joining;
-mod relating;
+mod commands;
+mod shelf;
 mod words;

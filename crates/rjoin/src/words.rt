@@ -2,14 +2,12 @@
 
 ghost use Rattle.std.specs.Prelude.{◌≡◌};
 ghost use Rattle.rjoin.specs.declared.words.WordFault.TheVariants as word_faults;
-ghost use Rattle.rjoin.specs.Statuses.{word_status_of};
 
-use crate::options::{OptionFault, Options};
 use clap::error::ErrorKind;
 use clap::{Arg, ArgMatches, value_parser};
 use geom_core::{AllowsDisjoint, JoinRelation, MaskFault, Relation};
+use join_core::{OptionFault, Options};
 use std::alloc::{AllocError, Global};
-use thiserror::Error;
 
 /// What the program is asked to do. Texts and paths are borrowed from the words.
 #[derive(Clone, Copy, Debug, PartialEq, Eq)]
@@ -30,22 +28,17 @@ pub enum Command<'a> {
 }
 
 /// Why the words are no command.
-#[derive(Debug, Drop, Error)]
+#[derive(Debug, Drop)]
 pub enum WordFault {
     /// The words don't fit the usage, or ask for help: `text` is what to show.
-    #[error("{text}")]
     Usage { text: String, help: bool },
     /// The relation is neither a name nor a mask.
-    #[error("--relation: {0}")]
     Relation(MaskFault),
     /// The relation holds for disjoint features too.
-    #[error("--relation: disjoint features may fit")]
     AllowsDisjoint,
     /// A number is out of its range.
-    #[error("--{0}")]
     Options(OptionFault),
     /// Memory ran out.
-    #[error("no memory")]
     Memory,
 }
 
@@ -78,20 +71,6 @@ impl From<AllocError> for WordFault {
 
     fn from(_: AllocError) -> WordFault {
         WordFault::Memory
-    }
-}
-
-/// The exit status: 0 for help, 1 where memory ran out, and else 2.
-pub fn word_status(fault: &WordFault) -> u8
-    ensures { result ≡ word_status_of fault.now }
-{
-    match fault {
-        WordFault::Usage { help: true, .. } => 0,
-        WordFault::Usage { help: false, .. } => 2,
-        WordFault::Relation(_) => 2,
-        WordFault::AllowsDisjoint => 2,
-        WordFault::Options(_) => 2,
-        WordFault::Memory => 1,
     }
 }
 

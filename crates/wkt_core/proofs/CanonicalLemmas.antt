@@ -25,8 +25,8 @@ digits_are (d ∷ ds) h = let range = digit_from_value d h.0 in (grind (arith, n
 
 -- a number as it is printed
 numeral : ℤ → Numeral
-numeral (pos n) = record { negative = false; whole = decimal n; decimals = [] }
-numeral (negsuc n) = record { negative = true; whole = decimal (suc n); decimals = [] }
+numeral (pos n) = record { negative = false; digits = decimal n; decimals = [] }
+numeral (negsuc n) = record { negative = true; digits = decimal (suc n); decimals = [] }
 
 in_word : (n : ℕ) → IsCoordinate (pos n) → n < 2 ^ 64
 in_word n h = omega (arith, ints)
@@ -38,10 +38,34 @@ number_printed : (z : ℤ) → IsCoordinate z → Number (numeral z) (signed_dec
 unfolding numeral
 number_printed (pos n) h =
     let d = decimal_is_IsNumeral n (in_word n h) in
-    record { front = []; back = decimal n; first = inl refl; second = record { front = decimal n; back = []; first = (d.0.0, digits_are (decimal n) d.0.1, refl); second = (tt, inl (refl, refl)); whole = sym (append-nil (decimal n)) }; whole = refl }
+    record {
+      front = [];
+      back = decimal n;
+      first = inl refl;
+      second = record {
+        front = decimal n;
+        back = [];
+        first = (d.0.0, digits_are (decimal n) d.0.1, refl);
+        second = (tt, inl (refl, refl));
+        joined = sym (append-nil (decimal n));
+      };
+      joined = refl;
+    }
 number_printed (negsuc n) h =
     let d = decimal_is_IsNumeral (suc n) (in_word_below n h) in
-    record { front = codes "-"; back = decimal (suc n); first = refl; second = record { front = decimal (suc n); back = []; first = (d.0.0, digits_are (decimal (suc n)) d.0.1, refl); second = (tt, inl (refl, refl)); whole = sym (append-nil (decimal (suc n))) }; whole = refl }
+    record {
+      front = codes "-";
+      back = decimal (suc n);
+      first = refl;
+      second = record {
+        front = decimal (suc n);
+        back = [];
+        first = (d.0.0, digits_are (decimal (suc n)) d.0.1, refl);
+        second = (tt, inl (refl, refl));
+        joined = sym (append-nil (decimal (suc n)));
+      };
+      joined = refl;
+    }
 
 value_printed : (z : ℤ) → IsCoordinate z → value (numeral z) ≡ z
 unfolding numeral
@@ -67,8 +91,8 @@ point_printed p h = record {
   front = signed_decimal p.x;
   back = 32 ∷ signed_decimal p.y;
   first = number_printed p.x h.0;
-  second = record { front = codes " "; back = signed_decimal p.y; first = (omega arith, (refl, tt)); second = number_printed p.y h.1; whole = refl };
-  whole = append_assoc (signed_decimal p.x) (codes " ") (signed_decimal p.y);
+  second = record { front = codes " "; back = signed_decimal p.y; first = (omega arith, (refl, tt)); second = number_printed p.y h.1; joined = refl };
+  joined = append_assoc (signed_decimal p.x) (codes " ") (signed_decimal p.y);
 }
 
 position_printed : (p : Position) → InRange p → position (raw p) ≡ p
@@ -84,7 +108,8 @@ good_point p h = (good_printed p.x h.0, good_printed p.y h.1)
 AllInRange : List Position → Type 0
 AllInRange ps = AllByRecursion InRange ps
 
-points_printed : (p : Position) (ps : List Position) (w : List ℕ) → AllInRange (p ∷ ps) → Blanks w → Listed PointText (map raw (p ∷ ps)) (w ++ (listed (p ∷ ps) ++ 41 ∷ []))
+points_printed : (p : Position) (ps : List Position) (w : List ℕ) → AllInRange (p ∷ ps) → Blanks w
+    → Listed PointText (map raw (p ∷ ps)) (w ++ (listed (p ∷ ps) ++ 41 ∷ []))
 unfolding AllInRange
 points_printed p [] w h blank = record {
   front = w;
@@ -94,10 +119,10 @@ points_printed p [] w h blank = record {
     front = pair p;
     back = 41 ∷ [];
     first = point_printed p h.0;
-    second = record { front = []; back = 41 ∷ []; first = tt; second = refl; whole = refl };
-    whole = ap (λ t. t ++ 41 ∷ []) (append-nil (pair p));
+    second = record { front = []; back = 41 ∷ []; first = tt; second = refl; joined = refl };
+    joined = ap (λ t. t ++ 41 ∷ []) (append-nil (pair p));
   };
-  whole = refl;
+  joined = refl;
 }
 points_printed p (q ∷ ps) w h blank = record {
   front = w;
@@ -111,18 +136,32 @@ points_printed p (q ∷ ps) w h blank = record {
       front = [];
       back = 44 ∷ 32 ∷ (listed (q ∷ ps) ++ 41 ∷ []);
       first = tt;
-      second = record { front = codes ","; back = 32 ∷ (listed (q ∷ ps) ++ 41 ∷ []); first = refl; second = points_printed q ps (32 ∷ []) h.1 (refl, tt); whole = refl };
-      whole = refl;
+      second = record {
+        front = codes ",";
+        back = 32 ∷ (listed (q ∷ ps) ++ 41 ∷ []);
+        first = refl;
+        second = points_printed q ps (32 ∷ []) h.1 (refl, tt);
+        joined = refl;
+      };
+      joined = refl;
     };
-    whole = append_assoc (pair p) (44 ∷ 32 ∷ listed (q ∷ ps)) (41 ∷ []);
+    joined = append_assoc (pair p) (44 ∷ 32 ∷ listed (q ∷ ps)) (41 ∷ []);
   };
-  whole = refl;
+  joined = refl;
 }
 
 list_printed : (p : Position) (ps : List Position) → AllInRange (p ∷ ps) → PointList (map raw (p ∷ ps)) (40 ∷ (listed (p ∷ ps) ++ 41 ∷ []))
-list_printed p ps h = record { front = codes "("; back = listed (p ∷ ps) ++ 41 ∷ []; first = refl; second = points_printed p ps [] h tt; whole = refl }
+list_printed p ps h = record {
+  front = codes
+      "(";
+  back = listed (p ∷ ps) ++ 41 ∷ [];
+  first = refl;
+  second = points_printed p ps [] h tt;
+  joined = refl;
+}
 
-ring_printed : (p : Position) (ps : List Position) → AllInRange (p ∷ ps) → Body Polygon (map raw (p ∷ ps) ∷ []) (40 ∷ 40 ∷ (listed (p ∷ ps) ++ 41 ∷ 41 ∷ []))
+ring_printed : (p : Position) (ps : List Position) → AllInRange (p ∷ ps)
+    → Body Polygon (map raw (p ∷ ps) ∷ []) (40 ∷ 40 ∷ (listed (p ∷ ps) ++ 41 ∷ 41 ∷ []))
 ring_printed p ps h =
     let list = 40 ∷ (listed (p ∷ ps) ++ 41 ∷ []) in
     record {
@@ -137,16 +176,17 @@ ring_printed p ps h =
           front = list;
           back = 41 ∷ [];
           first = list_printed p ps h;
-          second = record { front = []; back = 41 ∷ []; first = tt; second = refl; whole = refl };
-          whole = ap (λ t. 40 ∷ t) (sym (append_assoc (listed (p ∷ ps)) (41 ∷ []) (41 ∷ [])));
+          second = record { front = []; back = 41 ∷ []; first = tt; second = refl; joined = refl };
+          joined = ap (λ t. 40 ∷ t) (sym (append_assoc (listed (p ∷ ps)) (41 ∷ []) (41 ∷ [])));
         };
-        whole = refl;
+        joined = refl;
       };
-      whole = refl;
+      joined = refl;
     }
 
 -- a keyword, a space and what stands behind it
-text_printed : (keyword : Keyword) (lists : List (List RawPoint)) (word body : List ℕ) → Word keyword word → Body keyword lists body → Raw (word ++ 32 ∷ body) keyword lists
+text_printed : (keyword : Keyword) (lists : List (List RawPoint)) (word body : List ℕ) → Word keyword word → Body keyword lists body
+    → Raw (word ++ 32 ∷ body) keyword lists
 text_printed keyword lists word body h b = record {
   front = [];
   back = word ++ 32 ∷ body;
@@ -159,12 +199,12 @@ text_printed keyword lists word body h b = record {
       front = codes " ";
       back = body;
       first = (refl, tt);
-      second = record { front = body; back = []; first = b; second = tt; whole = sym (append-nil body) };
-      whole = refl;
+      second = record { front = body; back = []; first = b; second = tt; joined = sym (append-nil body) };
+      joined = refl;
     };
-    whole = refl;
+    joined = refl;
   };
-  whole = refl;
+  joined = refl;
 }
 
 -- ---- the shape
@@ -179,7 +219,8 @@ unfolding AllInRange
 good_points [] h = tt
 good_points (p ∷ ps) h = (good_point p h.0, good_points ps h.1)
 
-spelled_by : (text : List ℕ) (keyword : Keyword) (ps : List Position) (s : Shape) → AllInRange ps → Raw text keyword (map raw ps ∷ []) → Forms keyword (ps ∷ []) s → Spells text s
+spelled_by : (text : List ℕ) (keyword : Keyword) (ps : List Position) (s : Shape) → AllInRange ps → Raw text keyword (map raw ps ∷ [])
+    → Forms keyword (ps ∷ []) s → Spells text s
 spelled_by text keyword ps s h r f = record {
   keyword = keyword;
   lists = map raw ps ∷ [];
@@ -209,15 +250,18 @@ module _ (s : Shape) where
       (text_printed Point (map raw (p ∷ []) ∷ []) (codes "POINT") _ refl (list_printed p [] ((low_x, low_y), tt)))
       (record { first_x = refl; first_y = refl; second_x = sym e; second_y = sym f })
 
-  segment_spelled : (x1 s ≡ x2 s) ⊎ (y1 s ≡ y2 s) → (x1 s <ℤ x2 s) ⊎ (y1 s <ℤ y2 s) → Spells (codes "LINESTRING (" ++ listed (corner (x1 s) (y1 s) ∷ corner (x2 s) (y2 s) ∷ []) ++ codes ")") s
+  segment_spelled : (x1 s ≡ x2 s) ⊎ (y1 s ≡ y2 s) → (x1 s <ℤ x2 s) ⊎ (y1 s <ℤ y2 s)
+      → Spells (codes "LINESTRING (" ++ listed (corner (x1 s) (y1 s) ∷ corner (x2 s) (y2 s) ∷ []) ++ codes ")") s
   unfolding InRange AllInRange
   segment_spelled same apart =
       let p = corner (x1 s) (y1 s) in
       let q = corner (x2 s) (y2 s) in
       spelled_by _ LineString (p ∷ q ∷ []) s ((low_x, low_y), ((high_x, high_y), tt))
-      (text_printed LineString (map raw (p ∷ q ∷ []) ∷ []) (codes "LINESTRING") _ refl (list_printed p (q ∷ []) ((low_x, low_y), ((high_x, high_y), tt))))
+      (text_printed LineString (map raw (p ∷ q ∷ []) ∷ []) (codes "LINESTRING") _ refl
+      (list_printed p (q ∷ []) ((low_x, low_y), ((high_x, high_y), tt))))
       (record {
-        differ = λ e. ⊎_elim (λ l. let k : x1 s ≡ x2 s = ap (λ r. r.x) e in omega (arith, ints)) (λ l. let k : y1 s ≡ y2 s = ap (λ r. r.y) e in omega (arith, ints)) apart;
+        differ = λ e. ⊎_elim (λ l. let k : x1 s ≡ x2 s = ap (λ r. r.x) e in omega (arith, ints))
+            (λ l. let k : y1 s ≡ y2 s = ap (λ r. r.y) e in omega (arith, ints)) apart;
         parallel = same;
         ends = inl (record { first_x = refl; first_y = refl; second_x = refl; second_y = refl });
       })

@@ -1,139 +1,244 @@
 -- The points of a text and the shapes that they draw.
-use Rattle.std.proofs.Common.{◌≡◌, ◌≢◌, ℕ, zero, suc, ◌<◌, ◌≤◌, length, List, [], ◌∷◌, ◌⊎◌, inl, inr, get_or, reverse, ap, ap₂, ⊎_elim, arith, ℤ}
-use Rattle.std.specs.Prelude.{◌<ℤ◌, ◌↔◌, Option, Some, None, IsSome, IfNone}
+use Rattle.std.proofs.Common.{◌≡◌, ◌≢◌, ℕ, zero, suc, ◌<◌, ◌≤◌, length, List, [], ◌∷◌, ◌⊎◌, inl, inr, get_or, reverse, sym, ◌∙◌, ap, ⊎_elim, arith, ℤ}
+use Rattle.std.specs.Prelude.{◌<ℤ◌, ◌≤ℤ◌, ◌↔◌, Option, Some, None, IsSome, IfNone}
+use Rattle.std.specs.Int.{int_min, int_max}
 use Rattle.std.proofs.lemmas.Bool.{false≢true}
 use Rattle.std.proofs.lemmas.Int.{ints, clamps, by_lt_z}
 use Rattle.geom_core.specs.declared.shape.Shape.{Shape}
-use Rattle.geom_core.specs.Shapes.{x1, y1, x2, y2, HasCorners, AreCorners}
+use Rattle.geom_core.specs.Shapes.{x1, y1, x2, y2, HasCorners}
 use Rattle.wkt_core.specs.declared.position.Position.{Position}
 use Rattle.wkt_core.specs.declared.keyword.Keyword.TheVariants.{Point, LineString, Polygon}
-use Rattle.wkt_core.specs.Spelling.{Draws, IsSegment, IsRectangle, RunsRound, corners, rotated}
-use Rattle.wkt_core.specs.Corners.{IsSpanned, AreParallel, LeadsRound, HasFourCorners}
-
--- the corners of a shape are in order and in range
-pub are_corners : (a b c d : ℤ) (s : Shape) → HasCorners a b c d s → AreCorners a b c d
-are_corners a b c d s h = record {
-  along_x = omega (arith, ints);
-  along_y = omega (arith, ints);
-  first_x = (omega (arith, ints), omega (arith, ints));
-  first_y = (omega (arith, ints), omega (arith, ints));
-  second_x = (omega (arith, ints), omega (arith, ints));
-  second_y = (omega (arith, ints), omega (arith, ints));
-}
+use Rattle.wkt_core.specs.Spelling.{Draws, IsSegment, IsRectangle, RunsRound, corner, corners, rotated}
+use Rattle.wkt_core.specs.FormSteps.{IsSpanned, LeadsRound, HasFourCorners}
 
 pub same_position : (p q : Position) → p.x ≡ q.x → p.y ≡ q.y → p ≡ q
 same_position p q e f = λ i. record { x = e i; y = f i }
 
+-- ---- the ends of what two numbers span
+
+ends_up : (a c lo hi : ℤ) → a ≤ℤ c → lo ≡ int_min a c → hi ≡ int_max a c → (lo ≡ a) × (hi ≡ c)
+ends_up a c lo hi h e f = (omega (arith, ints, clamps), omega (arith, ints, clamps))
+
+ends_down : (a c lo hi : ℤ) → c ≤ℤ a → lo ≡ int_min a c → hi ≡ int_max a c → (lo ≡ c) × (hi ≡ a)
+ends_down a c lo hi h e f = (omega (arith, ints, clamps), omega (arith, ints, clamps))
+
+up_ends : (a c lo hi : ℤ) → lo ≤ℤ hi → lo ≡ a → hi ≡ c → (lo ≡ int_min a c) × (hi ≡ int_max a c)
+up_ends a c lo hi h e f = (omega (arith, ints, clamps), omega (arith, ints, clamps))
+
+down_ends : (a c lo hi : ℤ) → lo ≤ℤ hi → lo ≡ c → hi ≡ a → (lo ≡ int_min a c) × (hi ≡ int_max a c)
+down_ends a c lo hi h e f = (omega (arith, ints, clamps), omega (arith, ints, clamps))
+
+below_is_at_most : (a c : ℤ) → a <ℤ c → a ≤ℤ c
+below_is_at_most a c h = omega (arith, ints)
+
 -- ---- segments
 
-pub segment_spanned : (p q : Position) (s : Shape) → p ≢ q → AreParallel p q → IsSpanned p q s → IsSegment p q s
-segment_spanned p q s apart (inl e) h =
-    by_lt_z p.y q.y
-    (λ up. record { differ = apart; parallel = inl e; ends = inl (record { first_x = omega (arith, ints, clamps); first_y = omega (arith, ints, clamps); second_x = omega (arith, ints, clamps); second_y = omega (arith, ints, clamps) }) })
-    (λ down. record { differ = apart; parallel = inl e; ends = inr (record { first_x = omega (arith, ints, clamps); first_y = omega (arith, ints, clamps); second_x = omega (arith, ints, clamps); second_y = omega (arith, ints, clamps) }) })
-segment_spanned p q s apart (inr e) h =
-    by_lt_z p.x q.x
-    (λ up. record { differ = apart; parallel = inr e; ends = inl (record { first_x = omega (arith, ints, clamps); first_y = omega (arith, ints, clamps); second_x = omega (arith, ints, clamps); second_y = omega (arith, ints, clamps) }) })
-    (λ down. record { differ = apart; parallel = inr e; ends = inr (record { first_x = omega (arith, ints, clamps); first_y = omega (arith, ints, clamps); second_x = omega (arith, ints, clamps); second_y = omega (arith, ints, clamps) }) })
+-- what spans a shape: its lowest and its highest corner, in either order
+spanned_up : (p q : Position) (s : Shape) → HasCorners p.x p.y q.x q.y s → IsSpanned p q s
+spanned_up p q s h =
+    let x = up_ends p.x q.x (x1 s) (x2 s) (omega (arith, ints)) h.first_x h.second_x in
+    let y = up_ends p.y q.y (y1 s) (y2 s) (omega (arith, ints)) h.first_y h.second_y in
+    record { first_x = x.0; first_y = y.0; second_x = x.1; second_y = y.1 }
+
+spanned_down : (p q : Position) (s : Shape) → HasCorners q.x q.y p.x p.y s → IsSpanned p q s
+spanned_down p q s h =
+    let x = down_ends p.x q.x (x1 s) (x2 s) (omega (arith, ints)) h.first_x h.second_x in
+    let y = down_ends p.y q.y (y1 s) (y2 s) (omega (arith, ints)) h.first_y h.second_y in
+    record { first_x = x.0; first_y = y.0; second_x = x.1; second_y = y.1 }
 
 pub spanned_segment : (p q : Position) (s : Shape) → IsSegment p q s → IsSpanned p q s
-spanned_segment p q s h = ⊎_elim
-    (λ e. record { first_x = omega (arith, ints, clamps); first_y = omega (arith, ints, clamps); second_x = omega (arith, ints, clamps); second_y = omega (arith, ints, clamps) })
-    (λ e. record { first_x = omega (arith, ints, clamps); first_y = omega (arith, ints, clamps); second_x = omega (arith, ints, clamps); second_y = omega (arith, ints, clamps) })
-    h.ends
+spanned_segment p q s h = ⊎_elim (spanned_up p q s) (spanned_down p q s) h.ends
 
 -- ---- rectangles
 
-record SameFour (a b c d p q r t : Position) : Type 0 where
-  ax : a.x ≡ p.x
-  ay : a.y ≡ p.y
-  bx : b.x ≡ q.x
-  by : b.y ≡ q.y
-  cx : c.x ≡ r.x
-  cy : c.y ≡ r.y
-  dx : d.x ≡ t.x
-  dy : d.y ≡ t.y
+-- four positions in a row
+abbrev four : Position → Position → Position → Position → List Position
+four a b c d = a ∷ b ∷ c ∷ d ∷ []
 
-same_four : (a b c d p q r t : Position) → (a ∷ b ∷ c ∷ d ∷ []) ≡ (p ∷ q ∷ r ∷ t ∷ []) → SameFour a b c d p q r t
-same_four a b c d p q r t e = record {
-  ax = ap (λ l. (get_or l 0 a).x) e;
-  ay = ap (λ l. (get_or l 0 a).y) e;
-  bx = ap (λ l. (get_or l 1 a).x) e;
-  by = ap (λ l. (get_or l 1 a).y) e;
-  cx = ap (λ l. (get_or l 2 a).x) e;
-  cy = ap (λ l. (get_or l 2 a).y) e;
-  dx = ap (λ l. (get_or l 3 a).x) e;
-  dy = ap (λ l. (get_or l 3 a).y) e;
-}
+-- the corners at these numbers, first along the first axis, or first along the second
+abbrev across : ℤ → ℤ → ℤ → ℤ → List Position
+across u v w z = four (corner u w) (corner v w) (corner v z) (corner u z)
 
-four_same : (a b c d p q r t : Position) → SameFour a b c d p q r t → (a ∷ b ∷ c ∷ d ∷ []) ≡ (p ∷ q ∷ r ∷ t ∷ [])
-four_same a b c d p q r t e =
-    ap₂ (λ x xs. x ∷ xs) (same_position a p e.ax e.ay) (ap₂ (λ x xs. x ∷ xs) (same_position b q e.bx e.by)
-    (ap₂ (λ x xs. x ∷ xs) (same_position c r e.cx e.cy) (ap (λ x. x ∷ []) (same_position d t e.dx e.dy))))
+abbrev upward : ℤ → ℤ → ℤ → ℤ → List Position
+upward u v w z = four (corner u w) (corner u z) (corner v z) (corner v w)
 
--- the four corners, from the lowest on
-abbrev c1 : Shape → Position
-c1 s = record { x = x1 s; y = y1 s }
+four_same : (a b c d p q r t : Position) → a ≡ p → b ≡ q → c ≡ r → d ≡ t → four a b c d ≡ four p q r t
+four_same a b c d p q r t e f g h = cc
 
-abbrev c2 : Shape → Position
-c2 s = record { x = x2 s; y = y1 s }
+-- the first and the third of four positions
+abbrev AreOpposite : Position → Position → ℤ → ℤ → ℤ → ℤ → Type 0
+AreOpposite a c u v w z = (a.x ≡ u) × (c.x ≡ v) × (a.y ≡ w) × (c.y ≡ z)
 
-abbrev c3 : Shape → Position
-c3 s = record { x = x2 s; y = y2 s }
+across_from : (a b c d : Position) (u v w z : ℤ) → LeadsRound a b c d → AreOpposite a c u v w z → four a b c d ≡ across u v w z
+across_from a b c d u v w z (ab, bc, cd, da) (au, cv, aw, cz) =
+    four_same a b c d (corner u w) (corner v w) (corner v z) (corner u z)
+    (same_position a (corner u w) au aw) (same_position b (corner v w) (bc ∙ cv) (sym ab ∙ aw))
+    (same_position c (corner v z) cv cz) (same_position d (corner u z) (da ∙ au) (sym cd ∙ cz))
 
-abbrev c4 : Shape → Position
-c4 s = record { x = x1 s; y = y2 s }
+upward_from : (a b c d : Position) (u v w z : ℤ) → LeadsRound b c d a → AreOpposite a c u v w z → four a b c d ≡ upward u v w z
+upward_from a b c d u v w z (bc, cd, da, ab) (au, cv, aw, cz) =
+    four_same a b c d (corner u w) (corner u z) (corner v z) (corner v w)
+    (same_position a (corner u w) au aw) (same_position b (corner u z) (sym ab ∙ au) (bc ∙ cz))
+    (same_position c (corner v z) cv cz) (same_position d (corner v w) (sym cd ∙ cv) (da ∙ aw))
 
 abbrev Turns : Position → Position → Position → Position → Shape → Type 0
-Turns a b c d s = RunsRound (a ∷ b ∷ c ∷ d ∷ []) s
+Turns a b c d s = RunsRound (four a b c d) s
 
--- by where the third point lies from the first
-by_side : {P : Type 0} (a c : Position) → a.x ≢ c.x → a.y ≢ c.y → (a.x <ℤ c.x → a.y <ℤ c.y → P) → (c.x <ℤ a.x → a.y <ℤ c.y → P) → (c.x <ℤ a.x → c.y <ℤ a.y → P) → (a.x <ℤ c.x → c.y <ℤ a.y → P) → P
-by_side a c dx dy f g h k =
-    by_lt_z a.x c.x
-    (λ right. by_lt_z a.y c.y (λ up. f right up) (λ down. k right (omega (arith, ints, dy))))
-    (λ left. by_lt_z a.y c.y (λ up. g (omega (arith, ints, dx)) up) (λ down. h (omega (arith, ints, dx)) (omega (arith, ints, dy))))
+module _ (a b c d : Position) (s : Shape) (spanned : IsSpanned a c s) where
+  -- by where the third position lies from the first
+  by_side : {P : Type 0} → a.x ≢ c.x → a.y ≢ c.y
+      → (AreOpposite a c (x1 s) (x2 s) (y1 s) (y2 s) → P) → (AreOpposite a c (x2 s) (x1 s) (y1 s) (y2 s) → P)
+      → (AreOpposite a c (x2 s) (x1 s) (y2 s) (y1 s) → P) → (AreOpposite a c (x1 s) (x2 s) (y2 s) (y1 s) → P) → P
+  by_side dx dy f g h k =
+      let right = λ (l : a.x <ℤ c.x). ends_up a.x c.x (x1 s) (x2 s) (below_is_at_most a.x c.x l) spanned.first_x spanned.second_x in
+      let left = λ (l : c.x ≤ℤ a.x). ends_down a.x c.x (x1 s) (x2 s) l spanned.first_x spanned.second_x in
+      let up = λ (l : a.y <ℤ c.y). ends_up a.y c.y (y1 s) (y2 s) (below_is_at_most a.y c.y l) spanned.first_y spanned.second_y in
+      let down = λ (l : c.y ≤ℤ a.y). ends_down a.y c.y (y1 s) (y2 s) l spanned.first_y spanned.second_y in
+      by_lt_z a.x c.x
+      (λ r. by_lt_z a.y c.y
+      (λ u. f (sym (right r).0, sym (right r).1, sym (up u).0, sym (up u).1))
+      (λ v. k (sym (right r).0, sym (right r).1, sym (down v).1, sym (down v).0)))
+      (λ l. by_lt_z a.y c.y
+      (λ u. g (sym (left l).1, sym (left l).0, sym (up u).0, sym (up u).1))
+      (λ v. h (sym (left l).1, sym (left l).0, sym (down v).1, sym (down v).0)))
 
-round_first : (a b c d : Position) (s : Shape) → LeadsRound a b c d → a.x ≢ c.x → a.y ≢ c.y → IsSpanned a c s → Turns a b c d s
-round_first a b c d s l dx dy h =
-    by_side a c dx dy
-    (λ p q. (0, omega arith, inl (four_same a b c d (c1 s) (c2 s) (c3 s) (c4 s) (record { ax = omega (arith, ints, clamps); ay = omega (arith, ints, clamps); bx = omega (arith, ints, clamps); by = omega (arith, ints, clamps); cx = omega (arith, ints, clamps); cy = omega (arith, ints, clamps); dx = omega (arith, ints, clamps); dy = omega (arith, ints, clamps) }))))
-    (λ p q. (2, omega arith, inr (four_same a b c d (c2 s) (c1 s) (c4 s) (c3 s) (record { ax = omega (arith, ints, clamps); ay = omega (arith, ints, clamps); bx = omega (arith, ints, clamps); by = omega (arith, ints, clamps); cx = omega (arith, ints, clamps); cy = omega (arith, ints, clamps); dx = omega (arith, ints, clamps); dy = omega (arith, ints, clamps) }))))
-    (λ p q. (2, omega arith, inl (four_same a b c d (c3 s) (c4 s) (c1 s) (c2 s) (record { ax = omega (arith, ints, clamps); ay = omega (arith, ints, clamps); bx = omega (arith, ints, clamps); by = omega (arith, ints, clamps); cx = omega (arith, ints, clamps); cy = omega (arith, ints, clamps); dx = omega (arith, ints, clamps); dy = omega (arith, ints, clamps) }))))
-    (λ p q. (0, omega arith, inr (four_same a b c d (c4 s) (c3 s) (c2 s) (c1 s) (record { ax = omega (arith, ints, clamps); ay = omega (arith, ints, clamps); bx = omega (arith, ints, clamps); by = omega (arith, ints, clamps); cx = omega (arith, ints, clamps); cy = omega (arith, ints, clamps); dx = omega (arith, ints, clamps); dy = omega (arith, ints, clamps) }))))
+  round_first : LeadsRound a b c d → a.x ≢ c.x → a.y ≢ c.y → Turns a b c d s
+  round_first l dx dy =
+      by_side dx dy
+      (λ o. (0, omega arith, inl (across_from a b c d (x1 s) (x2 s) (y1 s) (y2 s) l o)))
+      (λ o. (2, omega arith, inr (across_from a b c d (x2 s) (x1 s) (y1 s) (y2 s) l o)))
+      (λ o. (2, omega arith, inl (across_from a b c d (x2 s) (x1 s) (y2 s) (y1 s) l o)))
+      (λ o. (0, omega arith, inr (across_from a b c d (x1 s) (x2 s) (y2 s) (y1 s) l o)))
 
-round_second : (a b c d : Position) (s : Shape) → LeadsRound b c d a → a.x ≢ c.x → a.y ≢ c.y → IsSpanned a c s → Turns a b c d s
-round_second a b c d s l dx dy h =
-    by_side a c dx dy
-    (λ p q. (3, omega arith, inr (four_same a b c d (c1 s) (c4 s) (c3 s) (c2 s) (record { ax = omega (arith, ints, clamps); ay = omega (arith, ints, clamps); bx = omega (arith, ints, clamps); by = omega (arith, ints, clamps); cx = omega (arith, ints, clamps); cy = omega (arith, ints, clamps); dx = omega (arith, ints, clamps); dy = omega (arith, ints, clamps) }))))
-    (λ p q. (1, omega arith, inl (four_same a b c d (c2 s) (c3 s) (c4 s) (c1 s) (record { ax = omega (arith, ints, clamps); ay = omega (arith, ints, clamps); bx = omega (arith, ints, clamps); by = omega (arith, ints, clamps); cx = omega (arith, ints, clamps); cy = omega (arith, ints, clamps); dx = omega (arith, ints, clamps); dy = omega (arith, ints, clamps) }))))
-    (λ p q. (1, omega arith, inr (four_same a b c d (c3 s) (c2 s) (c1 s) (c4 s) (record { ax = omega (arith, ints, clamps); ay = omega (arith, ints, clamps); bx = omega (arith, ints, clamps); by = omega (arith, ints, clamps); cx = omega (arith, ints, clamps); cy = omega (arith, ints, clamps); dx = omega (arith, ints, clamps); dy = omega (arith, ints, clamps) }))))
-    (λ p q. (3, omega arith, inl (four_same a b c d (c4 s) (c1 s) (c2 s) (c3 s) (record { ax = omega (arith, ints, clamps); ay = omega (arith, ints, clamps); bx = omega (arith, ints, clamps); by = omega (arith, ints, clamps); cx = omega (arith, ints, clamps); cy = omega (arith, ints, clamps); dx = omega (arith, ints, clamps); dy = omega (arith, ints, clamps) }))))
+  round_second : LeadsRound b c d a → a.x ≢ c.x → a.y ≢ c.y → Turns a b c d s
+  round_second l dx dy =
+      by_side dx dy
+      (λ o. (3, omega arith, inr (upward_from a b c d (x1 s) (x2 s) (y1 s) (y2 s) l o)))
+      (λ o. (1, omega arith, inl (upward_from a b c d (x2 s) (x1 s) (y1 s) (y2 s) l o)))
+      (λ o. (1, omega arith, inr (upward_from a b c d (x2 s) (x1 s) (y2 s) (y1 s) l o)))
+      (λ o. (3, omega arith, inl (upward_from a b c d (x1 s) (x2 s) (y2 s) (y1 s) l o)))
 
-pub rectangle_spanned : (a b c d : Position) (s : Shape) → HasFourCorners a b c d → IsSpanned a c s → IsRectangle a b c d s
-rectangle_spanned a b c d s (round, dx, dy) h = record {
-  wide = omega (arith, ints, clamps, dx);
-  high = omega (arith, ints, clamps, dy);
-  round = ⊎_elim (λ l. round_first a b c d s l dx dy h) (λ l. round_second a b c d s l dx dy h) round;
-}
+  pub rectangle_spanned : HasFourCorners a b c d → IsRectangle a b c d s
+  rectangle_spanned (round, dx, dy) = record {
+    wide = omega (arith, ints, clamps, dx);
+    high = omega (arith, ints, clamps, dy);
+    round = ⊎_elim (λ l. round_first l dx dy) (λ l. round_second l dx dy) round;
+  }
 
 -- what is known of four corners in order
-abbrev Corners : Position → Position → Position → Position → Shape → Type 0
-Corners a b c d s = HasFourCorners a b c d × IsSpanned a c s
+abbrev AreCornersOf : Position → Position → Position → Position → Shape → Type 0
+AreCornersOf a b c d s = HasFourCorners a b c d × IsSpanned a c s
 
-corners_back : (a b c d : Position) (s : Shape) → x1 s <ℤ x2 s → y1 s <ℤ y2 s → (n : ℕ) → n < 4 → ((a ∷ b ∷ c ∷ d ∷ []) ≡ rotated n (corners s)) ⊎ ((a ∷ b ∷ c ∷ d ∷ []) ≡ rotated n (reverse (corners s))) → Corners a b c d s
-corners_back a b c d s wide high zero l (inl e) = let f = same_four a b c d (c1 s) (c2 s) (c3 s) (c4 s) e in ((inl (omega (arith, ints, clamps), omega (arith, ints, clamps), omega (arith, ints, clamps), omega (arith, ints, clamps)), (λ e. absurd (omega (arith, ints, e))), (λ e. absurd (omega (arith, ints, e)))), record { first_x = omega (arith, ints, clamps); first_y = omega (arith, ints, clamps); second_x = omega (arith, ints, clamps); second_y = omega (arith, ints, clamps) })
-corners_back a b c d s wide high zero l (inr e) = let f = same_four a b c d (c4 s) (c3 s) (c2 s) (c1 s) e in ((inl (omega (arith, ints, clamps), omega (arith, ints, clamps), omega (arith, ints, clamps), omega (arith, ints, clamps)), (λ e. absurd (omega (arith, ints, e))), (λ e. absurd (omega (arith, ints, e)))), record { first_x = omega (arith, ints, clamps); first_y = omega (arith, ints, clamps); second_x = omega (arith, ints, clamps); second_y = omega (arith, ints, clamps) })
-corners_back a b c d s wide high (suc zero) l (inl e) = let f = same_four a b c d (c2 s) (c3 s) (c4 s) (c1 s) e in ((inr (omega (arith, ints, clamps), omega (arith, ints, clamps), omega (arith, ints, clamps), omega (arith, ints, clamps)), (λ e. absurd (omega (arith, ints, e))), (λ e. absurd (omega (arith, ints, e)))), record { first_x = omega (arith, ints, clamps); first_y = omega (arith, ints, clamps); second_x = omega (arith, ints, clamps); second_y = omega (arith, ints, clamps) })
-corners_back a b c d s wide high (suc zero) l (inr e) = let f = same_four a b c d (c3 s) (c2 s) (c1 s) (c4 s) e in ((inr (omega (arith, ints, clamps), omega (arith, ints, clamps), omega (arith, ints, clamps), omega (arith, ints, clamps)), (λ e. absurd (omega (arith, ints, e))), (λ e. absurd (omega (arith, ints, e)))), record { first_x = omega (arith, ints, clamps); first_y = omega (arith, ints, clamps); second_x = omega (arith, ints, clamps); second_y = omega (arith, ints, clamps) })
-corners_back a b c d s wide high (suc (suc zero)) l (inl e) = let f = same_four a b c d (c3 s) (c4 s) (c1 s) (c2 s) e in ((inl (omega (arith, ints, clamps), omega (arith, ints, clamps), omega (arith, ints, clamps), omega (arith, ints, clamps)), (λ e. absurd (omega (arith, ints, e))), (λ e. absurd (omega (arith, ints, e)))), record { first_x = omega (arith, ints, clamps); first_y = omega (arith, ints, clamps); second_x = omega (arith, ints, clamps); second_y = omega (arith, ints, clamps) })
-corners_back a b c d s wide high (suc (suc zero)) l (inr e) = let f = same_four a b c d (c2 s) (c1 s) (c4 s) (c3 s) e in ((inl (omega (arith, ints, clamps), omega (arith, ints, clamps), omega (arith, ints, clamps), omega (arith, ints, clamps)), (λ e. absurd (omega (arith, ints, e))), (λ e. absurd (omega (arith, ints, e)))), record { first_x = omega (arith, ints, clamps); first_y = omega (arith, ints, clamps); second_x = omega (arith, ints, clamps); second_y = omega (arith, ints, clamps) })
-corners_back a b c d s wide high (suc (suc (suc zero))) l (inl e) = let f = same_four a b c d (c4 s) (c1 s) (c2 s) (c3 s) e in ((inr (omega (arith, ints, clamps), omega (arith, ints, clamps), omega (arith, ints, clamps), omega (arith, ints, clamps)), (λ e. absurd (omega (arith, ints, e))), (λ e. absurd (omega (arith, ints, e)))), record { first_x = omega (arith, ints, clamps); first_y = omega (arith, ints, clamps); second_x = omega (arith, ints, clamps); second_y = omega (arith, ints, clamps) })
-corners_back a b c d s wide high (suc (suc (suc zero))) l (inr e) = let f = same_four a b c d (c1 s) (c4 s) (c3 s) (c2 s) e in ((inr (omega (arith, ints, clamps), omega (arith, ints, clamps), omega (arith, ints, clamps), omega (arith, ints, clamps)), (λ e. absurd (omega (arith, ints, e))), (λ e. absurd (omega (arith, ints, e)))), record { first_x = omega (arith, ints, clamps); first_y = omega (arith, ints, clamps); second_x = omega (arith, ints, clamps); second_y = omega (arith, ints, clamps) })
-corners_back a b c d s wide high (suc (suc (suc (suc n)))) l e = absurd (omega arith)
+-- the numbers of four positions in a row
+record SameFour (a b c d p q r t : Position) : Type 0 where
+  first : a ≡ p
+  second : b ≡ q
+  third : c ≡ r
+  fourth : d ≡ t
 
-pub rectangle_corners : (a b c d : Position) (s : Shape) → IsRectangle a b c d s → HasFourCorners a b c d × IsSpanned a c s
-rectangle_corners a b c d s h = corners_back a b c d s h.wide h.high h.round.0 h.round.1 h.round.2
+same_four : (a b c d p q r t : Position) → four a b c d ≡ four p q r t → SameFour a b c d p q r t
+same_four a b c d p q r t e = record {
+  first = ap (λ l. get_or l 0 a) e;
+  second = ap (λ l. get_or l 1 a) e;
+  third = ap (λ l. get_or l 2 a) e;
+  fourth = ap (λ l. get_or l 3 a) e;
+}
+
+x_of : (p q : Position) → p ≡ q → p.x ≡ q.x
+x_of p q e = ap (λ r. r.x) e
+
+y_of : (p q : Position) → p ≡ q → p.y ≡ q.y
+y_of p q e = ap (λ r. r.y) e
+
+opposite_from : (a c : Position) (u v w z : ℤ) → a ≡ corner u w → c ≡ corner v z → AreOpposite a c u v w z
+opposite_from a c u v w z e f = (x_of a (corner u w) e, x_of c (corner v z) f, y_of a (corner u w) e, y_of c (corner v z) f)
+
+from_across : (a b c d : Position) (u v w z : ℤ) → four a b c d ≡ across u v w z → LeadsRound a b c d × AreOpposite a c u v w z
+from_across a b c d u v w z e =
+    let f = same_four a b c d (corner u w) (corner v w) (corner v z) (corner u z) e in
+    let o = opposite_from a c u v w z f.first f.third in
+    let bx = x_of b (corner v w) f.second in
+    let by = y_of b (corner v w) f.second in
+    let dx = x_of d (corner u z) f.fourth in
+    let dy = y_of d (corner u z) f.fourth in
+    ((o.2 ∙ sym by, bx ∙ sym o.1, o.3 ∙ sym dy, dx ∙ sym o.0), o)
+
+from_upward : (a b c d : Position) (u v w z : ℤ) → four a b c d ≡ upward u v w z → LeadsRound b c d a × AreOpposite a c u v w z
+from_upward a b c d u v w z e =
+    let f = same_four a b c d (corner u w) (corner u z) (corner v z) (corner v w) e in
+    let o = opposite_from a c u v w z f.first f.third in
+    let bx = x_of b (corner u z) f.second in
+    let by = y_of b (corner u z) f.second in
+    let dx = x_of d (corner v w) f.fourth in
+    let dy = y_of d (corner v w) f.fourth in
+    ((by ∙ sym o.3, o.1 ∙ sym dx, dy ∙ sym o.2, o.0 ∙ sym bx), o)
+
+-- the least and the greatest of two different numbers
+record AreEndsOf (a c lo hi : ℤ) : Type 0 where
+  least : lo ≡ int_min a c
+  greatest : hi ≡ int_max a c
+  apart : a ≢ c
+
+ends_of_up : (a c lo hi : ℤ) → lo <ℤ hi → lo ≡ a → hi ≡ c → AreEndsOf a c lo hi
+ends_of_up a c lo hi h e f =
+    let ends = up_ends a c lo hi (below_is_at_most lo hi h) e f in
+    record { least = ends.0; greatest = ends.1; apart = λ same. absurd (omega (arith, ints, same)) }
+
+ends_of_down : (a c lo hi : ℤ) → lo <ℤ hi → lo ≡ c → hi ≡ a → AreEndsOf a c lo hi
+ends_of_down a c lo hi h e f =
+    let ends = down_ends a c lo hi (below_is_at_most lo hi h) e f in
+    record { least = ends.0; greatest = ends.1; apart = λ same. absurd (omega (arith, ints, same)) }
+
+corners_of : (a b c d : Position) (s : Shape) → LeadsRound a b c d ⊎ LeadsRound b c d a
+    → AreEndsOf a.x c.x (x1 s) (x2 s) → AreEndsOf a.y c.y (y1 s) (y2 s) → AreCornersOf a b c d s
+corners_of a b c d s round x y = (
+  (round, x.apart, y.apart),
+  record { first_x = x.least; first_y = y.least; second_x = x.greatest; second_y = y.greatest },
+)
+
+module _ (a b c d : Position) (s : Shape) (wide : x1 s <ℤ x2 s) (high : y1 s <ℤ y2 s) where
+  right : a.x ≡ x1 s → c.x ≡ x2 s → AreEndsOf a.x c.x (x1 s) (x2 s)
+  right e f = ends_of_up a.x c.x (x1 s) (x2 s) wide (sym e) (sym f)
+
+  left : a.x ≡ x2 s → c.x ≡ x1 s → AreEndsOf a.x c.x (x1 s) (x2 s)
+  left e f = ends_of_down a.x c.x (x1 s) (x2 s) wide (sym f) (sym e)
+
+  up : a.y ≡ y1 s → c.y ≡ y2 s → AreEndsOf a.y c.y (y1 s) (y2 s)
+  up e f = ends_of_up a.y c.y (y1 s) (y2 s) high (sym e) (sym f)
+
+  down : a.y ≡ y2 s → c.y ≡ y1 s → AreEndsOf a.y c.y (y1 s) (y2 s)
+  down e f = ends_of_down a.y c.y (y1 s) (y2 s) high (sym f) (sym e)
+
+  turned : (n : ℕ) → n < 4 → (four a b c d ≡ rotated n (corners s)) ⊎ (four a b c d ≡ rotated n (reverse (corners s)))
+      → AreCornersOf a b c d s
+  turned zero l (inl e) =
+      let (r, (au, cv, aw, cz)) = from_across a b c d (x1 s) (x2 s) (y1 s) (y2 s) e in
+      corners_of a b c d s (inl r) (right au cv) (up aw cz)
+  turned zero l (inr e) =
+      let (r, (au, cv, aw, cz)) = from_across a b c d (x1 s) (x2 s) (y2 s) (y1 s) e in
+      corners_of a b c d s (inl r) (right au cv) (down aw cz)
+  turned (suc zero) l (inl e) =
+      let (r, (au, cv, aw, cz)) = from_upward a b c d (x2 s) (x1 s) (y1 s) (y2 s) e in
+      corners_of a b c d s (inr r) (left au cv) (up aw cz)
+  turned (suc zero) l (inr e) =
+      let (r, (au, cv, aw, cz)) = from_upward a b c d (x2 s) (x1 s) (y2 s) (y1 s) e in
+      corners_of a b c d s (inr r) (left au cv) (down aw cz)
+  turned (suc (suc zero)) l (inl e) =
+      let (r, (au, cv, aw, cz)) = from_across a b c d (x2 s) (x1 s) (y2 s) (y1 s) e in
+      corners_of a b c d s (inl r) (left au cv) (down aw cz)
+  turned (suc (suc zero)) l (inr e) =
+      let (r, (au, cv, aw, cz)) = from_across a b c d (x2 s) (x1 s) (y1 s) (y2 s) e in
+      corners_of a b c d s (inl r) (left au cv) (up aw cz)
+  turned (suc (suc (suc zero))) l (inl e) =
+      let (r, (au, cv, aw, cz)) = from_upward a b c d (x1 s) (x2 s) (y2 s) (y1 s) e in
+      corners_of a b c d s (inr r) (right au cv) (down aw cz)
+  turned (suc (suc (suc zero))) l (inr e) =
+      let (r, (au, cv, aw, cz)) = from_upward a b c d (x1 s) (x2 s) (y1 s) (y2 s) e in
+      corners_of a b c d s (inr r) (right au cv) (up aw cz)
+  turned (suc (suc (suc (suc n)))) l e = absurd (omega arith)
+
+pub rectangle_corners : (a b c d : Position) (s : Shape) → IsRectangle a b c d s → AreCornersOf a b c d s
+rectangle_corners a b c d s h = turned a b c d s h.wide h.high h.round.0 h.round.1 h.round.2
 
 -- ---- answers
 
@@ -149,17 +254,14 @@ none_weaker (Some x) h f = tt
 -- ---- lists of the right length
 
 module _ (d : Position) where
-  pub point_drawn : (xs : List Position) (s : Shape) → 1 ≤ length xs → length xs < 2 → IsSpanned (get_or xs 0 d) (get_or xs 0 d) s → Draws Point xs s
-  point_drawn [] s l u h = absurd (omega arith)
-  point_drawn (p ∷ []) s l u h = record { first_x = omega (arith, ints, clamps); first_y = omega (arith, ints, clamps); second_x = omega (arith, ints, clamps); second_y = omega (arith, ints, clamps) }
-  point_drawn (p ∷ q ∷ xs) s l u h = absurd (omega arith)
-
-  pub drawn_point : (xs : List Position) (s : Shape) → 1 ≤ length xs → length xs < 2 → Draws Point xs s → IsSpanned (get_or xs 0 d) (get_or xs 0 d) s
+  pub drawn_point : (xs : List Position) (s : Shape) → 1 ≤ length xs → length xs < 2
+      → Draws Point xs s → IsSpanned (get_or xs 0 d) (get_or xs 0 d) s
   drawn_point [] s l u h = absurd (omega arith)
-  drawn_point (p ∷ []) s l u h = record { first_x = omega (arith, ints, clamps); first_y = omega (arith, ints, clamps); second_x = omega (arith, ints, clamps); second_y = omega (arith, ints, clamps) }
+  drawn_point (p ∷ []) s l u h = spanned_up p p s h
   drawn_point (p ∷ q ∷ xs) s l u h = absurd (omega arith)
 
-  pub drawn_segment : (xs : List Position) (s : Shape) → 2 ≤ length xs → length xs < 3 → Draws LineString xs s → IsSegment (get_or xs 0 d) (get_or xs 1 d) s
+  pub drawn_segment : (xs : List Position) (s : Shape) → 2 ≤ length xs → length xs < 3
+      → Draws LineString xs s → IsSegment (get_or xs 0 d) (get_or xs 1 d) s
   drawn_segment [] s l u h = absurd (omega arith)
   drawn_segment (p ∷ []) s l u h = absurd (omega arith)
   drawn_segment (p ∷ q ∷ []) s l u h = h
@@ -175,7 +277,8 @@ module _ (d : Position) where
   ring_drawn (a ∷ b ∷ c ∷ f ∷ g ∷ []) s l u e h = (e, h)
   ring_drawn (a ∷ b ∷ c ∷ f ∷ g ∷ x ∷ xs) s l u e h = absurd (omega arith)
 
-  pub drawn_ring : (xs : List Position) (s : Shape) → 5 ≤ length xs → length xs < 6 → Draws Polygon xs s → IsRectangle (get_or xs 0 d) (get_or xs 1 d) (get_or xs 2 d) (get_or xs 3 d) s
+  pub drawn_ring : (xs : List Position) (s : Shape) → 5 ≤ length xs → length xs < 6
+      → Draws Polygon xs s → IsRectangle (get_or xs 0 d) (get_or xs 1 d) (get_or xs 2 d) (get_or xs 3 d) s
   drawn_ring [] s l u h = absurd (omega arith)
   drawn_ring (a ∷ []) s l u h = absurd (omega arith)
   drawn_ring (a ∷ b ∷ []) s l u h = absurd (omega arith)

@@ -6,8 +6,10 @@ use Rattle.std.proofs.lemmas.Option.{same_Some, none-some, some_pair_parts, opti
 use Rattle.std.specs.Char.{is_ascii_digit}
 use Rattle.std.proofs.lemmas.Bool.Decides.{nat_tests}
 use Rattle.std.proofs.lemmas.List.{append_assoc, length-append}
-use Rattle.wkt_core.specs.Grammar.{Numeral, RawPoint, is_blank, Blanks, Gap, Digits, Sign, Whole, Decimals, Number, PointText}
-use Rattle.wkt_core.specs.Reading.{skip, gap_at, digits_at, after_digits, sign_at, decimals_at, unsigned_at, number_at, point_at, symbol_at}
+use Rattle.wkt_core.specs.Grammar.{Numeral, RawPoint, is_blank, Blanks, Gap, Digits, Sign, SomeDigits, Decimals, Number, PointText}
+use Rattle.wkt_core.specs.TokenSteps.{skip, gap_at, symbol_at}
+use Rattle.wkt_core.specs.NumberSteps.{digits_at, after_digits, sign_at, decimals_at, numeral_at, unsigned_at, number_at}
+use Rattle.wkt_core.specs.PointSteps.{point_at}
 
 -- what may stand behind a number: white space, a comma or a closing parenthesis
 abbrev pub is_stop : ℕ → Bool
@@ -29,7 +31,8 @@ NoBlank (b ∷ text) = is_blank b ≡ false
 
 -- ---- white space
 
-blanks_more : (b : ℕ) (text : List ℕ) → (w : List ℕ) × Blanks w × (text ≡ w ++ skip text) → (v : Bool) → is_blank b ≡ v → (w : List ℕ) × Blanks w × (b ∷ text ≡ w ++ cond v (skip text) (b ∷ text))
+blanks_more : (b : ℕ) (text : List ℕ) → (w : List ℕ) × Blanks w × (text ≡ w ++ skip text) → (v : Bool) → is_blank b ≡ v
+    → (w : List ℕ) × Blanks w × (b ∷ text ≡ w ++ cond v (skip text) (b ∷ text))
 blanks_more b text (w, h, e) true p = (b ∷ w, (p, h), ap (λ u. b ∷ u) e)
 blanks_more b text r false p = ([], tt, refl)
 
@@ -82,7 +85,8 @@ stop_is_no_dot b h = grind (arith, nat_tests)
 digit_is_no_sign : (b : ℕ) → is_ascii_digit b ≡ true → (eqb b 43 ≡ false) × (eqb b 45 ≡ false)
 digit_is_no_sign b h = (grind (arith, nat_tests), grind (arith, nat_tests))
 
-pub sign_at_front : (negative : Bool) (s : List ℕ) (d : ℕ) (text : List ℕ) → Sign negative s → is_ascii_digit d ≡ true → sign_at (s ++ d ∷ text) ≡ (negative, d ∷ text)
+pub sign_at_front : (negative : Bool) (s : List ℕ) (d : ℕ) (text : List ℕ) → Sign negative s → is_ascii_digit d ≡ true
+    → sign_at (s ++ d ∷ text) ≡ (negative, d ∷ text)
 sign_at_front true s d text h k = rw h refl
 sign_at_front false s d text (inl e) k = let n = digit_is_no_sign d k in rw (e, n.0, n.1) refl
 sign_at_front false s d text (inr e) k = rw e refl
@@ -90,7 +94,8 @@ sign_at_front false s d text (inr e) k = rw e refl
 pub decimals_at_front : (ds s text : List ℕ) → Decimals ds s → Stops text → decimals_at (s ++ text) ≡ (ds, text)
 decimals_at_front ds s [] h stop = absurd stop
 decimals_at_front ds s (b ∷ text) (h, inl (p, q)) stop = rw (q, p, stop_is_no_dot b stop) refl
-decimals_at_front ds s (b ∷ text) (h, inr q) stop = let n = stop_is_no_digit (b ∷ text) stop in rw (q, digits_at_front ds (b ∷ text) h n, after_digits_front ds (b ∷ text) h n) refl
+decimals_at_front ds s (b ∷ text) (h, inr q) stop = let n = stop_is_no_digit (b ∷ text) stop in
+    rw (q, digits_at_front ds (b ∷ text) h n, after_digits_front ds (b ∷ text) h n) refl
 
 decimals_end_digits : (ds s text : List ℕ) → Decimals ds s → Stops text → NoDigit (s ++ text)
 decimals_end_digits ds s text (h, inl (p, q)) stop = rw q (stop_is_no_digit text stop)
@@ -108,7 +113,12 @@ sign_split (b ∷ text) = sign_more b text (eqb b 43) (eqb b 45) refl refl
 
 decimals_more : (b : ℕ) (text : List ℕ) (v : Bool) → eqb b 46 ≡ v →
     let r : List ℕ × List ℕ = cond v (digits_at text, after_digits text) ([], b ∷ text) in (s : List ℕ) × Decimals r.0 s × (b ∷ text ≡ s ++ r.1)
-decimals_more b text true p = (46 ∷ digits_at text, (are_digits text, inr refl), ap (λ x. x ∷ text) (eqb-true b 46 p) ∙ ap (λ u. 46 ∷ u) (digits_split text))
+decimals_more b text true p = (
+  46 ∷ digits_at text,
+  (are_digits text, inr refl),
+  ap (λ x. x ∷ text) (eqb-true b 46 p)
+      ∙ ap (λ u. 46 ∷ u) (digits_split text),
+)
 decimals_more b text false p = ([], (tt, inl (refl, refl)), refl)
 
 decimals_split : (text : List ℕ) → (s : List ℕ) × Decimals (decimals_at text).0 s × (text ≡ s ++ (decimals_at text).1)
@@ -120,16 +130,24 @@ abbrev pub Begins : {X : Type 0} → (X → List ℕ → Type 0) → List ℕ �
 Begins A text x rest = (s : List ℕ) × A x s × (text ≡ s ++ rest)
 
 unsigned_more : (negative : Bool) (x text : List ℕ) (b : ℕ) (u : List ℕ) (v : Bool) → Sign negative x → text ≡ x ++ b ∷ u → is_ascii_digit b ≡ v →
-    IfSome {T = Numeral × List ℕ} (cond v (Some (record { negative = negative; whole = b ∷ digits_at u; decimals = (decimals_at (after_digits u)).0 }, (decimals_at (after_digits u)).1)) None) (λ p. Begins Number text p.0 p.1)
+    IfSome {T = Numeral × List ℕ} (cond v (Some (numeral_at negative (b ∷ digits_at u) (after_digits u))) None) (λ p. Begins Number text p.0 p.1)
 unsigned_more negative x text b u true h e p =
     let (y, hy, ey) = decimals_split (after_digits u) in (
       x ++ ((b ∷ digits_at u) ++ y),
-      record { front = x; back = (b ∷ digits_at u) ++ y; first = h; second = record { front = b ∷ digits_at u; back = y; first = (omega arith, (p, are_digits u), refl); second = hy; whole = refl }; whole = refl },
+      record {
+        front = x;
+        back = (b ∷ digits_at u) ++ y;
+        first = h;
+        second = record { front = b ∷ digits_at u; back = y; first = (omega arith, (p, are_digits u), refl); second = hy; joined = refl };
+        joined =
+            refl;
+      },
       e ∙ ap (λ w. x ++ b ∷ w) (digits_split u ∙ ap (λ w. digits_at u ++ w) ey) ∙ sym (simp append_assoc),
     )
 unsigned_more negative x text b u false h e p = tt
 
-unsigned_reads : (negative : Bool) (x text u : List ℕ) → Sign negative x → text ≡ x ++ u → IfSome (unsigned_at negative u) (λ p. Begins Number text p.0 p.1)
+unsigned_reads : (negative : Bool) (x text u : List ℕ) → Sign negative x → text ≡ x ++ u
+    → IfSome (unsigned_at negative u) (λ p. Begins Number text p.0 p.1)
 unsigned_reads negative x text [] h e = tt
 unsigned_reads negative x text (b ∷ u) h e = unsigned_more negative x text b u (is_ascii_digit b) h e refl
 
@@ -139,7 +157,8 @@ number_begins text n rest e =
     let read = unsigned_reads (sign_at text).0 x text (sign_at text).1 h p in
     rw e at read
 
-gap_more : (b : ℕ) (text rest : List ℕ) (v : Bool) → is_blank b ≡ v → cond v (Some (skip text)) None ≡ Some rest → (w : List ℕ) × Gap w × (b ∷ text ≡ w ++ rest)
+gap_more : (b : ℕ) (text rest : List ℕ) (v : Bool) → is_blank b ≡ v → cond v (Some (skip text)) None ≡ Some rest
+    → (w : List ℕ) × Gap w × (b ∷ text ≡ w ++ rest)
 gap_more b text rest true p e =
     let (w, h, q) = blanks_skipped text in
     (b ∷ w, (omega arith, (p, h)), ap (λ u. b ∷ u) (q ∙ ap (λ u. w ++ u) (same_Some _ _ e)))
@@ -159,25 +178,42 @@ point_begins text p rest e =
     let (t, ht, pt) = number_begins u y.0 y.1 at_y in
     let parts = some_pair_parts _ _ _ _ e3 in (
       s ++ (w ++ t),
-      subst (λ q. PointText q (s ++ (w ++ t))) parts.0 (record { front = s; back = w ++ t; first = hs; second = record { front = w; back = t; first = hw; second = ht; whole = refl }; whole = refl }),
+      subst (λ q. PointText q (s ++ (w ++ t))) parts.0
+          (record {
+            front = s;
+            back = w ++ t;
+            first = hs;
+            second = record { front = w; back = t; first = hw; second = ht; joined = refl };
+            joined = refl;
+          }),
       ps ∙ ap (λ v. s ++ v) (pw ∙ ap (λ v. w ++ v) (pt ∙ ap (λ v. t ++ v) parts.1)) ∙ sym (simp append_assoc),
     ))))
 
 -- ---- from the grammar to what is read
 
-whole_parts : (n : Numeral) (ds x y text : List ℕ) → n.whole ≡ ds → Sign n.negative x → 0 < length ds → Digits ds → Decimals n.decimals y → Stops text → number_at (x ++ (ds ++ (y ++ text))) ≡ Some (n, text)
+whole_parts : (n : Numeral) (ds x y text : List ℕ) → n.digits ≡ ds → Sign n.negative x → 0 < length ds → Digits ds → Decimals n.decimals y
+    → Stops text → number_at (x ++ (ds ++ (y ++ text))) ≡ Some (n, text)
 whole_parts n [] x y text e hx some hd hy stop = absurd (omega arith)
 whole_parts n (d ∷ ds) x y text e hx some hd hy stop =
     let end = decimals_end_digits n.decimals y text hy stop in
-    rw (sign_at_front n.negative x d (ds ++ (y ++ text)) hx hd.0, hd.0, digits_at_front ds (y ++ text) hd.1 end, after_digits_front ds (y ++ text) hd.1 end, decimals_at_front n.decimals y text hy stop, sym e) refl
+    rw (
+      sign_at_front n.negative x d (ds ++ (y ++ text)) hx hd.0,
+      hd.0,
+      digits_at_front ds (y ++ text) hd.1 end,
+      after_digits_front ds (y ++ text) hd.1 end,
+      decimals_at_front n.decimals y text hy stop,
+      sym e,
+    ) refl
 
-number_parts : (n : Numeral) (s text x : List ℕ) → Sign n.negative x → (b w : List ℕ) → Whole n.whole w → (y : List ℕ) → Decimals n.decimals y → s ≡ x ++ b → b ≡ w ++ y → Stops text → number_at (s ++ text) ≡ Some (n, text)
+number_parts : (n : Numeral) (s text x : List ℕ) → Sign n.negative x → (b w : List ℕ) → SomeDigits n.digits w → (y : List ℕ) → Decimals n.decimals y
+    → s ≡ x ++ b → b ≡ w ++ y → Stops text → number_at (s ++ text) ≡ Some (n, text)
 number_parts n s text x hx b w hw y hy e f stop =
-    let regrouped : s ++ text ≡ x ++ (n.whole ++ (y ++ text)) = rw (e, f, hw.2) (simp append_assoc) in
-    rw regrouped (whole_parts n n.whole x y text refl hx hw.0 hw.1 hy stop)
+    let regrouped : s ++ text ≡ x ++ (n.digits ++ (y ++ text)) = rw (e, f, hw.2) (simp append_assoc) in
+    rw regrouped (whole_parts n n.digits x y text refl hx hw.0 hw.1 hy stop)
 
 pub number_at_front : (n : Numeral) (s text : List ℕ) → Number n s → Stops text → number_at (s ++ text) ≡ Some (n, text)
-number_at_front n s text h stop = number_parts n s text h.front h.first h.back h.second.front h.second.first h.second.back h.second.second h.whole h.second.whole stop
+number_at_front n s text h stop =
+    number_parts n s text h.front h.first h.back h.second.front h.second.first h.second.back h.second.second h.joined h.second.joined stop
 
 blank_is_stop : (b : ℕ) → is_blank b ≡ true → is_stop b ≡ true
 blank_is_stop b h = grind (arith, nat_tests)
@@ -206,14 +242,14 @@ sign_solid false s text (inr e) solid = rw e refl
 pub number_solid : (n : Numeral) (s text : List ℕ) → Number n s → NoBlank (s ++ text)
 number_solid n s text h =
     let digits = h.second.first in
-    let regrouped : s ++ text ≡ h.front ++ (n.whole ++ (h.second.back ++ text)) = rw (h.whole, h.second.whole, digits.2) (simp append_assoc) in
-    rw regrouped (sign_solid n.negative h.front _ h.first (digits_solid n.whole (h.second.back ++ text) digits.0 digits.1))
+    let regrouped : s ++ text ≡ h.front ++ (n.digits ++ (h.second.back ++ text)) = rw (h.joined, h.second.joined, digits.2) (simp append_assoc) in
+    rw regrouped (sign_solid n.negative h.front _ h.first (digits_solid n.digits (h.second.back ++ text) digits.0 digits.1))
 
 pub point_at_front : (p : RawPoint) (s text : List ℕ) → PointText p s → Stops text → point_at (s ++ text) ≡ Some (p, text)
 point_at_front p s text h stop =
     let w = h.second.front in
     let t = h.second.back in
-    let regrouped : s ++ text ≡ h.front ++ (w ++ (t ++ text)) = rw (h.whole, h.second.whole) (simp append_assoc) in
+    let regrouped : s ++ text ≡ h.front ++ (w ++ (t ++ text)) = rw (h.joined, h.second.joined) (simp append_assoc) in
     let first = number_at_front p.x h.front (w ++ (t ++ text)) h.first (gap_stops w (t ++ text) h.second.first) in
     let between = gap_at_front w (t ++ text) h.second.first (number_solid p.y t text h.second.second) in
     let second = number_at_front p.y t text h.second.second stop in
@@ -221,7 +257,7 @@ point_at_front p s text h stop =
 
 pub point_solid : (p : RawPoint) (s text : List ℕ) → PointText p s → NoBlank (s ++ text)
 point_solid p s text h =
-    let regrouped : s ++ text ≡ h.front ++ (h.second.front ++ (h.second.back ++ text)) = rw (h.whole, h.second.whole) (simp append_assoc) in
+    let regrouped : s ++ text ≡ h.front ++ (h.second.front ++ (h.second.back ++ text)) = rw (h.joined, h.second.joined) (simp append_assoc) in
     rw regrouped (number_solid p.x h.front _ h.first)
 
 -- ---- lengths

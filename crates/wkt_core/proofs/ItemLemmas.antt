@@ -1,6 +1,7 @@
 -- Items one after another: what was read so far, and the one way to go on.
 use Rattle.std.proofs.Common.{◌≡◌, ℕ, ◌<◌, ◌≤◌, List, [], ◌∷◌, ◌++◌, ◌⊎◌, inl, inr, length, get_or, drop, refl, sym, ◌∙◌, ap, subst, ⊎_elim, arith}
-use Rattle.wkt_core.specs.Reading.{skip, Items, Begun, Enclosed}
+use Rattle.wkt_core.specs.TokenSteps.{skip}
+use Rattle.wkt_core.specs.ListSteps.{Items, Begun, Enclosed}
 use Rattle.wkt_core.proofs.FrontLemmas.{length-skip}
 
 -- a text begins with one value, and leaves one rest
@@ -38,12 +39,14 @@ module _ {X : Type 0} (Item : List ℕ → X → List ℕ → Type 0) where
       on_the_way exact xs (z ∷ ys) u r e b (subst (λ w. Items Item (z ∷ ys) w e) (sym here) h)
 
   -- a list begins with an item, and a comma or the end behind it
-  first_item : (xs : List X) (t e : List ℕ) → Items Item xs t e → (x : X) × (m : List ℕ) × Item (skip t) x m × ((skip m ≡ 41 ∷ e) ⊎ ((u : List ℕ) × (skip m ≡ 44 ∷ u)))
+  first_item : (xs : List X) (t e : List ℕ) → Items Item xs t e
+      → (x : X) × (m : List ℕ) × Item (skip t) x m × ((skip m ≡ 41 ∷ e) ⊎ ((u : List ℕ) × (skip m ≡ 44 ∷ u)))
   first_item [] t e h = absurd h
   first_item (x ∷ []) t e (m, i, h) = (x, m, i, inl h)
   first_item (x ∷ y ∷ xs) t e (m, u, i, h, r) = (x, m, i, inr (u, h))
 
-  module _ (exact : IsExact Item) (start rest : List ℕ) (done : List X) (begun : Begun Item done start rest) (text : List ℕ) (open_at : text ≡ 40 ∷ start) where
+  module _ (exact : IsExact Item) (start rest : List ℕ) (done : List X) (begun : Begun Item done start rest) (text : List ℕ)
+      (open_at : text ≡ 40 ∷ start) where
     ahead : (xs : List X) (e : List ℕ) → Enclosed Item text xs e → (zs : List X) × Items Item zs rest e
     ahead xs e (u, p, h) =
         let same : u ≡ start = ap (drop 1) (sym p ∙ open_at) in
@@ -57,7 +60,8 @@ module _ {X : Type 0} (Item : List ℕ → X → List ℕ → Type 0) where
         none x m i
 
     -- where neither a comma nor the end follows, no list begins the text
-    pub no_end_follows : (x : X) (after : List ℕ) → Item (skip rest) x after → ((r : List ℕ) → ¬ (skip after ≡ 44 ∷ r) × ¬ (skip after ≡ 41 ∷ r)) → (xs : List X) (e : List ℕ) → Enclosed Item text xs e → ⊥
+    pub no_end_follows : (x : X) (after : List ℕ) → Item (skip rest) x after → ((r : List ℕ) → ¬ (skip after ≡ 44 ∷ r) × ¬ (skip after ≡ 41 ∷ r))
+        → (xs : List X) (e : List ℕ) → Enclosed Item text xs e → ⊥
     no_end_follows x after i none xs e h =
         let (zs, items) = ahead xs e h in
         let (y, m, j, n) = first_item zs rest e items in
@@ -65,5 +69,6 @@ module _ {X : Type 0} (Item : List ℕ → X → List ℕ → Type 0) where
         ⊎_elim (λ p. (none e).1 (ap skip (sym same) ∙ p)) (λ (u, p). (none u).0 (ap skip (sym same) ∙ p)) n
 
   -- what follows an item and a comma is shorter
-  pub behind_item : IsExact Item → (rest : List ℕ) (x : X) (after behind : List ℕ) → Item (skip rest) x after → skip after ≡ 44 ∷ behind → length behind < length rest
+  pub behind_item : IsExact Item → (rest : List ℕ) (x : X) (after behind : List ℕ) → Item (skip rest) x after → skip after ≡ 44 ∷ behind
+      → length behind < length rest
   behind_item exact rest x after behind i e = omega (arith, exact.shorter (skip rest) x after i, length-skip rest, length-skip after, ap length e)

@@ -2,7 +2,8 @@
 use Rattle.std.proofs.Common.{◌≡◌, ℕ, List, [], ◌∷◌, ◌++◌, drop, refl, sym, ◌∙◌, ap, ap₂, subst}
 use Rattle.std.proofs.lemmas.List.{append_assoc}
 use Rattle.wkt_core.specs.Grammar.{Blanks, Listed, InParentheses}
-use Rattle.wkt_core.specs.Reading.{skip, Items, Enclosed}
+use Rattle.wkt_core.specs.TokenSteps.{skip}
+use Rattle.wkt_core.specs.ListSteps.{Items, Enclosed}
 use Rattle.wkt_core.proofs.FrontLemmas.{Stops, NoBlank, Begins, Begins-shorter, blanks_skipped, blanks_stop, skip_blanks, skip_solid}
 use Rattle.wkt_core.proofs.ItemLemmas.{IsExact, no_comma_ends, same_rest}
 
@@ -20,7 +21,19 @@ module _ {X : Type 0} (A : X → List ℕ → Type 0) (Item : List ℕ → X →
       let (s, hs, es) = reading.begins (skip t) x m i in
       let (v, hv, ev) = blanks_skipped m in (
         w ++ (s ++ (v ++ 41 ∷ [])),
-        record { front = w; back = s ++ (v ++ 41 ∷ []); first = hw; second = record { front = s; back = v ++ 41 ∷ []; first = hs; second = record { front = v; back = 41 ∷ []; first = hv; second = refl; whole = refl }; whole = refl }; whole = refl },
+        record {
+          front = w;
+          back = s ++ (v ++ 41 ∷ []);
+          first = hw;
+          second = record {
+            front = s;
+            back = v ++ 41 ∷ [];
+            first = hs;
+            second = record { front = v; back = 41 ∷ []; first = hv; second = refl; joined = refl };
+            joined = refl;
+          };
+          joined = refl;
+        },
         ew ∙ ap (λ u. w ++ u) (es ∙ ap (λ u. s ++ u) (ev ∙ ap (λ u. v ++ u) h)) ∙ sym (simp append_assoc),
       )
   items_begin reading (x ∷ y ∷ xs) t e (m, n, i, h, r) =
@@ -29,14 +42,35 @@ module _ {X : Type 0} (A : X → List ℕ → Type 0) (Item : List ℕ → X →
       let (v, hv, ev) = blanks_skipped m in
       let (z, hz, ez) = items_begin reading (y ∷ xs) n e r in (
         w ++ (s ++ (v ++ 44 ∷ z)),
-        record { front = w; back = s ++ (v ++ 44 ∷ z); first = hw; second = record { front = s; back = v ++ 44 ∷ z; first = hs; second = record { front = v; back = 44 ∷ z; first = hv; second = record { front = 44 ∷ []; back = z; first = refl; second = hz; whole = refl }; whole = refl }; whole = refl }; whole = refl },
+        record {
+          front = w;
+          back = s ++ (v ++ 44 ∷ z);
+          first = hw;
+          second = record {
+            front = s;
+            back = v ++ 44 ∷ z;
+            first = hs;
+            second = record {
+              front = v;
+              back = 44 ∷ z;
+              first = hv;
+              second = record { front = 44 ∷ []; back = z; first = refl; second = hz; joined = refl };
+              joined = refl;
+            };
+            joined = refl;
+          };
+          joined =
+              refl;
+        },
         ew ∙ ap (λ u. w ++ u) (es ∙ ap (λ u. s ++ u) (ev ∙ ap (λ u. v ++ u) (h ∙ ap (λ u. 44 ∷ u) ez))) ∙ sym (simp append_assoc),
       )
 
   -- an item with white space round it, before a comma or the end
-  module _ (reading : IsReading A Item) (x : X) (w s v : List ℕ) (hw : Blanks w) (hs : A x s) (hv : Blanks v) (rest : List ℕ) (stop : Stops rest) (solid : NoBlank rest) where
+  module _ (reading : IsReading A Item) (x : X) (w s v : List ℕ) (hw : Blanks w) (hs : A x s) (hv : Blanks v) (rest : List ℕ) (stop : Stops rest)
+      (solid : NoBlank rest) where
     item_taken : Item (skip (w ++ (s ++ (v ++ rest)))) x (v ++ rest)
-    item_taken = rw (skip_blanks w (s ++ (v ++ rest)) hw, skip_solid (s ++ (v ++ rest)) (reading.solid x s (v ++ rest) hs)) (reading.front x s (v ++ rest) hs (blanks_stop v rest hv stop))
+    item_taken = rw (skip_blanks w (s ++ (v ++ rest)) hw, skip_solid (s ++ (v ++ rest)) (reading.solid x s (v ++ rest) hs))
+        (reading.front x s (v ++ rest) hs (blanks_stop v rest hv stop))
 
     behind_item : skip (v ++ rest) ≡ rest
     behind_item = skip_blanks v rest hv ∙ skip_solid rest solid
@@ -46,7 +80,7 @@ module _ {X : Type 0} (A : X → List ℕ → Type 0) (Item : List ℕ → X →
   items_front reading (x ∷ []) s rest h =
       let a = h.second in
       let b = a.second in
-      let regrouped : s ++ rest ≡ h.front ++ (a.front ++ (b.front ++ 41 ∷ rest)) = rw (h.whole, a.whole, b.whole, b.second) (simp append_assoc) in
+      let regrouped : s ++ rest ≡ h.front ++ (a.front ++ (b.front ++ 41 ∷ rest)) = rw (h.joined, a.joined, b.joined, b.second) (simp append_assoc) in
       rw regrouped (
         b.front ++ 41 ∷ rest,
         item_taken reading x h.front a.front b.front h.first a.first b.first (41 ∷ rest) refl refl,
@@ -56,7 +90,8 @@ module _ {X : Type 0} (A : X → List ℕ → Type 0) (Item : List ℕ → X →
       let a = h.second in
       let b = a.second in
       let d = b.second in
-      let regrouped : s ++ rest ≡ h.front ++ (a.front ++ (b.front ++ 44 ∷ (d.back ++ rest))) = rw (h.whole, a.whole, b.whole, d.whole, d.first) (simp append_assoc) in
+      let regrouped : s ++ rest ≡ h.front ++ (a.front ++ (b.front ++ 44 ∷ (d.back ++ rest))) = rw (h.joined, a.joined, b.joined, d.joined, d.first)
+      (simp append_assoc) in
       rw regrouped (
         b.front ++ 44 ∷ (d.back ++ rest),
         d.back ++ rest,
@@ -83,17 +118,17 @@ module _ {X : Type 0} (A : X → List ℕ → Type 0) (Item : List ℕ → X →
   enclosed_begins : IsReading A Item → (t : List ℕ) (xs : List X) (e : List ℕ) → Enclosed Item t xs e → Begins (InParentheses A) t xs e
   enclosed_begins reading t xs e (u, p, h) =
       let (s, hs, es) = items_begin reading xs u e h in
-      (40 ∷ s, record { front = 40 ∷ []; back = s; first = refl; second = hs; whole = refl }, p ∙ ap (λ v. 40 ∷ v) es)
+      (40 ∷ s, record { front = 40 ∷ []; back = s; first = refl; second = hs; joined = refl }, p ∙ ap (λ v. 40 ∷ v) es)
 
   -- a list ends with its parenthesis, whatever stands behind it
   pub enclosed_front : IsReading A Item → (xs : List X) (s rest : List ℕ) → InParentheses A xs s → Enclosed Item (s ++ rest) xs rest
-  enclosed_front reading xs s rest h = (h.back ++ rest, rw (h.whole, h.first) refl, items_front reading xs h.back rest h.second)
+  enclosed_front reading xs s rest h = (h.back ++ rest, rw (h.joined, h.first) refl, items_front reading xs h.back rest h.second)
 
   pub enclosed_reading : IsReading A Item → IsReading (InParentheses A) (Enclosed Item)
   enclosed_reading reading = record {
     begins = enclosed_begins reading;
     front = λ xs s rest h stop. enclosed_front reading xs s rest h;
-    solid = λ xs s rest h. rw (h.whole, h.first) refl;
+    solid = λ xs s rest h. rw (h.joined, h.first) refl;
   }
 
   pub enclosed_exact : IsReading A Item → IsExact Item → IsExact (Enclosed Item)

@@ -1,13 +1,15 @@
--- Points one after another, and what is kept of them.
+-- Points one after another, and the first of them.
 use Rattle.std.proofs.Common.{◌≡◌, ℕ, List, [], ◌∷◌, ◌++◌, Option, Some, None, sym, ◌∙◌, ap}
 use Rattle.std.specs.Prelude.{IfNone}
 use Rattle.std.proofs.lemmas.Option.{none-some, some_pair_parts}
-use Rattle.wkt_core.specs.declared.position.Position.{Position}
-use Rattle.wkt_core.specs.declared.kept.KeptPoints.{KeptPoints}
-use Rattle.wkt_core.specs.declared.kept.KeptLists.{KeptLists}
+use Rattle.wkt_core.specs.declared.position.ReadPoint.{ReadPoint}
+use Rattle.wkt_core.specs.declared.first_points.FirstPoints.{FirstPoints}
+use Rattle.wkt_core.specs.declared.first_points.FirstList.{FirstList}
 use Rattle.wkt_core.specs.Grammar.{RawPoint, PointText, PointList, InParentheses}
-use Rattle.wkt_core.specs.Reading.{skip, point_at, position_of, read_point_of, Begun, Items, TakesPoint, TakesPoints, TakesLists}
-use Rattle.wkt_core.specs.Kept.{Keeps, KeepsLists}
+use Rattle.wkt_core.specs.TokenSteps.{skip}
+use Rattle.wkt_core.specs.PointSteps.{point_at, point_read, point_answer}
+use Rattle.wkt_core.specs.ListSteps.{Begun, Items, TakesPoint, TakesPoints, TakesLists}
+use Rattle.wkt_core.specs.FirstPoints.{AreFirstOf, IsFirstOf}
 use Rattle.wkt_core.proofs.FrontLemmas.{point_begins, point_at_front, point_solid, Begins-shorter}
 use Rattle.wkt_core.proofs.ItemLemmas.{IsExact, begun_more, items_ended, no_item_follows, no_end_follows}
 use Rattle.wkt_core.proofs.ListGrammar.{IsReading, enclosed_exact, enclosed_reading}
@@ -25,37 +27,40 @@ if_none None h = h
 if_none (Some x) h = tt
 
 -- the point that was read
-taken : (v : Option (RawPoint × List ℕ)) (o : Option Position) (rest : List ℕ) → Some (o, rest) ≡ read_point_of v → (p : RawPoint) × (v ≡ Some (p, rest)) × (o ≡ position_of p)
+taken : (v : Option (RawPoint × List ℕ)) (o : ReadPoint) (rest : List ℕ) → Some (o, rest) ≡ point_answer v
+    → (p : RawPoint) × (v ≡ Some (p, rest)) × (o ≡ point_read p)
 taken None o rest e = absurd (none-some _ (sym e))
 taken (Some q) o rest e = let parts = some_pair_parts _ _ _ _ e in (q.0, ap (λ r. Some (q.0, r)) (sym parts.1), parts.0)
 
-pub point_taken : (text : List ℕ) (o : Option Position) (rest : List ℕ) → Some (o, rest) ≡ read_point_of (point_at text) → (p : RawPoint) × TakesPoint text p rest × (o ≡ position_of p)
+pub point_taken : (text : List ℕ) (o : ReadPoint) (rest : List ℕ) → Some (o, rest) ≡ point_answer (point_at text)
+    → (p : RawPoint) × TakesPoint text p rest × (o ≡ point_read p)
 point_taken text o rest e = taken (point_at text) o rest e
 
-not_taken : (v : Option (RawPoint × List ℕ)) (p : RawPoint) (rest : List ℕ) → None ≡ read_point_of v → v ≡ Some (p, rest) → ⊥
+not_taken : (v : Option (RawPoint × List ℕ)) (p : RawPoint) (rest : List ℕ) → None ≡ point_answer v → v ≡ Some (p, rest) → ⊥
 not_taken None p rest e h = none-some _ h
 not_taken (Some q) p rest e h = none-some _ e
 
-pub no_point_taken : (text : List ℕ) → None ≡ read_point_of (point_at text) → (p : RawPoint) (rest : List ℕ) → TakesPoint text p rest → ⊥
+pub no_point_taken : (text : List ℕ) → None ≡ point_answer (point_at text) → (p : RawPoint) (rest : List ℕ) → TakesPoint text p rest → ⊥
 no_point_taken text e p rest h = not_taken (point_at text) p rest e h
 
--- what the loop knows: the points so far, and what is kept of them
-abbrev pub SoFar : List ℕ → List ℕ → KeptPoints → Type 0
-SoFar start rest kept = (done : List RawPoint) × Begun TakesPoint done start rest × Keeps kept done
+-- what the loop knows: the points so far, and the first of them
+abbrev pub SoFar : List ℕ → List ℕ → FirstPoints → Type 0
+SoFar start rest first = (done : List RawPoint) × Begun TakesPoint done start rest × AreFirstOf first done
 
-abbrev Pushes : KeptPoints → Option Position → KeptPoints → Type 0
-Pushes old o new = (ps : List RawPoint) (p : RawPoint) → Keeps old ps → o ≡ position_of p → Keeps new (ps ++ p ∷ [])
+abbrev Pushes : FirstPoints → ReadPoint → FirstPoints → Type 0
+Pushes old o new = (ps : List RawPoint) (p : RawPoint) → AreFirstOf old ps → o ≡ point_read p → AreFirstOf new (ps ++ p ∷ [])
 
-module _ (start rest after behind : List ℕ) (old new : KeptPoints) (o : Option Position) (push : Pushes old o new) (read : Some (o, after) ≡ read_point_of (point_at (skip rest))) where
+module _ (start rest after behind : List ℕ) (old new : FirstPoints) (o : ReadPoint) (push : Pushes old o new)
+    (read : Some (o, after) ≡ point_answer (point_at (skip rest))) where
   pub point_more : SoFar start rest old → skip after ≡ 44 ∷ behind → SoFar start behind new
-  point_more (done, begun, keeps) e =
+  point_more (done, begun, firsts) e =
       let (p, h, v) = point_taken (skip rest) o after read in
-      (done ++ p ∷ [], begun_more TakesPoint done p start rest after behind begun h e, push done p keeps v)
+      (done ++ p ∷ [], begun_more TakesPoint done p start rest after behind begun h e, push done p firsts v)
 
-  pub points_ended : SoFar start rest old → skip after ≡ 41 ∷ behind → (ps : List RawPoint) × Items TakesPoint ps start behind × Keeps new ps
-  points_ended (done, begun, keeps) e =
+  pub points_ended : SoFar start rest old → skip after ≡ 41 ∷ behind → (ps : List RawPoint) × Items TakesPoint ps start behind × AreFirstOf new ps
+  points_ended (done, begun, firsts) e =
       let (p, h, v) = point_taken (skip rest) o after read in
-      (done ++ p ∷ [], items_ended TakesPoint done p start rest after behind begun h e, push done p keeps v)
+      (done ++ p ∷ [], items_ended TakesPoint done p start rest after behind begun h e, push done p firsts v)
 
 pub points_reading : IsReading PointText TakesPoint
 points_reading = record { begins = point_begins; front = point_at_front; solid = point_solid }
@@ -72,8 +77,8 @@ text_lists_exact = enclosed_exact PointList TakesPoints lists_reading lists_exac
 pub text_lists_reading : IsReading (InParentheses PointList) TakesLists
 text_lists_reading = enclosed_reading PointList TakesPoints lists_reading
 
--- what the loop over lists knows: those so far, the last of which leaves the text `after`, and what is kept of them
-pub record ListsSoFar (text after : List ℕ) (kept : KeptLists) : Type 0 where
+-- what the loop over lists knows: those so far, the last of which leaves the text `after`, and the first of them
+pub record ListsSoFar (text after : List ℕ) (first : FirstList) : Type 0 where
   pub start : List ℕ
   pub opened : text ≡ 40 ∷ start
   pub done : List (List RawPoint)
@@ -81,10 +86,11 @@ pub record ListsSoFar (text after : List ℕ) (kept : KeptLists) : Type 0 where
   pub rest : List ℕ
   pub begun : Begun TakesPoints done start rest
   pub taken : TakesPoints (skip rest) last after
-  pub keeps : KeepsLists kept (done ++ last ∷ [])
+  pub firsts : IsFirstOf first (done ++ last ∷ [])
 
-pub list_more : (text after behind rest : List ℕ) (old new : KeptLists) → ListsSoFar text after old → (ps : List RawPoint) → skip after ≡ 44 ∷ behind → TakesPoints (skip behind) ps rest
-    → ((lists : List (List RawPoint)) → KeepsLists old lists → KeepsLists new (lists ++ ps ∷ [])) → ListsSoFar text rest new
+pub list_more : (text after behind rest : List ℕ) (old new : FirstList) → ListsSoFar text after old → (ps : List RawPoint) → skip after ≡ 44 ∷ behind
+    → TakesPoints (skip behind) ps rest
+    → ((lists : List (List RawPoint)) → IsFirstOf old lists → IsFirstOf new (lists ++ ps ∷ [])) → ListsSoFar text rest new
 list_more text after behind rest old new s ps e h push = record {
   start = s.start;
   opened = s.opened;
@@ -93,16 +99,23 @@ list_more text after behind rest old new s ps e h push = record {
   rest = behind;
   begun = begun_more TakesPoints s.done s.last s.start s.rest after behind s.begun s.taken e;
   taken = h;
-  keeps = push (s.done ++ s.last ∷ []) s.keeps;
+  firsts = push (s.done ++ s.last ∷ []) s.firsts;
 }
 
-pub lists_ended : (text after behind : List ℕ) (kept : KeptLists) → ListsSoFar text after kept → skip after ≡ 41 ∷ behind → (lists : List (List RawPoint)) × TakesLists text lists behind × KeepsLists kept lists
-lists_ended text after behind kept s e = (s.done ++ s.last ∷ [], (s.start, s.opened, items_ended TakesPoints s.done s.last s.start s.rest after behind s.begun s.taken e), s.keeps)
+pub lists_ended : (text after behind : List ℕ) (first : FirstList) → ListsSoFar text after first → skip after ≡ 41 ∷ behind
+    → (lists : List (List RawPoint)) × TakesLists text lists behind × IsFirstOf first lists
+lists_ended text after behind first s e =
+    (s.done ++ s.last ∷ [], (s.start, s.opened, items_ended TakesPoints s.done s.last s.start s.rest after behind s.begun s.taken e), s.firsts)
 
 -- where neither a comma nor the end follows, or no list behind a comma, the text begins with no list of lists
-pub no_lists_end : (text after : List ℕ) (kept : KeptLists) → ListsSoFar text after kept → ((r : List ℕ) → ¬ (skip after ≡ 44 ∷ r) × ¬ (skip after ≡ 41 ∷ r)) → (lists : List (List RawPoint)) (rest : List ℕ) → TakesLists text lists rest → ⊥
-no_lists_end text after kept s none = no_end_follows TakesPoints lists_exact s.start s.rest s.done s.begun text s.opened s.last after s.taken none
+pub no_lists_end : (text after : List ℕ) (first : FirstList) → ListsSoFar text after first
+    → ((r : List ℕ) → ¬ (skip after ≡ 44 ∷ r) × ¬ (skip after ≡ 41 ∷ r)) → (lists : List (List RawPoint)) (rest : List ℕ) → TakesLists text lists rest
+    → ⊥
+no_lists_end text after first s none = no_end_follows TakesPoints lists_exact s.start s.rest s.done s.begun text s.opened s.last after s.taken none
 
-pub no_list_follows : (text after behind : List ℕ) (kept : KeptLists) → ListsSoFar text after kept → skip after ≡ 44 ∷ behind → ((ps : List RawPoint) (rest : List ℕ) → TakesPoints (skip behind) ps rest → ⊥) → (lists : List (List RawPoint)) (rest : List ℕ) → TakesLists text lists rest → ⊥
-no_list_follows text after behind kept s e none =
-    no_item_follows TakesPoints lists_exact s.start behind (s.done ++ s.last ∷ []) (begun_more TakesPoints s.done s.last s.start s.rest after behind s.begun s.taken e) text s.opened none
+pub no_list_follows : (text after behind : List ℕ) (first : FirstList) → ListsSoFar text after first → skip after ≡ 44 ∷ behind
+    → ((ps : List RawPoint) (rest : List ℕ) → TakesPoints (skip behind) ps rest → ⊥) → (lists : List (List RawPoint)) (rest : List ℕ)
+    → TakesLists text lists rest → ⊥
+no_list_follows text after behind first s e none =
+    no_item_follows TakesPoints lists_exact s.start behind (s.done ++ s.last ∷ [])
+    (begun_more TakesPoints s.done s.last s.start s.rest after behind s.begun s.taken e) text s.opened none

@@ -7,7 +7,8 @@ use Rattle.std.proofs.lemmas.List.Prefix.{front_rest}
 use Rattle.wkt_core.specs.declared.keyword.Keyword.{Keyword}
 use Rattle.wkt_core.specs.declared.keyword.Keyword.TheVariants.{Point, LineString, Polygon}
 use Rattle.wkt_core.specs.Grammar.{RawPoint, is_blank, PointText, PointList, Body, Word, Raw, spelling}
-use Rattle.wkt_core.specs.Reading.{skip, TakesLetters, TakesWord, TakesPoint, TakesPoints, TakesBody, TakesText}
+use Rattle.wkt_core.specs.TokenSteps.{skip, TakesLetters}
+use Rattle.wkt_core.specs.ListSteps.{TakesWord, TakesPoint, TakesPoints, TakesBody, TakesText}
 use Rattle.wkt_core.proofs.FrontLemmas.{NoBlank, Begins, blanks_skipped, skip_blanks, skip_solid}
 use Rattle.wkt_core.proofs.ListGrammar.{enclosed_front}
 use Rattle.wkt_core.proofs.PointLemmas.{points_reading, lists_exact, lists_reading, text_lists_exact, text_lists_reading}
@@ -15,7 +16,8 @@ use Rattle.wkt_core.proofs.PointLemmas.{points_reading, lists_exact, lists_readi
 -- ---- keywords
 
 -- a letter of a word in any case
-letter_at : (word text rest : List ℕ) (i : ℕ) → TakesLetters word text rest → i < length word → to_ascii_lowercase (get_or text i 0) ≡ get_or (map to_ascii_lowercase word) i 0
+letter_at : (word text rest : List ℕ) (i : ℕ) → TakesLetters word text rest → i < length word
+    → to_ascii_lowercase (get_or text i 0) ≡ get_or (map to_ascii_lowercase word) i 0
 letter_at word text rest i (x, h, e) l =
     let long : length x ≡ length word = sym (length-map x to_ascii_lowercase) ∙ ap length h ∙ length-map word to_ascii_lowercase in
     let inside : i < length x = omega arith in
@@ -27,51 +29,65 @@ letters_rest word text r s (x, h, e) (y, k, f) =
     let long : length x ≡ length y = sym (length-map x to_ascii_lowercase) ∙ ap length (h ∙ sym k) ∙ length-map y to_ascii_lowercase in
     sym (front_rest text x r e) ∙ ap (λ n. drop n text) long ∙ front_rest text y s f
 
-apart : (v w text r s : List ℕ) (i : ℕ) → TakesLetters v text r → TakesLetters w text s → i < length v → i < length w → get_or (map to_ascii_lowercase v) i 0 ≡ get_or (map to_ascii_lowercase w) i 0
+apart : (v w text r s : List ℕ) (i : ℕ) → TakesLetters v text r → TakesLetters w text s → i < length v → i < length w
+    → get_or (map to_ascii_lowercase v) i 0 ≡ get_or (map to_ascii_lowercase w) i 0
 apart v w text r s i h k l m = sym (letter_at v text r i h l) ∙ letter_at w text s i k m
 
 pub word_same : (text : List ℕ) (k l : Keyword) (r s : List ℕ) → TakesWord text k r → TakesWord text l s → (k ≡ l) × (r ≡ s)
 word_same text Point Point r s h k = (refl, letters_rest (spelling Point) text r s h k)
 word_same text LineString LineString r s h k = (refl, letters_rest (spelling LineString) text r s h k)
 word_same text Polygon Polygon r s h k = (refl, letters_rest (spelling Polygon) text r s h k)
-word_same text Point LineString r s h k = let e : 112 ≡ 108 = apart (spelling Point) (spelling LineString) text r s 0 h k (omega arith) (omega arith) in absurd (omega (arith, e))
-word_same text LineString Point r s h k = let e : 108 ≡ 112 = apart (spelling LineString) (spelling Point) text r s 0 h k (omega arith) (omega arith) in absurd (omega (arith, e))
-word_same text Polygon LineString r s h k = let e : 112 ≡ 108 = apart (spelling Polygon) (spelling LineString) text r s 0 h k (omega arith) (omega arith) in absurd (omega (arith, e))
-word_same text LineString Polygon r s h k = let e : 108 ≡ 112 = apart (spelling LineString) (spelling Polygon) text r s 0 h k (omega arith) (omega arith) in absurd (omega (arith, e))
-word_same text Point Polygon r s h k = let e : 105 ≡ 108 = apart (spelling Point) (spelling Polygon) text r s 2 h k (omega arith) (omega arith) in absurd (omega (arith, e))
-word_same text Polygon Point r s h k = let e : 108 ≡ 105 = apart (spelling Polygon) (spelling Point) text r s 2 h k (omega arith) (omega arith) in absurd (omega (arith, e))
+word_same text Point LineString r s h k =
+    let e : 112 ≡ 108 = apart (spelling Point) (spelling LineString) text r s 0 h k (omega arith) (omega arith) in absurd (omega (arith, e))
+word_same text LineString Point r s h k =
+    let e : 108 ≡ 112 = apart (spelling LineString) (spelling Point) text r s 0 h k (omega arith) (omega arith) in absurd (omega (arith, e))
+word_same text Polygon LineString r s h k =
+    let e : 112 ≡ 108 = apart (spelling Polygon) (spelling LineString) text r s 0 h k (omega arith) (omega arith) in absurd (omega (arith, e))
+word_same text LineString Polygon r s h k =
+    let e : 108 ≡ 112 = apart (spelling LineString) (spelling Polygon) text r s 0 h k (omega arith) (omega arith) in absurd (omega (arith, e))
+word_same text Point Polygon r s h k = let e : 105 ≡ 108 = apart (spelling Point) (spelling Polygon) text r s 2 h k (omega arith) (omega arith) in
+    absurd (omega (arith, e))
+word_same text Polygon Point r s h k = let e : 108 ≡ 105 = apart (spelling Polygon) (spelling Point) text r s 2 h k (omega arith) (omega arith) in
+    absurd (omega (arith, e))
 
 -- ---- what stands behind a keyword
 
-pub no_single : (text : List ℕ) → ((p : RawPoint) (rest : List ℕ) → TakesPoints text (p ∷ []) rest → ⊥) → (lists : List (List RawPoint)) (rest : List ℕ) → TakesBody Point text lists rest → ⊥
+pub no_single : (text : List ℕ) → ((p : RawPoint) (rest : List ℕ) → TakesPoints text (p ∷ []) rest → ⊥)
+    → (lists : List (List RawPoint)) (rest : List ℕ) → TakesBody Point text lists rest → ⊥
 no_single text none [] rest h = h
 no_single text none ([] ∷ lists) rest h = h
 no_single text none ((p ∷ []) ∷ []) rest h = none p rest h
 no_single text none ((p ∷ []) ∷ q ∷ lists) rest h = h
 no_single text none ((p ∷ q ∷ ps) ∷ lists) rest h = h
 
-pub no_line : (text : List ℕ) → ((ps : List RawPoint) (rest : List ℕ) → TakesPoints text ps rest → ⊥) → (lists : List (List RawPoint)) (rest : List ℕ) → TakesBody LineString text lists rest → ⊥
+pub no_line : (text : List ℕ) → ((ps : List RawPoint) (rest : List ℕ) → TakesPoints text ps rest → ⊥) → (lists : List (List RawPoint)) (rest : List ℕ)
+    → TakesBody LineString text lists rest → ⊥
 no_line text none [] rest h = h
 no_line text none (ps ∷ []) rest h = none ps rest h
 no_line text none (ps ∷ qs ∷ lists) rest h = h
 
 -- a body is a list for `POINT` and `LINESTRING`
-single_list : (text : List ℕ) (lists : List (List RawPoint)) (rest : List ℕ) → TakesBody Point text lists rest → (ps : List RawPoint) × (lists ≡ ps ∷ []) × TakesPoints text ps rest
+single_list : (text : List ℕ) (lists : List (List RawPoint)) (rest : List ℕ) → TakesBody Point text lists rest
+    → (ps : List RawPoint) × (lists ≡ ps ∷ []) × TakesPoints text ps rest
 single_list text [] rest h = absurd h
 single_list text ([] ∷ lists) rest h = absurd h
 single_list text ((p ∷ []) ∷ []) rest h = (p ∷ [], refl, h)
 single_list text ((p ∷ []) ∷ q ∷ lists) rest h = absurd h
 single_list text ((p ∷ q ∷ ps) ∷ lists) rest h = absurd h
 
-line_list : (text : List ℕ) (lists : List (List RawPoint)) (rest : List ℕ) → TakesBody LineString text lists rest → (ps : List RawPoint) × (lists ≡ ps ∷ []) × TakesPoints text ps rest
+line_list : (text : List ℕ) (lists : List (List RawPoint)) (rest : List ℕ) → TakesBody LineString text lists rest
+    → (ps : List RawPoint) × (lists ≡ ps ∷ []) × TakesPoints text ps rest
 line_list text [] rest h = absurd h
 line_list text (ps ∷ []) rest h = (ps, refl, h)
 line_list text (ps ∷ qs ∷ lists) rest h = absurd h
 
-one_list : (text : List ℕ) (xs ys : List (List RawPoint)) (r s : List ℕ) → (ps : List RawPoint) × (xs ≡ ps ∷ []) × TakesPoints text ps r → (qs : List RawPoint) × (ys ≡ qs ∷ []) × TakesPoints text qs s → (xs ≡ ys) × (r ≡ s)
-one_list text xs ys r s (ps, e, h) (qs, f, k) = (e ∙ ap (λ z. z ∷ []) (lists_exact.value text ps qs r s h k) ∙ sym f, lists_exact.rest text ps qs r s h k)
+one_list : (text : List ℕ) (xs ys : List (List RawPoint)) (r s : List ℕ) → (ps : List RawPoint) × (xs ≡ ps ∷ []) × TakesPoints text ps r
+    → (qs : List RawPoint) × (ys ≡ qs ∷ []) × TakesPoints text qs s → (xs ≡ ys) × (r ≡ s)
+one_list text xs ys r s (ps, e, h) (qs, f, k) =
+    (e ∙ ap (λ z. z ∷ []) (lists_exact.value text ps qs r s h k) ∙ sym f, lists_exact.rest text ps qs r s h k)
 
-pub body_same : (keyword : Keyword) (text : List ℕ) (xs ys : List (List RawPoint)) (r s : List ℕ) → TakesBody keyword text xs r → TakesBody keyword text ys s → (xs ≡ ys) × (r ≡ s)
+pub body_same : (keyword : Keyword) (text : List ℕ) (xs ys : List (List RawPoint)) (r s : List ℕ) → TakesBody keyword text xs r
+    → TakesBody keyword text ys s → (xs ≡ ys) × (r ≡ s)
 body_same Point text xs ys r s h k = one_list text xs ys r s (single_list text xs r h) (single_list text ys s k)
 body_same LineString text xs ys r s h k = one_list text xs ys r s (line_list text xs r h) (line_list text ys s k)
 body_same Polygon text xs ys r s h k = (text_lists_exact.value text xs ys r s h k, text_lists_exact.rest text xs ys r s h k)
@@ -79,7 +95,8 @@ body_same Polygon text xs ys r s h k = (text_lists_exact.value text xs ys r s h 
 -- ---- whole texts
 
 -- each reading of a text begins as another does
-pub read_on : (text : List ℕ) (k : Keyword) (m : List ℕ) → TakesWord (skip text) k m → (l : Keyword) (lists : List (List RawPoint)) → TakesText text l lists → (l ≡ k) × ((e : List ℕ) × TakesBody k (skip m) lists e × (skip e ≡ []))
+pub read_on : (text : List ℕ) (k : Keyword) (m : List ℕ) → TakesWord (skip text) k m → (l : Keyword) (lists : List (List RawPoint))
+    → TakesText text l lists → (l ≡ k) × ((e : List ℕ) × TakesBody k (skip m) lists e × (skip e ≡ []))
 read_on text k m h l lists (n, e, g, b, p) =
     let same = word_same (skip text) l k n m g h in
     let here = subst (λ v. TakesBody l (skip v) lists e) same.1 b in
@@ -130,7 +147,8 @@ body_front LineString (ps ∷ []) s text h = enclosed_front PointText TakesPoint
 body_front LineString (ps ∷ qs ∷ lists) s text h = absurd h
 body_front Polygon lists s text h = enclosed_front PointList TakesPoints lists_reading lists s text h
 
-body_begins : (keyword : Keyword) (text : List ℕ) (lists : List (List RawPoint)) (rest : List ℕ) → TakesBody keyword text lists rest → Begins (Body keyword) text lists rest
+body_begins : (keyword : Keyword) (text : List ℕ) (lists : List (List RawPoint)) (rest : List ℕ) → TakesBody keyword text lists rest
+    → Begins (Body keyword) text lists rest
 body_begins Point text [] rest h = absurd h
 body_begins Point text ([] ∷ lists) rest h = absurd h
 body_begins Point text ((p ∷ []) ∷ []) rest h = lists_reading.begins text (p ∷ []) rest h
@@ -146,12 +164,18 @@ raw_taken text keyword lists h =
     let a = h.second in
     let b = a.second in
     let d = b.second in
-    let regrouped : text ≡ h.front ++ (a.front ++ (b.front ++ (d.front ++ d.back))) = rw (h.whole, a.whole, b.whole, d.whole) refl in
+    let regrouped : text ≡ h.front ++ (a.front ++ (b.front ++ (d.front ++ d.back))) = rw (h.joined, a.joined, b.joined, d.joined) refl in
     let at_word : skip text ≡ a.front ++ (b.front ++ (d.front ++ d.back)) =
     ap skip regrouped ∙ skip_blanks h.front _ h.first ∙ skip_solid _ (word_solid keyword a.front (b.front ++ (d.front ++ d.back)) a.first) in
-    let at_body : skip (b.front ++ (d.front ++ d.back)) ≡ d.front ++ d.back = skip_blanks b.front _ b.first ∙ skip_solid _ (body_solid keyword lists d.front d.back d.first) in
-    let at_end : skip d.back ≡ [] = ap skip (sym (append-nil d.back)) ∙ skip_blanks d.back [] d.second in
-    (b.front ++ (d.front ++ d.back), d.back, (a.front, a.first ∙ sym (small keyword), at_word), rw at_body (body_front keyword lists d.front d.back d.first), at_end)
+    let at_body : skip (b.front ++ (d.front ++ d.back)) ≡ d.front ++ d.back = skip_blanks b.front _ b.first
+    ∙ skip_solid _ (body_solid keyword lists d.front d.back d.first) in
+    let at_end : skip d.back ≡ [] = ap skip (sym (append-nil d.back)) ∙ skip_blanks d.back [] d.second in (
+      b.front ++ (d.front ++ d.back),
+      d.back,
+      (a.front, a.first ∙ sym (small keyword), at_word),
+      rw at_body (body_front keyword lists d.front d.back d.first),
+      at_end,
+    )
 
 pub taken_raw : (text : List ℕ) (keyword : Keyword) (lists : List (List RawPoint)) → TakesText text keyword lists → Raw text keyword lists
 taken_raw text keyword lists (m, e, (w, word, at_word), body, end) =
@@ -168,10 +192,16 @@ taken_raw text keyword lists (m, e, (w, word, at_word), body, end) =
         front = w;
         back = v ++ (s ++ z);
         first = word ∙ small keyword;
-        second = record { front = v; back = s ++ z; first = hv; second = record { front = s; back = z; first = hs; second = hz; whole = refl }; whole = refl };
-        whole = refl;
+        second = record {
+          front = v;
+          back = s ++ z;
+          first = hv;
+          second = record { front = s; back = z; first = hs; second = hz; joined = refl };
+          joined = refl;
+        };
+        joined = refl;
       };
-      whole = eu ∙ ap (λ t. u ++ t) (at_word ∙ ap (λ t. w ++ t) (ev ∙ ap (λ t. v ++ t) (es ∙ ap (λ t. s ++ t) ended)));
+      joined = eu ∙ ap (λ t. u ++ t) (at_word ∙ ap (λ t. w ++ t) (ev ∙ ap (λ t. v ++ t) (es ∙ ap (λ t. s ++ t) ended)));
     }
 
 -- a text has at most one raw form

@@ -1,14 +1,16 @@
--- The grammar of the texts: for each kind of text, which byte lists spell a value (OGC 06-103r4, 7.2, for three of its kinds).
+-- The grammar of the texts: for each kind of text, which byte lists spell a value
+-- (OGC 06-103r4, 7.2, for three of its kinds).
 use Rattle.std.specs.Prelude.{◌≡◌, ◌==◌, ℕ, Bool, true, false, ◌||◌, List, [], ◌∷◌, ◌++◌, ◌⊎◌, ◌<◌, IsTrue, length, map, codes}
 use Rattle.std.specs.List.{AllByRecursion}
 use Rattle.std.specs.Char.{is_ascii_digit, to_ascii_lowercase}
 use Rattle.wkt_core.specs.declared.keyword.Keyword.{Keyword}
 use Rattle.wkt_core.specs.declared.keyword.Keyword.TheVariants.{Point, LineString, Polygon}
 
--- a number as it is written (its digits as bytes): whether a minus stands before it, its digits before the dot, and those behind it
+-- a number as it is written: whether a minus stands before it, its digits before the dot, and those
+-- behind it, as bytes
 pub record Numeral : Type 0 where
   pub negative : Bool
-  pub whole : List ℕ
+  pub digits : List ℕ
   pub decimals : List ℕ
 
 -- a point as it is written
@@ -23,7 +25,7 @@ pub record ◌then◌ (A B : List ℕ → Type 0) (text : List ℕ) : Type 0 whe
   pub back : List ℕ
   pub first : A front
   pub second : B back
-  pub whole : text ≡ front ++ back
+  pub joined : text ≡ front ++ back
 
 -- this text alone
 abbrev pub Exactly : List ℕ → List ℕ → Type 0
@@ -57,15 +59,16 @@ Sign true text = text ≡ codes "-"
 Sign false text = (text ≡ []) ⊎ (text ≡ codes "+")
 
 -- one digit or more
-abbrev pub Whole : List ℕ → List ℕ → Type 0
-Whole digits text = (0 < length digits) × Digits digits × (text ≡ digits)
+abbrev pub SomeDigits : List ℕ → List ℕ → Type 0
+SomeDigits digits text = (0 < length digits) × Digits digits × (text ≡ digits)
 
 -- a dot and any count of digits; where there are none, nothing may stand in place of the dot
 abbrev pub Decimals : List ℕ → List ℕ → Type 0
-Decimals digits text = Digits digits × (((digits ≡ []) × (text ≡ [])) ⊎ (text ≡ codes "." ++ digits))
+Decimals digits text =
+    Digits digits × (((digits ≡ []) × (text ≡ [])) ⊎ (text ≡ codes "." ++ digits))
 
 abbrev pub Number : Numeral → List ℕ → Type 0
-Number n = Sign n.negative then Whole n.whole then Decimals n.decimals
+Number n = Sign n.negative then SomeDigits n.digits then Decimals n.decimals
 
 abbrev pub PointText : RawPoint → List ℕ → Type 0
 PointText p = Number p.x then Gap then Number p.y
@@ -74,7 +77,8 @@ PointText p = Number p.x then Gap then Number p.y
 abbrev pub Listed : {X : Type 0} → (X → List ℕ → Type 0) → List X → List ℕ → Type 0
 Listed Item [] text = ⊥
 Listed Item (x ∷ []) text = (Blanks then Item x then Blanks then Exactly (codes ")")) text
-Listed Item (x ∷ y ∷ xs) text = (Blanks then Item x then Blanks then Exactly (codes ",") then Listed Item (y ∷ xs)) text
+Listed Item (x ∷ y ∷ xs) text =
+    (Blanks then Item x then Blanks then Exactly (codes ",") then Listed Item (y ∷ xs)) text
 
 abbrev pub InParentheses : {X : Type 0} → (X → List ℕ → Type 0) → List X → List ℕ → Type 0
 InParentheses Item xs = Exactly (codes "(") then Listed Item xs
@@ -101,4 +105,5 @@ Word keyword text = map to_ascii_lowercase text ≡ spelling keyword
 
 -- the text is a keyword with lists of points, set out by the grammar
 abbrev pub Raw : List ℕ → Keyword → List (List RawPoint) → Type 0
-Raw text keyword lists = (Blanks then Word keyword then Blanks then Body keyword lists then Blanks) text
+Raw text keyword lists =
+    (Blanks then Word keyword then Blanks then Body keyword lists then Blanks) text

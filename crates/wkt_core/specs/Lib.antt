@@ -1,6 +1,10 @@
 pub mod Grammar
 pub mod Spelling
-pub mod Reading
-pub mod Kept
-pub mod Next
-pub mod Corners
+pub mod Readings
+pub mod FaultTexts
+pub mod TokenSteps
+pub mod NumberSteps
+pub mod PointSteps
+pub mod ListSteps
+pub mod FirstPoints
+pub mod FormSteps

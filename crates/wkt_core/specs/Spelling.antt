@@ -20,7 +20,7 @@ signed true n = neg_ℤ (pos n)
 
 -- the number that the sign and the digits before the dot stand for
 abbrev pub value : Numeral → ℤ
-value n = signed n.negative (digits_value 10 n.whole)
+value n = signed n.negative (digits_value 10 n.digits)
 
 -- whole and in range
 pub record IsGood (n : Numeral) : Type 0 where
@@ -50,7 +50,8 @@ corner x y = record { x = x; y = y }
 
 -- the four corners in order round the shape, from the lowest on
 abbrev pub corners : Shape → List Position
-corners s = corner (x1 s) (y1 s) ∷ corner (x2 s) (y1 s) ∷ corner (x2 s) (y2 s) ∷ corner (x1 s) (y2 s) ∷ []
+corners s =
+    corner (x1 s) (y1 s) ∷ corner (x2 s) (y1 s) ∷ corner (x2 s) (y2 s) ∷ corner (x1 s) (y2 s) ∷ []
 
 -- a list begun at another of its items
 abbrev pub rotated : {X : Type 0} → ℕ → List X → List X
@@ -58,7 +59,8 @@ rotated n xs = drop n xs ++ take n xs
 
 -- the corners in order round the shape, from any one, in either direction
 abbrev pub RunsRound : List Position → Shape → Type 0
-RunsRound ps s = (n : ℕ) × (n < 4) × ((ps ≡ rotated n (corners s)) ⊎ (ps ≡ rotated n (reverse (corners s))))
+RunsRound ps s =
+    (n : ℕ) × (n < 4) × ((ps ≡ rotated n (corners s)) ⊎ (ps ≡ rotated n (reverse (corners s))))
 
 -- the rectangle with these corners, in order round it
 pub record IsRectangle (a b c d : Position) (s : Shape) : Type 0 where
@@ -114,9 +116,17 @@ abbrev pub listed : List Position → List ℕ
 listed [] = []
 listed (p ∷ ps) = pair p ++ flat_map (λ q. codes ", " ++ pair q) ps
 
--- the spelling that is printed: a point, a segment from its lower end, or a ring from its lowest corner
+-- the lowest and the highest corner
+abbrev pub lowest : Shape → Position
+lowest s = corner (x1 s) (y1 s)
+
+abbrev pub highest : Shape → Position
+highest s = corner (x2 s) (y2 s)
+
+-- the spelling that is printed: a point, a segment from its lowest corner, or a ring from there
 abbrev pub canonical : Shape → List ℕ
 canonical s =
-    if dim_of s == 0 then codes "POINT (" ++ listed (corner (x1 s) (y1 s) ∷ []) ++ codes ")"
-    else if dim_of s == 1 then codes "LINESTRING (" ++ listed (corner (x1 s) (y1 s) ∷ corner (x2 s) (y2 s) ∷ []) ++ codes ")"
-    else codes "POLYGON ((" ++ listed (corners s ++ corner (x1 s) (y1 s) ∷ []) ++ codes "))"
+    if dim_of s == 0 then codes "POINT (" ++ listed (lowest s ∷ []) ++ codes ")"
+    else if dim_of s == 1
+    then codes "LINESTRING (" ++ listed (lowest s ∷ highest s ∷ []) ++ codes ")"
+    else codes "POLYGON ((" ++ listed (corners s ++ lowest s ∷ []) ++ codes "))"

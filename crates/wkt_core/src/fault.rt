@@ -1,17 +1,45 @@
 //! Why a text stands for no shape.
 
-use thiserror::Error;
+use std::error::Error;
+use std::fmt;
 
 /// Why a text stands for no shape. Where several hold, the first is named.
-#[derive(Clone, Copy, Debug, PartialEq, Eq, Error)]
+#[derive(Clone, Copy, Debug, PartialEq, Eq)]
 pub enum WktFault {
     /// The bytes are no text of the grammar.
-    #[error("not a geometry text")]
     Text,
     /// Some number isn't whole or is out of range.
-    #[error("number not whole or out of range")]
     Number,
     /// The points are those of no point, axis-parallel segment or rectangle.
-    #[error("not a point, axis-parallel segment or rectangle")]
     Form,
 }
+
+impl WktFault {
+    ghost use Rattle.std.specs.Prelude.{◌≡◌, ◌≤◌, length};
+    ghost use Rattle.wkt_core.specs.FaultTexts.{wkt_text};
+
+    /// The fault in a few words, of at most 50 bytes.
+    pub fn text(&self) -> &'static str
+        ensures text { result.now ≡ wkt_text self.now }
+        ensures short { length result.now ≤ 50 }
+    {
+        match self {
+            WktFault::Text => "not a geometry text",
+            WktFault::Number => "number not whole or out of range",
+            WktFault::Form => "not a point, axis-parallel segment or rectangle",
+        }
+    }
+}
+
+impl fmt::Display for WktFault {
+    ghost use Rattle.std.specs.Prelude.{Some};
+    ghost use Rattle.wkt_core.specs.FaultTexts.{wkt_text};
+
+    ghost output = { λ fault. Some (wkt_text fault) };
+
+    fn fmt<W: fmt::Write>(&self, f: &mut fmt::Formatter<W>) -> fmt::Result {
+        f.write_str(self.text())
+    }
+}
+
+impl Error for WktFault {}

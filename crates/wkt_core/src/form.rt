@@ -3,7 +3,7 @@
 ghost use Rattle.std.specs.Prelude.{◌↔◌, IsTrue, IfSome, IfNone};
 ghost use Rattle.geom_core.specs.declared.shape.Shape.{Shape};
 ghost use Rattle.wkt_core.specs.Spelling.{Draws, IsSegment, IsRectangle};
-ghost use Rattle.wkt_core.specs.Corners.{IsSpanned, AreParallel, LeadsRound, HasFourCorners};
+ghost use Rattle.wkt_core.specs.FormSteps.{IsSpanned, AreParallel, LeadsRound, HasFourCorners};
 
 use crate::keyword::Keyword;
 use crate::position::Position;

@@ -12,7 +12,7 @@ pub(crate) enum Keyword {
 
 impl Keyword {
     ghost use Rattle.std.specs.Prelude.{ℕ, List, IfSome, IfNone};
-    ghost use Rattle.wkt_core.specs.Reading.{TakesWord};
+    ghost use Rattle.wkt_core.specs.ListSteps.{TakesWord};
 
     /// The keyword at the front of a text, in any case, and what follows it.
     #[inline(always)]

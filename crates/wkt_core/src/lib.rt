@@ -5,15 +5,17 @@
 //! |---|---|
 //! | `POINT (4 -2)`, ` point(+4.00 -2. )` | the point (4, -2) |
 //! | `LINESTRING (3 0, 1 0)` | the segment from (1, 0) to (3, 0) |
-//! | `POLYGON ((0 0, 4 0, 4 2, 0 2, 0 0))`, `Polygon((4 2,4 0,0 0,0 2,4 2))` | the rectangle from (0, 0) to (4, 2) |
+//! | `POLYGON ((0 0, 4 0, 4 2, 0 2, 0 0))` | the rectangle from (0, 0) to (4, 2) |
+//! | `Polygon((4 2,4 0,0 0,0 2,4 2))` | the same rectangle |
 //! | `POINT EMPTY`, `POINT (1,2)`, `POINT (1e3 0)`, `POINT (1 2) x` | [`WktFault::Text`] |
 //! | `POINT (1.5 0)`, `POINT (1000000001 0)` | [`WktFault::Number`] |
-//! | `LINESTRING (0 0, 1 1)`, `LINESTRING (0 0, 1 0, 2 0)`, `POLYGON ((0 0, 4 0, 4 2, 0 2, 0 1))` | [`WktFault::Form`] |
+//! | `LINESTRING (0 0, 1 1)`, `LINESTRING (0 0, 1 0, 2 0)` | [`WktFault::Form`] |
+//! | `POLYGON ((0 0, 4 0, 4 2, 0 2, 0 1))` | [`WktFault::Form`] |
 #![tactic(auto)]
 
 mod fault;
+mod first_points;
 mod form;
-mod kept;
 mod keyword;
 mod laws;
 mod list;
@@ -28,6 +30,3 @@ pub use fault::WktFault;
 pub use laws::one_shape_law;
 pub use printer::print;
 pub use reader::read;
-
-#[cfg(test)]
-mod tests;

@@ -2,63 +2,65 @@
 
 ghost use Rattle.std.specs.Prelude.{◌≡◌, [], ◌∷◌, List, ℕ, IfSome, IfNone};
 ghost use Rattle.wkt_core.specs.Grammar.{RawPoint};
-ghost use Rattle.wkt_core.specs.Reading.{TakesPoints, TakesLists};
-ghost use Rattle.wkt_core.specs.Kept.{Keeps, KeepsLists};
+ghost use Rattle.wkt_core.specs.ListSteps.{TakesPoints, TakesLists};
+ghost use Rattle.wkt_core.specs.FirstPoints.{AreFirstOf, IsFirstOf};
 
-use crate::kept::{KeptLists, KeptPoints};
+use crate::first_points::{FirstList, FirstPoints};
 use crate::position::read_point;
 use crate::token::{Next, read_next, skip_blanks, skip_symbol};
 
-/// The list of points at the front of a text, and what follows it.
-pub(crate) fn read_points(text: &[u8]) -> Option<(KeptPoints, &[u8])>
+/// The first points of the list at the front of a text, and what follows it.
+pub(crate) fn read_points(text: &[u8]) -> Option<(FirstPoints, &[u8])>
     ensures some { IfSome result (λ r.
-        (ps : List RawPoint) × TakesPoints text.now ps r.1.now × Keeps r.0 ps) }
-    ensures none { IfNone result ((ps : List RawPoint) (rest : List ℕ) → TakesPoints text.now ps rest → ⊥) }
+        (ps : List RawPoint) × TakesPoints text.now ps r.1.now × AreFirstOf r.0 ps) }
+    ensures none { IfNone result
+        ((ps : List RawPoint) (rest : List ℕ) → TakesPoints text.now ps rest → ⊥) }
 {
-    let mut kept = KeptPoints::new();
+    let mut points = FirstPoints::new();
     let mut rest = skip_symbol(text, b'(')?;
     loop {
         let (point, after) = read_point(skip_blanks(rest))?;
-        kept.push(point);
+        points.push(point);
         match read_next(after)? {
             Next::Item(behind) => rest = behind,
-            Next::End(behind) => return Some((kept, behind)),
+            Next::End(behind) => return Some((points, behind)),
         }
     }
 }
 
 /// The one point in parentheses at the front of a text, and what follows it.
-pub(crate) fn read_single(text: &[u8]) -> Option<(KeptPoints, &[u8])>
+pub(crate) fn read_one_point(text: &[u8]) -> Option<(FirstPoints, &[u8])>
     ensures some { IfSome result (λ r.
-        (p : RawPoint) × TakesPoints text.now (p ∷ []) r.1.now × Keeps r.0 (p ∷ [])) }
-    ensures none { IfNone result ((p : RawPoint) (rest : List ℕ) → TakesPoints text.now (p ∷ []) rest → ⊥) }
+        (p : RawPoint) × TakesPoints text.now (p ∷ []) r.1.now × AreFirstOf r.0 (p ∷ [])) }
+    ensures none { IfNone result
+        ((p : RawPoint) (rest : List ℕ) → TakesPoints text.now (p ∷ []) rest → ⊥) }
 {
     let rest = skip_symbol(text, b'(')?;
     let (point, after) = read_point(skip_blanks(rest))?;
     let behind = skip_symbol(skip_blanks(after), b')')?;
-    let mut kept = KeptPoints::new();
-    kept.push(point);
-    Some((kept, behind))
+    let mut points = FirstPoints::new();
+    points.push(point);
+    Some((points, behind))
 }
 
-/// The lists of points in parentheses at the front of a text, and what follows them.
-pub(crate) fn read_lists(text: &[u8]) -> Option<(KeptLists, &[u8])>
+/// The first of the lists of points in parentheses at the front of a text, and what follows them.
+pub(crate) fn read_lists(text: &[u8]) -> Option<(FirstList, &[u8])>
     ensures some { IfSome result (λ r.
-        (lists : List (List RawPoint)) × TakesLists text.now lists r.1.now × KeepsLists r.0 lists) }
+        (lists : List (List RawPoint)) × TakesLists text.now lists r.1.now × IsFirstOf r.0 lists) }
     ensures none { IfNone result
         ((lists : List (List RawPoint)) (rest : List ℕ) → TakesLists text.now lists rest → ⊥) }
 {
     let rest = skip_symbol(text, b'(')?;
     let (first, mut after) = read_points(skip_blanks(rest))?;
-    let mut kept = KeptLists::of(first);
+    let mut list = FirstList::of(first);
     loop {
         match read_next(after)? {
             Next::Item(behind) => {
                 let (further, rest) = read_points(skip_blanks(behind))?;
-                kept.push(further);
+                list.push(further);
                 after = rest;
             }
-            Next::End(behind) => return Some((kept, behind)),
+            Next::End(behind) => return Some((list, behind)),
         }
     }
 }

@@ -1,16 +1,24 @@
 //! One number of a text.
 
-ghost use Rattle.std.specs.Prelude.{◌≡◌, ◌==◌, Some, None, nat_le, nat_abs, if◌then◌else◌};
+ghost use Rattle.std.specs.Prelude.{◌≡◌, ◌==◌};
 ghost use Rattle.std.specs.List.{list_all};
 ghost use Rattle.std.specs.Str.Parse.{digits_value};
-ghost use Rattle.wkt_core.specs.Spelling.{signed};
-ghost use Rattle.wkt_core.specs.Reading.{digits_at, after_digits, sign_at, decimals_at, number_at, number_view, read_number_of, IsCapped};
-ghost use Rattle.geom_core.specs.declared.span.TheConstants.{LIMIT};
+ghost use Rattle.wkt_core.specs.TokenSteps.{answer_view};
+ghost use Rattle.wkt_core.specs.NumberSteps.{digits_at, after_digits, sign_at, decimals_at, number_at, number_answer, ranged, IsCapped};
 
 use geom_core::LIMIT;
 
 /// The greatest absolute value of a coordinate.
 const LARGEST: u64 = LIMIT as u64;
+
+/// What is read of a number.
+#[derive(Drop)]
+pub(crate) struct ReadNumber {
+    /// The number before the dot, where it is in range.
+    pub(crate) value: Option<i64>,
+    /// Whether no digit but 0 stands behind the dot.
+    pub(crate) whole: bool,
+}
 
 /// Whether a minus stands at the front, and the text behind the sign.
 #[inline(always)]
@@ -73,7 +81,7 @@ fn decimals(text: &[u8]) -> (bool, &[u8])
 /// The number with this sign, where it is in range.
 #[inline(always)]
 fn signed_number(negative: bool, magnitude: u64) -> Option<i64>
-    ensures { result ≡ (if nat_le magnitude (nat_abs LIMIT) then Some (signed negative magnitude) else None) }
+    ensures { result ≡ ranged negative magnitude }
 {
     if magnitude > LARGEST {
         return None;
@@ -82,23 +90,19 @@ fn signed_number(negative: bool, magnitude: u64) -> Option<i64>
     Some(if negative { -number } else { number })
 }
 
-/// The number at the front of a text, and what follows it: with `None` in place of the number where
-/// that isn't whole or is out of range. The whole answer is `None` where no number stands there.
+/// What is read of the number at the front of a text, and what follows it: `None` where no number
+/// stands there.
 #[inline(always)]
-pub(crate) fn read_number(text: &[u8]) -> Option<(Option<i64>, &[u8])>
-    ensures { number_view result ≡ read_number_of (number_at text.now) }
+pub(crate) fn read_number(text: &[u8]) -> Option<(ReadNumber, &[u8])>
+    ensures { answer_view result ≡ number_answer (number_at text.now) }
 {
     let (negative, unsigned) = sign(text);
     match unsigned {
         [b'0'..=b'9', ..] => {
             let (magnitude, rest) = magnitude(unsigned);
             let (whole, rest) = decimals(rest);
-            let number = if whole {
-                signed_number(negative, magnitude)
-            } else {
-                None
-            };
-            Some((number, rest))
+            let value = signed_number(negative, magnitude);
+            Some((ReadNumber { value, whole }, rest))
         }
         _ => None,
     }

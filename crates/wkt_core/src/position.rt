@@ -1,9 +1,10 @@
 //! The points of a text.
 
 ghost use Rattle.std.specs.Prelude.{◌≡◌};
-ghost use Rattle.wkt_core.specs.Reading.{point_at, point_view, read_point_of, position_from};
+ghost use Rattle.wkt_core.specs.TokenSteps.{answer_view};
+ghost use Rattle.wkt_core.specs.PointSteps.{point_at, point_answer, position_from, point_from};
 
-use crate::number::read_number;
+use crate::number::{ReadNumber, read_number};
 use crate::token::skip_gap;
 
 /// A point of the plane.
@@ -24,7 +25,16 @@ impl Position {
     }
 }
 
-/// The point with these coordinates, where there are both.
+/// What is read of a point.
+#[derive(Drop)]
+pub(crate) struct ReadPoint {
+    /// The numbers before the dots, where both are in range.
+    pub(crate) position: Option<Position>,
+    /// Whether both numbers are whole.
+    pub(crate) whole: bool,
+}
+
+/// The position with these coordinates, where there are both.
 #[inline(always)]
 fn both(x: Option<i64>, y: Option<i64>) -> Option<Position>
     ensures { result ≡ position_from x y }
@@ -35,14 +45,25 @@ fn both(x: Option<i64>, y: Option<i64>) -> Option<Position>
     }
 }
 
-/// The point at the front of a text, and what follows it: with `None` in place of the point where a
-/// number isn't whole or is out of range. The whole answer is `None` where no point stands there.
+/// What is read of a point with these numbers.
 #[inline(always)]
-pub(crate) fn read_point(text: &[u8]) -> Option<(Option<Position>, &[u8])>
-    ensures { point_view result ≡ read_point_of (point_at text.now) }
+fn point(x: ReadNumber, y: ReadNumber) -> ReadPoint
+    ensures { result ≡ point_from x y }
+{
+    ReadPoint {
+        position: both(x.value, y.value),
+        whole: x.whole && y.whole,
+    }
+}
+
+/// What is read of the point at the front of a text, and what follows it: `None` where no point
+/// stands there.
+#[inline(always)]
+pub(crate) fn read_point(text: &[u8]) -> Option<(ReadPoint, &[u8])>
+    ensures { answer_view result ≡ point_answer (point_at text.now) }
 {
     let (x, rest) = read_number(text)?;
     let rest = skip_gap(rest)?;
     let (y, rest) = read_number(rest)?;
-    Some((both(x, y), rest))
+    Some((point(x, y), rest))
 }

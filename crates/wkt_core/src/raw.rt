@@ -1,17 +1,17 @@
 //! A whole text by the grammar, and what its points draw.
 
+use crate::first_points::FirstList;
 use crate::form::shape_of;
-use crate::kept::KeptLists;
 use crate::keyword::Keyword;
-use crate::list::{read_lists, read_points, read_single};
+use crate::list::{read_lists, read_one_point, read_points};
 use crate::token::skip_blanks;
 use geom_core::Shape;
 
-/// What is kept of a well formed text.
+/// The keyword and the first list of a text of the grammar.
 #[derive(Drop)]
 pub(crate) struct RawText {
     keyword: Keyword,
-    lists: KeptLists,
+    list: FirstList,
 }
 
 impl RawText {
@@ -21,64 +21,72 @@ impl RawText {
     ghost use Rattle.wkt_core.specs.declared.keyword.Keyword.{Keyword};
     ghost use Rattle.wkt_core.specs.Grammar.{RawPoint};
     ghost use Rattle.wkt_core.specs.Spelling.{Forms, positions};
-    ghost use Rattle.wkt_core.specs.Reading.{TakesBody, TakesText, are_good};
-    ghost use Rattle.wkt_core.specs.Kept.{KeepsLists};
+    ghost use Rattle.wkt_core.specs.ListSteps.{TakesBody, TakesText};
+    ghost use Rattle.wkt_core.specs.FirstPoints.{IsFirstOf, are_in_range};
 
-    /// What stands behind the keyword, and what follows it.
+    /// The first list behind the keyword, and what follows the lists.
     #[inline(always)]
-    fn read_body(keyword: Keyword, text: &[u8]) -> Option<(KeptLists, &[u8])>
+    fn read_body(keyword: Keyword, text: &[u8]) -> Option<(FirstList, &[u8])>
         ensures some { IfSome result (λ r. (lists : List (List RawPoint))
-            × TakesBody keyword text.now lists r.1.now × KeepsLists r.0 lists) }
-        ensures none { IfNone result
-            ((lists : List (List RawPoint)) (rest : List ℕ) → TakesBody keyword text.now lists rest → ⊥) }
+            × TakesBody keyword text.now lists r.1.now × IsFirstOf r.0 lists) }
+        ensures none { IfNone result ((lists : List (List RawPoint)) (rest : List ℕ)
+            → TakesBody keyword text.now lists rest → ⊥) }
     {
         match keyword {
             Keyword::Point => {
-                let (points, rest) = read_single(text)?;
-                Some((KeptLists::of(points), rest))
+                let (points, rest) = read_one_point(text)?;
+                Some((FirstList::of(points), rest))
             }
             Keyword::LineString => {
                 let (points, rest) = read_points(text)?;
-                Some((KeptLists::of(points), rest))
+                Some((FirstList::of(points), rest))
             }
             Keyword::Polygon => read_lists(text),
         }
     }
 
-    /// What is kept of the text, where the grammar has it.
+    /// The keyword and the first list of the text, where the grammar has it.
     pub(crate) fn read(text: &[u8]) -> Option<RawText>
         ensures some { IfSome result (λ raw. (lists : List (List RawPoint))
-            × TakesText text.now raw.keyword lists × KeepsLists raw.lists lists) }
-        ensures none { IfNone result
-            ((keyword : Keyword) (lists : List (List RawPoint)) → TakesText text.now keyword lists → ⊥) }
+            × TakesText text.now raw.keyword lists × IsFirstOf raw.list lists) }
+        ensures none { IfNone result ((keyword : Keyword) (lists : List (List RawPoint))
+            → TakesText text.now keyword lists → ⊥) }
     {
         let (keyword, rest) = Keyword::read(skip_blanks(text))?;
-        let (lists, rest) = RawText::read_body(keyword, skip_blanks(rest))?;
+        let (list, rest) = RawText::read_body(keyword, skip_blanks(rest))?;
         match skip_blanks(rest) {
-            [] => Some(RawText { keyword, lists }),
+            [] => Some(RawText { keyword, list }),
             _ => None,
         }
     }
 
-    /// Whether each number is whole and in range.
+    /// Whether each number is whole.
     #[inline(always)]
-    pub(crate) fn good(&self) -> bool
-        ensures { result ≡ self.now.lists.good }
+    pub(crate) fn is_whole(&self) -> bool
+        ensures { result ≡ self.now.list.whole }
     {
-        self.lists.good()
+        self.list.is_whole()
     }
 
-    /// The shape that the points draw, where each of their numbers is whole and in range.
+    /// Whether each number, without what stands behind its dot, is in range.
+    #[inline(always)]
+    pub(crate) fn is_in_range(&self) -> bool
+        ensures { result ≡ self.now.list.in_range }
+    {
+        self.list.is_in_range()
+    }
+
+    /// The shape that the points draw, where each of their numbers is in range.
     #[inline(always)]
     pub(crate) fn shape(&self) -> Option<Shape>
         ensures some { IfSome result (λ s. (lists : List (List RawPoint))
-            → KeepsLists self.now.lists lists → IsTrue (list_all are_good lists)
+            → IsFirstOf self.now.list lists → IsTrue (list_all are_in_range lists)
             → Forms self.now.keyword (positions lists) s) }
         ensures none { IfNone result ((lists : List (List RawPoint)) (s : Shape)
-            → KeepsLists self.now.lists lists → IsTrue (list_all are_good lists)
+            → IsFirstOf self.now.list lists → IsTrue (list_all are_in_range lists)
             → Forms self.now.keyword (positions lists) s → ⊥) }
     {
-        let points = self.lists.single()?;
+        let points = self.list.alone()?;
         shape_of(self.keyword, points)
     }
 }

@@ -1,8 +1,9 @@
 //! Reading a text.
 
-ghost use Rattle.std.specs.Prelude.{◌≡◌, ◌↔◌, Ok, IsErrOf};
+ghost use Rattle.std.specs.Prelude.{◌≡◌, Result};
 ghost use Rattle.geom_core.specs.declared.shape.Shape.{Shape};
-ghost use Rattle.wkt_core.specs.Spelling.{Spells, HasNoRawForm, HasBadNumber, HasNoShape};
+ghost use Rattle.wkt_core.specs.declared.fault.WktFault.{WktFault};
+ghost use Rattle.wkt_core.specs.Readings.{Reads};
 
 use crate::fault::WktFault;
 use crate::raw::RawText;
@@ -25,15 +26,13 @@ use geom_core::Shape;
 ///   a `POLYGON` isn't one ring of five points: the corners of a rectangle with a width and a
 ///   height, in order round it, from any one, in either direction, and the first of them again.
 pub fn read(text: &[u8]) -> Result<Shape, WktFault>
-    ensures ok { (s : Shape) → (result ≡ Ok s) ↔ Spells text.now s }
-    ensures no_text { IsErrOf result WktFault.Text ↔ HasNoRawForm text.now }
-    ensures number { IsErrOf result WktFault.Number ↔ HasBadNumber text.now }
-    ensures form { IsErrOf result WktFault.Form ↔ HasNoShape text.now }
+    ensures reads { Reads text.now result }
+    ensures only { (answer : Result Shape WktFault) → Reads text.now answer → result ≡ answer }
 {
     let Some(raw) = RawText::read(text) else {
         return Err(WktFault::Text);
     };
-    if !raw.good() {
+    if !raw.is_whole() || !raw.is_in_range() {
         return Err(WktFault::Number);
     }
     match raw.shape() {

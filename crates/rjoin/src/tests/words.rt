@@ -1,10 +1,9 @@
 //! The words of the command line.
 
-use crate::lines::word_line;
-use crate::options::Options;
-use crate::to_write::ToWrite;
-use crate::words::{Command, WordFault, read_words, word_status};
+use crate::word_line::{word_line, word_status};
+use crate::words::{Command, WordFault, read_words};
 use geom_core::{JoinRelation, Relation};
+use join_core::{Options, ToWrite};
 use std::process::Abort;
 use std::test::Fail;
 
@@ -22,7 +21,30 @@ fn usage_faults(rt: HostRuntime) -> Result<(), Fail> {
     for words in [
         no_words.as_slice(),
         &["rjoin", "relate", "x"],
+        &["rjoin", "relate", "x", "y", "z"],
         &["rjoin", "bridge"],
+        &["rjoin", "join", "l.csv", "q.csv"],
+        &["rjoin", "join", "l.csv", "--relation", "touches"],
+        &[
+            "rjoin",
+            "join",
+            "l.csv",
+            "q.csv",
+            "--relation",
+            "disjoint",
+            "--workers",
+            "x",
+        ],
+        &[
+            "rjoin",
+            "join",
+            "l.csv",
+            "q.csv",
+            "--relation",
+            "touch",
+            "--cut",
+            "4294967296",
+        ],
     ] {
         match read_words(rt.alloc(), words) {
             Err(fault @ WordFault::Usage { .. }) => assert_eq!(rt; word_status(&fault), 2),
@@ -79,47 +101,90 @@ fn check_refused(
     Ok(())
 }
 
+/// Checks the faults of a join whose words end so.
+fn check_join_refused(
+    rt: &(impl Abort + AllocGlobal),
+    last: &[&str],
+    line: &str,
+) -> Result<(), Fail> {
+    let mut words = Vec::new(rt.alloc());
+    words.extend_from_slice(&["rjoin", "join", "l.csv", "q.csv"])?;
+    words.extend_from_slice(last)?;
+    check_refused(rt, words.as_slice(), 2, line)
+}
+
 #[test]
-fn command_words(rt: HostRuntime) -> Result<(), Fail> {
-    let Err(fault) = read_words(rt.alloc(), &["rjoin", "join", "l.csv", "q.csv"]) else {
-        panic!(rt; "no fault");
-    };
-    assert_eq!(rt; word_status(&fault), 2);
-    assert!(rt; matches!(fault, WordFault::Usage { .. }));
+fn refused_options(rt: HostRuntime) -> Result<(), Fail> {
+    let disjoint = "rjoin: --relation: disjoint features may fit\n";
+    let length = "rjoin: --relation: not a name or a mask of nine letters\n";
+    let letter = "rjoin: --relation: bad letter at place 8\n";
+    let workers = "rjoin: --workers must be 1 to 16\n";
+    let batch = "rjoin: --batch must be 1 to 4096\n";
+    let cut = "rjoin: --cut must be 0 to 8\n";
+    for (last, line) in [
+        (
+            ["--relation", "disjoint", "--workers", "17"].as_slice(),
+            disjoint,
+        ),
+        (&["--relation", "touch", "--workers", "0"], length),
+        (&["--workers", "17", "--relation", "T*F**F**3"], letter),
+        (
+            &["--relation", "touches", "--workers", "0", "--batch", "0"],
+            workers,
+        ),
+        (
+            &["--relation", "touches", "--workers", "17", "--cut", "9"],
+            workers,
+        ),
+        (
+            &["--relation", "touches", "--batch", "4097", "--cut", "9"],
+            batch,
+        ),
+        (&["--relation", "touches", "--batch", "0"], batch),
+        (&["--relation", "touches", "--cut", "9"], cut),
+    ] {
+        check_join_refused(&rt, last, line)?;
+    }
+    Ok(())
+}
 
-    let disjoint = ["rjoin", "join", "l.csv", "q.csv", "--relation", "disjoint"];
-    let line = "rjoin: --relation: disjoint features may fit\n";
-    check_refused(&rt, &disjoint, 2, line)?;
-    let seventeen = [
-        "rjoin",
-        "join",
-        "l.csv",
-        "q.csv",
-        "--relation",
-        "touches",
-        "--workers",
-        "17",
-    ];
-    check_refused(&rt, &seventeen, 2, "rjoin: --workers must be 1 to 16\n")?;
-    let letter = ["rjoin", "join", "l.csv", "q.csv", "--relation", "T*F**F**3"];
-    check_refused(
-        &rt,
-        &letter,
-        2,
-        "rjoin: --relation: bad letter at place 8\n",
-    )?;
-
-    let words = ["rjoin", "join", "l.csv", "q.csv", "--relation", "touches"];
-    let command = read_words(rt.alloc(), &words)?;
-    let relation = JoinRelation::new(Relation::Touches)?;
-    let options = Options::new(4, 256, 2)?;
+/// Checks what a join whose words end so is read as.
+fn check_join(
+    rt: &(impl Abort + AllocGlobal),
+    last: &[&str],
+    edits_path: Option<&str>,
+    numbers: (u32, u32, u32),
+) -> Result<(), Fail> {
+    let mut words = Vec::new(rt.alloc());
+    words.extend_from_slice(&["rjoin", "join", "l.csv", "q.csv", "--relation", "within"])?;
+    words.extend_from_slice(last)?;
     let wanted = Command::Join {
         left_path: "l.csv",
         right_path: "q.csv",
-        edits_path: None,
-        relation,
-        options,
+        edits_path,
+        relation: JoinRelation::new(Relation::Within)?,
+        options: Options::new(numbers.0, numbers.1, numbers.2)?,
     };
-    assert_eq!(rt; command, wanted);
+    assert_eq!(rt; read_words(rt.alloc(), words.as_slice())?, wanted);
     Ok(())
+}
+
+#[test]
+fn joins(rt: HostRuntime) -> Result<(), Fail> {
+    check_join(&rt, &[], None, (4, 256, 2))?;
+    check_join(&rt, &["--edits", "e.csv"], Some("e.csv"), (4, 256, 2))?;
+    check_join(&rt, &["--workers", "16"], None, (16, 256, 2))?;
+    check_join(&rt, &["--batch", "4096"], None, (4, 4096, 2))?;
+    check_join(&rt, &["--cut", "0"], None, (4, 256, 0))?;
+    let all = [
+        "--cut",
+        "8",
+        "--batch",
+        "1",
+        "--edits",
+        "e.csv",
+        "--workers",
+        "1",
+    ];
+    check_join(&rt, &all, Some("e.csv"), (1, 1, 8))
 }

@@ -7,7 +7,7 @@ returns c =
     let n = rw (c.y.ensures, c.y-2.ensures) at c.of-2.ensures in
     let h = rows_hold c.args.a.now c.args.b.now c.of.result c.of-2.result m n in
     record {
-      interior = rw (c.entries.ensures, c.axis_table-x.ensures, c.axis_table-y.ensures) h.interior;
-      boundary = rw (c.entries-2.ensures, c.axis_table-x.ensures, c.axis_table-y.ensures) h.boundary;
-      exterior = rw (c.entries-3.ensures, c.axis_table-x.ensures, c.axis_table-y.ensures) h.exterior;
+      interior = rw (c.entries-interior.ensures, c.axis_table-x.ensures, c.axis_table-y.ensures) h.interior;
+      boundary = rw (c.entries-boundary.ensures, c.axis_table-x.ensures, c.axis_table-y.ensures) h.boundary;
+      exterior = rw (c.entries-exterior.ensures, c.axis_table-x.ensures, c.axis_table-y.ensures) h.exterior;
     }

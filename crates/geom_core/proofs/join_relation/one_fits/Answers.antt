@@ -9,4 +9,5 @@ returns c =
     let masks = c.args.masks.now in
     let matrix = c.args.matrix.now in
     one_from_cases c.any.result masks matrix
-    (cases_from_any _ _ _ (λ mask. Fits mask matrix) (λ mask. ¬ (Fits mask matrix)) c.any.ensures.ran (YieldsList-from_slice masks cc) (λ x q k. search (rules, tests)) (λ x q k. search (rules, tests)))
+    (cases_from_any _ _ _ (λ mask. Fits mask matrix) (λ mask. ¬ (Fits mask matrix)) c.any.ensures.ran
+    (YieldsList-from_slice masks cc) (λ x q k. search (rules, tests)) (λ x q k. search (rules, tests)))

@@ -13,4 +13,5 @@ returns-in_err-get-2-clause-none c =
 
 pub returns-clause-some : goal.returns-clause-some
 returns-clause-some c =
-    two-fields (fields_of c.args.row.now) c.in_ok-get.field-0.now c.in_ok-get-2.field-0.now (sym c.len.ensures ∙ c.if-len-ne2.false) c.in_ok-get.ensures.value c.in_ok-get-2.ensures.value
+    two-fields (fields_of c.args.row.now) c.in_ok-get.field-0.now c.in_ok-get-2.field-0.now
+    (sym c.len.ensures ∙ c.if-len-ne2.false) c.in_ok-get.ensures.value c.in_ok-get-2.ensures.value

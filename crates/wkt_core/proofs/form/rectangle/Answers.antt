@@ -7,7 +7,7 @@ use Rattle.wkt_core.proofs.form.rectangle.Goals as goal
 pub returns-then-has_four_corners-clause-some : goal.returns-then-has_four_corners-clause-some
 returns-then-has_four_corners-clause-some c =
     IfSome_then c.spanned.result c.spanned.ensures.some (λ s h.
-    rectangle_spanned c.args.a.now c.args.b.now c.args.c.now c.args.d.now s (c.if-has_four_corners.ensures.0 refl) h)
+    rectangle_spanned c.args.a.now c.args.b.now c.args.c.now c.args.d.now s h (c.if-has_four_corners.ensures.0 refl))
 
 pub returns-then-has_four_corners-clause-none : goal.returns-then-has_four_corners-clause-none
 returns-then-has_four_corners-clause-none c =

@@ -1,7 +1,7 @@
 use Rattle.std.proofs.Common.{arith}
 use Rattle.std.proofs.lemmas.Int.{ints, clamps}
 use Rattle.std.proofs.lemmas.Option.{IfSome_then}
-use Rattle.wkt_core.specs.Corners.{IsSpanned}
+use Rattle.wkt_core.specs.FormSteps.{IsSpanned}
 use Rattle.wkt_core.proofs.FormLemmas.{none_unless}
 use Rattle.wkt_core.proofs.form.spanned.Goals as goal
 

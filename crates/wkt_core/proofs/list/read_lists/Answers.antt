@@ -1,5 +1,6 @@
 use Rattle.std.proofs.Common.{◌≡◌, [], ◌∷◌, length, arith, sym, ap, refl}
-use Rattle.wkt_core.specs.Reading.{skip, TakesPoints}
+use Rattle.wkt_core.specs.TokenSteps.{skip}
+use Rattle.wkt_core.specs.ListSteps.{TakesPoints}
 use Rattle.wkt_core.proofs.FrontLemmas.{symbol_begins, length-skip}
 use Rattle.wkt_core.proofs.ItemLemmas.{no_item_follows}
 use Rattle.wkt_core.proofs.PointLemmas.{if_none, lists_exact, list_more, lists_ended, no_lists_end, no_list_follows}
@@ -7,11 +8,12 @@ use Rattle.wkt_core.proofs.list.read_lists.Goals as goal
 
 pub returns-in_err-first-clause-none : goal.returns-in_err-first-clause-none
 returns-in_err-first-clause-none c =
-    if_none _ (no_item_follows TakesPoints lists_exact c.in_ok-rest.rest.now c.in_ok-rest.rest.now [] refl _ (symbol_begins 40 _ _ (sym c.in_ok-rest.ensures)) (rw c.skip_blanks.ensures at c.in_err-first.ensures.none))
+    if_none _ (no_item_follows TakesPoints lists_exact c.in_ok-rest.rest.now c.in_ok-rest.rest.now [] refl _
+    (symbol_begins 40 _ _ (sym c.in_ok-rest.ensures)) (rw c.skip_blanks.ensures at c.in_err-first.ensures.none))
 
 pub loop-behind-init : goal.loop-behind-init
 loop-behind-init c =
-    let (ps, taken, keeps) = c.in_ok-first.ensures.some in
+    let (ps, taken, firsts) = c.in_ok-first.ensures.some in
     record {
       start = c.in_ok-rest.rest.now;
       opened = symbol_begins 40 _ _ (sym c.in_ok-rest.ensures);
@@ -20,7 +22,7 @@ loop-behind-init c =
       rest = c.in_ok-rest.rest.now;
       begun = refl;
       taken = rw c.skip_blanks.ensures at taken;
-      keeps = c.of-kept.ensures ps keeps;
+      firsts = c.of-list.ensures ps firsts;
     }
 
 pub returns-in_err-behind-clause-none : goal.returns-in_err-behind-clause-none
@@ -29,18 +31,20 @@ returns-in_err-behind-clause-none c = if_none _ (no_lists_end _ _ _ c.loop-behin
 pub returns-in_err-further-in-Item-clause-none : goal.returns-in_err-further-in-Item-clause-none
 returns-in_err-further-in-Item-clause-none c =
     let next : skip c.loop-behind.after.now ≡ 44 ∷ c.in-Item.behind.now = rw c.in-Item.is at c.in_ok-behind.ensures in
-    if_none _ (no_list_follows _ _ c.in-Item.behind.now _ c.loop-behind.invariant next (rw c.skip_blanks-in-Item.ensures at c.in_err-further-in-Item.ensures.none))
+    if_none _ (no_list_follows _ _ c.in-Item.behind.now _ c.loop-behind.invariant next
+    (rw c.skip_blanks-in-Item.ensures at c.in_err-further-in-Item.ensures.none))
 
 pub loop-behind-preserved : goal.loop-behind-preserved
 loop-behind-preserved c =
     let next : skip c.loop-behind.after.now ≡ 44 ∷ c.in-Item.behind.now = rw c.in-Item.is at c.in_ok-behind.ensures in
-    let (ps, taken, keeps) = c.in_ok-further-in-Item.ensures.some in
-    list_more _ _ c.in-Item.behind.now _ _ _ c.loop-behind.invariant ps next (rw c.skip_blanks-in-Item.ensures at taken) (λ lists kept. c.push.ensures lists ps kept keeps)
+    let (ps, taken, firsts) = c.in_ok-further-in-Item.ensures.some in
+    list_more _ _ c.in-Item.behind.now _ _ _ c.loop-behind.invariant ps next (rw c.skip_blanks-in-Item.ensures at taken)
+    (λ lists first. c.push.ensures lists ps first firsts)
 
 pub loop-behind-smaller : goal.loop-behind-smaller
 loop-behind-smaller c =
     let next : skip c.loop-behind.after.now ≡ 44 ∷ c.in-Item.behind.now = rw c.in-Item.is at c.in_ok-behind.ensures in
-    let (ps, taken, keeps) = c.in_ok-further-in-Item.ensures.some in
+    let (ps, taken, firsts) = c.in_ok-further-in-Item.ensures.some in
     let shorter = lists_exact.shorter _ ps _ taken in
     let skipped = length-skip c.in-Item.behind.now in
     let before = length-skip c.loop-behind.after.now in

@@ -1,6 +1,6 @@
 use Rattle.std.proofs.Common.{arith}
 use Rattle.std.proofs.lemmas.Grind.{common_steps}
-use Rattle.wkt_core.specs.Reading.{digits_at}
+use Rattle.wkt_core.specs.NumberSteps.{digits_at}
 use Rattle.wkt_core.proofs.NumberLemmas.{digits_value_after-ge}
 use Rattle.wkt_core.proofs.number.magnitude.Goals as goal
 

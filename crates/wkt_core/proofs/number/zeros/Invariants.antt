@@ -1,6 +1,6 @@
 use Rattle.std.proofs.Common.{◌≡◌, ◌==◌, ◌&&◌, length}
 use Rattle.std.specs.List.{list_all}
-use Rattle.wkt_core.specs.Reading.{digits_at, after_digits}
+use Rattle.wkt_core.specs.NumberSteps.{digits_at, after_digits}
 use Rattle.wkt_core.proofs.number.zeros.Given as goal
 
 abbrev pub invariant-loop-rest : goal.invariant-loop-rest

@@ -1,5 +1,5 @@
 use Rattle.std.proofs.Common.{◌≡◌, length}
-use Rattle.wkt_core.specs.Reading.{skip}
+use Rattle.wkt_core.specs.TokenSteps.{skip}
 use Rattle.wkt_core.proofs.token.skip_blanks.Given as goal
 
 abbrev pub invariant-loop-text : goal.invariant-loop-text

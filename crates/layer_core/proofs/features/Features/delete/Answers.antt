@@ -3,8 +3,8 @@ use Rattle.std.specs.HashMap.{keys, values}
 use Rattle.std.specs.Option.{option_map}
 use Rattle.std.proofs.lemmas.Option.{slice_get_within}
 use Rattle.std.proofs.lemmas.Map.Entries.{length-values_of}
-use Rattle.layer_core.specs.Tables.{contents_of}
-use Rattle.layer_core.proofs.TableLemmas.{IsKept-deleted, with_id-absent, with_id-only, deleted-absent, deleted-only, keys-set}
+use Rattle.layer_core.specs.MapAndSlots.{contents_of}
+use Rattle.layer_core.proofs.MapLemmas.{StandForLayer-deleted, with_id-absent, with_id-only, deleted-absent, deleted-only, keys-set}
 use Rattle.layer_core.proofs.features.Features.delete.Goals as goal
 
 pub returns-in_err-number-clause-shape : goal.returns-in_err-number-clause-shape
@@ -31,13 +31,15 @@ index_mut-requires-2 c =
 pub overflow_sub-self : goal.overflow_sub-self
 overflow_sub-self c =
     let only = rw c.as_slice.ensures.value at c.in_ok-number.ensures.found in
-    let some = (IsKept-deleted c.self.inside.ids.entries c.self.inside.slots.items c.self.inside.count c.in_ok-number.number c.in_ok-number.slot c.self.invariant only.here c.in_ok-number.ensures.place).0 in
+    let some = (StandForLayer-deleted c.self.inside.ids.entries c.self.inside.slots.items c.self.inside.count c.in_ok-number.number c.in_ok-number.slot
+    c.self.invariant only.here c.in_ok-number.ensures.place).0 in
     omega arith
 
 pub invariant_of-self : goal.invariant_of-self
 invariant_of-self c =
     let only = rw c.as_slice.ensures.value at c.in_ok-number.ensures.found in
-    (IsKept-deleted c.self.inside.ids.entries c.self.inside.slots.items c.self.inside.count c.in_ok-number.number c.in_ok-number.slot c.self.invariant only.here c.in_ok-number.ensures.place).1
+    (StandForLayer-deleted c.self.inside.ids.entries c.self.inside.slots.items c.self.inside.count c.in_ok-number.number c.in_ok-number.slot
+    c.self.invariant only.here c.in_ok-number.ensures.place).1
 
 pub returns-clause-shape : goal.returns-clause-shape
 returns-clause-shape c =
@@ -49,4 +51,5 @@ pub returns-clause-deleted : goal.returns-clause-deleted
 returns-clause-deleted c =
     let only = rw c.as_slice.ensures.value at c.in_ok-number.ensures.found in
     let after = deleted-only (keys c.self.inside.ids) c.self.inside.slots.items c.args.id.now c.in_ok-number.number c.in_ok-number.slot only in
-    rw (← c.self.view_is) (ap (λ ks. contents_of ks (set c.self.inside.slots.items c.in_ok-number.number None)) (keys-set c.self.inside.ids.entries c.in_ok-number.slot.place None) ∙ sym after)
+    rw (← c.self.view_is) (ap (λ ks. contents_of ks (set c.self.inside.slots.items c.in_ok-number.number None))
+    (keys-set c.self.inside.ids.entries c.in_ok-number.slot.place None) ∙ sym after)

@@ -1,8 +1,8 @@
 use Rattle.std.proofs.Common.{◌≡◌, ◌∙◌, ◌<◌, not, sym, ap, Some, None, length, is_some, string_bytes, arith, rules}
-use Rattle.layer_core.specs.declared.features.TheConstants.{MAX_FEATURES}
+use Rattle.layer_core.specs.Limits.{most_features}
 use Rattle.std.specs.Option.{option_flatten}
 use Rattle.layer_core.specs.declared.features.Slot.{Slot}
-use Rattle.layer_core.proofs.TableLemmas.{InsertsNew, count-le, inserts_new, inserts_double}
+use Rattle.layer_core.proofs.MapLemmas.{InsertsNew, count-le, inserts_new, inserts_double}
 use Rattle.layer_core.proofs.features.Features.insert.Goals as goal
 
 pub invariant_of-self-in-Some : goal.invariant_of-self-in-Some
@@ -10,7 +10,8 @@ invariant_of-self-in-Some c =
     let done = c.in_ok-place.ensures in
     let slot : Slot = record { place = c.in_ok-place.place; shape = c.args.shape } in
     let held = rw done.old at c.in-Some.ensures in
-    let back = (inserts_double c.self.inside.ids.entries c.self.inside.slots.items c.self.inside.count c.self.invariant c.args.id slot (Some c.len-number.result) c.in-Some.live done.index held).0 in
+    let back = (inserts_double c.self.inside.ids.entries c.self.inside.slots.items c.self.inside.count c.self.invariant c.args.id slot
+    (Some c.len-number.result) c.in-Some.live done.index held).0 in
     rw (done.entries, back, c.reserve.ensures.items) c.self.invariant
 
 pub returns-in-Some-clause-absent : goal.returns-in-Some-clause-absent
@@ -18,7 +19,8 @@ returns-in-Some-clause-absent c =
     let done = c.in_ok-place.ensures in
     let slot : Slot = record { place = c.in_ok-place.place; shape = c.args.shape } in
     let held = rw done.old at c.in-Some.ensures in
-    let there = (inserts_double c.self.inside.ids.entries c.self.inside.slots.items c.self.inside.count c.self.invariant c.args.id slot (Some c.len-number.result) c.in-Some.live done.index held).1 in
+    let there = (inserts_double c.self.inside.ids.entries c.self.inside.slots.items c.self.inside.count c.self.invariant c.args.id slot
+    (Some c.len-number.result) c.in-Some.live done.index held).1 in
     rw (← c.self.view_is) (sym (ap not there))
 
 pub returns-in-Some-clause-inserted : goal.returns-in-Some-clause-inserted
@@ -26,18 +28,22 @@ returns-in-Some-clause-inserted c =
     let done = c.in_ok-place.ensures in
     let slot : Slot = record { place = c.in_ok-place.place; shape = c.args.shape } in
     let held = rw done.old at c.in-Some.ensures in
-    let back = (inserts_double c.self.inside.ids.entries c.self.inside.slots.items c.self.inside.count c.self.invariant c.args.id slot (Some c.len-number.result) c.in-Some.live done.index held).0 in
+    let back = (inserts_double c.self.inside.ids.entries c.self.inside.slots.items c.self.inside.count c.self.invariant c.args.id slot
+    (Some c.len-number.result) c.in-Some.live done.index held).0 in
     rw (done.entries, back, c.reserve.ensures.items) c.self.view_is
 
 -- what the insertion does, where the id had no feature
-new_feature : (c : goal.After-self-in-None-1) → InsertsNew c.self.inside.ids.entries c.insert_full.new.self.entries c.self.inside.slots.items c.self.inside.count (string_bytes c.args.id) (record { place = c.in_ok-place.place; shape = c.args.shape })
+new_feature :
+    (c : goal.After-self-in-None-1) → InsertsNew c.self.inside.ids.entries c.insert_full.new.self.entries c.self.inside.slots.items c.self.inside.count
+    (string_bytes c.args.id) (record { place = c.in_ok-place.place; shape = c.args.shape })
 new_feature c =
     let done = c.in_ok-place.ensures in
     let slot : Slot = record { place = c.in_ok-place.place; shape = c.args.shape } in
     let none : option_flatten c.in_ok-place.before ≡ None = sym c.flatten.ensures ∙ c.in-None.is in
     let number : c.len-number.result ≡ length c.self.inside.slots.items = search rules in
-    let room : length c.self.inside.slots.items < MAX_FEATURES = let few = rw (← c.self.view_is) at c.requires in few in
-    rw done.entries (inserts_new c.self.inside.ids.entries c.self.inside.slots.items c.self.inside.count c.self.invariant c.args.id slot (Some c.len-number.result) (ap Some number) done.index (rw done.entries at done.unique) (rw done.old at none) room)
+    let room : length c.self.inside.slots.items < most_features = let few = rw (← c.self.view_is) at c.requires in few in
+    rw done.entries (inserts_new c.self.inside.ids.entries c.self.inside.slots.items c.self.inside.count c.self.invariant c.args.id slot
+    (Some c.len-number.result) (ap Some number) done.index (rw done.entries at done.unique) (rw done.old at none) room)
 
 pub invariant_of-self-in-None : goal.invariant_of-self-in-None
 invariant_of-self-in-None c = rw (c.push_reserved.ensures.items, c.reserve.ensures.items) (new_feature c).kept

@@ -1,6 +1,6 @@
-use Rattle.layer_core.proofs.TableLemmas.{IsLayer-kept}
+use Rattle.layer_core.proofs.MapLemmas.{IsLayer-contents}
 use Rattle.layer_core.proofs.features.Features.len.Goals as goal
 
-pub returns-clause-valid : goal.returns-clause-valid
-returns-clause-valid c =
-    rw (← c.self.view_is) (IsLayer-kept c.self.inside.ids.entries c.self.inside.slots.items c.self.inside.count c.self.invariant)
+pub returns-clause-layer : goal.returns-clause-layer
+returns-clause-layer c =
+    rw (← c.self.view_is) (IsLayer-contents c.self.inside.ids.entries c.self.inside.slots.items c.self.inside.count c.self.invariant)

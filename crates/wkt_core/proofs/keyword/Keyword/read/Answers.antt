@@ -2,10 +2,12 @@ use Rattle.std.proofs.Common.{ℕ, List}
 use Rattle.std.specs.Prelude.{codes}
 use Rattle.wkt_core.specs.declared.keyword.Keyword.{Keyword}
 use Rattle.wkt_core.specs.declared.keyword.Keyword.TheVariants.{Point, LineString, Polygon}
-use Rattle.wkt_core.specs.Reading.{TakesLetters, TakesWord}
+use Rattle.wkt_core.specs.TokenSteps.{TakesLetters}
+use Rattle.wkt_core.specs.ListSteps.{TakesWord}
 use Rattle.wkt_core.proofs.keyword.Keyword.read.Goals as goal
 
-no_keyword : (text : List ℕ) → ((rest : List ℕ) → TakesLetters (codes "point") text rest → ⊥) → ((rest : List ℕ) → TakesLetters (codes "linestring") text rest → ⊥)
+no_keyword : (text : List ℕ) → ((rest : List ℕ) → TakesLetters (codes "point") text rest → ⊥)
+    → ((rest : List ℕ) → TakesLetters (codes "linestring") text rest → ⊥)
     → ((rest : List ℕ) → TakesLetters (codes "polygon") text rest → ⊥) → (keyword : Keyword) (rest : List ℕ) → TakesWord text keyword rest → ⊥
 no_keyword text p q r Point rest h = p rest h
 no_keyword text p q r LineString rest h = q rest h

@@ -1,6 +1,6 @@
 use Rattle.std.proofs.Common.{ℕ, List, [], ◌∷◌}
 use Rattle.wkt_core.specs.Grammar.{RawPoint}
-use Rattle.wkt_core.specs.Reading.{TakesBody}
+use Rattle.wkt_core.specs.ListSteps.{TakesBody}
 use Rattle.wkt_core.proofs.PointLemmas.{if_none}
 use Rattle.wkt_core.proofs.TextLemmas.{no_single, no_line}
 use Rattle.wkt_core.proofs.raw.RawText.read_body.Goals as goal
@@ -19,8 +19,8 @@ returns-in_err-points-in-LineString-clause-none c =
 
 pub returns-in_ok-points-in-Point-clause-some : goal.returns-in_ok-points-in-Point-clause-some
 returns-in_ok-points-in-Point-clause-some c =
-    let (p, taken, keeps) = c.in_ok-points-in-Point.ensures.some in
-    ((p ∷ []) ∷ [], rw c.in-Point.is taken, c.of.ensures (p ∷ []) keeps)
+    let (p, taken, firsts) = c.in_ok-points-in-Point.ensures.some in
+    ((p ∷ []) ∷ [], rw c.in-Point.is taken, c.of.ensures (p ∷ []) firsts)
 
 pub returns-in-Polygon-clause-none : goal.returns-in-Polygon-clause-none
 returns-in-Polygon-clause-none c = rw c.in-Polygon.is c.read_lists.ensures.none

@@ -1,0 +1,124 @@
+-- The answers of a join of files.
+use Rattle.std.proofs.Common.{◌≡◌, ℕ, List, Option, Some, None, Result, Ok, Err, IsSome, IsErrAnd, IsErrOf, IfErr, IfOk, Vec, Global, ◌↔◌, ◌≢◌, ◌⊎◌, inl, inr, All, get_or, refl, sym, subst, ◌∙◌, map}
+use Rattle.geom_core.specs.declared.relation.Relation.{Relation}
+use Rattle.layer_core.specs.declared.edit.Edit.{Edit as EditType}
+use Rattle.layer_core.specs.declared.fault.LayerFault.{LayerFault}
+use Rattle.layer_core.specs.declared.read_fault.ReadFault.{ReadFault}
+use Rattle.layer_core.specs.declared.read_fault.ReadFault.TheVariants.{Io}
+use Rattle.layer_core.specs.Edits.{both, content_of, edits_give}
+use Rattle.layer_core.specs.Layers.{Feature, Contents, with_number}
+use Rattle.join_core.specs.declared.fault.Input.{Input}
+use Rattle.join_core.specs.declared.fault.Input.TheVariants.{First, Second, Left, Right, Edits}
+use Rattle.join_core.specs.declared.fault.JoinFault.TheVariants.{Memory as no_join_memory}
+use Rattle.join_core.specs.declared.fault.RunFault.{RunFault}
+use Rattle.join_core.specs.declared.fault.RunFault.TheVariants.{Read, Edit, Join, Write, Memory}
+use Rattle.join_core.specs.JoinRuns.{JoinFiles, LayerFile, EditFile, JoinGives, left_fault, right_fault, edits_fault, edit_refused, reported, BlamesBytes, BlamesEdit, BlamesInput, IsJoinFault, FailedAt}
+use Rattle.join_core.specs.Joins.{IsJoinList}
+use Rattle.join_core.specs.Reports.{IsHeld, IsReport}
+use Rattle.join_core.proofs.JoinLemmas.{contains_at}
+
+is_some_of : (o : Option Feature) (f : Feature) → o ≡ Some f → IsSome o
+is_some_of None f e = absurd (let bad : None ≡ Some f = e in cc)
+is_some_of (Some g) f e = refl
+
+-- the layers hold the features of their pairs
+pub pairs_held : (relation : Relation) (left right : Contents) (pairs list : List (ℕ × ℕ)) → list ≡ pairs → IsJoinList relation left right pairs
+    → All (IsHeld left right) list
+pairs_held relation left right pairs list e joined =
+    subst (All (IsHeld left right)) (sym e)
+    (λ k d within.
+    let s = (joined.exact (get_or pairs k d)).0 (contains_at pairs k d within) in
+    (is_some_of (with_number (get_or pairs k d).0 left) s.first s.first_held, is_some_of (with_number (get_or pairs k d).1 right) s.second s.second_held))
+
+-- what `?` hands on of a fault that is one of the join's
+handed_on : {T : Type 0} (J : Result (List ℕ) RunFault → Type 0) (out : Result T RunFault) (e is : RunFault) → IsErrAnd out (λ x. x ≡ e) → e ≡ is
+    → (BlamesInput is → J (Err is)) → IfErr out (λ x. BlamesInput x → J (Err x))
+handed_on J (Ok x) e is h same gives = absurd h
+handed_on J (Err x) e is h same gives =
+    let whole : x ≡ is = h ∙ same in
+    λ blame. subst (λ (y : RunFault). J (Err y)) (sym whole) (gives (subst BlamesInput whole blame))
+
+pub left_blamed : {T : Type 0} (relation : Relation) (files : JoinFiles) (out : Result T RunFault) (e : RunFault)
+    → IsErrAnd out (λ x. x ≡ e) → ((f : ReadFault) × (e ≡ Read Left f) × (BlamesBytes f → LayerFile files.left (Err f)))
+    → IfErr out (λ x. BlamesInput x → JoinGives relation files (Err x))
+left_blamed relation files out e h fault =
+    handed_on (JoinGives relation files) out e (Read Left fault.0) h fault.1 (λ blame. left_fault fault.0 (fault.2 blame))
+
+pub right_blamed : {T : Type 0} (relation : Relation) (files : JoinFiles) (l : Contents) (out : Result T RunFault) (e : RunFault)
+    → LayerFile files.left (Ok l) → IsErrAnd out (λ x. x ≡ e) → ((f : ReadFault) × (e ≡ Read Right f) × (BlamesBytes f → LayerFile files.right (Err f)))
+    → IfErr out (λ x. BlamesInput x → JoinGives relation files (Err x))
+right_blamed relation files l out e left h fault =
+    handed_on (JoinGives relation files) out e (Read Right fault.0) h fault.1 (λ blame. right_fault l fault.0 left (fault.2 blame))
+
+pub edits_blamed : {T : Type 0} (relation : Relation) (files : JoinFiles) (l r : Contents) (out : Result T RunFault) (e : RunFault)
+    → LayerFile files.left (Ok l) → LayerFile files.right (Ok r) → IsErrAnd out (λ x. x ≡ e)
+    → ((f : ReadFault) × (e ≡ Read Edits f) × (BlamesBytes f → EditFile files.edits (Err f)))
+    → IfErr out (λ x. BlamesInput x → JoinGives relation files (Err x))
+edits_blamed relation files l r out e left right h fault =
+    handed_on (JoinGives relation files) out e (Read Edits fault.0) h fault.1 (λ blame. edits_fault l r fault.0 left right (fault.2 blame))
+
+pub edit_blamed : {T : Type 0} (relation : Relation) (files : JoinFiles) (l r : Contents) (list items : List EditType) (out : Result T RunFault)
+    (e : RunFault)
+    → LayerFile files.left (Ok l) → LayerFile files.right (Ok r) → EditFile files.edits (Ok (map content_of items)) → list ≡ items → IsErrAnd out (λ x. x ≡ e)
+    → ((row : ℕ) × (f : LayerFault) × (e ≡ Edit row f) × (BlamesEdit f → edits_give 1 (both l r) (map content_of list) ≡ Err (row, f)))
+    → IfErr out (λ x. BlamesInput x → JoinGives relation files (Err x))
+edit_blamed relation files l r list items out e left right edits same h fault =
+    handed_on (JoinGives relation files) out e (Edit fault.0 fault.1) h fault.2
+    (λ blame. edit_refused l r (map content_of items) fault.0 fault.1 left right edits
+    (subst (λ (es : List EditType). edits_give 1 (both l r) (map content_of es) ≡ Err (fault.0, fault.1)) same (fault.3 blame)))
+
+-- want of memory blames no input
+pub none_blamed : (relation : Relation) (files : JoinFiles) (e : RunFault) → ((e ≡ Join no_join_memory) ⊎ (e ≡ Memory)) → BlamesInput e
+    → JoinGives relation files (Err e)
+none_blamed relation files e (inl is) blame = absurd (subst BlamesInput is blame)
+none_blamed relation files e (inr is) blame = absurd (subst BlamesInput is blame)
+
+pub text_reported : (relation : Relation) (files : JoinFiles) (l r : Contents) (list items : List EditType) (left right : Contents) (text : List ℕ)
+    → LayerFile files.left (Ok l) → LayerFile files.right (Ok r) → EditFile files.edits (Ok (map content_of items)) → list ≡ items
+    → edits_give 1 (both l r) (map content_of list) ≡ Ok (both left right)
+    → ((pairs : List (ℕ × ℕ)) × IsJoinList relation left right pairs × IsReport left right pairs text) → JoinGives relation files (Ok text)
+text_reported relation files l r list items left right text a b edits same given report =
+    reported l r (map content_of items) (both left right) report.0 text a b edits
+    (subst (λ (es : List EditType). edits_give 1 (both l r) (map content_of es) ≡ Ok (both left right)) same given) report.1 report.2
+
+-- the last step of a join, which lists the pairs and makes the report
+pub last_ok : (relation : Relation) (files : JoinFiles) (l r : Contents) (list items : List EditType) (left right : Contents)
+    (out : Result (Vec ℕ Global) RunFault)
+    → LayerFile files.left (Ok l) → LayerFile files.right (Ok r) → EditFile files.edits (Ok (map content_of items)) → list ≡ items
+    → edits_give 1 (both l r) (map content_of list) ≡ Ok (both left right)
+    → IfOk out (λ text. (pairs : List (ℕ × ℕ)) × IsJoinList relation left right pairs × IsReport left right pairs text.items)
+    → IfOk out (λ text. JoinGives relation files (Ok text.items))
+last_ok relation files l r list items left right (Ok text) a b edits same given report =
+    text_reported relation files l r list items left right text.items a b edits same given report
+last_ok relation files l r list items left right (Err e) a b edits same given report = tt
+
+pub last_fault : {T : Type 0} (relation : Relation) (files : JoinFiles) (out : Result T RunFault)
+    → IfErr out (λ e. (e ≡ Join no_join_memory) ⊎ (e ≡ Memory)) → IfErr out (λ f. BlamesInput f → JoinGives relation files (Err f))
+last_fault relation files (Ok x) err = tt
+last_fault relation files (Err e) err = none_blamed relation files e err
+
+pub last_faults : {T : Type 0} (out : Result T RunFault) → IfErr out (λ e. (e ≡ Join no_join_memory) ⊎ (e ≡ Memory)) → IfErr out IsJoinFault
+last_faults (Ok x) err = tt
+last_faults (Err e) (inl is) = subst IsJoinFault (sym is) tt
+last_faults (Err e) (inr is) = subst IsJoinFault (sym is) tt
+
+-- what `?` hands on is one of a join's faults
+pub is_join_fault : {T : Type 0} (out : Result T RunFault) (e is : RunFault) → IsErrAnd out (λ x. x ≡ e) → e ≡ is → IsJoinFault is → IfErr out IsJoinFault
+is_join_fault (Ok x) e is h same fault = absurd h
+is_join_fault (Err x) e is h same fault = subst IsJoinFault (sym (h ∙ same)) fault
+
+no_other : {T : Type 0} (out : Result T RunFault) (i : Input) → IfErr out (λ f. f ≢ Write → IsJoinFault f)
+    → ((f : ReadFault) → IsJoinFault (Read i f) → ⊥) → IsErrOf out (Read i Io) → ⊥
+no_other (Ok x) i faults none h = absurd cc
+no_other (Err x) i faults none h =
+    let is : x ≡ Read i Io = cc in
+    none Io (subst IsJoinFault is (faults (λ e. absurd cc)))
+
+-- three clauses on failed sources, as one
+pub failed_at : {T : Type 0} (L R E : Type 0) (out : Result T RunFault) → (IsErrOf out (Read Left Io) ↔ L) → (IsErrOf out (Read Right Io) ↔ R)
+    → (IsErrOf out (Read Edits Io) ↔ E) → IfErr out (λ f. f ≢ Write → IsJoinFault f) → (i : Input) → IsErrOf out (Read i Io) ↔ FailedAt L R E i
+failed_at L R E out left right edits faults Left = left
+failed_at L R E out left right edits faults Right = right
+failed_at L R E out left right edits faults Edits = edits
+failed_at L R E out left right edits faults First = (no_other out First faults (λ f. absurd), absurd)
+failed_at L R E out left right edits faults Second = (no_other out Second faults (λ f. absurd), absurd)

@@ -1,0 +1,30 @@
+-- The texts of the faults of a run.
+use Rattle.std.specs.Prelude.{ℕ, List, ◌++◌, codes}
+use Rattle.wkt_core.specs.FaultTexts.{wkt_text}
+use Rattle.layer_core.specs.FaultTexts.{layer_text, read_text, row_text}
+use Rattle.join_core.specs.declared.fault.Input.{Input}
+use Rattle.join_core.specs.declared.fault.Input.TheVariants.{First, Second, Left, Right, Edits}
+use Rattle.join_core.specs.declared.fault.JoinFault.{JoinFault}
+use Rattle.join_core.specs.declared.fault.JoinFault.TheVariants as join
+use Rattle.join_core.specs.declared.fault.RunFault.{RunFault}
+use Rattle.join_core.specs.declared.fault.RunFault.TheVariants as run
+
+abbrev pub input_word : Input → List ℕ
+input_word First = codes "first"
+input_word Second = codes "second"
+input_word Left = codes "left"
+input_word Right = codes "right"
+input_word Edits = codes "edits"
+
+abbrev pub join_text : JoinFault → List ℕ
+join_text join.Memory = codes "no memory"
+
+abbrev pub run_text : RunFault → List ℕ
+run_text (run.NoFile input) = input_word input ++ codes ": cannot be opened"
+run_text (run.Read input fault) = input_word input ++ (codes ": " ++ read_text fault)
+run_text (run.Wkt input fault) = input_word input ++ (codes ": " ++ wkt_text fault)
+run_text (run.Edit n fault) = codes "edits: " ++ (row_text n ++ layer_text fault)
+run_text (run.Join fault) = join_text fault
+run_text run.Write = codes "write failed"
+run_text run.Memory = codes "no memory"
+run_text run.NoKeys = codes "no random keys for hashing"

@@ -1,0 +1,102 @@
+-- What a join of three files gives.
+use Rattle.std.specs.Prelude.{◌≡◌, ⊤, ℕ, List, [], Option, Some, None, Result, Ok, Err, IfSome}
+use Rattle.geom_core.specs.declared.relation.Relation.{Relation}
+use Rattle.layer_core.specs.declared.fault.LayerFault.{LayerFault}
+use Rattle.layer_core.specs.declared.fault.LayerFault.TheVariants as layer_faults
+use Rattle.layer_core.specs.declared.read_fault.ReadFault.{ReadFault}
+use Rattle.layer_core.specs.declared.read_fault.ReadFault.TheVariants as read_faults
+use Rattle.layer_core.specs.Layers.{Contents}
+use Rattle.layer_core.specs.Edits.{EditContent, Layers, both, edits_give}
+use Rattle.layer_core.specs.EditFiles.{IsEditFile}
+use Rattle.layer_core.specs.LayerFiles.{IsLayerFile}
+use Rattle.join_core.specs.declared.fault.Input.{Input}
+use Rattle.join_core.specs.declared.fault.Input.TheVariants.{Left, Right, Edits}
+use Rattle.join_core.specs.declared.fault.RunFault.{RunFault}
+use Rattle.join_core.specs.declared.fault.RunFault.TheVariants.{Read, Edit, Join, Memory}
+use Rattle.join_core.specs.Joins.{IsJoinList}
+use Rattle.join_core.specs.Reports.{IsReport}
+
+-- what the sources of a join tell of their bytes; there may be no file of edits
+pub record JoinFiles : Type 0 where
+  pub left : Option (List ℕ)
+  pub right : Option (List ℕ)
+  pub edits : Option (Option (List ℕ))
+
+-- the bytes of a file of edits, where there is one
+abbrev pub bytes_of : {E : Type 0} → (E → Option (List ℕ)) → Option E → Option (Option (List ℕ))
+bytes_of remaining None = None
+bytes_of remaining (Some e) = Some (remaining e)
+
+abbrev pub files_of : {E : Type 0} → Option (List ℕ) → Option (List ℕ)
+    → (E → Option (List ℕ)) → Option E → JoinFiles
+files_of left right remaining edits =
+    record { left = left; right = right; edits = bytes_of remaining edits }
+
+-- what a file of a layer gives, where its bytes are known
+abbrev pub LayerFile : Option (List ℕ) → Result Contents ReadFault → Type 0
+LayerFile known answer = IfSome known (λ bytes. IsLayerFile bytes answer)
+
+-- what a file of edits gives: no edits where there is none
+abbrev pub EditFile : Option (Option (List ℕ)) → Result (List EditContent) ReadFault → Type 0
+EditFile None answer = answer ≡ Ok []
+EditFile (Some known) answer = IfSome known (λ bytes. IsEditFile bytes answer)
+
+-- the report of the edited layers, or the first fault of the left file, the right one, that of
+-- edits and the edits, in this order
+pub data JoinGives (relation : Relation) (files : JoinFiles)
+    : Result (List ℕ) RunFault → Type 0 where
+  left_fault : (f : ReadFault) → LayerFile files.left (Err f)
+      → JoinGives relation files (Err (Read Left f))
+  right_fault : (l : Contents) (f : ReadFault) → LayerFile files.left (Ok l)
+      → LayerFile files.right (Err f)
+      → JoinGives relation files (Err (Read Right f))
+  edits_fault : (l r : Contents) (f : ReadFault) → LayerFile files.left (Ok l)
+      → LayerFile files.right (Ok r)
+      → EditFile files.edits (Err f) → JoinGives relation files (Err (Read Edits f))
+  edit_refused : (l r : Contents) (edits : List EditContent) (row : ℕ) (f : LayerFault)
+      → LayerFile files.left (Ok l) → LayerFile files.right (Ok r)
+      → EditFile files.edits (Ok edits)
+      → edits_give 1 (both l r) edits ≡ Err (row, f) → JoinGives relation files (Err (Edit row f))
+  reported : (l r : Contents) (edits : List EditContent) (edited : Layers)
+      (pairs : List (ℕ × ℕ)) (text : List ℕ)
+      → LayerFile files.left (Ok l) → LayerFile files.right (Ok r)
+      → EditFile files.edits (Ok edits)
+      → edits_give 1 (both l r) edits ≡ Ok edited
+      → IsJoinList relation edited.left edited.right pairs
+      → IsReport edited.left edited.right pairs text → JoinGives relation files (Ok text)
+
+-- the report that a join of these files gives
+abbrev pub IsJoinText : Relation → JoinFiles → List ℕ → Type 0
+IsJoinText relation files text = JoinGives relation files (Ok text)
+
+-- a fault of an input's bytes, and not of a device or of memory
+abbrev pub BlamesBytes : ReadFault → Type 0
+BlamesBytes read_faults.Io = ⊥
+BlamesBytes read_faults.Memory = ⊥
+BlamesBytes _ = ⊤
+
+abbrev pub BlamesEdit : LayerFault → Type 0
+BlamesEdit layer_faults.Memory = ⊥
+BlamesEdit _ = ⊤
+
+abbrev pub BlamesInput : RunFault → Type 0
+BlamesInput (Read input f) = BlamesBytes f
+BlamesInput (Edit row f) = BlamesEdit f
+BlamesInput _ = ⊥
+
+-- a fault that a join of files may have, that of its sink aside
+abbrev pub IsJoinFault : RunFault → Type 0
+IsJoinFault (Read Left f) = ⊤
+IsJoinFault (Read Right f) = ⊤
+IsJoinFault (Read Edits f) = ⊤
+IsJoinFault (Edit row f) = ⊤
+IsJoinFault (Join f) = ⊤
+IsJoinFault Memory = ⊤
+IsJoinFault _ = ⊥
+
+-- which source of a join has failed
+abbrev pub FailedAt : Type 0 → Type 0 → Type 0 → Input → Type 0
+FailedAt LeftFailed RightFailed EditsFailed Left = LeftFailed
+FailedAt LeftFailed RightFailed EditsFailed Right = RightFailed
+FailedAt LeftFailed RightFailed EditsFailed Edits = EditsFailed
+FailedAt LeftFailed RightFailed EditsFailed _ = ⊥

@@ -1,0 +1,14 @@
+pub mod CsvWriting
+pub mod FaultTexts
+pub mod JoinRuns
+pub mod Joins
+pub mod Limits
+pub mod Lines
+pub mod Matches
+pub mod OptionTexts
+pub mod Options
+pub mod Relating
+pub mod Reports
+pub mod Runs
+pub mod ToWrite
+pub mod Written

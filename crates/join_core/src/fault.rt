@@ -1,0 +1,125 @@
+//! What ends a run, and the input that it speaks of.
+
+ghost use Rattle.std.specs.Prelude.{◌≡◌};
+ghost use Rattle.join_core.specs.declared.fault.RunFault.TheVariants as run_faults;
+
+use crate::writing::WriteFailed;
+use layer_core::{LayerFault, ReadFault};
+use std::alloc::AllocError;
+use std::error::Error;
+use std::fmt;
+use wkt_core::WktFault;
+
+/// An input of a run.
+#[derive(Clone, Copy, Debug, PartialEq, Eq)]
+pub enum Input {
+    /// The first of two geometries.
+    First,
+    /// The second of two geometries.
+    Second,
+    /// The left layer.
+    Left,
+    /// The right layer.
+    Right,
+    /// The list of edits.
+    Edits,
+}
+
+impl Input {
+    ghost use Rattle.std.specs.Prelude.{◌≤◌, length};
+    ghost use Rattle.join_core.specs.FaultTexts.{input_word};
+
+    /// The word by which a message names it.
+    pub fn word(self) -> &'static str
+        ensures word { result.now ≡ input_word self }
+        ensures short { length result.now ≤ 6 }
+    {
+        match self {
+            Input::First => "first",
+            Input::Second => "second",
+            Input::Left => "left",
+            Input::Right => "right",
+            Input::Edits => "edits",
+        }
+    }
+}
+
+/// Why two layers can't be joined.
+#[derive(Clone, Copy, Debug, PartialEq, Eq)]
+pub enum JoinFault {
+    /// Memory ran out.
+    Memory,
+}
+
+impl JoinFault {
+    ghost use Rattle.std.specs.Prelude.{◌≤◌, length};
+    ghost use Rattle.join_core.specs.FaultTexts.{join_text};
+
+    /// What is wrong.
+    pub fn text(self) -> &'static str
+        ensures text { result.now ≡ join_text self }
+        ensures short { length result.now ≤ 50 }
+    {
+        match self {
+            JoinFault::Memory => "no memory",
+        }
+    }
+}
+
+impl fmt::Display for JoinFault {
+    ghost use Rattle.std.specs.Prelude.{Some};
+    ghost use Rattle.join_core.specs.FaultTexts.{join_text};
+
+    ghost output = { λ fault. Some (join_text fault) };
+
+    fn fmt<W: fmt::Write>(&self, f: &mut fmt::Formatter<W>) -> fmt::Result {
+        f.write_str(self.text())
+    }
+}
+
+impl Error for JoinFault {}
+
+/// Why a run ended without its work done. Rows are counted from 1, after the header.
+#[derive(Clone, Copy, Debug, PartialEq, Eq)]
+pub enum RunFault {
+    /// The file of an input can't be opened.
+    NoFile(Input),
+    /// A file can't be read.
+    Read(Input, ReadFault),
+    /// A geometry can't be read.
+    Wkt(Input, WktFault),
+    /// The edit of this row is refused.
+    Edit(u32, LayerFault),
+    /// The layers can't be joined.
+    Join(JoinFault),
+    /// The output has failed.
+    Write,
+    /// Memory ran out.
+    Memory,
+    /// The system gives no random keys, by which ids are hashed.
+    NoKeys,
+}
+
+impl From<JoinFault> for RunFault {
+    ghost from_gives = { λ fault e. e ≡ run_faults.Join fault };
+
+    fn from(fault: JoinFault) -> RunFault {
+        RunFault::Join(fault)
+    }
+}
+
+impl From<WriteFailed> for RunFault {
+    ghost from_gives = { λ _ e. e ≡ run_faults.Write };
+
+    fn from(_: WriteFailed) -> RunFault {
+        RunFault::Write
+    }
+}
+
+impl From<AllocError> for RunFault {
+    ghost from_gives = { λ _ e. e ≡ run_faults.Memory };
+
+    fn from(_: AllocError) -> RunFault {
+        RunFault::Memory
+    }
+}

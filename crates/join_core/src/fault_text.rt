@@ -1,0 +1,87 @@
+//! What a fault says, and the line that is written of it.
+
+ghost use Rattle.std.specs.Prelude.{◌≡◌, ◌+◌, ◌≤◌, ◌↔◌, ◌++◌, false, length, IsTrue, IsErr, OnOk, OnErr};
+ghost use Rattle.std.specs.Io.KnownBytes.{Appends};
+ghost use Rattle.layer_core.specs.FaultTexts.{read_text};
+ghost use Rattle.join_core.specs.FaultTexts.{run_text};
+ghost use Rattle.join_core.specs.Lines.{run_line};
+ghost use Rattle.join_core.specs.Written.{AppendsPrefix};
+
+use crate::fault::RunFault;
+use crate::writing::{Line, Sink, WriteFailed};
+use layer_core::ReadFault;
+use std::error::Error;
+use std::fmt;
+
+impl fmt::Display for RunFault {
+    ghost use Rattle.std.specs.Prelude.{Some};
+
+    ghost output = { λ fault. Some (run_text fault) };
+
+    fn fmt<W: fmt::Write>(&self, f: &mut fmt::Formatter<W>) -> fmt::Result {
+        let mut line = Line::new();
+        push_run_text(&mut line, self);
+        f.write_str(line.as_str())
+    }
+}
+
+impl Error for RunFault {}
+
+/// Writes the line of a fault: the program's name, what was at fault and what is wrong with it.
+/// It takes no memory.
+pub fn fault_line<S: Sink>(fault: &RunFault, sink: &mut S) -> Result<(), WriteFailed>
+    requires { S.has_failed sink.old ≡ false }
+    ensures ok { OnOk result (Appends (S.written sink.old) (S.written sink.new)
+        (run_line fault.now)) }
+    ensures flushed { OnOk result (IsTrue (S.is_flushed sink.new)) }
+    ensures err { OnErr result (AppendsPrefix (S.written sink.old) (S.written sink.new)
+        (run_line fault.now)) }
+    ensures failed { IsErr result ↔ IsTrue (S.has_failed sink.new) }
+{
+    let mut line = Line::begun();
+    push_run_text(&mut line, fault);
+    line.write(sink)
+}
+
+fn push_run_text(line: &mut Line, fault: &RunFault)
+    requires { length line.old ≤ 7 }
+    ensures text { line.new ≡ line.old ++ run_text fault.now }
+    ensures short { length line.new ≤ 100 }
+{
+    match fault {
+        RunFault::NoFile(input) => {
+            line.push(input.word());
+            line.push(": cannot be opened");
+        }
+        RunFault::Read(input, fault) => {
+            line.push(input.word());
+            line.push(": ");
+            push_read_text(line, fault);
+        }
+        RunFault::Wkt(input, fault) => {
+            line.push(input.word());
+            line.push(": ");
+            line.push(fault.text());
+        }
+        RunFault::Edit(row, fault) => {
+            line.push("edits: ");
+            line.push_row(*row);
+            line.push(fault.text());
+        }
+        RunFault::Join(fault) => line.push(fault.text()),
+        RunFault::Write => line.push("write failed"),
+        RunFault::Memory => line.push("no memory"),
+        RunFault::NoKeys => line.push("no random keys for hashing"),
+    }
+}
+
+fn push_read_text(line: &mut Line, fault: &ReadFault)
+    requires { length line.old ≤ 15 }
+    ensures text { line.new ≡ line.old ++ read_text fault.now }
+    ensures short { length line.new ≤ length line.old + 70 }
+{
+    if let Some(row) = fault.row() {
+        line.push_row(row);
+    }
+    line.push(fault.text());
+}

@@ -1,0 +1,58 @@
+//! The matrix of two geometries that are given as texts.
+
+ghost use Rattle.std.specs.Prelude.{◌≡◌, ◌≢◌, ◌↔◌, ◌++◌, ◌∷◌, [], ℕ, List, Ok, Err, false, IfOk, IfErr, OnOk, OnErr, IsErrOf, IsTrue};
+ghost use Rattle.geom_core.specs.Matrices.{letters_of};
+ghost use Rattle.wkt_core.specs.declared.fault.WktFault.{WktFault};
+ghost use Rattle.join_core.specs.declared.fault.Input.{Input};
+ghost use Rattle.join_core.specs.Relating.{IsMatrixLine, HasFirstFault, IsTextFault};
+ghost use Rattle.join_core.specs.Runs.{Ends};
+
+use crate::fault::{Input, RunFault};
+use crate::writing::{Sink, write_text};
+use geom_core::{Matrix, relate};
+
+/// Letters of a matrix and a line feed.
+const LINE: usize = 10;
+
+/// Writes how two geometries lie to each other: the nine letters of their matrix and a line feed.
+///
+/// Both are read before anything is written, and no memory is taken. The first text that spells no
+/// shape is at fault.
+pub fn run_relate<S: Sink>(a: &[u8], b: &[u8], sink: &mut S) -> Result<(), RunFault>
+    requires { S.has_failed sink.old ≡ false }
+    ensures writes { Ends (IsMatrixLine a.now b.now)
+        S.written S.is_flushed S.has_failed sink.old sink.new result }
+    ensures wkt { (i : Input) (f : WktFault) →
+        (result ≡ Err (RunFault.Wkt i f)) ↔ HasFirstFault a.now b.now i f }
+    ensures faults { IfErr result (λ f. f ≢ RunFault.Write → IsTextFault f) }
+{
+    let line = matrix_line_of(a, b)?;
+    write_text(sink, &line)?;
+    Ok(())
+}
+
+/// The line of the two geometries' matrix.
+fn matrix_line_of(a: &[u8], b: &[u8]) -> Result<[u8; LINE], RunFault>
+    ensures ok { IfOk result (IsMatrixLine a.now b.now) }
+    ensures wkt { (i : Input) (f : WktFault) →
+        (result ≡ Err (RunFault.Wkt i f)) ↔ HasFirstFault a.now b.now i f }
+    ensures faults { IfErr result IsTextFault }
+{
+    let first = match wkt_core::read(a) {
+        Ok(shape) => shape,
+        Err(fault) => return Err(RunFault::Wkt(Input::First, fault)),
+    };
+    let second = match wkt_core::read(b) {
+        Ok(shape) => shape,
+        Err(fault) => return Err(RunFault::Wkt(Input::Second, fault)),
+    };
+    Ok(matrix_line(&relate(&first, &second)))
+}
+
+/// The letters of a matrix, and a line feed.
+fn matrix_line(matrix: &Matrix) -> [u8; LINE]
+    ensures { result ≡ letters_of matrix.now ++ 10 ∷ [] }
+{
+    let [ii, ib, ie, bi, bb, be, ei, eb, ee] = matrix.text();
+    [ii, ib, ie, bi, bb, be, ei, eb, ee, b'\n']
+}

@@ -1,0 +1,52 @@
+//! Writers that fail.
+
+ghost use Rattle.std.specs.Prelude.{◌≡◌, false};
+ghost use Rattle.join_core.specs.ToWrite.{failed_of};
+
+use join_core::ToWrite;
+use std::alloc::Global;
+use std::io;
+use std::io::{ErrorKind, Write};
+
+/// A writer that takes at most `step` bytes a call, answers each other call by an interruption,
+/// and fails once it has taken `room` bytes.
+#[derive(Drop)]
+pub struct Device {
+    pub taken: Vec<u8>,
+    room: usize,
+    step: usize,
+    interrupts: bool,
+}
+
+impl Write for Device {
+    fn write(&mut self, text: &[u8]) -> io::Result<usize> {
+        self.interrupts = !self.interrupts;
+        if self.interrupts {
+            return Err(io::Error::from(ErrorKind::Interrupted));
+        }
+        let room = self.room.saturating_sub(self.taken.len());
+        if room == 0 {
+            return Err(io::Error::from(ErrorKind::BrokenPipe));
+        }
+        let front = &text[..text.len().min(room).min(self.step)];
+        self.taken.extend_from_slice(front)?;
+        Ok(front.len())
+    }
+
+    fn flush(&mut self) -> io::Result<()> {
+        Ok(())
+    }
+}
+
+/// A sink over a device with this room.
+pub fn make_device(alloc: Global, room: usize, step: usize) -> ToWrite<Device>
+    ensures { failed_of result ≡ false }
+{
+    let taken = Vec::new(alloc);
+    ToWrite::new(Device {
+        taken,
+        room,
+        step,
+        interrupts: false,
+    })
+}

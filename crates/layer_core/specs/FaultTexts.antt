@@ -1,0 +1,45 @@
+-- The text of each fault.
+use Rattle.std.specs.Prelude.{ℕ, List, [], ◌++◌, Option, Some, None, codes, decimal}
+use Rattle.wkt_core.specs.FaultTexts.{wkt_text}
+use Rattle.layer_core.specs.declared.fault.LayerFault.{LayerFault}
+use Rattle.layer_core.specs.declared.fault.LayerFault.TheVariants as layer
+use Rattle.layer_core.specs.declared.read_fault.ReadFault.{ReadFault}
+use Rattle.layer_core.specs.declared.read_fault.ReadFault.TheVariants.{Io, TooLong, Header, Row, Wkt, Layer, Memory}
+
+abbrev pub layer_text : LayerFault → List ℕ
+layer_text layer.BadId = codes "id must have 1 to 64 bytes of UTF-8"
+layer_text layer.DoubleId = codes "id is already there"
+layer_text layer.LayerFull = codes "layer is full"
+layer_text layer.NoSuchId = codes "no such id"
+layer_text layer.Memory = codes "no memory"
+
+-- the row that is at fault, if one is
+abbrev pub row_of : ReadFault → Option ℕ
+row_of (Row n) = Some n
+row_of (Wkt n fault) = Some n
+row_of (Layer n fault) = Some n
+row_of Io = None
+row_of TooLong = None
+row_of Header = None
+row_of Memory = None
+
+-- what is wrong, be it with a row
+abbrev pub cause_text : ReadFault → List ℕ
+cause_text Io = codes "read failed"
+cause_text TooLong = codes "file is too long"
+cause_text Header = codes "wrong header"
+cause_text (Row n) = codes "wrong fields"
+cause_text (Wkt n fault) = wkt_text fault
+cause_text (Layer n fault) = layer_text fault
+cause_text Memory = codes "no memory"
+
+-- the number of a row, before what is wrong with it
+abbrev pub row_text : ℕ → List ℕ
+row_text n = codes "row " ++ (decimal n ++ codes ": ")
+
+abbrev pub row_part : Option ℕ → List ℕ
+row_part (Some n) = row_text n
+row_part None = []
+
+abbrev pub read_text : ReadFault → List ℕ
+read_text fault = row_part (row_of fault) ++ cause_text fault

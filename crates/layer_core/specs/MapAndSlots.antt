@@ -1,0 +1,76 @@
+-- The layer that a map of ids and a list of slots stand for.
+use Rattle.std.specs.Prelude.{◌≡◌, ◌+◌, ◌<◌, ◌≤◌, ℕ, suc, true, false, List, [], ◌∷◌, Option, Some, None, map, get_or, length, slice_get, option_map}
+use Rattle.std.specs.Str.{bytes_eq}
+use Rattle.std.specs.List.{IsDistinct}
+use Rattle.std.specs.Map.{keys_of, values_of}
+use Rattle.std.specs.String.{string_bytes, string_eq}
+use Rattle.std.specs.declared.string.String.{String}
+use Rattle.std.specs.declared.alloc.Global.{Global}
+use Rattle.layer_core.specs.declared.features.Slot.{Slot}
+use Rattle.layer_core.specs.Limits.{most_features}
+use Rattle.layer_core.specs.Layers.{Feature, Contents}
+
+abbrev pub id_of : List (List ℕ) → Slot → List ℕ
+id_of ids slot = get_or ids slot.place []
+
+-- the feature in a slot, where the ids are those of the map in its order
+abbrev pub feature_of : List (List ℕ) → ℕ → Slot → Feature
+feature_of ids number slot =
+    record { id = id_of ids slot; number = number; shape = slot.shape }
+
+-- the features in the slots, where the first slot is that of this number
+abbrev pub features_from : List (List ℕ) → ℕ → List (Option Slot) → List Feature
+features_from ids number [] = []
+features_from ids number (None ∷ slots) = features_from ids (suc number) slots
+features_from ids number (Some slot ∷ slots) =
+    feature_of ids number slot ∷ features_from ids (suc number) slots
+
+abbrev pub ids_of : List (String Global) → List (List ℕ)
+ids_of keys = map string_bytes keys
+
+abbrev pub contents_of : List (String Global) → List (Option Slot) → Contents
+contents_of keys slots =
+    record { features = features_from (ids_of keys) 0 slots; next = length slots }
+
+-- where the ids of the features stand, by number
+abbrev pub places : List (Option Slot) → List (Option ℕ)
+places slots = map (option_map (λ slot. slot.place)) slots
+
+-- the numbers by place and the places by number say the same
+pub record AreInverse (numbers : List (Option ℕ)) (slots : List (Option Slot)) : Type 0 where
+  pub placed : (p n : ℕ) → slice_get numbers p ≡ Some (Some n)
+      → slice_get (places slots) n ≡ Some (Some p)
+  pub numbered : (p n : ℕ) → slice_get (places slots) n ≡ Some (Some p)
+      → slice_get numbers p ≡ Some (Some n)
+  pub few : length slots ≤ most_features
+
+-- the map and the slots belong together, the ids differ, and so many features are there
+pub record StandForLayer
+    (entries : List (String Global × Option ℕ)) (slots : List (Option Slot)) (count : ℕ)
+    : Type 0 where
+  pub table : AreInverse (values_of entries) slots
+  pub distinct : IsDistinct string_eq (keys_of entries)
+  pub counted : count ≡ length (contents_of (keys_of entries) slots).features
+
+-- no slot's feature has this id
+pub record IsAbsent (ids : List (List ℕ)) (id : List ℕ) (slots : List (Option Slot))
+    : Type 0 where
+  pub differs : (k : ℕ) (s : Slot) → slice_get slots k ≡ Some (Some s)
+      → bytes_eq id (id_of ids s) ≡ false
+
+-- the feature of this slot has this id, and no other does
+pub record IsOnly
+    (ids : List (List ℕ)) (id : List ℕ) (slots : List (Option Slot)) (k : ℕ) (slot : Slot)
+    : Type 0 where
+  pub here : slice_get slots k ≡ Some (Some slot)
+  pub same : bytes_eq id (id_of ids slot) ≡ true
+  pub only : (j : ℕ) (s : Slot) → slice_get slots j ≡ Some (Some s)
+      → bytes_eq id (id_of ids s) ≡ true → j ≡ k
+
+-- each slot names an id of the map, and the numbers of the slots are those of a layer
+pub record IsWalk
+    (entries : List (String Global × Option ℕ)) (number : ℕ) (slots : List (Option Slot))
+    : Type 0 where
+  pub placed : (k : ℕ) (slot : Slot) → slice_get slots k ≡ Some (Some slot)
+      → slot.place < length entries
+  pub few : number + length slots ≤ most_features

@@ -1,0 +1,47 @@
+-- The records of a CSV text, and those that a reader of it has left.
+use Rattle.std.specs.Prelude.{◌≡◌, ◌+◌, ℕ, true, false, List, [], ◌∷◌, length, IsTrue, Option, Some, unwrap_or}
+use Rattle.std.specs.Borrow.{Bor}
+use Rattle.csv.specs.Machine.{ends_at_end}
+use Rattle.csv.specs.Reading.{Ready, default_config, is_flexible, reader_config, reader_state, reader_trim, records, records_from, source_of, stops_reader, strip_bom}
+use Rattle.csv.specs.declared.error.ErrorKind.{ErrorKind}
+use Rattle.csv.specs.declared.reader.Reader.{Reader}
+use Rattle.csv.specs.declared.reader.Trim.TheVariants as trim
+
+-- a record, as the list of its fields
+abbrev pub Record : Type 0
+Record = List (List ℕ)
+
+-- the records that `csv` reads from a text, a byte order mark at its start aside
+abbrev pub records_of : List ℕ → List Record
+records_of text = records default_config (strip_bom text)
+
+abbrev pub source : Reader (Bor (List ℕ)) → Option (List ℕ)
+source reader = source_of (λ s. Some s.now) reader
+
+-- the bytes that a reader has left
+abbrev pub unread : Reader (Bor (List ℕ)) → List ℕ
+unread reader = unwrap_or (source reader) []
+
+-- the records that a reader has left
+abbrev pub records_left : Reader (Bor (List ℕ)) → List Record
+records_left reader =
+    records_from default_config (length (unread reader) + 1) (reader_state reader) (unread reader)
+
+-- the reader stands between two records, and reads each as it is, of any length
+pub record IsBetweenRecords (reader : Reader (Bor (List ℕ))) : Type 0 where
+  pub trim : reader_trim reader ≡ trim.None
+  pub flexible : is_flexible reader ≡ true
+  pub ready : Ready reader
+  pub config : reader_config reader ≡ default_config
+  pub known : source reader ≡ Some (unread reader)
+  pub between : ends_at_end (reader_state reader) ≡ false
+
+-- the record was the first left, and the others are left
+pub record TakesRecord (old : Reader (Bor (List ℕ))) (fields : Record) (new : Reader (Bor (List ℕ)))
+    : Type 0 where
+  pub records : records_left old ≡ fields ∷ records_left new
+  pub reading : IsBetweenRecords new
+
+-- memory was refused or the bytes could not be read, and no record is at fault
+abbrev pub IsRefusedOrUnread : ErrorKind → Type 0
+IsRefusedOrUnread kind = IsTrue (stops_reader kind)

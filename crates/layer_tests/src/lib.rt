@@ -1,0 +1,6 @@
+//! Tests of `layer_core` from outside: worked examples, growths that are refused, and devices
+//! that fail.
+#![tactic(auto)]
+
+#[cfg(test)]
+mod tests;

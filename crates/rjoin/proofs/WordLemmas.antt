@@ -1,0 +1,23 @@
+-- A line that is made in pieces.
+use Rattle.std.proofs.Common.{◌≡◌, ℕ, List, [], ◌∷◌, ◌++◌, Option, Result, OnOk, OnErr, ap, subst, append_assoc, codes, ◌∙◌}
+use Rattle.std.specs.Io.KnownBytes.{Appends}
+use Rattle.join_core.specs.Written.{AppendsPrefix}
+use Rattle.join_core.specs.Lines.{line_of}
+
+-- a line that begins with the program's name, and one text behind it
+pub one_piece : (begun line text : List ℕ) → begun ≡ codes "rjoin: " → line ≡ begun ++ text → line ++ 10 ∷ [] ≡ line_of text
+one_piece begun line text named pushed =
+    ap (λ l. l ++ 10 ∷ []) (pushed ∙ ap (λ b. b ++ text) named) ∙ append_assoc (codes "rjoin: ") text (10 ∷ [])
+
+-- the same with two texts
+pub two_pieces : (begun mid line a b : List ℕ) → begun ≡ codes "rjoin: " → mid ≡ begun ++ a → line ≡ mid ++ b → line ++ 10 ∷ [] ≡ line_of (a ++ b)
+two_pieces begun mid line a b named first second =
+    one_piece begun line (a ++ b) named (second ∙ ap (λ l. l ++ b) first ∙ append_assoc begun a b)
+
+-- what was written, by another form of the text
+pub ok_as : {T E : Type 0} (r : Result T E) (old new : Option (List ℕ)) (a b : List ℕ) → a ≡ b → OnOk r (Appends old new a) → OnOk r (Appends old new b)
+ok_as r old new a b e h = subst (λ (l : List ℕ). OnOk r (Appends old new l)) e h
+
+pub err_as : {T E : Type 0} (r : Result T E) (old new : Option (List ℕ)) (a b : List ℕ) → a ≡ b → OnErr r (AppendsPrefix old new a)
+    → OnErr r (AppendsPrefix old new b)
+err_as r old new a b e h = subst (λ (l : List ℕ). OnErr r (AppendsPrefix old new l)) e h

@@ -1,7 +1,0 @@
-use Rattle.rjoin.proofs.ReportLemmas.{found, row_written}
-use Rattle.rjoin.proofs.report.write_pair.Goals as goal
-
-pub returns-clause-text : goal.returns-clause-text
-returns-clause-text g c =
-    row_written c.write_record.result _ _ _ _ _ _ _ _ _ _ _ (found _ _ _ c.at.ensures c.unwrap.ensures) (found _ _ _ c.at-2.ensures c.unwrap-2.ensures)
-    c.relate.ensures c.as_bytes.ensures.value c.as_bytes-2.ensures.value c.text-letters.ensures c.write_record.ensures.text

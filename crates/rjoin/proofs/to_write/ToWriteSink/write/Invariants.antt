@@ -1,7 +1,0 @@
-use Rattle.std.proofs.Common.{◌≡◌, false}
-use Rattle.std.specs.Io.KnownBytes.{Keeps}
-use Rattle.rjoin.proofs.to_write.ToWriteSink.write.Given as goal
-
-abbrev pub invariant-tries : goal.invariant-tries
-invariant-tries g l =
-    (l.self.failed ≡ false) × Keeps (g.W.Write.contents l.initial.self.writer) (g.W.Write.contents l.self.writer)

@@ -1,0 +1,82 @@
+-- What a command gives, by what lies at the paths that it names.
+use Rattle.std.specs.Prelude.{◌≡◌, ◌≢◌, ◌↔◌, ⊤, ℕ, List, Option, Some, None, Bool, Result, Ok, Err, IfSome, IfErr}
+use Rattle.std.specs.Borrow.{Bor}
+use Rattle.geom_core.specs.declared.relation.Relation.{Relation as RelationType}
+use Rattle.geom_core.specs.JoinRelations.{relation_of}
+use Rattle.join_core.specs.declared.fault.Input.{Input}
+use Rattle.join_core.specs.declared.fault.Input.TheVariants.{Left, Right, Edits}
+use Rattle.join_core.specs.declared.fault.RunFault.{RunFault}
+use Rattle.join_core.specs.declared.fault.RunFault.TheVariants as run
+use Rattle.join_core.specs.JoinRuns.{JoinGives, BlamesInput, IsJoinFault}
+use Rattle.join_core.specs.Relating.{IsMatrixLine, HasFirstFault, IsTextFault}
+use Rattle.join_core.specs.Runs.{Ends}
+use Rattle.rjoin.specs.Opening.{Files}
+use Rattle.rjoin.specs.declared.words.Command.{Command}
+use Rattle.rjoin.specs.declared.words.Command.TheVariants.{Relate, Join}
+
+-- an input that has to be opened, and what follows where it is
+abbrev pub AfterOpening : Input → Option (List ℕ) → Result (List ℕ) RunFault
+    → (List ℕ → Type 0) → Type 0
+AfterOpening input None answer Then = answer ≡ Err (run.NoFile input)
+AfterOpening input (Some bytes) answer Then = Then bytes
+
+-- the file of edits, if one is asked for
+abbrev pub AfterEdits : Files → Option (Bor (List ℕ)) → Result (List ℕ) RunFault
+    → (Option (Option (List ℕ)) → Type 0) → Type 0
+AfterEdits at None answer Then = Then None
+AfterEdits at (Some path) answer Then =
+    AfterOpening Edits (at path.now) answer (λ bytes. Then (Some (Some bytes)))
+
+-- the join of the files at these paths, which are opened in the order left, right, edits
+abbrev pub PathsGive : Files → List ℕ → List ℕ → Option (Bor (List ℕ)) → RelationType
+    → Result (List ℕ) RunFault → Type 0
+PathsGive at left right edits relation answer =
+    AfterOpening Left (at left) answer (λ l. AfterOpening Right (at right) answer (λ r.
+    AfterEdits at edits answer (λ e.
+    JoinGives relation (record { left = Some l; right = Some r; edits = e }) answer)))
+
+-- the matrix of two texts, or the first that is at fault
+abbrev pub TextsGive : List ℕ → List ℕ → Result (List ℕ) RunFault → Type 0
+TextsGive a b (Ok line) = IsMatrixLine a b line
+TextsGive a b (Err (run.Wkt input fault)) = HasFirstFault a b input fault
+TextsGive a b (Err _) = ⊥
+
+abbrev pub CommandGives : Files → Command → Result (List ℕ) RunFault → Type 0
+CommandGives at (Relate a b) answer = TextsGive a.now b.now answer
+CommandGives at (Join left right edits relation options) answer =
+    PathsGive at left.now right.now edits (relation_of relation) answer
+
+-- the text that a command writes, where it is known what lies at its paths
+abbrev pub IsCommandText : Option Files → Command → List ℕ → Type 0
+IsCommandText known command text = IfSome known (λ at. CommandGives at command (Ok text))
+
+-- a fault of what was asked for or of what lies there, and not of a device, of memory or of keys
+abbrev pub BlamesCommand : RunFault → Type 0
+BlamesCommand (run.NoFile input) = ⊤
+BlamesCommand (run.Wkt input fault) = ⊤
+BlamesCommand fault = BlamesInput fault
+
+-- a fault that is found before any memory is taken
+abbrev pub IsFoundFirst : RunFault → Type 0
+IsFoundFirst (run.NoFile input) = ⊤
+IsFoundFirst (run.Wkt input fault) = ⊤
+IsFoundFirst _ = ⊥
+
+-- a fault that a command may have, that of its sink aside
+abbrev pub IsFaultOf : Command → RunFault → Type 0
+IsFaultOf (Relate a b) fault = IsTextFault fault
+IsFaultOf (Join left right edits relation options) (run.NoFile input) = ⊤
+IsFaultOf (Join left right edits relation options) run.NoKeys = ⊤
+IsFaultOf (Join left right edits relation options) fault = IsJoinFault fault
+
+-- how a command ends: what it writes, which fault it names, exactly those that are found first,
+-- and no others
+pub record CommandEnds {T S : Type 0} (known : Option Files)
+    (written : S → Option (List ℕ)) (is_flushed has_failed : S → Bool)
+    (command : Command) (old new : S) (result : Result T RunFault) : Type 0 where
+  pub writes : Ends (IsCommandText known command) written is_flushed has_failed old new result
+  pub fault : IfErr result (λ f.
+      BlamesCommand f → IfSome known (λ at. CommandGives at command (Err f)))
+  pub first : (f : RunFault) → IsFoundFirst f →
+      IfSome known (λ at. CommandGives at command (Err f) → result ≡ Err f)
+  pub faults : IfErr result (λ f. f ≢ run.Write → IsFaultOf command f)

@@ -1,0 +1,38 @@
+-- What is told of how a command ended.
+use Rattle.std.specs.Prelude.{◌≡◌, ◌≢◌, ℕ, List, Option, Bool, false, Result, Ok, Err, IsTrue}
+use Rattle.std.specs.Io.KnownBytes.{Appends}
+use Rattle.join_core.specs.declared.fault.RunFault.{RunFault}
+use Rattle.join_core.specs.declared.fault.RunFault.TheVariants.{Write}
+use Rattle.join_core.specs.Lines.{run_line}
+use Rattle.join_core.specs.Written.{AppendsPrefix}
+use Rattle.rjoin.specs.declared.words.WordFault.{WordFault}
+use Rattle.rjoin.specs.WordFaults.{word_status_of, word_fault_line}
+
+-- known bytes grow by this line, or by a prefix of it where the sink has failed
+pub record IsLineOn {S : Type 0} (written : S → Option (List ℕ)) (has_failed : S → Bool)
+    (old new : S) (line : List ℕ) : Type 0 where
+  pub whole : has_failed new ≡ false → Appends (written old) (written new) line
+  pub front : IsTrue (has_failed new) → AppendsPrefix (written old) (written new) line
+
+-- success is status 0 and no word; a fault is status 1 and its line
+abbrev pub IsToldBy : {S : Type 0} → (S → Option (List ℕ)) → (S → Bool) → S → S
+    → Result Unit RunFault → ℕ → Type 0
+IsToldBy written has_failed old new (Ok done) status = (status ≡ 0) × (new ≡ old)
+IsToldBy written has_failed old new (Err fault) status =
+    (status ≡ 1) × IsLineOn written has_failed old new (run_line fault)
+
+-- a fault of words is told on the errors' sink, with its status; help goes to the output, and where
+-- that fails, so does the program
+pub record IsShownBy {O E : Type 0}
+    (written : O → Option (List ℕ)) (has_failed : O → Bool) (output output' : O)
+    (told : E → Option (List ℕ)) (has_failed' : E → Bool) (errors errors' : E)
+    (fault : WordFault) (status : ℕ) : Type 0 where
+  pub wrong : word_status_of fault ≢ 0
+      → (status ≡ word_status_of fault) × (output' ≡ output)
+      × IsLineOn told has_failed' errors errors' (word_fault_line fault)
+  pub help : word_status_of fault ≡ 0
+      → IsLineOn written has_failed output output' (word_fault_line fault)
+  pub shown : word_status_of fault ≡ 0 → has_failed output' ≡ false
+      → (status ≡ 0) × (errors' ≡ errors)
+  pub lost : word_status_of fault ≡ 0 → IsTrue (has_failed output')
+      → (status ≡ 1) × IsLineOn told has_failed' errors errors' (run_line Write)

@@ -1,0 +1,120 @@
+//! What a command does: its files are opened, it runs, and its end is told by line and status.
+
+ghost use Rattle.std.specs.Prelude.{◌≡◌, ◌↔◌, false, IsTrue, IsErrOf, IfOk, IfErr, IfSome, Result};
+ghost use Rattle.join_core.specs.declared.fault.RunFault.{RunFault};
+ghost use Rattle.join_core.specs.JoinRuns.{bytes_of};
+ghost use Rattle.rjoin.specs.Commands.{CommandEnds};
+ghost use Rattle.rjoin.specs.Opening.{IsAt, IsMissing, AreEditsAt, AreEditsMissing};
+ghost use Rattle.rjoin.specs.Endings.{IsToldBy};
+
+use crate::inputs::Inputs;
+use crate::words::Command;
+use geom_core::JoinRelation;
+use join_core::{Input, Options, RunFault, Sink, fault_line, run_join, run_relate};
+use std::hash::RandomState;
+use std::random::RandomSource;
+
+/// The status of a command that failed.
+pub const FAILED: u8 = 1;
+
+/// Does what a command asks for, and returns the exit status: 0 where all was written, else 1 with
+/// the line of the fault on `errors`.
+pub fn run_command<R: RandomSource + AllocGlobal, I: Inputs, O: Sink, E: Sink>(
+    rt: &R,
+    inputs: &I,
+    command: &Command<'_>,
+    output: &mut O,
+    errors: &mut E,
+) -> u8
+    requires output { O.has_failed output.old ≡ false }
+    requires errors { E.has_failed errors.old ≡ false }
+    ensures { (outcome : Result Unit RunFault)
+        × CommandEnds (I.files inputs.now) O.written O.is_flushed O.has_failed
+        command.now output.old output.new outcome
+        × IsToldBy E.written E.has_failed errors.old errors.new outcome result }
+{
+    match execute(rt, inputs, command, output) {
+        Ok(()) => 0,
+        Err(fault) => {
+            // Where standard error fails too, the status is all that is left to tell.
+            let _ = fault_line(&fault, errors);
+            FAILED
+        }
+    }
+}
+
+/// Does what a command asks for.
+fn execute<R: RandomSource + AllocGlobal, I: Inputs, O: Sink>(
+    rt: &R,
+    inputs: &I,
+    command: &Command<'_>,
+    output: &mut O,
+) -> Result<(), RunFault>
+    requires { O.has_failed output.old ≡ false }
+    ensures { CommandEnds (I.files inputs.now) O.written O.is_flushed O.has_failed
+        command.now output.old output.new result }
+{
+    match command {
+        Command::Relate { a, b } => run_relate(a.as_bytes(), b.as_bytes(), output),
+        Command::Join {
+            left_path,
+            right_path,
+            edits_path,
+            relation,
+            options,
+        } => {
+            let mut left = open_input(inputs, Input::Left, left_path)?;
+            let mut right = open_input(inputs, Input::Right, right_path)?;
+            let mut edits = open_edits(inputs, *edits_path)?;
+            let states = (hash_state(rt)?, hash_state(rt)?);
+            run_join(
+                rt.alloc(),
+                states,
+                &mut left,
+                &mut right,
+                &mut edits,
+                relation,
+                options,
+                output,
+            )
+        }
+    }
+}
+
+/// The file of an input.
+fn open_input<I: Inputs>(inputs: &I, input: Input, path: &str) -> Result<I::File, RunFault>
+    ensures ok { IfOk result (λ file.
+        IsAt (I.files inputs.now) path.now (I.File.remaining file)) }
+    ensures fresh { IfOk result (λ file. I.File.has_failed file ≡ false) }
+    ensures missing { IfErr result (λ _. IsMissing (I.files inputs.now) path.now) }
+    ensures fault { IfErr result (λ f. f ≡ RunFault.NoFile input) }
+{
+    match inputs.open(path) {
+        Ok(file) => Ok(file),
+        Err(_) => Err(RunFault::NoFile(input)),
+    }
+}
+
+/// The file of edits, if one is asked for.
+fn open_edits<I: Inputs>(inputs: &I, path: Option<&str>) -> Result<Option<I::File>, RunFault>
+    ensures ok { IfOk result (λ edits.
+        AreEditsAt (I.files inputs.now) path.entry (bytes_of I.File.remaining edits)) }
+    ensures fresh { IfOk result (λ edits. IfSome edits (λ e. I.File.has_failed e ≡ false)) }
+    ensures missing { IfErr result (λ _. AreEditsMissing (I.files inputs.now) path.entry) }
+    ensures fault { IfErr result (λ f. f ≡ RunFault.NoFile Input.Edits) }
+{
+    match path {
+        Some(path) => Ok(Some(open_input(inputs, Input::Edits, path)?)),
+        None => Ok(None),
+    }
+}
+
+/// Random keys by which the ids of a layer are hashed.
+fn hash_state<R: RandomSource>(rt: &R) -> Result<RandomState, RunFault>
+    ensures { IfErr result (λ f. f ≡ RunFault.NoKeys) }
+{
+    match RandomState::new(rt) {
+        Ok(state) => Ok(state),
+        Err(_) => Err(RunFault::NoKeys),
+    }
+}

@@ -1,0 +1,37 @@
+-- What the reader of a point takes from the front of a text, and what it leaves.
+use Rattle.std.specs.Prelude.{◌&&◌, ℕ, ℤ, List, Option, Some, None, option_and_then}
+use Rattle.wkt_core.specs.declared.number.ReadNumber.{ReadNumber}
+use Rattle.wkt_core.specs.declared.position.Position.{Position}
+use Rattle.wkt_core.specs.declared.position.ReadPoint.{ReadPoint}
+use Rattle.wkt_core.specs.Grammar.{RawPoint}
+use Rattle.wkt_core.specs.TokenSteps.{gap_at}
+use Rattle.wkt_core.specs.NumberSteps.{number_at, number_read}
+
+infixl 10 ◌>>=◌
+abbrev pub ◌>>=◌ : {A B : Type 0} → Option A → (A → Option B) → Option B
+o >>= f = option_and_then f o
+
+-- two numbers with white space between them
+abbrev pub point_at : List ℕ → Option (RawPoint × List ℕ)
+point_at text =
+    number_at text >>= λ x.
+    gap_at x.1 >>= λ rest.
+    number_at rest >>= λ y.
+    Some (record { x = x.0; y = y.0 }, y.1)
+
+-- the position with both coordinates
+abbrev pub position_from : Option ℤ → Option ℤ → Option Position
+position_from (Some x) (Some y) = Some (record { x = x; y = y })
+position_from (Some x) None = None
+position_from None y = None
+
+-- what is read of a point, from what is read of its numbers
+abbrev pub point_from : ReadNumber → ReadNumber → ReadPoint
+point_from x y = record { position = position_from x.value y.value; whole = x.whole && y.whole }
+
+abbrev pub point_read : RawPoint → ReadPoint
+point_read p = point_from (number_read p.x) (number_read p.y)
+
+abbrev pub point_answer : Option (RawPoint × List ℕ) → Option (ReadPoint × List ℕ)
+point_answer None = None
+point_answer (Some p) = Some (point_read p.0, p.1)

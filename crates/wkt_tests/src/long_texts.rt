@@ -1,0 +1,24 @@
+//! Texts of a million digits and of thousands of points.
+
+use crate::readings::corners;
+use std::alloc::AllocError;
+use wkt_core::WktFault;
+
+#[test]
+fn long_texts(rt: HostRuntime) -> Result<(), AllocError> {
+    let mut digits = String::from_str(rt.alloc(), "POINT (0 ")?;
+    for _ in 0..1_000_000 {
+        digits.push_str("9")?;
+    }
+    assert_eq!(rt; corners(digits.as_bytes()), Err(WktFault::Text));
+    digits.push_str(")")?;
+    assert_eq!(rt; corners(digits.as_bytes()), Err(WktFault::Number));
+    let mut points = String::from_str(rt.alloc(), "LINESTRING (0 0")?;
+    for _ in 0..10_000 {
+        points.push_str(", 1 0")?;
+    }
+    assert_eq!(rt; corners(points.as_bytes()), Err(WktFault::Text));
+    points.push_str(")")?;
+    assert_eq!(rt; corners(points.as_bytes()), Err(WktFault::Form));
+    Ok(())
+}

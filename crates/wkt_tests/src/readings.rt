@@ -1,0 +1,112 @@
+//! Texts read, and their shapes printed.
+
+use std::alloc::{AllocError, Global};
+use wkt_core::{WktFault, one_shape_law, print, read};
+
+/// The corners of the shape that a text spells.
+pub(crate) fn corners(text: &[u8]) -> Result<(i64, i64, i64, i64), WktFault> {
+    match read(text) {
+        Ok(shape) => Ok((shape.x1(), shape.y1(), shape.x2(), shape.y2())),
+        Err(fault) => Err(fault),
+    }
+}
+
+/// What is printed of the shape that a text spells, or nothing.
+fn reprinted(alloc: Global, text: &[u8]) -> Result<String, AllocError> {
+    match read(text) {
+        Ok(shape) => print(alloc, &shape),
+        Err(_) => Ok(String::new(alloc)),
+    }
+}
+
+#[test]
+fn wkt_readings(rt: HostRuntime) -> Result<(), AllocError> {
+    let shapes: [(&[u8], (i64, i64, i64, i64), &str); 5] = [
+        (b"POINT (1.000 -0)", (1, 0, 1, 0), "POINT (1 0)"),
+        (b" Point(+007. 2 ) ", (7, 2, 7, 2), "POINT (7 2)"),
+        (
+            b"LINESTRING (3 0, 1 0)",
+            (1, 0, 3, 0),
+            "LINESTRING (1 0, 3 0)",
+        ),
+        (
+            b"POLYGON((4 4,4 0,0 0,0 4,4 4))",
+            (0, 0, 4, 4),
+            "POLYGON ((0 0, 4 0, 4 4, 0 4, 0 0))",
+        ),
+        (
+            b"POINT (1000000000 0)",
+            (1_000_000_000, 0, 1_000_000_000, 0),
+            "POINT (1000000000 0)",
+        ),
+    ];
+    for (text, wanted, canonical) in shapes {
+        assert_eq!(rt; corners(text), Ok(wanted));
+        assert_eq!(rt; reprinted(rt.alloc(), text)?.as_str(), canonical);
+    }
+    let faults: [(&[u8], WktFault); 14] = [
+        (b"POINT (1000000001 0)", WktFault::Number),
+        (b"POINT (1.5 0)", WktFault::Number),
+        (b"LINESTRING (0 0, 1 1.5)", WktFault::Number),
+        (b"LINESTRING (0 0, 0 0)", WktFault::Form),
+        (b"LINESTRING (0 0, 1 1)", WktFault::Form),
+        (b"LINESTRING (0 0)", WktFault::Form),
+        (b"POLYGON ((0 0, 4 0, 4 4, 0 4, 0 1))", WktFault::Form),
+        (b"", WktFault::Text),
+        (b"POINT EMPTY", WktFault::Text),
+        (b"POINT (1 2", WktFault::Text),
+        (b"POINT (1,2)", WktFault::Text),
+        (b"POINT (1 2) x", WktFault::Text),
+        (b"POINT (1e3 0)", WktFault::Text),
+        (b"POINT (.0 1)", WktFault::Text),
+    ];
+    for (text, fault) in faults {
+        assert_eq!(rt; corners(text), Err(fault));
+    }
+    Ok(())
+}
+
+#[test]
+fn white_space_and_cases(rt: HostRuntime) {
+    let spread = b"\tLineString\r\n( \t-1 \n +2.0 ,-1\t00005. ) ";
+    assert_eq!(rt; corners(spread), Ok((-1, 2, -1, 5)));
+    let texts: [&[u8]; 3] = [b"POINT (1 -2.)", b"POINT(1  -2 )", b"pOiNt (1\t-2)"];
+    for text in texts {
+        assert_eq!(rt; corners(text), Ok((1, -2, 1, -2)));
+    }
+    let faults: [(&[u8], WktFault); 9] = [
+        (b"POINT (1-2)", WktFault::Text),
+        (b"POINT (- 1 2)", WktFault::Text),
+        (b"POINT (1 2, 3 4)", WktFault::Text),
+        (b"LINESTRING (0 0 1 0)", WktFault::Text),
+        (
+            b"POLYGON ((0 0, 1 0, 1 1, 0 1, 0 0), (0 0))",
+            WktFault::Form,
+        ),
+        (
+            b"POLYGON ((0 0, 1 0, 1 1, 0 1, 0 0), (0.5 0))",
+            WktFault::Number,
+        ),
+        (b"POLYGON ((0 0, 1 0, 1 1, 0 1, 0 0, 0 0))", WktFault::Form),
+        (b"POLYGON ((0 0, 1 1, 1 0, 0 1, 0 0))", WktFault::Form),
+        (b"POLYGON ((0 0, 1 0, 1 0, 0 0, 0 0))", WktFault::Form),
+    ];
+    for (text, fault) in faults {
+        assert_eq!(rt; corners(text), Err(fault));
+    }
+}
+
+#[test]
+fn greatest_rectangle(rt: HostRuntime) -> Result<(), AllocError> {
+    let text = concat!(
+        "POLYGON ((-1000000000 -1000000000, 1000000000 -1000000000, ",
+        "1000000000 1000000000, -1000000000 1000000000, -1000000000 -1000000000))"
+    );
+    assert_eq!(rt;
+        corners(text.as_bytes()),
+        Ok((-1_000_000_000, -1_000_000_000, 1_000_000_000, 1_000_000_000))
+    );
+    assert_eq!(rt; reprinted(rt.alloc(), text.as_bytes())?.as_str(), text);
+    one_shape_law();
+    Ok(())
+}
