@@ -1,7 +1,6 @@
 -- How a command ends, by what its files and its run did.
-use Rattle.std.proofs.Common.{◌≡◌, ◌≢◌, ◌↔◌, ℕ, List, Option, Some, None, Bool, true, false, Result, Ok, Err, IsTrue, IsErrAnd, ◌⊎◌, inl, inr, IfErr, IfSome, OnOk, IsErrOf, refl, sym, subst, ◌∙◌}
+use Rattle.std.proofs.Common.{◌≡◌, ◌≢◌, ◌↔◌, ℕ, List, Option, Some, None, Bool, true, false, Result, Ok, Err, IsErrAnd, ◌⊎◌, inl, inr, IfErr, IfSome, OnOk, refl, sym, subst, ◌∙◌}
 use Rattle.std.specs.Borrow.{Bor}
-use Rattle.std.specs.Io.KnownBytes.{Appends}
 use Rattle.geom_core.specs.declared.relation.Relation.{Relation as RelationType}
 use Rattle.geom_core.specs.declared.join_relation.JoinRelation.{JoinRelation}
 use Rattle.geom_core.specs.JoinRelations.{relation_of}

@@ -1,5 +1,5 @@
 -- What a command gives, by what lies at the paths that it names.
-use Rattle.std.specs.Prelude.{◌≡◌, ◌≢◌, ◌↔◌, ⊤, ℕ, List, Option, Some, None, Bool, Result, Ok, Err, IfSome, IfErr}
+use Rattle.std.specs.Prelude.{◌≡◌, ◌≢◌, ⊤, ℕ, List, Option, Some, None, Bool, Result, Ok, Err, IfSome, IfErr}
 use Rattle.std.specs.Borrow.{Bor}
 use Rattle.geom_core.specs.declared.relation.Relation.{Relation as RelationType}
 use Rattle.geom_core.specs.JoinRelations.{relation_of}

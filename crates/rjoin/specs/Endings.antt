@@ -1,11 +1,14 @@
 -- What is told of how a command ended.
-use Rattle.std.specs.Prelude.{◌≡◌, ◌≢◌, ℕ, List, Option, Bool, false, Result, Ok, Err, IsTrue}
+use Rattle.std.specs.Prelude.{◌≡◌, ◌≢◌, ℕ, List, Option, Bool, false, Result, Ok, Err, MatchResult, IsTrue}
 use Rattle.std.specs.Io.KnownBytes.{Appends}
 use Rattle.join_core.specs.declared.fault.RunFault.{RunFault}
 use Rattle.join_core.specs.declared.fault.RunFault.TheVariants.{Write}
 use Rattle.join_core.specs.Lines.{run_line}
 use Rattle.join_core.specs.Written.{AppendsPrefix}
+use Rattle.rjoin.specs.declared.words.Command.{Command}
 use Rattle.rjoin.specs.declared.words.WordFault.{WordFault}
+use Rattle.rjoin.specs.Commands.{CommandEnds}
+use Rattle.rjoin.specs.Opening.{Files}
 use Rattle.rjoin.specs.WordFaults.{word_status_of, word_fault_line}
 
 -- known bytes grow by this line, or by a prefix of it where the sink has failed
@@ -36,3 +39,25 @@ pub record IsShownBy {O E : Type 0}
       → (status ≡ 0) × (errors' ≡ errors)
   pub lost : word_status_of fault ≡ 0 → IsTrue (has_failed output')
       → (status ≡ 1) × IsLineOn told has_failed' errors errors' (run_line Write)
+
+-- a command has ended, and its end was told
+abbrev pub CommandIsDone : {O E : Type 0} → Option Files
+    → (O → Option (List ℕ)) → (O → Bool) → (O → Bool) → O → O
+    → (E → Option (List ℕ)) → (E → Bool) → E → E → Command → ℕ → Type 0
+CommandIsDone known written is_flushed has_failed output output'
+    told has_failed' errors errors' command status =
+    (outcome : Result Unit RunFault)
+    × CommandEnds known written is_flushed has_failed command output output' outcome
+    × IsToldBy told has_failed' errors errors' outcome status
+
+-- words were read as a command, which is done, or as a fault, which is shown
+pub record WordsAreDone {O E : Type 0} (known : Option Files)
+    (written : O → Option (List ℕ)) (is_flushed has_failed : O → Bool) (output output' : O)
+    (told : E → Option (List ℕ)) (has_failed' : E → Bool) (errors errors' : E)
+    (status : ℕ) : Type 0 where
+  pub read : Result Command WordFault
+  pub done : MatchResult read
+      (λ command. CommandIsDone known written is_flushed has_failed output output'
+      told has_failed' errors errors' command status)
+      (λ fault. IsShownBy written has_failed output output'
+      told has_failed' errors errors' fault status)

@@ -1,11 +1,10 @@
 //! What a command does: its files are opened, it runs, and its end is told by line and status.
 
-ghost use Rattle.std.specs.Prelude.{◌≡◌, ◌↔◌, false, IsTrue, IsErrOf, IfOk, IfErr, IfSome, Result};
-ghost use Rattle.join_core.specs.declared.fault.RunFault.{RunFault};
+ghost use Rattle.std.specs.Prelude.{◌≡◌, false, IfOk, IfErr, IfSome};
 ghost use Rattle.join_core.specs.JoinRuns.{bytes_of};
 ghost use Rattle.rjoin.specs.Commands.{CommandEnds};
 ghost use Rattle.rjoin.specs.Opening.{IsAt, IsMissing, AreEditsAt, AreEditsMissing};
-ghost use Rattle.rjoin.specs.Endings.{IsToldBy};
+ghost use Rattle.rjoin.specs.Endings.{CommandIsDone};
 
 use crate::inputs::Inputs;
 use crate::words::Command;
@@ -28,10 +27,9 @@ pub fn run_command<R: RandomSource + AllocGlobal, I: Inputs, O: Sink, E: Sink>(
 ) -> u8
     requires output { O.has_failed output.old ≡ false }
     requires errors { E.has_failed errors.old ≡ false }
-    ensures { (outcome : Result Unit RunFault)
-        × CommandEnds (I.files inputs.now) O.written O.is_flushed O.has_failed
-        command.now output.old output.new outcome
-        × IsToldBy E.written E.has_failed errors.old errors.new outcome result }
+    ensures { CommandIsDone (I.files inputs.now)
+        O.written O.is_flushed O.has_failed output.old output.new
+        E.written E.has_failed errors.old errors.new command.now result }
 {
     match execute(rt, inputs, command, output) {
         Ok(()) => 0,

@@ -1,11 +1,7 @@
 //! The program: from the words of the command line to the exit status.
 
-ghost use Rattle.std.specs.Prelude.{◌≡◌, ◌⊎◌, false, IsTrue, Result};
-ghost use Rattle.join_core.specs.declared.fault.RunFault.{RunFault};
-ghost use Rattle.rjoin.specs.declared.words.Command.{Command};
-ghost use Rattle.rjoin.specs.declared.words.WordFault.{WordFault};
-ghost use Rattle.rjoin.specs.Commands.{CommandEnds};
-ghost use Rattle.rjoin.specs.Endings.{IsToldBy, IsShownBy};
+ghost use Rattle.std.specs.Prelude.{◌≡◌, false};
+ghost use Rattle.rjoin.specs.Endings.{IsShownBy, WordsAreDone};
 
 use crate::command::{FAILED, run_command};
 use crate::inputs::Inputs;
@@ -27,6 +23,9 @@ pub fn run_program<R: Env + RandomSource + AllocGlobal, I: Inputs, O: Sink, E: S
 ) -> u8
     requires output { O.has_failed output.old ≡ false }
     requires errors { E.has_failed errors.old ≡ false }
+    ensures { WordsAreDone (I.files inputs.now)
+        O.written O.is_flushed O.has_failed output.old output.new
+        E.written E.has_failed errors.old errors.new result }
 {
     match given_words(rt) {
         Ok(words) => run_words(rt, words.as_slice(), inputs, output, errors),
@@ -57,6 +56,9 @@ pub fn run_words<R: RandomSource + AllocGlobal, I: Inputs, O: Sink, E: Sink>(
 ) -> u8
     requires output { O.has_failed output.old ≡ false }
     requires errors { E.has_failed errors.old ≡ false }
+    ensures { WordsAreDone (I.files inputs.now)
+        O.written O.is_flushed O.has_failed output.old output.new
+        E.written E.has_failed errors.old errors.new result }
 {
     let words: Result<Vec<&str>, AllocError> = words
         .iter()
