@@ -5,8 +5,8 @@ mod edits;
 mod files;
 mod refused_memory;
 
-use layer_core::*;
 use geom_core::Shape;
+use layer_core::*;
 use std::alloc::{AllocError, Global};
 use std::fmt::Write;
 use std::hash::RandomState;
