@@ -185,10 +185,6 @@ refused_ends {T} (Some at) written is_flushed has_failed command sink (Err e) f 
       faults = λ w. subst (IsFaultOf command) (sym h) is;
     }
 
--- the paths of a join, the relation and the options
-abbrev JoinCommand : Bor (List ℕ) → Bor (List ℕ) → Option (Bor (List ℕ)) → JoinRelation → Options → Command
-JoinCommand left right edits relation options = Join left right edits relation options
-
 err_is : (f g : RunFault) → (let a : Result (List ℕ) RunFault = Err f in a) ≡ Err g → f ≡ g
 err_is f g e = cc
 
