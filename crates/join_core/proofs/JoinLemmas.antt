@@ -139,13 +139,6 @@ gathered_same relation f g rights rest others old mid so_far e none =
       lists = lists_same relation f g so_far.taken so_far.added so_far.lists none;
     }
 
-pub gathered_all : (relation : Relation) (f : Feature) (rights rest : List Feature) (old new : List (ℕ × ℕ)) → rest ≡ []
-    → Gathered relation f rights rest old new
-    → (added : List (ℕ × ℕ)) × (new ≡ old ++ added) × Lists (Matches relation f rights) added
-gathered_all relation f rights rest old new e so_far =
-    let all : so_far.taken ≡ rights = sym (so_far.walked ∙ ap (λ l. so_far.taken ++ l) e ∙ append-nil so_far.taken) in
-    (so_far.added, so_far.grown, subst (λ (l : List Feature). Lists (Matches relation f l) so_far.added) all so_far.lists)
-
 -- the pair of two features that stand in the relation
 pub record Pairs (relation : Relation) (lefts rights : List Feature) (pair : ℕ × ℕ) : Type 0 where
   pub left : Feature

@@ -2,17 +2,13 @@
 use Rattle.std.proofs.Common.{◌≡◌, ℕ, ◌-◌, ◌≤◌, List, [], ◌∷◌, ◌++◌, Option, Bool, true, false, length, take, drop, refl, sym, ap, subst, arith, append-nil, append_assoc, ◌∙◌, IsTrue, ◌↔◌}
 use Rattle.std.proofs.lemmas.Grind.{common_steps}
 use Rattle.std.specs.Io.KnownBytes.{Appends, Keeps}
-use Rattle.std.proofs.KnownBytes.{Appends-nil, Appends-trans, Appends-kept}
-use Rattle.join_core.specs.Written.{AppendsPrefix}
+use Rattle.std.proofs.KnownBytes.{Appends-trans, Appends-kept}
 
 -- known bytes grow by the part of the text before this rest
 pub record AppendsUpTo (old new : Option (List ℕ)) (text rest : List ℕ) : Type 0 where
   pub front : List ℕ
   pub whole : text ≡ front ++ rest
   pub appended : Appends old new front
-
-pub appends_up_to_start : (a : Option (List ℕ)) (text : List ℕ) → AppendsUpTo a a text text
-appends_up_to_start a text = record { front = []; whole = refl; appended = Appends-nil a }
 
 rest_of : (rest : List ℕ) (n : ℕ) → n ≤ length rest → rest ≡ take n rest ++ take (length rest - n) (drop n rest)
 rest_of rest n h = grind (arith, common_steps)
@@ -32,11 +28,6 @@ pub appends_up_to_end : (a b c : Option (List ℕ)) (text rest : List ℕ) → A
 appends_up_to_end a b c text [] so_far e kept =
     subst (Appends a c) (sym (so_far.whole ∙ append-nil so_far.front)) (Appends-kept a b c so_far.front so_far.appended kept)
 appends_up_to_end a b c text (x ∷ rest) so_far e kept = absurd (let bad : length (x ∷ rest) ≡ 0 = e in grind (arith, common_steps))
-
--- a device that fails
-pub appends_up_to_kept : (a b c : Option (List ℕ)) (text rest : List ℕ) → AppendsUpTo a b text rest → Keeps b c → AppendsPrefix a c text
-appends_up_to_kept a b c text rest so_far kept =
-    (so_far.front, (rest, sym so_far.whole), Appends-kept a b c so_far.front so_far.appended kept)
 
 -- what an `Ok` says of the device
 pub not_failed : (failed : Bool) → (false ≡ true ↔ IsTrue failed) → failed ≡ false
