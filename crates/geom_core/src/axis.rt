@@ -16,7 +16,7 @@ use crate::meeting::{Meeting, Shared};
 use crate::part::Parts;
 
 /// What the two zones of a part of the first interval share with those of a part of the second.
-#[derive(Clone, Copy, Debug, PartialEq, Eq)]
+#[derive(Clone, Copy)]
 pub struct ZonePairs {
     pub narrow_narrow: Shared,
     pub narrow_wide: Shared,

@@ -9,7 +9,7 @@ use Shared::{Interval, Nothing, Point};
 use std::cmp::Ordering::{Equal, Greater, Less};
 
 /// What two parts of one axis share.
-#[derive(Clone, Copy, Debug, PartialEq, Eq)]
+#[derive(Clone, Copy)]
 pub enum Shared {
     /// Nothing.
     Nothing,
@@ -22,7 +22,7 @@ pub enum Shared {
 /// How two intervals of an axis lie to each other, where left and right make no difference: the
 /// eight relations of Egenhofer and Franzosa (1991) between two intervals that have a length, and
 /// those with one or two intervals that are a single coordinate.
-#[derive(Clone, Copy, Debug, PartialEq, Eq)]
+#[derive(Clone, Copy)]
 pub enum Meeting {
     Disjoint,
     Meet,
