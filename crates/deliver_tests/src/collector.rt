@@ -189,8 +189,8 @@ fn collector_growths(rt: HostRuntime) -> Result<(), Fail> {
 #[test]
 fn fault_texts(rt: HostRuntime) -> Result<(), Fail> {
     let gap = Refusal::Gap.to_string(rt.alloc())?;
-    assert_eq!(rt; gap.as_str(), "a batch before this one is missing");
+    assert!(rt; gap.as_str() == "a batch before this one is missing");
     let open = Finish::Open(65_535).to_string(rt.alloc())?;
-    assert_eq!(rt; open.as_str(), "task 65535 has no end");
+    assert!(rt; open.as_str() == "task 65535 has no end");
     Ok(())
 }

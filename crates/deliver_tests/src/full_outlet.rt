@@ -71,7 +71,7 @@ fn await_stage<R: Wait>(rt: &R, stage: &AtomicU64, wanted: u64) {
 // Looks many times, and sees each time that the other thread isn't through.
 fn see_it_wait(rt: &impl Abort, stage: &AtomicU64) {
     for _ in 0..LOOKS {
-        assert_eq!(rt; stage.load(Ordering::SeqCst), BEGUN);
+        assert!(rt; stage.load(Ordering::SeqCst) == BEGUN);
         thread::yield_now();
     }
 }
@@ -82,12 +82,12 @@ fn take_all<R: Wait + Abort>(rt: &R, outlet: &Outlet, mut tap: Tap, stage: &Atom
 {
     await_stage(rt, stage, BEGUN);
     see_it_wait(rt, stage);
-    assert_eq!(rt; outlet.take(rt, &mut tap), Some(end(0)));
+    assert!(rt; outlet.take(rt, &mut tap) == Some(end(0)));
     await_stage(rt, stage, THROUGH);
     for count in 1..=ROOM {
-        assert_eq!(rt; outlet.take(rt, &mut tap), Some(end(count)));
+        assert!(rt; outlet.take(rt, &mut tap) == Some(end(count)));
     }
-    assert_eq!(rt; outlet.take(rt, &mut tap), None);
+    assert!(rt; outlet.take(rt, &mut tap) == None);
 }
 
 // Fills the outlet, and then puts in one thread and takes in another.

@@ -88,16 +88,16 @@ fn put_all<R: Wait + Clock>(
 fn checked(rt: &impl Abort, message: &Message, taken: u64, batches: u64) -> bool {
     match &message.body {
         Body::Batch(number, pairs) => {
-            assert_eq!(rt; *number, taken);
-            assert_eq!(rt; pairs.as_slice(), [(message.port, 7)].as_slice());
+            assert!(rt; *number == taken);
+            assert!(rt; pairs.as_slice() == [(message.port, 7)].as_slice());
             false
         }
         Body::End(count) => {
-            assert_eq!(rt; (*count, taken), (batches, batches));
+            assert!(rt; (*count, taken) == (batches, batches));
             false
         }
         Body::Bye(ok) => {
-            assert_eq!(rt; (*ok, taken), (true, batches.saturating_add(1)));
+            assert!(rt; (*ok, taken) == (true, batches.saturating_add(1)));
             true
         }
     }
@@ -144,10 +144,10 @@ fn meet_all<R: Wait + Abort>(rt: &R, outlet: &Outlet, tap: &mut Tap, mut ports: 
     while let Some(port) = ports.pop() {
         let index = port.index();
         let spent = outlet.meet(rt, tap, port);
-        assert_eq!(rt; outlet.take(rt, tap), None);
+        assert!(rt; outlet.take(rt, tap) == None);
         let spent = outlet.meet(rt, tap, spent);
-        assert_eq!(rt; (spent.index(), spent.said_bye()), (index, true));
-        assert_eq!(rt; outlet.take(rt, tap), None);
+        assert!(rt; (spent.index(), spent.said_bye()) == (index, true));
+        assert!(rt; outlet.take(rt, tap) == None);
     }
 }
 
@@ -199,11 +199,11 @@ fn board_and_outlet(rt: HostRuntime) -> Result<(), Fail> {
     let (outlet, mut ports, mut tap) = Outlet::new(alloc, 2)?;
     let mut one = last_port(&outlet, &mut ports).ok_or("port 1")?;
     let mut zero = last_port(&outlet, &mut ports).ok_or("port 0")?;
-    assert_eq!(rt; (zero.index(), one.index(), ports.len()), (0, 1, 0));
+    assert!(rt; (zero.index(), one.index(), ports.len()) == (0, 1, 0));
     outlet.put(&rt, &mut zero, batch(alloc, 0, 5)?);
     outlet.put(&rt, &mut one, end(1, 0));
     outlet.bye(&rt, &mut zero, true);
-    assert_eq!(rt; (zero.said_bye(), one.said_bye()), (true, false));
+    assert!(rt; (zero.said_bye(), one.said_bye()) == (true, false));
     let bye = Message {
         port: 0,
         task: 0,
@@ -230,7 +230,7 @@ fn sixteen_ports(rt: HostRuntime) -> Result<(), AllocError> {
 #[test]
 fn outlet_without_memory(rt: HostRuntime) {
     match Outlet::new(rt.alloc(), 16) {
-        Ok((_, ports, _)) => assert_eq!(rt; ports.len(), 16),
+        Ok((_, ports, _)) => assert!(rt; ports.len() == 16),
         Err(AllocError) => {}
     }
 }

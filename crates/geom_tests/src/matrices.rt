@@ -23,7 +23,7 @@ fn check(
     fail: &[Relation],
 ) {
     let (a, b) = (shape(rt, shapes[0]), shape(rt, shapes[1]));
-    assert_eq!(rt; relate(&a, &b).text(), *matrix);
+    assert!(rt; relate(&a, &b).text() == *matrix);
     for relation in hold {
         assert!(rt; relation.holds(&a, &b));
     }

@@ -96,12 +96,12 @@ pub(crate) fn shape(c: &Corners) -> Option<Shape> {
 #[test]
 fn every_matrix_is_that_of_a_scan(rt: HostRuntime) -> Result<(), Fail> {
     let all = all_corners(rt.alloc())?;
-    assert_eq!(rt; all.len(), 100);
+    assert!(rt; all.len() == 100);
     for a in &all {
         let first = shape(a).ok_or("corners in order")?;
         for b in &all {
             let second = shape(b).ok_or("corners in order")?;
-            assert_eq!(rt; relate(&first, &second).text(), scanned(a, b));
+            assert!(rt; relate(&first, &second).text() == scanned(a, b));
         }
     }
     Ok(())

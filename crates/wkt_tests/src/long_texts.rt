@@ -10,15 +10,15 @@ fn long_texts(rt: HostRuntime) -> Result<(), AllocError> {
     for _ in 0..1_000_000 {
         digits.push_str("9")?;
     }
-    assert_eq!(rt; corners(digits.as_bytes()), Err(WktFault::Text));
+    assert!(rt; corners(digits.as_bytes()) == Err(WktFault::Text));
     digits.push_str(")")?;
-    assert_eq!(rt; corners(digits.as_bytes()), Err(WktFault::Number));
+    assert!(rt; corners(digits.as_bytes()) == Err(WktFault::Number));
     let mut points = String::from_str(rt.alloc(), "LINESTRING (0 0")?;
     for _ in 0..10_000 {
         points.push_str(", 1 0")?;
     }
-    assert_eq!(rt; corners(points.as_bytes()), Err(WktFault::Text));
+    assert!(rt; corners(points.as_bytes()) == Err(WktFault::Text));
     points.push_str(")")?;
-    assert_eq!(rt; corners(points.as_bytes()), Err(WktFault::Form));
+    assert!(rt; corners(points.as_bytes()) == Err(WktFault::Form));
     Ok(())
 }

@@ -10,13 +10,13 @@ fn related(first: &[u8], second: &[u8]) -> Result<[u8; 9], WktFault> {
 
 #[test]
 fn relate_points(rt: HostRuntime) {
-    assert_eq!(rt; related(b"POINT (4 4)", b"POINT(4 4)"), Ok(*b"0FFFFFFF2"));
-    assert_eq!(rt; related(b"POINT (4 4)", b"POINT (5 4)"), Ok(*b"FF0FFF0F2"));
+    assert!(rt; related(b"POINT (4 4)", b"POINT(4 4)") == Ok(*b"0FFFFFFF2"));
+    assert!(rt; related(b"POINT (4 4)", b"POINT (5 4)") == Ok(*b"FF0FFF0F2"));
 }
 
 #[test]
 fn ring_spellings(rt: HostRuntime) {
     let square = b"POLYGON ((0 0, 4 0, 4 4, 0 4, 0 0))";
     let ring = b"polygon((4 4,4 0,0 0,0 4,4 4))";
-    assert_eq!(rt; related(square, ring), Ok(*b"2FFF1FFF2"));
+    assert!(rt; related(square, ring) == Ok(*b"2FFF1FFF2"));
 }
