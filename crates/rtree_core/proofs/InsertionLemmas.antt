@@ -13,16 +13,16 @@ use Rattle.geom_core.proofs.ShapeLemmas.{in_cover_first, in_cover_second, cover_
 use Rattle.rtree_core.specs.declared.node.Entry.{Entry}
 use Rattle.rtree_core.specs.declared.node.Below.TheVariants.{outs-Children}
 use Rattle.rtree_core.specs.declared.node.Node.{Node}
-use Rattle.rtree_core.specs.Covers.{IsLeastCover}
+use Rattle.split_core.specs.Covers.{IsLeastCover}
 use Rattle.rtree_core.specs.Insertions.{IsHalved, StaysOne, ComesInTwo, IsInserted}
 use Rattle.rtree_core.specs.Items.{entry_alone, FitsLeaf, FitsInner, leaf_node, inner_node}
-use Rattle.rtree_core.specs.Limits.{fewest}
+use Rattle.split_core.specs.Limits.{fewest}
 use Rattle.rtree_core.specs.Nodes.{entries_of, level_of, size_of, IsPage, IsLawful, IsLawfulAt}
-use Rattle.rtree_core.specs.Splits.{IsSplit}
-use Rattle.rtree_core.proofs.CoverLemmas.{in_trans, AllIn, all_in, cover_grow, All-front, All-last, All-unset}
+use Rattle.split_core.specs.Splits.{IsSplit}
+use Rattle.split_core.proofs.CoverLemmas.{in_trans, AllIn, all_in, cover_grow, All-front, All-last, All-unset}
 use Rattle.rtree_core.proofs.ItemLemmas.{leaf_entries, leaf_level, leaf_lawful, leaf_size, each_alone, inner_entries, inner_size, inner_lawful, inner_fits, count_below, Opened, open_inner, child_level}
 use Rattle.rtree_core.proofs.NodeLemmas.{lawful_level}
-use Rattle.rtree_core.proofs.SplitLemmas.{split_sums, split_all, split_back}
+use Rattle.split_core.proofs.SplitLemmas.{split_sums, split_all, split_back}
 
 -- the cover of a shape and what takes it in
 within_cover : (c s : Shape) (t : Shape) → IsIn s t → IsIn c t → IsIn (cover_of c s) t
@@ -89,17 +89,17 @@ leaf_two c d v w x n page one halved =
             sum_by_push count v.items x,
             sum_by-append count w.items halved.two,
             split_sums (λ y. y.shape) count
-                (v.items ++ x ∷ []) w.items halved.two halved.split,
+                (v.items ++ x ∷ []) w.items halved.two halved.groups.split,
           ));
       one_lawful = rw (leaf_level c v) (leaf_lawful d w one);
       two_lawful = rw (leaf_level c v) (halved.node.lawful 0 (λ k e lt. refl));
-      one_enough = rw (leaf_size d w) (omega (arith, halved.one_enough, w.ok.0));
-      two_enough = omega (arith, halved.two_enough, halved.node.size);
+      one_enough = rw (leaf_size d w) (omega (arith, halved.groups.one_enough, w.ok.0));
+      two_enough = omega (arith, halved.groups.two_enough, halved.node.size);
       within = λ t h k.
-          halves_within (λ y. y.shape) (v.items ++ x ∷ []) w.items halved.two d n.cover t halved.split one.tight halved.node.tight
+          halves_within (λ y. y.shape) (v.items ++ x ∷ []) w.items halved.two d n.cover t halved.groups.split one.tight halved.node.tight
           (All-push (λ y. IsIn y.shape t) v.items x (all_in (λ y. y.shape) v.items c t page.tight k) h);
       without = λ t h k.
-          let all = halves_without (λ y. y.shape) (v.items ++ x ∷ []) w.items halved.two d n.cover t halved.split one.tight halved.node.tight h k in
+          let all = halves_without (λ y. y.shape) (v.items ++ x ∷ []) w.items halved.two d n.cover t halved.groups.split one.tight halved.node.tight h k in
           (All-last (λ y. IsIn y.shape t) v.items x all, page.tight.least t (All-front (λ y. IsIn y.shape t) v.items (x ∷ []) all));
     }
 
@@ -191,7 +191,7 @@ module _ (added : List Entry) (s c : Shape) (v : Vec Node Global) (o : Opened c 
       IsHalved (λ m. m.cover) entries_of FitsInner xs w.items n →
       ComesInTwo added s (inner_node c v) (inner_node d w) n
   inner_splits d w n page halved =
-      let both = split_all (λ m. m.cover) (FitsInner (suc o.level)) xs w.items halved.two fit halved.split in
+      let both = split_all (λ m. m.cover) (FitsInner (suc o.level)) xs w.items halved.two fit halved.groups.split in
       record {
         gains = λ p.
             let f : Node → ℕ = λ m. count_by p (entries_of m) in
@@ -204,14 +204,14 @@ module _ (added : List Entry) (s c : Shape) (v : Vec Node Global) (o : Opened c 
               count_below p w.items,
               count_below
                   p halved.two,
-              split_sums (λ m. m.cover) f xs w.items halved.two halved.split,
+              split_sums (λ m. m.cover) f xs w.items halved.two halved.groups.split,
             ));
         one_lawful = rw o.level_is (inner_lawful (suc o.level) d w page both.0);
         two_lawful = rw o.level_is (halved.node.lawful (suc o.level) both.1);
-        one_enough = rw (inner_size d w) (omega (arith, halved.one_enough, w.ok.0));
-        two_enough = omega (arith, halved.two_enough, halved.node.size);
-        within = λ t h k. halves_within (λ m. m.cover) xs w.items halved.two d n.cover t halved.split page.tight halved.node.tight (r.into t h k);
-        without = λ t h k. r.out t (halves_without (λ m. m.cover) xs w.items halved.two d n.cover t halved.split page.tight halved.node.tight h k);
+        one_enough = rw (inner_size d w) (omega (arith, halved.groups.one_enough, w.ok.0));
+        two_enough = omega (arith, halved.groups.two_enough, halved.node.size);
+        within = λ t h k. halves_within (λ m. m.cover) xs w.items halved.two d n.cover t halved.groups.split page.tight halved.node.tight (r.into t h k);
+        without = λ t h k. r.out t (halves_without (λ m. m.cover) xs w.items halved.two d n.cover t halved.groups.split page.tight halved.node.tight h k);
       }
 
   pub inner_added : (d : Shape) (w : Vec Node Global) (half : Option Node) →

@@ -10,9 +10,9 @@ use Rattle.geom_core.specs.declared.shape.Shape.{Shape}
 use Rattle.rtree_core.specs.declared.node.Entry.{Entry}
 use Rattle.rtree_core.specs.declared.node.Below.TheVariants.{outs-Entries, outs-Children, Entries as made_entries, Children as made_children}
 use Rattle.rtree_core.specs.declared.node.Node.{Node}
-use Rattle.rtree_core.specs.Covers.{IsLeastCover}
+use Rattle.split_core.specs.Covers.{IsLeastCover}
 use Rattle.rtree_core.specs.Items.{entry_alone, FitsLeaf, FitsInner, IsNodeList, IsNodeOf, leaf_node, inner_node}
-use Rattle.rtree_core.specs.Limits.{fewest}
+use Rattle.split_core.specs.Limits.{fewest}
 use Rattle.rtree_core.specs.Nodes.{entries_of, level_of, size_of, children_of, IsPage, IsInner, IsLawfulAt, IsLawful}
 use Rattle.rtree_core.specs.Packed.{IsPackedAt, FitsPacked, IsPackedOf}
 use Rattle.rtree_core.proofs.NodeLemmas.{entries_leaf, level_leaf, entries_inner, level_inner}

@@ -1,9 +1,4 @@
-pub mod Areas
-pub mod ChoiceLemmas
 pub mod NodeLemmas
-pub mod SeedLemmas
-pub mod SplitLemmas
-pub mod CoverLemmas
 pub mod ItemLemmas
 pub mod InsertionLemmas
 pub mod TrunkLemmas

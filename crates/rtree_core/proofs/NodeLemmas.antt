@@ -12,9 +12,9 @@ use Rattle.rtree_core.specs.declared.node.Below.TheOpen.{Below-F, Entries, Child
 use Rattle.rtree_core.specs.declared.node.Node.{Node, fold_out-Node}
 use Rattle.std.proofs.lemmas.List.{length-map, get_or-map}
 use Rattle.std.proofs.lemmas.List.Elements.{All-head, All-tail, All-map, All-weaker}
-use Rattle.rtree_core.specs.Limits.{fewest}
-use Rattle.rtree_core.specs.Covers.{IsLeastCover}
-use Rattle.rtree_core.specs.Nodes.{entries_step, entries_of, level_step, level_of, size_of, children_of, leaf_law, inner_law, IsLawfulAt, IsLawful}
+use Rattle.split_core.specs.Limits.{fewest}
+use Rattle.split_core.specs.Covers.{IsLeastCover}
+use Rattle.rtree_core.specs.Nodes.{entries_step, entries_of, level_step, level_of, size_of, children_of, leaf_law, inner_law, IsLawfulAt, IsLawful, AreLawfulChildren}
 
 flat_map-map : {A B C : Type 0} (f : A → B) (g : B → List C) (xs : List A) → flat_map g (map f xs) ≡ flat_map (λ x. g (f x)) xs
 flat_map-map f g [] = refl
@@ -162,14 +162,25 @@ children_lawful n v e h =
     rw inner.items at (All-weaker (IsLawfulAt (top_level v.items)) IsLawful (λ m k. lawful_is (top_level v.items) m k) (children_of n) inner.facts.children)
 
 -- they are all one level below it
-pub children_level : (n : Node) (v : Vec Node Global) → n.below ≡ made_children v → IsLawful n → All (λ m. level_of m + 1 ≡ level_of n) v.items
+children_level : (n : Node) (v : Vec Node Global) → n.below ≡ made_children v → IsLawful n → All (λ m. level_of m + 1 ≡ level_of n) v.items
 children_level n v e h =
     let inner = inner_facts n v e h in
     rw inner.items at (All-weaker (IsLawfulAt (top_level v.items)) (λ m. level_of m + 1 ≡ level_of n)
     (λ m k. omega (arith, lawful_level (top_level v.items) m k, inner.level)) (children_of n) inner.facts.children)
 
 -- their covers lie in its cover
-pub children_inside : (n : Node) (v : Vec Node Global) → n.below ≡ made_children v → IsLawful n → All (λ m. IsIn m.cover n.cover) v.items
+children_inside : (n : Node) (v : Vec Node Global) → n.below ≡ made_children v → IsLawful n → All (λ m. IsIn m.cover n.cover) v.items
 children_inside n v e h =
     let inner = inner_facts n v e h in
     rw inner.items at inner.facts.tight.contains
+
+-- all of these together
+pub lawful_children : (n : Node) (v : Vec Node Global) → n.below ≡ made_children v → IsLawful n → AreLawfulChildren n v.items
+lawful_children n v e h =
+    let inner = inner_facts n v e h in
+    record {
+      some = rw inner.items at inner.facts.some;
+      lawful = children_lawful n v e h;
+      levels = children_level n v e h;
+      covers = children_inside n v e h;
+    }

@@ -13,15 +13,15 @@ use Rattle.std.proofs.lemmas.List.Elements.{All-nil, All-head, All-tail, All-pus
 use Rattle.std.proofs.lemmas.List.Sorted.{All-permutation, IsPermutation-sym, sum_by-IsPermutation, length_permutation}
 use Rattle.std.proofs.lemmas.List.Sums.{sum_by-append, sum_by-cons}
 use Rattle.geom_core.specs.declared.shape.Shape.{Shape}
-use Rattle.rtree_core.specs.Limits.{most}
+use Rattle.split_core.specs.Limits.{most}
 use Rattle.rtree_core.specs.declared.node.Entry.{Entry}
 use Rattle.rtree_core.specs.declared.node.Node.{Node}
-use Rattle.rtree_core.specs.Collections.{HasSame}
+use Rattle.split_core.specs.Collections.{HasSame}
 use Rattle.rtree_core.specs.Items.{entry_alone, FitsLeaf, FitsInner, IsNodeOf}
 use Rattle.rtree_core.specs.Nodes.{entries_of, size_of, IsLawfulAt}
-use Rattle.rtree_core.specs.Packed.{IsPackedAt, HasU32, FitsPacked, IsPackedOf, AreNodesOf, IsPackedTree}
+use Rattle.rtree_core.specs.Packed.{IsPackedAt, HasU32, FitsPacked, IsPackedOf, AreNodesOf, IsPackedTree, IsShare}
 use Rattle.rtree_core.specs.Trees.{has_number}
-use Rattle.rtree_core.proofs.CoverLemmas.{All-front, All-back}
+use Rattle.split_core.proofs.CoverLemmas.{All-front, All-back}
 use Rattle.rtree_core.proofs.NodeLemmas.{lawful_level, lawful_is}
 use Rattle.rtree_core.proofs.TreeLemmas.{all_below, count_below_n}
 use Rattle.rtree_core.proofs.ItemLemmas.{each_alone}
@@ -42,13 +42,6 @@ only_one all (y ∷ ys) x e h = absurd (omega (arith, ap length e, length-append
 pub root_some : (m n : ℕ) → n ≤ m * m → 0 < n → 0 < m
 root_some zero n h some = absurd (omega arith)
 root_some (suc m) n h some = omega arith
-
--- how many of some items the first page has, where so many others follow
-pub record IsShare (size others items : ℕ) : Type 0 where
-  pub at_most : (m : ℕ) → items ≤ m * (others + 1) → size ≤ m
-  pub at_least : (m : ℕ) → m * (others + 1) ≤ items → m ≤ size
-  pub leaves_few : (m : ℕ) → items ≤ m * (others + 1) → items ≤ m * others + size
-  pub leaves_many : (m : ℕ) → m * (others + 1) ≤ items → m * others + size ≤ items
 
 -- the shares of equal pages, with one more in the foremost
 share_most : (q r o m : ℕ) → r < o + 1 → (o + 1) * q + r ≤ m * (o + 1) → q + min 1 r ≤ m
@@ -78,24 +71,22 @@ share_few q r o m lt h =
 share_many : (q r o m : ℕ) → r < o + 1 → m * (o + 1) ≤ (o + 1) * q + r → m * o + (q + min 1 r) ≤ (o + 1) * q + r
 share_many q r o m lt h = omega (arith, mul-le-mul_left o (share_least q r o m lt h))
 
-pub share_of : (size others pages items : ℕ) → pages ≡ others + 1 → size ≡ 1 * (items / pages) + min 1 (items % pages) → IsShare size others items
-share_of size others pages items e is =
+pub share_of : (size items pages : ℕ) → 0 < pages → size ≡ 1 * (items / pages) + min 1 (items % pages) → IsShare size items pages
+share_of size items zero some is = absurd (omega arith)
+share_of size items (suc o) some is =
+    let pages = suc o in
     let q = items / pages in
     let r = items % pages in
-    let lt : r < others + 1 = omega arith in
-    let whole : items ≡ (others + 1) * q + r = rw (← e) (omega arith) in
+    let lt : r < o + 1 = omega arith in
+    let whole : items ≡ (o + 1) * q + r = omega arith in
     let size_is : size ≡ q + min 1 r = omega arith in
+    let others : suc o - 1 ≡ o = omega arith in
     record {
-      at_most = λ m h. rw size_is (share_most q r others m lt (rw whole at h));
-      at_least = λ m h. omega (arith, share_least q r others m lt (omega arith));
-      leaves_few = λ m h. omega (arith, share_few q r others m lt (omega arith));
-      leaves_many = λ m h. omega (arith, share_many q r others m lt (omega arith));
+      at_most = λ m h. rw size_is (share_most q r o m lt (omega arith));
+      at_least = λ m h. omega (arith, share_least q r o m lt (omega arith));
+      leaves_few = λ m h. rw others (omega (arith, share_few q r o m lt (omega arith)));
+      leaves_many = λ m h. rw others (omega (arith, share_many q r o m lt (omega arith)));
     }
-
--- the share of the page at a place
-pub share_at : (pages place len items size : ℕ) → place < pages → len ≡ items → size ≡ 1 * (len / (pages - place)) + min 1 (len % (pages - place)) → IsShare
-    size (pages - (place + 1)) items
-share_at pages place len items size lt e is = share_of size (pages - (place + 1)) (pages - place) items (omega arith) (rw e at is)
 
 -- the first so many of some pages were cut from the items as these nodes, and the rest is left
 pub record IsCut {K : Type 0} (entries : K → List Entry) (fits fits_packed : ℕ → K → Type 0) (InRange : K → Type 0) (items : List K) (pages place : ℕ)
@@ -135,14 +126,14 @@ module _ {K : Type 0} (entries : K → List Entry) (fits fits_packed : ℕ → K
       place < pages →
       pages ≤ length items →
       IsCut entries fits fits_packed InRange items pages place nodes rest →
-      IsShare size (pages - (place + 1)) (length rest) →
+      IsShare size (length rest) (pages - place) →
       0 < size
   share_some items pages place nodes rest size lt enough cut share = omega (arith, share.at_least 1 (omega (arith, cut.many 1 (omega arith))))
 
   pub share_fits : (items : List K) (pages place : ℕ) (nodes : List Node) (rest : List K) (size : ℕ) →
       place < pages →
       IsCut entries fits fits_packed InRange items pages place nodes rest →
-      IsShare size (pages - (place + 1)) (length rest) →
+      IsShare size (length rest) (pages - place) →
       size ≤ most
   share_fits items pages place nodes rest size lt cut share = share.at_most most (omega (arith, cut.few))
 
@@ -150,15 +141,14 @@ module _ {K : Type 0} (entries : K → List Entry) (fits fits_packed : ℕ → K
       place < pages →
       IsCut entries fits fits_packed InRange items pages place nodes rest →
       rest ≡ page ++ left →
-      IsShare (length page) (pages - (place + 1)) (length rest) →
+      IsShare (length page) (length rest) (pages - place) →
       IsNodeOf cover entries fits page n →
       IsPackedOf fits_packed page n →
       All InRange page →
       IsCut entries fits fits_packed InRange items pages (place + 1) (nodes ++ n ∷ []) left
   cut_more cover items pages place nodes rest page left n lt cut e share node packed known =
       let others = pages - (place + 1) in
-      let pages_left : pages - place ≡ others + 1 = omega arith in
-      let few : length rest ≤ most * (others + 1) = rw pages_left at cut.few in
+      let others_are : (pages - place) - 1 ≡ others = omega arith in
       let len : length rest ≡ length page + length left = ap length e ∙ length-append page left in
       record {
         joined =
@@ -169,11 +159,9 @@ module _ {K : Type 0} (entries : K → List Entry) (fits fits_packed : ℕ → K
             ∙ ap (λ xs. xs ++ flat_map entries left) (ap (λ xs. flat_map entries_of nodes ++ xs) (sym (node.entries_are)) ∙ flat_map_more entries_of []
             nodes n);
         count = omega (arith, cut.count, length-append nodes (n ∷ []));
-        few = omega (arith, share.leaves_few most few, len);
-        many = λ m h. let many : m * (others + 1) ≤ length rest = rw pages_left at (cut.many m h) in omega (arith, share.leaves_many m many, len);
-        big = λ m h.
-            let many : m * (others + 1) ≤ length rest = rw pages_left at (cut.many m h) in
-            All-push (λ k. m ≤ size_of k) nodes n (cut.big m h) (omega (arith, share.at_least m many, node.size));
+        few = omega (arith, rw others_are at (share.leaves_few most cut.few), len);
+        many = λ m h. omega (arith, rw others_are at (share.leaves_many m (cut.many m h)), len);
+        big = λ m h. All-push (λ k. m ≤ size_of k) nodes n (cut.big m h) (omega (arith, share.at_least m (cut.many m h), node.size));
         fit = λ level all. All-back (fits level) page left (rw e at (cut.fit level all));
         fit_packed = λ level all. All-back (fits_packed level) page left (rw e at (cut.fit_packed level all));
         lawful = λ level all. All-push (IsLawfulAt level) nodes n (cut.lawful level all)

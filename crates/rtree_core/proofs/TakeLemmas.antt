@@ -11,16 +11,16 @@ use Rattle.std.proofs.lemmas.List.Concat.{flat_map-append}
 use Rattle.std.proofs.lemmas.List.Elements.{All-set, All-get_or}
 use Rattle.std.proofs.lemmas.List.Sums.{sum_by-append, sum_by-cons, sum_by-set, sum_by-remove}
 use Rattle.geom_core.specs.declared.shape.Shape.{Shape}
-use Rattle.rtree_core.specs.Limits.{fewest, most}
+use Rattle.split_core.specs.Limits.{fewest, most}
 use Rattle.rtree_core.specs.declared.node.Entry.{Entry}
 use Rattle.rtree_core.specs.declared.node.Below.TheVariants.{outs-Children}
 use Rattle.rtree_core.specs.declared.node.Node.{Node}
-use Rattle.rtree_core.specs.Covers.{IsLeastCover}
+use Rattle.split_core.specs.Covers.{IsLeastCover}
 use Rattle.rtree_core.specs.Items.{leaf_node, inner_node}
 use Rattle.rtree_core.specs.Nodes.{entries_of, level_of, size_of, IsPage, IsLawfulAt}
 use Rattle.rtree_core.specs.Removals.{IsPlaceOf, IsTakenBelow, IsTakenOut}
 use Rattle.rtree_core.proofs.NodeLemmas.{lawful_level}
-use Rattle.rtree_core.proofs.SplitLemmas.{All-remove}
+use Rattle.split_core.proofs.SplitLemmas.{All-remove}
 use Rattle.rtree_core.proofs.ItemLemmas.{leaf_entries, leaf_level, leaf_lawful, leaf_size, inner_entries, inner_size, count_below, Opened, child_level}
 
 pub leaf_taken : (c d : Shape) (v w : Vec Entry Global) (e : Entry) (p : ℕ) →

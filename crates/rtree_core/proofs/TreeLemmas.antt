@@ -8,7 +8,7 @@ use Rattle.std.proofs.lemmas.List.Elements.{All-head, All-tail}
 use Rattle.std.proofs.lemmas.List.Sums.{sum_by-cons}
 use Rattle.rtree_core.specs.declared.node.Entry.{Entry}
 use Rattle.rtree_core.specs.declared.node.Node.{Node}
-use Rattle.rtree_core.specs.Collections.{HasSame, Gains}
+use Rattle.split_core.specs.Collections.{HasSame, Gains}
 use Rattle.rtree_core.specs.Nodes.{entries_of, level_of, size_of, children_of, IsLawfulAt}
 use Rattle.rtree_core.specs.Trees.{entries_in, height_of, has_number, IsFresh, IsRoot, IsTree}
 use Rattle.rtree_core.proofs.NodeLemmas.{HasChildren, has_children, has_entries}

@@ -14,11 +14,11 @@ use Rattle.geom_core.specs.declared.shape.Shape.{Shape}
 use Rattle.geom_core.specs.Cells.{Meets, IsIn}
 use Rattle.rtree_core.specs.declared.node.Entry.{Entry}
 use Rattle.rtree_core.specs.declared.node.Node.{Node}
-use Rattle.rtree_core.specs.Covers.{IsLeastCover}
+use Rattle.split_core.specs.Covers.{IsLeastCover}
 use Rattle.rtree_core.specs.Nodes.{entries_of, children_of, IsLawfulAt}
 use Rattle.rtree_core.specs.Trees.{has_number}
 use Rattle.rtree_core.specs.Windows.{AllMet, AllFound, Picks, none, met, missed, Adds}
-use Rattle.rtree_core.proofs.CoverLemmas.{in_trans, All-front, All-back}
+use Rattle.split_core.proofs.CoverLemmas.{in_trans, All-front, All-back}
 use Rattle.rtree_core.proofs.NodeLemmas.{HasChildren, has_children, has_entries}
 
 -- what holds of each item of a list of lists joined holds of each item of each

@@ -1,22 +1,20 @@
 -- What an insertion does to a node's list, to a node and to its subtree.
 use Rattle.geom_core.specs.Cells.{IsIn}
-use Rattle.std.specs.Prelude.{ℕ, ◌≤◌, List, ◌++◌, length, Option, MatchOption}
+use Rattle.std.specs.Prelude.{ℕ, ◌≤◌, List, ◌++◌, Option, MatchOption}
 use Rattle.geom_core.specs.declared.shape.Shape.{Shape}
 use Rattle.rtree_core.specs.declared.node.Entry.{Entry}
 use Rattle.rtree_core.specs.declared.node.Node.{Node}
-use Rattle.rtree_core.specs.Collections.{HasSame}
+use Rattle.split_core.specs.Collections.{HasSame}
 use Rattle.rtree_core.specs.Items.{IsNodeOf}
-use Rattle.rtree_core.specs.Limits.{fewest}
+use Rattle.split_core.specs.Limits.{fewest}
 use Rattle.rtree_core.specs.Nodes.{entries_of, level_of, size_of, IsLawfulAt}
-use Rattle.rtree_core.specs.Splits.{IsSplit}
+use Rattle.split_core.specs.Splits.{AreGroups}
 
 -- the items were split: the first group is this list, the second that of this node
 pub record IsHalved {T : Type 0} (cover : T → Shape) (entries : T → List Entry)
     (fits : ℕ → T → Type 0) (items one : List T) (n : Node) : Type 0 where
   pub two : List T
-  pub split : IsSplit cover items one two
-  pub one_enough : fewest ≤ length one
-  pub two_enough : fewest ≤ length two
+  pub groups : AreGroups cover items one two
   pub node : IsNodeOf cover entries fits two n
 
 -- the entries came into the node, which took in the shape

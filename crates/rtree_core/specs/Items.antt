@@ -7,8 +7,8 @@ use Rattle.geom_core.specs.declared.shape.Shape.{Shape}
 use Rattle.rtree_core.specs.declared.node.Entry.{Entry}
 use Rattle.rtree_core.specs.declared.node.Node.{Node}
 use Rattle.rtree_core.specs.declared.node.Below.TheVariants.{Entries, Children}
-use Rattle.rtree_core.specs.Covers.{IsLeastCover}
-use Rattle.rtree_core.specs.Limits.{fewest, most}
+use Rattle.split_core.specs.Covers.{IsLeastCover}
+use Rattle.split_core.specs.Limits.{fewest, most}
 use Rattle.rtree_core.specs.Nodes.{entries_of, size_of, IsLawfulAt}
 
 -- the entries below an entry: itself

@@ -1,15 +1,16 @@
 -- Nodes: the entries below one, its level, and when it is lawful.
-use Rattle.std.specs.Prelude.{ℕ, zero, suc, ◌+◌, ◌<◌, ◌≤◌, List, [], vec_len, vec_capacity, All, max}
+use Rattle.std.specs.Prelude.{◌≡◌, ℕ, zero, suc, ◌+◌, ◌<◌, ◌≤◌, List, [], length, vec_len, vec_capacity, All, max}
 use Rattle.std.specs.List.{flat_map, fold}
 use Rattle.std.specs.declared.alloc.Global.{Global}
 use Rattle.std.specs.declared.vec.Vec.{Vec}
 use Rattle.geom_core.specs.declared.shape.Shape.{Shape}
-use Rattle.rtree_core.specs.Limits.{fewest, most}
+use Rattle.geom_core.specs.Cells.{IsIn}
+use Rattle.split_core.specs.Limits.{fewest, most}
 use Rattle.rtree_core.specs.declared.node.Entry.{Entry}
 use Rattle.rtree_core.specs.declared.node.Below.{Below, out-Below}
 use Rattle.rtree_core.specs.declared.node.Below.TheOpen.{Below-F, Entries, Children}
 use Rattle.rtree_core.specs.declared.node.Node.{Node, fold-Node}
-use Rattle.rtree_core.specs.Covers.{IsLeastCover}
+use Rattle.split_core.specs.Covers.{IsLeastCover}
 
 -- the entries of a node, given those of its children
 abbrev pub entries_step : Below-F (List Entry) (List Entry) → List Entry
@@ -87,3 +88,11 @@ IsLawfulAt (suc level) n = inner_law (IsLawfulAt level) n.cover (out-Below n.bel
 -- the same, at the level that the node has
 abbrev pub IsLawful : Node → Type 0
 IsLawful n = IsLawfulAt (level_of n) n
+
+-- what the children of a lawful node are: there is one at least, and each is lawful, one level below
+-- the node, with its cover in that of the node
+pub record AreLawfulChildren (n : Node) (children : List Node) : Type 0 where
+  pub some : 0 < length children
+  pub lawful : All IsLawful children
+  pub levels : All (λ m. level_of m + 1 ≡ level_of n) children
+  pub covers : All (λ m. IsIn m.cover n.cover) children

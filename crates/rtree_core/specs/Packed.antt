@@ -1,11 +1,13 @@
 -- Packed trees: each node below the root has at least four entries or children.
-use Rattle.std.specs.Prelude.{◌≡◌, ℕ, zero, suc, ◌+◌, ◌^◌, ◌<◌, ◌≤◌, List, length, Some, All}
+use Rattle.std.specs.Prelude.{◌≡◌, ℕ, zero, suc, ◌+◌, ◌-◌, ◌*◌, ◌^◌, ◌<◌, ◌≤◌, List, ◌++◌, map, length, vec_len, vec_capacity, Some, All}
 use Rattle.std.specs.Int.{div_ceil}
 use Rattle.std.specs.List.{flat_map}
-use Rattle.rtree_core.specs.Limits.{most}
+use Rattle.std.specs.declared.alloc.Global.{Global}
+use Rattle.std.specs.declared.vec.Vec.{Vec}
+use Rattle.split_core.specs.Limits.{most}
 use Rattle.rtree_core.specs.declared.node.Entry.{Entry}
 use Rattle.rtree_core.specs.declared.node.Node.{Node}
-use Rattle.rtree_core.specs.Collections.{HasSame}
+use Rattle.split_core.specs.Collections.{HasSame}
 use Rattle.rtree_core.specs.Nodes.{entries_of, children_of, level_of, size_of, IsLawfulAt}
 use Rattle.rtree_core.specs.Trees.{IsTree}
 
@@ -30,6 +32,22 @@ FitsPacked (suc level) n = (4 ≤ size_of n) × IsPackedAt level n
 -- the node of this list is packed at each level where these items are
 abbrev pub IsPackedOf : {T : Type 0} → (ℕ → T → Type 0) → List T → Node → Type 0
 IsPackedOf fits_packed page n = (level : ℕ) → All (fits_packed level) page → IsPackedAt level n
+
+-- the first of some pages has its share of the items: at most m where m are enough for each page, at
+-- least m where there are m for each, and what it leaves is so for the other pages
+pub record IsShare (size items pages : ℕ) : Type 0 where
+  pub at_most : (m : ℕ) → items ≤ m * pages → size ≤ m
+  pub at_least : (m : ℕ) → m * pages ≤ items → m ≤ size
+  pub leaves_few : (m : ℕ) → items ≤ m * pages → items ≤ m * (pages - 1) + size
+  pub leaves_many : (m : ℕ) → m * pages ≤ items → m * (pages - 1) + size ≤ items
+
+-- so many items went from the front of a list into a page, which has room for one more
+pub record IsNextPage {S T : Type 0} (held : S → T) (IsInRange : T → Type 0) (size : ℕ)
+    (old new : List S) (page : Vec T Global) : Type 0 where
+  pub taken : map held old ≡ page.items ++ map held new
+  pub len : vec_len page ≡ size
+  pub room : most + 1 ≤ vec_capacity page
+  pub in_range : All IsInRange page.items
 
 -- the nodes of a level that hold these items
 pub record AreNodesOf {T : Type 0} (entries : T → List Entry) (fits fits_packed : ℕ → T → Type 0)

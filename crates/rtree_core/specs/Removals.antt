@@ -3,14 +3,21 @@ use Rattle.std.specs.List.{flat_map}
 use Rattle.std.specs.Prelude.{◌≡◌, ℕ, ◌+◌, ◌<◌, ◌≤◌, List, ◌∷◌, ◌++◌, length, slice_index_or, slice_set}
 use Rattle.rtree_core.specs.declared.node.Entry.{Entry}
 use Rattle.rtree_core.specs.declared.node.Node.{Node}
-use Rattle.rtree_core.specs.Limits.{fewest}
-use Rattle.rtree_core.specs.Collections.{HasSame}
-use Rattle.rtree_core.specs.Nodes.{entries_of, level_of, size_of, IsLawfulAt}
+use Rattle.split_core.specs.Limits.{fewest}
+use Rattle.split_core.specs.Collections.{HasSame}
+use Rattle.rtree_core.specs.Nodes.{entries_of, level_of, size_of, IsLawful, IsLawfulAt}
 
 -- the entry stands at this place of the list
 pub record IsPlaceOf (entries : List Entry) (e : Entry) (p : ℕ) : Type 0 where
   pub inside : p < length entries
   pub there : slice_index_or entries p e ≡ e
+
+-- an entry can be taken out of the node's subtree: it is lawful and has two items at least, and a list
+-- with so much room can hold the nodes that are set aside below it
+pub record CanTakeOut (room : ℕ) (n : Node) : Type 0 where
+  pub lawful : IsLawful n
+  pub two : 2 ≤ size_of n
+  pub low : level_of n ≤ room
 
 -- a lawful node of this level, with one item less than is enough
 abbrev pub IsShort : ℕ → Node → Type 0

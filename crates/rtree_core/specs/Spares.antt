@@ -1,19 +1,25 @@
 -- The lists that wait for edits, and how many of them an insertion takes.
-use Rattle.std.specs.Prelude.{◌≡◌, ℕ, ◌+◌, ◌≤◌, List, [], vec_len, vec_capacity, All}
+use Rattle.std.specs.Prelude.{ℕ, ◌+◌, ◌≤◌, List, vec_len, All}
 use Rattle.std.specs.declared.alloc.Global.{Global}
 use Rattle.std.specs.declared.vec.Vec.{Vec}
 use Rattle.rtree_core.specs.declared.spare.Spare.{Spare}
-use Rattle.rtree_core.specs.Limits.{most}
+use Rattle.split_core.specs.Splits.{IsRoom}
 
--- an empty list with room for a node that is to be split
-pub record IsRoom {T : Type 0} (v : Vec T Global) : Type 0 where
-  pub empty : v.items ≡ []
-  pub room : most + 1 ≤ vec_capacity v
-
+-- each of these lists is empty, with room for a node that is to be split
 abbrev pub IsSpare : {T : Type 0} → List (Vec T Global) → Type 0
 IsSpare vs = All IsRoom vs
 
--- all lists are empty, with room for a node
+-- so many such lists at least
+pub record HasSpare {T : Type 0} (count : ℕ) (lists : Vec (Vec T Global) Global) : Type 0 where
+  pub spare : IsSpare lists.items
+  pub enough : count ≤ vec_len lists
+
+-- at most so many of them were taken
+pub record HasSpent {T : Type 0} (count : ℕ) (old new : Vec (Vec T Global) Global) : Type 0 where
+  pub spare : IsSpare new.items
+  pub len : vec_len old ≤ vec_len new + count
+
+-- the lists for leaves and for inner nodes
 pub record AreSpare (spare : Spare) : Type 0 where
   pub leaves : IsSpare spare.leaves.items
   pub inners : IsSpare spare.inners.items

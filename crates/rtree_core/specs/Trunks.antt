@@ -1,9 +1,11 @@
 -- A root with its height and the lists that wait for edits, and what insertions do to it.
-use Rattle.std.specs.Prelude.{◌≡◌, ℕ, ◌+◌, ◌*◌, ◌^◌, ◌<◌, ◌≤◌, suc, List, ◌++◌, IfSome, IsSomeAnd, vec_len}
+use Rattle.std.specs.Prelude.{◌≡◌, ℕ, ◌+◌, ◌-◌, ◌*◌, ◌^◌, ◌<◌, ◌≤◌, suc, List, [], ◌++◌, IfSome, IsSomeAnd, vec_len, vec_capacity}
+use Rattle.std.specs.declared.alloc.Global.{Global}
+use Rattle.std.specs.declared.vec.Vec.{Vec}
 use Rattle.rtree_core.specs.declared.node.Entry.{Entry}
 use Rattle.rtree_core.specs.declared.node.Node.{Node}
 use Rattle.rtree_core.specs.declared.trunk.Trunk.{Trunk}
-use Rattle.rtree_core.specs.Collections.{HasSame}
+use Rattle.split_core.specs.Collections.{HasSame}
 use Rattle.rtree_core.specs.Nodes.{entries_of, level_of, size_of, IsLawful, IsLawfulAt}
 use Rattle.rtree_core.specs.Spares.{AreSpare}
 use Rattle.rtree_core.specs.Trees.{entries_in, height_of, IsRoot}
@@ -24,6 +26,14 @@ pub record CanTake (count : ℕ) (t : Trunk) : Type 0 where
   pub leaves : count + 1 ≤ vec_len t.spare.leaves
   pub inners : count * (t.height + count) ≤ vec_len t.spare.inners
   pub low : t.height + count < 2 ^ 32
+
+-- a removal can be made: it has the lists for all that may be inserted again, and the empty list of
+-- nodes set aside has room for one of each level below the root
+pub record CanRemove (t : Trunk) (aside : Vec Node Global) : Type 0 where
+  pub rooted : IsRooted t
+  pub can_take : CanTake (2 * (t.height - 1)) t
+  pub none_aside : aside.items ≡ []
+  pub room : t.height ≤ vec_capacity aside + 1
 
 -- what so many insertions do, which together add these entries
 pub record HasTakenIn (count : ℕ) (added : List Entry) (old new : Trunk) : Type 0 where

@@ -3,16 +3,17 @@
 ghost use Rattle.std.specs.Prelude.{◌≡◌, ◌+◌, ◌-◌, ◌≤◌, ◌++◌, ◌∷◌, [], vec_len, MatchOption};
 ghost use Rattle.rtree_core.specs.Insertions.{IsHalved, IsInserted};
 ghost use Rattle.rtree_core.specs.Items.{leaf_node, inner_node, FitsInner, IsNodeList};
-ghost use Rattle.rtree_core.specs.Limits.{most};
+ghost use Rattle.split_core.specs.Limits.{most};
 ghost use Rattle.rtree_core.specs.Nodes.{entries_of, level_of, IsPage, IsLawful};
-ghost use Rattle.rtree_core.specs.Spares.{IsSpare, IsReady, IsSpent};
+ghost use Rattle.rtree_core.specs.Spares.{HasSpare, HasSpent, IsReady, IsSpent};
 
-use crate::choices::choose;
 use crate::item::Item;
-use crate::node::{Below, Entry, MOST, Node, cover_all};
+use crate::node::{Below, Entry, MOST, Node};
 use crate::spare::{Spare, take_list};
-use crate::split::split;
 use geom_core::Shape;
+use split_core::choices::choose;
+use split_core::measures::cover_all;
+use split_core::split::split;
 use std::mem;
 
 /// What can be put into the list of a node.
@@ -62,12 +63,10 @@ fn add_entry(
     spare: &mut Vec<Vec<Entry>>,
 ) -> Option<Node>
     requires lawful { IsPage (λ e. e.shape) cover.old entries.old }
-    requires two_lists { 2 ≤ vec_len spare.old }
-    requires spare { IsSpare spare.old.items }
+    requires spare { HasSpare 2 spare.old }
     ensures inserted { let old = leaf_node cover.old entries.old in
         IsInserted (entry ∷ []) entry.shape old (leaf_node cover.new entries.new) result }
-    ensures spare { IsSpare spare.new.items }
-    ensures len { vec_len spare.old ≤ vec_len spare.new + 1 }
+    ensures spent { HasSpent 1 spare.old spare.new }
 {
     add(cover, entries, entry, spare)
 }
@@ -82,12 +81,10 @@ fn add_child(
 ) -> Option<Node>
     requires lawful { IsLawful (inner_node cover.old children.old) }
     requires fits { FitsInner (level_of (inner_node cover.old children.old)) child }
-    requires lists { level_of (inner_node cover.old children.old) + 1 ≤ vec_len spare.old }
-    requires spare { IsSpare spare.old.items }
+    requires spare { HasSpare (level_of (inner_node cover.old children.old) + 1) spare.old }
     ensures inserted { let old = inner_node cover.old children.old in
         IsInserted (entries_of child) child.cover old (inner_node cover.new children.new) result }
-    ensures spare { IsSpare spare.new.items }
-    ensures len { vec_len spare.old ≤ vec_len spare.new + 1 }
+    ensures spent { HasSpent 1 spare.old spare.new }
 {
     add(cover, children, child, spare)
 }
@@ -100,14 +97,12 @@ fn add<T: Item>(
     spare: &mut Vec<Vec<T>>,
 ) -> Option<Node>
     requires list { IsNodeList list.old }
-    requires two_lists { 2 ≤ vec_len spare.old }
-    requires spare { IsSpare spare.old.items }
+    requires spare { HasSpare 2 spare.old }
     ensures page { IsPage T.cover cover.new list.new }
     ensures items { let all = list.old.items ++ item ∷ [] in
         MatchOption result (list.new.items ≡ all)
         (IsHalved T.cover T.entries T.fits all list.new.items) }
-    ensures spare { IsSpare spare.new.items }
-    ensures len { vec_len spare.old ≤ vec_len spare.new + 1 }
+    ensures spent { HasSpent 1 spare.old spare.new }
 {
     list.push_reserved(item);
     let second = if list.len() <= MOST {
@@ -122,12 +117,10 @@ fn add<T: Item>(
 /// Splits a list of nine, which keeps the first group, and gives the node of the second.
 fn halve<T: Item>(list: &mut Vec<T>, spare: &mut Vec<Vec<T>>) -> Node
     requires nine { vec_len list.old ≡ most + 1 }
-    requires two_lists { 2 ≤ vec_len spare.old }
-    requires spare { IsSpare spare.old.items }
+    requires spare { HasSpare 2 spare.old }
     ensures list { IsNodeList list.new }
     ensures halved { IsHalved T.cover T.entries T.fits list.old.items list.new.items result }
-    ensures spare { IsSpare spare.new.items }
-    ensures len { vec_len spare.old ≡ vec_len spare.new + 1 }
+    ensures spent { HasSpent 1 spare.old spare.new }
 {
     let mut one = take_list(spare);
     let mut two = take_list(spare);

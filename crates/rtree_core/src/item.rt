@@ -1,7 +1,7 @@
 //! What a node holds: entries, or the nodes of the level below.
 
-use crate::measures::Covered;
-use crate::node::{Below, Entry, Node, cover_all};
+use crate::node::{Below, Entry, Node};
+use split_core::measures::{Covered, cover_all};
 
 /// What a node holds: an entry, or a node of the level below.
 pub(crate) trait Item: Covered + Drop {

@@ -1,19 +1,18 @@
 //! Guttman's R-tree over shapes: insertion with the quadratic split, removal, packing and windows.
 #![tactic(auto)]
 
-pub mod choices;
 mod condense;
 mod insert;
 mod item;
-pub mod measures;
 mod node;
 mod pack;
 mod remove;
 mod spare;
-pub mod split;
 mod tree;
 mod trunk;
 mod window;
 
-pub use node::{Entry, FEWEST, MOST, Node};
+pub use node::{Entry, MOST, Node};
+pub use split_core::split::FEWEST;
+pub use split_core::{choices, measures, split};
 pub use tree::RTree;

@@ -1,13 +1,7 @@
 //! A node of the tree: its cover, and the entries or the children below it.
 
-ghost use Rattle.std.specs.Prelude.{◌<◌, length};
-ghost use Rattle.rtree_core.specs.Covers.{IsLeastCover};
-
-use crate::measures::Covered;
 use geom_core::Shape;
-
-/// The fewest entries or children of a node other than the root (Guttman's m).
-pub const FEWEST: usize = 3;
+use split_core::measures::Covered;
 
 /// The most entries or children of a node (Guttman's M).
 pub const MOST: usize = 8;
@@ -30,18 +24,6 @@ impl Covered for Entry {
     }
 }
 
-/// The smallest shape that contains the covers of all items.
-pub(crate) fn cover_all<T: Covered>(items: &[T]) -> Shape
-    requires { 0 < length items.now }
-    ensures { IsLeastCover T.cover items.now result }
-{
-    let mut cover = items[0].cover();
-    for place in 1..items.len() {
-        cover = cover.cover(&items[place].cover());
-    }
-    cover
-}
-
 /// A node of an R-tree.
 #[cycle(node)]
 #[derive(Drop)]
@@ -58,11 +40,10 @@ pub(crate) enum Below {
 }
 
 impl Node {
-    ghost use Rattle.std.specs.Prelude.{◌≡◌, ◌+◌, ◌<◌, ◌↔◌, length, IsTrue, All};
+    ghost use Rattle.std.specs.Prelude.{◌≡◌, ◌<◌, ◌↔◌, length, IsTrue};
     ghost use Rattle.std.specs.List.{flat_map};
-    ghost use Rattle.geom_core.specs.Cells.{IsIn};
-    ghost use Rattle.rtree_core.specs.Nodes.{entries_of, children_of, level_of, size_of, node_cover, IsLeaf, IsLawful};
-    ghost use Rattle.rtree_core.specs.Covers.{IsLeastCover};
+    ghost use Rattle.rtree_core.specs.Nodes.{entries_of, children_of, level_of, size_of, node_cover, IsLeaf, IsLawful, AreLawfulChildren};
+    ghost use Rattle.split_core.specs.Covers.{IsLeastCover};
 
     /// Whether it holds entries and no children: it is on level 0.
     pub fn is_leaf(&self) -> bool
@@ -89,12 +70,7 @@ impl Node {
         requires { IsLeaf self.now → ⊥ }
         ensures children { result.now ≡ children_of self.now }
         ensures entries { entries_of self.now ≡ flat_map entries_of result.now }
-        ensures some { IsLawful self.now → 0 < length result.now }
-        ensures lawful { IsLawful self.now → All IsLawful result.now }
-        ensures levels { let level = level_of self.now in
-            IsLawful self.now → All (λ n. level_of n + 1 ≡ level) result.now }
-        ensures covers { let cover = node_cover self.now in
-            IsLawful self.now → All (λ n. IsIn (node_cover n) cover) result.now }
+        ensures lawful { IsLawful self.now → AreLawfulChildren self.now result.now }
     {
         match &self.below {
             Below::Entries(_) => unreachable!(),

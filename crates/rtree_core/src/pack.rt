@@ -11,14 +11,14 @@ ghost use Rattle.std.specs.Prelude.{◌≡◌, ℕ, ◌+◌, ◌*◌, ◌/◌, �
 ghost use Rattle.std.specs.List.Sorted.{IsPermutation};
 ghost use Rattle.std.specs.Vec.Iter.{into_iter_items, into_iter_len};
 ghost use Rattle.geom_core.specs.Shapes.{x1, y1, x2, y2};
-ghost use Rattle.rtree_core.specs.Packed.{AreNodesOf, IsPackedTree};
+ghost use Rattle.rtree_core.specs.Packed.{AreNodesOf, IsNextPage, IsPackedTree, IsShare};
 ghost use Rattle.rtree_core.specs.Trees.{has_number};
-ghost use Rattle.rtree_core.specs.Limits.{most};
+ghost use Rattle.split_core.specs.Limits.{most};
 
 use crate::item::Item;
-use crate::measures::Covered;
 use crate::node::{Entry, MOST, Node};
 use geom_core::Shape;
+use split_core::measures::Covered;
 use std::alloc::{AllocError, Global};
 use std::vec::IntoIter;
 
@@ -139,6 +139,14 @@ fn items_in(first: usize, pages: usize, items: usize) -> usize
     first * (items / pages) + first.min(items % pages)
 }
 
+/// How many of some items go into the first of some pages.
+fn page_size(items: usize, pages: usize) -> usize
+    requires { 0 < pages }
+    ensures { IsShare result items pages }
+{
+    items_in(1, pages, items)
+}
+
 /// Sorts the items of a level into the order of their pages: slice by slice along the first axis,
 /// and along the second in each slice.
 fn tile<T: Packable>(items: &mut [T], pages: usize)
@@ -165,13 +173,10 @@ fn next_page<T: Packable>(
 ) -> Result<Vec<T::Held>, AllocError>
     requires enough { size ≤ into_iter_len items.old }
     requires few { size ≤ most }
-    ensures taken { let all = map T.held (into_iter_items items.old) in
-        let rest = map T.held (into_iter_items items.new) in
-        IfOk result (λ v. all ≡ v.items ++ rest) }
-    ensures len { IfOk result (λ v. vec_len v ≡ size) }
-    ensures room { IfOk result (λ v. most + 1 ≤ vec_capacity v) }
+    ensures page { let old = into_iter_items items.old in
+        let new = into_iter_items items.new in
+        IfOk result (IsNextPage T.held T.in_range size old new) }
     ensures rest { OnOk result (into_iter_len items.new + size ≡ into_iter_len items.old) }
-    ensures in_range { IfOk result (λ v. All T.in_range v.items) }
 {
     let mut page = Vec::with_capacity(alloc, MOST + 1)?;
     for _ in 0..size {
@@ -194,7 +199,7 @@ fn level<T: Packable>(alloc: Global, mut items: Vec<T>) -> Result<Vec<Placed>, A
     let mut rest = items.into_iter();
     let mut nodes = Vec::with_capacity(alloc, pages)?;
     for place in 0..pages {
-        let size = items_in(1, pages - place, rest.len());
+        let size = page_size(rest.len(), pages - place);
         let page = next_page(alloc, &mut rest, size)?;
         let node = T::Held::node_of(page);
         nodes.push_reserved(Placed { node, place });

@@ -4,25 +4,24 @@ ghost use Rattle.std.specs.Prelude.{◌≡◌, ◌+◌, ◌≤◌, ◌↔◌, []
 ghost use Rattle.std.specs.List.{flat_map};
 ghost use Rattle.rtree_core.specs.Items.{leaf_node, inner_node};
 ghost use Rattle.rtree_core.specs.Nodes.{entries_of, level_of, size_of, IsPage, IsLawful};
-ghost use Rattle.rtree_core.specs.Removals.{IsPlaceOf, IsTakenBelow, IsTakenOut};
+ghost use Rattle.rtree_core.specs.Removals.{CanTakeOut, IsPlaceOf, IsTakenBelow, IsTakenOut};
 
-use crate::node::{Below, Entry, FEWEST, Node, cover_all};
+use crate::node::{Below, Entry, Node};
 use crate::trunk::Trunk;
 use geom_core::Shape;
+use split_core::measures::cover_all;
+use split_core::split::FEWEST;
 
 impl Trunk {
     ghost use Rattle.std.specs.Prelude.{◌≡◌, ◌+◌, ◌-◌, ◌*◌, ◌≤◌, ◌↔◌, [], ◌∷◌, None, vec_capacity, Contains, IsTrue, IsFalse, IsSomeAnd};
-    ghost use Rattle.rtree_core.specs.Collections.{Gains};
+    ghost use Rattle.split_core.specs.Collections.{Gains};
     ghost use Rattle.rtree_core.specs.Nodes.{size_of, IsLawfulAt};
     ghost use Rattle.rtree_core.specs.Trees.{entries_in};
-    ghost use Rattle.rtree_core.specs.Trunks.{IsRooted, CanTake};
+    ghost use Rattle.rtree_core.specs.Trunks.{IsRooted, CanRemove};
 
     /// Takes an entry out, and says whether it was there.
     pub(crate) fn remove(&mut self, entry: &Entry, aside: &mut Vec<Node>) -> bool
-        requires rooted { IsRooted self.old }
-        requires can_take { CanTake (2 * (self.old.height - 1)) self.old }
-        requires none_aside { aside.old.items ≡ [] }
-        requires room { self.old.height ≤ vec_capacity aside.old + 1 }
+        requires { CanRemove self.old aside.old }
         ensures rooted { IsRooted self.new }
         ensures held { IsTrue result ↔ Contains (entries_in self.old.root) entry.now }
         ensures loses { let old = entries_in self.old.root in
@@ -69,10 +68,8 @@ impl Trunk {
 /// Nodes below it that are left with fewer than three are moved to `aside`, lowest level first.
 #[cycle(removal)]
 pub(crate) fn take_out(node: &mut Node, entry: &Entry, aside: &mut Vec<Node>) -> bool
-    requires lawful { IsLawful node.old }
-    requires two { 2 ≤ size_of node.old }
+    requires can_take_out { CanTakeOut (vec_capacity aside.old) node.old }
     requires none_aside { aside.old.items ≡ [] }
-    requires room { level_of node.old ≤ vec_capacity aside.old }
     ensures held { IsTrue result ↔ Contains (entries_of node.old) entry.now }
     ensures taken { IsTrue result → IsTakenOut entry.now node.old node.new aside.new.items }
     ensures unchanged { IsFalse result → (node.new ≡ node.old) × (aside.new.items ≡ []) }
@@ -111,10 +108,9 @@ fn take_from_inner(
     entry: &Entry,
     aside: &mut Vec<Node>,
 ) -> bool
-    requires lawful { IsLawful (inner_node cover.old children.old) }
-    requires two { 2 ≤ size_of (inner_node cover.old children.old) }
+    requires can_take_out { let old = inner_node cover.old children.old in
+        CanTakeOut (vec_capacity aside.old) old }
     requires none_aside { aside.old.items ≡ [] }
-    requires room { level_of (inner_node cover.old children.old) ≤ vec_capacity aside.old }
     ensures held { let old = inner_node cover.old children.old in
         IsTrue result ↔ Contains (entries_of old) entry.now }
     ensures taken { let old = inner_node cover.old children.old in
@@ -138,10 +134,8 @@ fn take_from_inner(
 /// Takes an entry out of the subtree of one of some nodes, and gives the place of that node.
 #[cycle(removal)]
 fn take_from_one(nodes: &mut [Node], entry: &Entry, aside: &mut Vec<Node>) -> Option<usize>
-    requires lawful { All IsLawful nodes.old }
-    requires two { All (λ n. 2 ≤ size_of n) nodes.old }
+    requires can_take_out { All (CanTakeOut (vec_capacity aside.old)) nodes.old }
     requires none_aside { aside.old.items ≡ [] }
-    requires room { All (λ n. level_of n ≤ vec_capacity aside.old) nodes.old }
     ensures held { IsSome result ↔ Contains (flat_map entries_of nodes.old) entry.now }
     ensures taken { IfSome result (IsTakenBelow entry.now nodes.old nodes.new aside.new.items) }
     ensures unchanged { IfNone result ((nodes.new ≡ nodes.old) × (aside.new.items ≡ [])) }

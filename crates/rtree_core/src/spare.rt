@@ -1,7 +1,7 @@
 //! The lists that edits take, gathered before anything changes.
 
-ghost use Rattle.std.specs.Prelude.{◌≡◌, ◌+◌, ◌<◌, ◌≤◌, [], vec_len, vec_capacity, OnOk};
-ghost use Rattle.rtree_core.specs.Limits.{most};
+ghost use Rattle.std.specs.Prelude.{◌≡◌, ◌+◌, ◌<◌, ◌≤◌, vec_len, vec_capacity, OnOk};
+ghost use Rattle.split_core.specs.Splits.{IsRoom};
 ghost use Rattle.rtree_core.specs.Spares.{IsSpare};
 
 use crate::node::{Entry, MOST, Node};
@@ -45,8 +45,7 @@ pub(crate) fn fill<T>(lists: &mut Vec<Vec<T>>, count: usize) -> Result<(), Alloc
 pub(crate) fn take_list<T>(spare: &mut Vec<Vec<T>>) -> Vec<T>
     requires some { 0 < vec_len spare.old }
     requires spare { IsSpare spare.old.items }
-    ensures empty { result.items ≡ [] }
-    ensures room { most + 1 ≤ vec_capacity result }
+    ensures list { IsRoom result }
     ensures spare { IsSpare spare.new.items }
     ensures len { vec_len spare.new + 1 ≡ vec_len spare.old }
     ensures capacity { vec_capacity spare.new ≡ vec_capacity spare.old }

@@ -42,7 +42,7 @@ impl Model for RTree {
 
 impl RTree {
     ghost use Rattle.std.specs.Prelude.{◌≡◌, ◌↔◌, ℕ, ◌≤◌, None, count_by, length, IsTrue, IsFalse, Contains, OnOk, OnErr, IfOk, IfSome, option_copied};
-    ghost use Rattle.rtree_core.specs.Collections.{HasSame, Gains};
+    ghost use Rattle.split_core.specs.Collections.{HasSame, Gains};
     ghost use Rattle.rtree_core.specs.Packed.{IsPacked};
     ghost use Rattle.rtree_core.specs.Trees.{entries_in, height_of, has_number, IsTree, IsFresh};
     ghost use Rattle.rtree_core.specs.Windows.{AllMet, AllFound};

@@ -6,67 +6,39 @@ ghost use Rattle.rtree_core.specs.Trees.{IsFresh};
 
 use geom_core::Shape;
 use rtree_core::{Entry, Node, RTree};
+use samples::Random;
 use std::alloc::{AllocError, Global};
 use std::test::Fail;
 
-/// Knuth's linear congruential generator of 64 bits.
-#[derive(Drop)]
-struct Random {
-    state: u64,
+/// A point, a segment or a rectangle near one of nine centres.
+fn shape(random: &mut Random) -> Result<Shape, Fail> {
+    Ok(random.shape().ok_or("a shape")?)
 }
 
-impl Random {
-    /// A number below `end`.
-    fn below(&mut self, end: usize) -> usize
-        requires { 0 < end }
-        ensures { result < end }
-    {
-        self.state = self
-            .state
-            .wrapping_mul(6364136223846793005)
-            .wrapping_add(1442695040888963407);
-        (self.state >> 33) as usize % end
-    }
+/// One of the entries, if there are any.
+fn one_of(random: &mut Random, entries: &[Entry]) -> Option<Entry> {
+    let place = random.below(entries.len().max(1));
+    entries.get(place).copied()
+}
 
-    /// A coordinate near one of three centres, and one that is up to three more.
-    fn span(&mut self) -> (i64, i64) {
-        let lo = 1000 * self.below(3) + self.below(20);
-        let hi = lo + self.below(4);
-        (lo as i64 - 1000, hi as i64 - 1000)
+/// The shape of one of the entries one time in four, or else another.
+fn shape_beside(random: &mut Random, entries: &[Entry]) -> Result<Shape, Fail> {
+    match one_of(random, entries) {
+        Some(entry) if random.below(4) == 0 => Ok(entry.shape),
+        _ => shape(random),
     }
+}
 
-    /// A point, a segment or a rectangle near one of nine centres.
-    fn shape(&mut self) -> Result<Shape, Fail> {
-        let (x1, x2) = self.span();
-        let (y1, y2) = self.span();
-        Ok(Shape::new(x1, y1, x2, y2).ok_or("a shape")?)
-    }
-
-    /// One of the entries, if there are any.
-    fn entry(&mut self, entries: &[Entry]) -> Option<Entry> {
-        let place = self.below(entries.len().max(1));
-        entries.get(place).copied()
-    }
-
-    /// The shape of one of the entries one time in four, or else another.
-    fn shape_beside(&mut self, entries: &[Entry]) -> Result<Shape, Fail> {
-        match self.entry(entries) {
-            Some(entry) if self.below(4) == 0 => Ok(entry.shape),
-            _ => self.shape(),
-        }
-    }
-
-    /// One of the entries, or sometimes one that has an absent number or shape.
-    fn entry_beside(&mut self, entries: &[Entry], absent: u32) -> Result<Entry, Fail> {
-        let shape = self.shape()?;
-        let number = absent;
-        Ok(match (self.entry(entries), self.below(16)) {
-            (None, _) => Entry { shape, number },
-            (Some(entry), 0) => Entry { number, ..entry },
-            (Some(entry), 1) => Entry { shape, ..entry },
-            (Some(entry), _) => entry,
-        })
-    }
+/// One of the entries, or sometimes one that has an absent number or shape.
+fn entry_beside(random: &mut Random, entries: &[Entry], absent: u32) -> Result<Entry, Fail> {
+    let shape = shape(random)?;
+    let number = absent;
+    Ok(match (one_of(random, entries), random.below(16)) {
+        (None, _) => Entry { shape, number },
+        (Some(entry), 0) => Entry { number, ..entry },
+        (Some(entry), 1) => Entry { shape, ..entry },
+        (Some(entry), _) => entry,
+    })
 }
 
 /// A tree, and a plain list of its entries, ascending by number.
@@ -82,7 +54,7 @@ impl Trial {
         requires { (k : ℕ) → number ≤ k → IsFresh k self.old.tree }
         ensures { IfOk result (λ _. (k : ℕ) → number < k → IsFresh k self.new.tree) }
     {
-        let shape = random.shape_beside(&self.list)?;
+        let shape = shape_beside(random, &self.list)?;
         let entry = Entry { shape, number };
         self.tree.insert(entry)?;
         self.list.push(entry)?;
@@ -94,7 +66,7 @@ impl Trial {
     fn remove(&mut self, random: &mut Random, absent: u32) -> Result<bool, Fail>
         ensures { IfOk result (λ _. (k : ℕ) → IsFresh k self.old.tree → IsFresh k self.new.tree) }
     {
-        let entry = random.entry_beside(&self.list, absent)?;
+        let entry = entry_beside(random, &self.list, absent)?;
         let removed = self.tree.remove(&entry)?;
         Ok(removed == remove_from(&mut self.list, &entry))
     }
@@ -132,7 +104,7 @@ impl Trial {
         }
         let all = Shape::new(-1000, -1000, 2000, 2000).ok_or("a window")?;
         let far = Shape::new(5000, 5000, 6000, 6000).ok_or("a window")?;
-        let (one, two) = (random.shape()?, random.shape()?);
+        let (one, two) = (shape(random)?, shape(random)?);
         for window in [all, far, one, two, one.cover(&two)] {
             if !self.agrees_at(alloc, &window)? {
                 return Err(Fail::new("a window differs"));
@@ -224,17 +196,17 @@ fn visit_leaf(leaf: &Node, fewest: usize, entries: &mut Vec<Entry>) -> Result<bo
 #[test]
 fn mixed_edits(rt: HostRuntime) -> Result<(), Fail> {
     let alloc = rt.alloc();
-    let mut random = Random { state: 1 };
+    let mut random = Random::new(1);
     let mut trial = Trial {
         tree: RTree::new(alloc),
         list: Vec::new(alloc),
     };
     trial.edit(alloc, &mut random, 0, 2000, 6)?;
-    assert_eq!(rt; trial.tree.height(), 4);
+    assert!(rt; trial.tree.height() == 4);
     trial.edit(alloc, &mut random, 2000, 4000, 2)?;
     assert!(rt; trial.tree.height() < 2);
     trial.edit(alloc, &mut random, 4000, 6000, 6)?;
-    assert_eq!(rt; trial.tree.height(), 4);
+    assert!(rt; trial.tree.height() == 4);
     trial.edit(alloc, &mut random, 6000, 8000, 2)?;
     assert!(rt; trial.tree.height() < 2);
     Ok(())

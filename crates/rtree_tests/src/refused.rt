@@ -77,7 +77,7 @@ fn removal_refused(rt: HostRuntime) -> Result<(), Fail> {
     assert!(rt; has_leaves(&tree, &OUTLIER));
     assert!(rt; remove_at_last(&rt, &mut tree, &Squares::Outlier.entry(6), &OUTLIER)?);
     assert!(rt; has_leaves(&tree, &[&[0, 1, 2, 3, 4, 5, 8, 7]]));
-    assert_eq!(rt; tree.height(), 1);
+    assert!(rt; tree.height() == 1);
     Ok(())
 }
 
@@ -109,6 +109,6 @@ fn window_at_last(alloc: Global, window: &Shape) -> Result<Vec<u32>, AllocError>
 fn packing_and_window_refused(rt: HostRuntime) -> Result<(), Fail> {
     let window = Shape::new(5, 0, 8, 0).ok_or("a window")?;
     let numbers = window_at_last(rt.alloc(), &window)?;
-    assert_eq!(rt; numbers.as_slice(), [5, 6, 7, 8].as_slice());
+    assert!(rt; numbers.as_slice() == [5, 6, 7, 8].as_slice());
     Ok(())
 }

@@ -13,8 +13,8 @@ use std::test::Fail;
 fn nine_points(rt: HostRuntime) -> Result<(), Fail> {
     let mut tree = Squares::Crowd.grown(rt.alloc(), 9)?;
     assert!(rt; has_leaves(&tree, &[&[0, 2, 4, 6, 8], &[1, 3, 5, 7]]));
-    assert_eq!(rt; tree.height(), 2);
-    assert_eq!(rt; tree.len(), 9);
+    assert!(rt; tree.height() == 2);
+    assert!(rt; tree.len() == 9);
     assert!(rt; !tree.is_empty());
     tree.insert(Squares::Crowd.entry(9))?;
     assert!(rt; has_leaves(&tree, &[&[0, 2, 4, 6, 8, 9], &[1, 3, 5, 7]]));
@@ -24,7 +24,7 @@ fn nine_points(rt: HostRuntime) -> Result<(), Fail> {
 #[test]
 fn nine_points_split(rt: HostRuntime) -> Result<(), Fail> {
     let mut rest = Squares::Outlier.listed(rt.alloc(), 9)?;
-    assert_eq!(rt; pick_seeds(&rest), (0, 8));
+    assert!(rt; pick_seeds(&rest) == (0, 8));
     let mut one = Vec::with_capacity(rt.alloc(), 9)?;
     let mut two = Vec::with_capacity(rt.alloc(), 9)?;
     split(&mut rest, &mut one, &mut two);
@@ -42,10 +42,7 @@ fn nine_points_split(rt: HostRuntime) -> Result<(), Fail> {
 fn window_extra(rt: HostRuntime) -> Result<(), Fail> {
     let tree = Squares::Crowd.grown(rt.alloc(), 10)?;
     let window = Shape::new(4, 0, 6, 0).ok_or("a window")?;
-    assert_eq!(rt;
-        tree.window(rt.alloc(), &window)?.as_slice(),
-        [4, 5, 6, 9].as_slice()
-    );
+    assert!(rt; tree.window(rt.alloc(), &window)?.as_slice() == [4, 5, 6, 9].as_slice());
     assert!(rt; tree.window(rt.alloc(), &square(9, 1, 1))?.is_empty());
     Ok(())
 }
@@ -55,8 +52,8 @@ fn empty_tree(rt: HostRuntime) -> Result<(), Fail> {
     let tree = RTree::new(rt.alloc());
     assert!(rt; tree.is_empty());
     assert!(rt; tree.root().is_none());
-    assert_eq!(rt; tree.len(), 0);
-    assert_eq!(rt; tree.height(), 0);
+    assert!(rt; tree.len() == 0);
+    assert!(rt; tree.height() == 0);
     assert!(rt; tree.window(rt.alloc(), &square(0, 0, 1))?.is_empty());
     Ok(())
 }
@@ -66,8 +63,8 @@ fn removal_extra_1(rt: HostRuntime) -> Result<(), Fail> {
     let mut tree = Squares::Row.grown(rt.alloc(), 9)?;
     assert!(rt; Squares::Row.removed(&mut tree, &[1, 3])?);
     assert!(rt; has_leaves(&tree, &[&[0, 2, 4, 6, 8, 5, 7]]));
-    assert_eq!(rt; tree.height(), 1);
-    assert_eq!(rt; tree.len(), 7);
+    assert!(rt; tree.height() == 1);
+    assert!(rt; tree.len() == 7);
     assert!(rt; !Squares::Row.removed(&mut tree, &[1])?);
     assert!(rt; has_leaves(&tree, &[&[0, 2, 4, 6, 8, 5, 7]]));
     Ok(())
@@ -79,7 +76,7 @@ fn removal_extra_2(rt: HostRuntime) -> Result<(), Fail> {
     assert!(rt; has_leaves(&tree, &[&[0, 2, 4, 6, 8, 9, 10, 11], &[1, 3, 5, 7]]));
     assert!(rt; Squares::Crowd.removed(&mut tree, &[1, 3])?);
     assert!(rt; has_leaves(&tree, &[&[0, 4, 8, 10, 5, 7], &[2, 6, 9, 11]]));
-    assert_eq!(rt; tree.height(), 2);
+    assert!(rt; tree.height() == 2);
     Ok(())
 }
 
@@ -88,7 +85,7 @@ fn removal_extra_3(rt: HostRuntime) -> Result<(), Fail> {
     let mut tree = Squares::Row.grown(rt.alloc(), 9)?;
     assert!(rt; Squares::Row.removed(&mut tree, &[1, 3, 0, 2, 4, 6, 8, 5, 7])?);
     assert!(rt; tree.root().is_none());
-    assert_eq!(rt; tree.height(), 0);
+    assert!(rt; tree.height() == 0);
     Ok(())
 }
 
@@ -101,13 +98,10 @@ fn packed_twenty(rt: HostRuntime) -> Result<(), Fail> {
         &[14, 15, 16, 17, 18, 19],
     ];
     assert!(rt; has_leaves(&tree, &leaves));
-    assert_eq!(rt; tree.height(), 2);
-    assert_eq!(rt; tree.len(), 20);
+    assert!(rt; tree.height() == 2);
+    assert!(rt; tree.len() == 20);
     let window = Shape::new(5, 0, 8, 0).ok_or("a window")?;
-    assert_eq!(rt;
-        tree.window(rt.alloc(), &window)?.as_slice(),
-        [5, 6, 7, 8].as_slice()
-    );
+    assert!(rt; tree.window(rt.alloc(), &window)?.as_slice() == [5, 6, 7, 8].as_slice());
     let window = Shape::new(20, 0, 21, 5).ok_or("a window")?;
     assert!(rt; tree.window(rt.alloc(), &window)?.is_empty());
     Ok(())
@@ -119,8 +113,8 @@ fn packed_few(rt: HostRuntime) -> Result<(), Fail> {
     assert!(rt; has_leaves(&tree, &[&[0, 1, 2, 3, 4], &[5, 6, 7, 8]]));
     let tree = Squares::Row.packed(rt.alloc(), 0)?;
     assert!(rt; tree.is_empty());
-    assert_eq!(rt; tree.height(), 0);
-    assert_eq!(rt; tree.len(), 0);
+    assert!(rt; tree.height() == 0);
+    assert!(rt; tree.len() == 0);
     Ok(())
 }
 
@@ -131,7 +125,7 @@ fn packed_removals(rt: HostRuntime) -> Result<(), Fail> {
     assert!(rt; has_leaves(&tree, &[&[0, 1, 2, 3, 4], &[6, 7, 8]]));
     assert!(rt; Squares::Row.removed(&mut tree, &[6])?);
     assert!(rt; has_leaves(&tree, &[&[0, 1, 2, 3, 4, 7, 8]]));
-    assert_eq!(rt; tree.height(), 1);
+    assert!(rt; tree.height() == 1);
     assert!(rt; !Squares::Row.removed(&mut tree, &[5])?);
     assert!(rt; has_leaves(&tree, &[&[0, 1, 2, 3, 4, 7, 8]]));
     let mut tree = Squares::Row.packed(rt.alloc(), 1)?;

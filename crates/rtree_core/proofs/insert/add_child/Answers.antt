@@ -7,8 +7,11 @@ pub add-requires-clause-list : goal.add-requires-clause-list
 add-requires-clause-list c =
     page_list (λ n. n.cover) c.args.cover.now c.args.children.now (open_inner c.args.cover.now c.args.children.now c.requires.lawful).inner.page
 
-pub add-requires-clause-two_lists : goal.add-requires-clause-two_lists
-add-requires-clause-two_lists c = omega (arith, c.requires.lists, (open_inner c.args.cover.now c.args.children.now c.requires.lawful).level_is)
+pub add-requires-clause-spare : goal.add-requires-clause-spare
+add-requires-clause-spare c = record {
+  spare = c.requires.spare.spare;
+  enough = omega (arith, c.requires.spare.enough, (open_inner c.args.cover.now c.args.children.now c.requires.lawful).level_is);
+}
 
 pub returns-clause-inserted : goal.returns-clause-inserted
 returns-clause-inserted c =

@@ -1,28 +1,25 @@
-use Rattle.std.proofs.Common.{arith, ◌≡◌, ◌-◌, ◌+◌, map, length}
+use Rattle.std.proofs.Common.{arith, ◌≡◌, ◌-◌, map, length}
 use Rattle.std.proofs.lemmas.List.{length-map, map-append}
 use Rattle.std.proofs.lemmas.List.Sorted.{IsPermutation-map, length_permutation}
 use Rattle.std.specs.List.Sorted.{IsPermutation}
 use Rattle.std.specs.Vec.Iter.{into_iter_items}
 use Rattle.rtree_core.specs.declared.pack.Placed.{Placed}
 use Rattle.rtree_core.specs.declared.node.Node.{Node}
-use Rattle.rtree_core.proofs.PackLemmas.{IsShare, share_at, share_some, share_fits, cut_none, cut_more, cut_all, cut_in_range, through_slice}
+use Rattle.rtree_core.specs.Packed.{IsShare}
+use Rattle.rtree_core.proofs.PackLemmas.{share_some, share_fits, cut_none, cut_more, cut_all, cut_in_range, through_slice}
 use Rattle.rtree_core.proofs.pack.level.Goals as goal
-use Rattle.rtree_core.proofs.pack.level.Goals.{In_ok-nodes, After-items_in-size}
+use Rattle.rtree_core.proofs.pack.level.Goals.{In_ok-nodes, After-page_size-size}
 
-share : (g : _) (c : After-items_in-size g) →
-    IsShare c.items_in-size.result (c.div_ceil-pages.result - (c.loop-place.place + 1)) (length (map g.T.Packable.held (into_iter_items c.loop-place.rest)))
+share : (g : _) (c : After-page_size-size g) →
+    IsShare c.page_size-size.result (length (map g.T.Packable.held (into_iter_items c.loop-place.rest))) (c.div_ceil-pages.result - c.loop-place.place)
 share g c =
-    share_at _ _ _ _ _ c.loop-place-test.true (omega (
-      arith,
-      c.len-in-loop-place.ensures,
-      c.loop-place.rest.rest.ok.0,
-      length-map
-          (into_iter_items c.loop-place.rest) g.T.Packable.held,
-    )) c.items_in-size.ensures.value
+    let len : length (map g.T.Packable.held (into_iter_items c.loop-place.rest)) ≡ c.len-in-loop-place.result = omega
+    (arith, c.len-in-loop-place.ensures, c.loop-place.rest.rest.ok.0, length-map (into_iter_items c.loop-place.rest) g.T.Packable.held) in
+    rw len c.page_size-size.ensures
 
 pub next_page-requires-clause-few : goal.next_page-requires-clause-few
 next_page-requires-clause-few g c =
-    let at = (goal.at.next_page-requires-clause-few g c).After-items_in-size in
+    let at = (goal.at.next_page-requires-clause-few g c).After-page_size-size in
     share_fits _ _ _ _ _ _ _ _ _ _ c.loop-place-test.true c.loop-place.invariant.cut (share g at)
 
 sorted : (g : _) (c : In_ok-nodes g) → IsPermutation (map g.T.Packable.held c.args.items.items)
@@ -32,7 +29,7 @@ sorted g c = IsPermutation-map g.T.Packable.held _ _ (rw (c.into_iter-rest.ensur
 
 pub node_of-node-requires : goal.node_of-node-requires
 node_of-node-requires g c =
-    let at = (goal.at.node_of-node-requires g c).After-items_in-size in
+    let at = (goal.at.node_of-node-requires g c).After-page_size-size in
     let some = share_some _ _ _ _ _ _ _ _ _ _ c.loop-place-test.true (omega (
       arith,
       length_permutation _ _ (sorted g (goal.at.node_of-node-requires g c).In_ok-nodes),
@@ -44,9 +41,9 @@ node_of-node-requires g c =
     )) c.loop-place.invariant.cut (share g at) in
     let few = share_fits _ _ _ _ _ _ _ _ _ _ c.loop-place-test.true c.loop-place.invariant.cut (share g at) in
     record {
-      some = omega (arith, c.in_ok-page.ensures.len, some);
-      few = omega (arith, c.in_ok-page.ensures.len, few);
-      room = c.in_ok-page.ensures.room;
+      some = omega (arith, c.in_ok-page.ensures.page.len, some);
+      few = omega (arith, c.in_ok-page.ensures.page.len, few);
+      room = c.in_ok-page.ensures.page.room;
     }
 
 pub loop-place-init : goal.loop-place-init
@@ -67,14 +64,14 @@ loop-place-init g c = record {
 
 pub loop-place-preserved : goal.loop-place-preserved
 loop-place-preserved g c =
-    let at = (goal.at.loop-place-preserved g c).After-items_in-size in
+    let at = (goal.at.loop-place-preserved g c).After-page_size-size in
     record {
       cut =
           let node : Placed → Node = λ p. p.node in
           rw (c.push_reserved.ensures.items, map-append node)
           (cut_more _ _ _ _ _ _ _ _ _ _ c.in_ok-page.page.items _ c.node_of-node.result c.loop-place-test.true c.loop-place.invariant.cut
-          c.in_ok-page.ensures.taken (rw (← c.in_ok-page.page.ok.0, c.in_ok-page.ensures.len) (share g at)) c.node_of-node.ensures.node
-          c.node_of-node.ensures.packed c.in_ok-page.ensures.in_range);
+          c.in_ok-page.ensures.page.taken (rw (← c.in_ok-page.page.ok.0, c.in_ok-page.ensures.page.len) (share g at)) c.node_of-node.ensures.node
+          c.node_of-node.ensures.packed c.in_ok-page.ensures.page.in_range);
       room = omega (arith, c.push_reserved.ensures.capacity, c.loop-place.invariant.room);
     }
 

@@ -5,10 +5,11 @@ use Rattle.std.proofs.lemmas.Bool.{false≢true}
 use Rattle.std.proofs.lemmas.List.{get_or_default, set-get_or}
 use Rattle.std.proofs.lemmas.List.Elements.{All-weaker}
 use Rattle.geom_core.specs.Cells.{IsIn}
-use Rattle.rtree_core.specs.Limits.{fewest}
+use Rattle.split_core.specs.Limits.{fewest}
 use Rattle.rtree_core.specs.declared.node.Below.TheVariants.{outs-Children}
-use Rattle.rtree_core.specs.Covers.{IsLeastCover}
+use Rattle.split_core.specs.Covers.{IsLeastCover}
 use Rattle.rtree_core.specs.Items.{inner_node}
+use Rattle.rtree_core.specs.Removals.{CanTakeOut}
 use Rattle.rtree_core.specs.Nodes.{entries_of, level_of, size_of, IsLawful, IsLawfulAt}
 use Rattle.rtree_core.proofs.NodeLemmas.{level_inner, lawful_level, lawful_is, top_level, level-le-top}
 use Rattle.rtree_core.proofs.ItemLemmas.{Opened, open_inner, child_level, inner_size, inner_entries}
@@ -20,20 +21,15 @@ use Rattle.rtree_core.proofs.remove.+removal.Goals.{take_from_inner-After-index,
 pub take_from_inner-take_from_one-requires : goal.take_from_inner-take_from_one-requires
 take_from_inner-take_from_one-requires t c =
     let v = c.args.children.now in
-    let o = open_inner c.args.cover.now v c.requires.lawful in
+    let o = open_inner c.args.cover.now v c.requires.can_take_out.lawful in
     let level : level_of (inner_node c.args.cover.now v) ≡ top_level v.items + 1 = level_inner (inner_node c.args.cover.now v) v (outs-Children v) in
     let lawful : All IsLawful v.items = All-weaker (IsLawfulAt o.level) IsLawful (λ n h. lawful_is o.level n h) v.items o.inner.children in
     let two : All (λ n. 2 ≤ size_of n) v.items = All-weaker (λ n. fewest ≤ size_of n) (λ n. 2 ≤ size_of n) (λ n h. omega (arith, h)) v.items o.inner.enough in
     let room : All (λ n. level_of n ≤ vec_capacity c.args.aside.now) v.items = All-weaker (IsLawfulAt o.level)
-    (λ n. level_of n ≤ vec_capacity c.args.aside.now) (λ n h. omega (arith, lawful_level o.level n h, o.level_is, c.requires.room)) v.items
-    o.inner.children in (
-      omega (arith, c.decreases, level, ap top_level c.deref_mut.ensures.value),
-      (
-        rw c.deref_mut.ensures.value
-            lawful,
-        (rw c.deref_mut.ensures.value two, (c.requires.none_aside, rw c.deref_mut.ensures.value room)),
-      ),
-    )
+    (λ n. level_of n ≤ vec_capacity c.args.aside.now) (λ n h. omega (arith, lawful_level o.level n h, o.level_is, c.requires.can_take_out.low)) v.items
+    o.inner.children in
+    let can : All (CanTakeOut (vec_capacity c.args.aside.now)) v.items = λ k d lt. record { lawful = lawful k d lt; two = two k d lt; low = room k d lt } in
+    (omega (arith, c.decreases, level, ap top_level c.deref_mut.ensures.value), (rw c.deref_mut.ensures.value can, c.requires.none_aside))
 
 pub take_from_inner-returns-in_default-clause-held : goal.take_from_inner-returns-in_default-clause-held
 take_from_inner-returns-in_default-clause-held t c =
@@ -50,7 +46,7 @@ take_from_inner-returns-in_default-clause-unchanged t c =
     )
 
 opened : (t : ℕ) (c : take_from_inner-After-index t) → Opened c.args.cover.now c.args.children.now
-opened t c = open_inner c.args.cover.now c.args.children.now c.requires.lawful
+opened t c = open_inner c.args.cover.now c.args.children.now c.requires.can_take_out.lawful
 
 child : (t : ℕ) (c : take_from_inner-After-index t) →
     Written c.args.entry.now c.args.children.now (with_items c.args.children.now c.take_from_one.new.nodes) c.take_from_one.new.aside.items c.in-Some.place
@@ -73,7 +69,7 @@ take_from_inner-push_reserved-requires t c =
       c.take_from_one.new.aside.ok.0,
       (child t at).taken.few,
       c.in-Some.ensures.capacity,
-      c.requires.room,
+      c.requires.can_take_out.low,
       child_level_is t
           at,
       (opened t at).level_is,
@@ -105,7 +101,7 @@ take_from_inner-returns-clause-taken t c =
           (rw b.children-is at tight)
           (omega (arith, b.remove-child.ensures.capacity, (opened t at).inner.page.room))
           (b.remove-child.ensures.items ∙ ap (λ zs. remove zs place) (child t at).items) b.remove-child.ensures.len
-          (omega (arith, c.requires.two, inner_size c.args.cover.now v)) (omega (arith, b.if-size-lt-FEWEST.true, c.size.ensures)))
+          (omega (arith, c.requires.can_take_out.two, inner_size c.args.cover.now v)) (omega (arith, b.if-size-lt-FEWEST.true, c.size.ensures)))
       | take_from_inner-else-size-lt-FEWEST b ↦
           rw (b.children-is, b.aside-is)
           (child_kept c.args.entry.now c.args.cover.now c.cover_all.result v w (opened t at) place x y aside (child t at).inside
@@ -126,16 +122,8 @@ take_from_one-take_out-requires t c =
     let node = c.index-nodes-place.result in (
       omega (arith, c.decreases, level),
       (
-        subst IsLawful (sym same) (c.requires.lawful c.loop-place.place node lt),
-        (
-          subst (λ n. 2 ≤ size_of n) (sym same)
-              (c.requires.two c.loop-place.place node lt),
-          (
-            c.loop-place.invariant.none_aside,
-            omega
-                (arith, ap level_of same, c.requires.room c.loop-place.place node lt, c.loop-place.invariant.capacity),
-          ),
-        ),
+        rw c.loop-place.invariant.capacity (subst (CanTakeOut (vec_capacity c.args.aside.now)) (sym same) (c.requires.can_take_out c.loop-place.place node lt)),
+        c.loop-place.invariant.none_aside,
       ),
     )
 
@@ -155,7 +143,7 @@ take_from_one-loop-place-preserved t c =
     let node = c.index-nodes-place.result in
     let lt = c.loop-place-test.true in
     let at : node ≡ get_or c.args.nodes.now p node = c.index-nodes-place.is ∙ ap (λ xs. get_or xs p node) i.same in
-    let lawful : IsLawful node = subst IsLawful (sym at) (c.requires.lawful p node lt) in
+    let lawful : IsLawful node = subst IsLawful (sym at) (c.requires.can_take_out p node lt).lawful in
     elim c.else-is_in.branch [
       | take_from_one-else-is_in-via-then-is_in+else-take_out w ↦
           let kept = w.take_out.ensures.unchanged w.if-take_out.false in

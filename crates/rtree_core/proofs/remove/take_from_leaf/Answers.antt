@@ -1,7 +1,7 @@
 use Rattle.std.proofs.Common.{arith, refl}
 use Rattle.std.specs.Prelude.{Contains}
 use Rattle.std.proofs.lemmas.Bool.{false≢true}
-use Rattle.rtree_core.specs.Covers.{IsLeastCover}
+use Rattle.split_core.specs.Covers.{IsLeastCover}
 use Rattle.rtree_core.specs.Removals.{IsPlaceOf}
 use Rattle.rtree_core.proofs.ItemLemmas.{leaf_entries}
 use Rattle.rtree_core.proofs.TakeLemmas.{leaf_taken}

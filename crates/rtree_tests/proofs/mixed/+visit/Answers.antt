@@ -3,9 +3,9 @@ use Rattle.rtree_tests.proofs.mixed.+visit.Goals as goal
 
 pub visit-requires : goal.visit-requires
 visit-requires t c =
-    let level = rw (sym c.child-item.is) at (c.children-children.ensures.levels c.requires c.loop-child.child-index c.child-item.result
+    let level = rw (sym c.child-item.is) at ((c.children-children.ensures.lawful c.requires).levels c.loop-child.child-index c.child-item.result
     c.loop-child-test.true) in (
       omega (arith, c.decreases, level),
-      rw (sym c.child-item.is) at (c.children-children.ensures.lawful c.requires c.loop-child.child-index
+      rw (sym c.child-item.is) at ((c.children-children.ensures.lawful c.requires).lawful c.loop-child.child-index
           c.child-item.result c.loop-child-test.true),
     )

@@ -1,5 +1,5 @@
 use Rattle.std.proofs.Common.{arith, ◌∷◌, refl}
-use Rattle.rtree_core.specs.Collections.{Gains}
+use Rattle.split_core.specs.Collections.{Gains}
 use Rattle.rtree_core.specs.Trees.{entries_in}
 use Rattle.rtree_core.proofs.TreeLemmas.{tree_height, tree_loses, same_length}
 use Rattle.rtree_core.proofs.tree.RTree.remove.Goals as goal

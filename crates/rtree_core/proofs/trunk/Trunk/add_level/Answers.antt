@@ -10,7 +10,7 @@ returns c =
     let is : c.args.self.now.root ≡ Some first = sym c.take.ensures.value ∙ c.unwrap-first.ensures in
     let items : c.push_reserved-2.new.self.items ≡ (first ∷ []) ++ c.args.second ∷ [] =
     c.push_reserved-2.ensures.items ∙ ap (λ xs. xs ++ c.args.second ∷ [])
-    (c.push_reserved.ensures.items ∙ ap (λ xs. xs ++ first ∷ []) c.take_list-children.ensures.empty) in
+    (c.push_reserved.ensures.items ∙ ap (λ xs. xs ++ first ∷ []) c.take_list-children.ensures.list.empty) in
     let made = of_two (level_of c.args.second) first c.args.second c.node_of.result (rw is at c.requires.first) c.requires.second
     (rw items at c.node_of.ensures.node) in
     record {

@@ -3,7 +3,7 @@ use Rattle.std.proofs.lemmas.List.Concat.{flat_map-append}
 use Rattle.std.proofs.lemmas.List.{append-nil}
 use Rattle.std.specs.Vec.Iter.{into_iter_items}
 use Rattle.std.specs.List.{flat_map}
-use Rattle.rtree_core.proofs.CoverLemmas.{All-mid}
+use Rattle.split_core.proofs.CoverLemmas.{All-mid}
 use Rattle.rtree_core.proofs.TrunkLemmas.{can_take_less, took_both}
 use Rattle.rtree_core.proofs.trunk.Trunk.insert_all.Goals as goal
 

@@ -3,7 +3,7 @@ use Rattle.std.proofs.lemmas.Bool.Decides.{nat_tests}
 use Rattle.std.proofs.lemmas.List.{append-nil, take_more, length-drop}
 use Rattle.std.proofs.lemmas.List.Concat.{flat_map-append}
 use Rattle.std.specs.List.{flat_map}
-use Rattle.rtree_core.specs.Limits.{fewest}
+use Rattle.split_core.specs.Limits.{fewest}
 use Rattle.rtree_core.specs.Nodes.{entries_of, size_of, IsLawfulAt}
 use Rattle.rtree_core.proofs.TrunkLemmas.{can_take_less, took_both}
 use Rattle.rtree_core.proofs.trunk.Trunk.reinsert.Goals as goal

@@ -1,5 +1,0 @@
-use Rattle.rtree_core.proofs.ChoiceLemmas.{IsLeastSoFar}
-use Rattle.rtree_core.proofs.choices.choose.Given as goal
-
-abbrev pub invariant-loop-place : goal.invariant-loop-place
-invariant-loop-place g l = IsLeastSoFar g.T.Covered.cover l.shape l.items l.place l.best l.least

@@ -1,0 +1,5 @@
+pub mod Areas
+pub mod ChoiceLemmas
+pub mod CoverLemmas
+pub mod SeedLemmas
+pub mod SplitLemmas

@@ -1,0 +1,93 @@
+//! The measures of covers: the cover of a list, what a cover grows to take in a shape, and what two
+//! covers waste together.
+
+ghost use Rattle.std.specs.Prelude.{◌≡◌, ◌<◌, ◌≤◌, length};
+ghost use Rattle.geom_core.specs.Shapes.{greatest_area};
+ghost use Rattle.split_core.specs.Choices as choices;
+ghost use Rattle.split_core.specs.Covers.{IsLeastCover};
+
+use geom_core::{Area, Shape};
+
+/// A difference of areas, which may be below 0.
+pub type AreaDifference = i64;
+
+/// What an R-tree can hold: it has a cover, the smallest shape that contains it.
+pub trait Covered {
+    ghost use Rattle.std.specs.Prelude.{◌≡◌};
+    ghost use Rattle.geom_core.specs.declared.shape.Shape.{Shape};
+
+    ghost cover: { Self → Shape };
+
+    /// The smallest shape that contains it.
+    fn cover(&self) -> Shape
+        ensures { result ≡ cover self.now };
+}
+
+/// The smallest shape that contains the covers of all items.
+pub fn cover_all<T: Covered>(items: &[T]) -> Shape
+    requires { 0 < length items.now }
+    ensures { IsLeastCover T.cover items.now result }
+{
+    let mut cover = items[0].cover();
+    for place in 1..items.len() {
+        cover = cover.cover(&items[place].cover());
+    }
+    cover
+}
+
+/// By how much the area of a cover grows where it takes in a shape.
+#[inline(always)]
+pub fn enlargement(cover: &Shape, shape: &Shape) -> Area
+    ensures growth { result ≡ choices.enlargement cover.now shape.now }
+    ensures bound { result ≤ greatest_area }
+{
+    cover.cover(shape).area() - cover.area()
+}
+
+/// The area of the cover of two shapes beyond their own: below 0 where they overlap much.
+#[inline(always)]
+pub fn waste(one: &Shape, two: &Shape) -> AreaDifference
+    ensures { result ≡ choices.waste one.now two.now }
+{
+    enlargement(one, two) as AreaDifference - two.area() as AreaDifference
+}
+
+/// How far apart two covers are in what they grow to take in a shape.
+#[inline(always)]
+pub(crate) fn difference(one: &Shape, two: &Shape, shape: &Shape) -> Area
+    ensures { result ≡ choices.difference one.now two.now shape.now }
+{
+    enlargement(one, shape).abs_diff(enlargement(two, shape))
+}
+
+/// What a cover needs to take in a shape, least first.
+#[derive(Clone, Copy, PartialEq, Eq, PartialOrd, Ord)]
+pub(crate) struct Need {
+    pub(crate) enlargement: Area,
+    pub(crate) area: Area,
+}
+
+impl Need {
+    ghost use Rattle.std.specs.Prelude.{◌≡◌};
+    ghost use Rattle.geom_core.specs.Shapes.{area_of};
+    ghost use Rattle.split_core.specs.Choices as choices;
+    ghost use Rattle.split_core.specs.Orders.{is_less_need};
+
+    #[inline(always)]
+    pub(crate) fn of(cover: &Shape, shape: &Shape) -> Need
+        ensures enlargement { result.enlargement ≡ choices.enlargement cover.now shape.now }
+        ensures area { result.area ≡ area_of cover.now }
+    {
+        Need {
+            enlargement: enlargement(cover, shape),
+            area: cover.area(),
+        }
+    }
+
+    #[inline(always)]
+    pub(crate) fn is_less(&self, other: &Need) -> bool
+        ensures { result ≡ is_less_need self.now other.now }
+    {
+        self < other
+    }
+}
