@@ -1,0 +1,11 @@
+pub mod FindLemmas
+pub mod LowerLemmas
+pub mod RowLemmas
+pub mod TaskLemmas
+pub mod KeptLemmas
+pub mod RoundLemmas
+pub mod DepthLemmas
+pub mod GoingLemmas
+pub mod ShareLemmas
+pub mod TopLemmas
+pub mod JoinLemmas

@@ -1,0 +1,10 @@
+//! The synchronized descent of two R-trees: the plan of a join's tasks, and the pairs of each.
+#![tactic(auto)]
+
+mod lower;
+mod plan;
+mod rounds;
+mod rows;
+
+pub use plan::{MOST_TASKS, Plan};
+pub use rows::row;

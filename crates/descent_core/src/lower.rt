@@ -1,0 +1,24 @@
+//! What stands one level below a node on the way to its entries.
+
+ghost use Rattle.std.specs.Prelude.{◌≡◌};
+ghost use Rattle.rtree_core.specs.Nodes.{IsLawful};
+ghost use Rattle.descent_core.specs.Depths.{lower};
+ghost use Rattle.descent_core.specs.Steps.{IsOneLower};
+
+use rtree_core::Node;
+use std::slice;
+
+/// The children of a node; a leaf, which has none, stands for itself.
+///
+/// So the four rules of a pair of nodes, by which of the two are leaves, are one.
+pub(crate) fn lower(node: &Node) -> &[Node]
+    requires { IsLawful node.now }
+    ensures nodes { result.now ≡ lower node.now }
+    ensures step { IsOneLower node.now result.now }
+{
+    if node.is_leaf() {
+        slice::from_ref(node)
+    } else {
+        node.children()
+    }
+}

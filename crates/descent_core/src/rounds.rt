@@ -1,0 +1,92 @@
+//! The rounds in which a plan's tasks are made: each goes one level down.
+
+ghost use Rattle.std.specs.Prelude.{◌≤◌, length, map, All, IfOk};
+ghost use Rattle.std.specs.List.{flat_map};
+ghost use Rattle.descent_core.specs.Lists.{pairs};
+ghost use Rattle.descent_core.specs.Depths.{lower_pairs};
+ghost use Rattle.descent_core.specs.Plans.{most_tasks, AreDeepest};
+ghost use Rattle.descent_core.specs.Steps.{nodes_of, AreMeeting, IsNextRound, TakesIn};
+
+use crate::lower::lower;
+use rtree_core::Node;
+use std::alloc::{AllocError, Global};
+
+/// The most tasks of a plan.
+pub const MOST_TASKS: usize = 65_536;
+
+/// A left and a right node.
+pub(crate) type Task<'a> = (&'a Node, &'a Node);
+
+/// Goes down round by round, so many times at most, until a round would make too many tasks.
+pub(crate) fn go_down<'a>(
+    alloc: Global,
+    mut tasks: Vec<Task<'a>>,
+    rounds: u8,
+) -> Result<Vec<Task<'a>>, AllocError>
+    requires few { length tasks.items ≤ most_tasks }
+    requires meeting { All AreMeeting (nodes_of tasks.items) }
+    ensures { let above = nodes_of tasks.entry.items in
+        IfOk result (λ v. AreDeepest above rounds (nodes_of v.items)) }
+{
+    for _ in 0..rounds {
+        match next_round(alloc, &tasks)? {
+            Some(next) => tasks = next,
+            None => return Ok(tasks),
+        }
+    }
+    Ok(tasks)
+}
+
+/// The tasks one level below these, or `None` where they are too many.
+fn next_round<'a>(alloc: Global, tasks: &[Task<'a>]) -> Result<Option<Vec<Task<'a>>>, AllocError>
+    requires { All AreMeeting (nodes_of tasks.now) }
+    ensures { let offered = flat_map lower_pairs (nodes_of tasks.now) in
+        IfOk result (IsNextRound offered) }
+{
+    let mut next = Vec::with_capacity(alloc, tasks.len())?;
+    for &(left, right) in tasks {
+        if !push_lower(lower(left), lower(right), &mut next)? {
+            return Ok(None);
+        }
+    }
+    Ok(Some(next))
+}
+
+/// Adds the pairs of a left and a right node whose covers meet, and says whether there was room.
+fn push_lower<'a>(
+    lefts: &'a [Node],
+    rights: &'a [Node],
+    next: &mut Vec<Task<'a>>,
+) -> Result<bool, AllocError>
+    requires { length next.old.items ≤ most_tasks }
+    ensures { let offered = pairs lefts.now rights.now in
+        IfOk result (TakesIn offered (nodes_of next.old.items) (nodes_of next.new.items)) }
+{
+    for left in lefts {
+        if !push_beside(left, rights, next)? {
+            return Ok(false);
+        }
+    }
+    Ok(true)
+}
+
+/// Adds the pairs of this node and one of those whose covers meet, and says whether there was room.
+fn push_beside<'a>(
+    left: &'a Node,
+    rights: &'a [Node],
+    next: &mut Vec<Task<'a>>,
+) -> Result<bool, AllocError>
+    requires { length next.old.items ≤ most_tasks }
+    ensures { let offered = map (λ right. (left.now, right)) rights.now in
+        IfOk result (TakesIn offered (nodes_of next.old.items) (nodes_of next.new.items)) }
+{
+    for right in rights {
+        if left.cover().meets(&right.cover()) {
+            if next.len() == MOST_TASKS {
+                return Ok(false);
+            }
+            next.push((left, right))?;
+        }
+    }
+    Ok(true)
+}

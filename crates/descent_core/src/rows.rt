@@ -1,0 +1,119 @@
+//! The pairs of a task: the descent of its two subtrees, side by side.
+
+ghost use Rattle.std.specs.Prelude.{◌<◌, [], ◌∷◌, length, All, IfOk, OnOk, IsSomeAnd, slice_get};
+ghost use Rattle.geom_core.specs.JoinRelations.{relation_of};
+ghost use Rattle.std.specs.List.{flat_map};
+ghost use Rattle.rtree_core.specs.Nodes.{entries_of, IsLawful, IsLeaf};
+ghost use Rattle.descent_core.specs.Rows.{IsRow};
+ghost use Rattle.descent_core.specs.Finds.{Adds};
+
+use crate::lower::lower;
+use crate::plan::Plan;
+use geom_core::JoinRelation;
+use rtree_core::{Entry, Node};
+use std::alloc::{AllocError, Global};
+
+/// The number pairs of the entries of a task's two subtrees that stand in the relation, ascending.
+///
+/// The two subtrees are descended side by side, and children whose covers don't meet are left out
+/// (Brinkhoff, Kriegel and Seeger 1993).
+pub fn row(
+    alloc: Global,
+    plan: &Plan<'_>,
+    k: u32,
+    relation: &JoinRelation,
+) -> Result<Vec<(u32, u32)>, AllocError>
+    requires { k < length plan.now }
+    ensures { let task = slice_get plan.now k in
+        IfOk result (λ v. IsSomeAnd task (λ t. IsRow (relation_of relation.now) t v.items)) }
+{
+    let (left, right) = plan.task(k);
+    let mut found = Vec::new(alloc);
+    descend(left, right, relation, &mut found)?;
+    found.sort_unstable();
+    Ok(found)
+}
+
+/// Adds the pairs of two subtrees: of two leaves their entries', else those of what stands below.
+#[cycle(descent)]
+fn descend(
+    left: &Node,
+    right: &Node,
+    relation: &JoinRelation,
+    found: &mut Vec<(u32, u32)>,
+) -> Result<(), AllocError>
+    requires left { IsLawful left.now }
+    requires right { IsLawful right.now }
+    ensures { let es = entries_of left.now in let fs = entries_of right.now in
+        OnOk result (Adds (relation_of relation.now) es fs found.old.items found.new.items) }
+{
+    if left.is_leaf() && right.is_leaf() {
+        return push_entries(left.entries(), right, relation, found);
+    }
+    let rights = lower(right);
+    for child in lower(left) {
+        if child.cover().meets(&right.cover()) {
+            descend_beside(child, rights, relation, found)?;
+        }
+    }
+    Ok(())
+}
+
+/// Adds the pairs of one subtree with each of these.
+#[cycle(descent)]
+fn descend_beside(
+    left: &Node,
+    rights: &[Node],
+    relation: &JoinRelation,
+    found: &mut Vec<(u32, u32)>,
+) -> Result<(), AllocError>
+    requires left { IsLawful left.now }
+    requires rights { All IsLawful rights.now }
+    ensures { let es = entries_of left.now in let fs = flat_map entries_of rights.now in
+        OnOk result (Adds (relation_of relation.now) es fs found.old.items found.new.items) }
+{
+    for right in rights {
+        if left.cover().meets(&right.cover()) {
+            descend(left, right, relation, found)?;
+        }
+    }
+    Ok(())
+}
+
+/// Adds the pairs of these entries with those of a leaf.
+fn push_entries(
+    lefts: &[Entry],
+    right: &Node,
+    relation: &JoinRelation,
+    found: &mut Vec<(u32, u32)>,
+) -> Result<(), AllocError>
+    requires lawful { IsLawful right.now }
+    requires leaf { IsLeaf right.now }
+    ensures { let fs = entries_of right.now in
+        OnOk result (Adds (relation_of relation.now) lefts.now fs found.old.items found.new.items) }
+{
+    for left in lefts {
+        if left.shape.meets(&right.cover()) {
+            push_beside(left, right.entries(), relation, found)?;
+        }
+    }
+    Ok(())
+}
+
+/// Adds the pairs of one entry with each of these.
+fn push_beside(
+    left: &Entry,
+    rights: &[Entry],
+    relation: &JoinRelation,
+    found: &mut Vec<(u32, u32)>,
+) -> Result<(), AllocError>
+    ensures { let es = left.now ∷ [] in let fs = rights.now in
+        OnOk result (Adds (relation_of relation.now) es fs found.old.items found.new.items) }
+{
+    for right in rights {
+        if relation.holds(&left.shape, &right.shape) {
+            found.push((left.number, right.number))?;
+        }
+    }
+    Ok(())
+}
