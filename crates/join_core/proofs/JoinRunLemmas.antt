@@ -1,5 +1,5 @@
 -- The answers of a join of files.
-use Rattle.std.proofs.Common.{◌≡◌, ℕ, List, Option, Some, None, Result, Ok, Err, IsSome, IsErrAnd, IsErrOf, IfErr, IfOk, Vec, Global, ◌↔◌, ◌≢◌, ◌⊎◌, inl, inr, All, get_or, refl, sym, subst, ◌∙◌, map}
+use Rattle.std.proofs.Common.{◌≡◌, ℕ, List, Option, Some, None, Result, Ok, Err, IsSome, IsErrAnd, IsErrOf, IsSomeAnd, IfSome, IsTrue, Bool, true, false, IfErr, IfOk, Vec, Global, ◌↔◌, ◌≢◌, ◌⊎◌, inl, inr, All, get_or, refl, sym, subst, ◌∙◌, map}
 use Rattle.geom_core.specs.declared.relation.Relation.{Relation}
 use Rattle.layer_core.specs.declared.edit.Edit.{Edit as EditType}
 use Rattle.layer_core.specs.declared.fault.LayerFault.{LayerFault}
@@ -8,16 +8,17 @@ use Rattle.layer_core.specs.declared.read_fault.ReadFault.TheVariants.{Io}
 use Rattle.layer_core.specs.Edits.{both, content_of, edits_give}
 use Rattle.layer_core.specs.Layers.{Feature, Contents, with_number}
 use Rattle.join_core.specs.declared.fault.Input.{Input}
-use Rattle.join_core.specs.declared.fault.Input.TheVariants.{First, Second, Left, Right, Edits}
+use Rattle.join_core.specs.declared.fault.Input.TheVariants.{First, Second, Left, Right, Edits, Layer, Window}
 use Rattle.join_core.specs.declared.fault.JoinFault.TheVariants.{Memory as no_join_memory}
 use Rattle.join_core.specs.declared.fault.RunFault.{RunFault}
 use Rattle.join_core.specs.declared.fault.RunFault.TheVariants.{Read, Edit, Join, Write, Memory}
-use Rattle.join_core.specs.JoinRuns.{JoinFiles, LayerFile, EditFile, JoinGives, left_fault, right_fault, edits_fault, edit_refused, reported, BlamesBytes, BlamesEdit, BlamesInput, IsJoinFault, FailedAt}
+use Rattle.join_core.specs.Inputs.{LayerFile, BlamesBytes, BlamesEdit, BlamesInput}
+use Rattle.join_core.specs.JoinRuns.{JoinFiles, EditFile, JoinGives, left_fault, right_fault, edits_fault, edit_refused, reported, IsJoinFault, FailedAt}
 use Rattle.join_core.specs.Joins.{IsJoinList}
 use Rattle.join_core.specs.Reports.{IsHeld, IsReport}
 use Rattle.join_core.proofs.JoinLemmas.{contains_at}
 
-is_some_of : (o : Option Feature) (f : Feature) → o ≡ Some f → IsSome o
+pub is_some_of : (o : Option Feature) (f : Feature) → o ≡ Some f → IsSome o
 is_some_of None f e = absurd (let bad : None ≡ Some f = e in cc)
 is_some_of (Some g) f e = refl
 
@@ -31,7 +32,7 @@ pairs_held relation left right pairs list e joined =
     (is_some_of (with_number (get_or pairs k d).0 left) s.first s.first_held, is_some_of (with_number (get_or pairs k d).1 right) s.second s.second_held))
 
 -- what `?` hands on of a fault that is one of the join's
-handed_on : {T : Type 0} (J : Result (List ℕ) RunFault → Type 0) (out : Result T RunFault) (e is : RunFault) → IsErrAnd out (λ x. x ≡ e) → e ≡ is
+pub handed_on : {T : Type 0} (J : Result (List ℕ) RunFault → Type 0) (out : Result T RunFault) (e is : RunFault) → IsErrAnd out (λ x. x ≡ e) → e ≡ is
     → (BlamesInput is → J (Err is)) → IfErr out (λ x. BlamesInput x → J (Err x))
 handed_on J (Ok x) e is h same gives = absurd h
 handed_on J (Err x) e is h same gives =
@@ -122,3 +123,34 @@ failed_at L R E out left right edits faults Right = right
 failed_at L R E out left right edits faults Edits = edits
 failed_at L R E out left right edits faults First = (no_other out First faults (λ f. absurd), absurd)
 failed_at L R E out left right edits faults Second = (no_other out Second faults (λ f. absurd), absurd)
+failed_at L R E out left right edits faults Layer = (no_other out Layer faults (λ f. absurd), absurd)
+failed_at L R E out left right edits faults Window = (no_other out Window faults (λ f. absurd), absurd)
+
+-- ---- failed sources
+
+module _ {T U : Type 0} (out : Result T RunFault) (i : Input) (P : Type 0) where
+  -- what `?` hands on is a device's fault where it was one
+  pub io_handed_on : (e : RunFault) → IsErrAnd out (λ x. x ≡ e) → IsErrOf {T = U} (Err e) (Read i Io) ↔ P → IsErrOf out (Read i Io) ↔ P
+  io_handed_on e h io = elim out as (λ r. IsErrAnd r (λ x. x ≡ e) → IsErrOf r (Read i Io) ↔ P) [
+    | Ok x ↦ λ h. absurd h
+    | Err x ↦ λ h. ((λ q. io.0 (let is : e ≡ Read i Io = cc in cc)), (λ p. let q = io.1 p in let is : e ≡ Read i Io = cc in cc))
+  ] h
+
+  -- want of memory is none
+  pub io_before : (y : U) → IsErrOf {E = RunFault} (Ok y) (Read i Io) ↔ P → IfErr out (λ e. (e ≡ Join no_join_memory) ⊎ (e ≡ Memory))
+      → IsErrOf out (Read i Io) ↔ P
+  io_before y io err = elim out as (λ r. IfErr r (λ e. (e ≡ Join no_join_memory) ⊎ (e ≡ Memory)) → IsErrOf r (Read i Io) ↔ P) [
+    | Ok x ↦ λ h. ((λ q. absurd cc), (λ p. absurd (let q = io.1 p in cc)))
+    | Err x ↦ λ h. ((λ q. absurd (elim h [ inl is ↦ cc | inr is ↦ cc ])), (λ p. absurd (let q = io.1 p in cc)))
+  ] err
+
+-- the edits' file is as it was where another is at fault
+pub edits_unread : {T E : Type 0} (F : E → Bool) (edits : Option E) (out : Result T RunFault) (e : RunFault) (f : ReadFault)
+    → IfSome edits (λ x. F x ≡ false) → IsErrAnd out (λ x. x ≡ e) → e ≡ Read Right f
+    → IsErrOf out (Read Edits Io) ↔ IsSomeAnd edits (λ x. IsTrue (F x))
+edits_unread F edits (Ok x) e f fresh h is = absurd h
+edits_unread F None (Err x) e f fresh h is = ((λ q. let whole : x ≡ Read Right f = h ∙ is in let bad : x ≡ Read Edits Io = cc in absurd cc), (λ p. absurd p))
+edits_unread F (Some s) (Err x) e f fresh h is = (
+  (λ q. let whole : x ≡ Read Right f = h ∙ is in let bad : x ≡ Read Edits Io = cc in absurd cc),
+  (λ p. absurd (let both : F s ≡ false = fresh in let bad : F s ≡ true = p in cc)),
+)

@@ -1,6 +1,13 @@
+pub mod CsvLemmas
 pub mod JoinLemmas
 pub mod JoinRunLemmas
 pub mod LineLemmas
 pub mod RelatingLemmas
 pub mod ReportLemmas
+pub mod StatsLemmas
+pub mod TreeJoinLemmas
+pub mod TreeWindowLemmas
+pub mod WindowLemmas
+pub mod WindowRunLemmas
+pub mod WindowTextLemmas
 pub mod WrittenLemmas

@@ -10,7 +10,7 @@ use Rattle.join_core.specs.declared.fault.RunFault.TheVariants.{Wkt}
 use Rattle.join_core.specs.Relating.{HasFirstFault}
 
 -- nothing else is read from the text
-abbrev ReadsOnly : List ℕ → Result Shape WktFault → Type 0
+abbrev pub ReadsOnly : List ℕ → Result Shape WktFault → Type 0
 ReadsOnly text read = (answer : Result Shape WktFault) → Reads text answer → read ≡ answer
 
 -- the first text is at fault

@@ -1,17 +1,16 @@
 -- The rows of a report.
-use Rattle.std.proofs.Common.{◌≡◌, ℕ, List, [], ◌∷◌, ◌++◌, Option, Some, None, Result, Ok, Err, OnOk, sym, ap, subst, ◌∙◌, refl, Vec, Global, ◌+◌, ◌<◌, ◌≤◌, length, get_or, take, append-nil, take_all}
+use Rattle.std.proofs.Common.{◌≡◌, ℕ, List, [], ◌∷◌, ◌++◌, Option, Some, None, Result, Ok, Err, OnOk, sym, ap, subst, ◌∙◌, refl, Vec, Global, ◌+◌, ◌<◌, ◌≤◌, length, get_or, take, take_all}
 use Rattle.std.specs.Borrow.{Bor}
 use Rattle.geom_core.specs.declared.shape.Shape.{Shape}
 use Rattle.geom_core.specs.declared.matrix.Matrix.{Matrix}
 use Rattle.geom_core.specs.Matrices.{IsMatrix, letters_of}
 use Rattle.layer_core.specs.Layers.{Feature, Contents, with_number, IdAndShapeAre}
-use Rattle.csv.specs.Writing.{row_text, default_writer, text_written}
-use Rattle.std.specs.Io.KnownBytes.{Appends, Keeps}
-use Rattle.join_core.specs.Reports.{IsRow, IsReport, header, csv_text}
-use Rattle.join_core.specs.CsvWriting.{IsBetweenRecords}
 use Rattle.csv.specs.declared.writer.Writer.{Writer}
+use Rattle.join_core.specs.CsvTexts.{csv_text}
+use Rattle.join_core.specs.CsvWriting.{HasRows, AddsRow}
+use Rattle.join_core.specs.Reports.{IsRow, IsReport, header}
 use Rattle.std.specs.List.{AllZip}
-use Rattle.std.proofs.lemmas.List.{flat_map_more, take_more}
+use Rattle.std.proofs.lemmas.List.{take_more}
 use Rattle.std.proofs.lemmas.Slice.Zip.{all_zipped_more}
 
 -- the feature that a look-up found
@@ -35,13 +34,14 @@ found (Some q) (Some f) p h e =
     }
 
 -- the record of a pair was written
-pub row_written : {T E : Type 0} (r : Result T E) (old new : Option (List ℕ)) (left right : Contents) (pair : ℕ × ℕ) (x y : Bor (List ℕ) × Shape) (m : Matrix)
+pub pair_row : {T E : Type 0} (r : Result T E) (old new : Writer (Vec ℕ Global)) (left right : Contents) (pair : ℕ × ℕ)
+    (x y : Bor (List ℕ) × Shape) (m : Matrix)
     (first_id second_id letters : List ℕ) → Found (with_number pair.0 left) x → Found (with_number pair.1 right) y → IsMatrix x.1 y.1 m
     → first_id ≡ x.0.now → second_id ≡ y.0.now → letters ≡ letters_of m
-    → OnOk r (Appends old new (row_text default_writer (first_id ∷ second_id ∷ letters ∷ [])))
-    → OnOk r ((row : List (List ℕ)) × IsRow left right pair row × Appends old new (row_text default_writer row))
-row_written (Err e) old new left right pair x y m first_id second_id letters f g related p q l h = tt
-row_written (Ok u) old new left right pair x y m first_id second_id letters f g related p q l h = (
+    → OnOk r (AddsRow old new (first_id ∷ second_id ∷ letters ∷ []))
+    → OnOk r ((row : List (List ℕ)) × IsRow left right pair row × AddsRow old new row)
+pair_row (Err e) old new left right pair x y m first_id second_id letters f g related p q l h = tt
+pair_row (Ok u) old new left right pair x y m first_id second_id letters f g related p q l h = (
   first_id ∷ second_id ∷ letters ∷ [],
   record {
     first = f.feature;
@@ -55,53 +55,33 @@ row_written (Ok u) old new left right pair x y m first_id second_id letters f g 
   h,
 )
 
--- what a writer over memory tells
-abbrev pub vec_contents : Vec ℕ Global → Option (List ℕ)
-vec_contents v = Some v.items
-
 -- the header and the records of the pairs so far
 pub record HasReport (writer : Writer (Vec ℕ Global)) (left right : Contents) (pairs : List (ℕ × ℕ)) : Type 0 where
-  pub between : IsBetweenRecords writer
   pub rows : List (List (List ℕ))
   pub are_rows : AllZip (IsRow left right) pairs rows
-  pub written : text_written vec_contents writer ≡ Some (csv_text (header ∷ rows))
+  pub written : HasRows writer (header ∷ rows)
 
-appended : (old new : Option (List ℕ)) (before more : List ℕ) → old ≡ Some before → Appends old new more → new ≡ Some (before ++ more)
-appended None new before more p h = absurd (let bad : None ≡ Some before = p in cc)
-appended (Some x) None before more p h = absurd h
-appended (Some x) (Some y) before more p h = let same : x ≡ before = cc in ap Some (h ∙ ap (λ l. l ++ more) same)
-
-pub header_written : (old writer : Writer (Vec ℕ Global)) (left right : Contents) → text_written vec_contents old ≡ Some [] → IsBetweenRecords writer
-    → Appends (text_written vec_contents old) (text_written vec_contents writer) (row_text default_writer header) → HasReport writer left right []
-header_written old writer left right empty between h = record {
-  between = between;
-  rows = [];
-  are_rows = tt;
-  written = appended _ _ [] (row_text default_writer header) empty h ∙ ap Some (sym (append-nil (row_text default_writer header)));
-}
+pub header_written : (old writer : Writer (Vec ℕ Global)) (left right : Contents) → HasRows old [] → AddsRow old writer header
+    → HasReport writer left right []
+header_written old writer left right empty more = record { rows = []; are_rows = tt; written = more [] empty }
 
 pub pair_written : (old writer : Writer (Vec ℕ Global)) (left right : Contents) (pairs : List (ℕ × ℕ)) (i : ℕ) (pair : ℕ × ℕ) → i < length pairs
     → pair ≡ get_or pairs i (0, 0)
-    → HasReport old left right (take i pairs) → IsBetweenRecords writer
-    → ((row : List (List ℕ)) × IsRow left right pair row × Appends (text_written vec_contents old) (text_written vec_contents writer)
-    (row_text default_writer row))
+    → HasReport old left right (take i pairs) → ((row : List (List ℕ)) × IsRow left right pair row × AddsRow old writer row)
     → HasReport writer left right (take (i + 1) pairs)
-pair_written old writer left right pairs i pair within at so_far between h = record {
-  between = between;
+pair_written old writer left right pairs i pair within at so_far h = record {
   rows = so_far.rows ++ h.0 ∷ [];
   are_rows = subst (λ (l : List (ℕ × ℕ)). AllZip (IsRow left right) l (so_far.rows ++ h.0 ∷ []))
       (ap (λ p. take i pairs ++ p ∷ []) at ∙ sym (take_more pairs i (0, 0) within))
       (all_zipped_more (IsRow left right) (take i pairs) so_far.rows pair h.0 so_far.are_rows h.1);
-  written = appended _ _ (csv_text (header ∷ so_far.rows)) (row_text default_writer h.0) so_far.written h.2
-      ∙ ap Some (flat_map_more (row_text default_writer) [] (header ∷ so_far.rows) h.0);
+  written = h.2 (header ∷ so_far.rows) so_far.written;
 }
 
-pub report_written : (writer : Writer (Vec ℕ Global)) (text : Vec ℕ Global) (left right : Contents) (pairs : List (ℕ × ℕ)) (i : ℕ) → length pairs ≤ i
+pub report_written : (writer : Writer (Vec ℕ Global)) (text : List ℕ) (left right : Contents) (pairs : List (ℕ × ℕ)) (i : ℕ) → length pairs ≤ i
     → HasReport writer left right (take i pairs)
-    → Keeps (text_written vec_contents writer) (vec_contents text) → IsReport left right pairs text.items
+    → ((rows : List (List (List ℕ))) → HasRows writer rows → text ≡ csv_text rows) → IsReport left right pairs text
 report_written writer text left right pairs i all so_far kept = record {
   rows = so_far.rows;
   are_rows = subst (λ (l : List (ℕ × ℕ)). AllZip (IsRow left right) l so_far.rows) (take_all i pairs all) so_far.are_rows;
-  written = let known : Keeps (Some (csv_text (header ∷ so_far.rows))) (vec_contents text) = subst (λ (o : Option (List ℕ)). Keeps o
-      (vec_contents text)) so_far.written kept in known;
+  written = kept (header ∷ so_far.rows) so_far.written;
 }

@@ -3,7 +3,7 @@ use Rattle.std.specs.Prelude.{ℕ, List, ◌++◌, codes}
 use Rattle.wkt_core.specs.FaultTexts.{wkt_text}
 use Rattle.layer_core.specs.FaultTexts.{layer_text, read_text, row_text}
 use Rattle.join_core.specs.declared.fault.Input.{Input}
-use Rattle.join_core.specs.declared.fault.Input.TheVariants.{First, Second, Left, Right, Edits}
+use Rattle.join_core.specs.declared.fault.Input.TheVariants.{First, Second, Left, Right, Edits, Layer, Window}
 use Rattle.join_core.specs.declared.fault.JoinFault.{JoinFault}
 use Rattle.join_core.specs.declared.fault.JoinFault.TheVariants as join
 use Rattle.join_core.specs.declared.fault.RunFault.{RunFault}
@@ -15,6 +15,8 @@ input_word Second = codes "second"
 input_word Left = codes "left"
 input_word Right = codes "right"
 input_word Edits = codes "edits"
+input_word Layer = codes "layer"
+input_word Window = codes "window"
 
 abbrev pub join_text : JoinFault → List ℕ
 join_text join.Memory = codes "no memory"

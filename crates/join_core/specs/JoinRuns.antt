@@ -2,17 +2,15 @@
 use Rattle.std.specs.Prelude.{◌≡◌, ⊤, ℕ, List, [], Option, Some, None, Result, Ok, Err, IfSome}
 use Rattle.geom_core.specs.declared.relation.Relation.{Relation}
 use Rattle.layer_core.specs.declared.fault.LayerFault.{LayerFault}
-use Rattle.layer_core.specs.declared.fault.LayerFault.TheVariants as layer_faults
 use Rattle.layer_core.specs.declared.read_fault.ReadFault.{ReadFault}
-use Rattle.layer_core.specs.declared.read_fault.ReadFault.TheVariants as read_faults
 use Rattle.layer_core.specs.Layers.{Contents}
 use Rattle.layer_core.specs.Edits.{EditContent, Layers, both, edits_give}
 use Rattle.layer_core.specs.EditFiles.{IsEditFile}
-use Rattle.layer_core.specs.LayerFiles.{IsLayerFile}
 use Rattle.join_core.specs.declared.fault.Input.{Input}
 use Rattle.join_core.specs.declared.fault.Input.TheVariants.{Left, Right, Edits}
 use Rattle.join_core.specs.declared.fault.RunFault.{RunFault}
 use Rattle.join_core.specs.declared.fault.RunFault.TheVariants.{Read, Edit, Join, Memory}
+use Rattle.join_core.specs.Inputs.{LayerFile}
 use Rattle.join_core.specs.Joins.{IsJoinList}
 use Rattle.join_core.specs.Reports.{IsReport}
 
@@ -31,10 +29,6 @@ abbrev pub files_of : {E : Type 0} → Option (List ℕ) → Option (List ℕ)
     → (E → Option (List ℕ)) → Option E → JoinFiles
 files_of left right remaining edits =
     record { left = left; right = right; edits = bytes_of remaining edits }
-
--- what a file of a layer gives, where its bytes are known
-abbrev pub LayerFile : Option (List ℕ) → Result Contents ReadFault → Type 0
-LayerFile known answer = IfSome known (λ bytes. IsLayerFile bytes answer)
 
 -- what a file of edits gives: no edits where there is none
 abbrev pub EditFile : Option (Option (List ℕ)) → Result (List EditContent) ReadFault → Type 0
@@ -68,21 +62,6 @@ pub data JoinGives (relation : Relation) (files : JoinFiles)
 -- the report that a join of these files gives
 abbrev pub IsJoinText : Relation → JoinFiles → List ℕ → Type 0
 IsJoinText relation files text = JoinGives relation files (Ok text)
-
--- a fault of an input's bytes, and not of a device or of memory
-abbrev pub BlamesBytes : ReadFault → Type 0
-BlamesBytes read_faults.Io = ⊥
-BlamesBytes read_faults.Memory = ⊥
-BlamesBytes _ = ⊤
-
-abbrev pub BlamesEdit : LayerFault → Type 0
-BlamesEdit layer_faults.Memory = ⊥
-BlamesEdit _ = ⊤
-
-abbrev pub BlamesInput : RunFault → Type 0
-BlamesInput (Read input f) = BlamesBytes f
-BlamesInput (Edit row f) = BlamesEdit f
-BlamesInput _ = ⊥
 
 -- a fault that a join of files may have, that of its sink aside
 abbrev pub IsJoinFault : RunFault → Type 0

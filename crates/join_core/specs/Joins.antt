@@ -1,12 +1,9 @@
 -- The pairs of two layers that stand in a relation.
-use Rattle.std.specs.Prelude.{◌≡◌, ◌<◌, ◌⊎◌, ◌↔◌, ℕ, List, Some, AllPairs, Contains}
+use Rattle.std.specs.Prelude.{◌≡◌, ◌↔◌, ℕ, List, Some, AllPairs, Contains}
 use Rattle.geom_core.specs.declared.relation.Relation.{Relation}
 use Rattle.geom_core.specs.Relations.{Holds}
 use Rattle.layer_core.specs.Layers.{Feature, Contents, with_number}
-
--- by left and then by right number
-abbrev pub Precedes : ℕ × ℕ → ℕ × ℕ → Type 0
-Precedes p q = (p.0 < q.0) ⊎ ((p.0 ≡ q.0) × (p.1 < q.1))
+use Rattle.descent_core.specs.Rows.{Precedes}
 
 -- the features with these numbers stand in the relation
 pub record StandIn (relation : Relation) (left right : Contents) (pair : ℕ × ℕ) : Type 0 where

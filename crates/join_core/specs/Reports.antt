@@ -1,10 +1,10 @@
 -- The report of pairs of features.
 use Rattle.std.specs.Prelude.{◌≡◌, ℕ, List, [], ◌∷◌, Some, IsSome, codes}
-use Rattle.std.specs.List.{AllZip, flat_map}
-use Rattle.csv.specs.Writing.{row_text, default_writer}
+use Rattle.std.specs.List.{AllZip}
 use Rattle.geom_core.specs.declared.matrix.Matrix.{Matrix}
 use Rattle.geom_core.specs.Matrices.{IsMatrix, letters_of}
 use Rattle.layer_core.specs.Layers.{Feature, Contents, with_number}
+use Rattle.join_core.specs.CsvTexts.{csv_text}
 
 -- the layers hold features with these numbers
 abbrev pub IsHeld : Contents → Contents → ℕ × ℕ → Type 0
@@ -22,10 +22,6 @@ pub record IsRow (left right : Contents) (pair : ℕ × ℕ) (row : List (List �
 
 abbrev pub header : List (List ℕ)
 header = codes "left" ∷ codes "right" ∷ codes "matrix" ∷ []
-
--- records as CSV (RFC 4180, 2), with quotes where they are needed and line feeds
-abbrev pub csv_text : List (List (List ℕ)) → List ℕ
-csv_text rows = flat_map (row_text default_writer) rows
 
 -- the header, and a record for each pair in turn
 pub record IsReport (left right : Contents) (pairs : List (ℕ × ℕ)) (text : List ℕ) : Type 0 where

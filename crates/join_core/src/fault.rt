@@ -23,6 +23,10 @@ pub enum Input {
     Right,
     /// The list of edits.
     Edits,
+    /// A layer that is asked about.
+    Layer,
+    /// The geometry of a window.
+    Window,
 }
 
 impl Input {
@@ -40,6 +44,8 @@ impl Input {
             Input::Left => "left",
             Input::Right => "right",
             Input::Edits => "edits",
+            Input::Layer => "layer",
+            Input::Window => "window",
         }
     }
 }

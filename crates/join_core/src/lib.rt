@@ -2,16 +2,22 @@
 //! the files to the bytes that are written.
 #![tactic(auto)]
 
+mod csv_rows;
 mod fault;
 mod fault_text;
-mod join;
+mod joins;
+mod layer_input;
 mod options;
 mod relate;
+mod stats;
+mod window;
 mod writing;
 
 pub use fault::{Input, JoinFault, RunFault};
 pub use fault_text::fault_line;
-pub use join::{apply_edits, join_pairs, report_text, run_join};
+pub use joins::{apply_edits, join, report_text, run_join};
 pub use options::{MAX_BATCH, MAX_CUT, MAX_WORKERS, OptionFault, Options};
 pub use relate::run_relate;
+pub use stats::run_stats;
+pub use window::run_window;
 pub use writing::{Line, ROOM, Sink, ToWrite, WriteFailed, write_text};

@@ -9,12 +9,12 @@ use wkt_core::WktFault;
 /// Checks the line of a fault, and that the fault shows as that line says it.
 fn check_line(rt: &(impl Abort + AllocGlobal), fault: &RunFault, text: &str) -> Result<(), Fail> {
     let mut sink = ToWrite::new(Vec::new(rt.alloc()));
-    assert_eq!(rt; fault_line(fault, &mut sink), Ok(()));
+    assert!(rt; fault_line(fault, &mut sink) == Ok(()));
     let written: Vec<u8> = sink.into_inner();
     let line = format!(in rt.alloc(); "rjoin: {text}\n")?;
-    assert_eq!(rt; written.as_slice(), line.as_bytes());
+    assert!(rt; written.as_slice() == line.as_bytes());
     let shown = format!(in rt.alloc(); "{fault}")?;
-    assert_eq!(rt; shown.as_str(), text);
+    assert!(rt; shown.as_str() == text);
     Ok(())
 }
 
@@ -24,6 +24,11 @@ fn files_and_texts(rt: HostRuntime) -> Result<(), Fail> {
         (RunFault::NoFile(Input::Left), "left: cannot be opened"),
         (RunFault::NoFile(Input::Right), "right: cannot be opened"),
         (RunFault::NoFile(Input::Edits), "edits: cannot be opened"),
+        (RunFault::NoFile(Input::Layer), "layer: cannot be opened"),
+        (
+            RunFault::Wkt(Input::Window, WktFault::Text),
+            "window: not a geometry text",
+        ),
         (
             RunFault::Wkt(Input::First, WktFault::Text),
             "first: not a geometry text",

@@ -3,7 +3,7 @@
 use crate::device::make_device;
 use geom_core::{JoinRelation, Relation};
 use join_core::{Input, Options, RunFault, ToWrite, run_join};
-use layer_core::{FromRead, LayerFault, ReadFault};
+use layer_core::{FromRead, Layer, LayerFault, ReadFault, layer_of_bytes};
 use std::hash::RandomState;
 use std::test::Fail;
 use wkt_core::WktFault;
@@ -64,8 +64,8 @@ fn join_touches(rt: HostRuntime) -> Result<(), Fail> {
             for cut in [0, 8] {
                 let options = Options::new(workers, batch, cut)?;
                 let (outcome, written) = join(&rt, &files, &options)?;
-                assert_eq!(rt; outcome, Ok(()));
-                assert_eq!(rt; written.as_slice(), REPORT.as_bytes());
+                assert!(rt; outcome == Ok(()));
+                assert!(rt; written.as_slice() == REPORT.as_bytes());
             }
         }
     }
@@ -80,8 +80,8 @@ fn empty_layers(rt: HostRuntime) -> Result<(), Fail> {
         edits: None,
     };
     let (outcome, written) = join(&rt, &files, &Options::new(4, 256, 2)?)?;
-    assert_eq!(rt; outcome, Ok(()));
-    assert_eq!(rt; written.as_slice(), HEADER.as_bytes());
+    assert!(rt; outcome == Ok(()));
+    assert!(rt; written.as_slice() == HEADER.as_bytes());
     Ok(())
 }
 
@@ -95,9 +95,9 @@ fn join_with_edits(rt: HostRuntime) -> Result<(), Fail> {
         edits: Some(edits.as_str()),
     };
     let (outcome, written) = join(&rt, &files, &Options::new(4, 256, 2)?)?;
-    assert_eq!(rt; outcome, Ok(()));
+    assert!(rt; outcome == Ok(()));
     let report = "left,right,matrix\nb,x,F0FFFF212\na,x,FF2F01212\na,z,FF2101102\n";
-    assert_eq!(rt; written.as_slice(), report.as_bytes());
+    assert!(rt; written.as_slice() == report.as_bytes());
 
     let edits = format!(in rt.alloc(); "op,layer,id,wkt\n{insertion}")?;
     let files = Files {
@@ -106,7 +106,7 @@ fn join_with_edits(rt: HostRuntime) -> Result<(), Fail> {
         edits: Some(edits.as_str()),
     };
     let (outcome, written) = join(&rt, &files, &Options::new(4, 256, 2)?)?;
-    assert_eq!(rt; outcome, Err(RunFault::Edit(1, LayerFault::DoubleId)));
+    assert!(rt; outcome == Err(RunFault::Edit(1, LayerFault::DoubleId)));
     assert!(rt; written.is_empty());
     Ok(())
 }
@@ -136,7 +136,7 @@ fn first_bad_file_is_answered(rt: HostRuntime) -> Result<(), Fail> {
         ),
     ] {
         let (outcome, written) = join(&rt, &Files { left, right, edits }, &options)?;
-        assert_eq!(rt; outcome, Err(fault));
+        assert!(rt; outcome == Err(fault));
         assert!(rt; written.is_empty());
     }
     Ok(())
@@ -160,10 +160,31 @@ fn report_to_failing_device(rt: HostRuntime) -> Result<(), Fail> {
             &mut sink,
         );
         let fits = room >= REPORT.len();
-        assert_eq!(rt; outcome, if fits { Ok(()) } else { Err(RunFault::Write) });
+        assert!(rt; outcome == if fits { Ok(()) } else { Err(RunFault::Write) });
         let written = sink.into_inner().taken;
         let front = REPORT.as_bytes().get(..room.min(REPORT.len()));
-        assert_eq!(rt; Some(written.as_slice()), front);
+        assert!(rt; Some(written.as_slice()) == front);
     }
+    Ok(())
+}
+
+/// A layer that is read, again where memory is refused.
+fn layer(rt: &HostRuntime, text: &str) -> Result<Layer, Fail> {
+    match layer_of_bytes(rt.alloc(), RandomState::new(rt)?, text.as_bytes()) {
+        Ok(layer) => Ok(layer),
+        Err(_) => Ok(layer_of_bytes(rt.alloc(), RandomState::new(rt)?, text.as_bytes())?),
+    }
+}
+
+// Run with each allocation failing in turn, it ends as with ample memory.
+#[test]
+fn join_without_memory(rt: HostRuntime) -> Result<(), Fail> {
+    let (left, right) = (layer(&rt, LEFT)?, layer(&rt, RIGHT)?);
+    let (relation, options) = (touches()?, Options::new(1, 1, 2)?);
+    let pairs = match join_core::join(rt.alloc(), &left, &right, &relation, &options) {
+        Ok(pairs) => pairs,
+        Err(_) => join_core::join(rt.alloc(), &left, &right, &relation, &options)?,
+    };
+    assert!(rt; pairs.as_slice() == [(0, 0), (0, 2), (1, 0)].as_slice());
     Ok(())
 }

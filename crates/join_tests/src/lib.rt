@@ -6,7 +6,11 @@ mod device;
 #[cfg(test)]
 mod fault_lines;
 #[cfg(test)]
+mod join_scan;
+#[cfg(test)]
 mod joining;
+#[cfg(test)]
+mod layer_runs;
 #[cfg(test)]
 mod options;
 #[cfg(test)]

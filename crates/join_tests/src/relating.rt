@@ -85,7 +85,7 @@ fn canonical_only(rt: HostRuntime) -> Result<(), Fail> {
     let mut sink = ToWrite::new(Vec::new(rt.alloc()));
     let fault = RunFault::Wkt(Input::First, WktFault::Text);
     let outcome = run_relate(b"POINT (4 4", b"POINT (5 4)", &mut sink);
-    assert_eq!(rt; outcome, Err(fault));
+    assert!(rt; outcome == Err(fault));
     let written: Vec<u8> = sink.into_inner();
     assert!(rt; written.is_empty());
     Ok(())
@@ -95,9 +95,9 @@ fn canonical_only(rt: HostRuntime) -> Result<(), Fail> {
 fn first_fault_is_answered(rt: HostRuntime) {
     let mut sink = ToWrite::new(Vec::new(rt.alloc()));
     let outcome = run_relate(b"POINT (1.5 0)", b"", &mut sink);
-    assert_eq!(rt; outcome, Err(RunFault::Wkt(Input::First, WktFault::Number)));
+    assert!(rt; outcome == Err(RunFault::Wkt(Input::First, WktFault::Number)));
     let outcome = run_relate(b"POINT (1 0)", b"LINESTRING (0 0, 1 1)", &mut sink);
-    assert_eq!(rt; outcome, Err(RunFault::Wkt(Input::Second, WktFault::Form)));
+    assert!(rt; outcome == Err(RunFault::Wkt(Input::Second, WktFault::Form)));
 }
 
 #[test]
@@ -109,16 +109,16 @@ fn devices_that_fail(rt: HostRuntime) {
             let mut sink = make_device(alloc, room, step);
             let outcome = run_relate(b"POINT (4 4)", b"POINT (5 4)", &mut sink);
             let fits = room >= line.len();
-            assert_eq!(rt; outcome, if fits { Ok(()) } else { Err(RunFault::Write) });
-            assert_eq!(rt; sink.failed(), !fits);
+            assert!(rt; outcome == if fits { Ok(()) } else { Err(RunFault::Write) });
+            assert!(rt; sink.failed() == !fits);
             let written = sink.into_inner().taken;
-            assert_eq!(rt; written.as_slice(), &line[..room.min(line.len())]);
+            assert!(rt; written.as_slice() == &line[..room.min(line.len())]);
         }
     }
     let mut sink = make_device(alloc, 5, 100);
-    assert_eq!(rt; fault_line(&RunFault::Write, &mut sink), Err(WriteFailed));
+    assert!(rt; fault_line(&RunFault::Write, &mut sink) == Err(WriteFailed));
     let written = sink.into_inner().taken;
-    assert_eq!(rt; written.as_slice(), b"rjoin".as_slice());
+    assert!(rt; written.as_slice() == b"rjoin".as_slice());
 }
 
 /// A writer that takes all bytes, and whose flush fails.
@@ -139,6 +139,6 @@ impl Write for Unflushed {
 fn flush_that_fails(rt: HostRuntime) {
     let mut sink = ToWrite::new(Unflushed);
     let outcome = run_relate(b"POINT (4 4)", b"POINT (5 4)", &mut sink);
-    assert_eq!(rt; outcome, Err(RunFault::Write));
+    assert!(rt; outcome == Err(RunFault::Write));
     assert!(rt; sink.failed());
 }

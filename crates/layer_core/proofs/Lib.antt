@@ -5,3 +5,4 @@ pub mod RecordLemmas
 pub mod FieldLemmas
 pub mod HeaderLemmas
 pub mod FileLemmas
+pub mod LayerTreeLemmas

@@ -3,6 +3,7 @@ pub mod Edits
 pub mod FaultTexts
 pub mod Fields
 pub mod LayerFiles
+pub mod LayerTrees
 pub mod Layers
 pub mod Limits
 pub mod MapAndSlots
@@ -10,4 +11,5 @@ pub mod Records
 pub mod Refusals
 pub mod Rows
 pub mod Sources
+pub mod Statistics
 pub mod Walks

@@ -32,6 +32,11 @@ abbrev pub contents_of : List (String Global) → List (Option Slot) → Content
 contents_of keys slots =
     record { features = features_from (ids_of keys) 0 slots; next = length slots }
 
+-- what is seen of a layer's features: their list, and how many more need no memory
+pub record FeaturesState : Type 0 where
+  pub list : Contents
+  pub room : ℕ
+
 -- where the ids of the features stand, by number
 abbrev pub places : List (Option Slot) → List (Option ℕ)
 places slots = map (option_map (λ slot. slot.place)) slots

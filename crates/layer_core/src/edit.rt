@@ -43,11 +43,12 @@ impl Edit {
     /// Edits the layer on its side, by [`Layer::insert`] or [`Layer::remove`], whose refusals it
     /// answers. A refusal changes neither layer.
     pub fn apply(&self, left: &mut Layer, right: &mut Layer) -> Result<(), LayerFault>
-        ensures ok { OnOk result (both left.new right.new
-            ≡ edited_layers (both left.old right.old) (content_of self.now)) }
-        ensures err { OnErr result (both left.new right.new ≡ both left.old right.old) }
+        ensures ok { OnOk result (both left.new.list right.new.list
+            ≡ edited_layers (both left.old.list right.old.list) (content_of self.now)) }
+        ensures err_left { OnErr result (left.new ≡ left.old) }
+        ensures err_right { OnErr result (right.new ≡ right.old) }
         ensures refused { AnswersWith
-            (edit_refusal (both left.old right.old) (content_of self.now)) result }
+            (edit_refusal (both left.old.list right.old.list) (content_of self.now)) result }
     {
         match self.side() {
             Side::Left => self.apply_to(left),
@@ -57,9 +58,9 @@ impl Edit {
 
     // Edits this layer, whichever side it is on.
     fn apply_to(&self, layer: &mut Layer) -> Result<(), LayerFault>
-        ensures ok { OnOk result (layer.new ≡ edited layer.old (content_of self.now)) }
+        ensures ok { OnOk result (layer.new.list ≡ edited layer.old.list (content_of self.now)) }
         ensures err { OnErr result (layer.new ≡ layer.old) }
-        ensures refused { AnswersWith (refusal layer.old (content_of self.now)) result }
+        ensures refused { AnswersWith (refusal layer.old.list (content_of self.now)) result }
     {
         match self {
             Edit::Insert { id, shape, .. } => layer.insert(id.as_str(), *shape),

@@ -38,14 +38,19 @@ pub(crate) struct Features {
 }
 
 impl Model for Features {
-    ghost use Rattle.layer_core.specs.Layers.{Contents};
+    ghost use Rattle.layer_core.specs.MapAndSlots.{FeaturesState};
 
-    ghost Value = { Contents };
+    ghost Value = { FeaturesState };
 
+    ghost use Rattle.std.specs.Prelude.{◌-◌, min, vec_len, vec_capacity};
     ghost use Rattle.std.specs.HashMap.{keys};
+    ghost use Rattle.indexmap.specs.IndexMap.{spare};
     ghost use Rattle.layer_core.specs.MapAndSlots.{contents_of, StandForLayer};
 
-    ghost view = { λ f. contents_of (keys f.ids) f.slots.items };
+    ghost view = { λ f. record {
+      list = contents_of (keys f.ids) f.slots.items;
+      room = min (spare f.ids) (vec_capacity f.slots - vec_len f.slots);
+    } };
 
     ghost invariant = { λ f. StandForLayer f.ids.entries f.slots.items f.count };
 }
@@ -65,14 +70,14 @@ fn locate(ids: &Ids, slots: &[Option<Slot>], id: &str) -> Option<(u32, Slot)>
 }
 
 impl Features {
-    ghost use Rattle.std.specs.Prelude.{◌≡◌, ◌<◌, length, not, is_some, if◌then◌else◌, IfNone, IfOk, OnErr, string_bytes};
+    ghost use Rattle.std.specs.Prelude.{◌≡◌, ◌<◌, ◌≤◌, length, not, is_some, if◌then◌else◌, IfNone, IfOk, IsOk, OnOk, OnErr, string_bytes};
     ghost use Rattle.std.specs.Option.{option_map};
     ghost use Rattle.layer_core.specs.Layers.{empty, IsLayer, IdAndShapeAre, NumberAndShapeAre, with_id, with_number, inserted, deleted};
     ghost use Rattle.layer_core.specs.Limits.{most_features};
 
     /// No features. `state` hashes the ids.
     pub(crate) fn new(alloc: Global, state: RandomState) -> Features
-        ensures { result ≡ empty }
+        ensures { result.list ≡ empty }
     {
         Features {
             ids: IndexMap::with_hasher(alloc, state),
@@ -87,7 +92,7 @@ impl Features {
         state: RandomState,
         count: usize,
     ) -> Result<Features, AllocError>
-        ensures { IfOk result (λ features. features ≡ empty) }
+        ensures { IfOk result (λ features. features.list ≡ empty) }
     {
         Ok(Features {
             ids: IndexMap::with_capacity_and_hasher(alloc, count, state)?,
@@ -98,8 +103,9 @@ impl Features {
 
     /// How many features there are.
     pub(crate) fn len(&self) -> usize
-        ensures len { result ≡ length self.now.features }
-        ensures layer { IsLayer self.now }
+        ensures len { result ≡ length self.now.list.features }
+        ensures few { result ≤ most_features }
+        ensures layer { IsLayer self.now.list }
     {
         self.count
     }
@@ -111,15 +117,15 @@ impl Features {
 
     /// The number that the next feature gets: how many were ever inserted.
     pub(crate) fn next(&self) -> usize
-        ensures { result ≡ self.now.next }
+        ensures { result ≡ self.now.list.next }
     {
         self.slots.len()
     }
 
     /// The number and the shape of the feature with this id.
     pub(crate) fn find(&self, id: &str) -> Option<(u32, Shape)>
-        ensures found { NumberAndShapeAre result (with_id id.now self.now) }
-        ensures layer { IsLayer self.now }
+        ensures found { NumberAndShapeAre result (with_id id.now self.now.list) }
+        ensures layer { IsLayer self.now.list }
     {
         let (number, slot) = locate(&self.ids, self.slots.as_slice(), id)?;
         Some((number, slot.shape))
@@ -127,8 +133,8 @@ impl Features {
 
     /// The id and the shape of the feature with this number.
     pub(crate) fn at(&self, number: u32) -> Option<(&str, Shape)>
-        ensures found { IdAndShapeAre result (with_number number self.now) }
-        ensures layer { IsLayer self.now }
+        ensures found { IdAndShapeAre result (with_number number self.now.list) }
+        ensures layer { IsLayer self.now.list }
     {
         let slot = (*self.slots.get(number as usize)?)?;
         let (id, _) = self.ids.get_index(slot.place)?;
@@ -137,17 +143,17 @@ impl Features {
 
     /// The features in the order of their numbers.
     pub(crate) fn iter(&self) -> Iter<'_>
-        ensures features { result ≡ self.now.features }
-        ensures layer { IsLayer self.now }
+        ensures features { result ≡ self.now.list.features }
+        ensures layer { IsLayer self.now.list }
     {
         Iter::new(&self.ids, self.slots.as_slice())
     }
 
     /// Deletes the feature with this id, and gives its shape.
     pub(crate) fn delete(&mut self, id: &str) -> Option<Shape>
-        ensures shape { result ≡ option_map (λ f. f.shape) (with_id id.now self.old) }
-        ensures deleted { self.new ≡ deleted self.old id.now }
-        ensures none { IfNone result (self.new ≡ self.old) }
+        ensures shape { result ≡ option_map (λ f. f.shape) (with_id id.now self.old.list) }
+        ensures deleted { self.new.list ≡ deleted self.old.list id.now }
+        ensures none { IfNone result (self.new.list ≡ self.old.list) }
     {
         let (number, slot) = locate(&self.ids, self.slots.as_slice(), id)?;
         self.slots[number as usize] = None;
@@ -156,14 +162,25 @@ impl Features {
         Some(slot.shape)
     }
 
+    /// Makes room for one more feature.
+    pub(crate) fn reserve(&mut self) -> Result<(), AllocError>
+        ensures same { self.new.list ≡ self.old.list }
+        ensures room { OnOk result (0 < self.new.room) }
+    {
+        self.slots.reserve(1)?;
+        self.ids.reserve(1)?;
+        Ok(())
+    }
+
     /// Inserts a feature, or answers false where the id has one.
     pub(crate) fn insert(&mut self, id: String, shape: Shape) -> Result<bool, AllocError>
-        requires { self.old.next < most_features }
+        requires { self.old.list.next < most_features }
         ensures absent { IfOk result
-            (λ added. added ≡ not (is_some (with_id (string_bytes id) self.old))) }
-        ensures inserted { IfOk result (λ added. self.new
-            ≡ (if added then inserted self.old (string_bytes id) shape else self.old)) }
-        ensures err { OnErr result (self.new ≡ self.old) }
+            (λ added. added ≡ not (is_some (with_id (string_bytes id) self.old.list))) }
+        ensures inserted { IfOk result (λ added. self.new.list
+            ≡ (if added then inserted self.old.list (string_bytes id) shape else self.old.list)) }
+        ensures err { OnErr result (self.new.list ≡ self.old.list) }
+        ensures succeeds { 0 < self.old.room → IsOk result }
     {
         let number = self.slots.len() as u32;
         // From here to the map's insertion nothing changes that a refusal would have to undo.

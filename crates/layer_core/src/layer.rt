@@ -5,7 +5,9 @@ ghost use Rattle.layer_core.specs.Refusals.{is_id};
 use crate::fault::LayerFault;
 use crate::features::{Features, MAX_FEATURES};
 use crate::iter::Iter;
+use crate::stats::Stats;
 use geom_core::Shape;
+use rtree_core::{Entry, RTree};
 use std::alloc::{AllocError, Global};
 use std::hash::RandomState;
 use std::marker::Model;
@@ -19,18 +21,30 @@ pub const MAX_ID_BYTES: usize = 64;
 /// is deleted and inserted again goes to the end. An id has 1 to [`MAX_ID_BYTES`] bytes of UTF-8,
 /// and ids are compared by bytes. At most [`MAX_FEATURES`] features are ever inserted.
 ///
-/// Look-ups and edits take constant time, amortised where the layer grows.
+/// An R-tree holds exactly these features, each as its shape with its number.
+///
+/// Look-ups take constant time, and edits logarithmic time, amortised where the layer grows.
 #[derive(Drop)]
 pub struct Layer {
     features: Features,
+    tree: RTree,
 }
 
 impl Model for Layer {
-    ghost use Rattle.layer_core.specs.Layers.{Contents};
+    ghost use Rattle.layer_core.specs.LayerTrees.{LayerState};
 
-    ghost Value = { Contents };
+    ghost Value = { LayerState };
 
-    ghost view = { λ layer. layer.features };
+    ghost use Rattle.rtree_core.specs.contracts.node.Node as node;
+    ghost use Rattle.std.specs.Coded.{codes};
+
+    ghost coded = { Prim.hlevel (codes, node.the_row.coded) };
+
+    ghost use Rattle.layer_core.specs.LayerTrees.{HoldsExactly};
+
+    ghost view = { λ layer. record { list = layer.features.list; root = layer.tree } };
+
+    ghost invariant = { λ layer. HoldsExactly layer.features.list layer.tree };
 }
 
 /// Whether an id has 1 to [`MAX_ID_BYTES`] bytes.
@@ -41,66 +55,95 @@ pub(crate) fn is_id(id: &str) -> bool
 }
 
 impl Layer {
-    ghost use Rattle.std.specs.Prelude.{◌≡◌, ◌≢◌, ◌↔◌, [], Some, Ok, Err, length, IsTrue, OnOk, OnErr, IfOk};
+    ghost use Rattle.std.specs.Prelude.{◌≡◌, ◌↔◌, [], None, Some, Ok, length, IsTrue, OnOk, OnErr, IfOk};
     ghost use Rattle.std.specs.Option.{option_map};
     ghost use Rattle.layer_core.specs.Layers.{empty, IsLayer, IdAndShapeAre, NumberAndShapeAre, with_id, with_number, inserted, deleted};
-    ghost use Rattle.std.specs.String.{string_bytes};
-    ghost use Rattle.layer_core.specs.Refusals.{is_id, AnswersWith, insert_refusal, delete_refusal};
+    ghost use Rattle.layer_core.specs.LayerTrees.{entries_for, IsTreeOf};
+    ghost use Rattle.layer_core.specs.Refusals.{AnswersWith, insert_refusal, delete_refusal};
+    ghost use Rattle.layer_core.specs.Statistics.{stats_of};
 
     /// A layer with no features. `state` hashes the ids.
     pub fn new(alloc: Global, state: RandomState) -> Result<Layer, AllocError>
-        ensures { result ≡ Ok empty }
+        ensures { result ≡ Ok (record { list = empty; root = None }) }
     {
         Ok(Layer {
             features: Features::new(alloc, state),
+            tree: RTree::new(alloc),
         })
     }
 
-    /// A layer with no features, and room for so many.
-    pub(crate) fn with_room(
+    /// The layer of these features, whose tree is packed from their entries.
+    pub(crate) fn pack(
         alloc: Global,
-        state: RandomState,
-        count: usize,
+        features: Features,
+        entries: Vec<Entry>,
     ) -> Result<Layer, AllocError>
-        ensures { IfOk result (λ layer. layer ≡ empty) }
+        requires { entries.items ≡ entries_for features.list }
+        ensures { IfOk result (λ layer. layer.list ≡ features.list) }
     {
+        // That numbers differ, which packing asks for, is what the features say of themselves.
+        let _len = features.len();
         Ok(Layer {
-            features: Features::with_room(alloc, state, count)?,
+            features,
+            tree: RTree::pack(alloc, entries)?,
         })
-    }
-
-    /// The allocator of the layer.
-    pub(crate) fn allocator(&self) -> Global {
-        self.features.allocator()
     }
 
     /// How many features the layer has.
     pub fn len(&self) -> usize
-        ensures len { result ≡ length self.now.features }
-        ensures layer { IsLayer self.now }
+        ensures len { result ≡ length self.now.list.features }
+        ensures layer { IsLayer self.now.list }
     {
         self.features.len()
     }
 
     /// Whether the layer has no features.
     pub fn is_empty(&self) -> bool
-        ensures { IsTrue result ↔ (self.now.features ≡ []) }
+        ensures { IsTrue result ↔ (self.now.list.features ≡ []) }
     {
         self.len() == 0
     }
 
+    /// How many features there are of each dimension, and how high the tree is. It goes over all
+    /// features.
+    pub fn stats(&self) -> Stats
+        ensures { result ≡ stats_of self.now }
+    {
+        let mut stats = Stats {
+            features: self.features.len() as u32,
+            points: 0,
+            segments: 0,
+            rectangles: 0,
+            height: self.tree.height(),
+        };
+        for feature in self.features.iter() {
+            stats.count(feature.shape.dim());
+        }
+        stats
+    }
+
+    /// The tree, whose entries are the features' shapes with their numbers.
+    pub fn tree(&self) -> &RTree
+        ensures root { result.now ≡ self.now.root }
+        ensures exact { IsTreeOf self.now.list self.now.root }
+    {
+        // That it is lawful is what the tree says of itself.
+        let _root = self.tree.root();
+        &self.tree
+    }
+
     /// The number and the shape of the feature with this id.
     pub fn find(&self, id: &str) -> Option<(u32, Shape)>
-        ensures found { NumberAndShapeAre result (with_id id.now self.now) }
-        ensures layer { IsLayer self.now }
+        ensures found { NumberAndShapeAre result (with_id id.now self.now.list) }
+        ensures layer { IsLayer self.now.list }
     {
         self.features.find(id)
     }
 
     /// The id and the shape of the feature with this number.
     pub fn at(&self, number: u32) -> Option<(&str, Shape)>
-        ensures found { IdAndShapeAre result (with_number number self.now) }
-        ensures layer { IsLayer self.now }
+        ensures found { IdAndShapeAre result (with_number number self.now.list) }
+        ensures layer { IsLayer self.now.list }
     {
         self.features.at(number)
     }
@@ -110,9 +153,9 @@ impl Layer {
     /// It is refused, in this order, as `BadId`, `DoubleId`, `LayerFull`, and as `Memory` where
     /// none of these holds. A refusal changes nothing.
     pub fn insert(&mut self, id: &str, shape: Shape) -> Result<(), LayerFault>
-        ensures ok { OnOk result (self.new ≡ inserted self.old id.now shape) }
+        ensures ok { OnOk result (self.new.list ≡ inserted self.old.list id.now shape) }
         ensures err { OnErr result (self.new ≡ self.old) }
-        ensures refused { AnswersWith (insert_refusal self.old id.now) result }
+        ensures refused { AnswersWith (insert_refusal self.old.list id.now) result }
     {
         if !is_id(id) {
             return Err(LayerFault::BadId);
@@ -123,30 +166,14 @@ impl Layer {
         if self.features.next() >= MAX_FEATURES {
             return Err(LayerFault::LayerFull);
         }
-        let id = String::from_str(self.allocator(), id)?;
-        let _added = self.features.insert(id, shape)?;
-        Ok(())
-    }
-
-    /// Inserts a feature at the end of the layer, as `insert` does, under the id that it is given.
-    pub(crate) fn add(&mut self, id: String, shape: Shape) -> Result<(), LayerFault>
-        requires { IsTrue (is_id (string_bytes id)) }
-        ensures ok { OnOk result (self.new ≡ inserted self.old (string_bytes id) shape) }
-        ensures err { OnErr result (self.new ≡ self.old) }
-        // Memory may be refused before another reason is found.
-        ensures refused { result ≢ Err LayerFault.Memory
-            → AnswersWith (insert_refusal self.old (string_bytes id)) result }
-    {
-        if self.features.next() >= MAX_FEATURES {
-            return match self.features.find(id.as_str()) {
-                Some(_) => Err(LayerFault::DoubleId),
-                None => Err(LayerFault::LayerFull),
-            };
-        }
-        if self.features.insert(id, shape)? {
-            Ok(())
-        } else {
-            Err(LayerFault::DoubleId)
+        let id = String::from_str(self.features.allocator(), id)?;
+        self.features.reserve()?;
+        let number = self.features.next() as u32;
+        self.tree.insert(Entry { shape, number })?;
+        // There is room for it, so no refusal comes after the tree has changed.
+        match self.features.insert(id, shape) {
+            Ok(_) => Ok(()),
+            Err(_) => unreachable!(),
         }
     }
 
@@ -155,22 +182,26 @@ impl Layer {
     /// It is refused, in this order, as `BadId` and `NoSuchId`, and as `Memory` where neither
     /// holds. A refusal changes nothing.
     pub fn remove(&mut self, id: &str) -> Result<Shape, LayerFault>
-        ensures ok { OnOk result (self.new ≡ deleted self.old id.now) }
+        ensures ok { OnOk result (self.new.list ≡ deleted self.old.list id.now) }
         ensures shape { IfOk result
-            (λ s. option_map (λ f. f.shape) (with_id id.now self.old) ≡ Some s) }
+            (λ s. option_map (λ f. f.shape) (with_id id.now self.old.list) ≡ Some s) }
         ensures err { OnErr result (self.new ≡ self.old) }
-        ensures refused { AnswersWith (delete_refusal self.old id.now) result }
+        ensures refused { AnswersWith (delete_refusal self.old.list id.now) result }
     {
         if !is_id(id) {
             return Err(LayerFault::BadId);
         }
-        self.features.delete(id).ok_or(LayerFault::NoSuchId)
+        let (number, shape) = self.features.find(id).ok_or(LayerFault::NoSuchId)?;
+        // The tree holds an entry for each feature, so it always answers true.
+        let _held = self.tree.remove(&Entry { shape, number })?;
+        let _shape = self.features.delete(id);
+        Ok(shape)
     }
 
     /// The features in layer order.
     pub fn iter(&self) -> Iter<'_>
-        ensures features { result ≡ self.now.features }
-        ensures layer { IsLayer self.now }
+        ensures features { result ≡ self.now.list.features }
+        ensures layer { IsLayer self.now.list }
     {
         self.features.iter()
     }

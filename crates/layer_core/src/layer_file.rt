@@ -2,11 +2,13 @@
 ghost use Rattle.std.specs.Prelude.{◌≡◌, ◌≢◌, ◌↔◌, false, Ok, Err, IsErrOf, IsTrue, OnOk, IfErr, IfSome};
 ghost use Rattle.csv.specs.Records.{fields_of};
 ghost use Rattle.layer_core.specs.LayerFiles.{IsLayerFile, LayerRowGives};
+ghost use Rattle.layer_core.specs.LayerTrees.{list_read};
 
 use crate::fault::LayerFault;
 use crate::features::MAX_FEATURES;
 use crate::fields::{id_in, two_fields};
 use crate::layer::Layer;
+use crate::loading::Loading;
 use crate::read_fault::ReadFault;
 use crate::rows::Rows;
 use crate::source::{Source, read_all};
@@ -26,15 +28,15 @@ use std::hash::RandomState;
 /// [`LayerFault::BadId`], else [`ReadFault::Wkt`], else [`LayerFault::DoubleId`], else
 /// [`LayerFault::LayerFull`]. [`ReadFault::Memory`] may come in place of any other.
 pub fn layer_of_bytes(alloc: Global, state: RandomState, bytes: &[u8]) -> Result<Layer, ReadFault>
-    ensures file { result ≢ Err ReadFault.Memory → IsLayerFile bytes.now result }
+    ensures file { result ≢ Err ReadFault.Memory → IsLayerFile bytes.now (list_read result) }
     ensures no_io { result ≢ Err ReadFault.Io }
 {
     let mut rows = Rows::open(alloc, bytes, &["id", "wkt"])?;
-    let mut layer = Layer::with_room(alloc, state, line_feeds(bytes).min(MAX_FEATURES))?;
+    let mut loading = Loading::new(alloc, state, line_feeds(bytes).min(MAX_FEATURES))?;
     while let Some(number) = rows.next()? {
-        insert_row(&mut layer, number, rows.row())?;
+        insert_row(&mut loading, number, rows.row())?;
     }
-    Ok(layer)
+    Ok(loading.finish(alloc)?)
 }
 
 /// The layer that a file stands for, which is read from a source that hasn't failed.
@@ -49,7 +51,7 @@ pub fn read_layer<S: Source>(
     requires { S.has_failed source.old ≡ false }
     ensures io { IsErrOf result ReadFault.Io ↔ IsTrue (S.has_failed source.new) }
     ensures file { result ≢ Err ReadFault.Io → result ≢ Err ReadFault.Memory
-        → IfSome (S.remaining source.old) (λ bytes. IsLayerFile bytes result) }
+        → IfSome (S.remaining source.old) (λ bytes. IsLayerFile bytes (list_read result)) }
 {
     let bytes = read_all(alloc, source)?;
     layer_of_bytes(alloc, state, bytes.as_slice())
@@ -60,7 +62,7 @@ fn line_feeds(bytes: &[u8]) -> usize {
 }
 
 // Inserts the feature of the row with this number.
-fn insert_row(layer: &mut Layer, number: u32, row: &ByteRecord) -> Result<(), ReadFault>
+fn insert_row(layer: &mut Loading, number: u32, row: &ByteRecord) -> Result<(), ReadFault>
     ensures ok { OnOk result (LayerRowGives number layer.old (fields_of row.now) (Ok layer.new)) }
     ensures err { IfErr result (λ fault. fault ≢ ReadFault.Memory
         → LayerRowGives number layer.old (fields_of row.now) (Err fault)) }
@@ -69,7 +71,6 @@ fn insert_row(layer: &mut Layer, number: u32, row: &ByteRecord) -> Result<(), Re
     let (id, wkt) = two_fields(row).ok_or(ReadFault::Row(number))?;
     let id = id_in(id).ok_or(ReadFault::Layer(number, LayerFault::BadId))?;
     let shape = wkt_core::read(wkt).map_err(|fault| ReadFault::Wkt(number, fault))?;
-    let id = String::from_str(layer.allocator(), id)?;
     match layer.add(id, shape) {
         Ok(()) => Ok(()),
         Err(fault) => Err(ReadFault::of_row(number, fault)),

@@ -9,9 +9,11 @@ mod fields;
 mod iter;
 mod layer;
 mod layer_file;
+mod loading;
 mod read_fault;
 mod rows;
 mod source;
+mod stats;
 
 pub use edit::{Edit, Side};
 pub use edit_file::{edits_of_bytes, read_edits};
@@ -22,3 +24,4 @@ pub use layer::{Layer, MAX_ID_BYTES};
 pub use layer_file::{layer_of_bytes, read_layer};
 pub use read_fault::ReadFault;
 pub use source::{Failed, FromRead, MAX_FILE_BYTES, Source, read_all};
+pub use stats::Stats;

@@ -3,7 +3,9 @@
 mod devices;
 mod edits;
 mod files;
+mod mixed;
 mod refused_memory;
+mod stats;
 
 use geom_core::Shape;
 use layer_core::*;
@@ -11,7 +13,6 @@ use std::alloc::{AllocError, Global};
 use std::fmt::Write;
 use std::hash::RandomState;
 use std::process::Abort;
-use std::random::RandomSource;
 use std::test::Fail;
 
 // The point at these coordinates.
@@ -20,7 +21,7 @@ fn point(rt: &impl Abort, x: i64, y: i64) -> Shape {
 }
 
 // A layer with no features.
-fn empty_layer(rt: &(impl RandomSource + AllocGlobal)) -> Result<Layer, Fail> {
+fn empty_layer(rt: &HostRuntime) -> Result<Layer, Fail> {
     Ok(Layer::new(rt.alloc(), RandomState::new(rt)?)?)
 }
 

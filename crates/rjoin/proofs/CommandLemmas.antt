@@ -10,12 +10,13 @@ use Rattle.join_core.specs.declared.fault.Input.TheVariants.{Left, Right, Edits}
 use Rattle.join_core.specs.declared.fault.RunFault.{RunFault}
 use Rattle.join_core.specs.declared.fault.RunFault.TheVariants as run
 use Rattle.join_core.specs.declared.options.Options.{Options}
-use Rattle.join_core.specs.JoinRuns.{JoinFiles, JoinGives, left_fault, right_fault, edits_fault, edit_refused, reported, IsJoinText, BlamesInput, IsJoinFault}
+use Rattle.join_core.specs.Inputs.{BlamesInput}
+use Rattle.join_core.specs.JoinRuns.{JoinFiles, JoinGives, left_fault, right_fault, edits_fault, edit_refused, reported, IsJoinText, IsJoinFault}
 use Rattle.join_core.specs.Relating.{IsMatrixLine, HasFirstFault, IsTextFault}
 use Rattle.join_core.specs.Runs.{Ends, WritesAll, WritesPrefix}
 use Rattle.rjoin.specs.declared.words.Command.{Command}
 use Rattle.rjoin.specs.declared.words.Command.TheVariants.{Relate, Join}
-use Rattle.rjoin.specs.Commands.{AfterOpening, AfterEdits, PathsGive, TextsGive, CommandGives, IsCommandText, BlamesCommand, IsFoundFirst, IsFaultOf, CommandEnds}
+use Rattle.rjoin.specs.Commands.{AfterOpening, AfterEdits, PathsGive, TextsGive, CommandGives, IsCommandText, BlamesCommand, IsFoundFirst, IsFoundNext, IsFaultOf, CommandEnds}
 use Rattle.rjoin.specs.Opening.{Files, IsAt, IsMissing, AreEditsAt, AreEditsMissing}
 
 -- a run of one kind of text is one of another that includes it
@@ -80,7 +81,7 @@ relate_fault (Some at) a b (Err f) wkt faults = λ blame.
 
 relate_first : {T : Type 0} (known : Option Files) (a b : Bor (List ℕ)) (result : Result T RunFault)
     → ((i : Input) (w : WktFault) → (result ≡ Err (run.Wkt i w)) ↔ HasFirstFault a.now b.now i w)
-    → (f : RunFault) → IsFoundFirst f → IfSome known (λ at. CommandGives at (Relate a b) (Err f) → result ≡ Err f)
+    → (f : RunFault) → IsFoundFirst (Relate a b) f → IfSome known (λ at. CommandGives at (Relate a b) (Err f) → result ≡ Err f)
 relate_first None a b result wkt f first = tt
 relate_first (Some at) a b result wkt (run.Wkt i w) first = λ given. (wkt i w).1 given
 relate_first (Some at) a b result wkt (run.NoFile i) first = λ given. absurd given
@@ -108,6 +109,7 @@ relate_ends known written is_flushed has_failed command a b x y old new result i
       writes = ends_as _ _ written is_flushed has_failed old new result (matrix_is_text known a b) both.0;
       fault = relate_fault known a b result both.1 faults;
       first = relate_first known a b result both.1;
+      next = λ f nothing. absurd nothing;
       faults = faults;
     })
 
@@ -126,7 +128,7 @@ edits_opened at (Some path) told answer Then is =
     )
 
 -- what follows the opening of one input, given that it is opened
-input_opened : (lies : Option (List ℕ)) (bytes : List ℕ) (input : Input) (answer : Result (List ℕ) RunFault) (Then : List ℕ → Type 0)
+pub input_opened : (lies : Option (List ℕ)) (bytes : List ℕ) (input : Input) (answer : Result (List ℕ) RunFault) (Then : List ℕ → Type 0)
     → lies ≡ Some bytes → Then bytes ↔ AfterOpening input lies answer Then
 input_opened lies bytes input answer Then is =
     let After : Option (List ℕ) → Type 0 = λ o. AfterOpening input o answer Then in
@@ -151,30 +153,36 @@ all_opened at left right edits relation l r e answer is_l is_r is_e =
     )
 
 -- a join gives no fault that is found before it
-not_found_first : (relation : RelationType) (files : JoinFiles) (answer : Result (List ℕ) RunFault) (f : RunFault) → JoinGives relation files answer
-    → answer ≡ Err f → IsFoundFirst f → ⊥
-not_found_first relation files answer f (left_fault g a) is first = subst IsFoundFirst (let same : f ≡ run.Read Left g = cc in same) first
-not_found_first relation files answer f (right_fault l g a b) is first = subst IsFoundFirst (let same : f ≡ run.Read Right g = cc in same) first
-not_found_first relation files answer f (edits_fault l r g a b d) is first = subst IsFoundFirst (let same : f ≡ run.Read Edits g = cc in same) first
-not_found_first relation files answer f (edit_refused l r edits row g a b d e) is first = subst IsFoundFirst (let same : f ≡ run.Edit row g = cc in
-    same) first
-not_found_first relation files answer f (reported l r edits edited pairs text a b d e p q) is first = cc
+not_found_first : (relation : RelationType) (files : JoinFiles) (answer : Result (List ℕ) RunFault) (f : RunFault) (left right : Bor (List ℕ))
+    (edits : Option (Bor (List ℕ))) (join : JoinRelation) (options : Options)
+    → JoinGives relation files answer → answer ≡ Err f → IsFoundFirst (Join left right edits join options) f → ⊥
+not_found_first relation files answer f left right edits join options gives is first = by answer gives is
+  where
+    by : (answer : Result (List ℕ) RunFault) → JoinGives relation files answer → answer ≡ Err f → ⊥
+    by answer (left_fault g a) is = subst (IsFoundFirst (Join left right edits join options)) (let same : f ≡ run.Read Left g = cc in same) first
+    by answer (right_fault l g a b) is = subst (IsFoundFirst (Join left right edits join options)) (let same : f ≡ run.Read Right g = cc in same) first
+    by answer (edits_fault l r g a b d) is = subst (IsFoundFirst (Join left right edits join options)) (let same : f ≡ run.Read Edits g = cc in same) first
+    by answer (edit_refused l r es row g a b d e) is = subst (IsFoundFirst (Join left right edits join options)) (let same : f ≡ run.Edit row g = cc in same) first
+    by answer (reported l r es edited pairs text a b d e p q) is = cc
 
 -- a fault that ends a command before its run
 pub refused_ends : {T S : Type 0} (known : Option Files) (written : S → Option (List ℕ)) (is_flushed has_failed : S
     → Bool) (command : Command) (sink : S) (result : Result T RunFault) (f : RunFault)
     → has_failed sink ≡ false → IsErrAnd result (λ x. x ≡ f) → f ≢ run.Write → IfSome known (λ at. CommandGives at command (Err f) ⊎ (BlamesCommand f → ⊥))
-    → ((g : RunFault) → IsFoundFirst g → IfSome known (λ at. CommandGives at command (Err g) → g ≡ f)) → IsFaultOf command f
+    → ((g : RunFault) → IsFoundFirst command g → IfSome known (λ at. CommandGives at command (Err g) → g ≡ f))
+    → ((g : RunFault) → IsFoundNext command g → f ≢ run.NoKeys → IfSome known (λ at. CommandGives at command (Err g) → g ≡ f))
+    → IsFaultOf command f
     → CommandEnds known written is_flushed has_failed command sink sink result
-refused_ends known written is_flushed has_failed command sink (Ok x) f fresh h other given first is = absurd h
-refused_ends {T} None written is_flushed has_failed command sink (Err e) f fresh h other given first is =
+refused_ends known written is_flushed has_failed command sink (Ok x) f fresh h other given first next is = absurd h
+refused_ends {T} None written is_flushed has_failed command sink (Err e) f fresh h other given first next is =
     let same : (let r : Result T RunFault = Err e in r) ≡ Err f = cc in record {
       writes = not_begun (IsCommandText None command) written is_flushed has_failed sink (Err e) f fresh same other;
       fault = λ blame. tt;
       first = λ g found. tt;
+      next = λ g found keys. tt;
       faults = λ w. subst (IsFaultOf command) (sym h) is;
     }
-refused_ends {T} (Some at) written is_flushed has_failed command sink (Err e) f fresh h other given first is =
+refused_ends {T} (Some at) written is_flushed has_failed command sink (Err e) f fresh h other given first next is =
     let same : (let r : Result T RunFault = Err e in r) ≡ Err f = cc in record {
       writes = not_begun (IsCommandText (Some at) command) written is_flushed has_failed sink (Err e) f fresh same other;
       fault = λ blame. subst (λ (x : RunFault). CommandGives at command (Err x)) (sym h) (elim given [
@@ -182,10 +190,11 @@ refused_ends {T} (Some at) written is_flushed has_failed command sink (Err e) f 
         | inr none ↦ absurd (none (subst BlamesCommand h blame))
       ]);
       first = λ g found gives. let is_f : g ≡ f = first g found gives in cc;
+      next = λ g found keys gives. let is_f : g ≡ f = next g found (λ none. keys (let whole : e ≡ run.NoKeys = h ∙ none in cc)) gives in cc;
       faults = λ w. subst (IsFaultOf command) (sym h) is;
     }
 
-err_is : (f g : RunFault) → (let a : Result (List ℕ) RunFault = Err f in a) ≡ Err g → f ≡ g
+pub err_is : (f g : RunFault) → (let a : Result (List ℕ) RunFault = Err f in a) ≡ Err g → f ≡ g
 err_is f g e = cc
 
 pub left_missing : {T S : Type 0} (known : Option Files) (written : S → Option (List ℕ)) (is_flushed has_failed : S → Bool) (command : Command)
@@ -197,7 +206,7 @@ pub left_missing : {T S : Type 0} (known : Option Files) (written : S → Option
 left_missing known written is_flushed has_failed command left right edits relation options sink result f is fresh h named missing =
     subst (λ (c : Command). CommandEnds known written is_flushed has_failed c sink sink result) (sym is)
     (refused_ends known written is_flushed has_failed (Join left right edits relation options) sink result (run.NoFile Left) fresh
-    (subst (λ (x : RunFault). IsErrAnd result (λ y. y ≡ x)) named h) (λ e. absurd cc) (given known missing) (first known missing) tt)
+    (subst (λ (x : RunFault). IsErrAnd result (λ y. y ≡ x)) named h) (λ e. absurd cc) (given known missing) (first known missing) (λ g nothing. absurd nothing) tt)
   where
     given : (known : Option Files) → IsMissing known left.now → IfSome known (λ at. CommandGives at (Join left right edits relation options)
         (Err (run.NoFile Left)) ⊎ (BlamesCommand (run.NoFile Left) → ⊥))
@@ -207,7 +216,7 @@ left_missing known written is_flushed has_failed command left right edits relati
         (λ e. JoinGives (relation_of relation) (record { left = Some l; right = Some r; edits = e }) (Err (run.NoFile Left))))) in
         subst Gives (sym missing) refl)
 
-    first : (known : Option Files) → IsMissing known left.now → (g : RunFault) → IsFoundFirst g
+    first : (known : Option Files) → IsMissing known left.now → (g : RunFault) → IsFoundFirst (Join left right edits relation options) g
         → IfSome known (λ at. CommandGives at (Join left right edits relation options) (Err g) → g ≡ run.NoFile Left)
     first None missing g found = tt
     first (Some at) missing g found = λ gives. err_is g (run.NoFile Left) (let Gives : Option (List ℕ)
@@ -228,7 +237,7 @@ pub right_missing : {T S : Type 0} (known : Option Files) (written : S → Optio
 right_missing known written is_flushed has_failed command left right edits relation options l sink result f is fresh h named is_l missing =
     subst (λ (c : Command). CommandEnds known written is_flushed has_failed c sink sink result) (sym is)
     (refused_ends known written is_flushed has_failed (Join left right edits relation options) sink result (run.NoFile Right) fresh
-    (subst (λ (x : RunFault). IsErrAnd result (λ y. y ≡ x)) named h) (λ e. absurd cc) (given known is_l missing) (first known is_l missing) tt)
+    (subst (λ (x : RunFault). IsErrAnd result (λ y. y ≡ x)) named h) (λ e. absurd cc) (given known is_l missing) (first known is_l missing) (λ g nothing. absurd nothing) tt)
   where
     given : (known : Option Files) → IsAt known left.now l → IsMissing known right.now
         → IfSome known (λ at. CommandGives at (Join left right edits relation options) (Err (run.NoFile Right)) ⊎ (BlamesCommand (run.NoFile Right) → ⊥))
@@ -237,7 +246,7 @@ right_missing known written is_flushed has_failed command left right edits relat
         (λ p. AfterLeft edits relation at (Err (run.NoFile Right)) p (at right.now)) is_l.1).0
         (subst (AfterLeft edits relation at (Err (run.NoFile Right)) is_l.0) (sym missing) refl))
 
-    first : (known : Option Files) → IsAt known left.now l → IsMissing known right.now → (g : RunFault) → IsFoundFirst g
+    first : (known : Option Files) → IsAt known left.now l → IsMissing known right.now → (g : RunFault) → IsFoundFirst (Join left right edits relation options) g
         → IfSome known (λ at. CommandGives at (Join left right edits relation options) (Err g) → g ≡ run.NoFile Right)
     first None is_l missing g found = tt
     first (Some at) is_l missing g found = λ gives. err_is g (run.NoFile Right)
@@ -260,7 +269,7 @@ pub edits_missing : {T S : Type 0} (known : Option Files) (written : S → Optio
 edits_missing known written is_flushed has_failed command left right edits relation options l r sink result f is fresh h named is_l is_r missing =
     subst (λ (c : Command). CommandEnds known written is_flushed has_failed c sink sink result) (sym is)
     (refused_ends known written is_flushed has_failed (Join left right edits relation options) sink result (run.NoFile Edits) fresh
-    (subst (λ (x : RunFault). IsErrAnd result (λ y. y ≡ x)) named h) (λ e. absurd cc) (given known is_l is_r missing) (first known is_l is_r missing) tt)
+    (subst (λ (x : RunFault). IsErrAnd result (λ y. y ≡ x)) named h) (λ e. absurd cc) (given known is_l is_r missing) (first known is_l is_r missing) (λ g nothing. absurd nothing) tt)
   where
     both : (at : Files) → IsAt (Some at) left.now l → IsAt (Some at) right.now r → AreEditsMissing (Some at) edits → (answer : Result (List ℕ) RunFault)
         → (answer ≡ Err (run.NoFile Edits)) ↔ PathsGive at left.now right.now edits (relation_of relation) answer
@@ -277,7 +286,7 @@ edits_missing known written is_flushed has_failed command left right edits relat
     given None is_l is_r missing = tt
     given (Some at) is_l is_r missing = inl ((both at is_l is_r missing (Err (run.NoFile Edits))).0 refl)
 
-    first : (known : Option Files) → IsAt known left.now l → IsAt known right.now r → AreEditsMissing known edits → (g : RunFault) → IsFoundFirst g
+    first : (known : Option Files) → IsAt known left.now l → IsAt known right.now r → AreEditsMissing known edits → (g : RunFault) → IsFoundFirst (Join left right edits relation options) g
         → IfSome known (λ at. CommandGives at (Join left right edits relation options) (Err g) → g ≡ run.NoFile Edits)
     first None is_l is_r missing g found = tt
     first (Some at) is_l is_r missing g found = λ gives. err_is g (run.NoFile Edits) ((both at is_l is_r missing (Err g)).1 gives)
@@ -291,18 +300,18 @@ pub no_keys : {T S : Type 0} (known : Option Files) (written : S → Option (Lis
 no_keys known written is_flushed has_failed command left right edits relation options l r e sink result f is fresh h named is_l is_r is_e =
     subst (λ (c : Command). CommandEnds known written is_flushed has_failed c sink sink result) (sym is)
     (refused_ends known written is_flushed has_failed (Join left right edits relation options) sink result run.NoKeys fresh
-    (subst (λ (x : RunFault). IsErrAnd result (λ y. y ≡ x)) named h) (λ w. absurd cc) (given known) (first known is_l is_r is_e) tt)
+    (subst (λ (x : RunFault). IsErrAnd result (λ y. y ≡ x)) named h) (λ w. absurd cc) (given known) (first known is_l is_r is_e) (λ g nothing. absurd nothing) tt)
   where
     given : (known : Option Files) → IfSome known (λ at. CommandGives at (Join left right edits relation options)
         (Err run.NoKeys) ⊎ (BlamesCommand run.NoKeys → ⊥))
     given None = tt
     given (Some at) = inr (λ blame. blame)
 
-    first : (known : Option Files) → IsAt known left.now l → IsAt known right.now r → AreEditsAt known edits e → (g : RunFault) → IsFoundFirst g
+    first : (known : Option Files) → IsAt known left.now l → IsAt known right.now r → AreEditsAt known edits e → (g : RunFault) → IsFoundFirst (Join left right edits relation options) g
         → IfSome known (λ at. CommandGives at (Join left right edits relation options) (Err g) → g ≡ run.NoKeys)
     first None is_l is_r is_e g found = tt
     first (Some at) is_l is_r is_e g found = λ gives.
-        absurd (not_found_first (relation_of relation) (record { left = l; right = r; edits = e }) (Err g) g
+        absurd (not_found_first (relation_of relation) (record { left = l; right = r; edits = e }) (Err g) g left right edits relation options
         ((all_opened at left.now right.now edits (relation_of relation) l r e (Err g) is_l is_r is_e).1 gives) refl found)
 
 -- all files were opened, and the join was run
@@ -319,6 +328,7 @@ join_ends {T} {S} known written is_flushed has_failed command left right edits r
       writes = ends_as _ _ written is_flushed has_failed old new result (text known is_l is_r is_e) ends;
       fault = blamed known is_l is_r is_e result fault faults;
       first = found known is_l is_r is_e;
+      next = λ f nothing. absurd nothing;
       faults = allowed result faults;
     })
   where
@@ -351,10 +361,10 @@ join_ends {T} {S} known written is_flushed has_failed command left right edits r
         (fault (blames f (faults (λ w. subst BlamesCommand w blame)) blame))
 
     found : (known : Option Files) → IsAt known left.now l → IsAt known right.now r → AreEditsAt known edits e
-        → (f : RunFault) → IsFoundFirst f → IfSome known (λ at. CommandGives at (Join left right edits relation options) (Err f) → result ≡ Err f)
+        → (f : RunFault) → IsFoundFirst (Join left right edits relation options) f → IfSome known (λ at. CommandGives at (Join left right edits relation options) (Err f) → result ≡ Err f)
     found None a b d f first = tt
     found (Some at) a b d f first = λ gives.
-        absurd (not_found_first (relation_of relation) (record { left = l; right = r; edits = e }) (Err f) f
+        absurd (not_found_first (relation_of relation) (record { left = l; right = r; edits = e }) (Err f) f left right edits relation options
         ((all_opened at left.now right.now edits (relation_of relation) l r e (Err f) a b d).1 gives) refl first)
 
     allows : (f : RunFault) → IsJoinFault f → IsFaultOf (Join left right edits relation options) f

@@ -4,15 +4,18 @@ use Rattle.std.specs.Borrow.{Bor}
 use Rattle.geom_core.specs.declared.relation.Relation.{Relation as RelationType}
 use Rattle.geom_core.specs.JoinRelations.{relation_of}
 use Rattle.join_core.specs.declared.fault.Input.{Input}
-use Rattle.join_core.specs.declared.fault.Input.TheVariants.{Left, Right, Edits}
+use Rattle.join_core.specs.declared.fault.Input.TheVariants as input
 use Rattle.join_core.specs.declared.fault.RunFault.{RunFault}
 use Rattle.join_core.specs.declared.fault.RunFault.TheVariants as run
-use Rattle.join_core.specs.JoinRuns.{JoinGives, BlamesInput, IsJoinFault}
+use Rattle.join_core.specs.JoinRuns.{JoinGives, IsJoinFault}
+use Rattle.join_core.specs.Inputs.{BlamesInput}
 use Rattle.join_core.specs.Relating.{IsMatrixLine, HasFirstFault, IsTextFault}
 use Rattle.join_core.specs.Runs.{Ends}
+use Rattle.join_core.specs.StatsRuns.{StatsGives, IsStatsFault}
+use Rattle.join_core.specs.WindowRuns.{WindowGives, IsWindowFault}
 use Rattle.rjoin.specs.Opening.{Files}
 use Rattle.rjoin.specs.declared.words.Command.{Command}
-use Rattle.rjoin.specs.declared.words.Command.TheVariants.{Relate, Join}
+use Rattle.rjoin.specs.declared.words.Command.TheVariants.{Relate, Join, Window, Stats}
 
 -- an input that has to be opened, and what follows where it is
 abbrev pub AfterOpening : Input → Option (List ℕ) → Result (List ℕ) RunFault
@@ -25,13 +28,14 @@ abbrev pub AfterEdits : Files → Option (Bor (List ℕ)) → Result (List ℕ) 
     → (Option (Option (List ℕ)) → Type 0) → Type 0
 AfterEdits at None answer Then = Then None
 AfterEdits at (Some path) answer Then =
-    AfterOpening Edits (at path.now) answer (λ bytes. Then (Some (Some bytes)))
+    AfterOpening input.Edits (at path.now) answer (λ bytes. Then (Some (Some bytes)))
 
 -- the join of the files at these paths, which are opened in the order left, right, edits
 abbrev pub PathsGive : Files → List ℕ → List ℕ → Option (Bor (List ℕ)) → RelationType
     → Result (List ℕ) RunFault → Type 0
 PathsGive at left right edits relation answer =
-    AfterOpening Left (at left) answer (λ l. AfterOpening Right (at right) answer (λ r.
+    AfterOpening input.Left (at left) answer (λ l.
+    AfterOpening input.Right (at right) answer (λ r.
     AfterEdits at edits answer (λ e.
     JoinGives relation (record { left = Some l; right = Some r; edits = e }) answer)))
 
@@ -45,6 +49,10 @@ abbrev pub CommandGives : Files → Command → Result (List ℕ) RunFault → T
 CommandGives at (Relate a b) answer = TextsGive a.now b.now answer
 CommandGives at (Join left right edits relation options) answer =
     PathsGive at left.now right.now edits (relation_of relation) answer
+CommandGives at (Window path wkt) answer =
+    AfterOpening input.Layer (at path.now) answer (λ l. WindowGives wkt.now (Some l) answer)
+CommandGives at (Stats path) answer =
+    AfterOpening input.Layer (at path.now) answer (λ l. StatsGives (Some l) answer)
 
 -- the text that a command writes, where it is known what lies at its paths
 abbrev pub IsCommandText : Option Files → Command → List ℕ → Type 0
@@ -56,11 +64,16 @@ BlamesCommand (run.NoFile input) = ⊤
 BlamesCommand (run.Wkt input fault) = ⊤
 BlamesCommand fault = BlamesInput fault
 
--- a fault that is found before any memory is taken
-abbrev pub IsFoundFirst : RunFault → Type 0
-IsFoundFirst (run.NoFile input) = ⊤
-IsFoundFirst (run.Wkt input fault) = ⊤
-IsFoundFirst _ = ⊥
+-- a fault that is found before keys are asked for and any memory is taken
+abbrev pub IsFoundFirst : Command → RunFault → Type 0
+IsFoundFirst (Relate a b) (run.Wkt input fault) = ⊤
+IsFoundFirst _ (run.NoFile input) = ⊤
+IsFoundFirst _ _ = ⊥
+
+-- a fault that is found next, once there are keys: that of a window's text
+abbrev pub IsFoundNext : Command → RunFault → Type 0
+IsFoundNext (Window path wkt) (run.Wkt input fault) = ⊤
+IsFoundNext _ _ = ⊥
 
 -- a fault that a command may have, that of its sink aside
 abbrev pub IsFaultOf : Command → RunFault → Type 0
@@ -68,15 +81,23 @@ IsFaultOf (Relate a b) fault = IsTextFault fault
 IsFaultOf (Join left right edits relation options) (run.NoFile input) = ⊤
 IsFaultOf (Join left right edits relation options) run.NoKeys = ⊤
 IsFaultOf (Join left right edits relation options) fault = IsJoinFault fault
+IsFaultOf (Window path wkt) (run.NoFile input.Layer) = ⊤
+IsFaultOf (Window path wkt) run.NoKeys = ⊤
+IsFaultOf (Window path wkt) fault = IsWindowFault fault
+IsFaultOf (Stats path) (run.NoFile input.Layer) = ⊤
+IsFaultOf (Stats path) run.NoKeys = ⊤
+IsFaultOf (Stats path) fault = IsStatsFault fault
 
--- how a command ends: what it writes, which fault it names, exactly those that are found first,
--- and no others
+-- how a command ends: what it writes, which fault it names, exactly those that are found first and
+-- next, and no others
 pub record CommandEnds {T S : Type 0} (known : Option Files)
     (written : S → Option (List ℕ)) (is_flushed has_failed : S → Bool)
     (command : Command) (old new : S) (result : Result T RunFault) : Type 0 where
   pub writes : Ends (IsCommandText known command) written is_flushed has_failed old new result
   pub fault : IfErr result (λ f.
       BlamesCommand f → IfSome known (λ at. CommandGives at command (Err f)))
-  pub first : (f : RunFault) → IsFoundFirst f →
+  pub first : (f : RunFault) → IsFoundFirst command f →
+      IfSome known (λ at. CommandGives at command (Err f) → result ≡ Err f)
+  pub next : (f : RunFault) → IsFoundNext command f → result ≢ Err run.NoKeys →
       IfSome known (λ at. CommandGives at command (Err f) → result ≡ Err f)
   pub faults : IfErr result (λ f. f ≢ run.Write → IsFaultOf command f)

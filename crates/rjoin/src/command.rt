@@ -9,7 +9,9 @@ ghost use Rattle.rjoin.specs.Endings.{CommandIsDone};
 use crate::inputs::Inputs;
 use crate::words::Command;
 use geom_core::JoinRelation;
-use join_core::{Input, Options, RunFault, Sink, fault_line, run_join, run_relate};
+use join_core::{
+    Input, Options, RunFault, Sink, fault_line, run_join, run_relate, run_stats, run_window,
+};
 use std::hash::RandomState;
 use std::random::RandomSource;
 
@@ -75,6 +77,15 @@ fn execute<R: RandomSource + AllocGlobal, I: Inputs, O: Sink>(
                 options,
                 output,
             )
+        }
+        Command::Window { path, wkt } => {
+            let mut layer = open_input(inputs, Input::Layer, path)?;
+            let state = hash_state(rt)?;
+            run_window(rt.alloc(), state, &mut layer, wkt.as_bytes(), output)
+        }
+        Command::Stats { path } => {
+            let mut layer = open_input(inputs, Input::Layer, path)?;
+            run_stats(rt.alloc(), hash_state(rt)?, &mut layer, output)
         }
     }
 }

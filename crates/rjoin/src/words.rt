@@ -25,6 +25,15 @@ pub enum Command<'a> {
         relation: JoinRelation,
         options: Options,
     },
+    /// Write the ids of a layer's features that meet the geometry of a text.
+    Window {
+        path: &'a str,
+        wkt: &'a str,
+    },
+    /// Write counts of a layer's features.
+    Stats {
+        path: &'a str,
+    },
 }
 
 /// Why the words are no command.
@@ -83,6 +92,8 @@ pub fn read_words<'a>(alloc: Global, words: &'a [&'a str]) -> Result<Command<'a>
     match matches.subcommand() {
         Some(("relate", given)) => read_relate(alloc, given),
         Some(("join", given)) => read_join(alloc, given),
+        Some(("window", given)) => read_window(alloc, given),
+        Some(("stats", given)) => read_stats(alloc, given),
         _ => Err(missing(alloc, "COMMAND")),
     }
 }
@@ -108,6 +119,17 @@ fn read_join<'a>(alloc: Global, given: &ArgMatches<'a>) -> Result<Command<'a>, W
     })
 }
 
+fn read_window<'a>(alloc: Global, given: &ArgMatches<'a>) -> Result<Command<'a>, WordFault> {
+    let path = required(alloc, given, "LAYER")?;
+    let wkt = required(alloc, given, "WKT")?;
+    Ok(Command::Window { path, wkt })
+}
+
+fn read_stats<'a>(alloc: Global, given: &ArgMatches<'a>) -> Result<Command<'a>, WordFault> {
+    let path = required(alloc, given, "LAYER")?;
+    Ok(Command::Stats { path })
+}
+
 fn read_options(alloc: Global, given: &ArgMatches<'_>) -> Result<Options, WordFault> {
     let workers = number(alloc, given, "workers")?;
     let batch = number(alloc, given, "batch")?;
@@ -122,7 +144,9 @@ fn usage<'a>(alloc: Global) -> Result<clap::Command<'a>, AllocError> {
         .version("0.1.0")
         .subcommand_required(true)
         .subcommand(relate_usage(alloc)?)?
-        .subcommand(join_usage(alloc)?)
+        .subcommand(join_usage(alloc)?)?
+        .subcommand(window_usage(alloc)?)?
+        .subcommand(stats_usage(alloc)?)
 }
 
 fn relate_usage<'a>(alloc: Global) -> Result<clap::Command<'a>, AllocError> {
@@ -149,6 +173,19 @@ fn join_usage<'a>(alloc: Global) -> Result<clap::Command<'a>, AllocError> {
         .arg(numeric(alloc, "workers", "Threads that join, 1 to 16", "4"))?
         .arg(numeric(alloc, "batch", "Pairs a batch, 1 to 4096", "256"))?
         .arg(numeric(alloc, "cut", "Rounds of cutting into tasks, 0 to 8", "2"))
+}
+
+fn window_usage<'a>(alloc: Global) -> Result<clap::Command<'a>, AllocError> {
+    clap::Command::new(alloc, "window")
+        .about("Writes the ids of the features of a layer that meet a geometry")
+        .arg(positional(alloc, "LAYER", "CSV file of the layer"))?
+        .arg(positional(alloc, "WKT", "Geometry of the window, as well-known text"))
+}
+
+fn stats_usage<'a>(alloc: Global) -> Result<clap::Command<'a>, AllocError> {
+    clap::Command::new(alloc, "stats")
+        .about("Counts the features of a layer by kind, and the levels of its tree")
+        .arg(positional(alloc, "LAYER", "CSV file of the layer"))
 }
 
 /// An argument that has to be given, by its place.

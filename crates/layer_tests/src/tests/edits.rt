@@ -2,30 +2,48 @@
 
 use super::*;
 
+// Ids of 64 and of 65 bytes.
+const LONG: &str = "0123456789abcdef0123456789abcdef0123456789abcdef0123456789abcdef";
+
+const TOO_LONG: &str = "0123456789abcdef0123456789abcdef0123456789abcdef0123456789abcdef0";
+
+// Inserts points, each under its id and at its place on the axis, and sees the answers.
+fn see_inserted(
+    rt: &impl Abort,
+    layer: &mut Layer,
+    points: &[(&str, i64, Result<(), LayerFault>)],
+) {
+    for (id, x, answer) in points {
+        assert!(rt; layer.insert(id, point(rt, *x, *x)) == *answer);
+    }
+}
+
 #[test]
 fn layer_edits(rt: HostRuntime) -> Result<(), Fail> {
     let mut layer = empty_layer(&rt)?;
-    let origin = point(&rt, 0, 0);
-    assert_eq!(rt; layer.insert("a", origin), Ok(()));
-    assert_eq!(rt;
-        layer.insert("a", point(&rt, 1, 1)),
-        Err(LayerFault::DoubleId)
-    );
-    assert_eq!(rt; layer.find("a"), Some((0, origin)));
-    let long = "0123456789abcdef0123456789abcdef0123456789abcdef0123456789abcdef";
-    let too_long = "0123456789abcdef0123456789abcdef0123456789abcdef0123456789abcdef0";
-    assert_eq!(rt; layer.insert("", origin), Err(LayerFault::BadId));
-    assert_eq!(rt; layer.insert(too_long, origin), Err(LayerFault::BadId));
-    assert_eq!(rt; layer.insert(long, origin), Ok(()));
-    assert_eq!(rt; layer.remove("q"), Err(LayerFault::NoSuchId));
-    assert_eq!(rt; layer.len(), 2);
+    let points = [
+        ("a", 0, Ok(())),
+        ("a", 1, Err(LayerFault::DoubleId)),
+        ("", 0, Err(LayerFault::BadId)),
+        (TOO_LONG, 0, Err(LayerFault::BadId)),
+        (LONG, 0, Ok(())),
+    ];
+    see_inserted(&rt, &mut layer, &points);
+    assert!(rt; layer.find("a") == Some((0, point(&rt, 0, 0))));
+    assert!(rt; layer.remove("q") == Err(LayerFault::NoSuchId));
+    assert!(rt; layer.len() == 2);
+    Ok(())
+}
 
+// The last part of the row on edits of a layer: one that has had all its features.
+#[test]
+fn layer_edits_when_full(rt: HostRuntime) -> Result<(), Fail> {
     let file = points_file(rt.alloc(), 1_000_000)?;
     let mut full = layer_of_bytes(rt.alloc(), RandomState::new(&rt)?, file.as_bytes())?;
-    assert_eq!(rt; full.len(), 1_000_000);
-    assert_eq!(rt; full.insert("new", origin), Err(LayerFault::LayerFull));
-    assert_eq!(rt; full.remove("p7"), Ok(point(&rt, 7, 0)));
-    assert_eq!(rt; full.insert("new", origin), Err(LayerFault::LayerFull));
+    assert!(rt; full.len() == 1_000_000);
+    see_inserted(&rt, &mut full, &[("new", 0, Err(LayerFault::LayerFull))]);
+    assert!(rt; full.remove("p7") == Ok(point(&rt, 7, 0)));
+    see_inserted(&rt, &mut full, &[("new", 0, Err(LayerFault::LayerFull))]);
     Ok(())
 }
 
@@ -36,19 +54,19 @@ fn deleted_and_inserted_again(rt: HostRuntime) -> Result<(), Fail> {
     for (id, x) in [("a", 0), ("b", 1), ("c", 2)] {
         layer.insert(id, point(&rt, x, 0))?;
     }
-    assert_eq!(rt; layer.remove("a"), Ok(point(&rt, 0, 0)));
-    assert_eq!(rt; layer.at(0), None);
+    assert!(rt; layer.remove("a") == Ok(point(&rt, 0, 0)));
+    assert!(rt; layer.at(0) == None);
     layer.insert("a", point(&rt, 9, 9))?;
-    assert_eq!(rt; layer.find("a"), Some((3, point(&rt, 9, 9))));
-    assert_eq!(rt; layer.len(), 3);
+    assert!(rt; layer.find("a") == Some((3, point(&rt, 9, 9))));
+    assert!(rt; layer.len() == 3);
     let ids = [("b", 1), ("c", 2), ("a", 3)];
-    assert_eq!(rt; layer.iter().count(), 3);
+    assert!(rt; layer.iter().count() == 3);
     for (feature, (id, number)) in layer.iter().zip(ids) {
         assert!(rt; feature.id == id);
-        assert_eq!(rt; feature.number, number);
+        assert!(rt; feature.number == number);
         let (same_id, same_shape) = layer.at(number).expect(&rt, "the feature");
         assert!(rt; same_id == id);
-        assert_eq!(rt; same_shape, feature.shape);
+        assert!(rt; same_shape == feature.shape);
     }
     Ok(())
 }
@@ -61,23 +79,17 @@ fn edits_of_both_layers(rt: HostRuntime) -> Result<(), Fail> {
         rt.alloc(),
         b"op,layer,id,wkt\r\ninsert,left,a,POINT (1 2)\r\ninsert,right,b,\"LINESTRING (0 0, 0 3)\"\r\ndelete,left,a,\r\n",
     )?;
-    assert_eq!(rt; edits.len(), 3);
+    assert!(rt; edits.len() == 3);
     for edit in &edits {
         edit.apply(&mut left, &mut right)?;
     }
     assert!(rt; left.is_empty());
-    assert_eq!(rt;
-        right.find("b"),
-        Shape::new(0, 0, 0, 3).map(|shape| (0, shape))
-    );
+    assert!(rt; right.find("b") == Shape::new(0, 0, 0, 3).map(|shape| (0, shape)));
     for edit in &edits {
         if edit.side() == Side::Right {
-            assert_eq!(rt;
-                edit.apply(&mut left, &mut right),
-                Err(LayerFault::DoubleId)
-            );
+            assert!(rt; edit.apply(&mut left, &mut right) == Err(LayerFault::DoubleId));
         }
     }
-    assert_eq!(rt; right.len(), 1);
+    assert!(rt; right.len() == 1);
     Ok(())
 }

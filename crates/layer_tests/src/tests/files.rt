@@ -56,11 +56,11 @@ fn broken_files(rt: HostRuntime) -> Result<(), Fail> {
     }
     let mut failing = FromRead::new(Device::new(b"id,wkt\na,POINT (1 2)\n", 5, 1));
     let answer = read_layer(rt.alloc(), RandomState::new(&rt)?, &mut failing);
-    assert_eq!(rt; answer.err(), Some(ReadFault::Io));
+    assert!(rt; answer.err() == Some(ReadFault::Io));
     assert!(rt; failing.failed());
     let mut endless = FromRead::new(devices::Endless);
     let answer = read_layer(rt.alloc(), RandomState::new(&rt)?, &mut endless);
-    assert_eq!(rt; answer.err(), Some(ReadFault::TooLong));
+    assert!(rt; answer.err() == Some(ReadFault::TooLong));
     assert!(rt; !endless.failed());
     Ok(())
 }
@@ -74,12 +74,9 @@ fn spelled_files(rt: HostRuntime) -> Result<(), Fail> {
     ];
     for bytes in files {
         let layer = layer_of_bytes(rt.alloc(), RandomState::new(&rt)?, bytes)?;
-        assert_eq!(rt; layer.len(), 2);
-        assert_eq!(rt;
-            layer.find("a"),
-            Shape::new(1, 0, 3, 0).map(|shape| (0, shape))
-        );
-        assert_eq!(rt; layer.find("b \"c\""), Some((1, point(&rt, 4, 4))));
+        assert!(rt; layer.len() == 2);
+        assert!(rt; layer.find("a") == Shape::new(1, 0, 3, 0).map(|shape| (0, shape)));
+        assert!(rt; layer.find("b \"c\"") == Some((1, point(&rt, 4, 4))));
     }
     Ok(())
 }
@@ -89,28 +86,22 @@ fn full_file(rt: HostRuntime) -> Result<(), Fail> {
     let mut file = points_file(rt.alloc(), 1_000_000)?;
     file.push_str("p0,POINT (0 0)\n")?;
     let answer = layer_of_bytes(rt.alloc(), RandomState::new(&rt)?, file.as_bytes());
-    assert_eq!(rt;
-        answer.err(),
-        Some(ReadFault::Layer(1_000_001, LayerFault::DoubleId))
-    );
+    assert!(rt; answer.err() == Some(ReadFault::Layer(1_000_001, LayerFault::DoubleId)));
     let mut file = points_file(rt.alloc(), 1_000_000)?;
     file.push_str("q,POINT (0 0)\n")?;
     let answer = layer_of_bytes(rt.alloc(), RandomState::new(&rt)?, file.as_bytes());
-    assert_eq!(rt;
-        answer.err(),
-        Some(ReadFault::Layer(1_000_001, LayerFault::LayerFull))
-    );
+    assert!(rt; answer.err() == Some(ReadFault::Layer(1_000_001, LayerFault::LayerFull)));
     Ok(())
 }
 
 #[test]
 fn fault_texts(rt: HostRuntime) -> Result<(), Fail> {
     let fault = ReadFault::Layer(12, LayerFault::DoubleId);
-    assert_eq!(rt; fault.row(), Some(12));
+    assert!(rt; fault.row() == Some(12));
     let text = format!(in rt.alloc(); "{fault}")?;
     assert!(rt; text.as_str() == "row 12: id is already there");
     let text = format!(in rt.alloc(); "{}", ReadFault::TooLong)?;
     assert!(rt; text.as_str() == "file is too long");
-    assert_eq!(rt; ReadFault::TooLong.row(), None);
+    assert!(rt; ReadFault::TooLong.row() == None);
     Ok(())
 }

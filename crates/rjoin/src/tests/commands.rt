@@ -68,9 +68,9 @@ fn check<R: Abort + RandomSource + AllocGlobal>(
         &mut errors,
     );
     let (output, errors) = (output.into_inner(), errors.into_inner());
-    assert_eq!(rt; errors.as_slice(), said.as_bytes());
-    assert_eq!(rt; output.as_slice(), written.as_bytes());
-    assert_eq!(rt; ended, status);
+    assert!(rt; errors.as_slice() == said.as_bytes());
+    assert!(rt; output.as_slice() == written.as_bytes());
+    assert!(rt; ended == status);
     Ok(())
 }
 
@@ -226,4 +226,45 @@ fn geometries_in_order(rt: HostRuntime) -> Result<(), Fail> {
         "",
         "rjoin: second: not a geometry text\n",
     )
+}
+
+#[test]
+fn fields_that_meet_a_window(rt: HostRuntime) -> Result<(), Fail> {
+    let files = [("data/parcels.csv", PARCELS), ("data/roads.csv", ROADS)];
+    let window = "LINESTRING (5 10, 5 12)";
+    let words = ["window", "data/parcels.csv", window];
+    check(
+        &rt,
+        &files,
+        &words,
+        0,
+        "id\nmill field\n\"meadow, upper\"\n",
+        "",
+    )?;
+    let words = ["stats", "data/roads.csv"];
+    let counts = "features 4\npoints 0\nsegments 4\nrectangles 0\nheight 1\n";
+    check(&rt, &files, &words, 0, counts, "")
+}
+
+#[test]
+fn layer_faults(rt: HostRuntime) -> Result<(), Fail> {
+    for (words, said) in [
+        (
+            ["window", "l.csv", "x"].as_slice(),
+            "rjoin: layer: cannot be opened\n",
+        ),
+        (
+            &["window", "bad.csv", "x"],
+            "rjoin: window: not a geometry text\n",
+        ),
+        (
+            &["window", "bad.csv", "POINT (0 0)"],
+            "rjoin: layer: row 2: id is already there\n",
+        ),
+        (&["stats", "l.csv"], "rjoin: layer: cannot be opened\n"),
+        (&["stats", "edits.csv"], "rjoin: layer: wrong header\n"),
+    ] {
+        check(&rt, &FILES, words, 1, "", said)?;
+    }
+    Ok(())
 }

@@ -11,7 +11,17 @@ use std::test::Fail;
 fn relate_words(rt: HostRuntime) -> Result<(), Fail> {
     let command = read_words(rt.alloc(), &["rjoin", "relate", "POINT (0 0)", "x"])?;
     let a = "POINT (0 0)";
-    assert_eq!(rt; command, Command::Relate { a, b: "x" });
+    assert!(rt; command == Command::Relate { a, b: "x" });
+    Ok(())
+}
+
+#[test]
+fn layer_words(rt: HostRuntime) -> Result<(), Fail> {
+    let command = read_words(rt.alloc(), &["rjoin", "window", "q.csv", "POINT (4 4)"])?;
+    let wkt = "POINT (4 4)";
+    assert!(rt; command == Command::Window { path: "q.csv", wkt });
+    let command = read_words(rt.alloc(), &["rjoin", "stats", "l.csv"])?;
+    assert!(rt; command == Command::Stats { path: "l.csv" });
     Ok(())
 }
 
@@ -23,6 +33,9 @@ fn usage_faults(rt: HostRuntime) -> Result<(), Fail> {
         &["rjoin", "relate", "x"],
         &["rjoin", "relate", "x", "y", "z"],
         &["rjoin", "bridge"],
+        &["rjoin", "window", "q.csv"],
+        &["rjoin", "stats"],
+        &["rjoin", "stats", "l.csv", "q.csv"],
         &["rjoin", "join", "l.csv", "q.csv"],
         &["rjoin", "join", "l.csv", "--relation", "touches"],
         &[
@@ -47,7 +60,7 @@ fn usage_faults(rt: HostRuntime) -> Result<(), Fail> {
         ],
     ] {
         match read_words(rt.alloc(), words) {
-            Err(fault @ WordFault::Usage { .. }) => assert_eq!(rt; word_status(&fault), 2),
+            Err(fault @ WordFault::Usage { .. }) => assert!(rt; word_status(&fault) == 2),
             _ => panic!(rt; "no usage fault"),
         }
     }
@@ -59,7 +72,7 @@ fn help_and_version(rt: HostRuntime) -> Result<(), Fail> {
     let Err(fault) = read_words(rt.alloc(), &["rjoin", "--version"]) else {
         panic!(rt; "no version");
     };
-    assert_eq!(rt; word_status(&fault), 0);
+    assert!(rt; word_status(&fault) == 0);
     let mut sink = ToWrite::new(Vec::new(rt.alloc()));
     word_line(&fault, &mut sink)?;
     let written: Vec<u8> = sink.into_inner();
@@ -68,7 +81,7 @@ fn help_and_version(rt: HostRuntime) -> Result<(), Fail> {
         let Err(fault) = read_words(rt.alloc(), words) else {
             panic!(rt; "no help");
         };
-        assert_eq!(rt; word_status(&fault), 0);
+        assert!(rt; word_status(&fault) == 0);
     }
     Ok(())
 }
@@ -78,8 +91,8 @@ fn no_memory_line(rt: HostRuntime) -> Result<(), Fail> {
     let mut sink = ToWrite::new(Vec::new(rt.alloc()));
     word_line(&WordFault::Memory, &mut sink)?;
     let written: Vec<u8> = sink.into_inner();
-    assert_eq!(rt; written.as_slice(), b"rjoin: no memory\n".as_slice());
-    assert_eq!(rt; word_status(&WordFault::Memory), 1);
+    assert!(rt; written.as_slice() == b"rjoin: no memory\n".as_slice());
+    assert!(rt; word_status(&WordFault::Memory) == 1);
     Ok(())
 }
 
@@ -93,11 +106,11 @@ fn check_refused(
     let Err(fault) = read_words(rt.alloc(), words) else {
         panic!(rt; "no fault");
     };
-    assert_eq!(rt; word_status(&fault), status);
+    assert!(rt; word_status(&fault) == status);
     let mut sink = ToWrite::new(Vec::new(rt.alloc()));
     word_line(&fault, &mut sink)?;
     let written: Vec<u8> = sink.into_inner();
-    assert_eq!(rt; written.as_slice(), line.as_bytes());
+    assert!(rt; written.as_slice() == line.as_bytes());
     Ok(())
 }
 
@@ -165,7 +178,7 @@ fn check_join(
         relation: JoinRelation::new(Relation::Within)?,
         options: Options::new(numbers.0, numbers.1, numbers.2)?,
     };
-    assert_eq!(rt; read_words(rt.alloc(), words.as_slice())?, wanted);
+    assert!(rt; read_words(rt.alloc(), words.as_slice())? == wanted);
     Ok(())
 }
 

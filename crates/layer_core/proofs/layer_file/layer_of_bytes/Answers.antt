@@ -10,4 +10,4 @@ returns-in_err-insert_row-clause-file c =
     rw (p.1, p.2)
     (λ known.
     let gives = rw (reads.numbered, c.row.ensures) at (c.in_err-insert_row.ensures.err (λ e. known (ap Err e))) in
-    c.loop-layer.invariant.1 (Err fault) (rw reads.row (Err fault, gives, refl)))
+    c.loop-loading.invariant.1 (Err fault) (rw reads.row (Err fault, gives, refl)))

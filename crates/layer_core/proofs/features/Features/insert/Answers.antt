@@ -30,7 +30,7 @@ returns-in-Some-clause-inserted c =
     let held = rw done.old at c.in-Some.ensures in
     let back = (inserts_double c.self.inside.ids.entries c.self.inside.slots.items c.self.inside.count c.self.invariant c.args.id slot
     (Some c.len-number.result) c.in-Some.live done.index held).0 in
-    rw (done.entries, back, c.reserve.ensures.items) c.self.view_is
+    rw (done.entries, back, c.reserve.ensures.items) (ap (λ f. f.list) c.self.view_is)
 
 -- what the insertion does, where the id had no feature
 new_feature :

@@ -1,0 +1,29 @@
+-- What the inputs of a run give, and which faults blame one.
+use Rattle.std.specs.Prelude.{⊤, ℕ, List, Option, Result, IfSome}
+use Rattle.layer_core.specs.declared.fault.LayerFault.{LayerFault}
+use Rattle.layer_core.specs.declared.fault.LayerFault.TheVariants as layer_faults
+use Rattle.layer_core.specs.declared.read_fault.ReadFault.{ReadFault}
+use Rattle.layer_core.specs.declared.read_fault.ReadFault.TheVariants as read_faults
+use Rattle.layer_core.specs.Layers.{Contents}
+use Rattle.layer_core.specs.LayerFiles.{IsLayerFile}
+use Rattle.join_core.specs.declared.fault.RunFault.{RunFault}
+use Rattle.join_core.specs.declared.fault.RunFault.TheVariants.{Read, Edit}
+
+-- what a file of a layer gives, where its bytes are known
+abbrev pub LayerFile : Option (List ℕ) → Result Contents ReadFault → Type 0
+LayerFile known answer = IfSome known (λ bytes. IsLayerFile bytes answer)
+
+-- a fault of an input's bytes, and not of a device or of memory
+abbrev pub BlamesBytes : ReadFault → Type 0
+BlamesBytes read_faults.Io = ⊥
+BlamesBytes read_faults.Memory = ⊥
+BlamesBytes _ = ⊤
+
+abbrev pub BlamesEdit : LayerFault → Type 0
+BlamesEdit layer_faults.Memory = ⊥
+BlamesEdit _ = ⊤
+
+abbrev pub BlamesInput : RunFault → Type 0
+BlamesInput (Read input f) = BlamesBytes f
+BlamesInput (Edit row f) = BlamesEdit f
+BlamesInput _ = ⊥

@@ -1,0 +1,15 @@
+-- Counts as lines of text.
+use Rattle.std.specs.Prelude.{ℕ, List, [], ◌∷◌, ◌++◌, codes, decimal}
+use Rattle.layer_core.specs.declared.stats.Stats.{Stats}
+
+-- a word, a space, a number in decimal digits and a line feed
+abbrev pub count_line : List ℕ → ℕ → List ℕ
+count_line word count = word ++ codes " " ++ decimal count ++ 10 ∷ []
+
+abbrev pub stats_text : Stats → List ℕ
+stats_text stats =
+    count_line (codes "features") stats.features
+    ++ count_line (codes "points") stats.points
+    ++ count_line (codes "segments") stats.segments
+    ++ count_line (codes "rectangles") stats.rectangles
+    ++ count_line (codes "height") stats.height

@@ -1,0 +1,40 @@
+-- What a window over the file of a layer gives.
+use Rattle.std.specs.Prelude.{⊤, ℕ, List, Option, Result, Ok, Err}
+use Rattle.geom_core.specs.declared.shape.Shape.{Shape}
+use Rattle.layer_core.specs.declared.read_fault.ReadFault.{ReadFault}
+use Rattle.layer_core.specs.Layers.{Contents}
+use Rattle.wkt_core.specs.declared.fault.WktFault.{WktFault}
+use Rattle.wkt_core.specs.Readings.{Reads}
+use Rattle.join_core.specs.declared.fault.Input.{Input}
+use Rattle.join_core.specs.declared.fault.Input.TheVariants as input
+use Rattle.join_core.specs.declared.fault.RunFault.{RunFault}
+use Rattle.join_core.specs.declared.fault.RunFault.TheVariants.{Read, Wkt, Memory}
+use Rattle.join_core.specs.Inputs.{LayerFile}
+use Rattle.join_core.specs.Windows.{IsWindowList}
+
+-- the list of the features that meet the window, or the first fault of its text and the layer's
+-- file, in this order
+pub data WindowGives (wkt : List ℕ) (file : Option (List ℕ))
+    : Result (List ℕ) RunFault → Type 0 where
+  text_fault : (f : WktFault) → Reads wkt (Err f)
+      → WindowGives wkt file (Err (Wkt input.Window f))
+  layer_fault : (window : Shape) (f : ReadFault) → Reads wkt (Ok window) → LayerFile file (Err f)
+      → WindowGives wkt file (Err (Read input.Layer f))
+  listed : (window : Shape) (layer : Contents) (text : List ℕ) → Reads wkt (Ok window)
+      → LayerFile file (Ok layer) → IsWindowList window layer text
+      → WindowGives wkt file (Ok text)
+
+abbrev pub IsWindowText : List ℕ → Option (List ℕ) → List ℕ → Type 0
+IsWindowText wkt file text = WindowGives wkt file (Ok text)
+
+-- what is wrong with the window's text
+abbrev pub HasWindowFault : List ℕ → Input → WktFault → Type 0
+HasWindowFault wkt input.Window f = Reads wkt (Err f)
+HasWindowFault wkt _ f = ⊥
+
+-- a fault that a window may have, that of its sink aside
+abbrev pub IsWindowFault : RunFault → Type 0
+IsWindowFault (Wkt input.Window f) = ⊤
+IsWindowFault (Read input.Layer f) = ⊤
+IsWindowFault Memory = ⊤
+IsWindowFault _ = ⊥

@@ -1,0 +1,30 @@
+-- The features of a layer that meet a window.
+use Rattle.std.specs.Prelude.{◌≡◌, ℕ, List, [], ◌∷◌, Some, codes, map}
+use Rattle.geom_core.specs.declared.shape.Shape.{Shape}
+use Rattle.geom_core.specs.Cells.{Meets}
+use Rattle.layer_core.specs.Layers.{Feature, Contents, with_number}
+use Rattle.join_core.specs.CsvTexts.{csv_text}
+
+-- the ids of the features whose shapes meet the window, in the order of the features
+pub data MeetingIds (window : Shape) : List Feature → List (List ℕ) → Type 0 where
+  none : MeetingIds window [] []
+  met : {f : Feature} {features : List Feature} {ids : List (List ℕ)} →
+      Meets f.shape window →
+      MeetingIds window features ids →
+      MeetingIds window (f ∷ features) (f.id ∷ ids)
+  missed : {f : Feature} {features : List Feature} {ids : List (List ℕ)} →
+      ¬ (Meets f.shape window) →
+      MeetingIds window features ids →
+      MeetingIds window (f ∷ features) ids
+
+-- the record `id`, and one for each id in turn
+pub record IsWindowList (window : Shape) (layer : Contents) (text : List ℕ) : Type 0 where
+  pub ids : List (List ℕ)
+  pub meeting : MeetingIds window layer.features ids
+  pub written : text ≡ csv_text ((codes "id" ∷ []) ∷ map (λ id. id ∷ []) ids)
+
+-- the layer holds a feature with this number, whose shape meets the window
+pub record MeetsAt (window : Shape) (layer : Contents) (number : ℕ) : Type 0 where
+  pub feature : Feature
+  pub held : with_number number layer ≡ Some feature
+  pub meets : Meets feature.shape window

@@ -1,0 +1,11 @@
+//! Joins of two layers: edits, pairs, report, and the run of all three over files.
+
+mod edits;
+mod pairs;
+mod report;
+mod run;
+
+pub use edits::apply_edits;
+pub use pairs::join;
+pub use report::report_text;
+pub use run::run_join;

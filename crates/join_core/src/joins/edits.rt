@@ -1,0 +1,30 @@
+//! Edits of two layers, made in turn.
+
+ghost use Rattle.std.specs.Prelude.{◌≡◌, ◌<◌, ◌^◌, ℕ, Ok, Err, IfErr, OnOk, length, map};
+ghost use Rattle.layer_core.specs.declared.fault.LayerFault.{LayerFault};
+ghost use Rattle.layer_core.specs.Edits.{both, content_of, edits_give};
+ghost use Rattle.join_core.specs.Inputs.{BlamesEdit};
+
+use crate::fault::RunFault;
+use layer_core::{Edit, Layer};
+
+/// Makes the edits in order, up to the first that is refused. Edit k is row k + 1.
+pub fn apply_edits(edits: &[Edit], left: &mut Layer, right: &mut Layer) -> Result<(), RunFault>
+    requires { length edits.now < 2 ^ 32 }
+    ensures ok { OnOk result
+        (edits_give 1 (both left.old.list right.old.list) (map content_of edits.now)
+        ≡ Ok (both left.new.list right.new.list)) }
+    ensures err { IfErr result (λ e. (row : ℕ) × (f : LayerFault) × (e ≡ RunFault.Edit row f)
+        × (BlamesEdit f →
+        edits_give 1 (both left.old.list right.old.list) (map content_of edits.now)
+        ≡ Err (row, f))) }
+{
+    let mut row = 0;
+    for edit in edits {
+        row += 1;
+        if let Err(fault) = edit.apply(left, right) {
+            return Err(RunFault::Edit(row, fault));
+        }
+    }
+    Ok(())
+}

@@ -1,0 +1,113 @@
+//! The features of a layer that meet a window.
+
+ghost use Rattle.std.specs.Prelude.{◌≡◌, ◌≢◌, ◌↔◌, [], ◌∷◌, List, ℕ, Err, Some, false, Contains, IsSome, IsTrue, IfOk, IfErr, IsErrOf, OnOk, AllPairs, ◌<◌};
+ghost use Rattle.std.specs.Option.{option_map};
+ghost use Rattle.layer_core.specs.declared.read_fault.ReadFault.{ReadFault};
+ghost use Rattle.layer_core.specs.Layers.{IsLayer, with_number};
+ghost use Rattle.wkt_core.specs.declared.fault.WktFault.{WktFault};
+ghost use Rattle.join_core.specs.declared.fault.Input.{Input};
+ghost use Rattle.join_core.specs.CsvWriting.{AddsRow};
+ghost use Rattle.join_core.specs.Inputs.{BlamesInput};
+ghost use Rattle.join_core.specs.Runs.{Ends};
+ghost use Rattle.join_core.specs.WindowRuns.{WindowGives, IsWindowText, HasWindowFault, IsWindowFault};
+ghost use Rattle.join_core.specs.Windows.{IsWindowList, MeetsAt};
+
+use crate::csv_rows::{new_rows, push_row, rows_text};
+use crate::fault::{Input, RunFault};
+use crate::layer_input::read_input;
+use crate::writing::{Sink, write_text};
+use csv::Writer;
+use geom_core::Shape;
+use layer_core::{Layer, ReadFault, Source};
+use std::alloc::{AllocError, Global};
+use std::hash::RandomState;
+
+/// Writes which features of a layer meet a window: a CSV record `id`, and then one with the id of
+/// each feature whose shape shares a point with the window's, in layer order.
+///
+/// The text of the window is read first, then the layer, whose ids `state` hashes. The first fault
+/// is answered, and then nothing is written.
+pub fn run_window<L: Source, S: Sink>(
+    alloc: Global,
+    state: RandomState,
+    layer: &mut L,
+    wkt: &[u8],
+    sink: &mut S,
+) -> Result<(), RunFault>
+    requires layer { L.has_failed layer.old ≡ false }
+    requires sink { S.has_failed sink.old ≡ false }
+    ensures writes { Ends (IsWindowText wkt.now (L.remaining layer.old))
+        S.written S.is_flushed S.has_failed sink.old sink.new result }
+    ensures wkt { (i : Input) (f : WktFault) →
+        (result ≡ Err (RunFault.Wkt i f)) ↔ HasWindowFault wkt.now i f }
+    ensures fault { IfErr result (λ f.
+        BlamesInput f → WindowGives wkt.now (L.remaining layer.old) (Err f)) }
+    ensures faults { IfErr result (λ f. f ≢ RunFault.Write → IsWindowFault f) }
+    ensures io { IsErrOf result (RunFault.Read Input.Layer ReadFault.Io)
+        ↔ IsTrue (L.has_failed layer.new) }
+{
+    let text = window_run_text(alloc, state, layer, wkt)?;
+    write_text(sink, text.as_slice())?;
+    Ok(())
+}
+
+/// What `run_window` writes.
+fn window_run_text<L: Source>(
+    alloc: Global,
+    state: RandomState,
+    layer: &mut L,
+    wkt: &[u8],
+) -> Result<Vec<u8>, RunFault>
+    requires { L.has_failed layer.old ≡ false }
+    ensures ok { IfOk result (λ text. IsWindowText wkt.now (L.remaining layer.old) text.items) }
+    ensures wkt { (i : Input) (f : WktFault) →
+        (result ≡ Err (RunFault.Wkt i f)) ↔ HasWindowFault wkt.now i f }
+    ensures fault { IfErr result (λ f.
+        BlamesInput f → WindowGives wkt.now (L.remaining layer.old) (Err f)) }
+    ensures faults { IfErr result IsWindowFault }
+    ensures io { IsErrOf result (RunFault.Read Input.Layer ReadFault.Io)
+        ↔ IsTrue (L.has_failed layer.new) }
+{
+    let window = match wkt_core::read(wkt) {
+        Ok(shape) => shape,
+        Err(fault) => return Err(RunFault::Wkt(Input::Window, fault)),
+    };
+    let layer = read_input(alloc, Input::Layer, state, layer)?;
+    Ok(window_text(alloc, &layer, &window)?)
+}
+
+/// The ids of the features that meet the window, as CSV.
+fn window_text(alloc: Global, layer: &Layer, window: &Shape) -> Result<Vec<u8>, AllocError>
+    ensures { IfOk result (λ text. IsWindowList window.now layer.now.list text.items) }
+{
+    let numbers = numbers_meeting(alloc, layer, window)?;
+    let mut writer = new_rows(alloc);
+    push_row(&mut writer, &[b"id"])?;
+    for number in &numbers {
+        push_id(&mut writer, layer, *number)?;
+    }
+    rows_text(writer)
+}
+
+/// Writes the id of the feature with this number.
+fn push_id(writer: &mut Writer<Vec<u8>>, layer: &Layer, number: u32) -> Result<(), AllocError>
+    requires { IsSome (with_number number layer.now.list) }
+    ensures { OnOk result ((id : List ℕ)
+        × (option_map (λ f. f.id) (with_number number layer.now.list) ≡ Some id)
+        × AddsRow writer.old writer.new (id ∷ [])) }
+{
+    let (id, _) = layer.at(number).unwrap();
+    push_row(writer, &[id.as_bytes()])
+}
+
+/// The numbers of the features that meet the window, in layer order.
+fn numbers_meeting(alloc: Global, layer: &Layer, window: &Shape) -> Result<Vec<u32>, AllocError>
+    ensures layer { IsLayer layer.now.list }
+    ensures rising { IfOk result (λ numbers. AllPairs (λ a b. a < b) numbers.items) }
+    ensures exact { IfOk result (λ numbers. (k : ℕ) →
+        Contains numbers.items k ↔ MeetsAt window.now layer.now.list k) }
+{
+    // That numbers rise is what the layer says of itself.
+    let _len = layer.len();
+    layer.tree().window(alloc, window)
+}

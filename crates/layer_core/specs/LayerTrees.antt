@@ -1,0 +1,36 @@
+-- The tree of a layer, which holds exactly its features.
+use Rattle.std.specs.Prelude.{List, Option, map, Result, Ok, Err}
+use Rattle.rtree_core.specs.declared.node.Entry.{Entry}
+use Rattle.rtree_core.specs.declared.node.Node.{Node}
+use Rattle.rtree_core.specs.Collections.{HasSame}
+use Rattle.rtree_core.specs.Trees.{entries_in, IsTree}
+use Rattle.layer_core.specs.declared.read_fault.ReadFault.{ReadFault}
+use Rattle.layer_core.specs.Layers.{Feature, Contents}
+
+-- what is seen of a layer: the list of its features, and the root of its tree
+pub record LayerState : Type 0 where
+  pub list : Contents
+  pub root : Option Node
+
+-- what the tree holds of a feature: its shape and its number
+abbrev pub indexed : Feature → Entry
+indexed f = record { shape = f.shape; number = f.number }
+
+-- what the tree of a layer holds, in layer order
+abbrev pub entries_for : Contents → List Entry
+entries_for layer = map indexed layer.features
+
+-- the tree with this root holds the shapes of the list's features with their numbers, each once,
+-- and nothing else
+abbrev pub HoldsExactly : Contents → Option Node → Type 0
+HoldsExactly layer root = HasSame (entries_for layer) (entries_in root)
+
+-- and it is a lawful tree
+pub record IsTreeOf (layer : Contents) (root : Option Node) : Type 0 where
+  pub lawful : IsTree root
+  pub same : HoldsExactly layer root
+
+-- the list of a layer that was read, or why none was
+abbrev pub list_read : Result LayerState ReadFault → Result Contents ReadFault
+list_read (Ok layer) = Ok layer.list
+list_read (Err fault) = Err fault

@@ -1,0 +1,29 @@
+-- How many features of each dimension a layer has, and how high its tree is.
+use Rattle.std.specs.Prelude.{ℕ, ◌+◌, ◌^◌, ◌<◌, ◌==◌, List, Bool, count_by, length}
+use Rattle.geom_core.specs.Shapes.{dim_of}
+use Rattle.rtree_core.specs.Trees.{height_of}
+use Rattle.layer_core.specs.declared.stats.Stats.{Stats}
+use Rattle.layer_core.specs.Layers.{Feature}
+use Rattle.layer_core.specs.LayerTrees.{LayerState}
+
+abbrev pub has_dim : ℕ → Feature → Bool
+has_dim dim f = dim_of f.shape == dim
+
+-- how many of some features are points, segments or rectangles: of dimension 0, 1 or 2
+abbrev pub count_of_dim : ℕ → List Feature → ℕ
+count_of_dim dim features = count_by (has_dim dim) features
+
+abbrev pub stats_of : LayerState → Stats
+stats_of layer = record {
+  features = length layer.list.features;
+  points = count_of_dim 0 layer.list.features;
+  segments = count_of_dim 1 layer.list.features;
+  rectangles = count_of_dim 2 layer.list.features;
+  height = height_of layer.root;
+}
+
+-- one more of any dimension can be counted
+pub record CanCount (s : Stats) : Type 0 where
+  pub points : s.points + 1 < 2 ^ 32
+  pub segments : s.segments + 1 < 2 ^ 32
+  pub rectangles : s.rectangles + 1 < 2 ^ 32

@@ -1,0 +1,80 @@
+//! A layer while it is loaded: its features go in one by one, and at the end its tree is packed.
+ghost use Rattle.std.specs.Prelude.{◌≡◌};
+
+use crate::fault::LayerFault;
+use crate::features::{Features, MAX_FEATURES};
+use crate::layer::Layer;
+use geom_core::Shape;
+use rtree_core::Entry;
+use std::alloc::{AllocError, Global};
+use std::hash::RandomState;
+use std::marker::Model;
+
+/// A layer that has no tree yet.
+#[derive(Drop)]
+pub(crate) struct Loading {
+    features: Features,
+    // What the tree is packed from.
+    entries: Vec<Entry>,
+}
+
+impl Model for Loading {
+    ghost use Rattle.layer_core.specs.Layers.{Contents};
+
+    ghost Value = { Contents };
+
+    ghost use Rattle.std.specs.Prelude.{◌≡◌};
+    ghost use Rattle.layer_core.specs.LayerTrees.{entries_for};
+
+    ghost view = { λ l. l.features.list };
+
+    ghost invariant = { λ l. l.entries.items ≡ entries_for l.features.list };
+}
+
+impl Loading {
+    ghost use Rattle.std.specs.Prelude.{◌≡◌, ◌≢◌, Err, IsTrue, OnOk, OnErr, IfOk};
+    ghost use Rattle.layer_core.specs.Layers.{empty, inserted};
+    ghost use Rattle.layer_core.specs.Refusals.{is_id, AnswersWith, insert_refusal};
+
+    /// No features, and room for so many. `state` hashes the ids.
+    pub(crate) fn new(alloc: Global, state: RandomState, room: usize) -> Result<Loading, AllocError>
+        ensures { IfOk result (λ loading. loading ≡ empty) }
+    {
+        Ok(Loading {
+            features: Features::with_room(alloc, state, room)?,
+            entries: Vec::with_capacity(alloc, room)?,
+        })
+    }
+
+    /// Inserts a feature at the end, under an id of 1 to 64 bytes.
+    pub(crate) fn add(&mut self, id: &str, shape: Shape) -> Result<(), LayerFault>
+        requires { IsTrue (is_id id.now) }
+        ensures ok { OnOk result (self.new ≡ inserted self.old id.now shape) }
+        ensures err { OnErr result (self.new ≡ self.old) }
+        // Memory may be refused before another reason is found.
+        ensures refused { result ≢ Err LayerFault.Memory
+            → AnswersWith (insert_refusal self.old id.now) result }
+    {
+        if self.features.next() >= MAX_FEATURES {
+            return match self.features.find(id) {
+                Some(_) => Err(LayerFault::DoubleId),
+                None => Err(LayerFault::LayerFull),
+            };
+        }
+        self.entries.reserve(1)?;
+        let number = self.features.next() as u32;
+        let id = String::from_str(self.features.allocator(), id)?;
+        if !self.features.insert(id, shape)? {
+            return Err(LayerFault::DoubleId);
+        }
+        self.entries.push_reserved(Entry { shape, number });
+        Ok(())
+    }
+
+    /// The layer of all features that were inserted.
+    pub(crate) fn finish(self, alloc: Global) -> Result<Layer, AllocError>
+        ensures { IfOk result (λ layer. layer.list ≡ self) }
+    {
+        Layer::pack(alloc, self.features, self.entries)
+    }
+}
