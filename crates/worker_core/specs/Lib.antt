@@ -1,0 +1,3 @@
+pub mod OneWorker
+pub mod Sending
+pub mod Workers
