@@ -1,4 +1,4 @@
-//! One line of a message, made on the stack.
+//! A short text, made on the stack: one line of a message, or the lines of a layer's counts.
 
 ghost use Rattle.std.specs.Prelude.{◌≡◌, ◌+◌, ◌<◌, ◌≤◌, ◌↔◌, List, ℕ, [], ◌∷◌, ◌++◌, false, length, decimal, codes, IsTrue, IsErr, OnOk, OnErr};
 ghost use Rattle.std.specs.Io.KnownBytes.{Appends};
@@ -10,10 +10,10 @@ use arrayvec::ArrayString;
 use itoa::Buffer;
 use std::marker::Model;
 
-/// Room for the longest message.
+/// Room for the longest of these texts, in bytes.
 pub const ROOM: usize = 128;
 
-/// A line that is being made, seen as its bytes.
+/// A line, or a few, that are being made, seen as their bytes.
 #[derive(Drop)]
 pub struct Line {
     text: ArrayString<ROOM>,
