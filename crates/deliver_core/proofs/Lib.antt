@@ -1,12 +1,20 @@
+mod OwnerExample
 pub mod BoardClaims
 pub mod BoardClosing
 pub mod BoardLaws
 pub mod BoardMoves
 pub mod BoardTallies
 pub mod Byes
+pub mod Collected
 pub mod Histories
+pub mod Interleavings
 pub mod OutletCalls
 pub mod OutletLaws
 pub mod OutletRule
+pub mod OwnedPairs
+pub mod OwnerLaws
+pub mod OwnerNumbers
+pub mod Prefixes
 pub mod Refusals
 pub mod Scripts
+pub mod TaskParts

@@ -1,5 +1,5 @@
 -- what a collector holds, which messages it refuses and what it does with the others
-use Rattle.std.specs.Prelude.{◌≡◌, ◌↔◌, ℕ, ◌<◌, false, nat_lt, nat_le, ◌==◌, if◌then◌else◌, List, ◌++◌, Option, Some, None, Result, Ok, Err, IsTrue}
+use Rattle.std.specs.Prelude.{◌≡◌, ◌↔◌, ℕ, ◌<◌, false, nat_lt, nat_le, ◌==◌, if◌then◌else◌, List, [], ◌∷◌, ◌++◌, fold, Option, Some, None, Result, Ok, Err, IsTrue}
 use Rattle.std.specs.Ordering.{nat_cmp, ordering_then}
 use Rattle.std.specs.declared.cmp.Ordering.{Ordering}
 use Rattle.deliver_core.specs.declared.mark.Mark.{Mark}
@@ -49,6 +49,16 @@ accept c content = record {
   marks = c.marks ++ marks_in content;
   pairs = c.pairs ++ pairs_in content;
 }
+
+-- the collection of so many tasks that has accepted these messages, in this order
+abbrev pub collected : ℕ → List Content → Collection
+collected tasks contents = fold accept (record { tasks = tasks; marks = []; pairs = [] }) contents
+
+-- a collector of so many tasks that is offered these messages in turn refuses none of them, for
+-- want of memory aside
+abbrev pub RefusesNone : ℕ → List Content → Type 0
+RefusesNone tasks contents = (before after : List Content) (next : Content)
+    → before ++ next ∷ after ≡ contents → refusal_of (collected tasks before) next ≡ None
 
 -- a message is refused exactly where its mark would leave no legal history
 abbrev pub RefusesIllegal : Type 0

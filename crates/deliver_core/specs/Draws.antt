@@ -1,5 +1,5 @@
 -- The board as a list of events: seats draw the numbers of tasks, one after another, from one word.
-use Rattle.std.specs.Prelude.{◌≡◌, ℕ, ◌+◌, Bool, true, false, List, [], ◌∷◌, ◌++◌, min, nat_lt, ◌==◌, if◌then◌else◌, slice_get, slice_set, replicate, length, count_by, sum_by, fold}
+use Rattle.std.specs.Prelude.{◌≡◌, ℕ, ◌+◌, ◌≤◌, Bool, true, false, List, [], ◌∷◌, ◌++◌, min, nat_lt, ◌==◌, if◌then◌else◌, slice_get, slice_set, replicate, length, count_by, sum_by, fold}
 use Rattle.std.specs.Option.{option_map_or}
 
 -- what a seat has drawn, in order, and whether it is done: it has met the end of the numbers
@@ -50,6 +50,10 @@ once_below n x = if nat_lt x n then 1 else 0
 -- the list has the numbers below n, each once, and no other
 abbrev pub AreNumbersBelow : ℕ → List ℕ → Type 0
 AreNumbersBelow n xs = (x : ℕ) → times x xs ≡ once_below n x
+
+-- each number of the list is below n, and stands in it once
+abbrev pub AreSomeBelow : ℕ → List ℕ → Type 0
+AreSomeBelow n xs = (x : ℕ) → times x xs ≤ once_below n x
 
 -- What holders have drawn of a word together: the numbers below it, as far as there are tasks, each
 -- once; the other draws, which found no number, are counted by `over`.

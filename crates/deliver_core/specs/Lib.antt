@@ -10,6 +10,7 @@ pub mod OutletCalls
 pub mod OutletRule
 pub mod OutletSteps
 pub mod Outlets
+pub mod Owners
 pub mod PassViews
 pub mod Ports
 pub mod Progress

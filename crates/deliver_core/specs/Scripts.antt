@@ -1,6 +1,6 @@
 -- what a message says, and the script of a task
-use Rattle.std.specs.Prelude.{ℕ, ◌+◌, ◌-◌, ◌*◌, ◌/◌, Bool, List, [], ◌∷◌, ◌++◌, map, length, take, drop}
-use Rattle.std.specs.List.{range_with_len}
+use Rattle.std.specs.Prelude.{ℕ, ◌+◌, ◌-◌, ◌*◌, ◌/◌, ◌==◌, Bool, false, List, [], ◌∷◌, ◌++◌, map, filter, length, take, drop}
+use Rattle.std.specs.List.{flat_map, range_with_len}
 use Rattle.deliver_core.specs.declared.mark.Mark.{Mark}
 use Rattle.deliver_core.specs.declared.mark.Mark.TheVariants.{Batch, End}
 use Rattle.deliver_core.specs.declared.message.Body.{Body}
@@ -38,6 +38,16 @@ pairs_in (batch_of task number pairs) = pairs
 pairs_in (end_of task count) = []
 pairs_in (bye ok) = []
 
+-- whether it is a batch or the end of this task
+abbrev pub is_of : ℕ → Content → Bool
+is_of task (batch_of other number pairs) = other == task
+is_of task (end_of other count) = other == task
+is_of task (bye ok) = false
+
+-- the batches and the end of a task, in order
+abbrev pub of_task : ℕ → List Content → List Content
+of_task task contents = filter (is_of task) contents
+
 -- how many batches of so many pairs a row takes, the last of which may be shorter
 abbrev pub batches_for : ℕ → List (ℕ × ℕ) → ℕ
 batches_for size row = (length row + (size - 1)) / size
@@ -56,3 +66,11 @@ script_batches task size row count =
 abbrev pub script : ℕ → ℕ → List (ℕ × ℕ) → List Content
 script task size row =
     script_batches task size row (batches_for size row) ++ end_of task (batches_for size row) ∷ []
+
+-- a task, by its number and its row
+abbrev pub Task : Type 0
+Task = ℕ × List (ℕ × ℕ)
+
+-- the scripts of tasks, one behind the other
+abbrev pub scripts_of : ℕ → List Task → List Content
+scripts_of size tasks = flat_map (λ task. script task.0 size task.1) tasks

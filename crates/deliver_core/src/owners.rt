@@ -1,0 +1,28 @@
+//! The law of owners.
+ghost use Rattle.std.specs.Prelude.{◌≡◌, ℕ, ◌<◌, [], All, IsPermutation, flat_map};
+ghost use Rattle.deliver_core.specs.Collectors.{RefusesNone};
+ghost use Rattle.deliver_core.specs.Draws.{times};
+ghost use Rattle.deliver_core.specs.Marks.{IsClosed};
+ghost use Rattle.deliver_core.specs.Owners.{Owners, KeepsOwners, IsComplete, BeginsScript, IsScript, owned_tasks, owned_numbers, contents, collection};
+ghost use Rattle.deliver_core.specs.Scripts.{of_task};
+
+/// Law of owners, for any number of ports: where no task has two owners, and each port sends the
+/// scripts of its own tasks in order, or a beginning of them, then the messages of each task come
+/// as in its script, whichever way those of the ports interleave, and a new collector refuses none
+/// of them but for want of memory.
+///
+/// Where besides each task has an owner and each port has sent all, the history is closed, each
+/// task's messages are its script, and the pairs are those of the rows, each as often.
+pub fn owners_law()
+    ensures begins { (o : Owners) → KeepsOwners o → All (BeginsScript o) (owned_tasks o) }
+    ensures unowned { (o : Owners) → KeepsOwners o
+        → (task : ℕ) → times task (owned_numbers o) ≡ 0 → of_task task (contents o) ≡ [] }
+    ensures accepted { (o : Owners) → KeepsOwners o → RefusesNone o.tasks (contents o) }
+
+    ensures closed { (o : Owners) → KeepsOwners o → IsComplete o
+        → IsClosed o.tasks (collection o).marks }
+    ensures scripts { (o : Owners) → KeepsOwners o → IsComplete o
+        → All (IsScript o) (owned_tasks o) }
+    ensures pairs { (o : Owners) → KeepsOwners o → IsComplete o → 0 < o.size
+        → IsPermutation (flat_map (λ task. task.1) (owned_tasks o)) (collection o).pairs }
+{}
