@@ -1,3 +1,7 @@
-pub mod OneWorker
+pub mod Deliveries
+pub mod Faults
+pub mod Gatherings
+pub mod Intakes
 pub mod Sending
+pub mod Teams
 pub mod Workers

@@ -1,6 +1,5 @@
 -- What a worker has sent, when it has worked off the tasks that it drew.
-use Rattle.std.specs.Prelude.{◌≡◌, ℕ, ◌<◌, Bool, false, List, [], ◌∷◌, ◌++◌, map, All, MatchBool, IsSomeAnd, slice_get}
-use Rattle.std.specs.List.{flat_map}
+use Rattle.std.specs.Prelude.{◌≡◌, ℕ, ◌<◌, Bool, true, false, List, [], ◌∷◌, ◌++◌, map, All, MatchBool, IsSomeAnd, slice_get}
 use mathlib.Core.List.{IsPrefix}
 use Rattle.geom_core.specs.declared.relation.Relation.{Relation}
 use Rattle.rtree_core.specs.declared.node.Node.{Node}
@@ -10,21 +9,18 @@ use Rattle.deliver_core.specs.declared.port.Port.{Port}
 use Rattle.deliver_core.specs.Boards.{BoardValue, SeatValue, IsSeatOf}
 use Rattle.deliver_core.specs.OutletCalls.{IsEndedPort}
 use Rattle.deliver_core.specs.Ports.{index_of, is_spent}
-use Rattle.deliver_core.specs.Scripts.{Content, bye, script}
-use Rattle.worker_core.specs.Sending.{Says}
+use Rattle.deliver_core.specs.Scripts.{Content, Task, bye, scripts_of}
+use Rattle.worker_core.specs.declared.working.Worked.{Worked}
+use Rattle.worker_core.specs.Sending.{said_by, Says}
 
 -- the row of the task of this number in the plan
-abbrev pub IsRowIn : Relation → List (Node × Node) → ℕ × List (ℕ × ℕ) → Type 0
+abbrev pub IsRowIn : Relation → List (Node × Node) → Task → Type 0
 IsRowIn relation plan row = IsSomeAnd (slice_get plan row.0) (λ task. IsRow relation task row.1)
-
--- the scripts of tasks, each given by its number and its row, in order
-abbrev pub scripts_of : ℕ → List (ℕ × List (ℕ × ℕ)) → List Content
-scripts_of size rows = flat_map (λ row. script row.0 size row.1) rows
 
 -- the scripts of the tasks of these numbers, in this order
 pub record AreScripts (relation : Relation) (plan : List (Node × Node)) (size : ℕ)
     (numbers : List ℕ) (said : List Content) : Type 0 where
-  pub rows : List (ℕ × List (ℕ × ℕ))
+  pub rows : List Task
   pub each : All (IsRowIn relation plan) rows
   pub numbers_are : map (λ row. row.0) rows ≡ numbers
   pub scripts : said ≡ scripts_of size rows
@@ -68,3 +64,12 @@ pub record IsReadyToMeet (outlet : Outlet) (index : ℕ) (port : Port) : Type 0 
   pub ended : IsEndedPort outlet port
   pub unmet : is_spent port ≡ false
   pub index_is : index_of port ≡ index
+
+-- what a worker comes back with: its port has said what it says, and its seat is done where it is
+-- ok
+pub record ComesBack (relation : Relation) (plan : List (Node × Node)) (size : ℕ)
+    (board : BoardValue) (outlet : Outlet) (index : ℕ) (w : Worked) : Type 0 where
+  pub says : WorkerSays relation plan size w.seat.drawn w.ok (said_by w.port)
+  pub seat : IsSeatBelow board w.seat
+  pub done : w.ok ≡ true → w.seat.done ≡ true
+  pub port : IsReadyToMeet outlet index w.port

@@ -1,13 +1,21 @@
-//! One worker of a join: it draws tasks from the board and sends their scripts by its port.
+//! The workers of a join: each draws tasks from the board and sends their scripts by its port, and
+//! who has started them gathers what they send.
 #![tactic(auto)]
 
+mod delivery;
+mod fault;
 mod gate;
+mod gathering;
+mod intake;
+mod pause;
 mod rows;
 mod script;
-mod threaded;
+mod shared;
+mod team;
 mod working;
 
+pub use delivery::{MAX_WORKERS, run_workers};
+pub use fault::JoinFault;
 pub use gate::{Gate, OpenGate};
 pub use rows::Rows;
-pub use threaded::one_worker;
 pub use working::{MAX_BATCH, Worked, worker};

@@ -1,6 +1,7 @@
 //! Where a worker has the rows of its tasks from.
-ghost use Rattle.std.specs.Prelude.{◌<◌, List, length, IfOk};
+ghost use Rattle.std.specs.Prelude.{◌≡◌, ◌<◌, ◌≤◌, List, length, IfOk};
 ghost use Rattle.geom_core.specs.JoinRelations.{relation_of};
+ghost use Rattle.descent_core.specs.Plans.{most_tasks};
 ghost use Rattle.rtree_core.specs.declared.node.Node.{Node};
 ghost use Rattle.worker_core.specs.Workers.{IsRowIn};
 
@@ -13,6 +14,11 @@ use std::alloc::{AllocError, Global};
 pub trait Rows {
     // The tasks, in the order of their numbers.
     ghost tasks: { Self → List (Node × Node) };
+
+    /// How many tasks there are.
+    fn len(&self) -> u32
+        ensures len { result ≡ length (tasks self.now) }
+        ensures few { result ≤ most_tasks };
 
     /// The row of the task of this number.
     fn row_of(
@@ -28,6 +34,10 @@ pub trait Rows {
 
 impl<'a> Rows for Plan<'a> {
     ghost tasks = { λ plan. plan };
+
+    fn len(&self) -> u32 {
+        self.len()
+    }
 
     fn row_of(
         &self,

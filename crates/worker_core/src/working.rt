@@ -6,11 +6,12 @@ ghost use Rattle.deliver_core.specs.OutletCalls.{IsFreshPort, IsOpenPort};
 ghost use Rattle.deliver_core.specs.Ports.{index_of};
 ghost use Rattle.worker_core.specs.Sending.{said_by, StaysOpen};
 ghost use Rattle.worker_core.specs.Workers.{IsSeatBelow, IsReadyToMeet, WorkerSays};
-ghost use Rattle.worker_core.specs.Workers.{AreScripts, BeginScripts, SaysScripts, SaysBeginning};
+ghost use Rattle.worker_core.specs.Workers.{AreScripts, BeginScripts, SaysScripts, SaysBeginning, ComesBack};
 
 use crate::gate::Gate;
 use crate::rows::Rows;
 use crate::script::send_script;
+use crate::shared::Shared;
 use deliver_core::{Board, BoardSeat, Outlet, Port};
 use descent_core::Plan;
 use geom_core::JoinRelation;
@@ -33,17 +34,17 @@ pub struct Worked {
 /// Draws tasks and sends the script of each, until there are none left, and then says bye. Before
 /// each task it enters the gate. Where memory is refused, it stops after a whole message and says
 /// bye with false.
-pub fn worker<R: Threads + Wait + Sync>(
+pub fn worker<'a, R: Threads + Wait + Sync>(
     rt: &R,
     alloc: Global,
-    plan: &Plan<'_>,
-    relation: &JoinRelation,
+    plan: &'a Plan<'_>,
+    relation: &'a JoinRelation,
     batch: u32,
-    board: &Board,
+    board: &'a Board,
     seat: BoardSeat,
-    outlet: &Outlet,
+    outlet: &'a Outlet,
     port: Port,
-    gate: &impl Gate,
+    gate: &'a impl Gate,
 ) -> Worked
     requires batch { (1 ≤ batch) × (batch ≤ MAX_BATCH) }
     requires tasks { board.now.tasks ≡ length plan.now }
@@ -55,95 +56,92 @@ pub fn worker<R: Threads + Wait + Sync>(
     ensures done { result.ok ≡ true → result.seat.done ≡ true }
     ensures port { IsReadyToMeet outlet.now (index_of port) result.port }
 {
-    work(
-        rt, alloc, plan, relation, batch, board, seat, outlet, port, gate,
-    )
+    let shared = Shared {
+        plan,
+        relation,
+        batch,
+        gate,
+        board,
+        outlet,
+    };
+    work(rt, alloc, &shared, seat, port)
 }
 
 /// The same, given what has the tasks' rows.
-pub(crate) fn work<R: Threads + Wait + Sync, P: Rows>(
+pub(crate) fn work<R: Threads + Wait + Sync, P: Rows, G: Gate>(
     rt: &R,
     alloc: Global,
-    plan: &P,
-    relation: &JoinRelation,
-    batch: u32,
-    board: &Board,
+    shared: &Shared<'_, P, G>,
     mut seat: BoardSeat,
-    outlet: &Outlet,
     mut port: Port,
-    gate: &impl Gate,
 ) -> Worked
-    requires batch { (1 ≤ batch) × (batch ≤ MAX_BATCH) }
-    requires tasks { board.now.tasks ≡ length (P.tasks plan.now) }
-    requires seat { seat ≡ fresh_seat board.now }
-    requires port { IsFreshPort outlet.now port }
-    ensures says { let drawn = result.seat.drawn in let plan = P.tasks plan.now in
-        WorkerSays (relation_of relation.now) plan batch drawn result.ok (said_by result.port) }
-    ensures seat { IsSeatBelow board.now result.seat }
-    ensures done { result.ok ≡ true → result.seat.done ≡ true }
-    ensures port { IsReadyToMeet outlet.now (index_of port) result.port }
+    requires batch { (1 ≤ shared.now.batch) × (shared.now.batch ≤ MAX_BATCH) }
+    requires tasks { shared.now.board.now.tasks ≡ length (P.tasks shared.now.plan.now) }
+    requires seat { seat ≡ fresh_seat shared.now.board.now }
+    requires port { IsFreshPort shared.now.outlet.now port }
+    ensures { let relation = relation_of shared.now.relation.now in
+        let plan = P.tasks shared.now.plan.now in let size = shared.now.batch in
+        let board = shared.now.board.now in let outlet = shared.now.outlet.now in
+        ComesBack relation plan size board outlet (index_of port) result }
 {
-    let worked = work_off(
-        rt, alloc, plan, relation, batch, board, &mut seat, outlet, &mut port, gate,
-    );
+    let worked = work_off(rt, alloc, shared, &mut seat, &mut port);
     let ok = worked.is_ok();
-    outlet.bye(rt, &mut port, ok);
+    shared.outlet.bye(rt, &mut port, ok);
     Worked { seat, port, ok }
 }
 
 /// Works off tasks until the seat meets the end of them.
-fn work_off<R: Threads + Wait + Sync, P: Rows>(
+fn work_off<R: Threads + Wait + Sync, P: Rows, G: Gate>(
     rt: &R,
     alloc: Global,
-    plan: &P,
-    relation: &JoinRelation,
-    batch: u32,
-    board: &Board,
+    shared: &Shared<'_, P, G>,
     seat: &mut BoardSeat,
-    outlet: &Outlet,
     port: &mut Port,
-    gate: &impl Gate,
 ) -> Result<(), AllocError>
-    requires batch { 0 < batch }
-    requires tasks { board.now.tasks ≡ length (P.tasks plan.now) }
-    requires fresh { (seat.old ≡ fresh_seat board.now) × IsFreshPort outlet.now port.old }
-    ensures seat { IsSeatBelow board.now seat.new }
-    ensures port { StaysOpen outlet.now port.old port.new }
-    ensures ok { let drawn = seat.new.drawn in IfOk result (λ _. (seat.new.done ≡ true)
-        × AreScripts (relation_of relation.now) (P.tasks plan.now) batch drawn (said_by port.new)) }
-    ensures err { let drawn = seat.new.drawn in IfErr result (λ _.
-        BeginScripts (relation_of relation.now) (P.tasks plan.now) batch drawn (said_by port.new)) }
+    requires batch { 0 < shared.now.batch }
+    requires tasks { shared.now.board.now.tasks ≡ length (P.tasks shared.now.plan.now) }
+    requires seat { seat.old ≡ fresh_seat shared.now.board.now }
+    requires port { IsFreshPort shared.now.outlet.now port.old }
+    ensures seat { IsSeatBelow shared.now.board.now seat.new }
+    ensures port { StaysOpen shared.now.outlet.now port.old port.new }
+    ensures ok { let relation = relation_of shared.now.relation.now in
+        let plan = P.tasks shared.now.plan.now in let size = shared.now.batch in
+        let drawn = seat.new.drawn in IfOk result (λ _. (seat.new.done ≡ true)
+        × AreScripts relation plan size drawn (said_by port.new)) }
+    ensures err { let relation = relation_of shared.now.relation.now in
+        let plan = P.tasks shared.now.plan.now in let size = shared.now.batch in
+        let drawn = seat.new.drawn in IfErr result (λ _.
+        BeginScripts relation plan size drawn (said_by port.new)) }
 {
     for _ in rt.forever() {
-        let Some(task) = board.claim(seat) else {
+        let Some(task) = shared.board.claim(seat) else {
             return Ok(());
         };
-        gate.enter(rt, task);
-        send_task(rt, alloc, plan, task, relation, batch, outlet, port)?;
+        shared.gate.enter(rt, task);
+        send_task(rt, alloc, shared, task, port)?;
     }
     unreachable!()
 }
 
 /// Sends the script of one task.
-fn send_task<R: Wait, P: Rows>(
+fn send_task<R: Wait, P: Rows, G>(
     rt: &R,
     alloc: Global,
-    plan: &P,
+    shared: &Shared<'_, P, G>,
     task: u32,
-    relation: &JoinRelation,
-    batch: u32,
-    outlet: &Outlet,
     port: &mut Port,
 ) -> Result<(), AllocError>
-    requires task { task < length (P.tasks plan.now) }
-    requires batch { 0 < batch }
-    requires port { IsOpenPort outlet.now port.old }
-    ensures port { StaysOpen outlet.now port.old port.new }
-    ensures ok { let relation = relation_of relation.now in let plan = P.tasks plan.now in
-        IfOk result (λ _. SaysScripts relation plan batch (task ∷ []) port.old port.new) }
-    ensures err { let relation = relation_of relation.now in let plan = P.tasks plan.now in
-        IfErr result (λ _. SaysBeginning relation plan batch (task ∷ []) port.old port.new) }
+    requires task { task < length (P.tasks shared.now.plan.now) }
+    requires batch { 0 < shared.now.batch }
+    requires port { IsOpenPort shared.now.outlet.now port.old }
+    ensures port { StaysOpen shared.now.outlet.now port.old port.new }
+    ensures ok { let relation = relation_of shared.now.relation.now in
+        let plan = P.tasks shared.now.plan.now in let size = shared.now.batch in
+        IfOk result (λ _. SaysScripts relation plan size (task ∷ []) port.old port.new) }
+    ensures err { let relation = relation_of shared.now.relation.now in
+        let plan = P.tasks shared.now.plan.now in let size = shared.now.batch in
+        IfErr result (λ _. SaysBeginning relation plan size (task ∷ []) port.old port.new) }
 {
-    let row = plan.row_of(alloc, task, relation)?;
-    send_script(rt, alloc, outlet, port, task, &row, batch)
+    let row = shared.plan.row_of(alloc, task, shared.relation)?;
+    send_script(rt, alloc, shared.outlet, port, task, &row, shared.batch)
 }

@@ -1,4 +1,5 @@
-//! The trees of the worked row: twenty points, each a step to the right of the one before.
+//! The trees of the worked rows: twenty points, each a step to the right of the one before, and nine
+//! at one place.
 
 ghost use Rattle.std.specs.Prelude.{◌≡◌, ℕ, ◌≤◌, IfOk, count_by};
 ghost use Rattle.rtree_core.specs.Trees.{has_number};
@@ -7,29 +8,32 @@ use geom_core::Shape;
 use rtree_core::{Entry, RTree};
 use std::alloc::{AllocError, Global};
 
-const POINTS: u16 = 20;
-
-/// The points (0, 0), (1, 0) and on, by their numbers.
-fn listed(alloc: Global) -> Result<Vec<Entry>, AllocError>
+/// So many points from (0, 0) to the right, this far apart, by their numbers.
+fn listed(alloc: Global, points: u16, step: u16) -> Result<Vec<Entry>, AllocError>
     ensures { IfOk result (λ v. (k : ℕ) → count_by (has_number k) v.items ≤ 1) }
 {
     let mut entries = Vec::new(alloc);
-    for number in 0..POINTS {
-        entries.push(entry(number))?;
+    for number in 0..points {
+        entries.push(entry(number, step))?;
     }
     Ok(entries)
 }
 
-/// Their packed tree.
+/// The packed tree of the points (0, 0) to (19, 0).
 pub(crate) fn packed(alloc: Global) -> Result<RTree, AllocError> {
-    RTree::pack(alloc, listed(alloc)?)
+    RTree::pack(alloc, listed(alloc, 20, 1)?)
 }
 
-/// The point of this number.
-fn entry(number: u16) -> Entry
+/// The packed tree of nine points (0, 0).
+pub(crate) fn nine(alloc: Global) -> Result<RTree, AllocError> {
+    RTree::pack(alloc, listed(alloc, 9, 0)?)
+}
+
+/// The point of this number, where they are this far apart.
+fn entry(number: u16, step: u16) -> Entry
     ensures { result.number ≡ number }
 {
-    let shape = point(i64::from(number));
+    let shape = point(i64::from(number) * i64::from(step));
     let number = u32::from(number);
     Entry { shape, number }
 }

@@ -1,4 +1,5 @@
-//! Tests of `worker_core` from outside: what one worker sends.
+//! Tests of `worker_core` from outside: what one worker sends, and what
+//! several deliver.
 #![tactic(auto)]
 
 #[cfg(test)]
@@ -7,3 +8,5 @@ mod expected;
 mod layers;
 #[cfg(test)]
 mod scripts;
+#[cfg(test)]
+mod teams;

@@ -8,18 +8,20 @@ loop-preserved g c =
     let so_far = c.loop.invariant in
     let number = c.in-Some-claim.ensures.number in
     record {
-      seat = seat_gains c.args.board.now c.loop.seat c.claim.new.seat c.in-Some-claim.task so_far.seat c.claim.ensures.seat number;
-      port = stays_on c.args.outlet.now c.args.port.now c.loop.port c.send_task.new.port so_far.port c.send_task.ensures.port;
-      said = said_more (relation_of c.args.relation.now) (g.P.Rows.tasks c.args.plan.now) c.args.batch c.loop.seat.drawn c.claim.new.seat.drawn (c.in-Some-claim.task ∷ [])
+      seat = seat_gains c.args.shared.now.board.now c.loop.seat c.claim.new.seat c.in-Some-claim.task so_far.seat c.claim.ensures.seat number;
+      port = stays_on c.args.shared.now.outlet.now c.args.port.now c.loop.port c.send_task.new.port so_far.port c.send_task.ensures.port;
+      said = said_more (relation_of c.args.shared.now.relation.now)
+          (g.P.Rows.tasks c.args.shared.now.plan.now) c.args.shared.now.batch c.loop.seat.drawn c.claim.new.seat.drawn (c.in-Some-claim.task ∷ [])
           c.loop.port c.send_task.new.port number.drawn so_far.said c.in_ok-send_task.ensures.ok;
     }
 
 pub returns-in_err-send_task-clause-seat : goal.returns-in_err-send_task-clause-seat
 returns-in_err-send_task-clause-seat g c =
-    seat_gains c.args.board.now c.loop.seat c.claim.new.seat c.in-Some-claim.task c.loop.invariant.seat c.claim.ensures.seat c.in-Some-claim.ensures.number
+    seat_gains c.args.shared.now.board.now c.loop.seat c.claim.new.seat c.in-Some-claim.task c.loop.invariant.seat c.claim.ensures.seat c.in-Some-claim.ensures.number
 
 pub returns-in_err-send_task-clause-err : goal.returns-in_err-send_task-clause-err
 returns-in_err-send_task-clause-err g c =
-    let part = said_part (relation_of c.args.relation.now) (g.P.Rows.tasks c.args.plan.now) c.args.batch c.loop.seat.drawn c.claim.new.seat.drawn (c.in-Some-claim.task ∷ [])
+    let part = said_part (relation_of c.args.shared.now.relation.now)
+    (g.P.Rows.tasks c.args.shared.now.plan.now) c.args.shared.now.batch c.loop.seat.drawn c.claim.new.seat.drawn (c.in-Some-claim.task ∷ [])
     c.loop.port c.send_task.new.port c.in-Some-claim.ensures.number.drawn c.loop.invariant.said c.in_err-send_task.ensures.err in
     search (rules, part)

@@ -5,7 +5,7 @@ use Rattle.worker_core.proofs.working.work_off.Given as goal
 
 abbrev pub invariant-loop : goal.invariant-loop
 invariant-loop g l = record {
-  seat : IsSeatBelow l.board l.seat;
-  port : StaysOpen l.outlet l.initial.port l.port;
-  said : AreScripts (relation_of l.relation) (g.P.Rows.tasks l.plan) l.batch l.seat.drawn (said_by l.port);
+  seat : IsSeatBelow l.shared.board.now l.seat;
+  port : StaysOpen l.shared.outlet.now l.initial.port l.port;
+  said : AreScripts (relation_of l.shared.relation.now) (g.P.Rows.tasks l.shared.plan.now) l.shared.batch l.seat.drawn (said_by l.port);
 }

@@ -1,0 +1,69 @@
+//! The workers of a join: they work off the tasks of a plan side by side.
+ghost use Rattle.std.specs.Prelude.{◌≤◌, IfErr, IfOk};
+ghost use Rattle.geom_core.specs.JoinRelations.{relation_of};
+ghost use Rattle.worker_core.specs.Deliveries.{IsDelivered};
+ghost use Rattle.worker_core.specs.Faults.{IsWant};
+
+use crate::fault::JoinFault;
+use crate::gate::Gate;
+use crate::gathering::Gathering;
+use crate::rows::Rows;
+use crate::shared::Shared;
+use crate::team::{Team, run};
+use crate::working::MAX_BATCH;
+use deliver_core::{Board, Outcome, Outlet, owners_law};
+use geom_core::JoinRelation;
+use std::alloc::Global;
+use std::sync::Wait;
+use std::thread::Threads;
+
+/// The most workers of a join.
+pub const MAX_WORKERS: u32 = 16;
+
+/// Works off the tasks of a plan by so many workers, each in a thread of its own, and gives what
+/// they delivered. Each of them enters the gate with each task that it draws.
+///
+/// All of them have ended when the call returns. It answers `Memory` where memory was refused, and
+/// `NoThread` where there was no thread for a worker; nothing else is ever answered.
+pub fn run_workers<'a, R: Threads + Wait + Sync, P: Rows + Sync, G: Gate + Sync>(
+    rt: &R,
+    alloc: Global,
+    plan: &'a P,
+    relation: &'a JoinRelation,
+    workers: u32,
+    batch: u32,
+    gate: &'a G,
+) -> Result<Outcome, JoinFault>
+    requires workers { (1 ≤ workers) × (workers ≤ MAX_WORKERS) }
+    requires batch { (1 ≤ batch) × (batch ≤ MAX_BATCH) }
+    ensures ok { IfOk result (IsDelivered (relation_of relation.now) (P.tasks plan.now) batch) }
+    ensures err { IfErr result IsWant }
+{
+    let tasks = plan.len();
+    let (board, seats) = Board::new(alloc, tasks, workers)?;
+    let (outlet, ports, tap) = Outlet::new(alloc, workers)?;
+    let gathering = Gathering::new(alloc, &outlet, workers, tap, tasks)?;
+    let shared = Shared {
+        plan,
+        relation,
+        batch,
+        gate,
+        board: &board,
+        outlet: &outlet,
+    };
+    let team = Team::new(seats, ports, gathering);
+    let Team {
+        seats,
+        ports: _,
+        gathering,
+        all_started,
+        all_ok,
+    } = run(rt, alloc, shared, team);
+    if !all_started {
+        return Err(JoinFault::NoThread);
+    }
+    owners_law();
+    board.close(seats);
+    let intake = gathering.intake;
+    intake.finish(all_ok)
+}

@@ -1,0 +1,106 @@
+//! The gatherer: it takes what the workers send, and offers it to the collector.
+ghost use Rattle.std.specs.Prelude.{◌≡◌, ◌<◌, ◌⊎◌, ℕ, true, false, Some, IfOk, length, map, slice_get};
+ghost use Rattle.deliver_core.specs.Byes.{is_bye, has_bye};
+ghost use Rattle.deliver_core.specs.OutletCalls.{IsFreshTap};
+ghost use Rattle.deliver_core.specs.Outlets.{of_port};
+ghost use Rattle.deliver_core.specs.Ports.{index_of, taken_by, port_count};
+ghost use Rattle.deliver_core.specs.Scripts.{content_of};
+ghost use Rattle.worker_core.specs.Gatherings.{Gathers, Continues};
+ghost use Rattle.worker_core.specs.Sending.{said_by};
+ghost use Rattle.worker_core.specs.Workers.{IsReadyToMeet};
+
+use crate::intake::Intake;
+use crate::pause::Pause;
+use deliver_core::{Body, Message, Outlet, Port, Tap};
+use std::alloc::{AllocError, Global};
+use std::sync::Wait;
+
+/// What was taken of an outlet so far.
+#[derive(Drop)]
+pub(crate) struct Gathering {
+    tap: Tap,
+    /// Whether the Bye was taken, by port.
+    ended: Vec<bool>,
+    pub(crate) intake: Intake,
+}
+
+impl Gathering {
+    /// A gathering of this many ports and tasks, which has taken nothing.
+    pub(crate) fn new(
+        alloc: Global,
+        outlet: &Outlet,
+        ports: u32,
+        tap: Tap,
+        tasks: u32,
+    ) -> Result<Gathering, AllocError>
+        requires { IsFreshTap outlet.now ports tap }
+        ensures gathers { IfOk result (Gathers outlet.now) }
+        ensures ports { IfOk result (λ g. port_count g.tap ≡ ports) }
+        ensures tasks { IfOk result (λ g. g.intake.collector.tasks ≡ tasks) }
+    {
+        Ok(Gathering {
+            tap,
+            ended: vec![in alloc; false; ports as usize]?,
+            intake: Intake::new(alloc, tasks)?,
+        })
+    }
+
+    /// Takes in messages until the Bye of this port was taken.
+    pub(crate) fn take_until_bye<R: Wait>(&mut self, rt: &R, outlet: &Outlet, port: u32)
+        requires gathers { Gathers outlet.now self.old }
+        requires port { port < port_count self.old.tap }
+        ensures continues { Continues outlet.now self.old self.new }
+        ensures bye { has_bye (of_port port (taken_by self.new.tap)) ≡ true }
+    {
+        let mut pause = Pause::new();
+        for _ in rt.forever() {
+            if self.ended[port as usize] {
+                return;
+            }
+            if self.take_in(rt, outlet) {
+                pause.begin_again();
+            } else {
+                pause.rest(rt);
+            }
+        }
+        unreachable!()
+    }
+
+    /// Ties what was taken of a port to what it sent.
+    pub(crate) fn meet<R: Wait>(&mut self, rt: &R, outlet: &Outlet, port: Port)
+        requires gathers { Gathers outlet.now self.old }
+        requires port { IsReadyToMeet outlet.now (index_of port) port }
+        requires bye { has_bye (of_port (index_of port) (taken_by self.old.tap)) ≡ true }
+        ensures continues { Continues outlet.now self.old self.new }
+        ensures whole { let index = index_of port in
+            map content_of (of_port index (taken_by self.new.tap)) ≡ said_by port }
+    {
+        outlet.meet(rt, &mut self.tap, port);
+    }
+
+    /// Takes in a message, if one waits.
+    fn take_in<R: Wait>(&mut self, rt: &R, outlet: &Outlet) -> bool
+        requires { Gathers outlet.now self.old }
+        ensures { Continues outlet.now self.old self.new }
+    {
+        let Some(message) = outlet.take(rt, &mut self.tap) else {
+            return false;
+        };
+        note_bye(&mut self.ended, &message);
+        self.intake.take_in(message);
+        true
+    }
+}
+
+/// Notes of which port a Bye is.
+fn note_bye(ended: &mut Vec<bool>, message: &Message)
+    requires { message.now.port < length ended.old.items }
+    ensures ports { length ended.new.items ≡ length ended.old.items }
+    ensures noted { (port : ℕ) → slice_get ended.new.items port ≡ Some true
+        → (slice_get ended.old.items port ≡ Some true)
+        ⊎ ((message.now.port ≡ port) × (is_bye message.now ≡ true)) }
+{
+    if matches!(message.body, Body::Bye(_)) {
+        ended[message.port as usize] = true;
+    }
+}
