@@ -1,5 +1,5 @@
 -- The answers of a join of files.
-use Rattle.std.proofs.Common.{◌≡◌, ℕ, List, Option, Some, None, Result, Ok, Err, IsSome, IsErrAnd, IsErrOf, IsSomeAnd, IfSome, IsTrue, Bool, true, false, IfErr, IfOk, Vec, Global, ◌↔◌, ◌≢◌, ◌⊎◌, inl, inr, All, get_or, refl, sym, subst, ◌∙◌, map}
+use Rattle.std.proofs.Common.{◌≡◌, ℕ, List, Option, Some, None, Result, Ok, Err, IsSome, IsErrAnd, IsErrOf, IsSomeAnd, IfSome, IsTrue, Bool, true, false, IfErr, IfOk, Vec, Global, ◌↔◌, ◌≢◌, All, get_or, refl, sym, subst, ◌∙◌, map}
 use Rattle.geom_core.specs.declared.relation.Relation.{Relation}
 use Rattle.layer_core.specs.declared.edit.Edit.{Edit as EditType}
 use Rattle.layer_core.specs.declared.fault.LayerFault.{LayerFault}
@@ -9,11 +9,10 @@ use Rattle.layer_core.specs.Edits.{both, content_of, edits_give}
 use Rattle.layer_core.specs.Layers.{Feature, Contents, with_number}
 use Rattle.join_core.specs.declared.fault.Input.{Input}
 use Rattle.join_core.specs.declared.fault.Input.TheVariants.{First, Second, Left, Right, Edits, Layer, Window}
-use Rattle.join_core.specs.declared.fault.JoinFault.TheVariants.{Memory as no_join_memory}
 use Rattle.join_core.specs.declared.fault.RunFault.{RunFault}
-use Rattle.join_core.specs.declared.fault.RunFault.TheVariants.{Read, Edit, Join, Write, Memory}
+use Rattle.join_core.specs.declared.fault.RunFault.TheVariants.{NoFile, Read, Wkt, Edit, Join, Write, Memory, NoKeys}
 use Rattle.join_core.specs.Inputs.{LayerFile, BlamesBytes, BlamesEdit, BlamesInput}
-use Rattle.join_core.specs.JoinRuns.{JoinFiles, EditFile, JoinGives, left_fault, right_fault, edits_fault, edit_refused, reported, IsJoinFault, FailedAt}
+use Rattle.join_core.specs.JoinRuns.{JoinFiles, EditFile, JoinGives, left_fault, right_fault, edits_fault, edit_refused, reported, IsLateFault, IsJoinFault, FailedAt}
 use Rattle.join_core.specs.Joins.{IsJoinList}
 use Rattle.join_core.specs.Reports.{IsHeld, IsReport}
 use Rattle.join_core.proofs.JoinLemmas.{contains_at}
@@ -68,11 +67,19 @@ edit_blamed relation files l r list items out e left right edits same h fault =
     (λ blame. edit_refused l r (map content_of items) fault.0 fault.1 left right edits
     (subst (λ (es : List EditType). edits_give 1 (both l r) (map content_of es) ≡ Err (fault.0, fault.1)) same (fault.3 blame)))
 
--- want of memory blames no input
-pub none_blamed : (relation : Relation) (files : JoinFiles) (e : RunFault) → ((e ≡ Join no_join_memory) ⊎ (e ≡ Memory)) → BlamesInput e
-    → JoinGives relation files (Err e)
-none_blamed relation files e (inl is) blame = absurd (subst BlamesInput is blame)
-none_blamed relation files e (inr is) blame = absurd (subst BlamesInput is blame)
+-- a late fault blames no input, and is none of a source
+pub none_blamed : (e : RunFault) → IsLateFault e → BlamesInput e → ⊥
+none_blamed (NoFile i) late blame = late
+none_blamed (Read i f) late blame = late
+none_blamed (Wkt i f) late blame = late
+none_blamed (Edit row f) late blame = late
+none_blamed (Join f) late blame = blame
+none_blamed Write late blame = blame
+none_blamed Memory late blame = blame
+none_blamed NoKeys late blame = blame
+
+late_is_no_read : (e : RunFault) (i : Input) (f : ReadFault) → IsLateFault e → e ≡ Read i f → ⊥
+late_is_no_read e i f late is = subst IsLateFault is late
 
 pub text_reported : (relation : Relation) (files : JoinFiles) (l r : Contents) (list items : List EditType) (left right : Contents) (text : List ℕ)
     → LayerFile files.left (Ok l) → LayerFile files.right (Ok r) → EditFile files.edits (Ok (map content_of items)) → list ≡ items
@@ -94,14 +101,23 @@ last_ok relation files l r list items left right (Ok text) a b edits same given 
 last_ok relation files l r list items left right (Err e) a b edits same given report = tt
 
 pub last_fault : {T : Type 0} (relation : Relation) (files : JoinFiles) (out : Result T RunFault)
-    → IfErr out (λ e. (e ≡ Join no_join_memory) ⊎ (e ≡ Memory)) → IfErr out (λ f. BlamesInput f → JoinGives relation files (Err f))
+    → IfErr out IsLateFault → IfErr out (λ f. BlamesInput f → JoinGives relation files (Err f))
 last_fault relation files (Ok x) err = tt
-last_fault relation files (Err e) err = none_blamed relation files e err
+last_fault relation files (Err e) err = λ blame. absurd (none_blamed e err blame)
 
-pub last_faults : {T : Type 0} (out : Result T RunFault) → IfErr out (λ e. (e ≡ Join no_join_memory) ⊎ (e ≡ Memory)) → IfErr out IsJoinFault
+late_is_of_join : (e : RunFault) → IsLateFault e → IsJoinFault e
+late_is_of_join (NoFile i) late = absurd late
+late_is_of_join (Read i f) late = absurd late
+late_is_of_join (Wkt i f) late = absurd late
+late_is_of_join (Edit row f) late = tt
+late_is_of_join (Join f) late = late
+late_is_of_join Write late = absurd late
+late_is_of_join Memory late = tt
+late_is_of_join NoKeys late = absurd late
+
+pub last_faults : {T : Type 0} (out : Result T RunFault) → IfErr out IsLateFault → IfErr out IsJoinFault
 last_faults (Ok x) err = tt
-last_faults (Err e) (inl is) = subst IsJoinFault (sym is) tt
-last_faults (Err e) (inr is) = subst IsJoinFault (sym is) tt
+last_faults (Err e) err = late_is_of_join e err
 
 -- what `?` hands on is one of a join's faults
 pub is_join_fault : {T : Type 0} (out : Result T RunFault) (e is : RunFault) → IsErrAnd out (λ x. x ≡ e) → e ≡ is → IsJoinFault is → IfErr out IsJoinFault
@@ -136,12 +152,11 @@ module _ {T U : Type 0} (out : Result T RunFault) (i : Input) (P : Type 0) where
     | Err x ↦ λ h. ((λ q. io.0 (let is : e ≡ Read i Io = cc in cc)), (λ p. let q = io.1 p in let is : e ≡ Read i Io = cc in cc))
   ] h
 
-  -- want of memory is none
-  pub io_before : (y : U) → IsErrOf {E = RunFault} (Ok y) (Read i Io) ↔ P → IfErr out (λ e. (e ≡ Join no_join_memory) ⊎ (e ≡ Memory))
-      → IsErrOf out (Read i Io) ↔ P
-  io_before y io err = elim out as (λ r. IfErr r (λ e. (e ≡ Join no_join_memory) ⊎ (e ≡ Memory)) → IsErrOf r (Read i Io) ↔ P) [
+  -- a late fault is none
+  pub io_before : (y : U) → IsErrOf {E = RunFault} (Ok y) (Read i Io) ↔ P → IfErr out IsLateFault → IsErrOf out (Read i Io) ↔ P
+  io_before y io err = elim out as (λ r. IfErr r IsLateFault → IsErrOf r (Read i Io) ↔ P) [
     | Ok x ↦ λ h. ((λ q. absurd cc), (λ p. absurd (let q = io.1 p in cc)))
-    | Err x ↦ λ h. ((λ q. absurd (elim h [ inl is ↦ cc | inr is ↦ cc ])), (λ p. absurd (let q = io.1 p in cc)))
+    | Err x ↦ λ h. ((λ q. absurd (late_is_no_read x i Io h (let is : x ≡ Read i Io = cc in is))), (λ p. absurd (let q = io.1 p in cc)))
   ] err
 
 -- the edits' file is as it was where another is at fault

@@ -1,21 +1,23 @@
 -- The rows of a plan's tasks, once they are sorted, are the join list of two layers.
-use Rattle.std.proofs.Common.{◌≡◌, ℕ, zero, suc, ◌+◌, ◌⊎◌, inl, inr, cond, List, [], ◌∷◌, ◌++◌, Option, Some, None, length, map, refl, sym, ap, subst, ◌∙◌, arith, append-nil, length-append, Contains}
-use Rattle.std.specs.Prelude.{count_by, slice_get, IsSomeAnd}
+use Rattle.std.proofs.Common.{◌≡◌, ℕ, ◌∙◌, List, Option, Some, cond, map, sym, ap, subst, arith, Contains, Result, Ok, Err, IfOk}
 use Rattle.std.specs.List.{flat_map}
-use Rattle.std.proofs.lemmas.List.Concat.{flat_map-append}
 use Rattle.std.specs.List.Sorted.{IsSorted, IsPermutation}
 use Rattle.std.proofs.lemmas.List.Sorted.{sum_by-IsPermutation, Contains-permutation, IsPermutation-sym}
 use Rattle.geom_core.specs.declared.relation.Relation.{Relation}
-use Rattle.geom_core.specs.Relations.{Holds}
+use Rattle.geom_core.specs.Relations.{Holds, ForbidsDisjoint}
 use Rattle.rtree_core.specs.declared.node.Entry.{Entry}
 use Rattle.rtree_core.specs.declared.node.Node.{Node}
 use Rattle.rtree_core.specs.Trees.{entries_in}
 use Rattle.layer_core.specs.Layers.{Contents, IsLayer, with_number}
 use Rattle.layer_core.specs.LayerTrees.{indexed, HoldsExactly}
-use Rattle.descent_core.specs.Rows.{StandIn as EntriesStandIn, IsRow}
-use Rattle.descent_core.specs.Shares.{is_pair, IsJoin, AreRows}
-use Rattle.descent_core.proofs.RowLemmas.{pair_cmp, all_ascend}
-use Rattle.join_core.specs.Joins.{StandIn, IsJoinList}
+use Rattle.descent_core.specs.Plans.{IsPlan}
+use Rattle.descent_core.specs.Rows.{StandIn as EntriesStandIn}
+use Rattle.descent_core.specs.Shares.{is_pair, IsJoin, RowsJoin}
+use Rattle.descent_core.proofs.RowLemmas.{all_ascend}
+use Rattle.deliver_core.specs.Collectors.{Delivery, pair_cmp}
+use Rattle.worker_core.specs.declared.fault.JoinFault.{JoinFault}
+use Rattle.worker_core.specs.Deliveries.{AreMarks, IsDelivered}
+use Rattle.join_core.specs.Joins.{StandIn, IsJoinList, RowsAreJoinList, HasMarks}
 use Rattle.join_core.proofs.JoinLemmas.{held_by_number, listed_by_number}
 use Rattle.join_core.proofs.TreeWindowLemmas.{same-contains, feature_of, entry_of}
 
@@ -63,47 +65,35 @@ module _ (relation : Relation) (left right : Contents) (left_root right_root : O
     );
   }
 
--- the rows of the first so many tasks, one behind the other
-pub record RowsSoFar (relation : Relation) (tasks : List (Node × Node)) (count : ℕ) (pairs : List (ℕ × ℕ)) : Type 0 where
-  pub rows : List (List (ℕ × ℕ))
-  pub as_many : length rows ≡ count
-  pub each : (k : ℕ) (task : Node × Node) (row : List (ℕ × ℕ)) → slice_get tasks k ≡ Some task → slice_get rows k ≡ Some row → IsRow relation task row
-  pub joined : pairs ≡ flat_map (λ row. row) rows
+-- the rows of the tasks of two layers' trees
+pub rows_are_list : {E : Type 0} (left right : Contents) (left_root right_root left_tree right_tree : Option Node) (out : Result (List (Node × Node)) E)
+    → IsLayer left → IsLayer right → HoldsExactly left left_root → HoldsExactly right right_root → left_tree ≡ left_root → right_tree ≡ right_root
+    → IfOk out (λ tasks. (relation : Relation) → ForbidsDisjoint relation → RowsJoin relation (entries_in left_tree) (entries_in right_tree) tasks)
+    → IfOk out (RowsAreJoinList left right)
+rows_are_list left right left_root right_root left_tree right_tree (Err e) left_layer right_layer left_holds right_holds left_is right_is join = tt
+rows_are_list left right left_root right_root left_tree right_tree (Ok tasks) left_layer right_layer left_holds right_holds left_is right_is join =
+    λ relation rows pairs forbids are same up.
+    sorted_join relation left right left_tree right_tree left_layer right_layer (subst (HoldsExactly left) (sym left_is) left_holds)
+    (subst (HoldsExactly right) (sym right_is) right_holds) (flat_map (λ row. row) rows) pairs (join relation forbids rows are) same up
 
-pub no_rows : (relation : Relation) (tasks : List (Node × Node)) (count : ℕ) (pairs : List (ℕ × ℕ)) → count ≡ 0 → pairs ≡ [] → RowsSoFar relation tasks count pairs
-no_rows relation tasks count pairs zero_is empty = record {
-  rows = [];
-  as_many = sym zero_is;
-  each = λ k task row at_task at_row. absurd (let bad : None ≡ Some row = at_row in cc);
-  joined = empty;
+-- what workers have delivered of a plan's rows
+pub delivered_list : (left right : Contents) (tasks : List (Node × Node)) (relation : Relation) (size : ℕ) (out : Result Delivery JoinFault)
+    → RowsAreJoinList left right tasks → ForbidsDisjoint relation → IfOk out (IsDelivered relation tasks size)
+    → IfOk out (λ outcome. IsJoinList relation left right outcome.pairs)
+delivered_list left right tasks relation size (Ok outcome) list forbids d = list relation d.rows outcome.pairs forbids d.are_rows d.pairs d.ascending
+delivered_list left right tasks relation size (Err f) list forbids d = tt
+
+pub delivered_marks : (left right : Option Node) (depth cut : ℕ) (tasks : List (Node × Node)) (relation : Relation) (size batch : ℕ)
+    (out : Result Delivery JoinFault)
+    → IsPlan left right depth tasks → depth ≡ cut → size ≡ batch → IfOk out (IsDelivered relation tasks size)
+    → IfOk out (HasMarks relation left right cut batch)
+delivered_marks left right depth cut tasks relation size batch (Ok outcome) plan is_cut is_batch d = record {
+  tasks = tasks;
+  rows = d.rows;
+  plan = subst (λ (n : ℕ). IsPlan left right n tasks) is_cut plan;
+  are_rows = d.are_rows;
+  history = d.history;
+  closed = d.closed;
+  marks = subst (λ (n : ℕ). AreMarks n d.rows outcome) is_batch d.marks;
 }
-
-at_push : {T : Type 0} (xs : List T) (y x : T) (k : ℕ) → slice_get (xs ++ y ∷ []) k ≡ Some x → (slice_get xs k ≡ Some x) ⊎ ((k ≡ length xs) × (y ≡ x))
-at_push [] y x zero e = inr (refl, cc)
-at_push [] y x (suc k) e = absurd (let bad : None ≡ Some x = e in cc)
-at_push (z ∷ xs) y x zero e = inl e
-at_push (z ∷ xs) y x (suc k) e = elim (at_push xs y x k e) [
-  | inl earlier ↦ inl earlier
-  | inr last ↦ inr (omega (arith, last.0), last.1)
-]
-
-pub one_row_more : (relation : Relation) (tasks : List (Node × Node)) (count next : ℕ) (row old new : List (ℕ × ℕ)) → RowsSoFar relation tasks count old
-    → IsSomeAnd (slice_get tasks count) (λ task. IsRow relation task row) → next ≡ count + 1 → new ≡ old ++ row → RowsSoFar relation tasks next new
-one_row_more relation tasks count next row old new so_far of_task next_is grown = record {
-  rows = so_far.rows ++ row ∷ [];
-  as_many = omega (arith, so_far.as_many, next_is, length-append so_far.rows (row ∷ []));
-  each = λ k task found at_task at_row. elim (at_push so_far.rows row found k at_row) [
-    | inl earlier ↦ so_far.each k task found at_task earlier
-    | inr last ↦ subst (IsRow relation task) last.1
-        (subst (λ (there : Option (Node × Node)). IsSomeAnd there (λ t. IsRow relation t row))
-        (subst (λ (n : ℕ). slice_get tasks n ≡ Some task) (last.0 ∙ so_far.as_many) at_task) of_task)
-  ];
-  joined = grown ∙ ap (λ (ps : List (ℕ × ℕ)). ps ++ row) so_far.joined
-      ∙ ap (λ (ps : List (ℕ × ℕ)). flat_map (λ (r : List (ℕ × ℕ)). r) so_far.rows ++ ps) (sym (append-nil row))
-      ∙ sym (flat_map-append (λ (r : List (ℕ × ℕ)). r) so_far.rows (row ∷ []));
-}
-
-pub all_rows_are : (relation : Relation) (tasks : List (Node × Node)) (count : ℕ) (pairs : List (ℕ × ℕ)) → RowsSoFar relation tasks count pairs
-    → count ≡ length tasks → (rows : List (List (ℕ × ℕ))) × AreRows relation tasks rows × (pairs ≡ flat_map (λ row. row) rows)
-all_rows_are relation tasks count pairs so_far all =
-    (so_far.rows, record { as_many = so_far.as_many ∙ all; each = so_far.each }, so_far.joined)
+delivered_marks left right depth cut tasks relation size batch (Err f) plan is_cut is_batch d = tt

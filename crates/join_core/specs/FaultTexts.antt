@@ -2,10 +2,9 @@
 use Rattle.std.specs.Prelude.{ℕ, List, ◌++◌, codes}
 use Rattle.wkt_core.specs.FaultTexts.{wkt_text}
 use Rattle.layer_core.specs.FaultTexts.{layer_text, read_text, row_text}
+use Rattle.worker_core.specs.Faults.{join_text}
 use Rattle.join_core.specs.declared.fault.Input.{Input}
 use Rattle.join_core.specs.declared.fault.Input.TheVariants.{First, Second, Left, Right, Edits, Layer, Window}
-use Rattle.join_core.specs.declared.fault.JoinFault.{JoinFault}
-use Rattle.join_core.specs.declared.fault.JoinFault.TheVariants as join
 use Rattle.join_core.specs.declared.fault.RunFault.{RunFault}
 use Rattle.join_core.specs.declared.fault.RunFault.TheVariants as run
 
@@ -17,9 +16,6 @@ input_word Right = codes "right"
 input_word Edits = codes "edits"
 input_word Layer = codes "layer"
 input_word Window = codes "window"
-
-abbrev pub join_text : JoinFault → List ℕ
-join_text join.Memory = codes "no memory"
 
 abbrev pub run_text : RunFault → List ℕ
 run_text (run.NoFile input) = input_word input ++ codes ": cannot be opened"

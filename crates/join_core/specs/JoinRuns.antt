@@ -6,10 +6,12 @@ use Rattle.layer_core.specs.declared.read_fault.ReadFault.{ReadFault}
 use Rattle.layer_core.specs.Layers.{Contents}
 use Rattle.layer_core.specs.Edits.{EditContent, Layers, both, edits_give}
 use Rattle.layer_core.specs.EditFiles.{IsEditFile}
+use Rattle.worker_core.specs.Faults.{IsWant}
 use Rattle.join_core.specs.declared.fault.Input.{Input}
 use Rattle.join_core.specs.declared.fault.Input.TheVariants.{Left, Right, Edits}
 use Rattle.join_core.specs.declared.fault.RunFault.{RunFault}
 use Rattle.join_core.specs.declared.fault.RunFault.TheVariants.{Read, Edit, Join, Memory}
+use Rattle.join_core.specs.declared.joins.sources.JoinSources.{JoinSources}
 use Rattle.join_core.specs.Inputs.{LayerFile}
 use Rattle.join_core.specs.Joins.{IsJoinList}
 use Rattle.join_core.specs.Reports.{IsReport}
@@ -25,10 +27,13 @@ abbrev pub bytes_of : {E : Type 0} → (E → Option (List ℕ)) → Option E �
 bytes_of remaining None = None
 bytes_of remaining (Some e) = Some (remaining e)
 
-abbrev pub files_of : {E : Type 0} → Option (List ℕ) → Option (List ℕ)
-    → (E → Option (List ℕ)) → Option E → JoinFiles
-files_of left right remaining edits =
-    record { left = left; right = right; edits = bytes_of remaining edits }
+abbrev pub files_of : {A B E : Type 0} → (A → Option (List ℕ)) → (B → Option (List ℕ))
+    → (E → Option (List ℕ)) → JoinSources A B E → JoinFiles
+files_of left_bytes right_bytes edits_bytes sources = record {
+  left = left_bytes sources.left;
+  right = right_bytes sources.right;
+  edits = bytes_of edits_bytes sources.edits;
+}
 
 -- what a file of edits gives: no edits where there is none
 abbrev pub EditFile : Option (Option (List ℕ)) → Result (List EditContent) ReadFault → Type 0
@@ -63,15 +68,20 @@ pub data JoinGives (relation : Relation) (files : JoinFiles)
 abbrev pub IsJoinText : Relation → JoinFiles → List ℕ → Type 0
 IsJoinText relation files text = JoinGives relation files (Ok text)
 
+-- a fault that may come when all is read and the edits are made, that of the sink aside: a want
+-- of memory or of threads
+abbrev pub IsLateFault : RunFault → Type 0
+IsLateFault (Join f) = IsWant f
+IsLateFault Memory = ⊤
+IsLateFault _ = ⊥
+
 -- a fault that a join of files may have, that of its sink aside
 abbrev pub IsJoinFault : RunFault → Type 0
 IsJoinFault (Read Left f) = ⊤
 IsJoinFault (Read Right f) = ⊤
 IsJoinFault (Read Edits f) = ⊤
 IsJoinFault (Edit row f) = ⊤
-IsJoinFault (Join f) = ⊤
-IsJoinFault Memory = ⊤
-IsJoinFault _ = ⊥
+IsJoinFault fault = IsLateFault fault
 
 -- which source of a join has failed
 abbrev pub FailedAt : Type 0 → Type 0 → Type 0 → Input → Type 0

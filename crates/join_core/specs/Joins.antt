@@ -1,9 +1,16 @@
--- The pairs of two layers that stand in a relation.
-use Rattle.std.specs.Prelude.{◌≡◌, ◌↔◌, ℕ, List, Some, AllPairs, Contains}
+-- The pairs of two layers that stand in a relation, and the marks of how they were delivered.
+use Rattle.std.specs.Prelude.{◌≡◌, ◌↔◌, ℕ, List, Option, Some, length, AllPairs, Contains, IsPermutation, IsSorted}
+use Rattle.std.specs.List.{flat_map}
 use Rattle.geom_core.specs.declared.relation.Relation.{Relation}
-use Rattle.geom_core.specs.Relations.{Holds}
+use Rattle.geom_core.specs.Relations.{Holds, ForbidsDisjoint}
+use Rattle.rtree_core.specs.declared.node.Node.{Node}
 use Rattle.layer_core.specs.Layers.{Feature, Contents, with_number}
+use Rattle.descent_core.specs.Plans.{IsPlan}
 use Rattle.descent_core.specs.Rows.{Precedes}
+use Rattle.descent_core.specs.Shares.{AreRows}
+use Rattle.deliver_core.specs.Collectors.{Delivery, pair_cmp}
+use Rattle.deliver_core.specs.Marks.{IsLegalHistory, IsClosed}
+use Rattle.worker_core.specs.Deliveries.{AreMarks}
 
 -- the features with these numbers stand in the relation
 pub record StandIn (relation : Relation) (left right : Contents) (pair : ℕ × ℕ) : Type 0 where
@@ -19,3 +26,22 @@ pub record IsJoinList (relation : Relation) (left right : Contents)
     (pairs : List (ℕ × ℕ)) : Type 0 where
   pub in_order : AllPairs Precedes pairs
   pub exact : (pair : ℕ × ℕ) → Contains pairs pair ↔ StandIn relation left right pair
+
+-- the rows of these tasks, in ascending order, are the join list of the two layers
+abbrev pub RowsAreJoinList : Contents → Contents → List (Node × Node) → Type 0
+RowsAreJoinList left right tasks = (relation : Relation) (rows : List (List (ℕ × ℕ)))
+    (pairs : List (ℕ × ℕ)) → ForbidsDisjoint relation → AreRows relation tasks rows
+    → IsPermutation (flat_map (λ row. row) rows) pairs → IsSorted pair_cmp pairs
+    → IsJoinList relation left right pairs
+
+-- for the plan of the trees with these roots at this cut: the marks are a closed legal history, and
+-- those of each task are the ones of its script, its row in batches of so many pairs
+pub record HasMarks (relation : Relation) (left right : Option Node) (cut size : ℕ)
+    (outcome : Delivery) : Type 0 where
+  pub tasks : List (Node × Node)
+  pub rows : List (List (ℕ × ℕ))
+  pub plan : IsPlan left right cut tasks
+  pub are_rows : AreRows relation tasks rows
+  pub history : IsLegalHistory (length tasks) outcome.marks
+  pub closed : IsClosed (length tasks) outcome.marks
+  pub marks : AreMarks size rows outcome

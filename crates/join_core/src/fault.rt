@@ -6,9 +6,8 @@ ghost use Rattle.join_core.specs.declared.fault.RunFault.TheVariants as run_faul
 use crate::writing::WriteFailed;
 use layer_core::{LayerFault, ReadFault};
 use std::alloc::AllocError;
-use std::error::Error;
-use std::fmt;
 use wkt_core::WktFault;
+use worker_core::JoinFault;
 
 /// An input of a run.
 #[derive(Clone, Copy, Debug, PartialEq, Eq)]
@@ -49,41 +48,6 @@ impl Input {
         }
     }
 }
-
-/// Why two layers can't be joined.
-#[derive(Clone, Copy, Debug, PartialEq, Eq)]
-pub enum JoinFault {
-    /// Memory ran out.
-    Memory,
-}
-
-impl JoinFault {
-    ghost use Rattle.std.specs.Prelude.{◌≤◌, length};
-    ghost use Rattle.join_core.specs.FaultTexts.{join_text};
-
-    /// What is wrong.
-    pub fn text(self) -> &'static str
-        ensures text { result.now ≡ join_text self }
-        ensures short { length result.now ≤ 50 }
-    {
-        match self {
-            JoinFault::Memory => "no memory",
-        }
-    }
-}
-
-impl fmt::Display for JoinFault {
-    ghost use Rattle.std.specs.Prelude.{Some};
-    ghost use Rattle.join_core.specs.FaultTexts.{join_text};
-
-    ghost output = { λ fault. Some (join_text fault) };
-
-    fn fmt<W: fmt::Write>(&self, f: &mut fmt::Formatter<W>) -> fmt::Result {
-        f.write_str(self.text())
-    }
-}
-
-impl Error for JoinFault {}
 
 /// Why a run ended without its work done. Rows are counted from 1, after the header.
 #[derive(Clone, Copy, Debug, PartialEq, Eq)]

@@ -3,6 +3,7 @@
 ghost use Rattle.std.specs.Prelude.{◌≡◌, ◌+◌, ◌≤◌, ◌↔◌, ◌++◌, false, length, IsTrue, IsErr, OnOk, OnErr};
 ghost use Rattle.std.specs.Io.KnownBytes.{Appends};
 ghost use Rattle.layer_core.specs.FaultTexts.{read_text};
+ghost use Rattle.worker_core.specs.Faults.{join_text};
 ghost use Rattle.join_core.specs.FaultTexts.{run_text};
 ghost use Rattle.join_core.specs.Lines.{run_line};
 ghost use Rattle.join_core.specs.Written.{AppendsPrefix};
@@ -12,6 +13,7 @@ use crate::writing::{Line, Sink, WriteFailed};
 use layer_core::ReadFault;
 use std::error::Error;
 use std::fmt;
+use worker_core::JoinFault;
 
 impl fmt::Display for RunFault {
     ghost use Rattle.std.specs.Prelude.{Some};
@@ -68,7 +70,7 @@ fn push_run_text(line: &mut Line, fault: &RunFault)
             line.push_row(*row);
             line.push(fault.text());
         }
-        RunFault::Join(fault) => line.push(fault.text()),
+        RunFault::Join(fault) => push_join_text(line, fault),
         RunFault::Write => line.push("write failed"),
         RunFault::Memory => line.push("no memory"),
         RunFault::NoKeys => line.push("no random keys for hashing"),
@@ -84,4 +86,21 @@ fn push_read_text(line: &mut Line, fault: &ReadFault)
         line.push_row(row);
     }
     line.push(fault.text());
+}
+
+fn push_join_text(line: &mut Line, fault: &JoinFault)
+    requires { length line.old ≤ 7 }
+    ensures text { line.new ≡ line.old ++ join_text fault.now }
+    ensures short { length line.new ≤ 100 }
+{
+    match fault {
+        JoinFault::Memory => line.push("no memory"),
+        JoinFault::NoThread => line.push("a worker could not be started"),
+        JoinFault::Refused(_) => line.push("a message was refused"),
+        JoinFault::Open(task) => {
+            line.push("task ");
+            line.push_number(*task);
+            line.push(" was not ended");
+        }
+    }
 }

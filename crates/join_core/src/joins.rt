@@ -4,8 +4,10 @@ mod edits;
 mod pairs;
 mod report;
 mod run;
+mod sources;
 
 pub use edits::apply_edits;
 pub use pairs::join;
 pub use report::report_text;
 pub use run::run_join;
+pub use sources::JoinSources;

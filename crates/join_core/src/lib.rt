@@ -13,11 +13,13 @@ mod stats;
 mod window;
 mod writing;
 
-pub use fault::{Input, JoinFault, RunFault};
+pub use deliver_core::Outcome;
+pub use fault::{Input, RunFault};
 pub use fault_text::fault_line;
-pub use joins::{apply_edits, join, report_text, run_join};
+pub use joins::{JoinSources, apply_edits, join, report_text, run_join};
 pub use options::{MAX_BATCH, MAX_CUT, MAX_WORKERS, OptionFault, Options};
 pub use relate::run_relate;
 pub use stats::run_stats;
 pub use window::run_window;
+pub use worker_core::{Gate, JoinFault, OpenGate};
 pub use writing::{Line, ROOM, Sink, ToWrite, WriteFailed, write_text};

@@ -1,5 +1,6 @@
 //! The lines of faults.
 
+use deliver_core::Refusal;
 use join_core::{Input, JoinFault, RunFault, ToWrite, fault_line};
 use layer_core::{LayerFault, ReadFault};
 use std::process::Abort;
@@ -87,9 +88,25 @@ fn edits(rt: HostRuntime) -> Result<(), Fail> {
 }
 
 #[test]
+fn joins(rt: HostRuntime) -> Result<(), Fail> {
+    for (fault, text) in [
+        (JoinFault::Memory, "no memory"),
+        (JoinFault::NoThread, "a worker could not be started"),
+        (JoinFault::Refused(Refusal::Gap), "a message was refused"),
+        (
+            JoinFault::Refused(Refusal::Stranger),
+            "a message was refused",
+        ),
+        (JoinFault::Open(65_535), "task 65535 was not ended"),
+    ] {
+        check_line(&rt, &RunFault::Join(fault), text)?;
+    }
+    Ok(())
+}
+
+#[test]
 fn the_machine(rt: HostRuntime) -> Result<(), Fail> {
     for (fault, text) in [
-        (RunFault::Join(JoinFault::Memory), "no memory"),
         (RunFault::Write, "write failed"),
         (RunFault::Memory, "no memory"),
         (RunFault::NoKeys, "no random keys for hashing"),

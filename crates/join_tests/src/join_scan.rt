@@ -1,45 +1,14 @@
 //! Joins of mixed, clustered and coincident features, packed and edited, beside a nested loop.
 
+use crate::layers::edited;
 use geom_core::{JoinRelation, Relation};
-use join_core::{Options, join};
-use layer_core::{FeatureRef, Layer, layer_of_bytes};
+use join_core::{OpenGate, Options, join};
+use layer_core::{FeatureRef, Layer};
 use samples::Random;
 use std::alloc::{AllocError, Global};
-use std::hash::RandomState;
+use std::sync::Wait;
 use std::test::Fail;
-use wkt_core::print;
-
-/// A layer file of so many features.
-fn layer_text(alloc: Global, random: &mut Random, count: u32) -> Result<String, Fail> {
-    let mut text = String::from_str(alloc, "id,wkt\n")?;
-    for id in 0..count {
-        let row = print(alloc, &random.shape().ok_or("a shape")?)?;
-        text.push_str(format!(in alloc; "f{id},\"{row}\"\n")?.as_str())?;
-    }
-    Ok(text)
-}
-
-/// Inserts a feature with each of these numbers as its id, and after every third deletes one of
-/// those that were read.
-fn edit(alloc: Global, layer: &mut Layer, random: &mut Random, count: u32) -> Result<(), Fail> {
-    for number in 0..count {
-        let id = format!(in alloc; "e{number}")?;
-        layer.insert(id.as_str(), random.shape().ok_or("a shape")?)?;
-        if number % 3 == 0 {
-            layer.remove(format!(in alloc; "f{number}")?.as_str())?;
-        }
-    }
-    Ok(())
-}
-
-/// A layer that was packed and then edited.
-fn layer(rt: &HostRuntime, random: &mut Random, count: u32, edits: u32) -> Result<Layer, Fail> {
-    let alloc = rt.alloc();
-    let text = layer_text(alloc, random, count)?;
-    let mut layer = layer_of_bytes(alloc, RandomState::new(rt)?, text.as_bytes())?;
-    edit(alloc, &mut layer, random, edits)?;
-    Ok(layer)
-}
+use std::thread::Threads;
 
 /// Appends the pairs of one left feature.
 fn push_pairs(
@@ -82,19 +51,28 @@ const RELATIONS: &[&[u8]] = &[
     b"0********",
 ];
 
-const CUTS: &[u32] = &[0, 1, 2, 3, 8];
+/// Numbers of workers, batches and cuts.
+const WAYS: [(u32, u32, u32); 5] = [
+    (1, 256, 0),
+    (2, 1, 1),
+    (3, 7, 2),
+    (8, 256, 3),
+    (16, 4096, 8),
+];
 
-/// Sees that a join with each cut has these pairs.
-fn see_cuts(
+/// Sees that a join has the pairs of the nested loop, in each of these ways.
+fn see_ways<R: Threads + Wait + Sync>(
+    rt: &R,
     alloc: Global,
     left: &Layer,
     right: &Layer,
     relation: &JoinRelation,
 ) -> Result<(), Fail> {
     let wanted = nested_loop(alloc, left, right, relation)?;
-    for cut in CUTS {
-        let options = Options::new(1, 256, *cut)?;
-        if join(alloc, left, right, relation, &options)? != wanted {
+    for (workers, batch, cut) in WAYS {
+        let options = Options::new(workers, batch, cut)?;
+        let outcome = join(rt, alloc, left, right, relation, &options, &OpenGate)?;
+        if outcome.pairs() != wanted.as_slice() {
             return Err(Fail::new("a join differs from the nested loop"));
         }
     }
@@ -104,12 +82,12 @@ fn see_cuts(
 #[test]
 fn join_scan(rt: HostRuntime) -> Result<(), Fail> {
     let mut random = Random::new(1);
-    let left = layer(&rt, &mut random, 1500, 300)?;
-    let right = layer(&rt, &mut random, 900, 900)?;
+    let left = edited(&rt, &mut random, 1500, 300)?;
+    let right = edited(&rt, &mut random, 900, 900)?;
     for name in RELATIONS {
         let relation = JoinRelation::new(Relation::read(name)?)?;
-        see_cuts(rt.alloc(), &left, &right, &relation)?;
-        see_cuts(rt.alloc(), &right, &left, &relation)?;
+        see_ways(&rt, rt.alloc(), &left, &right, &relation)?;
+        see_ways(&rt, rt.alloc(), &right, &left, &relation)?;
     }
     Ok(())
 }

@@ -2,10 +2,13 @@
 
 use crate::device::make_device;
 use geom_core::{JoinRelation, Relation};
-use join_core::{Input, Options, RunFault, ToWrite, run_join};
-use layer_core::{FromRead, Layer, LayerFault, ReadFault, layer_of_bytes};
+use join_core::{Input, JoinSources, OpenGate, Options, RunFault, ToWrite, run_join};
+use layer_core::{FromRead, LayerFault, ReadFault};
 use std::hash::RandomState;
+use std::random::RandomSource;
+use std::sync::Wait;
 use std::test::Fail;
+use std::thread::Threads;
 use wkt_core::WktFault;
 
 const LEFT: &str =
@@ -26,46 +29,64 @@ struct Files<'a> {
     edits: Option<&'a str>,
 }
 
+const FILES: Files<'static> = Files {
+    left: LEFT,
+    right: RIGHT,
+    edits: None,
+};
+
 fn touches() -> Result<JoinRelation, Fail> {
     Ok(JoinRelation::new(Relation::read(b"touches")?)?)
 }
 
 /// What is answered and written.
-fn join(
-    rt: &HostRuntime,
+fn join<R: Threads + Wait + Sync + RandomSource + AllocGlobal>(
+    rt: &R,
     files: &Files<'_>,
     options: &Options,
 ) -> Result<(Result<(), RunFault>, Vec<u8>), Fail> {
-    let mut sink = ToWrite::new(Vec::new(rt.alloc()));
+    let alloc = rt.alloc();
+    let mut sink = ToWrite::new(Vec::new(alloc));
     let states = (RandomState::new(rt)?, RandomState::new(rt)?);
-    let mut edits = files.edits.map(|edits| FromRead::new(edits.as_bytes()));
-    let outcome = run_join(
-        rt.alloc(),
+    let mut sources = JoinSources {
+        left: FromRead::new(files.left.as_bytes()),
+        right: FromRead::new(files.right.as_bytes()),
+        edits: files.edits.map(|edits| FromRead::new(edits.as_bytes())),
+    };
+    let relation = touches()?;
+    let gate = OpenGate;
+    let ended = run_join(
+        rt,
+        alloc,
         states,
-        &mut FromRead::new(files.left.as_bytes()),
-        &mut FromRead::new(files.right.as_bytes()),
-        &mut edits,
-        &touches()?,
+        &mut sources,
+        &relation,
         options,
+        &gate,
         &mut sink,
     );
-    Ok((outcome, sink.into_inner()))
+    Ok((ended, sink.into_inner()))
+}
+
+/// Whether a join with four workers answers and writes this.
+fn ends<R: Threads + Wait + Sync + RandomSource + AllocGlobal>(
+    rt: &R,
+    files: &Files<'_>,
+    answer: Result<(), RunFault>,
+    text: &str,
+) -> Result<bool, Fail> {
+    let (ended, written) = join(rt, files, &Options::new(4, 256, 2)?)?;
+    Ok(ended == answer && written.as_slice() == text.as_bytes())
 }
 
 #[test]
 fn join_touches(rt: HostRuntime) -> Result<(), Fail> {
-    let files = Files {
-        left: LEFT,
-        right: RIGHT,
-        edits: None,
-    };
     for workers in [1, 2, 16] {
         for batch in [1, 4096] {
             for cut in [0, 8] {
                 let options = Options::new(workers, batch, cut)?;
-                let (outcome, written) = join(&rt, &files, &options)?;
-                assert!(rt; outcome == Ok(()));
-                assert!(rt; written.as_slice() == REPORT.as_bytes());
+                let (ended, written) = join(&rt, &FILES, &options)?;
+                assert!(rt; ended == Ok(()) && written.as_slice() == REPORT.as_bytes());
             }
         }
     }
@@ -79,112 +100,92 @@ fn empty_layers(rt: HostRuntime) -> Result<(), Fail> {
         right: "id,wkt\n",
         edits: None,
     };
-    let (outcome, written) = join(&rt, &files, &Options::new(4, 256, 2)?)?;
-    assert!(rt; outcome == Ok(()));
-    assert!(rt; written.as_slice() == HEADER.as_bytes());
+    assert!(rt; ends(&rt, &files, Ok(()), HEADER)?);
     Ok(())
 }
+
+const EDITS: &str =
+    "op,layer,id,wkt\ndelete,left,a,\ninsert,left,a,\"POLYGON ((0 0, 4 0, 4 4, 0 4, 0 0))\"\n";
+
+const INSERTION: &str = "op,layer,id,wkt\ninsert,left,a,\"POLYGON ((0 0, 4 0, 4 4, 0 4, 0 0))\"\n";
+
+const EDITED: &str = "left,right,matrix\nb,x,F0FFFF212\na,x,FF2F01212\na,z,FF2101102\n";
 
 #[test]
 fn join_with_edits(rt: HostRuntime) -> Result<(), Fail> {
-    let insertion = "insert,left,a,\"POLYGON ((0 0, 4 0, 4 4, 0 4, 0 0))\"\n";
-    let edits = format!(in rt.alloc(); "op,layer,id,wkt\ndelete,left,a,\n{insertion}")?;
     let files = Files {
-        left: LEFT,
-        right: RIGHT,
-        edits: Some(edits.as_str()),
+        edits: Some(EDITS),
+        ..FILES
     };
-    let (outcome, written) = join(&rt, &files, &Options::new(4, 256, 2)?)?;
-    assert!(rt; outcome == Ok(()));
-    let report = "left,right,matrix\nb,x,F0FFFF212\na,x,FF2F01212\na,z,FF2101102\n";
-    assert!(rt; written.as_slice() == report.as_bytes());
-
-    let edits = format!(in rt.alloc(); "op,layer,id,wkt\n{insertion}")?;
+    assert!(rt; ends(&rt, &files, Ok(()), EDITED)?);
     let files = Files {
-        left: LEFT,
-        right: RIGHT,
-        edits: Some(edits.as_str()),
+        edits: Some(INSERTION),
+        ..FILES
     };
-    let (outcome, written) = join(&rt, &files, &Options::new(4, 256, 2)?)?;
-    assert!(rt; outcome == Err(RunFault::Edit(1, LayerFault::DoubleId)));
-    assert!(rt; written.is_empty());
+    let fault = RunFault::Edit(1, LayerFault::DoubleId);
+    assert!(rt; ends(&rt, &files, Err(fault), "")?);
     Ok(())
 }
 
+const BAD_ROW: &str = "id,wkt\na,POINT (1 2\n";
+
 #[test]
 fn first_bad_file_is_answered(rt: HostRuntime) -> Result<(), Fail> {
-    let bad_row = "id,wkt\na,POINT (1 2\n";
-    let options = Options::new(4, 256, 2)?;
-    for (left, right, edits, fault) in [
-        (
-            bad_row,
-            "",
-            Some(""),
-            RunFault::Read(Input::Left, ReadFault::Wkt(1, WktFault::Text)),
-        ),
+    let row = ReadFault::Wkt(1, WktFault::Text);
+    for (left, right, fault) in [
+        (BAD_ROW, "", RunFault::Read(Input::Left, row)),
         (
             LEFT,
             "id,geom\n",
-            Some(""),
             RunFault::Read(Input::Right, ReadFault::Header),
         ),
-        (
-            LEFT,
-            RIGHT,
-            Some(""),
-            RunFault::Read(Input::Edits, ReadFault::Header),
-        ),
+        (LEFT, RIGHT, RunFault::Read(Input::Edits, ReadFault::Header)),
     ] {
-        let (outcome, written) = join(&rt, &Files { left, right, edits }, &options)?;
-        assert!(rt; outcome == Err(fault));
-        assert!(rt; written.is_empty());
+        let edits = Some("");
+        assert!(rt; ends(&rt, &Files { left, right, edits }, Err(fault), "")?);
     }
     Ok(())
+}
+
+/// Whether a device with this room is given the front of the report that it has room for.
+fn writes_front<R: Threads + Wait + Sync + RandomSource + AllocGlobal>(
+    rt: &R,
+    room: usize,
+) -> Result<bool, Fail> {
+    let mut sink = make_device(rt.alloc(), room, 7);
+    let states = (RandomState::new(rt)?, RandomState::new(rt)?);
+    let edits: Option<FromRead<&[u8]>> = None;
+    let mut sources = JoinSources {
+        left: FromRead::new(LEFT.as_bytes()),
+        right: FromRead::new(RIGHT.as_bytes()),
+        edits,
+    };
+    let (relation, options) = (touches()?, Options::new(4, 256, 2)?);
+    let (alloc, gate) = (rt.alloc(), OpenGate);
+    let ended = run_join(
+        rt,
+        alloc,
+        states,
+        &mut sources,
+        &relation,
+        &options,
+        &gate,
+        &mut sink,
+    );
+    let answer = if room >= REPORT.len() {
+        Ok(())
+    } else {
+        Err(RunFault::Write)
+    };
+    let written = sink.into_inner().taken;
+    let front = REPORT.as_bytes().get(..room.min(REPORT.len()));
+    Ok(ended == answer && Some(written.as_slice()) == front)
 }
 
 #[test]
 fn report_to_failing_device(rt: HostRuntime) -> Result<(), Fail> {
-    let options = Options::new(4, 256, 2)?;
     for room in 0..REPORT.len() + 2 {
-        let mut sink = make_device(rt.alloc(), room, 7);
-        let states = (RandomState::new(&rt)?, RandomState::new(&rt)?);
-        let mut edits: Option<FromRead<&[u8]>> = None;
-        let outcome = run_join(
-            rt.alloc(),
-            states,
-            &mut FromRead::new(LEFT.as_bytes()),
-            &mut FromRead::new(RIGHT.as_bytes()),
-            &mut edits,
-            &touches()?,
-            &options,
-            &mut sink,
-        );
-        let fits = room >= REPORT.len();
-        assert!(rt; outcome == if fits { Ok(()) } else { Err(RunFault::Write) });
-        let written = sink.into_inner().taken;
-        let front = REPORT.as_bytes().get(..room.min(REPORT.len()));
-        assert!(rt; Some(written.as_slice()) == front);
+        assert!(rt; writes_front(&rt, room)?);
     }
-    Ok(())
-}
-
-/// A layer that is read, again where memory is refused.
-fn layer(rt: &HostRuntime, text: &str) -> Result<Layer, Fail> {
-    match layer_of_bytes(rt.alloc(), RandomState::new(rt)?, text.as_bytes()) {
-        Ok(layer) => Ok(layer),
-        Err(_) => Ok(layer_of_bytes(rt.alloc(), RandomState::new(rt)?, text.as_bytes())?),
-    }
-}
-
-// Run with each allocation failing in turn, it ends as with ample memory.
-#[test]
-fn join_without_memory(rt: HostRuntime) -> Result<(), Fail> {
-    let (left, right) = (layer(&rt, LEFT)?, layer(&rt, RIGHT)?);
-    let (relation, options) = (touches()?, Options::new(1, 1, 2)?);
-    let pairs = match join_core::join(rt.alloc(), &left, &right, &relation, &options) {
-        Ok(pairs) => pairs,
-        Err(_) => join_core::join(rt.alloc(), &left, &right, &relation, &options)?,
-    };
-    assert!(rt; pairs.as_slice() == [(0, 0), (0, 2), (1, 0)].as_slice());
     Ok(())
 }

@@ -2,6 +2,8 @@
 #![tactic(auto)]
 
 #[cfg(test)]
+mod broken;
+#[cfg(test)]
 mod device;
 #[cfg(test)]
 mod fault_lines;
@@ -12,6 +14,14 @@ mod joining;
 #[cfg(test)]
 mod layer_runs;
 #[cfg(test)]
+mod layers;
+#[cfg(test)]
 mod options;
 #[cfg(test)]
+mod refused;
+#[cfg(test)]
 mod relating;
+#[cfg(test)]
+mod thousand_joins;
+#[cfg(test)]
+mod workers;

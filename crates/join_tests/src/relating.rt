@@ -11,6 +11,8 @@ use wkt_core::WktFault;
 
 const SQUARE: &str = "POLYGON ((0 0, 4 0, 4 4, 0 4, 0 0))";
 
+const OTHER: &str = "POLYGON ((2 2, 6 2, 6 6, 2 6, 2 2))";
+
 /// Checks what `run_relate` writes.
 fn check(rt: &(impl Abort + AllocGlobal), a: &str, b: &str, letters: &str) -> io::Result<()> {
     let mut sink = ToWrite::new(Vec::new(rt.alloc()));
@@ -31,12 +33,7 @@ fn relate_points(rt: HostRuntime) -> io::Result<()> {
 
 #[test]
 fn relate_rectangles(rt: HostRuntime) -> io::Result<()> {
-    check(
-        &rt,
-        SQUARE,
-        "POLYGON ((2 2, 6 2, 6 6, 2 6, 2 2))",
-        "212101212",
-    )
+    check(&rt, SQUARE, OTHER, "212101212")
 }
 
 #[test]
@@ -133,6 +130,40 @@ impl Write for Unflushed {
     fn flush(&mut self) -> io::Result<()> {
         Err(io::Error::from(ErrorKind::StorageFull))
     }
+}
+
+/// A writer that takes four bytes, and then none.
+#[derive(Drop)]
+struct Stuck {
+    taken: Vec<u8>,
+}
+
+impl Write for Stuck {
+    fn write(&mut self, text: &[u8]) -> io::Result<usize> {
+        let front = &text[..text.len().min(4usize.saturating_sub(self.taken.len()))];
+        self.taken.extend_from_slice(front)?;
+        Ok(front.len())
+    }
+
+    fn flush(&mut self) -> io::Result<()> {
+        Ok(())
+    }
+}
+
+#[test]
+fn broken_11(rt: HostRuntime) {
+    let mut sink = make_device(rt.alloc(), 4, 100);
+    let outcome = run_relate(SQUARE.as_bytes(), OTHER.as_bytes(), &mut sink);
+    assert!(rt; outcome == Err(RunFault::Write));
+    let written = sink.into_inner().taken;
+    assert!(rt; written.as_slice() == b"2121".as_slice());
+
+    let taken = Vec::new(rt.alloc());
+    let mut sink = ToWrite::new(Stuck { taken });
+    let outcome = run_relate(SQUARE.as_bytes(), OTHER.as_bytes(), &mut sink);
+    assert!(rt; outcome == Err(RunFault::Write));
+    let written = sink.into_inner().taken;
+    assert!(rt; written.as_slice() == b"2121".as_slice());
 }
 
 #[test]

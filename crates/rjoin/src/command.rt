@@ -10,23 +10,25 @@ use crate::inputs::Inputs;
 use crate::words::Command;
 use geom_core::JoinRelation;
 use join_core::{
-    Input, Options, RunFault, Sink, fault_line, run_join, run_relate, run_stats, run_window,
+    Input, JoinSources, OpenGate, Options, RunFault, Sink, fault_line, run_join, run_relate,
+    run_stats, run_window,
 };
 use std::hash::RandomState;
 use std::random::RandomSource;
+use std::sync::Wait;
+use std::thread::Threads;
 
 /// The status of a command that failed.
 pub const FAILED: u8 = 1;
 
 /// Does what a command asks for, and returns the exit status: 0 where all was written, else 1 with
 /// the line of the fault on `errors`.
-pub fn run_command<R: RandomSource + AllocGlobal, I: Inputs, O: Sink, E: Sink>(
-    rt: &R,
-    inputs: &I,
-    command: &Command<'_>,
-    output: &mut O,
-    errors: &mut E,
-) -> u8
+pub fn run_command<
+    R: RandomSource + AllocGlobal + Threads + Wait + Sync,
+    I: Inputs,
+    O: Sink,
+    E: Sink,
+>(rt: &R, inputs: &I, command: &Command<'_>, output: &mut O, errors: &mut E) -> u8
     requires output { O.has_failed output.old ≡ false }
     requires errors { E.has_failed errors.old ≡ false }
     ensures { CommandIsDone (I.files inputs.now)
@@ -44,7 +46,7 @@ pub fn run_command<R: RandomSource + AllocGlobal, I: Inputs, O: Sink, E: Sink>(
 }
 
 /// Does what a command asks for.
-fn execute<R: RandomSource + AllocGlobal, I: Inputs, O: Sink>(
+fn execute<R: RandomSource + AllocGlobal + Threads + Wait + Sync, I: Inputs, O: Sink>(
     rt: &R,
     inputs: &I,
     command: &Command<'_>,
@@ -63,18 +65,19 @@ fn execute<R: RandomSource + AllocGlobal, I: Inputs, O: Sink>(
             relation,
             options,
         } => {
-            let mut left = open_input(inputs, Input::Left, left_path)?;
-            let mut right = open_input(inputs, Input::Right, right_path)?;
-            let mut edits = open_edits(inputs, *edits_path)?;
+            let left = open_input(inputs, Input::Left, left_path)?;
+            let right = open_input(inputs, Input::Right, right_path)?;
+            let edits = open_edits(inputs, *edits_path)?;
             let states = (hash_state(rt)?, hash_state(rt)?);
+            let mut sources = JoinSources { left, right, edits };
             run_join(
+                rt,
                 rt.alloc(),
                 states,
-                &mut left,
-                &mut right,
-                &mut edits,
+                &mut sources,
                 relation,
                 options,
+                &OpenGate,
                 output,
             )
         }

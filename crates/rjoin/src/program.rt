@@ -11,16 +11,18 @@ use join_core::{RunFault, Sink, WriteFailed, fault_line};
 use std::alloc::AllocError;
 use std::random::RandomSource;
 use std::rt::Env;
+use std::sync::Wait;
+use std::thread::Threads;
 use std::{env, io};
 
 /// Does what the words of the command line ask for, and returns the exit status. What they ask for,
 /// help included, goes to `output`, and the line of a fault to `errors`.
-pub fn run_program<R: Env + RandomSource + AllocGlobal, I: Inputs, O: Sink, E: Sink>(
-    rt: &R,
-    inputs: &I,
-    output: &mut O,
-    errors: &mut E,
-) -> u8
+pub fn run_program<
+    R: Env + RandomSource + AllocGlobal + Threads + Wait + Sync,
+    I: Inputs,
+    O: Sink,
+    E: Sink,
+>(rt: &R, inputs: &I, output: &mut O, errors: &mut E) -> u8
     requires output { O.has_failed output.old ≡ false }
     requires errors { E.has_failed errors.old ≡ false }
     ensures { WordsAreDone (I.files inputs.now)
@@ -47,13 +49,12 @@ fn given_words<R: Env + AllocGlobal>(rt: &R) -> Result<Vec<String>, WordFault> {
 
 /// Does what words ask for: they are read as a command, which is run, or as the fault that is
 /// shown.
-pub fn run_words<R: RandomSource + AllocGlobal, I: Inputs, O: Sink, E: Sink>(
-    rt: &R,
-    words: &[String],
-    inputs: &I,
-    output: &mut O,
-    errors: &mut E,
-) -> u8
+pub fn run_words<
+    R: RandomSource + AllocGlobal + Threads + Wait + Sync,
+    I: Inputs,
+    O: Sink,
+    E: Sink,
+>(rt: &R, words: &[String], inputs: &I, output: &mut O, errors: &mut E) -> u8
     requires output { O.has_failed output.old ≡ false }
     requires errors { E.has_failed errors.old ≡ false }
     ensures { WordsAreDone (I.files inputs.now)

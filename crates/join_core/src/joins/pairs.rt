@@ -1,54 +1,62 @@
 //! The pairs of two layers that stand in a relation, by the tasks of a plan of their trees.
 
-ghost use Rattle.std.specs.Prelude.{◌≡◌, List, ℕ, IfOk};
-ghost use Rattle.std.specs.List.{flat_map};
+ghost use Rattle.std.specs.Prelude.{IfOk, IfErr};
 ghost use Rattle.geom_core.specs.JoinRelations.{relation_of};
-ghost use Rattle.descent_core.specs.Shares.{AreRows};
-ghost use Rattle.join_core.specs.Joins.{IsJoinList};
+ghost use Rattle.descent_core.specs.Plans.{IsPlan};
+ghost use Rattle.worker_core.specs.Faults.{IsWant};
+ghost use Rattle.join_core.specs.Joins.{IsJoinList, HasMarks, RowsAreJoinList};
+ghost use Rattle.join_core.specs.Options.{batch_of, cut_of};
 
 use crate::options::Options;
-use descent_core::{Plan, row};
+use deliver_core::Outcome;
+use descent_core::Plan;
 use geom_core::JoinRelation;
 use layer_core::Layer;
 use std::alloc::{AllocError, Global};
+use std::sync::Wait;
+use std::thread::Threads;
+use worker_core::{Gate, JoinFault, run_workers};
 
-/// The numbers of each left and right feature that stand in the relation, in order.
+/// The numbers of each left and right feature that stand in the relation, in order, with the marks
+/// of how they were delivered.
 ///
-/// The trees of the two layers are descended side by side, from the tasks of a plan with the cut
-/// of the options.
-pub fn join(
+/// The trees of the two layers are cut into tasks, as deep as the options say. Workers, each in a
+/// thread of its own, draw the tasks, enter the gate with each and descend its two subtrees. All
+/// of them have ended when the call returns.
+///
+/// # Errors
+/// `Memory` where memory was refused, and `NoThread` where there was no thread for a worker.
+pub fn join<R: Threads + Wait + Sync, G: Gate + Sync>(
+    rt: &R,
     alloc: Global,
     left: &Layer,
     right: &Layer,
     relation: &JoinRelation,
     options: &Options,
-) -> Result<Vec<(u32, u32)>, AllocError>
-    ensures { IfOk result (λ pairs.
-        IsJoinList (relation_of relation.now) left.now.list right.now.list pairs.items) }
+    gate: &G,
+) -> Result<Outcome, JoinFault>
+    ensures pairs { IfOk result (λ outcome.
+        IsJoinList (relation_of relation.now) left.now.list right.now.list outcome.pairs) }
+    ensures marks { let cut = cut_of options.now in let size = batch_of options.now in
+        IfOk result (HasMarks (relation_of relation.now) left.now.root right.now.root cut size) }
+    ensures err { IfErr result IsWant }
 {
-    if left.len() == 0 || right.len() == 0 {
-        return Ok(Vec::new(alloc));
-    }
-    let plan = Plan::new(alloc, left.tree(), right.tree(), options.cut())?;
-    let mut pairs = all_rows(alloc, &plan, relation)?;
-    pairs.sort_unstable();
-    Ok(pairs)
+    let plan = plan_of(alloc, left, right, options.cut())?;
+    let (workers, batch) = (options.workers(), options.batch());
+    run_workers(rt, alloc, &plan, relation, workers, batch, gate)
 }
 
-/// The rows of all tasks, one behind the other.
-fn all_rows(
+/// The tasks of two layers, at this cut.
+fn plan_of<'a>(
     alloc: Global,
-    plan: &Plan<'_>,
-    relation: &JoinRelation,
-) -> Result<Vec<(u32, u32)>, AllocError>
-    ensures { IfOk result (λ pairs. (rows : List (List (ℕ × ℕ)))
-        × AreRows (relation_of relation.now) plan.now rows
-        × (pairs.items ≡ flat_map (λ row. row) rows)) }
+    left: &'a Layer,
+    right: &'a Layer,
+    cut: u8,
+) -> Result<Plan<'a>, AllocError>
+    ensures plan { IfOk result (IsPlan left.now.root right.now.root cut) }
+    ensures rows { IfOk result (RowsAreJoinList left.now.list right.now.list) }
 {
-    let mut pairs = Vec::new(alloc);
-    for task in 0..plan.len() {
-        let mut found = row(alloc, plan, task, relation)?;
-        pairs.append(&mut found)?;
-    }
-    Ok(pairs)
+    // That numbers rise along a layer is what the layer says of itself.
+    let _lens = (left.len(), right.len());
+    Plan::new(alloc, left.tree(), right.tree(), cut)
 }

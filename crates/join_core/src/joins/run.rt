@@ -1,6 +1,6 @@
 //! The join of two files of layers, after a file of edits.
 
-ghost use Rattle.std.specs.Prelude.{◌≡◌, ◌≢◌, ◌↔◌, ◌⊎◌, ℕ, List, Ok, Err, Result, false, IsTrue, IfOk, IfErr, IfSome, OnOk, IsErrOf, IsSomeAnd, map, length, ◌≤◌};
+ghost use Rattle.std.specs.Prelude.{◌≡◌, ◌≢◌, ◌↔◌, ℕ, List, Ok, Err, Result, false, IsTrue, IfOk, IfErr, IfSome, OnOk, IsErrOf, IsSomeAnd, map, length, ◌≤◌};
 ghost use Rattle.geom_core.specs.JoinRelations.{relation_of};
 ghost use Rattle.layer_core.specs.declared.read_fault.ReadFault.{ReadFault};
 ghost use Rattle.layer_core.specs.Edits.{content_of};
@@ -10,12 +10,13 @@ ghost use Rattle.join_core.specs.Runs.{Ends};
 ghost use Rattle.join_core.specs.Joins.{IsJoinList};
 ghost use Rattle.join_core.specs.Reports.{IsReport};
 ghost use Rattle.join_core.specs.Inputs.{LayerFile, BlamesBytes, BlamesInput};
-ghost use Rattle.join_core.specs.JoinRuns.{EditFile, bytes_of, files_of, JoinGives, IsJoinText, IsJoinFault, FailedAt};
+ghost use Rattle.join_core.specs.JoinRuns.{EditFile, bytes_of, files_of, JoinGives, IsJoinText, IsJoinFault, IsLateFault, FailedAt};
 
 use super::edits::apply_edits;
 use super::pairs::join;
 use super::report::report_text;
-use crate::fault::{Input, JoinFault, RunFault};
+use super::sources::JoinSources;
+use crate::fault::{Input, RunFault};
 use crate::layer_input::read_input;
 use crate::options::Options;
 use crate::writing::{Sink, write_text};
@@ -23,77 +24,84 @@ use geom_core::JoinRelation;
 use layer_core::{Edit, Layer, ReadFault, Source, read_edits};
 use std::alloc::Global;
 use std::hash::RandomState;
+use std::sync::Wait;
+use std::thread::Threads;
+use worker_core::Gate;
 
 /// Writes the report of two layers, after the edits of both: the pairs of a left and a right
 /// feature that stand in the relation, in layer order, with the letters of their matrix.
 ///
 /// The left file is read first, then the right one, then that of the edits; then the edits are
-/// made in order. The first fault is answered, and then nothing is written. `states` hash the ids
-/// of the two layers.
-pub fn run_join<L: Source, R: Source, E: Source, S: Sink>(
+/// made in order, and the layers joined. The first fault is answered, and then nothing is written.
+/// `states` hash the ids of the two layers.
+pub fn run_join<R: Threads + Wait + Sync, A: Source, B: Source, E: Source, G: Gate + Sync, S: Sink>(
+    rt: &R,
     alloc: Global,
     states: (RandomState, RandomState),
-    left: &mut L,
-    right: &mut R,
-    edits: &mut Option<E>,
+    sources: &mut JoinSources<A, B, E>,
     relation: &JoinRelation,
     options: &Options,
+    gate: &G,
     sink: &mut S,
 ) -> Result<(), RunFault>
-    requires left { L.has_failed left.old ≡ false }
-    requires right { R.has_failed right.old ≡ false }
-    requires edits { IfSome edits.old (λ e. E.has_failed e ≡ false) }
+    requires left { A.has_failed sources.old.left ≡ false }
+    requires right { B.has_failed sources.old.right ≡ false }
+    requires edits { IfSome sources.old.edits (λ e. E.has_failed e ≡ false) }
     requires sink { S.has_failed sink.old ≡ false }
-    ensures writes { let files = files_of (L.remaining left.old) (R.remaining right.old)
-        E.remaining edits.old in
+    ensures writes { let files = files_of A.remaining B.remaining E.remaining sources.old in
         Ends (IsJoinText (relation_of relation.now) files)
         S.written S.is_flushed S.has_failed sink.old sink.new result }
-    ensures fault { let files = files_of (L.remaining left.old) (R.remaining right.old)
-        E.remaining edits.old in
+    ensures fault { let files = files_of A.remaining B.remaining E.remaining sources.old in
         IfErr result (λ f. BlamesInput f → JoinGives (relation_of relation.now) files (Err f)) }
     ensures faults { IfErr result (λ f. f ≢ RunFault.Write → IsJoinFault f) }
     ensures io { (i : Input) → IsErrOf result (RunFault.Read i ReadFault.Io) ↔ FailedAt
-        (IsTrue (L.has_failed left.new)) (IsTrue (R.has_failed right.new))
-        (IsSomeAnd edits.new (λ e. IsTrue (E.has_failed e))) i }
+        (IsTrue (A.has_failed sources.new.left)) (IsTrue (B.has_failed sources.new.right))
+        (IsSomeAnd sources.new.edits (λ e. IsTrue (E.has_failed e))) i }
 {
-    let text = join_text(alloc, states, left, right, edits, relation, options)?;
+    let text = join_text(rt, alloc, states, sources, relation, options, gate)?;
     write_text(sink, text.as_slice())?;
     Ok(())
 }
 
 /// The report of two layers that are read, and edited as a third file says.
-fn join_text<L: Source, R: Source, E: Source>(
+fn join_text<R: Threads + Wait + Sync, A: Source, B: Source, E: Source, G: Gate + Sync>(
+    rt: &R,
     alloc: Global,
     states: (RandomState, RandomState),
-    left: &mut L,
-    right: &mut R,
-    edits: &mut Option<E>,
+    sources: &mut JoinSources<A, B, E>,
     relation: &JoinRelation,
     options: &Options,
+    gate: &G,
 ) -> Result<Vec<u8>, RunFault>
-    requires left { L.has_failed left.old ≡ false }
-    requires right { R.has_failed right.old ≡ false }
-    requires edits { IfSome edits.old (λ e. E.has_failed e ≡ false) }
-    ensures ok { let files = files_of (L.remaining left.old) (R.remaining right.old)
-        E.remaining edits.old in
+    requires left { A.has_failed sources.old.left ≡ false }
+    requires right { B.has_failed sources.old.right ≡ false }
+    requires edits { IfSome sources.old.edits (λ e. E.has_failed e ≡ false) }
+    ensures ok { let files = files_of A.remaining B.remaining E.remaining sources.old in
         IfOk result (λ text. IsJoinText (relation_of relation.now) files text.items) }
-    ensures fault { let files = files_of (L.remaining left.old) (R.remaining right.old)
-        E.remaining edits.old in
+    ensures fault { let files = files_of A.remaining B.remaining E.remaining sources.old in
         IfErr result (λ f. BlamesInput f → JoinGives (relation_of relation.now) files (Err f)) }
     ensures faults { IfErr result IsJoinFault }
     ensures left_io { IsErrOf result (RunFault.Read Input.Left ReadFault.Io)
-        ↔ IsTrue (L.has_failed left.new) }
+        ↔ IsTrue (A.has_failed sources.new.left) }
     ensures right_io { IsErrOf result (RunFault.Read Input.Right ReadFault.Io)
-        ↔ IsTrue (R.has_failed right.new) }
+        ↔ IsTrue (B.has_failed sources.new.right) }
     ensures edits_io { IsErrOf result (RunFault.Read Input.Edits ReadFault.Io)
-        ↔ IsSomeAnd edits.new (λ e. IsTrue (E.has_failed e)) }
+        ↔ IsSomeAnd sources.new.edits (λ e. IsTrue (E.has_failed e)) }
 {
     let (left_state, right_state) = states;
-    let mut left_layer = read_input(alloc, Input::Left, left_state, left)?;
-    let mut right_layer = read_input(alloc, Input::Right, right_state, right)?;
-    let edit_list = read_edit_list(alloc, edits)?;
+    let mut left_layer = read_input(alloc, Input::Left, left_state, &mut sources.left)?;
+    let mut right_layer = read_input(alloc, Input::Right, right_state, &mut sources.right)?;
+    let edit_list = read_edit_list(alloc, &mut sources.edits)?;
     apply_edits(edit_list.as_slice(), &mut left_layer, &mut right_layer)?;
-    report_of(alloc, &left_layer, &right_layer, relation, options)
+    report_of(
+        rt,
+        alloc,
+        &left_layer,
+        &right_layer,
+        relation,
+        options,
+        gate,
+    )
 }
 
 /// The edits, if there is a file of them.
@@ -117,24 +125,20 @@ fn read_edit_list<E: Source>(alloc: Global, edits: &mut Option<E>) -> Result<Vec
 }
 
 /// The report of two layers.
-fn report_of(
+fn report_of<R: Threads + Wait + Sync, G: Gate + Sync>(
+    rt: &R,
     alloc: Global,
     left: &Layer,
     right: &Layer,
     relation: &JoinRelation,
     options: &Options,
+    gate: &G,
 ) -> Result<Vec<u8>, RunFault>
     ensures ok { IfOk result (λ text. (pairs : List (ℕ × ℕ))
         × IsJoinList (relation_of relation.now) left.now.list right.now.list pairs
         × IsReport left.now.list right.now.list pairs text.items) }
-    ensures err { IfErr result (λ e. (e ≡ RunFault.Join JoinFault.Memory) ⊎ (e ≡ RunFault.Memory)) }
+    ensures err { IfErr result IsLateFault }
 {
-    let pairs = match join(alloc, left, right, relation, options) {
-        Ok(pairs) => pairs,
-        Err(_) => return Err(RunFault::Join(JoinFault::Memory)),
-    };
-    match report_text(alloc, left, right, pairs.as_slice()) {
-        Ok(text) => Ok(text),
-        Err(_) => Err(RunFault::Memory),
-    }
+    let outcome = join(rt, alloc, left, right, relation, options, gate)?;
+    Ok(report_text(alloc, left, right, outcome.pairs())?)
 }

@@ -5,7 +5,9 @@ use crate::program::run_words;
 use join_core::ToWrite;
 use std::process::Abort;
 use std::random::RandomSource;
+use std::sync::Wait;
 use std::test::Fail;
+use std::thread::Threads;
 
 const PARCELS: &str = "id,wkt
 mill field,\"POLYGON ((0 0, 10 0, 10 10, 0 10, 0 0))\"
@@ -44,7 +46,7 @@ const FILES: [(&str, &str); 4] = [
 ];
 
 /// Checks the status, and what is written and said.
-fn check<R: Abort + RandomSource + AllocGlobal>(
+fn check<R: Abort + RandomSource + AllocGlobal + Threads + Wait + Sync>(
     rt: &R,
     files: &[(&str, &str)],
     words: &[&str],

@@ -2,4 +2,4 @@ use Rattle.join_core.proofs.JoinRunLemmas.{pairs_held}
 use Rattle.join_core.proofs.joins.run.report_of.Goals as goal
 
 pub report_text-requires : goal.report_text-requires
-report_text-requires c = pairs_held _ _ _ _ _ c.as_slice.ensures.value c.in-Ok.ensures
+report_text-requires g c = pairs_held _ _ _ _ _ c.pairs.ensures c.in_ok-outcome.ensures.pairs
