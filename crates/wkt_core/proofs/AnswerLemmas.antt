@@ -1,45 +1,21 @@
 -- What a text spells, and the one answer that it reads as.
-use Rattle.std.proofs.Common.{◌≡◌, ℕ, List, [], ◌∷◌, Result, Ok, Err, refl, sym, ◌∙◌, ap, subst, true}
-use Rattle.std.specs.Prelude.{ℤ}
+use Rattle.std.proofs.Common.{◌≡◌, ℕ, List, [], ◌∷◌, Result, Ok, Err, refl, ap, subst, true}
 use Rattle.std.specs.List.{list_all}
 use Rattle.geom_core.specs.declared.shape.Shape.{Shape}
-use Rattle.geom_core.specs.Shapes.{HasCorners}
-use Rattle.geom_core.specs.Joined.{same_corners}
 use Rattle.wkt_core.specs.declared.fault.WktFault.{WktFault}
 use Rattle.wkt_core.specs.declared.fault.WktFault.TheVariants.{Text, Number, Form}
 use Rattle.wkt_core.specs.declared.keyword.Keyword.{Keyword}
-use Rattle.wkt_core.specs.declared.keyword.Keyword.TheVariants.{Point, LineString, Polygon}
 use Rattle.wkt_core.specs.declared.position.Position.{Position}
 use Rattle.wkt_core.specs.Grammar.{RawPoint, Raw}
-use Rattle.wkt_core.specs.Spelling.{AllNumbersGood, positions, Draws, Forms, Spells}
+use Rattle.wkt_core.specs.Spelling.{AllNumbersGood, positions, Forms, Spells}
 use Rattle.wkt_core.specs.Readings.{Reads}
 use Rattle.wkt_core.specs.ListSteps.{TakesText}
-use Rattle.wkt_core.specs.FirstPoints.{are_whole, are_in_range}
-use Rattle.wkt_core.proofs.FormLemmas.{spanned_segment, rectangle_corners}
+use Rattle.wkt_core.specs.ReadLists.{are_whole, are_in_range}
+use Rattle.wkt_core.proofs.DrawnLemmas.{draws_same}
 use Rattle.wkt_core.proofs.GoodLemmas.{lists_good, lists_whole, lists_in_range}
 use Rattle.wkt_core.proofs.TextLemmas.{raw_taken, taken_raw, one_raw_form}
 
 -- ---- one shape
-
-corners_same : (a b c d : ℤ) (s t : Shape) → HasCorners a b c d s → HasCorners a b c d t → s ≡ t
-corners_same a b c d s t h k =
-    same_corners s t (h.first_x ∙ sym k.first_x) (h.first_y ∙ sym k.first_y) (h.second_x ∙ sym k.second_x) (h.second_y ∙ sym k.second_y)
-
-draws_same : (keyword : Keyword) (ps : List Position) (s t : Shape) → Draws keyword ps s → Draws keyword ps t → s ≡ t
-draws_same Point [] s t h k = absurd h
-draws_same Point (p ∷ []) s t h k = corners_same _ _ _ _ s t h k
-draws_same Point (p ∷ q ∷ ps) s t h k = absurd h
-draws_same LineString [] s t h k = absurd h
-draws_same LineString (p ∷ []) s t h k = absurd h
-draws_same LineString (p ∷ q ∷ []) s t h k = corners_same _ _ _ _ s t (spanned_segment p q s h) (spanned_segment p q t k)
-draws_same LineString (p ∷ q ∷ r ∷ ps) s t h k = absurd h
-draws_same Polygon [] s t h k = absurd h
-draws_same Polygon (a ∷ []) s t h k = absurd h
-draws_same Polygon (a ∷ b ∷ []) s t h k = absurd h
-draws_same Polygon (a ∷ b ∷ c ∷ []) s t h k = absurd h
-draws_same Polygon (a ∷ b ∷ c ∷ d ∷ []) s t h k = absurd h
-draws_same Polygon (a ∷ b ∷ c ∷ d ∷ e ∷ []) s t h k = corners_same _ _ _ _ s t (rectangle_corners a b c d s h.1).1 (rectangle_corners a b c d t k.1).1
-draws_same Polygon (a ∷ b ∷ c ∷ d ∷ e ∷ f ∷ ps) s t h k = absurd h
 
 forms_same : (keyword : Keyword) (lists : List (List Position)) (s t : Shape) → Forms keyword lists s → Forms keyword lists t → s ≡ t
 forms_same keyword [] s t h k = absurd h

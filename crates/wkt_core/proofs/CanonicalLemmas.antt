@@ -15,7 +15,10 @@ use Rattle.wkt_core.specs.declared.keyword.Keyword.{Keyword}
 use Rattle.wkt_core.specs.declared.keyword.Keyword.TheVariants.{Point, LineString, Polygon}
 use Rattle.wkt_core.specs.declared.position.Position.{Position}
 use Rattle.wkt_core.specs.Grammar.{Numeral, RawPoint, Blanks, Digits, Number, PointText, Listed, PointList, Body, Word, Raw}
-use Rattle.wkt_core.specs.Spelling.{value, IsGood, HasGoodNumbers, position, corner, corners, Forms, Spells, pair, listed, canonical}
+use Rattle.wkt_core.specs.Drawing.{corner, corners, Draws}
+use Rattle.wkt_core.specs.DrawnBefore.{DrewBefore}
+use Rattle.wkt_core.specs.Spelling.{value, IsGood, HasGoodNumbers, position, Spells, pair, listed, canonical}
+use Rattle.wkt_core.proofs.DrawnLemmas.{drawn_still}
 
 -- ---- numbers
 
@@ -220,13 +223,13 @@ good_points [] h = tt
 good_points (p ∷ ps) h = (good_point p h.0, good_points ps h.1)
 
 spelled_by : (text : List ℕ) (keyword : Keyword) (ps : List Position) (s : Shape) → AllInRange ps → Raw text keyword (map raw ps ∷ [])
-    → Forms keyword (ps ∷ []) s → Spells text s
+    → DrewBefore keyword ps s → Spells text s
 spelled_by text keyword ps s h r f = record {
   keyword = keyword;
   lists = map raw ps ∷ [];
   raw = r;
   good = (good_points ps h, tt);
-  forms = subst (λ qs. Forms keyword (qs ∷ []) s) (sym (positions_printed ps h)) f;
+  forms = subst (λ qs. Draws keyword qs s) (sym (positions_printed ps h)) (drawn_still keyword ps s f);
 }
 
 module _ (s : Shape) where

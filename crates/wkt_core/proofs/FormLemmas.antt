@@ -1,5 +1,5 @@
 -- The points of a text and the shapes that they draw.
-use Rattle.std.proofs.Common.{◌≡◌, ◌≢◌, ℕ, zero, suc, ◌<◌, ◌≤◌, length, List, [], ◌∷◌, ◌⊎◌, inl, inr, get_or, reverse, sym, ◌∙◌, ap, ⊎_elim, arith, ℤ}
+use Rattle.std.proofs.Common.{◌≡◌, ◌≢◌, ℕ, zero, suc, ◌<◌, ◌≤◌, true, length, List, [], ◌∷◌, ◌⊎◌, inl, inr, get_or, reverse, sym, ◌∙◌, ap, subst, ⊎_elim, arith, ℤ}
 use Rattle.std.specs.Prelude.{◌<ℤ◌, ◌≤ℤ◌, ◌↔◌, Option, Some, None, IsSome, IfNone}
 use Rattle.std.specs.Int.{int_min, int_max}
 use Rattle.std.proofs.lemmas.Bool.{false≢true}
@@ -7,12 +7,13 @@ use Rattle.std.proofs.lemmas.Int.{ints, clamps, by_lt_z}
 use Rattle.geom_core.specs.declared.shape.Shape.{Shape}
 use Rattle.geom_core.specs.Shapes.{x1, y1, x2, y2, HasCorners}
 use Rattle.wkt_core.specs.declared.position.Position.{Position}
-use Rattle.wkt_core.specs.declared.keyword.Keyword.TheVariants.{Point, LineString, Polygon}
-use Rattle.wkt_core.specs.Spelling.{Draws, IsSegment, IsRectangle, RunsRound, corner, corners, rotated}
+use Rattle.wkt_core.specs.declared.keyword.Keyword.{Keyword}
+use Rattle.wkt_core.specs.Drawing.{IsRectangle, RunsRound, corner, corners, rotated}
+use Rattle.wkt_core.specs.DrawnBefore.{IsSegment}
 use Rattle.wkt_core.specs.FormSteps.{IsSpanned, LeadsRound, HasFourCorners}
-
-pub same_position : (p q : Position) → p.x ≡ q.x → p.y ≡ q.y → p ≡ q
-same_position p q e f = λ i. record { x = e i; y = f i }
+use Rattle.wkt_core.specs.Walks.{is_straight, DrawnBy, IsDrawnBy}
+use Rattle.wkt_core.specs.declared.keyword.Keyword.TheVariants.{Point, LineString, Polygon}
+use Rattle.wkt_core.proofs.HeadingLemmas.{same_position}
 
 -- ---- the ends of what two numbers span
 
@@ -126,7 +127,7 @@ module _ (a b c d : Position) (s : Shape) (spanned : IsSpanned a c s) where
   }
 
 -- what is known of four corners in order
-abbrev AreCornersOf : Position → Position → Position → Position → Shape → Type 0
+abbrev pub AreCornersOf : Position → Position → Position → Position → Shape → Type 0
 AreCornersOf a b c d s = HasFourCorners a b c d × IsSpanned a c s
 
 -- the numbers of four positions in a row
@@ -240,6 +241,37 @@ module _ (a b c d : Position) (s : Shape) (wide : x1 s <ℤ x2 s) (high : y1 s <
 pub rectangle_corners : (a b c d : Position) (s : Shape) → IsRectangle a b c d s → AreCornersOf a b c d s
 rectangle_corners a b c d s h = turned a b c d s h.wide h.high h.round.0 h.round.1 h.round.2
 
+-- ---- begun at the next corner
+
+along_first : (a b c d : Position) (s : Shape) → LeadsRound a b c d → a.x ≢ c.x → a.y ≢ c.y → IsSpanned a c s → AreCornersOf b c d a s
+along_first a b c d s l dx dy h = (
+  (inr (l.2, l.3, l.0, l.1), (λ e. dx (sym l.3 ∙ (sym e ∙ l.1))), (λ e. dy (l.0 ∙ (e ∙ sym l.2)))),
+  record {
+    first_x = omega (arith, ints, clamps);
+    first_y = omega (arith, ints, clamps);
+    second_x = omega (arith, ints, clamps);
+    second_y = omega (arith, ints, clamps);
+  },
+)
+
+along_second : (a b c d : Position) (s : Shape) → LeadsRound b c d a → a.x ≢ c.x → a.y ≢ c.y → IsSpanned a c s → AreCornersOf b c d a s
+along_second a b c d s l dx dy h = (
+  (inl l, (λ e. dx (l.3 ∙ (e ∙ sym l.1))), (λ e. dy (sym l.2 ∙ (sym e ∙ l.0)))),
+  record {
+    first_x = omega (arith, ints, clamps);
+    first_y = omega (arith, ints, clamps);
+    second_x = omega (arith, ints, clamps);
+    second_y = omega (arith, ints, clamps);
+  },
+)
+
+pub from_next : (a b c d : Position) (s : Shape) → IsRectangle a b c d s → IsRectangle b c d a s
+from_next a b c d s h =
+    let ((round, dx, dy), spanned) = rectangle_corners a b c d s h in
+    let (four, span) : AreCornersOf b c d a s =
+    ⊎_elim (λ l. along_first a b c d s l dx dy spanned) (λ l. along_second a b c d s l dx dy spanned) round in
+    rectangle_spanned b c d a s span four
+
 -- ---- answers
 
 -- there is no value where what it would have to be cannot hold
@@ -251,38 +283,58 @@ pub none_weaker : {X P Q : Type 0} (r : Option X) → IfNone r P → (P → Q) �
 none_weaker None h f = f h
 none_weaker (Some x) h f = tt
 
--- ---- lists of the right length
+-- ---- turns of the right count
 
-module _ (d : Position) where
-  pub drawn_point : (xs : List Position) (s : Shape) → 1 ≤ length xs → length xs < 2
-      → Draws Point xs s → IsSpanned (get_or xs 0 d) (get_or xs 0 d) s
-  drawn_point [] s l u h = absurd (omega arith)
-  drawn_point (p ∷ []) s l u h = spanned_up p p s h
-  drawn_point (p ∷ q ∷ xs) s l u h = absurd (omega arith)
+module _ (o : Position) where
+  pub four_drawn : (xs : List Position) (e : Position) (s : Shape) → 4 ≤ length xs → length xs < 5 → e ≡ get_or xs 0 o
+      → IsRectangle (get_or xs 0 o) (get_or xs 1 o) (get_or xs 2 o) (get_or xs 3 o) s → DrawnBy Polygon xs e s
+  four_drawn [] e s l u f h = absurd (omega arith)
+  four_drawn (a ∷ []) e s l u f h = absurd (omega arith)
+  four_drawn (a ∷ b ∷ []) e s l u f h = absurd (omega arith)
+  four_drawn (a ∷ b ∷ c ∷ []) e s l u f h = absurd (omega arith)
+  four_drawn (a ∷ b ∷ c ∷ d ∷ []) e s l u f h = (f, h)
+  four_drawn (a ∷ b ∷ c ∷ d ∷ g ∷ xs) e s l u f h = absurd (omega arith)
 
-  pub drawn_segment : (xs : List Position) (s : Shape) → 2 ≤ length xs → length xs < 3
-      → Draws LineString xs s → IsSegment (get_or xs 0 d) (get_or xs 1 d) s
-  drawn_segment [] s l u h = absurd (omega arith)
-  drawn_segment (p ∷ []) s l u h = absurd (omega arith)
-  drawn_segment (p ∷ q ∷ []) s l u h = h
-  drawn_segment (p ∷ q ∷ r ∷ xs) s l u h = absurd (omega arith)
+  pub drawn_four : (xs : List Position) (e : Position) (s : Shape) → 4 ≤ length xs → length xs < 5 → DrawnBy Polygon xs e s
+      → IsRectangle (get_or xs 0 o) (get_or xs 1 o) (get_or xs 2 o) (get_or xs 3 o) s
+  drawn_four [] e s l u h = absurd (omega arith)
+  drawn_four (a ∷ []) e s l u h = absurd (omega arith)
+  drawn_four (a ∷ b ∷ []) e s l u h = absurd (omega arith)
+  drawn_four (a ∷ b ∷ c ∷ []) e s l u h = absurd (omega arith)
+  drawn_four (a ∷ b ∷ c ∷ d ∷ []) e s l u h = h.1
+  drawn_four (a ∷ b ∷ c ∷ d ∷ g ∷ xs) e s l u h = absurd (omega arith)
 
-  pub ring_drawn : (xs : List Position) (s : Shape) → 5 ≤ length xs → length xs < 6 → get_or xs 4 d ≡ get_or xs 0 d
-      → IsRectangle (get_or xs 0 d) (get_or xs 1 d) (get_or xs 2 d) (get_or xs 3 d) s → Draws Polygon xs s
-  ring_drawn [] s l u e h = absurd (omega arith)
-  ring_drawn (a ∷ []) s l u e h = absurd (omega arith)
-  ring_drawn (a ∷ b ∷ []) s l u e h = absurd (omega arith)
-  ring_drawn (a ∷ b ∷ c ∷ []) s l u e h = absurd (omega arith)
-  ring_drawn (a ∷ b ∷ c ∷ f ∷ []) s l u e h = absurd (omega arith)
-  ring_drawn (a ∷ b ∷ c ∷ f ∷ g ∷ []) s l u e h = (e, h)
-  ring_drawn (a ∷ b ∷ c ∷ f ∷ g ∷ x ∷ xs) s l u e h = absurd (omega arith)
+  pub five_drawn : (xs : List Position) (e : Position) (s : Shape) → 5 ≤ length xs → length xs < 6 → e ≡ get_or xs 0 o
+      → is_straight (get_or xs 4 o) (get_or xs 0 o) (get_or xs 1 o) ≡ true
+      → IsRectangle (get_or xs 1 o) (get_or xs 2 o) (get_or xs 3 o) (get_or xs 4 o) s → DrawnBy Polygon xs e s
+  five_drawn [] e s l u f t h = absurd (omega arith)
+  five_drawn (a ∷ []) e s l u f t h = absurd (omega arith)
+  five_drawn (a ∷ b ∷ []) e s l u f t h = absurd (omega arith)
+  five_drawn (a ∷ b ∷ c ∷ []) e s l u f t h = absurd (omega arith)
+  five_drawn (a ∷ b ∷ c ∷ d ∷ []) e s l u f t h = absurd (omega arith)
+  five_drawn (p ∷ a ∷ b ∷ c ∷ d ∷ []) e s l u f t h = (f, t, h)
+  five_drawn (p ∷ a ∷ b ∷ c ∷ d ∷ g ∷ xs) e s l u f t h = absurd (omega arith)
 
-  pub drawn_ring : (xs : List Position) (s : Shape) → 5 ≤ length xs → length xs < 6
-      → Draws Polygon xs s → IsRectangle (get_or xs 0 d) (get_or xs 1 d) (get_or xs 2 d) (get_or xs 3 d) s
-  drawn_ring [] s l u h = absurd (omega arith)
-  drawn_ring (a ∷ []) s l u h = absurd (omega arith)
-  drawn_ring (a ∷ b ∷ []) s l u h = absurd (omega arith)
-  drawn_ring (a ∷ b ∷ c ∷ []) s l u h = absurd (omega arith)
-  drawn_ring (a ∷ b ∷ c ∷ f ∷ []) s l u h = absurd (omega arith)
-  drawn_ring (a ∷ b ∷ c ∷ f ∷ g ∷ []) s l u h = h.1
-  drawn_ring (a ∷ b ∷ c ∷ f ∷ g ∷ x ∷ xs) s l u h = absurd (omega arith)
+  pub drawn_five : (xs : List Position) (e : Position) (s : Shape) → 5 ≤ length xs → length xs < 6 → DrawnBy Polygon xs e s
+      → IsRectangle (get_or xs 1 o) (get_or xs 2 o) (get_or xs 3 o) (get_or xs 4 o) s
+  drawn_five [] e s l u h = absurd (omega arith)
+  drawn_five (a ∷ []) e s l u h = absurd (omega arith)
+  drawn_five (a ∷ b ∷ []) e s l u h = absurd (omega arith)
+  drawn_five (a ∷ b ∷ c ∷ []) e s l u h = absurd (omega arith)
+  drawn_five (a ∷ b ∷ c ∷ d ∷ []) e s l u h = absurd (omega arith)
+  drawn_five (p ∷ a ∷ b ∷ c ∷ d ∷ []) e s l u h = h.2
+  drawn_five (p ∷ a ∷ b ∷ c ∷ d ∷ g ∷ xs) e s l u h = absurd (omega arith)
+
+  pub drawn_point : (xs : List Position) (p : Position) (s : Shape) → length xs < 1 → DrawnBy Point xs p s → IsSpanned p p s
+  drawn_point [] p s l h = spanned_up p p s h
+  drawn_point (a ∷ xs) p s l h = absurd h
+
+  pub drawn_segment : (xs : List Position) (p : Position) (s : Shape) → 1 ≤ length xs → DrawnBy LineString xs p s → IsSegment (get_or xs 0 o) p s
+  drawn_segment [] p s l h = absurd h
+  drawn_segment (a ∷ []) p s l h = h
+  drawn_segment (a ∷ b ∷ xs) p s l h = absurd h
+
+pub drawn_at : (keyword kind : Keyword) (turns xs : List Position) (last : Option Position) (p : Position) (s : Shape) → keyword ≡ kind → xs ≡ turns
+    → Some p ≡ last → IsDrawnBy keyword turns last s → DrawnBy kind xs p s
+drawn_at keyword kind turns xs last p s e f g h =
+    subst (λ k. DrawnBy k xs p s) e (subst (λ t. DrawnBy keyword t p s) (sym f) (subst (λ o. IsDrawnBy keyword turns o s) (sym g) h))

@@ -1,5 +1,5 @@
--- Numbers that are whole and in range, and what the first points of a list tell.
-use Rattle.std.proofs.Common.{◌≡◌, ℕ, ◌≤◌, Bool, true, false, List, [], ◌∷◌, ◌&&◌, cond, Option, Some, None, refl, arith}
+-- Numbers that are whole and in range, and what is read of lists of them.
+use Rattle.std.proofs.Common.{◌≡◌, ℕ, ◌≤◌, Bool, true, false, List, [], ◌∷◌, cond, Option, Some, None, refl, arith}
 use Rattle.std.specs.Prelude.{ℤ, nat_le, is_some}
 use Rattle.std.specs.List.{list_all, AllByRecursion}
 use Rattle.std.specs.Str.Parse.{digits_value}
@@ -11,7 +11,8 @@ use Rattle.wkt_core.specs.Grammar.{Numeral, RawPoint}
 use Rattle.wkt_core.specs.Spelling.{signed, value, HasGoodNumbers, AllNumbersGood}
 use Rattle.wkt_core.specs.NumberSteps.{number_read}
 use Rattle.wkt_core.specs.PointSteps.{position_from, point_read}
-use Rattle.wkt_core.specs.FirstPoints.{are_whole, are_in_range}
+use Rattle.wkt_core.specs.ReadLists.{are_whole, are_in_range}
+use Rattle.wkt_core.proofs.HeadingLemmas.{both_parts}
 
 in_range : (negative : Bool) (n : ℕ) → n ≤ greatest_coordinate → IsCoordinate (signed negative n)
 in_range true n h = (omega (arith, ints), omega (arith, ints))
@@ -20,10 +21,6 @@ in_range false n h = (omega (arith, ints), omega (arith, ints))
 range_in : (negative : Bool) (n : ℕ) → IsCoordinate (signed negative n) → n ≤ greatest_coordinate
 range_in true n h = omega (arith, ints)
 range_in false n h = omega (arith, ints)
-
-both_parts : (a b : Bool) → (a && b) ≡ true → (a ≡ true) × (b ≡ true)
-both_parts true b h = (refl, h)
-both_parts false b h = absurd (false≢true h)
 
 some_if : (b : Bool) (z : ℤ) → is_some (cond b (Some z) None) ≡ true → b ≡ true
 some_if true z h = refl

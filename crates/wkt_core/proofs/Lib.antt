@@ -4,7 +4,14 @@ pub mod FrontLemmas
 pub mod PointLemmas
 pub mod ListGrammar
 pub mod TextLemmas
+pub mod HeadingLemmas
+pub mod RunLemmas
+pub mod WayLemmas
 pub mod FormLemmas
+pub mod RingLemmas
+pub mod DrawnLemmas
+pub mod WalkLemmas
+pub mod RawLemmas
 pub mod GoodLemmas
 pub mod AnswerLemmas
 pub mod CanonicalLemmas

@@ -3,13 +3,13 @@ use Rattle.std.proofs.Common.{◌≡◌, ℕ, List, [], ◌∷◌, ◌++◌, Opt
 use Rattle.std.specs.Prelude.{IfNone}
 use Rattle.std.proofs.lemmas.Option.{none-some, some_pair_parts}
 use Rattle.wkt_core.specs.declared.position.ReadPoint.{ReadPoint}
-use Rattle.wkt_core.specs.declared.first_points.FirstPoints.{FirstPoints}
-use Rattle.wkt_core.specs.declared.first_points.FirstList.{FirstList}
+use Rattle.wkt_core.specs.declared.read_list.ReadList.{ReadList}
+use Rattle.wkt_core.specs.declared.read_list.ReadLists.{ReadLists}
 use Rattle.wkt_core.specs.Grammar.{RawPoint, PointText, PointList, InParentheses}
 use Rattle.wkt_core.specs.TokenSteps.{skip}
 use Rattle.wkt_core.specs.PointSteps.{point_at, point_read, point_answer}
 use Rattle.wkt_core.specs.ListSteps.{Begun, Items, TakesPoint, TakesPoints, TakesLists}
-use Rattle.wkt_core.specs.FirstPoints.{AreFirstOf, IsFirstOf}
+use Rattle.wkt_core.specs.ReadLists.{IsReadOf, AreReadOf}
 use Rattle.wkt_core.proofs.FrontLemmas.{point_begins, point_at_front, point_solid, Begins-shorter}
 use Rattle.wkt_core.proofs.ItemLemmas.{IsExact, begun_more, items_ended, no_item_follows, no_end_follows}
 use Rattle.wkt_core.proofs.ListGrammar.{IsReading, enclosed_exact, enclosed_reading}
@@ -44,20 +44,20 @@ pub no_point_taken : (text : List ℕ) → None ≡ point_answer (point_at text)
 no_point_taken text e p rest h = not_taken (point_at text) p rest e h
 
 -- what the loop knows: the points so far, and the first of them
-abbrev pub SoFar : List ℕ → List ℕ → FirstPoints → Type 0
-SoFar start rest first = (done : List RawPoint) × Begun TakesPoint done start rest × AreFirstOf first done
+abbrev pub SoFar : List ℕ → List ℕ → ReadList → Type 0
+SoFar start rest first = (done : List RawPoint) × Begun TakesPoint done start rest × IsReadOf first done
 
-abbrev Pushes : FirstPoints → ReadPoint → FirstPoints → Type 0
-Pushes old o new = (ps : List RawPoint) (p : RawPoint) → AreFirstOf old ps → o ≡ point_read p → AreFirstOf new (ps ++ p ∷ [])
+abbrev Pushes : ReadList → ReadPoint → ReadList → Type 0
+Pushes old o new = (ps : List RawPoint) (p : RawPoint) → IsReadOf old ps → o ≡ point_read p → IsReadOf new (ps ++ p ∷ [])
 
-module _ (start rest after behind : List ℕ) (old new : FirstPoints) (o : ReadPoint) (push : Pushes old o new)
+module _ (start rest after behind : List ℕ) (old new : ReadList) (o : ReadPoint) (push : Pushes old o new)
     (read : Some (o, after) ≡ point_answer (point_at (skip rest))) where
   pub point_more : SoFar start rest old → skip after ≡ 44 ∷ behind → SoFar start behind new
   point_more (done, begun, firsts) e =
       let (p, h, v) = point_taken (skip rest) o after read in
       (done ++ p ∷ [], begun_more TakesPoint done p start rest after behind begun h e, push done p firsts v)
 
-  pub points_ended : SoFar start rest old → skip after ≡ 41 ∷ behind → (ps : List RawPoint) × Items TakesPoint ps start behind × AreFirstOf new ps
+  pub points_ended : SoFar start rest old → skip after ≡ 41 ∷ behind → (ps : List RawPoint) × Items TakesPoint ps start behind × IsReadOf new ps
   points_ended (done, begun, firsts) e =
       let (p, h, v) = point_taken (skip rest) o after read in
       (done ++ p ∷ [], items_ended TakesPoint done p start rest after behind begun h e, push done p firsts v)
@@ -78,7 +78,7 @@ pub text_lists_reading : IsReading (InParentheses PointList) TakesLists
 text_lists_reading = enclosed_reading PointList TakesPoints lists_reading
 
 -- what the loop over lists knows: those so far, the last of which leaves the text `after`, and the first of them
-pub record ListsSoFar (text after : List ℕ) (first : FirstList) : Type 0 where
+pub record ListsSoFar (text after : List ℕ) (first : ReadLists) : Type 0 where
   pub start : List ℕ
   pub opened : text ≡ 40 ∷ start
   pub done : List (List RawPoint)
@@ -86,11 +86,11 @@ pub record ListsSoFar (text after : List ℕ) (first : FirstList) : Type 0 where
   pub rest : List ℕ
   pub begun : Begun TakesPoints done start rest
   pub taken : TakesPoints (skip rest) last after
-  pub firsts : IsFirstOf first (done ++ last ∷ [])
+  pub firsts : AreReadOf first (done ++ last ∷ [])
 
-pub list_more : (text after behind rest : List ℕ) (old new : FirstList) → ListsSoFar text after old → (ps : List RawPoint) → skip after ≡ 44 ∷ behind
+pub list_more : (text after behind rest : List ℕ) (old new : ReadLists) → ListsSoFar text after old → (ps : List RawPoint) → skip after ≡ 44 ∷ behind
     → TakesPoints (skip behind) ps rest
-    → ((lists : List (List RawPoint)) → IsFirstOf old lists → IsFirstOf new (lists ++ ps ∷ [])) → ListsSoFar text rest new
+    → ((lists : List (List RawPoint)) → AreReadOf old lists → AreReadOf new (lists ++ ps ∷ [])) → ListsSoFar text rest new
 list_more text after behind rest old new s ps e h push = record {
   start = s.start;
   opened = s.opened;
@@ -102,18 +102,18 @@ list_more text after behind rest old new s ps e h push = record {
   firsts = push (s.done ++ s.last ∷ []) s.firsts;
 }
 
-pub lists_ended : (text after behind : List ℕ) (first : FirstList) → ListsSoFar text after first → skip after ≡ 41 ∷ behind
-    → (lists : List (List RawPoint)) × TakesLists text lists behind × IsFirstOf first lists
+pub lists_ended : (text after behind : List ℕ) (first : ReadLists) → ListsSoFar text after first → skip after ≡ 41 ∷ behind
+    → (lists : List (List RawPoint)) × TakesLists text lists behind × AreReadOf first lists
 lists_ended text after behind first s e =
     (s.done ++ s.last ∷ [], (s.start, s.opened, items_ended TakesPoints s.done s.last s.start s.rest after behind s.begun s.taken e), s.firsts)
 
 -- where neither a comma nor the end follows, or no list behind a comma, the text begins with no list of lists
-pub no_lists_end : (text after : List ℕ) (first : FirstList) → ListsSoFar text after first
+pub no_lists_end : (text after : List ℕ) (first : ReadLists) → ListsSoFar text after first
     → ((r : List ℕ) → ¬ (skip after ≡ 44 ∷ r) × ¬ (skip after ≡ 41 ∷ r)) → (lists : List (List RawPoint)) (rest : List ℕ) → TakesLists text lists rest
     → ⊥
 no_lists_end text after first s none = no_end_follows TakesPoints lists_exact s.start s.rest s.done s.begun text s.opened s.last after s.taken none
 
-pub no_list_follows : (text after behind : List ℕ) (first : FirstList) → ListsSoFar text after first → skip after ≡ 44 ∷ behind
+pub no_list_follows : (text after behind : List ℕ) (first : ReadLists) → ListsSoFar text after first → skip after ≡ 44 ∷ behind
     → ((ps : List RawPoint) (rest : List ℕ) → TakesPoints (skip behind) ps rest → ⊥) → (lists : List (List RawPoint)) (rest : List ℕ)
     → TakesLists text lists rest → ⊥
 no_list_follows text after behind first s e none =

@@ -1,4 +1,6 @@
 pub mod Grammar
+pub mod Drawing
+pub mod DrawnBefore
 pub mod Spelling
 pub mod Readings
 pub mod FaultTexts
@@ -6,5 +8,6 @@ pub mod TokenSteps
 pub mod NumberSteps
 pub mod PointSteps
 pub mod ListSteps
-pub mod FirstPoints
+pub mod Walks
+pub mod ReadLists
 pub mod FormSteps

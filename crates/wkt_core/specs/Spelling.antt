@@ -1,14 +1,14 @@
--- What a text means: the values of its numbers, and the shape that its points draw.
-use Rattle.std.specs.Prelude.{◌≡◌, ◌≢◌, ◌==◌, ℕ, ℤ, pos, neg_ℤ, ◌<◌, ◌<ℤ◌, Bool, true, false, List, [], ◌∷◌, ◌++◌, ◌⊎◌, IsTrue, map, take, drop, reverse, codes, if◌then◌else◌}
+-- What a text means: the values of its numbers, and the shape that its lists of points draw.
+use Rattle.std.specs.Prelude.{◌==◌, ℕ, ℤ, pos, neg_ℤ, Bool, true, false, List, [], ◌∷◌, ◌++◌, IsTrue, map, codes, if◌then◌else◌}
 use Rattle.std.specs.List.{AllByRecursion, flat_map, list_all}
 use Rattle.std.specs.Fmt.{signed_decimal}
 use Rattle.std.specs.Str.Parse.{digits_value}
 use Rattle.geom_core.specs.declared.shape.Shape.{Shape}
-use Rattle.geom_core.specs.Shapes.{x1, y1, x2, y2, dim_of, IsCoordinate, HasCorners}
+use Rattle.geom_core.specs.Shapes.{x1, y1, x2, y2, dim_of, IsCoordinate}
 use Rattle.wkt_core.specs.declared.keyword.Keyword.{Keyword}
-use Rattle.wkt_core.specs.declared.keyword.Keyword.TheVariants.{Point, LineString, Polygon}
 use Rattle.wkt_core.specs.declared.position.Position.{Position}
 use Rattle.wkt_core.specs.Grammar.{Numeral, RawPoint, Raw}
+use Rattle.wkt_core.specs.Drawing.{corner, corners, Draws}
 
 -- no digit behind the dot but 0
 abbrev pub is_whole : Numeral → Bool
@@ -38,42 +38,6 @@ position p = record { x = value p.x; y = value p.y }
 
 abbrev pub positions : List (List RawPoint) → List (List Position)
 positions lists = map (map position) lists
-
--- the segment between two different points that share a coordinate
-pub record IsSegment (p q : Position) (s : Shape) : Type 0 where
-  pub differ : p ≢ q
-  pub parallel : (p.x ≡ q.x) ⊎ (p.y ≡ q.y)
-  pub ends : HasCorners p.x p.y q.x q.y s ⊎ HasCorners q.x q.y p.x p.y s
-
-abbrev pub corner : ℤ → ℤ → Position
-corner x y = record { x = x; y = y }
-
--- the four corners in order round the shape, from the lowest on
-abbrev pub corners : Shape → List Position
-corners s =
-    corner (x1 s) (y1 s) ∷ corner (x2 s) (y1 s) ∷ corner (x2 s) (y2 s) ∷ corner (x1 s) (y2 s) ∷ []
-
--- a list begun at another of its items
-abbrev pub rotated : {X : Type 0} → ℕ → List X → List X
-rotated n xs = drop n xs ++ take n xs
-
--- the corners in order round the shape, from any one, in either direction
-abbrev pub RunsRound : List Position → Shape → Type 0
-RunsRound ps s =
-    (n : ℕ) × (n < 4) × ((ps ≡ rotated n (corners s)) ⊎ (ps ≡ rotated n (reverse (corners s))))
-
--- the rectangle with these corners, in order round it
-pub record IsRectangle (a b c d : Position) (s : Shape) : Type 0 where
-  pub wide : x1 s <ℤ x2 s
-  pub high : y1 s <ℤ y2 s
-  pub round : RunsRound (a ∷ b ∷ c ∷ d ∷ []) s
-
--- the shape that one list of points draws; a ring ends where it begins
-abbrev pub Draws : Keyword → List Position → Shape → Type 0
-Draws Point (p ∷ []) s = HasCorners p.x p.y p.x p.y s
-Draws LineString (p ∷ q ∷ []) s = IsSegment p q s
-Draws Polygon (a ∷ b ∷ c ∷ d ∷ e ∷ []) s = (e ≡ a) × IsRectangle a b c d s
-Draws _ _ s = ⊥
 
 -- a shape is drawn by one list
 abbrev pub Forms : Keyword → List (List Position) → Shape → Type 0

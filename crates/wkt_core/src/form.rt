@@ -1,12 +1,16 @@
-//! The shape that the points of a text draw.
+//! The shape that a walk along the points of a text draws.
 
 ghost use Rattle.std.specs.Prelude.{◌↔◌, IsTrue, IfSome, IfNone};
 ghost use Rattle.geom_core.specs.declared.shape.Shape.{Shape};
-ghost use Rattle.wkt_core.specs.Spelling.{Draws, IsSegment, IsRectangle};
+ghost use Rattle.wkt_core.specs.declared.keyword.Keyword.TheVariants.{Polygon};
+ghost use Rattle.wkt_core.specs.Drawing.{IsRectangle};
+ghost use Rattle.wkt_core.specs.DrawnBefore.{IsSegment};
 ghost use Rattle.wkt_core.specs.FormSteps.{IsSpanned, AreParallel, LeadsRound, HasFourCorners};
+ghost use Rattle.wkt_core.specs.Walks.{DrawnBy, IsDrawnBy};
 
 use crate::keyword::Keyword;
 use crate::position::Position;
+use crate::walk::{Walk, is_straight};
 use geom_core::Shape;
 
 /// The smallest shape that has both points, where these are in range.
@@ -67,23 +71,35 @@ fn rectangle(a: &Position, b: &Position, c: &Position, d: &Position) -> Option<S
     }
 }
 
-/// The shape that a list of points draws in a text with this keyword.
-pub(crate) fn shape_of(keyword: Keyword, points: &[Position]) -> Option<Shape>
-    ensures some { IfSome result (λ s. Draws keyword points.now s) }
-    ensures none { IfNone result ((s : Shape) → Draws keyword points.now s → ⊥) }
+/// The rectangle that a walk with these turns goes round, where it ends at the last point.
+fn ring(turns: &[Position], last: &Position) -> Option<Shape>
+    ensures some { IfSome result (λ s. DrawnBy Polygon turns.now last.now s) }
+    ensures none { IfNone result ((s : Shape) → DrawnBy Polygon turns.now last.now s → ⊥) }
 {
+    match turns {
+        [a, b, c, d] if *last == *a => rectangle(a, b, c, d),
+        [p, a, b, c, d] if *last == *p && is_straight(d, p, a) => rectangle(a, b, c, d),
+        _ => None,
+    }
+}
+
+/// The shape that a walk draws in a text with this keyword.
+pub(crate) fn shape_of(keyword: Keyword, walk: &Walk) -> Option<Shape>
+    ensures some { IfSome result (λ s.
+        IsDrawnBy keyword walk.now.turns.items walk.now.last s) }
+    ensures none { IfNone result ((s : Shape)
+        → IsDrawnBy keyword walk.now.turns.items walk.now.last s → ⊥) }
+{
+    let last = walk.last()?;
     match keyword {
-        Keyword::Point => match points {
-            [p] => spanned(p, p),
+        Keyword::Point => match walk.turns() {
+            [] => spanned(&last, &last),
             _ => None,
         },
-        Keyword::LineString => match points {
-            [p, q] => segment(p, q),
+        Keyword::LineString => match walk.turns() {
+            [first] => segment(first, &last),
             _ => None,
         },
-        Keyword::Polygon => match points {
-            [a, b, c, d, e] if *e == *a => rectangle(a, b, c, d),
-            _ => None,
-        },
+        Keyword::Polygon => ring(walk.turns(), &last),
     }
 }

@@ -5,16 +5,17 @@
 //! |---|---|
 //! | `POINT (4 -2)`, ` point(+4.00 -2. )` | the point (4, -2) |
 //! | `LINESTRING (3 0, 1 0)` | the segment from (1, 0) to (3, 0) |
+//! | `LINESTRING (3 0, 2 0, 2 0, 1 0)` | the same segment |
 //! | `POLYGON ((0 0, 4 0, 4 2, 0 2, 0 0))` | the rectangle from (0, 0) to (4, 2) |
 //! | `Polygon((4 2,4 0,0 0,0 2,4 2))` | the same rectangle |
+//! | `POLYGON ((1 0, 4 0, 4 1, 4 2, 0 2, 0 0, 1 0))` | the same rectangle |
 //! | `POINT EMPTY`, `POINT (1,2)`, `POINT (1e3 0)`, `POINT (1 2) x` | [`WktFault::Text`] |
 //! | `POINT (1.5 0)`, `POINT (1000000001 0)` | [`WktFault::Number`] |
-//! | `LINESTRING (0 0, 1 1)`, `LINESTRING (0 0, 1 0, 2 0)` | [`WktFault::Form`] |
+//! | `LINESTRING (0 0, 1 1)`, `LINESTRING (0 0, 2 0, 1 0)` | [`WktFault::Form`] |
 //! | `POLYGON ((0 0, 4 0, 4 2, 0 2, 0 1))` | [`WktFault::Form`] |
 #![tactic(auto)]
 
 mod fault;
-mod first_points;
 mod form;
 mod keyword;
 mod laws;
@@ -23,10 +24,12 @@ mod number;
 mod position;
 mod printer;
 mod raw;
+mod read_list;
 mod reader;
 mod token;
+mod walk;
 
 pub use fault::WktFault;
-pub use laws::one_shape_law;
+pub use laws::{one_shape_law, widened_law};
 pub use printer::print;
 pub use reader::read;

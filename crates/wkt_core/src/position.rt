@@ -15,7 +15,7 @@ pub(crate) struct Position {
 }
 
 impl Position {
-    ghost use Rattle.wkt_core.specs.Spelling.{corner};
+    ghost use Rattle.wkt_core.specs.Drawing.{corner};
 
     #[inline(always)]
     pub(crate) fn new(x: i64, y: i64) -> Position

@@ -3,7 +3,8 @@
 ghost use Rattle.std.specs.Prelude.{◌≡◌, ◌++◌, [], ◌∷◌, codes, IfOk, OnOk};
 ghost use Rattle.std.specs.String.{string_bytes};
 ghost use Rattle.geom_core.specs.declared.shape.Shape.{Shape};
-ghost use Rattle.wkt_core.specs.Spelling.{Spells, pair, listed, corner, canonical};
+ghost use Rattle.wkt_core.specs.Drawing.{corner};
+ghost use Rattle.wkt_core.specs.Spelling.{Spells, pair, listed, canonical};
 
 use crate::position::Position;
 use geom_core::Shape;

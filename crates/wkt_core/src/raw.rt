@@ -1,17 +1,17 @@
 //! A whole text by the grammar, and what its points draw.
 
-use crate::first_points::FirstList;
 use crate::form::shape_of;
 use crate::keyword::Keyword;
 use crate::list::{read_lists, read_one_point, read_points};
+use crate::read_list::ReadLists;
 use crate::token::skip_blanks;
 use geom_core::Shape;
 
-/// The keyword and the first list of a text of the grammar.
+/// The keyword of a text of the grammar, and what is read of its lists.
 #[derive(Drop)]
 pub(crate) struct RawText {
     keyword: Keyword,
-    list: FirstList,
+    lists: ReadLists,
 }
 
 impl RawText {
@@ -22,40 +22,40 @@ impl RawText {
     ghost use Rattle.wkt_core.specs.Grammar.{RawPoint};
     ghost use Rattle.wkt_core.specs.Spelling.{Forms, positions};
     ghost use Rattle.wkt_core.specs.ListSteps.{TakesBody, TakesText};
-    ghost use Rattle.wkt_core.specs.FirstPoints.{IsFirstOf, are_in_range};
+    ghost use Rattle.wkt_core.specs.ReadLists.{AreReadOf, are_in_range};
 
-    /// The first list behind the keyword, and what follows the lists.
+    /// What is read of the lists behind the keyword, and what follows them.
     #[inline(always)]
-    fn read_body(keyword: Keyword, text: &[u8]) -> Option<(FirstList, &[u8])>
+    fn read_body(keyword: Keyword, text: &[u8]) -> Option<(ReadLists, &[u8])>
         ensures some { IfSome result (λ r. (lists : List (List RawPoint))
-            × TakesBody keyword text.now lists r.1.now × IsFirstOf r.0 lists) }
+            × TakesBody keyword text.now lists r.1.now × AreReadOf r.0 lists) }
         ensures none { IfNone result ((lists : List (List RawPoint)) (rest : List ℕ)
             → TakesBody keyword text.now lists rest → ⊥) }
     {
         match keyword {
             Keyword::Point => {
-                let (points, rest) = read_one_point(text)?;
-                Some((FirstList::of(points), rest))
+                let (list, rest) = read_one_point(text)?;
+                Some((ReadLists::of(list), rest))
             }
             Keyword::LineString => {
-                let (points, rest) = read_points(text)?;
-                Some((FirstList::of(points), rest))
+                let (list, rest) = read_points(text)?;
+                Some((ReadLists::of(list), rest))
             }
             Keyword::Polygon => read_lists(text),
         }
     }
 
-    /// The keyword and the first list of the text, where the grammar has it.
+    /// The keyword of the text and what is read of its lists, where the grammar has it.
     pub(crate) fn read(text: &[u8]) -> Option<RawText>
         ensures some { IfSome result (λ raw. (lists : List (List RawPoint))
-            × TakesText text.now raw.keyword lists × IsFirstOf raw.list lists) }
+            × TakesText text.now raw.keyword lists × AreReadOf raw.lists lists) }
         ensures none { IfNone result ((keyword : Keyword) (lists : List (List RawPoint))
             → TakesText text.now keyword lists → ⊥) }
     {
         let (keyword, rest) = Keyword::read(skip_blanks(text))?;
-        let (list, rest) = RawText::read_body(keyword, skip_blanks(rest))?;
+        let (lists, rest) = RawText::read_body(keyword, skip_blanks(rest))?;
         match skip_blanks(rest) {
-            [] => Some(RawText { keyword, list }),
+            [] => Some(RawText { keyword, lists }),
             _ => None,
         }
     }
@@ -63,30 +63,32 @@ impl RawText {
     /// Whether each number is whole.
     #[inline(always)]
     pub(crate) fn is_whole(&self) -> bool
-        ensures { result ≡ self.now.list.whole }
+        ensures { result ≡ self.now.lists.whole }
     {
-        self.list.is_whole()
+        self.lists.is_whole()
     }
 
     /// Whether each number, without what stands behind its dot, is in range.
     #[inline(always)]
     pub(crate) fn is_in_range(&self) -> bool
-        ensures { result ≡ self.now.list.in_range }
+        ensures { result ≡ self.now.lists.in_range }
     {
-        self.list.is_in_range()
+        self.lists.is_in_range()
     }
 
     /// The shape that the points draw, where each of their numbers is in range.
     #[inline(always)]
     pub(crate) fn shape(&self) -> Option<Shape>
-        ensures some { IfSome result (λ s. (lists : List (List RawPoint))
-            → IsFirstOf self.now.list lists → IsTrue (list_all are_in_range lists)
+        ensures some { IfSome result (λ s. (text : List ℕ) (lists : List (List RawPoint))
+            → TakesText text self.now.keyword lists → AreReadOf self.now.lists lists
+            → IsTrue (list_all are_in_range lists)
             → Forms self.now.keyword (positions lists) s) }
-        ensures none { IfNone result ((lists : List (List RawPoint)) (s : Shape)
-            → IsFirstOf self.now.list lists → IsTrue (list_all are_in_range lists)
+        ensures none { IfNone result ((text : List ℕ) (lists : List (List RawPoint)) (s : Shape)
+            → TakesText text self.now.keyword lists → AreReadOf self.now.lists lists
+            → IsTrue (list_all are_in_range lists)
             → Forms self.now.keyword (positions lists) s → ⊥) }
     {
-        let points = self.list.alone()?;
-        shape_of(self.keyword, points)
+        let walk = self.lists.alone()?;
+        shape_of(self.keyword, walk)
     }
 }

@@ -11,20 +11,24 @@ use geom_core::Shape;
 
 /// The shape that the text spells.
 ///
-/// A text is `POINT (x y)`, `LINESTRING (x y, x y)` or `POLYGON ((x y, x y, x y, x y, x y))`
-/// (OGC 06-103r4, 7.2), with the keyword in any ASCII case. White space (space, tab, carriage
-/// return, line feed) may stand between any two parts and at both ends, and has to stand between
-/// the two numbers of a point. A number has an optional sign, one digit or more, and an optional
-/// dot with any count of digits behind it.
+/// A text is `POINT (x y)`, `LINESTRING (x y, ..)` or `POLYGON ((x y, ..), ..)` (OGC 06-103r4,
+/// 7.2), with the keyword in any ASCII case. White space (space, tab, carriage return, line feed)
+/// may stand between any two parts and at both ends, and has to stand between the two numbers of a
+/// point. A number has an optional sign, one digit or more, and an optional dot with any count of
+/// digits behind it.
+///
+/// A list may have any count of points and takes no memory. A point that is equal to the one
+/// before it changes nothing.
 ///
 /// # Errors
 /// - [`WktFault::Text`] where the bytes are no text of this grammar, with any count of points and
 ///   lists of points where the grammar has a list.
 /// - [`WktFault::Number`] where some number has a digit other than 0 behind its dot, or is beyond
 ///   [`geom_core::LIMIT`].
-/// - [`WktFault::Form`] where a `LINESTRING` isn't two different points that share a coordinate, or
-///   a `POLYGON` isn't one ring of five points: the corners of a rectangle with a width and a
-///   height, in order round it, from any one, in either direction, and the first of them again.
+/// - [`WktFault::Form`] where a `LINESTRING` isn't two different points or more that go straight
+///   along an axis, or a `POLYGON` isn't one ring that ends where it begins and goes once round a
+///   rectangle with a width and a height: over its four corners and any points inside its sides,
+///   in order, from any of them, in either direction.
 pub fn read(text: &[u8]) -> Result<Shape, WktFault>
     ensures reads { Reads text.now result }
     ensures only { (answer : Result Shape WktFault) → Reads text.now answer → result ≡ answer }

@@ -3,7 +3,11 @@
 #![tactic(auto)]
 
 #[cfg(test)]
+mod drawings;
+#[cfg(test)]
 mod long_texts;
+#[cfg(test)]
+mod plain;
 #[cfg(test)]
 mod readings;
 #[cfg(test)]

@@ -1,4 +1,4 @@
-//! Texts of a million digits and of thousands of points.
+//! Texts of a million digits and of thousands of points, and a ring of as many.
 
 use crate::readings::corners;
 use std::alloc::AllocError;
@@ -19,6 +19,20 @@ fn long_texts(rt: HostRuntime) -> Result<(), AllocError> {
     }
     assert!(rt; corners(points.as_bytes()) == Err(WktFault::Text));
     points.push_str(")")?;
-    assert!(rt; corners(points.as_bytes()) == Err(WktFault::Form));
+    assert!(rt; corners(points.as_bytes()) == Ok((0, 0, 1, 0)));
+    Ok(())
+}
+
+#[test]
+fn long_ring(rt: HostRuntime) -> Result<(), AllocError> {
+    let mut points = String::from_str(rt.alloc(), "POLYGON ((0 0")?;
+    for x in 1..10_000 {
+        points.push_str(&format!(in rt.alloc(); ", {x} 0")?)?;
+    }
+    points.push_str(", 9999 1, 0 1, 0 0")?;
+    let open = format!(in rt.alloc(); "{points}, 1 0))")?;
+    assert!(rt; corners(open.as_bytes()) == Err(WktFault::Form));
+    points.push_str("))")?;
+    assert!(rt; corners(points.as_bytes()) == Ok((0, 0, 9999, 1)));
     Ok(())
 }

@@ -22,7 +22,7 @@ loop-behind-init c =
       rest = c.in_ok-rest.rest.now;
       begun = refl;
       taken = rw c.skip_blanks.ensures at taken;
-      firsts = c.of-list.ensures ps firsts;
+      firsts = c.of-lists.ensures ps firsts;
     }
 
 pub returns-in_err-behind-clause-none : goal.returns-in_err-behind-clause-none

@@ -16,5 +16,5 @@ returns-clause-some c =
         symbol_begins 40 _ _ (sym c.in_ok-rest.ensures),
         (c.in_ok-point.after.now, taken, sym c.skip_blanks-2.ensures ∙ symbol_begins 41 _ _ (sym c.in_ok-behind.ensures)),
       ),
-      c.push.ensures [] p c.new-points.ensures value,
+      c.push.ensures [] p c.new-list.ensures value,
     )

@@ -1,7 +1,7 @@
 use Rattle.std.proofs.Common.{◌≡◌, true, sym, ◌∙◌}
 use Rattle.std.specs.List.{list_all}
 use Rattle.std.proofs.lemmas.Bool.{false≢true}
-use Rattle.wkt_core.specs.FirstPoints.{are_whole, are_in_range}
+use Rattle.wkt_core.specs.ReadLists.{are_whole, are_in_range}
 use Rattle.wkt_core.proofs.AnswerLemmas.{text_reading, number_reading, shape_reading, form_reading}
 use Rattle.wkt_core.proofs.reader.read.Goals as goal
 use Rattle.wkt_core.proofs.reader.read.Goals.{then-not-is_whole-via-then-not-is_whole, then-not-is_whole-via-else-not-is_whole+then-not-is_in_range}
@@ -28,7 +28,7 @@ returns-in-Some-shape c =
     let (lists, taken, firsts) = c.in-Some.ensures.some in
     let whole : list_all are_whole lists ≡ true = sym firsts.whole ∙ sym c.is_whole.ensures ∙ c.if-not-is_whole.false in
     let in_range : list_all are_in_range lists ≡ true = sym firsts.in_range ∙ sym c.is_in_range.ensures ∙ c.if-not-is_in_range.false in
-    let forms = c.in-Some-shape.ensures.some lists firsts in_range in
+    let forms = c.in-Some-shape.ensures.some c.args.text.now lists taken firsts in_range in
     let a = shape_reading c.args.text.now c.in-Some.raw.keyword lists taken whole in_range c.in-Some-shape.shape forms in
     record { reads = a.reads; only = a.only }
 
@@ -37,5 +37,6 @@ returns-in-None c =
     let (lists, taken, firsts) = c.in-Some.ensures.some in
     let whole : list_all are_whole lists ≡ true = sym firsts.whole ∙ sym c.is_whole.ensures ∙ c.if-not-is_whole.false in
     let in_range : list_all are_in_range lists ≡ true = sym firsts.in_range ∙ sym c.is_in_range.ensures ∙ c.if-not-is_in_range.false in
-    let a = form_reading c.args.text.now c.in-Some.raw.keyword lists taken whole in_range (λ s h. c.in-None.ensures.none lists s firsts in_range h) in
+    let none = c.in-None.ensures.none c.args.text.now lists in
+    let a = form_reading c.args.text.now c.in-Some.raw.keyword lists taken whole in_range (λ s h. none s taken firsts in_range h) in
     record { reads = a.reads; only = a.only }

@@ -14,10 +14,10 @@ returns-in_err-keyword-clause-none c =
     → ⊥ = λ keyword lists (m, e, h, b, p). word keyword m h in
     if_none _ none
 
-pub returns-in_err-list-clause-none : goal.returns-in_err-list-clause-none
-returns-in_err-list-clause-none c =
+pub returns-in_err-lists-clause-none : goal.returns-in_err-lists-clause-none
+returns-in_err-lists-clause-none c =
     let word = rw c.skip_blanks.ensures at c.in_ok-keyword.ensures.some in
-    let body = rw c.skip_blanks-2.ensures at c.in_err-list.ensures.none in
+    let body = rw c.skip_blanks-2.ensures at c.in_err-lists.ensures.none in
     let none : (keyword : Keyword) (lists : List (List RawPoint)) → TakesText c.args.text.now keyword lists → ⊥ = λ keyword lists h.
     let (same, (e, b, p)) = read_on c.args.text.now c.in_ok-keyword.keyword c.in_ok-keyword.rest.now word keyword lists h in
     body lists e b in
@@ -26,8 +26,8 @@ returns-in_err-list-clause-none c =
 pub returns-in_default-clause-none : goal.returns-in_default-clause-none
 returns-in_default-clause-none c = λ keyword lists h.
     let word = rw c.skip_blanks.ensures at c.in_ok-keyword.ensures.some in
-    let (found, body, firsts) = rw c.skip_blanks-2.ensures at c.in_ok-list.ensures.some in
+    let (found, body, firsts) = rw c.skip_blanks-2.ensures at c.in_ok-lists.ensures.some in
     let (same, (e, b, p)) = read_on c.args.text.now c.in_ok-keyword.keyword c.in_ok-keyword.rest.now word keyword lists h in
-    let end = (body_same c.in_ok-keyword.keyword (skip c.in_ok-keyword.rest.now) found lists c.in_ok-list.rest.now e body b).1 in
+    let end = (body_same c.in_ok-keyword.keyword (skip c.in_ok-keyword.rest.now) found lists c.in_ok-lists.rest.now e body b).1 in
     let empty = c.skip_blanks-3.ensures ∙ ap skip end ∙ p in
     omega (arith, c.in_default.len_at_least, ap length empty)

@@ -5,21 +5,21 @@ use Rattle.wkt_core.proofs.PointLemmas.{if_none}
 use Rattle.wkt_core.proofs.TextLemmas.{no_single, no_line}
 use Rattle.wkt_core.proofs.raw.RawText.read_body.Goals as goal
 
-pub returns-in_err-points-in-Point-clause-none : goal.returns-in_err-points-in-Point-clause-none
-returns-in_err-points-in-Point-clause-none c =
+pub returns-in_err-list-in-Point-clause-none : goal.returns-in_err-list-in-Point-clause-none
+returns-in_err-list-in-Point-clause-none c =
     let none : (lists : List (List RawPoint)) (rest : List ℕ) → TakesBody c.args.keyword c.args.text.now lists rest → ⊥ =
-    rw c.in-Point.is (no_single c.args.text.now c.in_err-points-in-Point.ensures.none) in
+    rw c.in-Point.is (no_single c.args.text.now c.in_err-list-in-Point.ensures.none) in
     if_none _ none
 
-pub returns-in_err-points-in-LineString-clause-none : goal.returns-in_err-points-in-LineString-clause-none
-returns-in_err-points-in-LineString-clause-none c =
+pub returns-in_err-list-in-LineString-clause-none : goal.returns-in_err-list-in-LineString-clause-none
+returns-in_err-list-in-LineString-clause-none c =
     let none : (lists : List (List RawPoint)) (rest : List ℕ) → TakesBody c.args.keyword c.args.text.now lists rest → ⊥ =
-    rw c.in-LineString.is (no_line c.args.text.now c.in_err-points-in-LineString.ensures.none) in
+    rw c.in-LineString.is (no_line c.args.text.now c.in_err-list-in-LineString.ensures.none) in
     if_none _ none
 
-pub returns-in_ok-points-in-Point-clause-some : goal.returns-in_ok-points-in-Point-clause-some
-returns-in_ok-points-in-Point-clause-some c =
-    let (p, taken, firsts) = c.in_ok-points-in-Point.ensures.some in
+pub returns-in_ok-list-in-Point-clause-some : goal.returns-in_ok-list-in-Point-clause-some
+returns-in_ok-list-in-Point-clause-some c =
+    let (p, taken, firsts) = c.in_ok-list-in-Point.ensures.some in
     ((p ∷ []) ∷ [], rw c.in-Point.is taken, c.of.ensures (p ∷ []) firsts)
 
 pub returns-in-Polygon-clause-none : goal.returns-in-Polygon-clause-none

@@ -1,0 +1,117 @@
+//! What is read of the points in parentheses: of one list, and of all lists of a text.
+
+use crate::position::ReadPoint;
+use crate::walk::Walk;
+
+/// What is read of a list of points.
+#[derive(Drop)]
+pub(crate) struct ReadList {
+    /// Along the points, where all numbers are in range.
+    walk: Walk,
+    whole: bool,
+    in_range: bool,
+}
+
+impl ReadList {
+    ghost use Rattle.std.specs.Prelude.{[], ◌∷◌, ◌++◌, ◌≡◌, List};
+    ghost use Rattle.wkt_core.specs.Grammar.{RawPoint};
+    ghost use Rattle.wkt_core.specs.PointSteps.{point_read};
+    ghost use Rattle.wkt_core.specs.ReadLists.{IsReadOf};
+
+    /// Of no points.
+    #[inline(always)]
+    pub(crate) fn new() -> ReadList
+        ensures { IsReadOf result [] }
+    {
+        ReadList {
+            walk: Walk::new(),
+            whole: true,
+            in_range: true,
+        }
+    }
+
+    /// Adds a point.
+    #[inline(always)]
+    pub(crate) fn push(&mut self, point: ReadPoint)
+        ensures { (ps : List RawPoint) (p : RawPoint)
+            → IsReadOf self.old ps → point ≡ point_read p → IsReadOf self.new (ps ++ p ∷ []) }
+    {
+        self.whole = self.whole && point.whole;
+        match point.position {
+            Some(position) => self.walk.push(position),
+            None => self.in_range = false,
+        }
+    }
+}
+
+/// What is read of the first list, whether it stands alone, and what is known of the numbers of all
+/// lists.
+#[derive(Drop)]
+pub(crate) struct ReadLists {
+    first: ReadList,
+    alone: bool,
+    whole: bool,
+    in_range: bool,
+}
+
+impl ReadLists {
+    ghost use Rattle.std.specs.Prelude.{◌≡◌, [], ◌∷◌, ◌++◌, List, false, IsTrue, IfSome, IfNone};
+    ghost use Rattle.wkt_core.specs.Grammar.{RawPoint};
+    ghost use Rattle.wkt_core.specs.ReadLists.{IsReadOf, AreReadOf};
+
+    /// Of one list.
+    #[inline(always)]
+    pub(crate) fn of(first: ReadList) -> ReadLists
+        ensures { (ps : List RawPoint) → IsReadOf first ps → AreReadOf result (ps ∷ []) }
+    {
+        let whole = first.whole;
+        let in_range = first.in_range;
+        ReadLists {
+            first,
+            alone: true,
+            whole,
+            in_range,
+        }
+    }
+
+    /// Adds a further list.
+    #[inline(always)]
+    pub(crate) fn push(&mut self, further: ReadList)
+        ensures { (lists : List (List RawPoint)) (ps : List RawPoint) → AreReadOf self.old lists
+            → IsReadOf further ps → AreReadOf self.new (lists ++ ps ∷ []) }
+    {
+        self.alone = false;
+        self.whole = self.whole && further.whole;
+        self.in_range = self.in_range && further.in_range;
+    }
+
+    /// Whether each number of the lists is whole.
+    #[inline(always)]
+    pub(crate) fn is_whole(&self) -> bool
+        ensures { result ≡ self.now.whole }
+    {
+        self.whole
+    }
+
+    /// Whether each number of the lists, without what stands behind its dot, is in range.
+    #[inline(always)]
+    pub(crate) fn is_in_range(&self) -> bool
+        ensures { result ≡ self.now.in_range }
+    {
+        self.in_range
+    }
+
+    /// The walk along a list that stands alone.
+    #[inline(always)]
+    pub(crate) fn alone(&self) -> Option<&Walk>
+        ensures some { IfSome result (λ walk.
+            IsTrue self.now.alone × (walk.now ≡ self.now.first.walk)) }
+        ensures none { IfNone result (self.now.alone ≡ false) }
+    {
+        if self.alone {
+            Some(&self.first.walk)
+        } else {
+            None
+        }
+    }
+}
