@@ -2,6 +2,7 @@ pub mod EditFiles
 pub mod Edits
 pub mod FaultTexts
 pub mod Fields
+pub mod LayerCodes
 pub mod LayerFiles
 pub mod LayerTrees
 pub mod Layers

@@ -12,7 +12,10 @@ use crate::read_fault::ReadFault;
 use crate::rows::Rows;
 use crate::source::{Source, read_all};
 use csv::ByteRecord;
-use std::alloc::{AllocError, Global};
+use std::alloc::Global;
+
+/// The columns of a file of edits.
+const COLUMNS: [&str; 4] = ["op", "layer", "id", "wkt"];
 
 /// The edits that a CSV file stands for, in the order of its rows.
 ///
@@ -30,11 +33,13 @@ pub fn edits_of_bytes(alloc: Global, bytes: &[u8]) -> Result<Vec<Edit>, ReadFaul
     ensures few { IfOk result (λ edits. length edits.items ≤ most_file_bytes) }
     ensures no_io { result ≢ Err ReadFault.Io }
 {
-    let mut rows = Rows::open(alloc, bytes, &["op", "layer", "id", "wkt"])?;
+    let mut rows = Rows::open(alloc, bytes, &COLUMNS)?;
     let mut edits = Vec::new(alloc);
     while let Some(number) = rows.next()? {
         let edit = edit_of_row(alloc, number, rows.row())?;
-        edits.push(edit).map_err(AllocError::from)?;
+        if edits.push(edit).is_err() {
+            return Err(ReadFault::Memory);
+        }
     }
     Ok(edits)
 }

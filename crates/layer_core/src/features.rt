@@ -39,8 +39,11 @@ pub(crate) struct Features {
 
 impl Model for Features {
     ghost use Rattle.layer_core.specs.MapAndSlots.{FeaturesState};
+    ghost use Rattle.layer_core.specs.LayerCodes.{coded_features};
 
     ghost Value = { FeaturesState };
+
+    ghost coded = { coded_features };
 
     ghost use Rattle.std.specs.Prelude.{◌-◌, min, vec_len, vec_capacity};
     ghost use Rattle.std.specs.HashMap.{keys};

@@ -32,13 +32,11 @@ pub struct Layer {
 
 impl Model for Layer {
     ghost use Rattle.layer_core.specs.LayerTrees.{LayerState};
+    ghost use Rattle.layer_core.specs.LayerCodes.{coded_layer};
 
     ghost Value = { LayerState };
 
-    ghost use Rattle.rtree_core.specs.contracts.node.Node as node;
-    ghost use Rattle.std.specs.Coded.{codes};
-
-    ghost coded = { Prim.hlevel (codes, node.the_row.coded) };
+    ghost coded = { coded_layer };
 
     ghost use Rattle.layer_core.specs.LayerTrees.{HoldsExactly};
 

@@ -16,6 +16,9 @@ use csv::ByteRecord;
 use std::alloc::Global;
 use std::hash::RandomState;
 
+/// The columns of a layer's file.
+const COLUMNS: [&str; 2] = ["id", "wkt"];
+
 /// The layer that a CSV file stands for. `state` hashes the ids.
 ///
 /// The file is records of comma-separated fields with double quotes where needed (RFC 4180), with
@@ -31,7 +34,7 @@ pub fn layer_of_bytes(alloc: Global, state: RandomState, bytes: &[u8]) -> Result
     ensures file { result ≢ Err ReadFault.Memory → IsLayerFile bytes.now (list_read result) }
     ensures no_io { result ≢ Err ReadFault.Io }
 {
-    let mut rows = Rows::open(alloc, bytes, &["id", "wkt"])?;
+    let mut rows = Rows::open(alloc, bytes, &COLUMNS)?;
     let mut loading = Loading::new(alloc, state, line_feeds(bytes).min(MAX_FEATURES))?;
     while let Some(number) = rows.next()? {
         insert_row(&mut loading, number, rows.row())?;

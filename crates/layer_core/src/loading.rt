@@ -20,8 +20,11 @@ pub(crate) struct Loading {
 
 impl Model for Loading {
     ghost use Rattle.layer_core.specs.Layers.{Contents};
+    ghost use Rattle.layer_core.specs.LayerCodes.{coded_contents};
 
     ghost Value = { Contents };
+
+    ghost coded = { coded_contents };
 
     ghost use Rattle.std.specs.Prelude.{◌≡◌};
     ghost use Rattle.layer_core.specs.LayerTrees.{entries_for};

@@ -99,7 +99,9 @@ pub fn read_all<S: Source>(alloc: Global, source: &mut S) -> Result<Vec<u8>, Rea
     let mut all = Vec::new(alloc);
     let mut chunk = [0; CHUNK];
     loop {
-        let count = source.read(&mut chunk).map_err(|_| ReadFault::Io)?;
+        let Ok(count) = source.read(&mut chunk) else {
+            return Err(ReadFault::Io);
+        };
         if count == 0 {
             return Ok(all);
         }
