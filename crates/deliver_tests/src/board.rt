@@ -1,6 +1,6 @@
 //! The board from outside: claims in turn, limits, growths that are refused, and four threads.
-ghost use Rattle.std.specs.Prelude.{◌≡◌, length, All, IfOk};
-ghost use Rattle.deliver_core.specs.Boards.{IsSeatOf};
+ghost use Rattle.std.specs.Prelude.{◌≡◌, ◌≤◌, length, replicate, All, IfOk};
+ghost use Rattle.deliver_core.specs.Boards.{IsSeatOf, fresh_seat};
 
 use deliver_core::{Board, BoardSeat, draws_law};
 use std::alloc::{AllocError, Global};
@@ -38,18 +38,50 @@ fn closed(rt: &impl Abort, board: Board, seats: Vec<BoardSeat>, wanted: &[(u32, 
     }
 }
 
-#[test]
-fn board_and_outlet(rt: HostRuntime) -> Result<(), Fail> {
-    let (board, mut seats) = Board::new(rt.alloc(), 3, 2)?;
+// A board, made again where memory was refused once.
+fn board_at_last(
+    alloc: Global,
+    tasks: u32,
+    seats: u32,
+) -> Result<(Board, Vec<BoardSeat>), AllocError>
+    requires tasks { tasks ≤ Board.MAX_TASKS }
+    requires seats { (1 ≤ seats) × (seats ≤ Board.MAX_SEATS) }
+    ensures board { IfOk result (λ r. r.0.seats ≡ seats) }
+    ensures seats { IfOk result (λ r. r.1.items ≡ replicate seats (fresh_seat r.0)) }
+{
+    match Board::new(alloc, tasks, seats) {
+        Ok(made) => Ok(made),
+        Err(AllocError) => Board::new(alloc, tasks, seats),
+    }
+}
+
+// Claims for the two seats of a board of three tasks, and closes it. It takes no memory.
+fn see_three_drawn(rt: &impl Abort, board: Board, mut seats: Vec<BoardSeat>) -> Result<(), Fail>
+    requires board { board.seats ≡ 2 }
+    requires seats { seats.items ≡ replicate 2 (fresh_seat board) }
+{
     let mut second = seats.pop().ok_or("a second seat")?;
     let mut first = seats.pop().ok_or("a first seat")?;
     let answers = [[Some(0), Some(1)], [Some(2), None], [None, None]];
-    claim_in_turn(&rt, &board, &mut first, &mut second, &answers);
+    claim_in_turn(rt, &board, &mut first, &mut second, &answers);
     seats.push(first)?;
     seats.push(second)?;
-    closed(&rt, board, seats, &[(2, true), (1, true)]);
-    draws_law();
+    closed(rt, board, seats, &[(2, true), (1, true)]);
     Ok(())
+}
+
+#[test]
+fn board_and_outlet(rt: HostRuntime) -> Result<(), Fail> {
+    let (board, seats) = Board::new(rt.alloc(), 3, 2)?;
+    draws_law();
+    see_three_drawn(&rt, board, seats)
+}
+
+// Run with each allocation failing in turn, it ends as with ample memory.
+#[test]
+fn refused_6(rt: HostRuntime) -> Result<(), Fail> {
+    let (board, seats) = board_at_last(rt.alloc(), 3, 2)?;
+    see_three_drawn(&rt, board, seats)
 }
 
 #[test]
@@ -72,20 +104,6 @@ fn board_limits(rt: HostRuntime) -> Result<(), Fail> {
     let worker = draw_all(rt.alloc(), &board, seat);
     assert!(rt; worker.drawn.iter().copied().eq(0..65_536));
     assert!(rt; worker.seat.done());
-    Ok(())
-}
-
-// It passes whichever allocation is refused (`rt try --test --fail-alloc N`): the board is made as
-// with ample memory, or not at all.
-#[test]
-fn board_without_memory(rt: HostRuntime) -> Result<(), Fail> {
-    match Board::new(rt.alloc(), 3, 2) {
-        Ok((board, mut seats)) => {
-            assert!(rt; seats.len() == 2);
-            assert!(rt; board.claim(&mut seats[1]) == Some(0));
-        }
-        Err(AllocError) => {}
-    }
     Ok(())
 }
 

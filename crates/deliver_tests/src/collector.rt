@@ -106,7 +106,7 @@ fn collector_order(rt: HostRuntime) -> Result<(), Fail> {
 }
 
 #[test]
-fn collector_forged(rt: HostRuntime) -> Result<(), Fail> {
+fn broken_12(rt: HostRuntime) -> Result<(), Fail> {
     let alloc = rt.alloc();
     let mut collector = Collector::new(alloc, 1)?;
     let offers = [
@@ -123,7 +123,9 @@ fn collector_forged(rt: HostRuntime) -> Result<(), Fail> {
     let mut none = Collector::new(alloc, 0)?;
     let strangers = [
         (Batch(0, 0, &[]), Err(Refusal::Stranger)),
+        (Batch(u32::MAX, 1, PAIRS), Err(Refusal::Stranger)),
         (End(0, 0), Err(Refusal::Stranger)),
+        (End(7, 1), Err(Refusal::Stranger)),
     ];
     offer_all(&rt, alloc, &mut none, &strangers)?;
     Ok(())
@@ -153,19 +155,28 @@ fn accepted(
     Ok(())
 }
 
-/// A collector of one task, which is tried again where memory was refused once.
-fn one_task(alloc: Global) -> Result<Collector, AllocError> {
-    match Collector::new(alloc, 1) {
+/// A collector of so many tasks, which is tried again where memory was refused once.
+fn collector_at_last(alloc: Global, tasks: u32) -> Result<Collector, AllocError> {
+    match Collector::new(alloc, tasks) {
         Ok(collector) => Ok(collector),
-        Err(AllocError) => Collector::new(alloc, 1),
+        Err(AllocError) => Collector::new(alloc, tasks),
     }
 }
 
-// Run with each allocation failing in turn, it ends as with ample memory.
+// Run with each allocation failing in turn, these two end as with ample memory.
+#[test]
+fn refused_5(rt: HostRuntime) -> Result<(), Fail> {
+    let alloc = rt.alloc();
+    let mut collector = collector_at_last(alloc, 2)?;
+    accepted(&rt, alloc, &mut collector, Batch(0, 0, PAIRS))?;
+    assert!(rt; collector.taken() == [Mark::Batch(0, 0)].as_slice());
+    Ok(())
+}
+
 #[test]
 fn collector_growths(rt: HostRuntime) -> Result<(), Fail> {
     let alloc = rt.alloc();
-    let mut collector = one_task(alloc)?;
+    let mut collector = collector_at_last(alloc, 1)?;
     for number in 0..20 {
         accepted(
             &rt,

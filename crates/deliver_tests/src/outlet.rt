@@ -193,25 +193,73 @@ fn exchange<R: Threads + Wait + Clock + Abort + Sync>(
     Ok(())
 }
 
-#[test]
-fn board_and_outlet(rt: HostRuntime) -> Result<(), Fail> {
-    let alloc = rt.alloc();
-    let (outlet, mut ports, mut tap) = Outlet::new(alloc, 2)?;
-    let mut one = last_port(&outlet, &mut ports).ok_or("port 1")?;
-    let mut zero = last_port(&outlet, &mut ports).ok_or("port 0")?;
+// The batch, made again where memory was refused once.
+fn batch_at_last(alloc: Global, port: u32, number: u64) -> Result<Message, AllocError>
+    ensures port { IfOk result (λ m. m.port ≡ port) }
+    ensures body { IfOk result (λ m. is_bye m ≡ false) }
+{
+    match batch(alloc, port, number) {
+        Ok(message) => Ok(message),
+        Err(AllocError) => batch(alloc, port, number),
+    }
+}
+
+// Puts into an outlet of two ports, and takes, again where memory was refused.
+fn see_put_and_taken<R: Wait + Abort>(
+    rt: &R,
+    alloc: Global,
+    outlet: &Outlet,
+    mut ports: Vec<Port>,
+    mut tap: Tap,
+) -> Result<(), Fail>
+    requires ports { All (IsFreshPort outlet.now) ports.items }
+    requires tap { IsTapOf outlet.now tap }
+{
+    let mut one = last_port(outlet, &mut ports).ok_or("port 1")?;
+    let mut zero = last_port(outlet, &mut ports).ok_or("port 0")?;
     assert!(rt; (zero.index(), one.index(), ports.len()) == (0, 1, 0));
-    outlet.put(&rt, &mut zero, batch(alloc, 0, 5)?);
-    outlet.put(&rt, &mut one, end(1, 0));
-    outlet.bye(&rt, &mut zero, true);
+    outlet.put(rt, &mut zero, batch_at_last(alloc, 0, 5)?);
+    outlet.put(rt, &mut one, end(1, 0));
+    outlet.bye(rt, &mut zero, true);
     assert!(rt; (zero.said_bye(), one.said_bye()) == (true, false));
     let bye = Message {
         port: 0,
         task: 0,
         body: Body::Bye(true),
     };
-    let wanted = [Some(batch(alloc, 0, 5)?), Some(end(1, 0)), Some(bye), None];
-    take_these(&rt, &outlet, &mut tap, &wanted);
+    let wanted = [
+        Some(batch_at_last(alloc, 0, 5)?),
+        Some(end(1, 0)),
+        Some(bye),
+        None,
+    ];
+    take_these(rt, outlet, &mut tap, &wanted);
     Ok(())
+}
+
+#[test]
+fn board_and_outlet(rt: HostRuntime) -> Result<(), Fail> {
+    let (outlet, ports, tap) = Outlet::new(rt.alloc(), 2)?;
+    see_put_and_taken(&rt, rt.alloc(), &outlet, ports, tap)
+}
+
+// An outlet, made again where memory was refused once.
+fn outlet_at_last(alloc: Global, ports: u32) -> Result<(Outlet, Vec<Port>, Tap), AllocError>
+    requires ports { (1 ≤ ports) × (ports ≤ Outlet.MAX_PORTS) }
+    ensures fresh { IfOk result (λ r. All (IsFreshPort r.0) r.1.items) }
+    ensures tap { IfOk result (λ r. IsTapOf r.0 r.2) }
+{
+    match Outlet::new(alloc, ports) {
+        Ok(made) => Ok(made),
+        Err(AllocError) => Outlet::new(alloc, ports),
+    }
+}
+
+// Run with each allocation failing in turn, it ends as with ample memory.
+#[test]
+fn refused_6(rt: HostRuntime) -> Result<(), Fail> {
+    let (outlet, ports, tap) = outlet_at_last(rt.alloc(), 2)?;
+    see_put_and_taken(&rt, rt.alloc(), &outlet, ports, tap)
 }
 
 #[test]
@@ -223,14 +271,4 @@ fn outlet_thousand(rt: HostRuntime) -> Result<(), AllocError> {
 #[test]
 fn sixteen_ports(rt: HostRuntime) -> Result<(), AllocError> {
     exchange(&rt, rt.alloc(), 16, 2000)
-}
-
-// Growth N of `new` is refused under `rt try --test --fail-alloc N`, for N up to 5. An outlet is
-// whole or isn't made.
-#[test]
-fn outlet_without_memory(rt: HostRuntime) {
-    match Outlet::new(rt.alloc(), 16) {
-        Ok((_, ports, _)) => assert!(rt; ports.len() == 16),
-        Err(AllocError) => {}
-    }
 }

@@ -1,5 +1,6 @@
 //! What the contracts leave open, and worked examples of what they say.
 
+mod broken;
 mod devices;
 mod edits;
 mod files;
@@ -16,8 +17,18 @@ use std::process::Abort;
 use std::test::Fail;
 
 // The point at these coordinates.
-fn point(rt: &impl Abort, x: i64, y: i64) -> Shape {
-    Shape::new(x, y, x, y).expect(rt, "a point in range")
+fn point(x: i64, y: i64) -> Result<Shape, Fail> {
+    Ok(Shape::new(x, y, x, y).ok_or("a point in range")?)
+}
+
+// The layer that these bytes of a file stand for.
+fn layer_of(rt: &HostRuntime, bytes: &[u8]) -> Result<Result<Layer, ReadFault>, Fail> {
+    Ok(layer_of_bytes(rt.alloc(), RandomState::new(rt)?, bytes))
+}
+
+// Whether the layer finds this shape under the id, with this number.
+fn finds(layer: &Layer, id: &str, number: u32, shape: Shape) -> bool {
+    layer.find(id) == Some((number, shape))
 }
 
 // A layer with no features.

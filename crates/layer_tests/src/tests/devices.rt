@@ -55,11 +55,14 @@ impl Read for Endless {
     }
 }
 
+const ONE_EDIT: &[u8] = b"op,layer,id,wkt\ninsert,left,a,POINT (0 0)\n";
+
+const ONE_POINT: &[u8] = b"id,wkt\na,POINT (1 2)\n";
+
 #[test]
 fn failing_reads(rt: HostRuntime) -> Result<(), Fail> {
-    let text = b"op,layer,id,wkt\ninsert,left,a,POINT (0 0)\n";
     for good_reads in [0, 1, 20] {
-        let mut source = FromRead::new(Device::new(text, 2, good_reads));
+        let mut source = FromRead::new(Device::new(ONE_EDIT, 2, good_reads));
         let answer = read_edits(rt.alloc(), &mut source);
         assert!(rt; answer.err() == Some(ReadFault::Io));
         assert!(rt; source.failed());
@@ -69,13 +72,17 @@ fn failing_reads(rt: HostRuntime) -> Result<(), Fail> {
 
 #[test]
 fn one_byte_at_a_time(rt: HostRuntime) -> Result<(), Fail> {
-    let text = b"id,wkt\na,POINT (1 2)\n";
-    let mut source = FromRead::new(Device::new(text, 1, 1_000));
+    let mut source = FromRead::new(Device::new(ONE_POINT, 1, 1_000));
     let bytes = read_all(rt.alloc(), &mut source)?;
-    assert!(rt; bytes.as_slice() == text.as_slice());
+    assert!(rt; bytes.as_slice() == ONE_POINT);
     assert!(rt; !source.failed());
-    let mut source = FromRead::new(Device::new(text, 1, 1_000));
+    Ok(())
+}
+
+#[test]
+fn layer_one_byte_at_a_time(rt: HostRuntime) -> Result<(), Fail> {
+    let mut source = FromRead::new(Device::new(ONE_POINT, 1, 1_000));
     let layer = read_layer(rt.alloc(), RandomState::new(&rt)?, &mut source)?;
-    assert!(rt; layer.find("a") == Some((0, point(&rt, 1, 2))));
+    assert!(rt; finds(&layer, "a", 0, point(1, 2)?));
     Ok(())
 }

@@ -4,10 +4,20 @@
 
 use super::*;
 
-const IDS: [&str; 20] = [
+const IDS: &[&str] = &[
     "a", "b", "c", "d", "e", "f", "g", "h", "i", "j", "k", "l", "m", "n", "o", "p", "q", "r", "s",
     "t",
 ];
+
+const REMOVED: &[&str] = &[
+    "a", "b", "c", "d", "e", "f", "g", "h", "i", "j", "k", "l", "m", "n",
+];
+
+const FIRST_EIGHT: &[&str] = &["a", "b", "c", "d", "e", "f", "g", "h"];
+
+const TEN: &[u8] =
+    b"id,wkt\na,POINT (0 0)\nb,POINT (1 0)\nc,POINT (2 0)\nd,POINT (3 0)\ne,POINT (4 0)\n\
+    f,POINT (5 0)\ng,POINT (6 0)\nh,POINT (7 0)\ni,POINT (8 0)\nj,POINT (9 0)\n";
 
 /// What is seen of a layer without taking memory: the counts, and the cover and the length of the
 /// tree.
@@ -20,59 +30,83 @@ fn outline(layer: &Layer) -> (Stats, Option<Shape>, usize) {
     )
 }
 
-// Inserts a feature, again where memory was refused.
-fn insert_at_last(rt: &impl Abort, layer: &mut Layer, id: &str, shape: Shape) {
+// Inserts a feature, again where memory was refused, and says whether only that changes the layer.
+fn inserts_at_last(layer: &mut Layer, id: &str, shape: Shape) -> bool {
     let before = outline(layer);
     if layer.insert(id, shape) == Err(LayerFault::Memory) {
-        assert!(rt; outline(layer) == before);
-        assert!(rt; layer.find(id).is_none());
-        assert!(rt; layer.insert(id, shape).is_ok());
+        let is_before = outline(layer) == before && layer.find(id).is_none();
+        return is_before && layer.insert(id, shape).is_ok() && outline(layer) != before;
     }
-    assert!(rt; outline(layer) != before);
+    outline(layer) != before
 }
 
-// Removes a feature, again where memory was refused.
-fn remove_at_last(rt: &impl Abort, layer: &mut Layer, id: &str) {
+// Removes a feature, again where memory was refused, and says whether only that changes the layer.
+fn removes_at_last(layer: &mut Layer, id: &str) -> bool {
     let before = outline(layer);
     let found = layer.find(id);
     if layer.remove(id) == Err(LayerFault::Memory) {
-        assert!(rt; outline(layer) == before);
-        assert!(rt; layer.find(id) == found);
-        assert!(rt; layer.remove(id).is_ok());
+        let is_before = outline(layer) == before && layer.find(id) == found;
+        return is_before && layer.remove(id).is_ok() && outline(layer) != before;
     }
-    assert!(rt; outline(layer) != before);
-    assert!(rt; layer.find(id).is_none());
+    outline(layer) != before && layer.find(id).is_none()
+}
+
+// A layer with no features, made again where memory was refused.
+fn layer_at_last(rt: &HostRuntime) -> Result<Layer, Fail> {
+    match Layer::new(rt.alloc(), RandomState::new(rt)?) {
+        Ok(layer) => Ok(layer),
+        Err(_) => empty_layer(rt),
+    }
+}
+
+// Inserts points in a row under these ids, and says whether each is found.
+fn grows(layer: &mut Layer, ids: &[&str]) -> Result<bool, Fail> {
+    for (number, id) in (0..).zip(ids) {
+        let shape = point(i64::from(number), 0)?;
+        if !inserts_at_last(layer, id, shape) || !finds(layer, id, number, shape) {
+            return Ok(false);
+        }
+    }
+    Ok(true)
+}
+
+fn shrinks(layer: &mut Layer) -> bool {
+    for id in REMOVED {
+        if !removes_at_last(layer, id) {
+            return false;
+        }
+    }
+    true
 }
 
 #[test]
 fn refused_growths(rt: HostRuntime) -> Result<(), Fail> {
-    let mut layer = empty_layer(&rt)?;
-    for (number, id) in (0..).zip(IDS) {
-        let shape = point(&rt, i64::from(number), 0);
-        insert_at_last(&rt, &mut layer, id, shape);
-        assert!(rt; layer.find(id) == Some((number, shape)));
-    }
-    for id in [
-        "a", "b", "c", "d", "e", "f", "g", "h", "i", "j", "k", "l", "m", "n",
-    ] {
-        remove_at_last(&rt, &mut layer, id);
-    }
-    insert_at_last(&rt, &mut layer, "a", point(&rt, 0, 0));
-    assert!(rt; layer.find("a") == Some((20, point(&rt, 0, 0))));
+    let mut layer = layer_at_last(&rt)?;
+    assert!(rt; grows(&mut layer, IDS)?);
+    assert!(rt; shrinks(&mut layer));
+    assert!(rt; inserts_at_last(&mut layer, "a", point(0, 0)?));
+    assert!(rt; finds(&layer, "a", 20, point(0, 0)?));
     assert!(rt; layer.len() == 7);
     assert!(rt; layer.tree().len() == 7);
     Ok(())
 }
 
 #[test]
+fn refused_3(rt: HostRuntime) -> Result<(), Fail> {
+    let mut layer = layer_at_last(&rt)?;
+    assert!(rt; grows(&mut layer, FIRST_EIGHT)?);
+    assert!(rt; inserts_at_last(&mut layer, "ninth", point(8, 0)?));
+    assert!(rt; finds(&layer, "ninth", 8, point(8, 0)?));
+    assert!(rt; layer.len() == 9);
+    Ok(())
+}
+
+#[test]
 fn refused_loading(rt: HostRuntime) -> Result<(), Fail> {
-    let file =
-        b"id,wkt\na,POINT (0 0)\nb,POINT (1 0)\nc,POINT (2 0)\nd,POINT (3 0)\ne,POINT (4 0)\n\
-        f,POINT (5 0)\ng,POINT (6 0)\nh,POINT (7 0)\ni,POINT (8 0)\nj,POINT (9 0)\n";
-    let mut layer = layer_of_bytes(rt.alloc(), RandomState::new(&rt)?, file);
+    let mut layer = layer_of(&rt, TEN)?;
     if layer.is_err() {
         assert!(rt; layer.err() == Some(ReadFault::Memory));
-        layer = layer_of_bytes(rt.alloc(), RandomState::new(&rt)?, file);
+        layer = layer_of(&rt, TEN)?;
     }
     let layer = layer?;
     assert!(rt; layer.len() == 10);

@@ -10,22 +10,23 @@ const NOTHING: Stats = Stats {
     height: 0,
 };
 
+const TWO: &[u8] = b"id,wkt\na,\"POLYGON ((0 0, 4 0, 4 4, 0 4, 0 0))\"\nb,POINT (4 4)\n";
+
+const STATS_OF_TWO: Stats = Stats {
+    features: 2,
+    points: 1,
+    segments: 0,
+    rectangles: 1,
+    height: 1,
+};
+
 #[test]
 fn stats_extra(rt: HostRuntime) -> Result<(), Fail> {
-    let file = b"id,wkt\na,\"POLYGON ((0 0, 4 0, 4 4, 0 4, 0 0))\"\nb,POINT (4 4)\n";
-    let mut layer = layer_of_bytes(rt.alloc(), RandomState::new(&rt)?, file)?;
-    let stats = Stats {
-        features: 2,
-        points: 1,
-        segments: 0,
-        rectangles: 1,
-        height: 1,
-    };
-    assert!(rt; layer.stats() == stats);
+    let mut layer = layer_of(&rt, TWO)??;
+    assert!(rt; layer.stats() == STATS_OF_TWO);
     layer.remove("a")?;
     layer.remove("b")?;
     assert!(rt; layer.stats() == NOTHING);
-    let empty = layer_of_bytes(rt.alloc(), RandomState::new(&rt)?, b"id,wkt\n")?;
-    assert!(rt; empty.stats() == NOTHING);
+    assert!(rt; layer_of(&rt, b"id,wkt\n")??.stats() == NOTHING);
     Ok(())
 }

@@ -1,6 +1,6 @@
 use Rattle.std.proofs.Common.{arith}
 use Rattle.rtree_tests.proofs.NumberLemmas.{fresh_after}
-use Rattle.rtree_tests.proofs.refused.insertion_refused.Goals as goal
+use Rattle.rtree_tests.proofs.refused.refused_1.Goals as goal
 
 pub loop-number-preserved : goal.loop-number-preserved
 loop-number-preserved g c = λ k h.
