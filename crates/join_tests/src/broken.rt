@@ -1,4 +1,4 @@
-//! Joins of files whose readers fail or give one byte at a time, and of an id that has to be quoted.
+//! Joins whose readers fail or give one byte at a time, and of an id that has to be quoted.
 
 ghost use Rattle.std.specs.Prelude.{◌≡◌, false};
 ghost use Rattle.join_core.specs.ToWrite.{failed_of};

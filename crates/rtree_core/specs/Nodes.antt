@@ -89,8 +89,8 @@ IsLawfulAt (suc level) n = inner_law (IsLawfulAt level) n.cover (out-Below n.bel
 abbrev pub IsLawful : Node → Type 0
 IsLawful n = IsLawfulAt (level_of n) n
 
--- what the children of a lawful node are: there is one at least, and each is lawful, one level below
--- the node, with its cover in that of the node
+-- what the children of a lawful node are: there is one at least, and each is lawful, one level
+-- below the node, with its cover in that of the node
 pub record AreLawfulChildren (n : Node) (children : List Node) : Type 0 where
   pub some : 0 < length children
   pub lawful : All IsLawful children

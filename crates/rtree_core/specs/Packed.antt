@@ -33,8 +33,8 @@ FitsPacked (suc level) n = (4 ≤ size_of n) × IsPackedAt level n
 abbrev pub IsPackedOf : {T : Type 0} → (ℕ → T → Type 0) → List T → Node → Type 0
 IsPackedOf fits_packed page n = (level : ℕ) → All (fits_packed level) page → IsPackedAt level n
 
--- the first of some pages has its share of the items: at most m where m are enough for each page, at
--- least m where there are m for each, and what it leaves is so for the other pages
+-- the first of some pages has its share of the items: at most m where m are enough for each page,
+-- at least m where there are m for each, and what it leaves is so for the other pages
 pub record IsShare (size items pages : ℕ) : Type 0 where
   pub at_most : (m : ℕ) → items ≤ m * pages → size ≤ m
   pub at_least : (m : ℕ) → m * pages ≤ items → m ≤ size

@@ -12,8 +12,8 @@ pub record IsPlaceOf (entries : List Entry) (e : Entry) (p : ℕ) : Type 0 where
   pub inside : p < length entries
   pub there : slice_index_or entries p e ≡ e
 
--- an entry can be taken out of the node's subtree: it is lawful and has two items at least, and a list
--- with so much room can hold the nodes that are set aside below it
+-- an entry can be taken out of the node's subtree: it is lawful and has two items at least, and a
+-- list with so much room can hold the nodes that are set aside below it
 pub record CanTakeOut (room : ℕ) (n : Node) : Type 0 where
   pub lawful : IsLawful n
   pub two : 2 ≤ size_of n

@@ -1,5 +1,5 @@
-//! What no clause of `wkt_core` says: worked readings and spellings, and texts of any length. A crate
-//! of its own, since a crate with tests is proved twice.
+//! What no clause of `wkt_core` says: worked readings and spellings, and texts of any length. A
+//! crate of its own, since a crate with tests is proved twice.
 #![tactic(auto)]
 
 #[cfg(test)]

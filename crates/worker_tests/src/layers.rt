@@ -1,5 +1,5 @@
-//! The trees of the worked rows: twenty points, each a step to the right of the one before, and nine
-//! at one place.
+//! The trees of the worked rows: twenty points, each a step to the right of the one before, and
+//! nine at one place.
 
 ghost use Rattle.std.specs.Prelude.{◌≡◌, ℕ, ◌≤◌, IfOk, count_by};
 ghost use Rattle.rtree_core.specs.Trees.{has_number};
