@@ -3,7 +3,7 @@
 use crate::span::{LIMIT, Span};
 
 /// An area, in square units of the grid: at most the square of twice [`LIMIT`].
-pub type Area = u64;
+pub type Area = u128;
 
 /// The closed set of points from the corner `(x1, y1)` to the corner `(x2, y2)`.
 ///

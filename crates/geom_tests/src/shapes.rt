@@ -24,7 +24,7 @@ fn dimensions_and_areas(rt: HostRuntime) {
     let whole = shape(&rt, -LIMIT, -LIMIT, LIMIT, LIMIT);
     assert!(rt; (point.dim(), point.area()) == (0, 0));
     assert!(rt; (segment.dim(), segment.area()) == (1, 0));
-    assert!(rt; (whole.dim(), whole.area()) == (2, 4_000_000_000_000_000_000));
+    assert!(rt; (whole.dim(), whole.area()) == (2, 4_000_000_000_000_000_000_000_000));
 }
 
 #[test]

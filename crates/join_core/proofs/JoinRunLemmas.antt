@@ -39,27 +39,27 @@ handed_on J (Err x) e is h same gives =
     λ blame. subst (λ (y : RunFault). J (Err y)) (sym whole) (gives (subst BlamesInput whole blame))
 
 pub left_blamed : {T : Type 0} (relation : Relation) (files : JoinFiles) (out : Result T RunFault) (e : RunFault)
-    → IsErrAnd out (λ x. x ≡ e) → ((f : ReadFault) × (e ≡ Read Left f) × (BlamesBytes f → LayerFile files.left (Err f)))
+    → IsErrAnd out (λ x. x ≡ e) → ((f : ReadFault) × (e ≡ Read Left f) × (BlamesBytes f → LayerFile files.scale files.left (Err f)))
     → IfErr out (λ x. BlamesInput x → JoinGives relation files (Err x))
 left_blamed relation files out e h fault =
     handed_on (JoinGives relation files) out e (Read Left fault.0) h fault.1 (λ blame. left_fault fault.0 (fault.2 blame))
 
 pub right_blamed : {T : Type 0} (relation : Relation) (files : JoinFiles) (l : Contents) (out : Result T RunFault) (e : RunFault)
-    → LayerFile files.left (Ok l) → IsErrAnd out (λ x. x ≡ e) → ((f : ReadFault) × (e ≡ Read Right f) × (BlamesBytes f → LayerFile files.right (Err f)))
+    → LayerFile files.scale files.left (Ok l) → IsErrAnd out (λ x. x ≡ e) → ((f : ReadFault) × (e ≡ Read Right f) × (BlamesBytes f → LayerFile files.scale files.right (Err f)))
     → IfErr out (λ x. BlamesInput x → JoinGives relation files (Err x))
 right_blamed relation files l out e left h fault =
     handed_on (JoinGives relation files) out e (Read Right fault.0) h fault.1 (λ blame. right_fault l fault.0 left (fault.2 blame))
 
 pub edits_blamed : {T : Type 0} (relation : Relation) (files : JoinFiles) (l r : Contents) (out : Result T RunFault) (e : RunFault)
-    → LayerFile files.left (Ok l) → LayerFile files.right (Ok r) → IsErrAnd out (λ x. x ≡ e)
-    → ((f : ReadFault) × (e ≡ Read Edits f) × (BlamesBytes f → EditFile files.edits (Err f)))
+    → LayerFile files.scale files.left (Ok l) → LayerFile files.scale files.right (Ok r) → IsErrAnd out (λ x. x ≡ e)
+    → ((f : ReadFault) × (e ≡ Read Edits f) × (BlamesBytes f → EditFile files.scale files.edits (Err f)))
     → IfErr out (λ x. BlamesInput x → JoinGives relation files (Err x))
 edits_blamed relation files l r out e left right h fault =
     handed_on (JoinGives relation files) out e (Read Edits fault.0) h fault.1 (λ blame. edits_fault l r fault.0 left right (fault.2 blame))
 
 pub edit_blamed : {T : Type 0} (relation : Relation) (files : JoinFiles) (l r : Contents) (list items : List EditType) (out : Result T RunFault)
     (e : RunFault)
-    → LayerFile files.left (Ok l) → LayerFile files.right (Ok r) → EditFile files.edits (Ok (map content_of items)) → list ≡ items → IsErrAnd out (λ x. x ≡ e)
+    → LayerFile files.scale files.left (Ok l) → LayerFile files.scale files.right (Ok r) → EditFile files.scale files.edits (Ok (map content_of items)) → list ≡ items → IsErrAnd out (λ x. x ≡ e)
     → ((row : ℕ) × (f : LayerFault) × (e ≡ Edit row f) × (BlamesEdit f → edits_give 1 (both l r) (map content_of list) ≡ Err (row, f)))
     → IfErr out (λ x. BlamesInput x → JoinGives relation files (Err x))
 edit_blamed relation files l r list items out e left right edits same h fault =
@@ -82,7 +82,7 @@ late_is_no_read : (e : RunFault) (i : Input) (f : ReadFault) → IsLateFault e �
 late_is_no_read e i f late is = subst IsLateFault is late
 
 pub text_reported : (relation : Relation) (files : JoinFiles) (l r : Contents) (list items : List EditType) (left right : Contents) (text : List ℕ)
-    → LayerFile files.left (Ok l) → LayerFile files.right (Ok r) → EditFile files.edits (Ok (map content_of items)) → list ≡ items
+    → LayerFile files.scale files.left (Ok l) → LayerFile files.scale files.right (Ok r) → EditFile files.scale files.edits (Ok (map content_of items)) → list ≡ items
     → edits_give 1 (both l r) (map content_of list) ≡ Ok (both left right)
     → ((pairs : List (ℕ × ℕ)) × IsJoinList relation left right pairs × IsReport left right pairs text) → JoinGives relation files (Ok text)
 text_reported relation files l r list items left right text a b edits same given report =
@@ -92,7 +92,7 @@ text_reported relation files l r list items left right text a b edits same given
 -- the last step of a join, which lists the pairs and makes the report
 pub last_ok : (relation : Relation) (files : JoinFiles) (l r : Contents) (list items : List EditType) (left right : Contents)
     (out : Result (Vec ℕ Global) RunFault)
-    → LayerFile files.left (Ok l) → LayerFile files.right (Ok r) → EditFile files.edits (Ok (map content_of items)) → list ≡ items
+    → LayerFile files.scale files.left (Ok l) → LayerFile files.scale files.right (Ok r) → EditFile files.scale files.edits (Ok (map content_of items)) → list ≡ items
     → edits_give 1 (both l r) (map content_of list) ≡ Ok (both left right)
     → IfOk out (λ text. (pairs : List (ℕ × ℕ)) × IsJoinList relation left right pairs × IsReport left right pairs text.items)
     → IfOk out (λ text. JoinGives relation files (Ok text.items))

@@ -1,5 +1,6 @@
 -- What the inputs of a run give, and which faults blame one.
 use Rattle.std.specs.Prelude.{⊤, ℕ, List, Option, Result, IfSome}
+use Rattle.wkt_core.specs.declared.scale.Scale.{Scale}
 use Rattle.layer_core.specs.declared.fault.LayerFault.{LayerFault}
 use Rattle.layer_core.specs.declared.fault.LayerFault.TheVariants as layer_faults
 use Rattle.layer_core.specs.declared.read_fault.ReadFault.{ReadFault}
@@ -9,9 +10,9 @@ use Rattle.layer_core.specs.LayerFiles.{IsLayerFile}
 use Rattle.join_core.specs.declared.fault.RunFault.{RunFault}
 use Rattle.join_core.specs.declared.fault.RunFault.TheVariants.{Read, Edit}
 
--- what a file of a layer gives, where its bytes are known
-abbrev pub LayerFile : Option (List ℕ) → Result Contents ReadFault → Type 0
-LayerFile known answer = IfSome known (λ bytes. IsLayerFile bytes answer)
+-- what a file of a layer gives at a scale, where its bytes are known
+abbrev pub LayerFile : Scale → Option (List ℕ) → Result Contents ReadFault → Type 0
+LayerFile scale known answer = IfSome known (λ bytes. IsLayerFile scale bytes answer)
 
 -- a fault of an input's bytes, and not of a device or of memory
 abbrev pub BlamesBytes : ReadFault → Type 0

@@ -1,6 +1,7 @@
 -- What a join of three files gives.
 use Rattle.std.specs.Prelude.{◌≡◌, ⊤, ℕ, List, [], Option, Some, None, Result, Ok, Err, IfSome}
 use Rattle.geom_core.specs.declared.relation.Relation.{Relation}
+use Rattle.wkt_core.specs.declared.scale.Scale.{Scale}
 use Rattle.layer_core.specs.declared.fault.LayerFault.{LayerFault}
 use Rattle.layer_core.specs.declared.read_fault.ReadFault.{ReadFault}
 use Rattle.layer_core.specs.Layers.{Contents}
@@ -16,8 +17,9 @@ use Rattle.join_core.specs.Inputs.{LayerFile}
 use Rattle.join_core.specs.Joins.{IsJoinList}
 use Rattle.join_core.specs.Reports.{IsReport}
 
--- what the sources of a join tell of their bytes; there may be no file of edits
+-- the scale of a join, and what its sources tell of their bytes; there may be no file of edits
 pub record JoinFiles : Type 0 where
+  pub scale : Scale
   pub left : Option (List ℕ)
   pub right : Option (List ℕ)
   pub edits : Option (Option (List ℕ))
@@ -27,39 +29,40 @@ abbrev pub bytes_of : {E : Type 0} → (E → Option (List ℕ)) → Option E �
 bytes_of remaining None = None
 bytes_of remaining (Some e) = Some (remaining e)
 
-abbrev pub files_of : {A B E : Type 0} → (A → Option (List ℕ)) → (B → Option (List ℕ))
+abbrev pub files_of : {A B E : Type 0} → Scale → (A → Option (List ℕ)) → (B → Option (List ℕ))
     → (E → Option (List ℕ)) → JoinSources A B E → JoinFiles
-files_of left_bytes right_bytes edits_bytes sources = record {
+files_of scale left_bytes right_bytes edits_bytes sources = record {
+  scale = scale;
   left = left_bytes sources.left;
   right = right_bytes sources.right;
   edits = bytes_of edits_bytes sources.edits;
 }
 
--- what a file of edits gives: no edits where there is none
-abbrev pub EditFile : Option (Option (List ℕ)) → Result (List EditContent) ReadFault → Type 0
-EditFile None answer = answer ≡ Ok []
-EditFile (Some known) answer = IfSome known (λ bytes. IsEditFile bytes answer)
+-- what a file of edits gives at a scale: no edits where there is none
+abbrev pub EditFile : Scale → Option (Option (List ℕ)) → Result (List EditContent) ReadFault → Type 0
+EditFile scale None answer = answer ≡ Ok []
+EditFile scale (Some known) answer = IfSome known (λ bytes. IsEditFile scale bytes answer)
 
 -- the report of the edited layers, or the first fault of the left file, the right one, that of
 -- edits and the edits, in this order
 pub data JoinGives (relation : Relation) (files : JoinFiles)
     : Result (List ℕ) RunFault → Type 0 where
-  left_fault : (f : ReadFault) → LayerFile files.left (Err f)
+  left_fault : (f : ReadFault) → LayerFile files.scale files.left (Err f)
       → JoinGives relation files (Err (Read Left f))
-  right_fault : (l : Contents) (f : ReadFault) → LayerFile files.left (Ok l)
-      → LayerFile files.right (Err f)
+  right_fault : (l : Contents) (f : ReadFault) → LayerFile files.scale files.left (Ok l)
+      → LayerFile files.scale files.right (Err f)
       → JoinGives relation files (Err (Read Right f))
-  edits_fault : (l r : Contents) (f : ReadFault) → LayerFile files.left (Ok l)
-      → LayerFile files.right (Ok r)
-      → EditFile files.edits (Err f) → JoinGives relation files (Err (Read Edits f))
+  edits_fault : (l r : Contents) (f : ReadFault) → LayerFile files.scale files.left (Ok l)
+      → LayerFile files.scale files.right (Ok r)
+      → EditFile files.scale files.edits (Err f) → JoinGives relation files (Err (Read Edits f))
   edit_refused : (l r : Contents) (edits : List EditContent) (row : ℕ) (f : LayerFault)
-      → LayerFile files.left (Ok l) → LayerFile files.right (Ok r)
-      → EditFile files.edits (Ok edits)
+      → LayerFile files.scale files.left (Ok l) → LayerFile files.scale files.right (Ok r)
+      → EditFile files.scale files.edits (Ok edits)
       → edits_give 1 (both l r) edits ≡ Err (row, f) → JoinGives relation files (Err (Edit row f))
   reported : (l r : Contents) (edits : List EditContent) (edited : Layers)
       (pairs : List (ℕ × ℕ)) (text : List ℕ)
-      → LayerFile files.left (Ok l) → LayerFile files.right (Ok r)
-      → EditFile files.edits (Ok edits)
+      → LayerFile files.scale files.left (Ok l) → LayerFile files.scale files.right (Ok r)
+      → EditFile files.scale files.edits (Ok edits)
       → edits_give 1 (both l r) edits ≡ Ok edited
       → IsJoinList relation edited.left edited.right pairs
       → IsReport edited.left edited.right pairs text → JoinGives relation files (Ok text)

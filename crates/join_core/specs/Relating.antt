@@ -4,6 +4,7 @@ use Rattle.geom_core.specs.declared.shape.Shape.{Shape}
 use Rattle.geom_core.specs.declared.matrix.Matrix.{Matrix}
 use Rattle.geom_core.specs.Matrices.{IsMatrix, letters_of}
 use Rattle.wkt_core.specs.declared.fault.WktFault.{WktFault}
+use Rattle.wkt_core.specs.declared.scale.Scale.{Scale}
 use Rattle.wkt_core.specs.Readings.{Reads}
 use Rattle.join_core.specs.declared.fault.Input.{Input}
 use Rattle.join_core.specs.declared.fault.Input.TheVariants.{First, Second}
@@ -11,20 +12,21 @@ use Rattle.join_core.specs.declared.fault.RunFault.{RunFault}
 use Rattle.join_core.specs.declared.fault.RunFault.TheVariants.{Wkt}
 
 -- the letters of the matrix of the shapes that the two texts spell, and a line feed
-pub record IsMatrixLine (a b line : List ℕ) : Type 0 where
+pub record IsMatrixLine (scale : Scale) (a b line : List ℕ) : Type 0 where
   pub first : Shape
   pub second : Shape
   pub matrix : Matrix
-  pub first_read : Reads a (Ok first)
-  pub second_read : Reads b (Ok second)
+  pub first_read : Reads scale a (Ok first)
+  pub second_read : Reads scale b (Ok second)
   pub related : IsMatrix first second matrix
   pub letters : line ≡ letters_of matrix ++ 10 ∷ []
 
 -- the first text that spells no shape, and what is wrong with it
-abbrev pub HasFirstFault : List ℕ → List ℕ → Input → WktFault → Type 0
-HasFirstFault a b First fault = Reads a (Err fault)
-HasFirstFault a b Second fault = ((s : Shape) × Reads a (Ok s)) × Reads b (Err fault)
-HasFirstFault a b _ fault = ⊥
+abbrev pub HasFirstFault : Scale → List ℕ → List ℕ → Input → WktFault → Type 0
+HasFirstFault scale a b First fault = Reads scale a (Err fault)
+HasFirstFault scale a b Second fault =
+    ((s : Shape) × Reads scale a (Ok s)) × Reads scale b (Err fault)
+HasFirstFault scale a b _ fault = ⊥
 
 -- a fault that relating two texts may have, that of its sink aside
 abbrev pub IsTextFault : RunFault → Type 0

@@ -1,5 +1,6 @@
 -- What counting the features of a file gives.
 use Rattle.std.specs.Prelude.{⊤, ℕ, List, Option, Result, Ok, Err}
+use Rattle.wkt_core.specs.declared.scale.Scale.{Scale}
 use Rattle.layer_core.specs.declared.read_fault.ReadFault.{ReadFault}
 use Rattle.layer_core.specs.LayerTrees.{LayerState, IsTreeOf}
 use Rattle.layer_core.specs.Statistics.{stats_of}
@@ -10,15 +11,15 @@ use Rattle.join_core.specs.Inputs.{LayerFile}
 use Rattle.join_core.specs.StatsTexts.{stats_text}
 
 -- the counts of the layer with the height of its tree, or the fault of the layer's file
-pub data StatsGives (file : Option (List ℕ)) : Result (List ℕ) RunFault → Type 0 where
-  layer_fault : (f : ReadFault) → LayerFile file (Err f)
-      → StatsGives file (Err (Read input.Layer f))
-  counted : (layer : LayerState) → LayerFile file (Ok layer.list)
+pub data StatsGives (scale : Scale) (file : Option (List ℕ)) : Result (List ℕ) RunFault → Type 0 where
+  layer_fault : (f : ReadFault) → LayerFile scale file (Err f)
+      → StatsGives scale file (Err (Read input.Layer f))
+  counted : (layer : LayerState) → LayerFile scale file (Ok layer.list)
       → IsTreeOf layer.list layer.root
-      → StatsGives file (Ok (stats_text (stats_of layer)))
+      → StatsGives scale file (Ok (stats_text (stats_of layer)))
 
-abbrev pub IsStatsText : Option (List ℕ) → List ℕ → Type 0
-IsStatsText file text = StatsGives file (Ok text)
+abbrev pub IsStatsText : Scale → Option (List ℕ) → List ℕ → Type 0
+IsStatsText scale file text = StatsGives scale file (Ok text)
 
 -- a fault that counting may have, that of its sink aside
 abbrev pub IsStatsFault : RunFault → Type 0

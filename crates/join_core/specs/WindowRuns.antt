@@ -4,6 +4,7 @@ use Rattle.geom_core.specs.declared.shape.Shape.{Shape}
 use Rattle.layer_core.specs.declared.read_fault.ReadFault.{ReadFault}
 use Rattle.layer_core.specs.Layers.{Contents}
 use Rattle.wkt_core.specs.declared.fault.WktFault.{WktFault}
+use Rattle.wkt_core.specs.declared.scale.Scale.{Scale}
 use Rattle.wkt_core.specs.Readings.{Reads}
 use Rattle.join_core.specs.declared.fault.Input.{Input}
 use Rattle.join_core.specs.declared.fault.Input.TheVariants as input
@@ -14,23 +15,23 @@ use Rattle.join_core.specs.Windows.{IsWindowList}
 
 -- the list of the features that meet the window, or the first fault of its text and the layer's
 -- file, in this order
-pub data WindowGives (wkt : List ℕ) (file : Option (List ℕ))
+pub data WindowGives (scale : Scale) (wkt : List ℕ) (file : Option (List ℕ))
     : Result (List ℕ) RunFault → Type 0 where
-  text_fault : (f : WktFault) → Reads wkt (Err f)
-      → WindowGives wkt file (Err (Wkt input.Window f))
-  layer_fault : (window : Shape) (f : ReadFault) → Reads wkt (Ok window) → LayerFile file (Err f)
-      → WindowGives wkt file (Err (Read input.Layer f))
-  listed : (window : Shape) (layer : Contents) (text : List ℕ) → Reads wkt (Ok window)
-      → LayerFile file (Ok layer) → IsWindowList window layer text
-      → WindowGives wkt file (Ok text)
+  text_fault : (f : WktFault) → Reads scale wkt (Err f)
+      → WindowGives scale wkt file (Err (Wkt input.Window f))
+  layer_fault : (window : Shape) (f : ReadFault) → Reads scale wkt (Ok window) → LayerFile scale file (Err f)
+      → WindowGives scale wkt file (Err (Read input.Layer f))
+  listed : (window : Shape) (layer : Contents) (text : List ℕ) → Reads scale wkt (Ok window)
+      → LayerFile scale file (Ok layer) → IsWindowList window layer text
+      → WindowGives scale wkt file (Ok text)
 
-abbrev pub IsWindowText : List ℕ → Option (List ℕ) → List ℕ → Type 0
-IsWindowText wkt file text = WindowGives wkt file (Ok text)
+abbrev pub IsWindowText : Scale → List ℕ → Option (List ℕ) → List ℕ → Type 0
+IsWindowText scale wkt file text = WindowGives scale wkt file (Ok text)
 
 -- what is wrong with the window's text
-abbrev pub HasWindowFault : List ℕ → Input → WktFault → Type 0
-HasWindowFault wkt input.Window f = Reads wkt (Err f)
-HasWindowFault wkt _ f = ⊥
+abbrev pub HasWindowFault : Scale → List ℕ → Input → WktFault → Type 0
+HasWindowFault scale wkt input.Window f = Reads scale wkt (Err f)
+HasWindowFault scale wkt _ f = ⊥
 
 -- a fault that a window may have, that of its sink aside
 abbrev pub IsWindowFault : RunFault → Type 0

@@ -10,6 +10,7 @@ ghost use Rattle.join_core.specs.Runs.{Ends};
 use crate::fault::{Input, RunFault};
 use crate::writing::{Sink, write_text};
 use geom_core::{Matrix, relate};
+use wkt_core::Scale;
 
 /// Letters of a matrix and a line feed.
 const LINE: usize = 10;
@@ -18,31 +19,36 @@ const LINE: usize = 10;
 ///
 /// Both are read before anything is written, and no memory is taken. The first text that spells no
 /// shape is at fault.
-pub fn run_relate<S: Sink>(a: &[u8], b: &[u8], sink: &mut S) -> Result<(), RunFault>
+pub fn run_relate<S: Sink>(
+    scale: Scale,
+    a: &[u8],
+    b: &[u8],
+    sink: &mut S,
+) -> Result<(), RunFault>
     requires { S.has_failed sink.old ≡ false }
-    ensures writes { Ends (IsMatrixLine a.now b.now)
+    ensures writes { Ends (IsMatrixLine scale a.now b.now)
         S.written S.is_flushed S.has_failed sink.old sink.new result }
     ensures wkt { (i : Input) (f : WktFault) →
-        (result ≡ Err (RunFault.Wkt i f)) ↔ HasFirstFault a.now b.now i f }
+        (result ≡ Err (RunFault.Wkt i f)) ↔ HasFirstFault scale a.now b.now i f }
     ensures faults { IfErr result (λ f. f ≢ RunFault.Write → IsTextFault f) }
 {
-    let line = matrix_line_of(a, b)?;
+    let line = matrix_line_of(scale, a, b)?;
     write_text(sink, &line)?;
     Ok(())
 }
 
 /// The line of the two geometries' matrix.
-fn matrix_line_of(a: &[u8], b: &[u8]) -> Result<[u8; LINE], RunFault>
-    ensures ok { IfOk result (IsMatrixLine a.now b.now) }
+fn matrix_line_of(scale: Scale, a: &[u8], b: &[u8]) -> Result<[u8; LINE], RunFault>
+    ensures ok { IfOk result (IsMatrixLine scale a.now b.now) }
     ensures wkt { (i : Input) (f : WktFault) →
-        (result ≡ Err (RunFault.Wkt i f)) ↔ HasFirstFault a.now b.now i f }
+        (result ≡ Err (RunFault.Wkt i f)) ↔ HasFirstFault scale a.now b.now i f }
     ensures faults { IfErr result IsTextFault }
 {
-    let first = match wkt_core::read(a) {
+    let first = match wkt_core::read(a, scale) {
         Ok(shape) => shape,
         Err(fault) => return Err(RunFault::Wkt(Input::First, fault)),
     };
-    let second = match wkt_core::read(b) {
+    let second = match wkt_core::read(b, scale) {
         Ok(shape) => shape,
         Err(fault) => return Err(RunFault::Wkt(Input::Second, fault)),
     };

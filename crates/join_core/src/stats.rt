@@ -14,6 +14,7 @@ use crate::writing::{Line, ROOM, Sink, write_text};
 use layer_core::{ReadFault, Source, Stats};
 use std::alloc::Global;
 use std::hash::RandomState;
+use wkt_core::Scale;
 
 /// Writes how many features a layer has, how many of them are points, segments and rectangles, and
 /// how high its tree is: five lines, each a word, a space and a number.
@@ -22,20 +23,21 @@ use std::hash::RandomState;
 pub fn run_stats<L: Source, S: Sink>(
     alloc: Global,
     state: RandomState,
+    scale: Scale,
     layer: &mut L,
     sink: &mut S,
 ) -> Result<(), RunFault>
     requires layer { L.has_failed layer.old ≡ false }
     requires sink { S.has_failed sink.old ≡ false }
-    ensures writes { Ends (IsStatsText (L.remaining layer.old))
+    ensures writes { Ends (IsStatsText scale (L.remaining layer.old))
         S.written S.is_flushed S.has_failed sink.old sink.new result }
     ensures fault { IfErr result (λ f.
-        BlamesInput f → StatsGives (L.remaining layer.old) (Err f)) }
+        BlamesInput f → StatsGives scale (L.remaining layer.old) (Err f)) }
     ensures faults { IfErr result (λ f. f ≢ RunFault.Write → IsStatsFault f) }
     ensures io { IsErrOf result (RunFault.Read Input.Layer ReadFault.Io)
         ↔ IsTrue (L.has_failed layer.new) }
 {
-    let text = stats_run_text(alloc, state, layer)?;
+    let text = stats_run_text(alloc, state, scale, layer)?;
     write_text(sink, text.as_str().as_bytes())?;
     Ok(())
 }
@@ -44,17 +46,18 @@ pub fn run_stats<L: Source, S: Sink>(
 fn stats_run_text<L: Source>(
     alloc: Global,
     state: RandomState,
+    scale: Scale,
     layer: &mut L,
 ) -> Result<Line, RunFault>
     requires { L.has_failed layer.old ≡ false }
-    ensures ok { IfOk result (λ text. IsStatsText (L.remaining layer.old) text) }
+    ensures ok { IfOk result (λ text. IsStatsText scale (L.remaining layer.old) text) }
     ensures fault { IfErr result (λ f.
-        BlamesInput f → StatsGives (L.remaining layer.old) (Err f)) }
+        BlamesInput f → StatsGives scale (L.remaining layer.old) (Err f)) }
     ensures faults { IfErr result IsStatsFault }
     ensures io { IsErrOf result (RunFault.Read Input.Layer ReadFault.Io)
         ↔ IsTrue (L.has_failed layer.new) }
 {
-    let layer = read_input(alloc, Input::Layer, state, layer)?;
+    let layer = read_input(alloc, Input::Layer, state, scale, layer)?;
     // The tree says that it is lawful, and holds exactly the features.
     let _tree = layer.tree();
     Ok(stats_lines(&layer.stats()))

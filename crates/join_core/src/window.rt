@@ -21,6 +21,7 @@ use geom_core::Shape;
 use layer_core::{Layer, ReadFault, Source};
 use std::alloc::{AllocError, Global};
 use std::hash::RandomState;
+use wkt_core::Scale;
 
 /// Writes which features of a layer meet a window: a CSV record `id`, and then one with the id of
 /// each feature whose shape shares a point with the window's, in layer order.
@@ -30,23 +31,24 @@ use std::hash::RandomState;
 pub fn run_window<L: Source, S: Sink>(
     alloc: Global,
     state: RandomState,
+    scale: Scale,
     layer: &mut L,
     wkt: &[u8],
     sink: &mut S,
 ) -> Result<(), RunFault>
     requires layer { L.has_failed layer.old ≡ false }
     requires sink { S.has_failed sink.old ≡ false }
-    ensures writes { Ends (IsWindowText wkt.now (L.remaining layer.old))
+    ensures writes { Ends (IsWindowText scale wkt.now (L.remaining layer.old))
         S.written S.is_flushed S.has_failed sink.old sink.new result }
     ensures wkt { (i : Input) (f : WktFault) →
-        (result ≡ Err (RunFault.Wkt i f)) ↔ HasWindowFault wkt.now i f }
+        (result ≡ Err (RunFault.Wkt i f)) ↔ HasWindowFault scale wkt.now i f }
     ensures fault { IfErr result (λ f.
-        BlamesInput f → WindowGives wkt.now (L.remaining layer.old) (Err f)) }
+        BlamesInput f → WindowGives scale wkt.now (L.remaining layer.old) (Err f)) }
     ensures faults { IfErr result (λ f. f ≢ RunFault.Write → IsWindowFault f) }
     ensures io { IsErrOf result (RunFault.Read Input.Layer ReadFault.Io)
         ↔ IsTrue (L.has_failed layer.new) }
 {
-    let text = window_run_text(alloc, state, layer, wkt)?;
+    let text = window_run_text(alloc, state, scale, layer, wkt)?;
     write_text(sink, text.as_slice())?;
     Ok(())
 }
@@ -55,24 +57,25 @@ pub fn run_window<L: Source, S: Sink>(
 fn window_run_text<L: Source>(
     alloc: Global,
     state: RandomState,
+    scale: Scale,
     layer: &mut L,
     wkt: &[u8],
 ) -> Result<Vec<u8>, RunFault>
     requires { L.has_failed layer.old ≡ false }
-    ensures ok { IfOk result (λ text. IsWindowText wkt.now (L.remaining layer.old) text.items) }
+    ensures ok { IfOk result (λ text. IsWindowText scale wkt.now (L.remaining layer.old) text.items) }
     ensures wkt { (i : Input) (f : WktFault) →
-        (result ≡ Err (RunFault.Wkt i f)) ↔ HasWindowFault wkt.now i f }
+        (result ≡ Err (RunFault.Wkt i f)) ↔ HasWindowFault scale wkt.now i f }
     ensures fault { IfErr result (λ f.
-        BlamesInput f → WindowGives wkt.now (L.remaining layer.old) (Err f)) }
+        BlamesInput f → WindowGives scale wkt.now (L.remaining layer.old) (Err f)) }
     ensures faults { IfErr result IsWindowFault }
     ensures io { IsErrOf result (RunFault.Read Input.Layer ReadFault.Io)
         ↔ IsTrue (L.has_failed layer.new) }
 {
-    let window = match wkt_core::read(wkt) {
+    let window = match wkt_core::read(wkt, scale) {
         Ok(shape) => shape,
         Err(fault) => return Err(RunFault::Wkt(Input::Window, fault)),
     };
-    let layer = read_input(alloc, Input::Layer, state, layer)?;
+    let layer = read_input(alloc, Input::Layer, state, scale, layer)?;
     Ok(window_text(alloc, &layer, &window)?)
 }
 

@@ -3,7 +3,7 @@
 ghost use Rattle.std.specs.Prelude.{◌≡◌, false};
 ghost use Rattle.join_core.specs.ToWrite.{failed_of};
 
-use join_core::ToWrite;
+use join_core::{RunFault, ToWrite};
 use std::alloc::Global;
 use std::io;
 use std::io::{ErrorKind, Write};
@@ -49,4 +49,15 @@ pub fn make_device(alloc: Global, room: usize, step: usize) -> ToWrite<Device>
         step,
         interrupts: false,
     })
+}
+
+/// Whether a run answers as it has to over a device with this room, and the front of the text that
+/// the device has room for was taken.
+pub fn has_front(outcome: Result<(), RunFault>, taken: &[u8], text: &[u8], room: usize) -> bool {
+    let answer = if room < text.len() {
+        Err(RunFault::Write)
+    } else {
+        Ok(())
+    };
+    outcome == answer && Some(taken) == text.get(..room.min(text.len()))
 }

@@ -6,6 +6,7 @@ use join_core::{OpenGate, Options, join};
 use layer_core::{FeatureRef, Layer};
 use samples::Random;
 use std::alloc::{AllocError, Global};
+use std::random::RandomSource;
 use std::sync::Wait;
 use std::test::Fail;
 use std::thread::Threads;
@@ -60,34 +61,94 @@ const WAYS: [(u32, u32, u32); 5] = [
     (16, 4096, 8),
 ];
 
-/// Sees that a join has the pairs of the nested loop, in each of these ways.
+/// Two layers, and the relation that they are joined by.
+#[derive(Clone, Copy)]
+struct Joined<'a> {
+    left: &'a Layer,
+    right: &'a Layer,
+    relation: &'a JoinRelation,
+}
+
+/// Whether a join with these options has the wanted pairs.
+fn has_pairs<R: Threads + Wait + Sync>(
+    rt: &R,
+    alloc: Global,
+    joined: &Joined<'_>,
+    options: &Options,
+    wanted: &[(u32, u32)],
+) -> Result<bool, Fail> {
+    let Joined {
+        left,
+        right,
+        relation,
+    } = *joined;
+    Ok(join(rt, alloc, left, right, relation, options, &OpenGate)?.pairs() == wanted)
+}
+
+/// Sees that a join has the wanted pairs in each of these ways.
 fn see_ways<R: Threads + Wait + Sync>(
     rt: &R,
     alloc: Global,
-    left: &Layer,
-    right: &Layer,
-    relation: &JoinRelation,
+    joined: &Joined<'_>,
+    wanted: &[(u32, u32)],
 ) -> Result<(), Fail> {
-    let wanted = nested_loop(alloc, left, right, relation)?;
     for (workers, batch, cut) in WAYS {
-        let options = Options::new(workers, batch, cut)?;
-        let outcome = join(rt, alloc, left, right, relation, &options, &OpenGate)?;
-        if outcome.pairs() != wanted.as_slice() {
+        if !has_pairs(
+            rt,
+            alloc,
+            joined,
+            &Options::new(workers, batch, cut)?,
+            wanted,
+        )? {
             return Err(Fail::new("a join differs from the nested loop"));
         }
     }
     Ok(())
 }
 
+/// Sees that a join has the pairs of the nested loop.
+fn see_join<R: Threads + Wait + Sync>(
+    rt: &R,
+    alloc: Global,
+    joined: &Joined<'_>,
+) -> Result<(), Fail> {
+    let wanted = nested_loop(alloc, joined.left, joined.right, joined.relation)?;
+    see_ways(rt, alloc, joined, wanted.as_slice())
+}
+
+/// Sees the same of two layers in either order, for each relation.
+fn see_relations<R: Threads + Wait + Sync>(
+    rt: &R,
+    alloc: Global,
+    one: &Layer,
+    two: &Layer,
+) -> Result<(), Fail> {
+    for name in RELATIONS {
+        let relation = &JoinRelation::new(Relation::read(name)?)?;
+        for (left, right) in [(one, two), (two, one)] {
+            let joined = Joined {
+                left,
+                right,
+                relation,
+            };
+            see_join(rt, alloc, &joined)?;
+        }
+    }
+    Ok(())
+}
+
+/// Sees the same of a layer and another one that is mostly edits.
+fn see_layer<R: Threads + Wait + Sync + RandomSource + AllocGlobal>(
+    rt: &R,
+    random: &mut Random,
+    layer: &Layer,
+) -> Result<(), Fail> {
+    see_relations(rt, rt.alloc(), layer, &edited(rt, random, 900, 900)?)
+}
+
 #[test]
 fn join_scan(rt: HostRuntime) -> Result<(), Fail> {
     let mut random = Random::new(1);
-    let left = edited(&rt, &mut random, 1500, 300)?;
-    let right = edited(&rt, &mut random, 900, 900)?;
-    for name in RELATIONS {
-        let relation = JoinRelation::new(Relation::read(name)?)?;
-        see_ways(&rt, rt.alloc(), &left, &right, &relation)?;
-        see_ways(&rt, rt.alloc(), &right, &left, &relation)?;
-    }
-    Ok(())
+    let layer = edited(&rt, &mut random, 1500, 300)?;
+    see_layer(&rt, &mut random, &layer)
 }

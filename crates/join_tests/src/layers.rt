@@ -1,60 +1,85 @@
 //! Layers for tests.
 
+use geom_core::Shape;
 use layer_core::{Layer, layer_of_bytes};
 use samples::Random;
 use std::alloc::Global;
+use std::fmt::Write;
 use std::hash::RandomState;
+use std::random::RandomSource;
 use std::test::Fail;
-use wkt_core::print;
+use wkt_core::{Scale, print};
+
+/// The scale of whole numbers.
+pub(crate) fn whole() -> Result<Scale, Fail> {
+    Ok(Scale::new(0).ok_or("a scale")?)
+}
 
 /// A layer file of so many points (0, 0), (1, 0) and on.
 fn points_text(alloc: Global, count: u32) -> Result<String, Fail> {
     let mut text = String::from_str(alloc, "id,wkt\n")?;
     for x in 0..count {
-        text.push_str(format!(in alloc; "p{x},POINT ({x} 0)\n")?.as_str())?;
+        writeln!(text, "p{x},POINT ({x} 0)")?;
     }
     Ok(text)
 }
 
 /// The layer of these points.
-pub(crate) fn points(rt: &HostRuntime, count: u32) -> Result<Layer, Fail> {
+pub(crate) fn points<R: RandomSource + AllocGlobal>(rt: &R, count: u32) -> Result<Layer, Fail> {
     let text = points_text(rt.alloc(), count)?;
-    Ok(layer_of_bytes(rt.alloc(), RandomState::new(rt)?, text.as_bytes())?)
+    Ok(layer_of_bytes(rt.alloc(), RandomState::new(rt)?, text.as_bytes(), whole()?)?)
 }
 
-/// A layer file of so many shapes that look random.
-pub(crate) fn shapes_text(alloc: Global, random: &mut Random, count: u32) -> Result<String, Fail> {
-    let mut text = String::from_str(alloc, "id,wkt\n")?;
+/// A layer file of so many shapes that look random; none where there was no memory.
+pub(crate) fn shapes_text(alloc: Global, random: &mut Random, count: u32) -> Option<String> {
+    let mut text = String::from_str(alloc, "id,wkt\n").ok()?;
     for id in 0..count {
-        let row = print(alloc, &random.shape().ok_or("a shape")?)?;
-        text.push_str(format!(in alloc; "f{id},\"{row}\"\n")?.as_str())?;
+        let row = print(alloc, &random.shape()?, Scale::new(0)?).ok()?;
+        writeln!(text, "f{id},\"{row}\"").ok()?;
     }
-    Ok(text)
+    Some(text)
+}
+
+fn insert(alloc: Global, layer: &mut Layer, number: u32, shape: Shape) -> Option<()> {
+    let id = format!(in alloc; "e{number}").ok()?;
+    layer.insert(id.as_str(), shape).ok()
+}
+
+fn remove(alloc: Global, layer: &mut Layer, number: u32) -> Option<Shape> {
+    let id = format!(in alloc; "f{number}").ok()?;
+    layer.remove(id.as_str()).ok()
 }
 
 /// Inserts a feature with each of these numbers as its id, and after every third deletes one of
-/// those that were read.
-fn edit(alloc: Global, layer: &mut Layer, random: &mut Random, count: u32) -> Result<(), Fail> {
+/// those that were read; none where one is refused.
+fn edit(alloc: Global, layer: &mut Layer, random: &mut Random, count: u32) -> Option<()> {
     for number in 0..count {
-        let id = format!(in alloc; "e{number}")?;
-        layer.insert(id.as_str(), random.shape().ok_or("a shape")?)?;
+        insert(alloc, layer, number, random.shape()?)?;
         if number % 3 == 0 {
-            layer.remove(format!(in alloc; "f{number}")?.as_str())?;
+            remove(alloc, layer, number)?;
         }
     }
-    Ok(())
+    Some(())
+}
+
+/// A layer that was packed from so many shapes.
+fn packed<R: RandomSource + AllocGlobal>(
+    rt: &R,
+    random: &mut Random,
+    count: u32,
+) -> Result<Layer, Fail> {
+    let text = shapes_text(rt.alloc(), random, count).ok_or("a text")?;
+    Ok(layer_of_bytes(rt.alloc(), RandomState::new(rt)?, text.as_bytes(), whole()?)?)
 }
 
 /// A layer that was packed from so many shapes and then edited.
-pub(crate) fn edited(
-    rt: &HostRuntime,
+pub(crate) fn edited<R: RandomSource + AllocGlobal>(
+    rt: &R,
     random: &mut Random,
     count: u32,
     edits: u32,
 ) -> Result<Layer, Fail> {
-    let alloc = rt.alloc();
-    let text = shapes_text(alloc, random, count)?;
-    let mut layer = layer_of_bytes(alloc, RandomState::new(rt)?, text.as_bytes())?;
-    edit(alloc, &mut layer, random, edits)?;
+    let mut layer = packed(rt, random, count)?;
+    edit(rt.alloc(), &mut layer, random, edits).ok_or("an edit")?;
     Ok(layer)
 }

@@ -6,6 +6,8 @@ mod broken;
 #[cfg(test)]
 mod device;
 #[cfg(test)]
+mod example;
+#[cfg(test)]
 mod fault_lines;
 #[cfg(test)]
 mod join_scan;
@@ -21,6 +23,8 @@ mod options;
 mod refused;
 #[cfg(test)]
 mod relating;
+#[cfg(test)]
+mod running;
 #[cfg(test)]
 mod thousand_joins;
 #[cfg(test)]

@@ -1,9 +1,13 @@
 //! A join with each growth refused in turn.
 
-use crate::broken::{REPORT, joined, with_edits};
-use join_core::{JoinFault, RunFault};
+use crate::example::EDITED;
+use crate::running::{edited_example, join};
+use geom_core::Relation;
+use join_core::{JoinFault, Options, RunFault};
 use layer_core::{LayerFault, ReadFault};
-use std::test::Fail;
+use std::random::RandomSource;
+use std::sync::Wait;
+use std::thread::Threads;
 
 /// Whether a fault is that memory ran out, or a thread's.
 fn is_want(fault: &RunFault) -> bool {
@@ -16,23 +20,29 @@ fn is_want(fault: &RunFault) -> bool {
     )
 }
 
+/// What a join answered, and whether it wrote what belongs to that; none where there was no memory
+/// to write into.
+fn attempt<R: Threads + Wait + Sync + RandomSource + AllocGlobal>(
+    rt: &R,
+) -> Option<(Result<(), RunFault>, bool)> {
+    let options = Options::new(4, 256, 2).ok()?;
+    let ended = join(rt, &edited_example(), Relation::Touches, &options)?;
+    let text = if ended.outcome.is_ok() { EDITED } else { "" };
+    Some((ended.outcome, ended.is(ended.outcome, text)))
+}
+
 // Run with each allocation failing in turn, it ends as with ample memory.
 #[test]
-fn refused_7(rt: HostRuntime) -> Result<(), Fail> {
+fn refused_7(rt: HostRuntime) {
     for _ in 0..10 {
-        let Some((outcome, written)) = joined(&rt, &with_edits()) else {
+        let Some((outcome, is_written)) = attempt(&rt) else {
             continue;
         };
+        assert!(rt; is_written);
         match outcome {
-            Ok(()) => {
-                assert!(rt; written.as_slice() == REPORT.as_bytes());
-                return Ok(());
-            }
-            Err(fault) => {
-                assert!(rt; is_want(&fault));
-                assert!(rt; written.is_empty());
-            }
+            Ok(()) => return,
+            Err(fault) => assert!(rt; is_want(&fault)),
         }
     }
-    Err(Fail::new("no memory"))
+    panic!(rt; "no memory");
 }

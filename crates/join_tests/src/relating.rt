@@ -1,118 +1,126 @@
 //! The rows of `run_relate`, and devices that fail under it.
 
-use crate::device::make_device;
+ghost use Rattle.std.specs.Prelude.{◌≡◌, false};
+ghost use Rattle.join_core.specs.ToWrite.{failed_of};
+
+use crate::device::{has_front, make_device};
+use crate::running::Ended;
 use join_core::{Input, RunFault, Sink, ToWrite, WriteFailed, fault_line, run_relate};
-use std::alloc::Global;
 use std::io;
 use std::io::{ErrorKind, Write};
-use std::process::Abort;
-use std::test::Fail;
-use wkt_core::WktFault;
+use wkt_core::{Scale, WktFault};
 
 const SQUARE: &str = "POLYGON ((0 0, 4 0, 4 4, 0 4, 0 0))";
 
 const OTHER: &str = "POLYGON ((2 2, 6 2, 6 6, 2 6, 2 2))";
 
-/// Checks what `run_relate` writes.
-fn check(rt: &(impl Abort + AllocGlobal), a: &str, b: &str, letters: &str) -> io::Result<()> {
+/// Whether `run_relate` with so many decimals answers and writes this.
+fn relates(
+    rt: &HostRuntime,
+    digits: u32,
+    texts: (&str, &str),
+    outcome: Result<(), RunFault>,
+    text: &str,
+) -> Option<bool> {
     let mut sink = ToWrite::new(Vec::new(rt.alloc()));
-    assert!(rt; !sink.failed());
-    let outcome = run_relate(a.as_bytes(), b.as_bytes(), &mut sink);
-    assert_eq!(rt; outcome, Ok(()), "{a} and {b}");
-    let line = format!(in rt.alloc(); "{letters}\n")?;
-    let written: Vec<u8> = sink.into_inner();
-    assert_eq!(rt; written.as_slice(), line.as_bytes(), "{a} and {b}");
-    Ok(())
+    let (a, b) = (texts.0.as_bytes(), texts.1.as_bytes());
+    let ended = run_relate(Scale::new(digits)?, a, b, &mut sink);
+    Some(Ended::new(ended, sink.into_inner()).is(outcome, text))
+}
+
+/// Whether the line of the matrix of two geometries in whole numbers is this.
+fn has_line(rt: &HostRuntime, a: &str, b: &str, line: &str) -> bool {
+    relates(rt, 0, (a, b), Ok(()), line) == Some(true)
 }
 
 #[test]
-fn relate_points(rt: HostRuntime) -> io::Result<()> {
-    check(&rt, "POINT (4 4)", "POINT(4 4)", "0FFFFFFF2")?;
-    check(&rt, "POINT (4 4)", "POINT (5 4)", "FF0FFF0F2")
+fn relate_points(rt: HostRuntime) {
+    assert!(rt; has_line(&rt, "POINT (4 4)", "POINT(4 4)", "0FFFFFFF2\n"));
+    assert!(rt; has_line(&rt, "POINT (4 4)", "POINT (5 4)", "FF0FFF0F2\n"));
 }
 
 #[test]
-fn relate_rectangles(rt: HostRuntime) -> io::Result<()> {
-    check(&rt, SQUARE, OTHER, "212101212")
+fn relate_rectangles(rt: HostRuntime) {
+    assert!(rt; has_line(&rt, SQUARE, OTHER, "212101212\n"));
 }
 
 #[test]
-fn corner_rectangles(rt: HostRuntime) -> io::Result<()> {
-    check(
-        &rt,
-        SQUARE,
-        "POLYGON ((4 4, 8 4, 8 8, 4 8, 4 4))",
-        "FF2F01212",
-    )
+fn corner_rectangles(rt: HostRuntime) {
+    let corner = "POLYGON ((4 4, 8 4, 8 8, 4 8, 4 4))";
+    assert!(rt; has_line(&rt, SQUARE, corner, "FF2F01212\n"));
 }
 
 #[test]
-fn ring_spellings(rt: HostRuntime) -> io::Result<()> {
-    check(&rt, SQUARE, "polygon((4 4,4 0,0 0,0 4,4 4))", "2FFF1FFF2")
+fn ring_spellings(rt: HostRuntime) {
+    let ring = "polygon((4 4,4 0,0 0,0 4,4 4))";
+    assert!(rt; has_line(&rt, SQUARE, ring, "2FFF1FFF2\n"));
 }
 
 #[test]
-fn segment_on_edge(rt: HostRuntime) -> io::Result<()> {
-    check(&rt, "LINESTRING (1 0, 3 0)", SQUARE, "F1FF0F212")
+fn segment_on_edge(rt: HostRuntime) {
+    assert!(rt; has_line(&rt, "LINESTRING (1 0, 3 0)", SQUARE, "F1FF0F212\n"));
 }
 
 #[test]
-fn segment_inside(rt: HostRuntime) -> io::Result<()> {
-    check(&rt, "LINESTRING (0 2, 2 2)", SQUARE, "1FF00F212")
+fn segment_inside(rt: HostRuntime) {
+    assert!(rt; has_line(&rt, "LINESTRING (0 2, 2 2)", SQUARE, "1FF00F212\n"));
 }
 
 #[test]
-fn segments_meet(rt: HostRuntime) -> io::Result<()> {
-    check(
-        &rt,
-        "LINESTRING (-1 2, 5 2)",
-        "LINESTRING (2 -1, 2 5)",
-        "0F1FF0102",
-    )?;
-    check(
-        &rt,
-        "LINESTRING (0 0, 4 0)",
-        "LINESTRING (2 0, 6 0)",
-        "1010F0102",
-    )
+fn segments_meet(rt: HostRuntime) {
+    let (a, b) = ("LINESTRING (-1 2, 5 2)", "LINESTRING (2 -1, 2 5)");
+    assert!(rt; has_line(&rt, a, b, "0F1FF0102\n"));
+    let (a, b) = ("LINESTRING (0 0, 4 0)", "LINESTRING (2 0, 6 0)");
+    assert!(rt; has_line(&rt, a, b, "1010F0102\n"));
 }
 
 #[test]
-fn canonical_only(rt: HostRuntime) -> Result<(), Fail> {
-    let mut sink = ToWrite::new(Vec::new(rt.alloc()));
+fn scale_10(rt: HostRuntime) {
+    let texts = ("POINT (0.5 0)", "LINESTRING (0 0, 0.3 0, 1 0)");
+    assert!(rt; relates(&rt, 1, texts, Ok(()), "0FFFFF102\n") == Some(true));
+    let number = RunFault::Wkt(Input::First, WktFault::Number);
+    assert!(rt; relates(&rt, 0, texts, Err(number), "") == Some(true));
+}
+
+#[test]
+fn canonical_only(rt: HostRuntime) {
     let fault = RunFault::Wkt(Input::First, WktFault::Text);
-    let outcome = run_relate(b"POINT (4 4", b"POINT (5 4)", &mut sink);
-    assert!(rt; outcome == Err(fault));
-    let written: Vec<u8> = sink.into_inner();
-    assert!(rt; written.is_empty());
-    Ok(())
+    let texts = ("POINT (4 4", "POINT (5 4)");
+    assert!(rt; relates(&rt, 0, texts, Err(fault), "") == Some(true));
 }
 
 #[test]
 fn first_fault_is_answered(rt: HostRuntime) {
-    let mut sink = ToWrite::new(Vec::new(rt.alloc()));
-    let outcome = run_relate(b"POINT (1.5 0)", b"", &mut sink);
-    assert!(rt; outcome == Err(RunFault::Wkt(Input::First, WktFault::Number)));
-    let outcome = run_relate(b"POINT (1 0)", b"LINESTRING (0 0, 1 1)", &mut sink);
-    assert!(rt; outcome == Err(RunFault::Wkt(Input::Second, WktFault::Form)));
+    let number = RunFault::Wkt(Input::First, WktFault::Number);
+    assert!(rt; relates(&rt, 0, ("POINT (1.5 0)", ""), Err(number), "") == Some(true));
+    let form = RunFault::Wkt(Input::Second, WktFault::Form);
+    let texts = ("POINT (1 0)", "LINESTRING (0 0, 1 1)");
+    assert!(rt; relates(&rt, 0, texts, Err(form), "") == Some(true));
+}
+
+/// Whether a device with this room that takes so many bytes a call is given the front of a line
+/// that it has room for, and the sink has failed where it hasn't room for all.
+fn writes_front(rt: &HostRuntime, room: usize, step: usize) -> Option<bool> {
+    let line = b"FF0FFF0F2\n";
+    let mut sink = make_device(rt.alloc(), room, step);
+    let outcome = run_relate(Scale::new(0)?, b"POINT (4 4)", b"POINT (5 4)", &mut sink);
+    let has_failed = sink.failed();
+    let taken = sink.into_inner().taken;
+    Some(has_front(outcome, taken.as_slice(), line, room) && has_failed == (room < line.len()))
 }
 
 #[test]
 fn devices_that_fail(rt: HostRuntime) {
-    let alloc: Global = rt.alloc();
-    let line = b"FF0FFF0F2\n";
     for room in 0..12 {
         for step in 1..4 {
-            let mut sink = make_device(alloc, room, step);
-            let outcome = run_relate(b"POINT (4 4)", b"POINT (5 4)", &mut sink);
-            let fits = room >= line.len();
-            assert!(rt; outcome == if fits { Ok(()) } else { Err(RunFault::Write) });
-            assert!(rt; sink.failed() == !fits);
-            let written = sink.into_inner().taken;
-            assert!(rt; written.as_slice() == &line[..room.min(line.len())]);
+            assert!(rt; writes_front(&rt, room, step) == Some(true));
         }
     }
-    let mut sink = make_device(alloc, 5, 100);
+}
+
+#[test]
+fn line_to_failing_device(rt: HostRuntime) {
+    let mut sink = make_device(rt.alloc(), 5, 100);
     assert!(rt; fault_line(&RunFault::Write, &mut sink) == Err(WriteFailed));
     let written = sink.into_inner().taken;
     assert!(rt; written.as_slice() == b"rjoin".as_slice());
@@ -150,26 +158,42 @@ impl Write for Stuck {
     }
 }
 
-#[test]
-fn broken_11(rt: HostRuntime) {
-    let mut sink = make_device(rt.alloc(), 4, 100);
-    let outcome = run_relate(SQUARE.as_bytes(), OTHER.as_bytes(), &mut sink);
-    assert!(rt; outcome == Err(RunFault::Write));
-    let written = sink.into_inner().taken;
-    assert!(rt; written.as_slice() == b"2121".as_slice());
+/// What relating the two squares answers that writes into this sink.
+fn squares<W: Write>(sink: &mut ToWrite<W>) -> Option<Result<(), RunFault>>
+    requires { failed_of sink.old ≡ false }
+{
+    Some(run_relate(Scale::new(0)?, SQUARE.as_bytes(), OTHER.as_bytes(), sink))
+}
 
+/// What is written of the two squares into a device with room for four bytes.
+fn to_full(rt: &HostRuntime) -> Option<Ended> {
+    let mut sink = make_device(rt.alloc(), 4, 100);
+    let outcome = squares(&mut sink)?;
+    Some(Ended::new(outcome, sink.into_inner().taken))
+}
+
+/// The same of a writer that takes four bytes, and then none.
+fn to_stuck(rt: &HostRuntime) -> Option<Ended> {
     let taken = Vec::new(rt.alloc());
     let mut sink = ToWrite::new(Stuck { taken });
-    let outcome = run_relate(SQUARE.as_bytes(), OTHER.as_bytes(), &mut sink);
-    assert!(rt; outcome == Err(RunFault::Write));
-    let written = sink.into_inner().taken;
-    assert!(rt; written.as_slice() == b"2121".as_slice());
+    let outcome = squares(&mut sink)?;
+    Some(Ended::new(outcome, sink.into_inner().taken))
+}
+
+/// Whether a run has failed to write, and four letters were taken.
+fn is_cut(ended: Option<Ended>) -> bool {
+    ended.is_some_and(|ended| ended.is(Err(RunFault::Write), "2121"))
+}
+
+#[test]
+fn broken_11(rt: HostRuntime) {
+    assert!(rt; is_cut(to_full(&rt)));
+    assert!(rt; is_cut(to_stuck(&rt)));
 }
 
 #[test]
 fn flush_that_fails(rt: HostRuntime) {
     let mut sink = ToWrite::new(Unflushed);
-    let outcome = run_relate(b"POINT (4 4)", b"POINT (5 4)", &mut sink);
-    assert!(rt; outcome == Err(RunFault::Write));
+    assert!(rt; squares(&mut sink) == Some(Err(RunFault::Write)));
     assert!(rt; sink.failed());
 }

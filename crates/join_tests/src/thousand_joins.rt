@@ -2,65 +2,79 @@
 //! joins of the same two layers write the same bytes.
 
 use crate::layers::shapes_text;
-use geom_core::{JoinRelation, Relation};
-use join_core::{JoinSources, OpenGate, Options, ToWrite, run_join};
-use layer_core::FromRead;
+use crate::running::{Files, at_once, join};
+use geom_core::Relation;
+use join_core::Options;
 use samples::Random;
-use std::hash::RandomState;
 use std::random::RandomSource;
 use std::sync::Wait;
-use std::test::Fail;
 use std::thread::Threads;
 
-/// The report of a join of two files.
+/// The report of a join of two files by intersects.
 fn report<R: Threads + Wait + Sync + RandomSource + AllocGlobal>(
     rt: &R,
-    left: &str,
-    right: &str,
-    relation: &JoinRelation,
+    files: &Files<'_>,
     options: &Options,
-) -> Result<Vec<u8>, Fail> {
-    let mut sink = ToWrite::new(Vec::new(rt.alloc()));
-    let states = (RandomState::new(rt)?, RandomState::new(rt)?);
-    let edits: Option<FromRead<&[u8]>> = None;
-    let mut sources = JoinSources {
-        left: FromRead::new(left.as_bytes()),
-        right: FromRead::new(right.as_bytes()),
-        edits,
-    };
-    let (alloc, gate) = (rt.alloc(), OpenGate);
-    run_join(
-        rt,
-        alloc,
-        states,
-        &mut sources,
-        relation,
-        options,
-        &gate,
-        &mut sink,
-    )?;
-    Ok(sink.into_inner())
+) -> Option<Vec<u8>> {
+    let ended = join(rt, files, Relation::Intersects, options)?;
+    ended.outcome.ok()?;
+    Some(ended.written)
 }
 
-/// Sees that 45 joins of two files write the same report.
-fn see_same<R: Threads + Wait + Sync + RandomSource + AllocGlobal>(
+/// Whether a join, with so many workers, so long batches and this cut, writes the wanted report.
+fn writes<R: Threads + Wait + Sync + RandomSource + AllocGlobal>(
     rt: &R,
-    left: &str,
-    right: &str,
-) -> Result<(), Fail> {
-    let relation = JoinRelation::new(Relation::Intersects)?;
-    let wanted = report(rt, left, right, &relation, &Options::new(1, 256, 2)?)?;
+    files: &Files<'_>,
+    (workers, batch, cut): (u32, u32, u32),
+    wanted: &[u8],
+) -> Option<bool> {
+    let options = Options::new(workers, batch, cut).ok()?;
+    Some(report(rt, files, &options)?.as_slice() == wanted)
+}
+
+/// Whether 45 joins of two files write the wanted report.
+fn all_write<R: Threads + Wait + Sync + RandomSource + AllocGlobal>(
+    rt: &R,
+    files: &Files<'_>,
+    wanted: &[u8],
+) -> Option<bool> {
     for workers in [1, 2, 3, 8, 16] {
         for batch in [1, 7, 4096] {
             for cut in [0, 2, 8] {
-                let options = Options::new(workers, batch, cut)?;
-                if report(rt, left, right, &relation, &options)? != wanted {
-                    return Err(Fail::new("two joins of the same files differ"));
+                if !writes(rt, files, (workers, batch, cut), wanted)? {
+                    return Some(false);
                 }
             }
         }
     }
-    Ok(())
+    Some(true)
+}
+
+/// Whether 45 joins of two files write the same report.
+fn are_same<'a, R: Threads + Wait + Sync + RandomSource + AllocGlobal>(
+    rt: &R,
+    left: &'a str,
+    right: &'a str,
+) -> Option<bool> {
+    let files = Files {
+        left: at_once(left),
+        right: at_once(right),
+        edits: None,
+    };
+    let wanted = report(rt, &files, &Options::new(1, 256, 2).ok()?)?;
+    all_write(rt, &files, wanted.as_slice())
+}
+
+/// The same of two files with so many features.
+fn are_same_of<R: Threads + Wait + Sync + RandomSource + AllocGlobal>(
+    rt: &R,
+    random: &mut Random,
+    left: u32,
+    right: u32,
+) -> Option<bool> {
+    let left = shapes_text(rt.alloc(), random, left)?;
+    let right = shapes_text(rt.alloc(), random, right)?;
+    are_same(rt, left.as_str(), right.as_str())
 }
 
 /// How many left and right features there are in the largest layers.
@@ -70,15 +84,10 @@ const MANY: (u32, u32) = (2000, 1500);
 const SMALL: u32 = 22;
 
 #[test]
-fn thousand_joins(rt: HostRuntime) -> Result<(), Fail> {
-    let alloc = rt.alloc();
+fn thousand_joins(rt: HostRuntime) {
     let mut random = Random::new(2);
     for size in 0..SMALL {
-        let left = shapes_text(alloc, &mut random, 4 * size)?;
-        let right = shapes_text(alloc, &mut random, 100 - 4 * size)?;
-        see_same(&rt, left.as_str(), right.as_str())?;
+        assert!(rt; are_same_of(&rt, &mut random, 4 * size, 100 - 4 * size) == Some(true));
     }
-    let left = shapes_text(alloc, &mut random, MANY.0)?;
-    let right = shapes_text(alloc, &mut random, MANY.1)?;
-    see_same(&rt, left.as_str(), right.as_str())
+    assert!(rt; are_same_of(&rt, &mut random, MANY.0, MANY.1) == Some(true));
 }

@@ -1,12 +1,12 @@
 //! What the workers of a join deliver, by the marks of its outcome and by the gate that they enter.
 
-use crate::layers::points;
+use crate::layers::{points, whole};
 use deliver_core::Mark;
 use geom_core::{JoinRelation, Relation};
 use join_core::{Gate, JoinFault, OpenGate, Options, Outcome, join};
 use layer_core::{Layer, layer_of_bytes};
-use std::alloc::Global;
 use std::hash::RandomState;
+use std::random::RandomSource;
 use std::sync::Wait;
 use std::sync::atomic::{AtomicU32, Ordering};
 use std::test::Fail;
@@ -38,47 +38,99 @@ const BY_SEVEN: [Mark; 6] = [
 
 const OF_NOTHING: [Mark; 3] = [Mark::End(0, 0), Mark::End(1, 0), Mark::End(2, 0)];
 
-/// Joins two layers, with so many workers, so long batches and this cut.
-fn deliver<R: Threads + Wait + Sync, G: Gate + Sync>(
-    rt: &R,
-    alloc: Global,
-    layers: &(Layer, Layer),
+/// How two layers are joined.
+#[derive(Clone, Copy)]
+struct Way {
     relation: Relation,
-    options: (u32, u32, u32),
-    gate: &G,
-) -> Result<Outcome, Fail> {
-    let relation = JoinRelation::new(relation)?;
-    let options = Options::new(options.0, options.1, options.2)?;
-    Ok(join(rt, alloc, &layers.0, &layers.1, &relation, &options, gate)?)
+    workers: u32,
+    batch: u32,
+    cut: u32,
 }
 
-#[test]
-fn plan_and_scripts(rt: HostRuntime) -> Result<(), Fail> {
-    let layers = (points(&rt, 20)?, points(&rt, 20)?);
-    for (relation, batch, marks) in [
-        (Relation::Equals, 3, BY_THREE.as_slice()),
-        (Relation::Equals, 7, &BY_SEVEN),
-        (Relation::Touches, 7, &OF_NOTHING),
-    ] {
-        let outcome = deliver(&rt, rt.alloc(), &layers, relation, (1, batch, 1), &OpenGate)?;
-        assert!(rt; outcome.taken() == marks);
+/// Two layers of points (0, 0), (1, 0) and on.
+#[derive(Drop)]
+struct Points {
+    left: Layer,
+    right: Layer,
+}
+
+impl Points {
+    /// Layers of so many points each.
+    fn new<R: RandomSource + AllocGlobal>(rt: &R, count: u32) -> Result<Points, Fail> {
+        let left = points(rt, count)?;
+        Points::beside(rt, left, count)
     }
-    Ok(())
+
+    fn beside<R: RandomSource + AllocGlobal>(
+        rt: &R,
+        left: Layer,
+        count: u32,
+    ) -> Result<Points, Fail> {
+        let right = points(rt, count)?;
+        Ok(Points { left, right })
+    }
+
+    /// Joins them in this way.
+    fn join<R: Threads + Wait + Sync + AllocGlobal, G: Gate + Sync>(
+        &self,
+        rt: &R,
+        way: Way,
+        gate: &G,
+    ) -> Result<Outcome, Fail> {
+        let relation = JoinRelation::new(way.relation)?;
+        let options = Options::new(way.workers, way.batch, way.cut)?;
+        Ok(join(
+            rt,
+            rt.alloc(),
+            &self.left,
+            &self.right,
+            &relation,
+            &options,
+            gate,
+        )?)
+    }
+
+    /// Whether a join in this way gives these marks.
+    fn gives_marks<R: Threads + Wait + Sync + AllocGlobal>(
+        &self,
+        rt: &R,
+        way: Way,
+        marks: &[Mark],
+    ) -> Result<bool, Fail> {
+        Ok(self.join(rt, way, &OpenGate)?.taken() == marks)
+    }
+
+    /// Whether a join in this way gives so many pairs of equal numbers, each in a batch of its own.
+    fn gives_batches<R: Threads + Wait + Sync + AllocGlobal>(
+        &self,
+        rt: &R,
+        way: Way,
+        count: u32,
+    ) -> Result<bool, Fail> {
+        Ok(has_batches(&self.join(rt, way, &OpenGate)?, count))
+    }
+
+    /// Whether a join in this way through a gate gives so many pairs of equal numbers.
+    fn passes<R: Threads + Wait + Sync + AllocGlobal, G: Gate + Sync>(
+        &self,
+        rt: &R,
+        way: Way,
+        gate: &G,
+        count: u32,
+    ) -> Result<bool, Fail> {
+        Ok(are_diagonal(self.join(rt, way, gate)?.pairs(), count))
+    }
 }
 
-#[test]
-fn empty_layers(rt: HostRuntime) -> Result<(), Fail> {
-    let layers = (points(&rt, 0)?, points(&rt, 0)?);
-    let outcome = deliver(
-        &rt,
-        rt.alloc(),
-        &layers,
-        Relation::Equals,
-        (2, 256, 2),
-        &OpenGate,
-    )?;
-    assert!(rt; outcome.taken().is_empty() && outcome.pairs().is_empty());
-    Ok(())
+/// What is seen of two layers of so many points each.
+fn on_points<R: RandomSource + AllocGlobal, F: FnOnce(&Points) -> Result<bool, Fail>>(
+    rt: &R,
+    count: u32,
+    see: F,
+) -> Result<bool, Fail>
+    requires { F.IsAlwaysCallable see }
+{
+    see(&Points::new(rt, count)?)
 }
 
 /// Whether the pairs are (0, 0), (1, 1) and on, this many.
@@ -98,22 +150,87 @@ fn count_batches(marks: &[Mark]) -> usize {
         .count()
 }
 
+/// Whether an outcome has so many pairs of equal numbers, and so many batches.
+fn has_batches(outcome: &Outcome, count: u32) -> bool {
+    are_diagonal(outcome.pairs(), count) && count_batches(outcome.taken()) == count as usize
+}
+
+/// Whether joins of 20 points by one worker give the marks of their scripts.
+fn gives_scripts<R: Threads + Wait + Sync + AllocGlobal>(
+    rt: &R,
+    points: &Points,
+) -> Result<bool, Fail> {
+    for (relation, batch, marks) in [
+        (Relation::Equals, 3, BY_THREE.as_slice()),
+        (Relation::Equals, 7, &BY_SEVEN),
+        (Relation::Touches, 7, &OF_NOTHING),
+    ] {
+        let way = Way {
+            relation,
+            workers: 1,
+            batch,
+            cut: 1,
+        };
+        if !points.gives_marks(rt, way, marks)? {
+            return Ok(false);
+        }
+    }
+    Ok(true)
+}
+
+#[test]
+fn plan_and_scripts(rt: HostRuntime) -> Result<(), Fail> {
+    let shared = &rt;
+    assert!(rt; on_points(shared, 20, |points| gives_scripts(shared, points))?);
+    Ok(())
+}
+
+const OF_DEFAULTS: Way = Way {
+    relation: Relation::Equals,
+    workers: 2,
+    batch: 256,
+    cut: 2,
+};
+
+/// Whether a join of two empty layers gives neither marks nor pairs.
+fn gives_nothing<R: Threads + Wait + Sync + AllocGlobal>(
+    rt: &R,
+    points: &Points,
+) -> Result<bool, Fail> {
+    let has_marks = !points.gives_marks(rt, OF_DEFAULTS, &[])?;
+    Ok(!has_marks && points.gives_batches(rt, OF_DEFAULTS, 0)?)
+}
+
+#[test]
+fn empty_layers(rt: HostRuntime) -> Result<(), Fail> {
+    let shared = &rt;
+    assert!(rt; on_points(shared, 0, |points| gives_nothing(shared, points))?);
+    Ok(())
+}
+
+/// Whether joins of 1000 points, with 1 to 16 workers and one pair a batch, give all pairs.
+fn gives_all<R: Threads + Wait + Sync + AllocGlobal>(
+    rt: &R,
+    points: &Points,
+) -> Result<bool, Fail> {
+    for workers in 1..17 {
+        let way = Way {
+            relation: Relation::Equals,
+            workers,
+            batch: 1,
+            cut: 8,
+        };
+        if !points.gives_batches(rt, way, 1000)? {
+            return Ok(false);
+        }
+    }
+    Ok(true)
+}
+
 #[test]
 fn no_refusal(rt: HostRuntime) -> Result<(), Fail> {
-    let layers = (points(&rt, 1000)?, points(&rt, 1000)?);
-    for workers in 1..17 {
-        let numbers = (workers, 1, 8);
-        let outcome = deliver(
-            &rt,
-            rt.alloc(),
-            &layers,
-            Relation::Equals,
-            numbers,
-            &OpenGate,
-        )?;
-        assert!(rt; are_diagonal(outcome.pairs(), 1000));
-        assert!(rt; count_batches(outcome.taken()) == 1000);
-    }
+    let shared = &rt;
+    assert!(rt; on_points(shared, 1000, |points| gives_all(shared, points))?);
     Ok(())
 }
 
@@ -149,50 +266,81 @@ fn zero() -> AtomicU32 {
     AtomicU32::new(0)
 }
 
+impl PairGate {
+    fn new() -> PairGate {
+        PairGate {
+            inside: zero(),
+            entered: [zero(), zero(), zero()],
+            given_up: zero(),
+        }
+    }
+
+    /// Whether each of the three tasks was entered once, and nobody's turns ran out.
+    fn has_paired(&self) -> bool {
+        let has_entered = |times: &AtomicU32| times.load(Ordering::SeqCst) == 1;
+        self.inside.load(Ordering::SeqCst) == 3
+            && self.entered.iter().all(has_entered)
+            && self.given_up.load(Ordering::SeqCst) == 0
+    }
+}
+
 #[test]
 fn gate_two_workers(rt: HostRuntime) -> Result<(), Fail> {
-    let layers = (points(&rt, 20)?, points(&rt, 20)?);
-    let gate = PairGate {
-        inside: zero(),
-        entered: [zero(), zero(), zero()],
-        given_up: zero(),
+    let (shared, gate) = (&rt, &PairGate::new());
+    let way = Way {
+        relation: Relation::Equals,
+        workers: 2,
+        batch: 4,
+        cut: 1,
     };
-    let outcome = deliver(&rt, rt.alloc(), &layers, Relation::Equals, (2, 4, 1), &gate)?;
-    assert!(rt; are_diagonal(outcome.pairs(), 20));
-    assert!(rt; gate.inside.load(Ordering::SeqCst) == 3);
-    for times in &gate.entered {
-        assert!(rt; times.load(Ordering::SeqCst) == 1);
-    }
-    assert!(rt; gate.given_up.load(Ordering::SeqCst) == 0);
+    assert!(rt; on_points(shared, 20, |points| points.passes(shared, way, gate, 20))?);
+    assert!(rt; gate.has_paired());
     Ok(())
 }
 
 const CROSS: &str = "id,wkt\na,\"LINESTRING (0 2, 4 2)\"\nb,\"LINESTRING (2 0, 2 4)\"\n";
 
 /// The layer of two segments that cross, read again where memory is refused.
-fn cross(rt: &HostRuntime) -> Result<Layer, Fail> {
+fn cross<R: RandomSource + AllocGlobal>(rt: &R) -> Result<Layer, Fail> {
     let alloc = rt.alloc();
     let state = RandomState::new(rt)?;
-    match layer_of_bytes(alloc, state, CROSS.as_bytes()) {
+    match layer_of_bytes(alloc, state, CROSS.as_bytes(), whole()?) {
         Ok(layer) => Ok(layer),
-        Err(_) => Ok(layer_of_bytes(alloc, RandomState::new(rt)?, CROSS.as_bytes())?),
+        Err(_) => Ok(layer_of_bytes(alloc, RandomState::new(rt)?, CROSS.as_bytes(), whole()?)?),
     }
+}
+
+/// Whether a join of the layer with itself gives the two pairs that cross, or its fault.
+fn crosses<R: Threads + Wait + Sync + AllocGlobal>(
+    rt: &R,
+    layer: &Layer,
+) -> Result<Result<bool, JoinFault>, Fail> {
+    let relation = JoinRelation::new(Relation::Crosses)?;
+    let options = Options::new(2, 1, 2)?;
+    let outcome = join(rt, rt.alloc(), layer, layer, &relation, &options, &OpenGate);
+    Ok(outcome.map(|outcome| outcome.pairs() == [(0, 1), (1, 0)].as_slice()))
+}
+
+/// The same, joined again where memory is refused.
+fn crosses_at_last<R: Threads + Wait + Sync + AllocGlobal>(
+    rt: &R,
+    layer: &Layer,
+) -> Result<Result<bool, JoinFault>, Fail> {
+    match crosses(rt, layer)? {
+        Err(JoinFault::Memory | JoinFault::NoThread) => crosses(rt, layer),
+        first => Ok(first),
+    }
+}
+
+fn crosses_itself<R: Threads + Wait + Sync + RandomSource + AllocGlobal>(
+    rt: &R,
+) -> Result<Result<bool, JoinFault>, Fail> {
+    crosses_at_last(rt, &cross(rt)?)
 }
 
 // Run with each allocation failing in turn, it ends as with ample memory.
 #[test]
 fn join_without_memory(rt: HostRuntime) -> Result<(), Fail> {
-    let layer = cross(&rt)?;
-    let relation = JoinRelation::new(Relation::Crosses)?;
-    let options = Options::new(2, 1, 2)?;
-    let alloc = rt.alloc();
-    let first = join(&rt, alloc, &layer, &layer, &relation, &options, &OpenGate);
-    let outcome = match first {
-        Err(JoinFault::Memory | JoinFault::NoThread) => {
-            join(&rt, alloc, &layer, &layer, &relation, &options, &OpenGate)
-        }
-        _ => first,
-    };
-    assert!(rt; outcome?.pairs() == [(0, 1), (1, 0)].as_slice());
+    assert!(rt; crosses_itself(&rt)? == Ok(true));
     Ok(())
 }

@@ -6,6 +6,7 @@ use Rattle.std.specs.declared.vec.Vec.{Vec}
 use Rattle.std.specs.declared.alloc.Global.{Global}
 use Rattle.geom_core.specs.declared.shape.Shape.{Shape}
 use Rattle.wkt_core.specs.declared.fault.WktFault.{WktFault}
+use Rattle.wkt_core.specs.declared.scale.Scale.{Scale}
 use Rattle.layer_core.specs.declared.edit.Edit.{Edit}
 use Rattle.layer_core.specs.declared.edit.Side.{Side}
 use Rattle.layer_core.specs.declared.read_fault.ReadFault.{ReadFault}
@@ -23,36 +24,37 @@ abbrev pub insertion : ℕ → Side → List ℕ → Result Shape WktFault → R
 insertion n side id (Ok shape) = Ok (record { side = side; id = id; shape = Some shape })
 insertion n side id (Err fault) = Err (Wkt n fault)
 
-abbrev pub InsertionGives : ℕ → Side → List ℕ → List ℕ → Result EditContent ReadFault → Type 0
-InsertionGives n side id wkt answer =
+abbrev pub InsertionGives : Scale → ℕ → Side → List ℕ → List ℕ → Result EditContent ReadFault
+    → Type 0
+InsertionGives scale n side id wkt answer =
     AfterId n id answer
-    ((shape : Result Shape WktFault) × Reads wkt shape × (answer ≡ insertion n side id shape))
+    ((shape : Result Shape WktFault) × Reads scale wkt shape × (answer ≡ insertion n side id shape))
 
 abbrev pub DeletionGives : ℕ → Side → List ℕ → Result EditContent ReadFault → Type 0
 DeletionGives n side id answer =
     AfterId n id answer (answer ≡ Ok (record { side = side; id = id; shape = None }))
 
-abbrev pub EditRowGives : ℕ → Record → Result EditContent ReadFault → Type 0
-EditRowGives n (op ∷ layer ∷ id ∷ wkt ∷ []) answer =
+abbrev pub EditRowGives : Scale → ℕ → Record → Result EditContent ReadFault → Type 0
+EditRowGives scale n (op ∷ layer ∷ id ∷ wkt ∷ []) answer =
     MatchOption (side_named layer) (answer ≡ Err (Row n)) (λ side.
-    MatchBool (bytes_eq op (codes "insert")) (InsertionGives n side id wkt answer)
+    MatchBool (bytes_eq op (codes "insert")) (InsertionGives scale n side id wkt answer)
     (MatchBool (bytes_eq op (codes "delete") && bytes_eq wkt []) (DeletionGives n side id answer)
     (answer ≡ Err (Row n))))
-EditRowGives n _ answer = answer ≡ Err (Row n)
+EditRowGives scale n _ answer = answer ≡ Err (Row n)
 
 abbrev pub with_edit : List EditContent → Result EditContent ReadFault
     → Result (List EditContent) ReadFault
 with_edit edits (Ok edit) = Ok (edits ++ edit ∷ [])
 with_edit edits (Err fault) = Err fault
 
-abbrev pub EditsRowGives : ℕ → List EditContent → Record → Result (List EditContent) ReadFault
-    → Type 0
-EditsRowGives n edits row answer =
-    (edit : Result EditContent ReadFault) × EditRowGives n row edit
+abbrev pub EditsRowGives : Scale → ℕ → List EditContent → Record
+    → Result (List EditContent) ReadFault → Type 0
+EditsRowGives scale n edits row answer =
+    (edit : Result EditContent ReadFault) × EditRowGives scale n row edit
     × (answer ≡ with_edit edits edit)
 
-abbrev pub IsEditFile : List ℕ → Result (List EditContent) ReadFault → Type 0
-IsEditFile bytes answer = FileGives edit_columns EditsRowGives [] bytes answer
+abbrev pub IsEditFile : Scale → List ℕ → Result (List EditContent) ReadFault → Type 0
+IsEditFile scale bytes answer = FileGives edit_columns (EditsRowGives scale) [] bytes answer
 
 -- a list of edits as what they say, or the fault
 abbrev pub edit_contents : Result (Vec Edit Global) ReadFault → Result (List EditContent) ReadFault

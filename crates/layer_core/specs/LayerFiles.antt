@@ -2,6 +2,7 @@
 use Rattle.std.specs.Prelude.{◌≡◌, ℕ, List, [], ◌∷◌, codes, Option, Some, None, Result, Ok, Err}
 use Rattle.geom_core.specs.declared.shape.Shape.{Shape}
 use Rattle.wkt_core.specs.declared.fault.WktFault.{WktFault}
+use Rattle.wkt_core.specs.declared.scale.Scale.{Scale}
 use Rattle.layer_core.specs.declared.fault.LayerFault.{LayerFault}
 use Rattle.layer_core.specs.declared.fault.LayerFault.TheVariants.{BadId, DoubleId, LayerFull, NoSuchId, Memory}
 use Rattle.layer_core.specs.declared.read_fault.ReadFault.{ReadFault}
@@ -33,11 +34,13 @@ abbrev pub with_row : ℕ → Contents → List ℕ → Result Shape WktFault �
 with_row n layer id (Ok shape) = refused_or n (insert_refusal layer id) (inserted layer id shape)
 with_row n layer id (Err fault) = Err (Wkt n fault)
 
-abbrev pub LayerRowGives : ℕ → Contents → Record → Result Contents ReadFault → Type 0
-LayerRowGives n layer (id ∷ wkt ∷ []) answer =
+-- what the row of this number gives a layer, with numbers read at a scale
+abbrev pub LayerRowGives : Scale → ℕ → Contents → Record → Result Contents ReadFault → Type 0
+LayerRowGives scale n layer (id ∷ wkt ∷ []) answer =
     AfterId n id answer
-    ((shape : Result Shape WktFault) × Reads wkt shape × (answer ≡ with_row n layer id shape))
-LayerRowGives n layer _ answer = answer ≡ Err (Row n)
+    ((shape : Result Shape WktFault) × Reads scale wkt shape × (answer ≡ with_row n layer id shape))
+LayerRowGives scale n layer _ answer = answer ≡ Err (Row n)
 
-abbrev pub IsLayerFile : List ℕ → Result Contents ReadFault → Type 0
-IsLayerFile bytes answer = FileGives layer_columns LayerRowGives empty bytes answer
+abbrev pub IsLayerFile : Scale → List ℕ → Result Contents ReadFault → Type 0
+IsLayerFile scale bytes answer =
+    FileGives layer_columns (LayerRowGives scale) empty bytes answer

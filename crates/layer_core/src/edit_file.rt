@@ -13,6 +13,7 @@ use crate::rows::Rows;
 use crate::source::{Source, read_all};
 use csv::ByteRecord;
 use std::alloc::Global;
+use wkt_core::Scale;
 
 /// The columns of a file of edits.
 const COLUMNS: [&str; 4] = ["op", "layer", "id", "wkt"];
@@ -28,15 +29,20 @@ const COLUMNS: [&str; 4] = ["op", "layer", "id", "wkt"];
 /// first row that has one: [`ReadFault::Row`] where its fields aren't as above, else
 /// [`LayerFault::BadId`], else, in an insertion, [`ReadFault::Wkt`]. [`ReadFault::Memory`] may
 /// come in place of any other.
-pub fn edits_of_bytes(alloc: Global, bytes: &[u8]) -> Result<Vec<Edit>, ReadFault>
-    ensures file { result ≢ Err ReadFault.Memory → IsEditFile bytes.now (edit_contents result) }
+pub fn edits_of_bytes(
+    alloc: Global,
+    bytes: &[u8],
+    scale: Scale,
+) -> Result<Vec<Edit>, ReadFault>
+    ensures file { result ≢ Err ReadFault.Memory
+        → IsEditFile scale bytes.now (edit_contents result) }
     ensures few { IfOk result (λ edits. length edits.items ≤ most_file_bytes) }
     ensures no_io { result ≢ Err ReadFault.Io }
 {
     let mut rows = Rows::open(alloc, bytes, &COLUMNS)?;
     let mut edits = Vec::new(alloc);
     while let Some(number) = rows.next()? {
-        let edit = edit_of_row(alloc, number, rows.row())?;
+        let edit = edit_of_row(alloc, number, rows.row(), scale)?;
         if edits.push(edit).is_err() {
             return Err(ReadFault::Memory);
         }
@@ -48,29 +54,38 @@ pub fn edits_of_bytes(alloc: Global, bytes: &[u8]) -> Result<Vec<Edit>, ReadFaul
 ///
 /// # Errors
 /// Those of [`read_all`], and then those of [`edits_of_bytes`].
-pub fn read_edits<S: Source>(alloc: Global, source: &mut S) -> Result<Vec<Edit>, ReadFault>
+pub fn read_edits<S: Source>(
+    alloc: Global,
+    source: &mut S,
+    scale: Scale,
+) -> Result<Vec<Edit>, ReadFault>
     requires { S.has_failed source.old ≡ false }
     ensures io { IsErrOf result ReadFault.Io ↔ IsTrue (S.has_failed source.new) }
     ensures file { result ≢ Err ReadFault.Io → result ≢ Err ReadFault.Memory
-        → IfSome (S.remaining source.old) (λ bytes. IsEditFile bytes (edit_contents result)) }
+        → IfSome (S.remaining source.old) (λ bytes. IsEditFile scale bytes (edit_contents result)) }
     ensures few { IfOk result (λ edits. length edits.items ≤ most_file_bytes) }
 {
     let bytes = read_all(alloc, source)?;
-    edits_of_bytes(alloc, bytes.as_slice())
+    edits_of_bytes(alloc, bytes.as_slice(), scale)
 }
 
 // The edit of the row with this number.
-fn edit_of_row(alloc: Global, number: u32, row: &ByteRecord) -> Result<Edit, ReadFault>
+fn edit_of_row(
+    alloc: Global,
+    number: u32,
+    row: &ByteRecord,
+    scale: Scale,
+) -> Result<Edit, ReadFault>
     ensures ok { IfOk result
-        (λ edit. EditRowGives number (fields_of row.now) (Ok (content_of edit))) }
+        (λ edit. EditRowGives scale number (fields_of row.now) (Ok (content_of edit))) }
     ensures err { IfErr result (λ fault. fault ≢ ReadFault.Memory
-        → EditRowGives number (fields_of row.now) (Err fault)) }
+        → EditRowGives scale number (fields_of row.now) (Err fault)) }
     ensures no_io { result ≢ Err ReadFault.Io }
 {
     let (op, layer, id, wkt) = four_fields(row).ok_or(ReadFault::Row(number))?;
     let side = side_in(layer).ok_or(ReadFault::Row(number))?;
     if op == b"insert".as_slice() {
-        insertion(alloc, number, side, id, wkt)
+        insertion(alloc, number, side, id, wkt, scale)
     } else if op == b"delete".as_slice() && wkt.is_empty() {
         deletion(alloc, number, side, id)
     } else {
@@ -84,15 +99,16 @@ fn insertion(
     side: Side,
     id: &[u8],
     wkt: &[u8],
+    scale: Scale,
 ) -> Result<Edit, ReadFault>
     ensures ok { IfOk result
-        (λ edit. InsertionGives number side id.now wkt.now (Ok (content_of edit))) }
+        (λ edit. InsertionGives scale number side id.now wkt.now (Ok (content_of edit))) }
     ensures err { IfErr result (λ fault. fault ≢ ReadFault.Memory
-        → InsertionGives number side id.now wkt.now (Err fault)) }
+        → InsertionGives scale number side id.now wkt.now (Err fault)) }
     ensures no_io { result ≢ Err ReadFault.Io }
 {
     let id = id_in(id).ok_or(ReadFault::Layer(number, LayerFault::BadId))?;
-    let shape = wkt_core::read(wkt).map_err(|fault| ReadFault::Wkt(number, fault))?;
+    let shape = wkt_core::read(wkt, scale).map_err(|fault| ReadFault::Wkt(number, fault))?;
     let id = String::from_str(alloc, id)?;
     Ok(Edit::Insert { side, id, shape })
 }

@@ -15,6 +15,7 @@ use crate::source::{Source, read_all};
 use csv::ByteRecord;
 use std::alloc::Global;
 use std::hash::RandomState;
+use wkt_core::Scale;
 
 /// The columns of a layer's file.
 const COLUMNS: [&str; 2] = ["id", "wkt"];
@@ -30,14 +31,19 @@ const COLUMNS: [&str; 2] = ["id", "wkt"];
 /// first row that has one: [`ReadFault::Row`] where it hasn't two fields, else
 /// [`LayerFault::BadId`], else [`ReadFault::Wkt`], else [`LayerFault::DoubleId`], else
 /// [`LayerFault::LayerFull`]. [`ReadFault::Memory`] may come in place of any other.
-pub fn layer_of_bytes(alloc: Global, state: RandomState, bytes: &[u8]) -> Result<Layer, ReadFault>
-    ensures file { result ≢ Err ReadFault.Memory → IsLayerFile bytes.now (list_read result) }
+pub fn layer_of_bytes(
+    alloc: Global,
+    state: RandomState,
+    bytes: &[u8],
+    scale: Scale,
+) -> Result<Layer, ReadFault>
+    ensures file { result ≢ Err ReadFault.Memory → IsLayerFile scale bytes.now (list_read result) }
     ensures no_io { result ≢ Err ReadFault.Io }
 {
     let mut rows = Rows::open(alloc, bytes, &COLUMNS)?;
     let mut loading = Loading::new(alloc, state, line_feeds(bytes).min(MAX_FEATURES))?;
     while let Some(number) = rows.next()? {
-        insert_row(&mut loading, number, rows.row())?;
+        insert_row(&mut loading, number, rows.row(), scale)?;
     }
     Ok(loading.finish(alloc)?)
 }
@@ -50,14 +56,15 @@ pub fn read_layer<S: Source>(
     alloc: Global,
     state: RandomState,
     source: &mut S,
+    scale: Scale,
 ) -> Result<Layer, ReadFault>
     requires { S.has_failed source.old ≡ false }
     ensures io { IsErrOf result ReadFault.Io ↔ IsTrue (S.has_failed source.new) }
     ensures file { result ≢ Err ReadFault.Io → result ≢ Err ReadFault.Memory
-        → IfSome (S.remaining source.old) (λ bytes. IsLayerFile bytes (list_read result)) }
+        → IfSome (S.remaining source.old) (λ bytes. IsLayerFile scale bytes (list_read result)) }
 {
     let bytes = read_all(alloc, source)?;
-    layer_of_bytes(alloc, state, bytes.as_slice())
+    layer_of_bytes(alloc, state, bytes.as_slice(), scale)
 }
 
 fn line_feeds(bytes: &[u8]) -> usize {
@@ -65,15 +72,21 @@ fn line_feeds(bytes: &[u8]) -> usize {
 }
 
 // Inserts the feature of the row with this number.
-fn insert_row(layer: &mut Loading, number: u32, row: &ByteRecord) -> Result<(), ReadFault>
-    ensures ok { OnOk result (LayerRowGives number layer.old (fields_of row.now) (Ok layer.new)) }
+fn insert_row(
+    layer: &mut Loading,
+    number: u32,
+    row: &ByteRecord,
+    scale: Scale,
+) -> Result<(), ReadFault>
+    ensures ok { OnOk result
+        (LayerRowGives scale number layer.old (fields_of row.now) (Ok layer.new)) }
     ensures err { IfErr result (λ fault. fault ≢ ReadFault.Memory
-        → LayerRowGives number layer.old (fields_of row.now) (Err fault)) }
+        → LayerRowGives scale number layer.old (fields_of row.now) (Err fault)) }
     ensures no_io { result ≢ Err ReadFault.Io }
 {
     let (id, wkt) = two_fields(row).ok_or(ReadFault::Row(number))?;
     let id = id_in(id).ok_or(ReadFault::Layer(number, LayerFault::BadId))?;
-    let shape = wkt_core::read(wkt).map_err(|fault| ReadFault::Wkt(number, fault))?;
+    let shape = wkt_core::read(wkt, scale).map_err(|fault| ReadFault::Wkt(number, fault))?;
     match layer.add(id, shape) {
         Ok(()) => Ok(()),
         Err(fault) => Err(ReadFault::of_row(number, fault)),

@@ -1,4 +1,7 @@
 //! What the contracts leave open, and worked examples of what they say.
+//!
+//! The proof of a function grows with the square of its length where it owns a layer. So what is
+//! seen of a layer is told by functions that borrow it, and those that own one only call them.
 
 mod broken;
 mod devices;
@@ -13,17 +16,42 @@ use layer_core::*;
 use std::alloc::{AllocError, Global};
 use std::fmt::Write;
 use std::hash::RandomState;
-use std::process::Abort;
 use std::test::Fail;
+use wkt_core::Scale;
 
 // The point at these coordinates.
 fn point(x: i64, y: i64) -> Result<Shape, Fail> {
     Ok(Shape::new(x, y, x, y).ok_or("a point in range")?)
 }
 
+// The scale of whole numbers.
+fn whole() -> Result<Scale, Fail> {
+    Ok(Scale::new(0).ok_or("a scale")?)
+}
+
 // The layer that these bytes of a file stand for.
 fn layer_of(rt: &HostRuntime, bytes: &[u8]) -> Result<Result<Layer, ReadFault>, Fail> {
-    Ok(layer_of_bytes(rt.alloc(), RandomState::new(rt)?, bytes))
+    Ok(layer_of_bytes(rt.alloc(), RandomState::new(rt)?, bytes, whole()?))
+}
+
+// The fault of a layer's file, if it has one.
+fn fault_of(rt: &HostRuntime, bytes: &[u8]) -> Result<Option<ReadFault>, Fail> {
+    Ok(layer_of(rt, bytes)?.err())
+}
+
+// Whether the layer of these bytes has exactly these features, in this order.
+fn reads_as(rt: &HostRuntime, bytes: &[u8], features: &[(&str, Shape)]) -> Result<bool, Fail> {
+    Ok(has_features(&layer_of(rt, bytes)??, features))
+}
+
+// Whether the layer has exactly these features, in this order and numbered from 0.
+fn has_features(layer: &Layer, features: &[(&str, Shape)]) -> bool {
+    for ((id, shape), number) in features.iter().zip(0..) {
+        if !finds(layer, id, number, *shape) {
+            return false;
+        }
+    }
+    layer.len() == features.len()
 }
 
 // Whether the layer finds this shape under the id, with this number.
@@ -34,6 +62,16 @@ fn finds(layer: &Layer, id: &str, number: u32, shape: Shape) -> bool {
 // A layer with no features.
 fn empty_layer(rt: &HostRuntime) -> Result<Layer, Fail> {
     Ok(Layer::new(rt.alloc(), RandomState::new(rt)?)?)
+}
+
+// What is seen of a layer with no features.
+fn on_empty<F: FnOnce(&mut Layer) -> Result<bool, Fail>>(
+    rt: &HostRuntime,
+    see: F,
+) -> Result<bool, Fail>
+    requires { F.IsAlwaysCallable see }
+{
+    see(&mut empty_layer(rt)?)
 }
 
 // The bytes of a layer file of points (0 0), (1 0), .., with the ids p0, p1, ..

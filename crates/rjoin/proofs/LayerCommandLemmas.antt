@@ -2,6 +2,7 @@
 use Rattle.std.proofs.Common.{◌≡◌, ◌≢◌, ◌↔◌, ℕ, List, Option, Some, None, Bool, Result, Ok, Err, IsErrAnd, ◌⊎◌, inl, inr, IfErr, IfSome, false, refl, sym, subst}
 use Rattle.std.specs.Borrow.{Bor}
 use Rattle.wkt_core.specs.declared.fault.WktFault.{WktFault}
+use Rattle.wkt_core.specs.declared.scale.Scale.{Scale}
 use Rattle.join_core.specs.declared.fault.Input.{Input}
 use Rattle.join_core.specs.declared.fault.Input.TheVariants as input
 use Rattle.join_core.specs.declared.fault.RunFault.{RunFault}
@@ -119,128 +120,135 @@ module _ {S : Type 0} (known : Option Files) (written : S → Option (List ℕ))
 
 -- ---- a window
 
-pub window_reads_one : (path wkt : Bor (List ℕ)) → ReadsOne (Window path wkt) path.now (WindowGives wkt.now)
-window_reads_one path wkt = record { gives = λ at answer. ((λ h. h), (λ h. h)); may_miss = tt; may_lack_keys = tt }
+pub window_reads_one : (scale : Scale) (path wkt : Bor (List ℕ)) → ReadsOne (Window path wkt scale) path.now (WindowGives scale wkt.now)
+window_reads_one scale path wkt = record { gives = λ at answer. ((λ h. h), (λ h. h)); may_miss = tt; may_lack_keys = tt }
 
-pub window_none_first : (path wkt : Bor (List ℕ)) (l : Option (List ℕ)) (g : RunFault) → IsFoundFirst (Window path wkt) g → WindowGives wkt.now l (Err g) → ⊥
-window_none_first path wkt l g found gives = by (Err g) gives refl
+pub window_none_first : (scale : Scale) (path wkt : Bor (List ℕ)) (l : Option (List ℕ)) (g : RunFault) → IsFoundFirst (Window path wkt scale) g
+    → WindowGives scale wkt.now l (Err g) → ⊥
+window_none_first scale path wkt l g found gives = by (Err g) gives refl
   where
-    by : (answer : Result (List ℕ) RunFault) → WindowGives wkt.now l answer → answer ≡ Err g → ⊥
-    by answer (text_fault f a) is = subst (IsFoundFirst (Window path wkt)) (let same : g ≡ run.Wkt input.Window f = cc in same) found
-    by answer (window_layer_fault s f a b) is = subst (IsFoundFirst (Window path wkt)) (let same : g ≡ run.Read input.Layer f = cc in same) found
+    by : (answer : Result (List ℕ) RunFault) → WindowGives scale wkt.now l answer → answer ≡ Err g → ⊥
+    by answer (text_fault f a) is = subst (IsFoundFirst (Window path wkt scale)) (let same : g ≡ run.Wkt input.Window f = cc in same) found
+    by answer (window_layer_fault s f a b) is = subst (IsFoundFirst (Window path wkt scale)) (let same : g ≡ run.Read input.Layer f = cc in same) found
     by answer (listed s layer text a b c) is = cc
 
-window_blamed : (wkt : List ℕ) (l : Option (List ℕ)) (f : RunFault) → IsWindowFault f → ((i : Input) (w : WktFault) → f ≡ run.Wkt i w → HasWindowFault wkt i w)
-    → (BlamesInput f → WindowGives wkt l (Err f)) → BlamesCommand f → WindowGives wkt l (Err f)
-window_blamed wkt l (run.Wkt input.Window w) is named given blame = text_fault w (named input.Window w refl)
-window_blamed wkt l (run.Wkt _ w) is named given blame = absurd is
-window_blamed wkt l (run.NoFile i) is named given blame = absurd is
-window_blamed wkt l (run.Read i r) is named given blame = given blame
-window_blamed wkt l (run.Edit n e) is named given blame = absurd is
-window_blamed wkt l (run.Join j) is named given blame = absurd is
-window_blamed wkt l run.Write is named given blame = absurd is
-window_blamed wkt l run.Memory is named given blame = absurd blame
-window_blamed wkt l run.NoKeys is named given blame = absurd is
+window_blamed : (scale : Scale) (wkt : List ℕ) (l : Option (List ℕ)) (f : RunFault) → IsWindowFault f
+    → ((i : Input) (w : WktFault) → f ≡ run.Wkt i w → HasWindowFault scale wkt i w)
+    → (BlamesInput f → WindowGives scale wkt l (Err f)) → BlamesCommand f → WindowGives scale wkt l (Err f)
+window_blamed scale wkt l (run.Wkt input.Window w) is named given blame = text_fault w (named input.Window w refl)
+window_blamed scale wkt l (run.Wkt _ w) is named given blame = absurd is
+window_blamed scale wkt l (run.NoFile i) is named given blame = absurd is
+window_blamed scale wkt l (run.Read i r) is named given blame = given blame
+window_blamed scale wkt l (run.Edit n e) is named given blame = absurd is
+window_blamed scale wkt l (run.Join j) is named given blame = absurd is
+window_blamed scale wkt l run.Write is named given blame = absurd is
+window_blamed scale wkt l run.Memory is named given blame = absurd blame
+window_blamed scale wkt l run.NoKeys is named given blame = absurd is
 
-window_fault : {T : Type 0} (wkt : List ℕ) (l : Option (List ℕ)) (result : Result T RunFault)
-    → ((i : Input) (w : WktFault) → (result ≡ Err (run.Wkt i w)) ↔ HasWindowFault wkt i w) → IfErr result (λ f. BlamesInput f → WindowGives wkt l (Err f))
-    → IfErr result (λ f. f ≢ run.Write → IsWindowFault f) → IfErr result (λ f. BlamesCommand f → WindowGives wkt l (Err f))
-window_fault wkt l (Ok x) exact fault faults = tt
-window_fault wkt l (Err f) exact fault faults = λ blame.
-    window_blamed wkt l f (faults (λ w. subst BlamesCommand w blame)) (λ i w e. (exact i w).0 (let is : Err f ≡ Err (run.Wkt i w) = cc in is)) fault blame
+window_fault : {T : Type 0} (scale : Scale) (wkt : List ℕ) (l : Option (List ℕ)) (result : Result T RunFault)
+    → ((i : Input) (w : WktFault) → (result ≡ Err (run.Wkt i w)) ↔ HasWindowFault scale wkt i w)
+    → IfErr result (λ f. BlamesInput f → WindowGives scale wkt l (Err f))
+    → IfErr result (λ f. f ≢ run.Write → IsWindowFault f) → IfErr result (λ f. BlamesCommand f → WindowGives scale wkt l (Err f))
+window_fault scale wkt l (Ok x) exact fault faults = tt
+window_fault scale wkt l (Err f) exact fault faults = λ blame.
+    window_blamed scale wkt l f (faults (λ w. subst BlamesCommand w blame)) (λ i w e. (exact i w).0 (let is : Err f ≡ Err (run.Wkt i w) = cc in is)) fault blame
 
-window_exact : {T : Type 0} (path wkt : Bor (List ℕ)) (l : Option (List ℕ)) (result : Result T RunFault)
-    → ((i : Input) (w : WktFault) → (result ≡ Err (run.Wkt i w)) ↔ HasWindowFault wkt.now i w)
-    → (g : RunFault) → IsFoundNext (Window path wkt) g → WindowGives wkt.now l (Err g) → result ≡ Err g
-window_exact path wkt l result exact g found gives = by (Err g) gives refl
+window_exact : {T : Type 0} (scale : Scale) (path wkt : Bor (List ℕ)) (l : Option (List ℕ)) (result : Result T RunFault)
+    → ((i : Input) (w : WktFault) → (result ≡ Err (run.Wkt i w)) ↔ HasWindowFault scale wkt.now i w)
+    → (g : RunFault) → IsFoundNext (Window path wkt scale) g → WindowGives scale wkt.now l (Err g) → result ≡ Err g
+window_exact scale path wkt l result exact g found gives = by (Err g) gives refl
   where
-    by : (answer : Result (List ℕ) RunFault) → WindowGives wkt.now l answer → answer ≡ Err g → result ≡ Err g
+    by : (answer : Result (List ℕ) RunFault) → WindowGives scale wkt.now l answer → answer ≡ Err g → result ≡ Err g
     by answer (text_fault f a) is = let same : g ≡ run.Wkt input.Window f = cc in let told = (exact input.Window f).1 a in cc
     by answer (window_layer_fault s f a b) is =
-        absurd (subst (IsFoundNext (Window path wkt)) (let same : g ≡ run.Read input.Layer f = cc in same) found)
+        absurd (subst (IsFoundNext (Window path wkt scale)) (let same : g ≡ run.Read input.Layer f = cc in same) found)
     by answer (listed s layer text a b c) is = absurd cc
 
-window_allows : (path wkt : Bor (List ℕ)) (f : RunFault) → IsWindowFault f → IsFaultOf (Window path wkt) f
-window_allows path wkt (run.NoFile i) is = absurd is
-window_allows path wkt (run.Wkt i w) is = is
-window_allows path wkt (run.Read i r) is = is
-window_allows path wkt (run.Edit n e) is = is
-window_allows path wkt (run.Join j) is = is
-window_allows path wkt run.Write is = is
-window_allows path wkt run.Memory is = is
-window_allows path wkt run.NoKeys is = tt
+window_allows : (scale : Scale) (path wkt : Bor (List ℕ)) (f : RunFault) → IsWindowFault f → IsFaultOf (Window path wkt scale) f
+window_allows scale path wkt (run.NoFile i) is = absurd is
+window_allows scale path wkt (run.Wkt i w) is = is
+window_allows scale path wkt (run.Read i r) is = is
+window_allows scale path wkt (run.Edit n e) is = is
+window_allows scale path wkt (run.Join j) is = is
+window_allows scale path wkt run.Write is = is
+window_allows scale path wkt run.Memory is = is
+window_allows scale path wkt run.NoKeys is = tt
 
-window_allowed : {T : Type 0} (path wkt : Bor (List ℕ)) (result : Result T RunFault) → IfErr result (λ f. f ≢ run.Write → IsWindowFault f)
-    → IfErr result (λ f. f ≢ run.Write → IsFaultOf (Window path wkt) f)
-window_allowed path wkt (Ok x) faults = tt
-window_allowed path wkt (Err f) faults = λ w. window_allows path wkt f (faults w)
+window_allowed : {T : Type 0} (scale : Scale) (path wkt : Bor (List ℕ)) (result : Result T RunFault) → IfErr result (λ f. f ≢ run.Write → IsWindowFault f)
+    → IfErr result (λ f. f ≢ run.Write → IsFaultOf (Window path wkt scale) f)
+window_allowed scale path wkt (Ok x) faults = tt
+window_allowed scale path wkt (Err f) faults = λ w. window_allows scale path wkt f (faults w)
 
 -- the window was run over the opened file
 pub window_ran : {T S : Type 0} (known : Option Files) (written : S → Option (List ℕ)) (is_flushed has_failed : S → Bool)
-    (path wkt : Bor (List ℕ)) (text : List ℕ) (l : Option (List ℕ)) (old new : S) (result : Result T RunFault)
+    (scale : Scale) (path wkt : Bor (List ℕ)) (text : List ℕ) (l : Option (List ℕ)) (old new : S) (result : Result T RunFault)
     → text ≡ wkt.now → IsAt known path.now l
-    → Ends (λ t. WindowGives text l (Ok t)) written is_flushed has_failed old new result
-    → ((i : Input) (w : WktFault) → (result ≡ Err (run.Wkt i w)) ↔ HasWindowFault text i w)
-    → IfErr result (λ f. BlamesInput f → WindowGives text l (Err f))
-    → IfErr result (λ f. f ≢ run.Write → IsWindowFault f) → CommandEnds known written is_flushed has_failed (Window path wkt) old new result
-window_ran {T} {S} known written is_flushed has_failed path wkt text l old new result same is ends exact fault faults =
-    layer_ran known written is_flushed has_failed (Window path wkt) path.now (WindowGives wkt.now) (window_reads_one path wkt) l old new result is
-    (subst (λ (t : List ℕ). Ends (λ x. WindowGives t l (Ok x)) written is_flushed has_failed old new result) same ends)
-    (window_fault wkt.now l result exact_now
-    (subst (λ (t : List ℕ). IfErr result (λ f. BlamesInput f → WindowGives t l (Err f))) same fault) faults)
-    (window_none_first path wkt l) (window_exact path wkt l result exact_now) (window_allowed path wkt result faults)
+    → Ends (λ t. WindowGives scale text l (Ok t)) written is_flushed has_failed old new result
+    → ((i : Input) (w : WktFault) → (result ≡ Err (run.Wkt i w)) ↔ HasWindowFault scale text i w)
+    → IfErr result (λ f. BlamesInput f → WindowGives scale text l (Err f))
+    → IfErr result (λ f. f ≢ run.Write → IsWindowFault f) → CommandEnds known written is_flushed has_failed (Window path wkt scale) old new result
+window_ran {T} {S} known written is_flushed has_failed scale path wkt text l old new result same is ends exact fault faults =
+    layer_ran known written is_flushed has_failed (Window path wkt scale) path.now (WindowGives scale wkt.now)
+    (window_reads_one scale path wkt) l old new result is
+    (subst (λ (t : List ℕ). Ends (λ x. WindowGives scale t l (Ok x)) written is_flushed has_failed old new result) same ends)
+    (window_fault scale wkt.now l result exact_now
+    (subst (λ (t : List ℕ). IfErr result (λ f. BlamesInput f → WindowGives scale t l (Err f))) same fault) faults)
+    (window_none_first scale path wkt l) (window_exact scale path wkt l result exact_now) (window_allowed scale path wkt result faults)
   where
-    exact_now : (i : Input) (w : WktFault) → (result ≡ Err (run.Wkt i w)) ↔ HasWindowFault wkt.now i w
-    exact_now = subst (λ (t : List ℕ). (i : Input) (w : WktFault) → (result ≡ Err (run.Wkt i w)) ↔ HasWindowFault t i w) same exact
+    exact_now : (i : Input) (w : WktFault) → (result ≡ Err (run.Wkt i w)) ↔ HasWindowFault scale wkt.now i w
+    exact_now = subst (λ (t : List ℕ). (i : Input) (w : WktFault) → (result ≡ Err (run.Wkt i w)) ↔ HasWindowFault scale t i w) same exact
 
 -- ---- counts
 
-pub stats_reads_one : (path : Bor (List ℕ)) → ReadsOne (Stats path) path.now StatsGives
-stats_reads_one path = record { gives = λ at answer. ((λ h. h), (λ h. h)); may_miss = tt; may_lack_keys = tt }
+pub stats_reads_one : (scale : Scale) (path : Bor (List ℕ)) → ReadsOne (Stats path scale) path.now (StatsGives scale)
+stats_reads_one scale path = record { gives = λ at answer. ((λ h. h), (λ h. h)); may_miss = tt; may_lack_keys = tt }
 
-pub stats_none_first : (path : Bor (List ℕ)) (l : Option (List ℕ)) (g : RunFault) → IsFoundFirst (Stats path) g → StatsGives l (Err g) → ⊥
-stats_none_first path l g found gives = by (Err g) gives refl
+pub stats_none_first : (scale : Scale) (path : Bor (List ℕ)) (l : Option (List ℕ)) (g : RunFault) → IsFoundFirst (Stats path scale) g
+    → StatsGives scale l (Err g) → ⊥
+stats_none_first scale path l g found gives = by (Err g) gives refl
   where
-    by : (answer : Result (List ℕ) RunFault) → StatsGives l answer → answer ≡ Err g → ⊥
-    by answer (stats_fault f a) is = subst (IsFoundFirst (Stats path)) (let same : g ≡ run.Read input.Layer f = cc in same) found
+    by : (answer : Result (List ℕ) RunFault) → StatsGives scale l answer → answer ≡ Err g → ⊥
+    by answer (stats_fault f a) is = subst (IsFoundFirst (Stats path scale)) (let same : g ≡ run.Read input.Layer f = cc in same) found
     by answer (counted layer a b) is = cc
 
-stats_blamed : (l : Option (List ℕ)) (f : RunFault) → IsStatsFault f → (BlamesInput f → StatsGives l (Err f)) → BlamesCommand f → StatsGives l (Err f)
-stats_blamed l (run.Wkt i w) is given blame = absurd is
-stats_blamed l (run.NoFile i) is given blame = absurd is
-stats_blamed l (run.Read i r) is given blame = given blame
-stats_blamed l (run.Edit n e) is given blame = absurd is
-stats_blamed l (run.Join j) is given blame = absurd is
-stats_blamed l run.Write is given blame = absurd is
-stats_blamed l run.Memory is given blame = absurd blame
-stats_blamed l run.NoKeys is given blame = absurd is
+stats_blamed : (scale : Scale) (l : Option (List ℕ)) (f : RunFault) → IsStatsFault f → (BlamesInput f → StatsGives scale l (Err f)) → BlamesCommand f
+    → StatsGives scale l (Err f)
+stats_blamed scale l (run.Wkt i w) is given blame = absurd is
+stats_blamed scale l (run.NoFile i) is given blame = absurd is
+stats_blamed scale l (run.Read i r) is given blame = given blame
+stats_blamed scale l (run.Edit n e) is given blame = absurd is
+stats_blamed scale l (run.Join j) is given blame = absurd is
+stats_blamed scale l run.Write is given blame = absurd is
+stats_blamed scale l run.Memory is given blame = absurd blame
+stats_blamed scale l run.NoKeys is given blame = absurd is
 
-stats_fault_of : {T : Type 0} (l : Option (List ℕ)) (result : Result T RunFault) → IfErr result (λ f. BlamesInput f → StatsGives l (Err f))
-    → IfErr result (λ f. f ≢ run.Write → IsStatsFault f) → IfErr result (λ f. BlamesCommand f → StatsGives l (Err f))
-stats_fault_of l (Ok x) fault faults = tt
-stats_fault_of l (Err f) fault faults = λ blame. stats_blamed l f (faults (λ w. subst BlamesCommand w blame)) fault blame
+stats_fault_of : {T : Type 0} (scale : Scale) (l : Option (List ℕ)) (result : Result T RunFault)
+    → IfErr result (λ f. BlamesInput f → StatsGives scale l (Err f))
+    → IfErr result (λ f. f ≢ run.Write → IsStatsFault f) → IfErr result (λ f. BlamesCommand f → StatsGives scale l (Err f))
+stats_fault_of scale l (Ok x) fault faults = tt
+stats_fault_of scale l (Err f) fault faults = λ blame. stats_blamed scale l f (faults (λ w. subst BlamesCommand w blame)) fault blame
 
-stats_allows : (path : Bor (List ℕ)) (f : RunFault) → IsStatsFault f → IsFaultOf (Stats path) f
-stats_allows path (run.NoFile i) is = absurd is
-stats_allows path (run.Wkt i w) is = is
-stats_allows path (run.Read i r) is = is
-stats_allows path (run.Edit n e) is = is
-stats_allows path (run.Join j) is = is
-stats_allows path run.Write is = is
-stats_allows path run.Memory is = is
-stats_allows path run.NoKeys is = tt
+stats_allows : (scale : Scale) (path : Bor (List ℕ)) (f : RunFault) → IsStatsFault f → IsFaultOf (Stats path scale) f
+stats_allows scale path (run.NoFile i) is = absurd is
+stats_allows scale path (run.Wkt i w) is = is
+stats_allows scale path (run.Read i r) is = is
+stats_allows scale path (run.Edit n e) is = is
+stats_allows scale path (run.Join j) is = is
+stats_allows scale path run.Write is = is
+stats_allows scale path run.Memory is = is
+stats_allows scale path run.NoKeys is = tt
 
-stats_allowed : {T : Type 0} (path : Bor (List ℕ)) (result : Result T RunFault) → IfErr result (λ f. f ≢ run.Write → IsStatsFault f)
-    → IfErr result (λ f. f ≢ run.Write → IsFaultOf (Stats path) f)
-stats_allowed path (Ok x) faults = tt
-stats_allowed path (Err f) faults = λ w. stats_allows path f (faults w)
+stats_allowed : {T : Type 0} (scale : Scale) (path : Bor (List ℕ)) (result : Result T RunFault) → IfErr result (λ f. f ≢ run.Write → IsStatsFault f)
+    → IfErr result (λ f. f ≢ run.Write → IsFaultOf (Stats path scale) f)
+stats_allowed scale path (Ok x) faults = tt
+stats_allowed scale path (Err f) faults = λ w. stats_allows scale path f (faults w)
 
 -- the counts were made of the opened file
 pub stats_ran : {T S : Type 0} (known : Option Files) (written : S → Option (List ℕ)) (is_flushed has_failed : S → Bool)
-    (path : Bor (List ℕ)) (l : Option (List ℕ)) (old new : S) (result : Result T RunFault) → IsAt known path.now l
-    → Ends (λ t. StatsGives l (Ok t)) written is_flushed has_failed old new result
-    → IfErr result (λ f. BlamesInput f → StatsGives l (Err f))
-    → IfErr result (λ f. f ≢ run.Write → IsStatsFault f) → CommandEnds known written is_flushed has_failed (Stats path) old new result
-stats_ran known written is_flushed has_failed path l old new result is ends fault faults =
-    layer_ran known written is_flushed has_failed (Stats path) path.now StatsGives (stats_reads_one path) l old new result is ends
-    (stats_fault_of l result fault faults) (stats_none_first path l) (λ g nothing. absurd nothing) (stats_allowed path result faults)
+    (scale : Scale) (path : Bor (List ℕ)) (l : Option (List ℕ)) (old new : S) (result : Result T RunFault) → IsAt known path.now l
+    → Ends (λ t. StatsGives scale l (Ok t)) written is_flushed has_failed old new result
+    → IfErr result (λ f. BlamesInput f → StatsGives scale l (Err f))
+    → IfErr result (λ f. f ≢ run.Write → IsStatsFault f) → CommandEnds known written is_flushed has_failed (Stats path scale) old new result
+stats_ran known written is_flushed has_failed scale path l old new result is ends fault faults =
+    layer_ran known written is_flushed has_failed (Stats path scale) path.now (StatsGives scale) (stats_reads_one scale path) l old new result is ends
+    (stats_fault_of scale l result fault faults) (stats_none_first scale path l) (λ g nothing. absurd nothing) (stats_allowed scale path result faults)

@@ -3,6 +3,7 @@ use Rattle.std.specs.Prelude.{◌≡◌, ◌≢◌, ⊤, ℕ, List, Option, Some
 use Rattle.std.specs.Borrow.{Bor}
 use Rattle.geom_core.specs.declared.relation.Relation.{Relation as RelationType}
 use Rattle.geom_core.specs.JoinRelations.{relation_of}
+use Rattle.wkt_core.specs.declared.scale.Scale.{Scale}
 use Rattle.join_core.specs.declared.fault.Input.{Input}
 use Rattle.join_core.specs.declared.fault.Input.TheVariants as input
 use Rattle.join_core.specs.declared.fault.RunFault.{RunFault}
@@ -31,28 +32,29 @@ AfterEdits at (Some path) answer Then =
     AfterOpening input.Edits (at path.now) answer (λ bytes. Then (Some (Some bytes)))
 
 -- the join of the files at these paths, which are opened in the order left, right, edits
-abbrev pub PathsGive : Files → List ℕ → List ℕ → Option (Bor (List ℕ)) → RelationType
+abbrev pub PathsGive : Scale → Files → List ℕ → List ℕ → Option (Bor (List ℕ)) → RelationType
     → Result (List ℕ) RunFault → Type 0
-PathsGive at left right edits relation answer =
+PathsGive scale at left right edits relation answer =
     AfterOpening input.Left (at left) answer (λ l.
     AfterOpening input.Right (at right) answer (λ r.
     AfterEdits at edits answer (λ e.
-    JoinGives relation (record { left = Some l; right = Some r; edits = e }) answer)))
+    JoinGives relation (record { scale = scale; left = Some l; right = Some r; edits = e })
+    answer)))
 
 -- the matrix of two texts, or the first that is at fault
-abbrev pub TextsGive : List ℕ → List ℕ → Result (List ℕ) RunFault → Type 0
-TextsGive a b (Ok line) = IsMatrixLine a b line
-TextsGive a b (Err (run.Wkt input fault)) = HasFirstFault a b input fault
-TextsGive a b (Err _) = ⊥
+abbrev pub TextsGive : Scale → List ℕ → List ℕ → Result (List ℕ) RunFault → Type 0
+TextsGive scale a b (Ok line) = IsMatrixLine scale a b line
+TextsGive scale a b (Err (run.Wkt input fault)) = HasFirstFault scale a b input fault
+TextsGive scale a b (Err _) = ⊥
 
 abbrev pub CommandGives : Files → Command → Result (List ℕ) RunFault → Type 0
-CommandGives at (Relate a b) answer = TextsGive a.now b.now answer
-CommandGives at (Join left right edits relation options) answer =
-    PathsGive at left.now right.now edits (relation_of relation) answer
-CommandGives at (Window path wkt) answer =
-    AfterOpening input.Layer (at path.now) answer (λ l. WindowGives wkt.now (Some l) answer)
-CommandGives at (Stats path) answer =
-    AfterOpening input.Layer (at path.now) answer (λ l. StatsGives (Some l) answer)
+CommandGives at (Relate a b scale) answer = TextsGive scale a.now b.now answer
+CommandGives at (Join left right edits relation options scale) answer =
+    PathsGive scale at left.now right.now edits (relation_of relation) answer
+CommandGives at (Window path wkt scale) answer =
+    AfterOpening input.Layer (at path.now) answer (λ l. WindowGives scale wkt.now (Some l) answer)
+CommandGives at (Stats path scale) answer =
+    AfterOpening input.Layer (at path.now) answer (λ l. StatsGives scale (Some l) answer)
 
 -- the text that a command writes, where it is known what lies at its paths
 abbrev pub IsCommandText : Option Files → Command → List ℕ → Type 0
@@ -66,27 +68,27 @@ BlamesCommand fault = BlamesInput fault
 
 -- a fault that is found before keys are asked for and any memory is taken
 abbrev pub IsFoundFirst : Command → RunFault → Type 0
-IsFoundFirst (Relate a b) (run.Wkt input fault) = ⊤
+IsFoundFirst (Relate a b scale) (run.Wkt input fault) = ⊤
 IsFoundFirst _ (run.NoFile input) = ⊤
 IsFoundFirst _ _ = ⊥
 
 -- a fault that is found next, once there are keys: that of a window's text
 abbrev pub IsFoundNext : Command → RunFault → Type 0
-IsFoundNext (Window path wkt) (run.Wkt input fault) = ⊤
+IsFoundNext (Window path wkt scale) (run.Wkt input fault) = ⊤
 IsFoundNext _ _ = ⊥
 
 -- a fault that a command may have, that of its sink aside
 abbrev pub IsFaultOf : Command → RunFault → Type 0
-IsFaultOf (Relate a b) fault = IsTextFault fault
-IsFaultOf (Join left right edits relation options) (run.NoFile input) = ⊤
-IsFaultOf (Join left right edits relation options) run.NoKeys = ⊤
-IsFaultOf (Join left right edits relation options) fault = IsJoinFault fault
-IsFaultOf (Window path wkt) (run.NoFile input.Layer) = ⊤
-IsFaultOf (Window path wkt) run.NoKeys = ⊤
-IsFaultOf (Window path wkt) fault = IsWindowFault fault
-IsFaultOf (Stats path) (run.NoFile input.Layer) = ⊤
-IsFaultOf (Stats path) run.NoKeys = ⊤
-IsFaultOf (Stats path) fault = IsStatsFault fault
+IsFaultOf (Relate a b scale) fault = IsTextFault fault
+IsFaultOf (Join left right edits relation options scale) (run.NoFile input) = ⊤
+IsFaultOf (Join left right edits relation options scale) run.NoKeys = ⊤
+IsFaultOf (Join left right edits relation options scale) fault = IsJoinFault fault
+IsFaultOf (Window path wkt scale) (run.NoFile input.Layer) = ⊤
+IsFaultOf (Window path wkt scale) run.NoKeys = ⊤
+IsFaultOf (Window path wkt scale) fault = IsWindowFault fault
+IsFaultOf (Stats path scale) (run.NoFile input.Layer) = ⊤
+IsFaultOf (Stats path scale) run.NoKeys = ⊤
+IsFaultOf (Stats path scale) fault = IsStatsFault fault
 
 -- how a command ends: what it writes, which fault it names, exactly those that are found first and
 -- next, and no others

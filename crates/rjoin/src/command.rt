@@ -17,6 +17,7 @@ use std::hash::RandomState;
 use std::random::RandomSource;
 use std::sync::Wait;
 use std::thread::Threads;
+use wkt_core::Scale;
 
 /// The status of a command that failed.
 pub const FAILED: u8 = 1;
@@ -57,40 +58,65 @@ fn execute<R: RandomSource + AllocGlobal + Threads + Wait + Sync, I: Inputs, O: 
         command.now output.old output.new result }
 {
     match command {
-        Command::Relate { a, b } => run_relate(a.as_bytes(), b.as_bytes(), output),
+        Command::Relate { a, b, scale } => {
+            run_relate(*scale, a.as_bytes(), b.as_bytes(), output)
+        }
         Command::Join {
             left_path,
             right_path,
             edits_path,
             relation,
             options,
+            scale,
         } => {
-            let left = open_input(inputs, Input::Left, left_path)?;
-            let right = open_input(inputs, Input::Right, right_path)?;
-            let edits = open_edits(inputs, *edits_path)?;
-            let states = (hash_state(rt)?, hash_state(rt)?);
-            let mut sources = JoinSources { left, right, edits };
-            run_join(
-                rt,
-                rt.alloc(),
-                states,
-                &mut sources,
-                relation,
-                options,
-                &OpenGate,
-                output,
-            )
+            let paths = (*left_path, *right_path, *edits_path);
+            execute_join(rt, inputs, paths, relation, options, *scale, output)
         }
-        Command::Window { path, wkt } => {
+        Command::Window { path, wkt, scale } => {
             let mut layer = open_input(inputs, Input::Layer, path)?;
             let state = hash_state(rt)?;
-            run_window(rt.alloc(), state, &mut layer, wkt.as_bytes(), output)
+            let wkt = wkt.as_bytes();
+            run_window(rt.alloc(), state, *scale, &mut layer, wkt, output)
         }
-        Command::Stats { path } => {
+        Command::Stats { path, scale } => {
             let mut layer = open_input(inputs, Input::Layer, path)?;
-            run_stats(rt.alloc(), hash_state(rt)?, &mut layer, output)
+            run_stats(rt.alloc(), hash_state(rt)?, *scale, &mut layer, output)
         }
     }
+}
+
+/// Joins the layers at the first two paths, after the edits at the third.
+fn execute_join<R: RandomSource + AllocGlobal + Threads + Wait + Sync, I: Inputs, O: Sink>(
+    rt: &R,
+    inputs: &I,
+    paths: (&str, &str, Option<&str>),
+    relation: &JoinRelation,
+    options: &Options,
+    scale: Scale,
+    output: &mut O,
+) -> Result<(), RunFault>
+    requires { O.has_failed output.old ≡ false }
+    ensures { CommandEnds (I.files inputs.now) O.written O.is_flushed O.has_failed
+        (Command.Join paths.entry.0 paths.entry.1 paths.entry.2 relation.now options.now scale)
+        output.old output.new result }
+{
+    let (left_path, right_path, edits_path) = paths;
+    let left = open_input(inputs, Input::Left, left_path)?;
+    let right = open_input(inputs, Input::Right, right_path)?;
+    let edits = open_edits(inputs, edits_path)?;
+    let states = (hash_state(rt)?, hash_state(rt)?);
+    let mut sources = JoinSources { left, right, edits };
+    run_join(
+        rt,
+        rt.alloc(),
+        states,
+        scale,
+        &mut sources,
+        relation,
+        options,
+        &OpenGate,
+        output,
+    )
 }
 
 /// The file of an input.

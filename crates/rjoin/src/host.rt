@@ -1,9 +1,10 @@
 //! The files of the host.
 
-use crate::inputs::{Inputs, NotOpened};
+use crate::inputs::{Inputs, NotOpened, STANDARD_INPUT};
 use layer_core::FromRead;
-use std::fs;
+use std::io::{Input, Read};
 use std::rt::Files;
+use std::{fs, io};
 
 /// The files of the host, of which nothing is known before they are read.
 #[derive(Drop)]
@@ -11,12 +12,31 @@ pub struct HostFiles<'a, R> {
     pub rt: &'a R,
 }
 
-impl<'a, R: Files> Inputs for HostFiles<'a, R> {
-    type File = FromRead<R::File>;
+/// What lies at a path of the host.
+#[derive(Drop)]
+pub enum HostFile<F, S> {
+    Named(F),
+    StandardInput(S),
+}
 
-    fn open(&self, path: &str) -> Result<FromRead<R::File>, NotOpened> {
+impl<F: Read, S: Read> Read for HostFile<F, S> {
+    fn read(&mut self, buffer: &mut [u8]) -> io::Result<usize> {
+        match self {
+            HostFile::Named(file) => file.read(buffer),
+            HostFile::StandardInput(reader) => reader.read(buffer),
+        }
+    }
+}
+
+impl<'a, R: Files + Input> Inputs for HostFiles<'a, R> {
+    type File = FromRead<HostFile<R::File, R::Reader>>;
+
+    fn open(&self, path: &str) -> Result<FromRead<HostFile<R::File, R::Reader>>, NotOpened> {
+        if path == STANDARD_INPUT {
+            return Ok(FromRead::new(HostFile::StandardInput(self.rt.reader())));
+        }
         match fs::open(self.rt, path) {
-            Ok(file) => Ok(FromRead::new(file)),
+            Ok(file) => Ok(FromRead::new(HostFile::Named(file))),
             Err(_) => Err(NotOpened),
         }
     }

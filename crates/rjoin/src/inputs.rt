@@ -5,6 +5,9 @@ ghost use Rattle.rjoin.specs.Opening.{Opens};
 
 use layer_core::Source;
 
+/// The path at which standard input lies.
+pub const STANDARD_INPUT: &str = "-";
+
 /// A file can't be opened.
 #[derive(Clone, Copy, Debug, PartialEq, Eq)]
 pub struct NotOpened;

@@ -5,6 +5,7 @@ mod command;
 mod host;
 mod inputs;
 mod program;
+mod usage;
 mod word_line;
 mod words;
 

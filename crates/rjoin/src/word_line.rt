@@ -20,6 +20,7 @@ pub fn word_status(fault: &WordFault) -> u8
         WordFault::Relation(_) => 2,
         WordFault::AllowsDisjoint => 2,
         WordFault::Options(_) => 2,
+        WordFault::Scale => 2,
         WordFault::Memory => 1,
     }
 }
@@ -47,6 +48,7 @@ pub fn word_line<S: Sink>(fault: &WordFault, sink: &mut S) -> Result<(), WriteFa
             line.push(AllowsDisjoint.text());
         }
         WordFault::Options(fault) => line.push(fault.text()),
+        WordFault::Scale => line.push("--scale must be 0 to 6"),
         WordFault::Memory => line.push("no memory"),
     }
     line.write(sink)

@@ -3,11 +3,14 @@
 ghost use Rattle.std.specs.Prelude.{◌≡◌};
 ghost use Rattle.rjoin.specs.declared.words.WordFault.TheVariants as word_faults;
 
+use crate::inputs::STANDARD_INPUT;
+use crate::usage::usage;
+use clap::ArgMatches;
 use clap::error::ErrorKind;
-use clap::{Arg, ArgMatches, value_parser};
 use geom_core::{AllowsDisjoint, JoinRelation, MaskFault, Relation};
 use join_core::{OptionFault, Options};
 use std::alloc::{AllocError, Global};
+use wkt_core::Scale;
 
 /// What the program is asked to do. Texts and paths are borrowed from the words.
 #[derive(Clone, Copy, Debug, PartialEq, Eq)]
@@ -16,6 +19,7 @@ pub enum Command<'a> {
     Relate {
         a: &'a str,
         b: &'a str,
+        scale: Scale,
     },
     /// Write the pairs of features of two layers that stand in a relation, after edits.
     Join {
@@ -24,15 +28,18 @@ pub enum Command<'a> {
         edits_path: Option<&'a str>,
         relation: JoinRelation,
         options: Options,
+        scale: Scale,
     },
     /// Write the ids of a layer's features that meet the geometry of a text.
     Window {
         path: &'a str,
         wkt: &'a str,
+        scale: Scale,
     },
     /// Write counts of a layer's features.
     Stats {
         path: &'a str,
+        scale: Scale,
     },
 }
 
@@ -47,6 +54,8 @@ pub enum WordFault {
     AllowsDisjoint,
     /// A number is out of its range.
     Options(OptionFault),
+    /// More decimals are asked for than a coordinate keeps.
+    Scale,
     /// Memory ran out.
     Memory,
 }
@@ -101,33 +110,55 @@ pub fn read_words<'a>(alloc: Global, words: &'a [&'a str]) -> Result<Command<'a>
 fn read_relate<'a>(alloc: Global, given: &ArgMatches<'a>) -> Result<Command<'a>, WordFault> {
     let a = required(alloc, given, "A")?;
     let b = required(alloc, given, "B")?;
-    Ok(Command::Relate { a, b })
+    let scale = read_scale(alloc, given)?;
+    Ok(Command::Relate { a, b, scale })
 }
 
 fn read_join<'a>(alloc: Global, given: &ArgMatches<'a>) -> Result<Command<'a>, WordFault> {
     let left_path = required(alloc, given, "LEFT")?;
     let right_path = required(alloc, given, "RIGHT")?;
+    let edits_path = given.get_str("edits");
+    refuse_shared_input(alloc, &[Some(left_path), Some(right_path), edits_path])?;
     let relation = Relation::read(required(alloc, given, "relation")?.as_bytes())?;
     let relation = JoinRelation::new(relation)?;
     let options = read_options(alloc, given)?;
+    let scale = read_scale(alloc, given)?;
     Ok(Command::Join {
         left_path,
         right_path,
-        edits_path: given.get_str("edits"),
+        edits_path,
         relation,
         options,
+        scale,
+    })
+}
+
+/// Refuses two files that are both to be read from standard input, which can be read only once.
+fn refuse_shared_input(alloc: Global, paths: &[Option<&str>]) -> Result<(), WordFault> {
+    let mut sharing = paths.iter().filter(|path| **path == Some(STANDARD_INPUT));
+    if sharing.nth(1).is_none() {
+        return Ok(());
+    }
+    Err(WordFault::Usage {
+        text: String::from_str(
+            alloc,
+            "error: only one of LEFT, RIGHT and --edits can be -\n",
+        )?,
+        help: false,
     })
 }
 
 fn read_window<'a>(alloc: Global, given: &ArgMatches<'a>) -> Result<Command<'a>, WordFault> {
     let path = required(alloc, given, "LAYER")?;
     let wkt = required(alloc, given, "WKT")?;
-    Ok(Command::Window { path, wkt })
+    let scale = read_scale(alloc, given)?;
+    Ok(Command::Window { path, wkt, scale })
 }
 
 fn read_stats<'a>(alloc: Global, given: &ArgMatches<'a>) -> Result<Command<'a>, WordFault> {
     let path = required(alloc, given, "LAYER")?;
-    Ok(Command::Stats { path })
+    let scale = read_scale(alloc, given)?;
+    Ok(Command::Stats { path, scale })
 }
 
 fn read_options(alloc: Global, given: &ArgMatches<'_>) -> Result<Options, WordFault> {
@@ -137,69 +168,11 @@ fn read_options(alloc: Global, given: &ArgMatches<'_>) -> Result<Options, WordFa
     Ok(Options::new(workers, batch, cut)?)
 }
 
-/// What `clap` is told of the commands.
-fn usage<'a>(alloc: Global) -> Result<clap::Command<'a>, AllocError> {
-    clap::Command::new(alloc, "rjoin")
-        .about("Joins two layers of geometries by a spatial relation")
-        .version("0.1.0")
-        .subcommand_required(true)
-        .subcommand(relate_usage(alloc)?)?
-        .subcommand(join_usage(alloc)?)?
-        .subcommand(window_usage(alloc)?)?
-        .subcommand(stats_usage(alloc)?)
-}
-
-fn relate_usage<'a>(alloc: Global) -> Result<clap::Command<'a>, AllocError> {
-    clap::Command::new(alloc, "relate")
-        .about("Writes the DE-9IM matrix of two geometries")
-        .arg(positional(alloc, "A", "First geometry, as well-known text"))?
-        .arg(positional(alloc, "B", "Second geometry, as well-known text"))
-}
-
-fn join_usage<'a>(alloc: Global) -> Result<clap::Command<'a>, AllocError> {
-    let relation = Arg::new(alloc, "relation")
-        .long("relation")
-        .help("Name of a relation, or mask of nine letters")
-        .required(true);
-    let edits = Arg::new(alloc, "edits")
-        .long("edits")
-        .help("CSV file of edits, which are made before the join");
-    clap::Command::new(alloc, "join")
-        .about("Writes the pairs of features of two layers that stand in a relation")
-        .arg(positional(alloc, "LEFT", "CSV file of the left layer"))?
-        .arg(positional(alloc, "RIGHT", "CSV file of the right layer"))?
-        .arg(relation)?
-        .arg(edits)?
-        .arg(numeric(alloc, "workers", "Threads that join, 1 to 16", "4"))?
-        .arg(numeric(alloc, "batch", "Pairs a batch, 1 to 4096", "256"))?
-        .arg(numeric(alloc, "cut", "Rounds of cutting into tasks, 0 to 8", "2"))
-}
-
-fn window_usage<'a>(alloc: Global) -> Result<clap::Command<'a>, AllocError> {
-    clap::Command::new(alloc, "window")
-        .about("Writes the ids of the features of a layer that meet a geometry")
-        .arg(positional(alloc, "LAYER", "CSV file of the layer"))?
-        .arg(positional(alloc, "WKT", "Geometry of the window, as well-known text"))
-}
-
-fn stats_usage<'a>(alloc: Global) -> Result<clap::Command<'a>, AllocError> {
-    clap::Command::new(alloc, "stats")
-        .about("Counts the features of a layer by kind, and the levels of its tree")
-        .arg(positional(alloc, "LAYER", "CSV file of the layer"))
-}
-
-/// An argument that has to be given, by its place.
-fn positional<'a>(alloc: Global, name: &'a str, help: &'a str) -> Arg<'a> {
-    Arg::new(alloc, name).help(help).required(true)
-}
-
-/// An option that is a whole number.
-fn numeric<'a>(alloc: Global, name: &'a str, help: &'a str, default: &'a str) -> Arg<'a> {
-    Arg::new(alloc, name)
-        .long(name)
-        .help(help)
-        .value_parser(value_parser!(u32))
-        .default_value(default)
+fn read_scale(alloc: Global, given: &ArgMatches<'_>) -> Result<Scale, WordFault> {
+    match Scale::new(number(alloc, given, "scale")?) {
+        Some(scale) => Ok(scale),
+        None => Err(WordFault::Scale),
+    }
 }
 
 /// The value of an argument that `clap` requires.

@@ -9,7 +9,7 @@ ghost use Rattle.split_core.specs.Covers.{IsLeastCover};
 use geom_core::{Area, Shape};
 
 /// A difference of areas, which may be below 0.
-pub type AreaDifference = i64;
+pub type AreaDifference = i128;
 
 /// What an R-tree can hold: it has a cover, the smallest shape that contains it.
 pub trait Covered {

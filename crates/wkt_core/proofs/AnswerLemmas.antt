@@ -6,6 +6,7 @@ use Rattle.wkt_core.specs.declared.fault.WktFault.{WktFault}
 use Rattle.wkt_core.specs.declared.fault.WktFault.TheVariants.{Text, Number, Form}
 use Rattle.wkt_core.specs.declared.keyword.Keyword.{Keyword}
 use Rattle.wkt_core.specs.declared.position.Position.{Position}
+use Rattle.wkt_core.specs.declared.scale.Scale.{Scale}
 use Rattle.wkt_core.specs.Grammar.{RawPoint, Raw}
 use Rattle.wkt_core.specs.Spelling.{AllNumbersGood, positions, Forms, Spells}
 use Rattle.wkt_core.specs.Readings.{Reads}
@@ -22,75 +23,76 @@ forms_same keyword [] s t h k = absurd h
 forms_same keyword (ps ∷ []) s t h k = draws_same keyword ps s t h k
 forms_same keyword (ps ∷ qs ∷ lists) s t h k = absurd h
 
--- ---- of a text with a raw form
-
-module _ (text : List ℕ) (keyword : Keyword) (lists : List (List RawPoint)) (raw : Raw text keyword lists) where
-  forms_here : (l : Keyword) (ys : List (List RawPoint)) (s : Shape) → Raw text l ys → Forms l (positions ys) s → Forms keyword (positions lists) s
-  forms_here l ys s h f =
-      let same = one_raw_form text l keyword ys lists h raw in
-      subst (λ v. Forms v (positions lists) s) same.0 (subst (λ v. Forms l (positions v) s) same.1 f)
-
-  good_here : (l : Keyword) (ys : List (List RawPoint)) → Raw text l ys → AllNumbersGood ys → AllNumbersGood lists
-  good_here l ys h g = subst AllNumbersGood (one_raw_form text l keyword ys lists h raw).1 g
-
-  pub spelled : (s : Shape) → Spells text s → AllNumbersGood lists × Forms keyword (positions lists) s
-  spelled s h = (good_here h.keyword h.lists h.raw h.good, forms_here h.keyword h.lists s h.raw h.forms)
-
--- a text spells one shape
-pub one_shape : (text : List ℕ) (s t : Shape) → Spells text s → Spells text t → s ≡ t
-one_shape text s t h k = forms_same h.keyword (positions h.lists) s t h.forms (spelled text h.keyword h.lists h.raw t k).1
-
--- ---- readings
-
--- a text reads as one answer
-pub one_reading : (text : List ℕ) (a b : Result Shape WktFault) → Reads text a → Reads text b → a ≡ b
-one_reading text (Ok s) (Ok t) h k = ap Ok (one_shape text s t h k)
-one_reading text (Ok s) (Err Text) h k = absurd (k h.keyword h.lists h.raw)
-one_reading text (Ok s) (Err Number) h k = absurd (k.bad (spelled text k.keyword k.lists k.raw s h).0)
-one_reading text (Ok s) (Err Form) h k = absurd (k.formless s (spelled text k.keyword k.lists k.raw s h).1)
-one_reading text (Err Text) (Ok t) h k = absurd (h k.keyword k.lists k.raw)
-one_reading text (Err Text) (Err Text) h k = refl
-one_reading text (Err Text) (Err Number) h k = absurd (h k.keyword k.lists k.raw)
-one_reading text (Err Text) (Err Form) h k = absurd (h k.keyword k.lists k.raw)
-one_reading text (Err Number) (Ok t) h k = absurd (h.bad (spelled text h.keyword h.lists h.raw t k).0)
-one_reading text (Err Number) (Err Text) h k = absurd (k h.keyword h.lists h.raw)
-one_reading text (Err Number) (Err Number) h k = refl
-one_reading text (Err Number) (Err Form) h k = absurd (h.bad (good_here text h.keyword h.lists h.raw k.keyword k.lists k.raw k.good))
-one_reading text (Err Form) (Ok t) h k = absurd (h.formless t (spelled text h.keyword h.lists h.raw t k).1)
-one_reading text (Err Form) (Err Text) h k = absurd (k h.keyword h.lists h.raw)
-one_reading text (Err Form) (Err Number) h k = absurd (k.bad (good_here text k.keyword k.lists k.raw h.keyword h.lists h.raw h.good))
-one_reading text (Err Form) (Err Form) h k = refl
-
 -- the one answer that a text reads as
-pub record IsReading (text : List ℕ) (answer : Result Shape WktFault) : Type 0 where
-  pub reads : Reads text answer
-  pub only : (other : Result Shape WktFault) → Reads text other → answer ≡ other
+pub record IsReading (scale : Scale) (text : List ℕ) (answer : Result Shape WktFault) : Type 0 where
+  pub reads : Reads scale text answer
+  pub only : (other : Result Shape WktFault) → Reads scale text other → answer ≡ other
 
-reading : (text : List ℕ) (answer : Result Shape WktFault) → Reads text answer → IsReading text answer
-reading text answer reads = record { reads = reads; only = λ other. one_reading text answer other reads }
+module _ (scale : Scale) where
+  -- ---- of a text with a raw form
 
-pub text_reading : (text : List ℕ) → ((keyword : Keyword) (lists : List (List RawPoint)) → TakesText text keyword lists → ⊥)
-    → IsReading text (Err Text)
-text_reading text none = reading text (Err Text) (λ keyword lists raw. none keyword lists (raw_taken text keyword lists raw))
+  module _ (text : List ℕ) (keyword : Keyword) (lists : List (List RawPoint)) (raw : Raw text keyword lists) where
+    forms_here : (l : Keyword) (ys : List (List RawPoint)) (s : Shape) → Raw text l ys → Forms l (positions scale ys) s → Forms keyword (positions scale lists) s
+    forms_here l ys s h f =
+        let same = one_raw_form text l keyword ys lists h raw in
+        subst (λ v. Forms v (positions scale lists) s) same.0 (subst (λ v. Forms l (positions scale v) s) same.1 f)
 
-module _ (text : List ℕ) (keyword : Keyword) (lists : List (List RawPoint)) (taken : TakesText text keyword lists) where
-  raw_form : Raw text keyword lists
-  raw_form = taken_raw text keyword lists taken
+    good_here : (l : Keyword) (ys : List (List RawPoint)) → Raw text l ys → AllNumbersGood scale ys → AllNumbersGood scale lists
+    good_here l ys h g = subst (AllNumbersGood scale) (one_raw_form text l keyword ys lists h raw).1 g
 
-  pub number_reading : (list_all are_whole lists ≡ true → list_all are_in_range lists ≡ true → ⊥) → IsReading text (Err Number)
-  number_reading bad = reading text (Err Number) (record {
-    keyword = keyword;
-    lists = lists;
-    raw = raw_form;
-    bad = λ good. bad (lists_whole lists good) (lists_in_range lists good);
-  })
+    pub spelled : (s : Shape) → Spells scale text s → AllNumbersGood scale lists × Forms keyword (positions scale lists) s
+    spelled s h = (good_here h.keyword h.lists h.raw h.good, forms_here h.keyword h.lists s h.raw h.forms)
 
-  module _ (whole : list_all are_whole lists ≡ true) (in_range : list_all are_in_range lists ≡ true) where
-    good : AllNumbersGood lists
-    good = lists_good lists whole in_range
+  -- a text spells one shape
+  pub one_shape : (text : List ℕ) (s t : Shape) → Spells scale text s → Spells scale text t → s ≡ t
+  one_shape text s t h k = forms_same h.keyword (positions scale h.lists) s t h.forms (spelled text h.keyword h.lists h.raw t k).1
 
-    pub shape_reading : (s : Shape) → Forms keyword (positions lists) s → IsReading text (Ok s)
-    shape_reading s forms = reading text (Ok s) (record { keyword = keyword; lists = lists; raw = raw_form; good = good; forms = forms })
+  -- ---- readings
 
-    pub form_reading : ((s : Shape) → Forms keyword (positions lists) s → ⊥) → IsReading text (Err Form)
-    form_reading none = reading text (Err Form) (record { keyword = keyword; lists = lists; raw = raw_form; good = good; formless = none })
+  -- a text reads as one answer
+  pub one_reading : (text : List ℕ) (a b : Result Shape WktFault) → Reads scale text a → Reads scale text b → a ≡ b
+  one_reading text (Ok s) (Ok t) h k = ap Ok (one_shape text s t h k)
+  one_reading text (Ok s) (Err Text) h k = absurd (k h.keyword h.lists h.raw)
+  one_reading text (Ok s) (Err Number) h k = absurd (k.bad (spelled text k.keyword k.lists k.raw s h).0)
+  one_reading text (Ok s) (Err Form) h k = absurd (k.formless s (spelled text k.keyword k.lists k.raw s h).1)
+  one_reading text (Err Text) (Ok t) h k = absurd (h k.keyword k.lists k.raw)
+  one_reading text (Err Text) (Err Text) h k = refl
+  one_reading text (Err Text) (Err Number) h k = absurd (h k.keyword k.lists k.raw)
+  one_reading text (Err Text) (Err Form) h k = absurd (h k.keyword k.lists k.raw)
+  one_reading text (Err Number) (Ok t) h k = absurd (h.bad (spelled text h.keyword h.lists h.raw t k).0)
+  one_reading text (Err Number) (Err Text) h k = absurd (k h.keyword h.lists h.raw)
+  one_reading text (Err Number) (Err Number) h k = refl
+  one_reading text (Err Number) (Err Form) h k = absurd (h.bad (good_here text h.keyword h.lists h.raw k.keyword k.lists k.raw k.good))
+  one_reading text (Err Form) (Ok t) h k = absurd (h.formless t (spelled text h.keyword h.lists h.raw t k).1)
+  one_reading text (Err Form) (Err Text) h k = absurd (k h.keyword h.lists h.raw)
+  one_reading text (Err Form) (Err Number) h k = absurd (k.bad (good_here text k.keyword k.lists k.raw h.keyword h.lists h.raw h.good))
+  one_reading text (Err Form) (Err Form) h k = refl
+
+  reading : (text : List ℕ) (answer : Result Shape WktFault) → Reads scale text answer → IsReading scale text answer
+  reading text answer reads = record { reads = reads; only = λ other. one_reading text answer other reads }
+
+  pub text_reading : (text : List ℕ) → ((keyword : Keyword) (lists : List (List RawPoint)) → TakesText text keyword lists → ⊥)
+      → IsReading scale text (Err Text)
+  text_reading text none = reading text (Err Text) (λ keyword lists raw. none keyword lists (raw_taken text keyword lists raw))
+
+  module _ (text : List ℕ) (keyword : Keyword) (lists : List (List RawPoint)) (taken : TakesText text keyword lists) where
+    raw_form : Raw text keyword lists
+    raw_form = taken_raw text keyword lists taken
+
+    pub number_reading : (list_all (are_whole scale) lists ≡ true → list_all (are_in_range scale) lists ≡ true → ⊥) → IsReading scale text (Err Number)
+    number_reading bad = reading text (Err Number) (record {
+      keyword = keyword;
+      lists = lists;
+      raw = raw_form;
+      bad = λ good. bad (lists_whole scale lists good) (lists_in_range scale lists good);
+    })
+
+    module _ (whole : list_all (are_whole scale) lists ≡ true) (in_range : list_all (are_in_range scale) lists ≡ true) where
+      good : AllNumbersGood scale lists
+      good = lists_good scale lists whole in_range
+
+      pub shape_reading : (s : Shape) → Forms keyword (positions scale lists) s → IsReading scale text (Ok s)
+      shape_reading s forms = reading text (Ok s) (record { keyword = keyword; lists = lists; raw = raw_form; good = good; forms = forms })
+
+      pub form_reading : ((s : Shape) → Forms keyword (positions scale lists) s → ⊥) → IsReading scale text (Err Form)
+      form_reading none = reading text (Err Form) (record { keyword = keyword; lists = lists; raw = raw_form; good = good; formless = none })

@@ -1,5 +1,5 @@
 -- Numbers that are whole and in range, and what is read of lists of them.
-use Rattle.std.proofs.Common.{◌≡◌, ℕ, ◌≤◌, Bool, true, false, List, [], ◌∷◌, cond, Option, Some, None, refl, arith}
+use Rattle.std.proofs.Common.{◌≡◌, ℕ, ◌≤◌, Bool, true, false, List, [], ◌∷◌, ◌++◌, cond, Option, Some, None, refl, arith}
 use Rattle.std.specs.Prelude.{ℤ, nat_le, is_some}
 use Rattle.std.specs.List.{list_all, AllByRecursion}
 use Rattle.std.specs.Str.Parse.{digits_value}
@@ -7,8 +7,10 @@ use Rattle.std.proofs.lemmas.Bool.{false≢true}
 use Rattle.std.proofs.lemmas.Bool.Decides.{nat_tests}
 use Rattle.std.proofs.lemmas.Int.{ints}
 use Rattle.geom_core.specs.Shapes.{IsCoordinate, greatest_coordinate}
+use Rattle.wkt_core.specs.declared.scale.Scale.{Scale}
 use Rattle.wkt_core.specs.Grammar.{Numeral, RawPoint}
-use Rattle.wkt_core.specs.Spelling.{signed, value, HasGoodNumbers, AllNumbersGood}
+use Rattle.wkt_core.specs.Scales.{digits_of}
+use Rattle.wkt_core.specs.Spelling.{kept, signed, value, HasGoodNumbers, AllNumbersGood}
 use Rattle.wkt_core.specs.NumberSteps.{number_read}
 use Rattle.wkt_core.specs.PointSteps.{position_from, point_read}
 use Rattle.wkt_core.specs.ReadLists.{are_whole, are_in_range}
@@ -26,17 +28,6 @@ some_if : (b : Bool) (z : ℤ) → is_some (cond b (Some z) None) ≡ true → b
 some_if true z h = refl
 some_if false z h = h
 
-value_in_range : (n : Numeral) → is_some (number_read n).value ≡ true → IsCoordinate (value n)
-value_in_range n h =
-    let test = some_if _ _ h in
-    in_range n.negative (digits_value 10 n.digits) (grind (arith, nat_tests))
-
-in_range_value : (n : Numeral) → IsCoordinate (value n) → is_some (number_read n).value ≡ true
-in_range_value n h =
-    let small : digits_value 10 n.digits ≤ greatest_coordinate = range_in n.negative (digits_value 10 n.digits) h in
-    let test : nat_le (digits_value 10 n.digits) greatest_coordinate ≡ true = grind (arith, nat_tests) in
-    rw test refl
-
 both_some : (x y : Option ℤ) → is_some (position_from x y) ≡ true → (is_some x ≡ true) × (is_some y ≡ true)
 both_some (Some x) (Some y) h = (refl, refl)
 both_some (Some x) None h = absurd (false≢true h)
@@ -47,43 +38,58 @@ some_both (Some x) (Some y) h k = refl
 some_both (Some x) None h k = k
 some_both None y h k = h
 
-point_good : (p : RawPoint) → (point_read p).whole ≡ true → is_some (point_read p).position ≡ true → HasGoodNumbers p
-point_good p w r =
-    let whole = both_parts _ _ w in
-    let range = both_some (number_read p.x).value (number_read p.y).value r in (
-      record { whole = whole.0; in_range = value_in_range p.x range.0 },
-      record { whole = whole.1; in_range = value_in_range p.y range.1 },
-    )
+module _ (scale : Scale) where
+  abbrev total : Numeral → ℕ
+  total n = digits_value 10 (n.digits ++ kept (digits_of scale) n.decimals)
 
-points_good : (ps : List RawPoint) → are_whole ps ≡ true → are_in_range ps ≡ true → AllByRecursion HasGoodNumbers ps
-points_good [] w r = tt
-points_good (p ∷ ps) w r =
-    let whole = both_parts _ _ w in
-    let range = both_parts _ _ r in
-    (point_good p whole.0 range.0, points_good ps whole.1 range.1)
+  value_in_range : (n : Numeral) → is_some (number_read scale n).value ≡ true → IsCoordinate (value scale n)
+  value_in_range n h =
+      let test = some_if _ _ h in
+      in_range n.negative (total n) (grind (arith, nat_tests))
 
-points_whole : (ps : List RawPoint) → AllByRecursion HasGoodNumbers ps → are_whole ps ≡ true
-points_whole [] h = refl
-points_whole (p ∷ ps) h = rw (h.0.0.whole, h.0.1.whole) (points_whole ps h.1)
+  in_range_value : (n : Numeral) → IsCoordinate (value scale n) → is_some (number_read scale n).value ≡ true
+  in_range_value n h =
+      let small : total n ≤ greatest_coordinate = range_in n.negative (total n) h in
+      let test : nat_le (total n) greatest_coordinate ≡ true = grind (arith, nat_tests) in
+      rw test refl
 
-points_in_range : (ps : List RawPoint) → AllByRecursion HasGoodNumbers ps → are_in_range ps ≡ true
-points_in_range [] h = refl
-points_in_range (p ∷ ps) h =
-    let x = in_range_value p.x h.0.0.in_range in
-    let y = in_range_value p.y h.0.1.in_range in
-    rw (some_both (number_read p.x).value (number_read p.y).value x y) (points_in_range ps h.1)
+  point_good : (p : RawPoint) → (point_read scale p).whole ≡ true → is_some (point_read scale p).position ≡ true → HasGoodNumbers scale p
+  point_good p w r =
+      let whole = both_parts _ _ w in
+      let range = both_some (number_read scale p.x).value (number_read scale p.y).value r in (
+        record { whole = whole.0; in_range = value_in_range p.x range.0 },
+        record { whole = whole.1; in_range = value_in_range p.y range.1 },
+      )
 
-pub lists_good : (lists : List (List RawPoint)) → list_all are_whole lists ≡ true → list_all are_in_range lists ≡ true → AllNumbersGood lists
-lists_good [] w r = tt
-lists_good (ps ∷ lists) w r =
-    let whole = both_parts _ _ w in
-    let range = both_parts _ _ r in
-    (points_good ps whole.0 range.0, lists_good lists whole.1 range.1)
+  points_good : (ps : List RawPoint) → are_whole scale ps ≡ true → are_in_range scale ps ≡ true → AllByRecursion (HasGoodNumbers scale) ps
+  points_good [] w r = tt
+  points_good (p ∷ ps) w r =
+      let whole = both_parts _ _ w in
+      let range = both_parts _ _ r in
+      (point_good p whole.0 range.0, points_good ps whole.1 range.1)
 
-pub lists_whole : (lists : List (List RawPoint)) → AllNumbersGood lists → list_all are_whole lists ≡ true
-lists_whole [] h = refl
-lists_whole (ps ∷ lists) h = rw (points_whole ps h.0) (lists_whole lists h.1)
+  points_whole : (ps : List RawPoint) → AllByRecursion (HasGoodNumbers scale) ps → are_whole scale ps ≡ true
+  points_whole [] h = refl
+  points_whole (p ∷ ps) h = rw (h.0.0.whole, h.0.1.whole) (points_whole ps h.1)
 
-pub lists_in_range : (lists : List (List RawPoint)) → AllNumbersGood lists → list_all are_in_range lists ≡ true
-lists_in_range [] h = refl
-lists_in_range (ps ∷ lists) h = rw (points_in_range ps h.0) (lists_in_range lists h.1)
+  points_in_range : (ps : List RawPoint) → AllByRecursion (HasGoodNumbers scale) ps → are_in_range scale ps ≡ true
+  points_in_range [] h = refl
+  points_in_range (p ∷ ps) h =
+      let x = in_range_value p.x h.0.0.in_range in
+      let y = in_range_value p.y h.0.1.in_range in
+      rw (some_both (number_read scale p.x).value (number_read scale p.y).value x y) (points_in_range ps h.1)
+
+  pub lists_good : (lists : List (List RawPoint)) → list_all (are_whole scale) lists ≡ true → list_all (are_in_range scale) lists ≡ true → AllNumbersGood scale lists
+  lists_good [] w r = tt
+  lists_good (ps ∷ lists) w r =
+      let whole = both_parts _ _ w in
+      let range = both_parts _ _ r in
+      (points_good ps whole.0 range.0, lists_good lists whole.1 range.1)
+
+  pub lists_whole : (lists : List (List RawPoint)) → AllNumbersGood scale lists → list_all (are_whole scale) lists ≡ true
+  lists_whole [] h = refl
+  lists_whole (ps ∷ lists) h = rw (points_whole ps h.0) (lists_whole lists h.1)
+
+  pub lists_in_range : (lists : List (List RawPoint)) → AllNumbersGood scale lists → list_all (are_in_range scale) lists ≡ true
+  lists_in_range [] h = refl
+  lists_in_range (ps ∷ lists) h = rw (points_in_range ps h.0) (lists_in_range lists h.1)

@@ -1,4 +1,5 @@
 pub mod NumberLemmas
+pub mod FractionLemmas
 pub mod ItemLemmas
 pub mod FrontLemmas
 pub mod PointLemmas
@@ -15,3 +16,4 @@ pub mod RawLemmas
 pub mod GoodLemmas
 pub mod AnswerLemmas
 pub mod CanonicalLemmas
+pub mod MigrationLemmas

@@ -5,6 +5,7 @@ use Rattle.std.proofs.lemmas.Option.{none-some, some_pair_parts}
 use Rattle.wkt_core.specs.declared.position.ReadPoint.{ReadPoint}
 use Rattle.wkt_core.specs.declared.read_list.ReadList.{ReadList}
 use Rattle.wkt_core.specs.declared.read_list.ReadLists.{ReadLists}
+use Rattle.wkt_core.specs.declared.scale.Scale.{Scale}
 use Rattle.wkt_core.specs.Grammar.{RawPoint, PointText, PointList, InParentheses}
 use Rattle.wkt_core.specs.TokenSteps.{skip}
 use Rattle.wkt_core.specs.PointSteps.{point_at, point_read, point_answer}
@@ -26,41 +27,42 @@ pub if_none : {X : Type 0} {P : Type 0} (r : Option X) → P → IfNone r P
 if_none None h = h
 if_none (Some x) h = tt
 
--- the point that was read
-taken : (v : Option (RawPoint × List ℕ)) (o : ReadPoint) (rest : List ℕ) → Some (o, rest) ≡ point_answer v
-    → (p : RawPoint) × (v ≡ Some (p, rest)) × (o ≡ point_read p)
-taken None o rest e = absurd (none-some _ (sym e))
-taken (Some q) o rest e = let parts = some_pair_parts _ _ _ _ e in (q.0, ap (λ r. Some (q.0, r)) (sym parts.1), parts.0)
+module _ (scale : Scale) where
+  -- the point that was read
+  taken : (v : Option (RawPoint × List ℕ)) (o : ReadPoint) (rest : List ℕ) → Some (o, rest) ≡ point_answer scale v
+      → (p : RawPoint) × (v ≡ Some (p, rest)) × (o ≡ point_read scale p)
+  taken None o rest e = absurd (none-some _ (sym e))
+  taken (Some q) o rest e = let parts = some_pair_parts _ _ _ _ e in (q.0, ap (λ r. Some (q.0, r)) (sym parts.1), parts.0)
 
-pub point_taken : (text : List ℕ) (o : ReadPoint) (rest : List ℕ) → Some (o, rest) ≡ point_answer (point_at text)
-    → (p : RawPoint) × TakesPoint text p rest × (o ≡ point_read p)
-point_taken text o rest e = taken (point_at text) o rest e
+  pub point_taken : (text : List ℕ) (o : ReadPoint) (rest : List ℕ) → Some (o, rest) ≡ point_answer scale (point_at text)
+      → (p : RawPoint) × TakesPoint text p rest × (o ≡ point_read scale p)
+  point_taken text o rest e = taken (point_at text) o rest e
 
-not_taken : (v : Option (RawPoint × List ℕ)) (p : RawPoint) (rest : List ℕ) → None ≡ point_answer v → v ≡ Some (p, rest) → ⊥
-not_taken None p rest e h = none-some _ h
-not_taken (Some q) p rest e h = none-some _ e
+  not_taken : (v : Option (RawPoint × List ℕ)) (p : RawPoint) (rest : List ℕ) → None ≡ point_answer scale v → v ≡ Some (p, rest) → ⊥
+  not_taken None p rest e h = none-some _ h
+  not_taken (Some q) p rest e h = none-some _ e
 
-pub no_point_taken : (text : List ℕ) → None ≡ point_answer (point_at text) → (p : RawPoint) (rest : List ℕ) → TakesPoint text p rest → ⊥
-no_point_taken text e p rest h = not_taken (point_at text) p rest e h
+  pub no_point_taken : (text : List ℕ) → None ≡ point_answer scale (point_at text) → (p : RawPoint) (rest : List ℕ) → TakesPoint text p rest → ⊥
+  no_point_taken text e p rest h = not_taken (point_at text) p rest e h
 
--- what the loop knows: the points so far, and the first of them
-abbrev pub SoFar : List ℕ → List ℕ → ReadList → Type 0
-SoFar start rest first = (done : List RawPoint) × Begun TakesPoint done start rest × IsReadOf first done
+  -- what the loop knows: the points so far, and the first of them
+  abbrev pub SoFar : List ℕ → List ℕ → ReadList → Type 0
+  SoFar start rest first = (done : List RawPoint) × Begun TakesPoint done start rest × IsReadOf scale first done
 
-abbrev Pushes : ReadList → ReadPoint → ReadList → Type 0
-Pushes old o new = (ps : List RawPoint) (p : RawPoint) → IsReadOf old ps → o ≡ point_read p → IsReadOf new (ps ++ p ∷ [])
+  abbrev Pushes : ReadList → ReadPoint → ReadList → Type 0
+  Pushes old o new = (ps : List RawPoint) (p : RawPoint) → IsReadOf scale old ps → o ≡ point_read scale p → IsReadOf scale new (ps ++ p ∷ [])
 
-module _ (start rest after behind : List ℕ) (old new : ReadList) (o : ReadPoint) (push : Pushes old o new)
-    (read : Some (o, after) ≡ point_answer (point_at (skip rest))) where
-  pub point_more : SoFar start rest old → skip after ≡ 44 ∷ behind → SoFar start behind new
-  point_more (done, begun, firsts) e =
-      let (p, h, v) = point_taken (skip rest) o after read in
-      (done ++ p ∷ [], begun_more TakesPoint done p start rest after behind begun h e, push done p firsts v)
+  module _ (start rest after behind : List ℕ) (old new : ReadList) (o : ReadPoint) (push : Pushes old o new)
+      (read : Some (o, after) ≡ point_answer scale (point_at (skip rest))) where
+    pub point_more : SoFar start rest old → skip after ≡ 44 ∷ behind → SoFar start behind new
+    point_more (done, begun, firsts) e =
+        let (p, h, v) = point_taken (skip rest) o after read in
+        (done ++ p ∷ [], begun_more TakesPoint done p start rest after behind begun h e, push done p firsts v)
 
-  pub points_ended : SoFar start rest old → skip after ≡ 41 ∷ behind → (ps : List RawPoint) × Items TakesPoint ps start behind × IsReadOf new ps
-  points_ended (done, begun, firsts) e =
-      let (p, h, v) = point_taken (skip rest) o after read in
-      (done ++ p ∷ [], items_ended TakesPoint done p start rest after behind begun h e, push done p firsts v)
+    pub points_ended : SoFar start rest old → skip after ≡ 41 ∷ behind → (ps : List RawPoint) × Items TakesPoint ps start behind × IsReadOf scale new ps
+    points_ended (done, begun, firsts) e =
+        let (p, h, v) = point_taken (skip rest) o after read in
+        (done ++ p ∷ [], items_ended TakesPoint done p start rest after behind begun h e, push done p firsts v)
 
 pub points_reading : IsReading PointText TakesPoint
 points_reading = record { begins = point_begins; front = point_at_front; solid = point_solid }
@@ -78,7 +80,7 @@ pub text_lists_reading : IsReading (InParentheses PointList) TakesLists
 text_lists_reading = enclosed_reading PointList TakesPoints lists_reading
 
 -- what the loop over lists knows: those so far, the last of which leaves the text `after`, and the first of them
-pub record ListsSoFar (text after : List ℕ) (first : ReadLists) : Type 0 where
+pub record ListsSoFar (scale : Scale) (text after : List ℕ) (first : ReadLists) : Type 0 where
   pub start : List ℕ
   pub opened : text ≡ 40 ∷ start
   pub done : List (List RawPoint)
@@ -86,36 +88,37 @@ pub record ListsSoFar (text after : List ℕ) (first : ReadLists) : Type 0 where
   pub rest : List ℕ
   pub begun : Begun TakesPoints done start rest
   pub taken : TakesPoints (skip rest) last after
-  pub firsts : AreReadOf first (done ++ last ∷ [])
+  pub firsts : AreReadOf scale first (done ++ last ∷ [])
 
-pub list_more : (text after behind rest : List ℕ) (old new : ReadLists) → ListsSoFar text after old → (ps : List RawPoint) → skip after ≡ 44 ∷ behind
-    → TakesPoints (skip behind) ps rest
-    → ((lists : List (List RawPoint)) → AreReadOf old lists → AreReadOf new (lists ++ ps ∷ [])) → ListsSoFar text rest new
-list_more text after behind rest old new s ps e h push = record {
-  start = s.start;
-  opened = s.opened;
-  done = s.done ++ s.last ∷ [];
-  last = ps;
-  rest = behind;
-  begun = begun_more TakesPoints s.done s.last s.start s.rest after behind s.begun s.taken e;
-  taken = h;
-  firsts = push (s.done ++ s.last ∷ []) s.firsts;
-}
+module _ (scale : Scale) where
+  pub list_more : (text after behind rest : List ℕ) (old new : ReadLists) → ListsSoFar scale text after old → (ps : List RawPoint) → skip after ≡ 44 ∷ behind
+      → TakesPoints (skip behind) ps rest
+      → ((lists : List (List RawPoint)) → AreReadOf scale old lists → AreReadOf scale new (lists ++ ps ∷ [])) → ListsSoFar scale text rest new
+  list_more text after behind rest old new s ps e h push = record {
+    start = s.start;
+    opened = s.opened;
+    done = s.done ++ s.last ∷ [];
+    last = ps;
+    rest = behind;
+    begun = begun_more TakesPoints s.done s.last s.start s.rest after behind s.begun s.taken e;
+    taken = h;
+    firsts = push (s.done ++ s.last ∷ []) s.firsts;
+  }
 
-pub lists_ended : (text after behind : List ℕ) (first : ReadLists) → ListsSoFar text after first → skip after ≡ 41 ∷ behind
-    → (lists : List (List RawPoint)) × TakesLists text lists behind × AreReadOf first lists
-lists_ended text after behind first s e =
-    (s.done ++ s.last ∷ [], (s.start, s.opened, items_ended TakesPoints s.done s.last s.start s.rest after behind s.begun s.taken e), s.firsts)
+  pub lists_ended : (text after behind : List ℕ) (first : ReadLists) → ListsSoFar scale text after first → skip after ≡ 41 ∷ behind
+      → (lists : List (List RawPoint)) × TakesLists text lists behind × AreReadOf scale first lists
+  lists_ended text after behind first s e =
+      (s.done ++ s.last ∷ [], (s.start, s.opened, items_ended TakesPoints s.done s.last s.start s.rest after behind s.begun s.taken e), s.firsts)
 
--- where neither a comma nor the end follows, or no list behind a comma, the text begins with no list of lists
-pub no_lists_end : (text after : List ℕ) (first : ReadLists) → ListsSoFar text after first
-    → ((r : List ℕ) → ¬ (skip after ≡ 44 ∷ r) × ¬ (skip after ≡ 41 ∷ r)) → (lists : List (List RawPoint)) (rest : List ℕ) → TakesLists text lists rest
-    → ⊥
-no_lists_end text after first s none = no_end_follows TakesPoints lists_exact s.start s.rest s.done s.begun text s.opened s.last after s.taken none
+  -- where neither a comma nor the end follows, or no list behind a comma, the text begins with no list of lists
+  pub no_lists_end : (text after : List ℕ) (first : ReadLists) → ListsSoFar scale text after first
+      → ((r : List ℕ) → ¬ (skip after ≡ 44 ∷ r) × ¬ (skip after ≡ 41 ∷ r)) → (lists : List (List RawPoint)) (rest : List ℕ) → TakesLists text lists rest
+      → ⊥
+  no_lists_end text after first s none = no_end_follows TakesPoints lists_exact s.start s.rest s.done s.begun text s.opened s.last after s.taken none
 
-pub no_list_follows : (text after behind : List ℕ) (first : ReadLists) → ListsSoFar text after first → skip after ≡ 44 ∷ behind
-    → ((ps : List RawPoint) (rest : List ℕ) → TakesPoints (skip behind) ps rest → ⊥) → (lists : List (List RawPoint)) (rest : List ℕ)
-    → TakesLists text lists rest → ⊥
-no_list_follows text after behind first s e none =
-    no_item_follows TakesPoints lists_exact s.start behind (s.done ++ s.last ∷ [])
-    (begun_more TakesPoints s.done s.last s.start s.rest after behind s.begun s.taken e) text s.opened none
+  pub no_list_follows : (text after behind : List ℕ) (first : ReadLists) → ListsSoFar scale text after first → skip after ≡ 44 ∷ behind
+      → ((ps : List RawPoint) (rest : List ℕ) → TakesPoints (skip behind) ps rest → ⊥) → (lists : List (List RawPoint)) (rest : List ℕ)
+      → TakesLists text lists rest → ⊥
+  no_list_follows text after behind first s e none =
+      no_item_follows TakesPoints lists_exact s.start behind (s.done ++ s.last ∷ [])
+      (begun_more TakesPoints s.done s.last s.start s.rest after behind s.begun s.taken e) text s.opened none

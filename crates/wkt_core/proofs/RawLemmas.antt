@@ -7,6 +7,7 @@ use Rattle.geom_core.specs.declared.shape.Shape.{Shape}
 use Rattle.wkt_core.specs.declared.keyword.Keyword.{Keyword}
 use Rattle.wkt_core.specs.declared.keyword.Keyword.TheVariants.{Point, LineString, Polygon}
 use Rattle.wkt_core.specs.declared.read_list.ReadLists.{ReadLists}
+use Rattle.wkt_core.specs.declared.scale.Scale.{Scale}
 use Rattle.wkt_core.specs.Grammar.{RawPoint}
 use Rattle.wkt_core.specs.Spelling.{Forms, position, positions}
 use Rattle.wkt_core.specs.ListSteps.{TakesBody, TakesText}
@@ -16,27 +17,28 @@ use Rattle.wkt_core.proofs.HeadingLemmas.{both_parts}
 use Rattle.wkt_core.proofs.DrawnLemmas.{IsAlone, draws_kept, kept_draws}
 use Rattle.wkt_core.proofs.WalkLemmas.{walk_drawn, drawn_walk}
 
--- the text of a point has one
-alone : (keyword : Keyword) (ps : List RawPoint) (text rest : List ℕ) → TakesBody keyword text (ps ∷ []) rest → IsAlone keyword (map position ps)
-alone Point [] text rest h = absurd h
-alone Point (p ∷ []) text rest h = tt
-alone Point (p ∷ q ∷ ps) text rest h = absurd h
-alone LineString ps text rest h = tt
-alone Polygon ps text rest h = tt
+module _ (scale : Scale) where
+  -- the text of a point has one
+  alone : (keyword : Keyword) (ps : List RawPoint) (text rest : List ℕ) → TakesBody keyword text (ps ∷ []) rest → IsAlone keyword (map (position scale) ps)
+  alone Point [] text rest h = absurd h
+  alone Point (p ∷ []) text rest h = tt
+  alone Point (p ∷ q ∷ ps) text rest h = absurd h
+  alone LineString ps text rest h = tt
+  alone Polygon ps text rest h = tt
 
-pub read_forms : (keyword : Keyword) (read : ReadLists) (text : List ℕ) (lists : List (List RawPoint)) (s : Shape) → IsTrue read.alone
-    → IsDrawnBy keyword read.first.walk.turns.items read.first.walk.last s → TakesText text keyword lists → AreReadOf read lists
-    → IsTrue (list_all are_in_range lists) → Forms keyword (positions lists) s
-read_forms keyword read text [] s a h (m, e, word, body, end) r range = absurd r.alone
-read_forms keyword read text (ps ∷ []) s a h (m, e, word, body, end) r range =
-    let kept : IsKeptOf read.first.walk (way_of (map position ps)) = r.alone.1.walk (both_parts _ _ range).0 in
-    kept_draws keyword (map position ps) s (alone keyword ps _ e body) (walk_drawn keyword read.first.walk (way_of (map position ps)) s kept h)
-read_forms keyword read text (ps ∷ qs ∷ lists) s a h (m, e, word, body, end) r range = absurd (false≢true (sym r.alone ∙ a))
+  pub read_forms : (keyword : Keyword) (read : ReadLists) (text : List ℕ) (lists : List (List RawPoint)) (s : Shape) → IsTrue read.alone
+      → IsDrawnBy keyword read.first.walk.turns.items read.first.walk.last s → TakesText text keyword lists → AreReadOf scale read lists
+      → IsTrue (list_all (are_in_range scale) lists) → Forms keyword (positions scale lists) s
+  read_forms keyword read text [] s a h (m, e, word, body, end) r range = absurd r.alone
+  read_forms keyword read text (ps ∷ []) s a h (m, e, word, body, end) r range =
+      let kept : IsKeptOf read.first.walk (way_of (map (position scale) ps)) = r.alone.1.walk (both_parts _ _ range).0 in
+      kept_draws keyword (map (position scale) ps) s (alone keyword ps _ e body) (walk_drawn keyword read.first.walk (way_of (map (position scale) ps)) s kept h)
+  read_forms keyword read text (ps ∷ qs ∷ lists) s a h (m, e, word, body, end) r range = absurd (false≢true (sym r.alone ∙ a))
 
-pub forms_read : (keyword : Keyword) (read : ReadLists) (lists : List (List RawPoint)) (s : Shape) → AreReadOf read lists
-    → IsTrue (list_all are_in_range lists) → Forms keyword (positions lists) s → IsDrawnBy keyword read.first.walk.turns.items read.first.walk.last s
-forms_read keyword read [] s r range h = absurd h
-forms_read keyword read (ps ∷ []) s r range h =
-    let kept : IsKeptOf read.first.walk (way_of (map position ps)) = r.alone.1.walk (both_parts _ _ range).0 in
-    drawn_walk keyword read.first.walk (way_of (map position ps)) s kept (draws_kept keyword (map position ps) s h)
-forms_read keyword read (ps ∷ qs ∷ lists) s r range h = absurd h
+  pub forms_read : (keyword : Keyword) (read : ReadLists) (lists : List (List RawPoint)) (s : Shape) → AreReadOf scale read lists
+      → IsTrue (list_all (are_in_range scale) lists) → Forms keyword (positions scale lists) s → IsDrawnBy keyword read.first.walk.turns.items read.first.walk.last s
+  forms_read keyword read [] s r range h = absurd h
+  forms_read keyword read (ps ∷ []) s r range h =
+      let kept : IsKeptOf read.first.walk (way_of (map (position scale) ps)) = r.alone.1.walk (both_parts _ _ range).0 in
+      drawn_walk keyword read.first.walk (way_of (map (position scale) ps)) s kept (draws_kept keyword (map (position scale) ps) s h)
+  forms_read keyword read (ps ∷ qs ∷ lists) s r range h = absurd h

@@ -1,6 +1,7 @@
 -- The shapes that lists of points draw: a point, a line along an axis, the ring of a rectangle,
 -- with any number of points along them.
-use Rattle.std.specs.Prelude.{◌≡◌, ℕ, ℤ, ◌<◌, ◌<ℤ◌, ⊤, Bool, ◌&&◌, List, [], ◌∷◌, ◌++◌, ◌⊎◌, take, drop, reverse, if◌then◌else◌}
+use Rattle.std.specs.Prelude.{◌≡◌, ℕ, ℤ, ◌<◌, ◌<ℤ◌, ⊤, Bool, ◌&&◌, List, []}
+use Rattle.std.specs.Prelude.{◌∷◌, ◌++◌, ◌⊎◌, take, drop, reverse, if◌then◌else◌}
 use Rattle.std.specs.Ordering.{int_eq}
 use Rattle.geom_core.specs.declared.shape.Shape.{Shape}
 use Rattle.geom_core.specs.Shapes.{x1, y1, x2, y2, HasCorners}

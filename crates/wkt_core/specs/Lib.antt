@@ -1,7 +1,11 @@
+pub mod ScaleLimits
+pub mod Scales
 pub mod Grammar
 pub mod Drawing
 pub mod DrawnBefore
 pub mod Spelling
+pub mod Canonical
+pub mod SpelledBefore
 pub mod Readings
 pub mod FaultTexts
 pub mod TokenSteps

@@ -1,11 +1,14 @@
 -- What the steps of the reader over a number take from the front of a text, and what they leave.
-use Rattle.std.specs.Prelude.{◌≡◌, ◌==◌, ℕ, nat_le, ℤ, Bool, true, false, List, [], ◌∷◌, Option, Some, None, if◌then◌else◌, ◌<◌, ◌⊎◌}
+use Rattle.std.specs.Prelude.{◌≡◌, ◌==◌, ◌<◌, ◌⊎◌, ℕ, nat_le, ℤ, Bool, true, false}
+use Rattle.std.specs.Prelude.{List, [], ◌∷◌, ◌++◌, Option, Some, None, if◌then◌else◌}
 use Rattle.std.specs.Char.{is_ascii_digit}
 use Rattle.std.specs.Str.Parse.{digits_value}
 use Rattle.geom_core.specs.Shapes.{greatest_coordinate}
 use Rattle.wkt_core.specs.declared.number.ReadNumber.{ReadNumber}
+use Rattle.wkt_core.specs.declared.scale.Scale.{Scale}
+use Rattle.wkt_core.specs.Scales.{digits_of}
 use Rattle.wkt_core.specs.Grammar.{Numeral}
-use Rattle.wkt_core.specs.Spelling.{is_whole, signed}
+use Rattle.wkt_core.specs.Spelling.{kept, is_whole, signed}
 
 -- the digits at the front
 abbrev pub digits_at : List ℕ → List ℕ
@@ -54,10 +57,13 @@ abbrev pub ranged : Bool → ℕ → Option ℤ
 ranged negative n = if nat_le n greatest_coordinate then Some (signed negative n) else None
 
 -- what is read of a number
-abbrev pub number_read : Numeral → ReadNumber
-number_read n =
-    record { value = ranged n.negative (digits_value 10 n.digits); whole = is_whole n }
+abbrev pub number_read : Scale → Numeral → ReadNumber
+number_read scale n = record {
+  value = ranged n.negative
+      (digits_value 10 (n.digits ++ kept (digits_of scale) n.decimals));
+  whole = is_whole scale n;
+}
 
-abbrev pub number_answer : Option (Numeral × List ℕ) → Option (ReadNumber × List ℕ)
-number_answer None = None
-number_answer (Some p) = Some (number_read p.0, p.1)
+abbrev pub number_answer : Scale → Option (Numeral × List ℕ) → Option (ReadNumber × List ℕ)
+number_answer scale None = None
+number_answer scale (Some p) = Some (number_read scale p.0, p.1)

@@ -3,6 +3,7 @@ use Rattle.std.specs.Prelude.{◌&&◌, ℕ, ℤ, List, Option, Some, None, opti
 use Rattle.wkt_core.specs.declared.number.ReadNumber.{ReadNumber}
 use Rattle.wkt_core.specs.declared.position.Position.{Position}
 use Rattle.wkt_core.specs.declared.position.ReadPoint.{ReadPoint}
+use Rattle.wkt_core.specs.declared.scale.Scale.{Scale}
 use Rattle.wkt_core.specs.Grammar.{RawPoint}
 use Rattle.wkt_core.specs.TokenSteps.{gap_at}
 use Rattle.wkt_core.specs.NumberSteps.{number_at, number_read}
@@ -29,9 +30,9 @@ position_from None y = None
 abbrev pub point_from : ReadNumber → ReadNumber → ReadPoint
 point_from x y = record { position = position_from x.value y.value; whole = x.whole && y.whole }
 
-abbrev pub point_read : RawPoint → ReadPoint
-point_read p = point_from (number_read p.x) (number_read p.y)
+abbrev pub point_read : Scale → RawPoint → ReadPoint
+point_read scale p = point_from (number_read scale p.x) (number_read scale p.y)
 
-abbrev pub point_answer : Option (RawPoint × List ℕ) → Option (ReadPoint × List ℕ)
-point_answer None = None
-point_answer (Some p) = Some (point_read p.0, p.1)
+abbrev pub point_answer : Scale → Option (RawPoint × List ℕ) → Option (ReadPoint × List ℕ)
+point_answer scale None = None
+point_answer scale (Some p) = Some (point_read scale p.0, p.1)

@@ -1,7 +1,8 @@
 -- What the steps of the reader over white space, symbols and letters take, and what they leave.
 -- Only contracts inside the crate cite the words of the files of steps; proofs/ ties them to the
 -- grammar, in both directions.
-use Rattle.std.specs.Prelude.{◌≡◌, ◌==◌, ℕ, List, [], ◌∷◌, ◌++◌, Option, Some, None, if◌then◌else◌, map}
+use Rattle.std.specs.Prelude.{◌≡◌, ◌==◌, ℕ, List, [], ◌∷◌, ◌++◌, Option}
+use Rattle.std.specs.Prelude.{Some, None, if◌then◌else◌, map}
 use Rattle.std.specs.Borrow.{Bor}
 use Rattle.std.specs.Char.{to_ascii_lowercase}
 use Rattle.wkt_core.specs.Grammar.{is_blank}

@@ -8,7 +8,7 @@ use std::fmt;
 pub enum WktFault {
     /// The bytes are no text of the grammar.
     Text,
-    /// Some number isn't whole or is out of range.
+    /// Some number isn't a whole number of the scale's units, or is out of range.
     Number,
     /// The points are those of no point, axis-parallel segment or rectangle.
     Form,

@@ -4,20 +4,31 @@ ghost use Rattle.std.specs.Prelude.{◌≡◌, List, ℕ};
 ghost use Rattle.geom_core.specs.declared.shape.Shape.{Shape};
 ghost use Rattle.wkt_core.specs.declared.keyword.Keyword.{Keyword};
 ghost use Rattle.wkt_core.specs.declared.position.Position.{Position};
+ghost use Rattle.wkt_core.specs.declared.scale.Scale.{Scale};
 ghost use Rattle.wkt_core.specs.Grammar.{RawPoint, Raw};
 ghost use Rattle.wkt_core.specs.Drawing.{Draws};
 ghost use Rattle.wkt_core.specs.DrawnBefore.{DrewBefore};
+ghost use Rattle.wkt_core.specs.Scales.{digits_of};
+ghost use Rattle.wkt_core.specs.SpelledBefore.{SpelledBefore};
 ghost use Rattle.wkt_core.specs.Spelling.{Spells};
 
-/// A text has at most one raw form, and spells at most one shape.
+/// A text has at most one raw form, and spells at most one shape at a scale.
 pub fn one_shape_law()
     ensures one_raw_form { (text : List ℕ) (k l : Keyword) (xs ys : List (List RawPoint))
         → Raw text k xs → Raw text l ys → (k ≡ l) × (xs ≡ ys) }
-    ensures one_shape { (text : List ℕ) (s t : Shape) → Spells text s → Spells text t → s ≡ t }
+    ensures one_shape { (scale : Scale) (text : List ℕ) (s t : Shape)
+        → Spells scale text s → Spells scale text t → s ≡ t }
 {}
 
 /// What lists of two and of five points drew, when no further ones were read, they draw now.
 pub fn widened_law()
     ensures drawn_still { (keyword : Keyword) (ps : List Position) (s : Shape)
         → DrewBefore keyword ps s → Draws keyword ps s }
+{}
+
+/// What a text spelled, when numbers were whole and within 10^9, it spells now at a scale of no
+/// decimals.
+pub fn migration_law()
+    ensures spelled_still { (scale : Scale) (text : List ℕ) (s : Shape)
+        → digits_of scale ≡ 0 → SpelledBefore text s → Spells scale text s }
 {}

@@ -1,5 +1,7 @@
 //! Well-known text of points, axis-parallel segments and rectangles (OGC 06-103r4, 7.2), read and
-//! printed.
+//! printed, with coordinates in units of a [`Scale`].
+//!
+//! At scale 0 a unit is 1:
 //!
 //! | Text | Read as |
 //! |---|---|
@@ -10,9 +12,17 @@
 //! | `Polygon((4 2,4 0,0 0,0 2,4 2))` | the same rectangle |
 //! | `POLYGON ((1 0, 4 0, 4 1, 4 2, 0 2, 0 0, 1 0))` | the same rectangle |
 //! | `POINT EMPTY`, `POINT (1,2)`, `POINT (1e3 0)`, `POINT (1 2) x` | [`WktFault::Text`] |
-//! | `POINT (1.5 0)`, `POINT (1000000001 0)` | [`WktFault::Number`] |
+//! | `POINT (1.5 0)`, `POINT (1000000000001 0)` | [`WktFault::Number`] |
 //! | `LINESTRING (0 0, 1 1)`, `LINESTRING (0 0, 2 0, 1 0)` | [`WktFault::Form`] |
 //! | `POLYGON ((0 0, 4 0, 4 2, 0 2, 0 1))` | [`WktFault::Form`] |
+//!
+//! At scale 2 it is 0.01:
+//!
+//! | Text | Read as | Printed as |
+//! |---|---|---|
+//! | `POINT (1.250 -0.10)` | the point (125, -10) | `POINT (1.25 -0.1)` |
+//! | `POINT (-0.05 3)` | the point (-5, 300) | `POINT (-0.05 3)` |
+//! | `POINT (1.255 0)`, `POINT (10000000000.01 0)` | [`WktFault::Number`] | |
 #![tactic(auto)]
 
 mod fault;
@@ -26,10 +36,12 @@ mod printer;
 mod raw;
 mod read_list;
 mod reader;
+mod scale;
 mod token;
 mod walk;
 
 pub use fault::WktFault;
-pub use laws::{one_shape_law, widened_law};
+pub use laws::{migration_law, one_shape_law, widened_law};
 pub use printer::print;
 pub use reader::read;
+pub use scale::Scale;

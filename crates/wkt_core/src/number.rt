@@ -1,11 +1,17 @@
 //! One number of a text.
 
-ghost use Rattle.std.specs.Prelude.{◌≡◌, ◌==◌};
+ghost use Rattle.std.specs.Prelude.{◌≡◌, ◌==◌, ◌+◌, ◌*◌, ℕ, suc, ◌∷◌, drop};
+ghost use Rattle.std.specs.Char.{digit_value};
 ghost use Rattle.std.specs.List.{list_all};
-ghost use Rattle.std.specs.Str.Parse.{digits_value};
+ghost use Rattle.std.specs.Str.Parse.{digits_value, digits_value_after};
+ghost use Rattle.wkt_core.specs.Grammar.{IsDigit};
+ghost use Rattle.wkt_core.specs.Scales.{digits_of};
+ghost use Rattle.wkt_core.specs.Spelling.{kept};
 ghost use Rattle.wkt_core.specs.TokenSteps.{answer_view};
-ghost use Rattle.wkt_core.specs.NumberSteps.{digits_at, after_digits, sign_at, decimals_at, number_at, number_answer, ranged, IsCapped};
+ghost use Rattle.wkt_core.specs.NumberSteps.{digits_at, after_digits, sign_at, decimals_at};
+ghost use Rattle.wkt_core.specs.NumberSteps.{number_at, number_answer, ranged, IsCapped};
 
+use crate::scale::Scale;
 use geom_core::LIMIT;
 
 /// The greatest absolute value of a coordinate.
@@ -14,9 +20,9 @@ const LARGEST: u64 = LIMIT as u64;
 /// What is read of a number.
 #[derive(Drop)]
 pub(crate) struct ReadNumber {
-    /// The number before the dot, where it is in range.
+    /// The whole units of the scale, where they are in range.
     pub(crate) value: Option<i64>,
-    /// Whether no digit but 0 stands behind the dot.
+    /// Whether no digit but 0 stands behind the decimals that the scale keeps.
     pub(crate) whole: bool,
 }
 
@@ -33,6 +39,20 @@ fn sign(text: &[u8]) -> (bool, &[u8])
     }
 }
 
+/// The number with one more digit. A number beyond `LARGEST` stands for each that is.
+#[inline(always)]
+fn with_digit(number: u64, digit: u8) -> u64
+    requires { IsDigit digit }
+    ensures { (total : ℕ)
+        → IsCapped number total → IsCapped result (total * 10 + digit_value digit) }
+{
+    if number <= LARGEST {
+        number * 10 + u64::from(digit - b'0')
+    } else {
+        number
+    }
+}
+
 /// The number that the digits at the front write, and what follows them. Where it is beyond
 /// `LARGEST`, some number beyond `LARGEST` stands for it, however many digits there are.
 #[inline(always)]
@@ -43,9 +63,41 @@ fn magnitude(text: &[u8]) -> (u64, &[u8])
     let mut sum = 0;
     let mut rest = text;
     while let [digit @ b'0'..=b'9', after @ ..] = rest {
-        if sum <= LARGEST {
-            sum = sum * 10 + u64::from(*digit - b'0');
-        }
+        sum = with_digit(sum, *digit);
+        rest = after;
+    }
+    (sum, rest)
+}
+
+/// The digit at the front, or a 0 where there is none, and what follows it.
+#[inline(always)]
+fn next_decimal(text: &[u8]) -> (u8, &[u8])
+    ensures digit { IsDigit result.0 }
+    ensures kept { (k : ℕ)
+        → kept (suc k) (digits_at text.now) ≡ result.0 ∷ kept k (digits_at result.1.now) }
+    ensures digits { digits_at result.1.now ≡ drop 1 (digits_at text.now) }
+    ensures rest { after_digits result.1.now ≡ after_digits text.now }
+{
+    match text {
+        [digit @ b'0'..=b'9', rest @ ..] => (*digit, rest),
+        _ => (b'0', text),
+    }
+}
+
+/// The number with this many digits more, those at the front and a 0 for each that is absent, and
+/// what follows them.
+#[inline(always)]
+fn with_decimals(number: u64, count: u8, text: &[u8]) -> (u64, &[u8])
+    ensures value { (total : ℕ) → IsCapped number total
+        → IsCapped result.0 (digits_value_after 10 total (kept count (digits_at text.now))) }
+    ensures digits { digits_at result.1.now ≡ drop count (digits_at text.now) }
+    ensures rest { after_digits result.1.now ≡ after_digits text.now }
+{
+    let mut sum = number;
+    let mut rest = text;
+    for _ in 0..count {
+        let (digit, after) = next_decimal(rest);
+        sum = with_digit(sum, digit);
         rest = after;
     }
     (sum, rest)
@@ -66,15 +118,26 @@ fn zeros(text: &[u8]) -> (bool, &[u8])
     (all, rest)
 }
 
-/// Whether no digit but 0 stands behind a dot, and what follows the dot and the digits.
+/// The units of the scale that a whole part and the decimals at the front make, whether no digit
+/// but 0 stands behind those that the scale keeps, and what follows the decimals.
 #[inline(always)]
-fn decimals(text: &[u8]) -> (bool, &[u8])
-    ensures zeros { result.0 ≡ list_all (λ d. d == 48) (decimals_at text.now).0 }
-    ensures rest { result.1.now ≡ (decimals_at text.now).1 }
+fn units(whole_part: u64, scale: Scale, text: &[u8]) -> (u64, bool, &[u8])
+    ensures value { (total : ℕ) → IsCapped whole_part total → IsCapped result.0
+        (digits_value_after 10 total (kept (digits_of scale) (decimals_at text.now).0)) }
+    ensures zeros { result.1
+        ≡ list_all (λ d. d == 48) (drop (digits_of scale) (decimals_at text.now).0) }
+    ensures rest { result.2.now ≡ (decimals_at text.now).1 }
 {
     match text {
-        [b'.', rest @ ..] => zeros(rest),
-        _ => (true, text),
+        [b'.', decimals @ ..] => {
+            let (units, further) = with_decimals(whole_part, scale.digits(), decimals);
+            let (whole, rest) = zeros(further);
+            (units, whole, rest)
+        }
+        _ => {
+            let (units, _) = with_decimals(whole_part, scale.digits(), b"");
+            (units, true, text)
+        }
     }
 }
 
@@ -93,15 +156,15 @@ fn signed_number(negative: bool, magnitude: u64) -> Option<i64>
 /// What is read of the number at the front of a text, and what follows it: `None` where no number
 /// stands there.
 #[inline(always)]
-pub(crate) fn read_number(text: &[u8]) -> Option<(ReadNumber, &[u8])>
-    ensures { answer_view result ≡ number_answer (number_at text.now) }
+pub(crate) fn read_number(text: &[u8], scale: Scale) -> Option<(ReadNumber, &[u8])>
+    ensures { answer_view result ≡ number_answer scale (number_at text.now) }
 {
     let (negative, unsigned) = sign(text);
     match unsigned {
         [b'0'..=b'9', ..] => {
-            let (magnitude, rest) = magnitude(unsigned);
-            let (whole, rest) = decimals(rest);
-            let value = signed_number(negative, magnitude);
+            let (whole_part, rest) = magnitude(unsigned);
+            let (units, whole, rest) = units(whole_part, scale, rest);
+            let value = signed_number(negative, units);
             Some((ReadNumber { value, whole }, rest))
         }
         _ => None,

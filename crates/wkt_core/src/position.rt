@@ -5,6 +5,7 @@ ghost use Rattle.wkt_core.specs.TokenSteps.{answer_view};
 ghost use Rattle.wkt_core.specs.PointSteps.{point_at, point_answer, position_from, point_from};
 
 use crate::number::{ReadNumber, read_number};
+use crate::scale::Scale;
 use crate::token::skip_gap;
 
 /// A point of the plane.
@@ -28,9 +29,9 @@ impl Position {
 /// What is read of a point.
 #[derive(Drop)]
 pub(crate) struct ReadPoint {
-    /// The numbers before the dots, where both are in range.
+    /// The whole units of both numbers, where these are in range.
     pub(crate) position: Option<Position>,
-    /// Whether both numbers are whole.
+    /// Whether both are whole numbers of units.
     pub(crate) whole: bool,
 }
 
@@ -59,11 +60,11 @@ fn point(x: ReadNumber, y: ReadNumber) -> ReadPoint
 /// What is read of the point at the front of a text, and what follows it: `None` where no point
 /// stands there.
 #[inline(always)]
-pub(crate) fn read_point(text: &[u8]) -> Option<(ReadPoint, &[u8])>
-    ensures { answer_view result ≡ point_answer (point_at text.now) }
+pub(crate) fn read_point(text: &[u8], scale: Scale) -> Option<(ReadPoint, &[u8])>
+    ensures { answer_view result ≡ point_answer scale (point_at text.now) }
 {
-    let (x, rest) = read_number(text)?;
+    let (x, rest) = read_number(text, scale)?;
     let rest = skip_gap(rest)?;
-    let (y, rest) = read_number(rest)?;
+    let (y, rest) = read_number(rest, scale)?;
     Some((point(x, y), rest))
 }

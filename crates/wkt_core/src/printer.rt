@@ -1,40 +1,89 @@
 //! Printing a shape.
 
-ghost use Rattle.std.specs.Prelude.{◌≡◌, ◌++◌, [], ◌∷◌, codes, IfOk, OnOk};
+ghost use Rattle.std.specs.Prelude.{◌≡◌, ◌++◌, ◌<◌, ◌^◌, [], ◌∷◌, codes, IfOk, OnOk};
 ghost use Rattle.std.specs.String.{string_bytes};
 ghost use Rattle.geom_core.specs.declared.shape.Shape.{Shape};
+ghost use Rattle.wkt_core.specs.Canonical.{decimals, fraction, number, pair, listed, canonical};
 ghost use Rattle.wkt_core.specs.Drawing.{corner};
-ghost use Rattle.wkt_core.specs.Spelling.{Spells, pair, listed, canonical};
+ghost use Rattle.wkt_core.specs.Scales.{digits_of};
+ghost use Rattle.wkt_core.specs.Spelling.{Spells};
 
 use crate::position::Position;
+use crate::scale::Scale;
 use geom_core::Shape;
 use itoa::Buffer;
 use std::alloc::{AllocError, Global};
 
-/// Room for the longest text, a rectangle with ten numbers of at most eleven bytes.
-const LONGEST: usize = 135;
+/// Room for the longest text, a rectangle with ten numbers of at most fourteen bytes.
+const LONGEST: usize = 165;
 
-/// Adds the two numbers of a point.
-fn push_point(text: &mut String, point: &Position) -> Result<(), AllocError>
-    ensures { OnOk result (string_bytes text.new ≡ string_bytes text.old ++ pair point.now) }
+/// Adds the digits of a fraction of 1 in units of the scale, up to the last that isn't 0.
+fn push_decimals(text: &mut String, units: u64, scale: Scale) -> Result<(), AllocError>
+    requires { units < 10 ^ digits_of scale }
+    ensures { OnOk result (string_bytes text.new
+        ≡ string_bytes text.old ++ decimals (digits_of scale) units) }
 {
     let mut digits = Buffer::new();
-    text.push_str(digits.format(point.x))?;
+    let mut place = scale.units_in_one();
+    let mut rest = units;
+    while rest > 0 {
+        place /= 10;
+        text.push_str(digits.format(rest / place))?;
+        rest %= place;
+    }
+    Ok(())
+}
+
+/// Adds a fraction of 1 in units of the scale, where it isn't 0.
+fn push_fraction(text: &mut String, units: u64, scale: Scale) -> Result<(), AllocError>
+    requires { units < 10 ^ digits_of scale }
+    ensures { OnOk result (string_bytes text.new
+        ≡ string_bytes text.old ++ fraction (digits_of scale) units) }
+{
+    if units == 0 {
+        return Ok(());
+    }
+    text.push_str(".")?;
+    push_decimals(text, units, scale)
+}
+
+/// Adds a number of units of the scale.
+fn push_number(text: &mut String, units: i64, scale: Scale) -> Result<(), AllocError>
+    ensures { OnOk result (string_bytes text.new
+        ≡ string_bytes text.old ++ number scale units) }
+{
+    if units < 0 {
+        text.push_str("-")?;
+    }
+    let mut digits = Buffer::new();
+    let one = scale.units_in_one();
+    let magnitude = units.unsigned_abs();
+    text.push_str(digits.format(magnitude / one))?;
+    push_fraction(text, magnitude % one, scale)
+}
+
+/// Adds the two numbers of a point.
+fn push_point(text: &mut String, point: &Position, scale: Scale) -> Result<(), AllocError>
+    ensures { OnOk result (string_bytes text.new
+        ≡ string_bytes text.old ++ pair scale point.now) }
+{
+    push_number(text, point.x, scale)?;
     text.push_str(" ")?;
-    text.push_str(digits.format(point.y))
+    push_number(text, point.y, scale)
 }
 
 /// Adds points, with a comma and a space between them.
-fn push_points(text: &mut String, points: &[Position]) -> Result<(), AllocError>
-    ensures { OnOk result (string_bytes text.new ≡ string_bytes text.old ++ listed points.now) }
+fn push_points(text: &mut String, points: &[Position], scale: Scale) -> Result<(), AllocError>
+    ensures { OnOk result (string_bytes text.new
+        ≡ string_bytes text.old ++ listed scale points.now) }
 {
     let Some((first, further)) = points.split_first() else {
         return Ok(());
     };
-    push_point(text, first)?;
+    push_point(text, first, scale)?;
     for point in further {
         text.push_str(", ")?;
-        push_point(text, point)?;
+        push_point(text, point, scale)?;
     }
     Ok(())
 }
@@ -45,25 +94,28 @@ fn push_geometry(
     opening: &str,
     points: &[Position],
     closing: &str,
+    scale: Scale,
 ) -> Result<(), AllocError>
     ensures { OnOk result (string_bytes text.new
-        ≡ string_bytes text.old ++ (opening.now ++ listed points.now ++ closing.now)) }
+        ≡ string_bytes text.old ++ (opening.now ++ listed scale points.now ++ closing.now)) }
 {
     text.push_str(opening)?;
-    push_points(text, points)?;
+    push_points(text, points, scale)?;
     text.push_str(closing)
 }
 
 /// The canonical spelling of the shape: plain decimal numbers, one space between the two numbers of
 /// a point, a comma and a space between points, and the ring of a rectangle from its lowest corner
-/// along the first axis.
+/// along the first axis. A number has no zero before its whole part nor at its fraction's end, and
+/// a dot only where its fraction isn't 0: at scale 2, 125 units are `1.25` and -5 are `-0.05`. The
+/// text has room for the longest spelling, 165 bytes.
 ///
 /// # Errors
 /// Where memory is refused.
-pub fn print(alloc: Global, shape: &Shape) -> Result<String, AllocError>
-    ensures text { IfOk result (λ text. string_bytes text ≡ canonical shape.now) }
+pub fn print(alloc: Global, shape: &Shape, scale: Scale) -> Result<String, AllocError>
+    ensures text { IfOk result (λ text. string_bytes text ≡ canonical scale shape.now) }
     // The spelling is read again as the shape.
-    ensures spells { Spells (canonical shape.now) shape.now }
+    ensures spells { Spells scale (canonical scale shape.now) shape.now }
 {
     let (x1, y1, x2, y2) = (shape.x1(), shape.y1(), shape.x2(), shape.y2());
     let a = Position::new(x1, y1);
@@ -72,9 +124,9 @@ pub fn print(alloc: Global, shape: &Shape) -> Result<String, AllocError>
     let d = Position::new(x1, y2);
     let mut text = String::with_capacity(alloc, LONGEST)?;
     match shape.dim() {
-        0 => push_geometry(&mut text, "POINT (", &[a], ")")?,
-        1 => push_geometry(&mut text, "LINESTRING (", &[a, c], ")")?,
-        _ => push_geometry(&mut text, "POLYGON ((", &[a, b, c, d, a], "))")?,
+        0 => push_geometry(&mut text, "POINT (", &[a], ")", scale)?,
+        1 => push_geometry(&mut text, "LINESTRING (", &[a, c], ")", scale)?,
+        _ => push_geometry(&mut text, "POLYGON ((", &[a, b, c, d, a], "))", scale)?,
     }
     Ok(text)
 }

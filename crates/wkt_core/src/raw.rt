@@ -4,6 +4,7 @@ use crate::form::shape_of;
 use crate::keyword::Keyword;
 use crate::list::{read_lists, read_one_point, read_points};
 use crate::read_list::ReadLists;
+use crate::scale::Scale;
 use crate::token::skip_blanks;
 use geom_core::Shape;
 
@@ -19,6 +20,7 @@ impl RawText {
     ghost use Rattle.std.specs.List.{list_all};
     ghost use Rattle.geom_core.specs.declared.shape.Shape.{Shape};
     ghost use Rattle.wkt_core.specs.declared.keyword.Keyword.{Keyword};
+    ghost use Rattle.wkt_core.specs.declared.scale.Scale.{Scale};
     ghost use Rattle.wkt_core.specs.Grammar.{RawPoint};
     ghost use Rattle.wkt_core.specs.Spelling.{Forms, positions};
     ghost use Rattle.wkt_core.specs.ListSteps.{TakesBody, TakesText};
@@ -26,41 +28,41 @@ impl RawText {
 
     /// What is read of the lists behind the keyword, and what follows them.
     #[inline(always)]
-    fn read_body(keyword: Keyword, text: &[u8]) -> Option<(ReadLists, &[u8])>
+    fn read_body(keyword: Keyword, text: &[u8], scale: Scale) -> Option<(ReadLists, &[u8])>
         ensures some { IfSome result (λ r. (lists : List (List RawPoint))
-            × TakesBody keyword text.now lists r.1.now × AreReadOf r.0 lists) }
+            × TakesBody keyword text.now lists r.1.now × AreReadOf scale r.0 lists) }
         ensures none { IfNone result ((lists : List (List RawPoint)) (rest : List ℕ)
             → TakesBody keyword text.now lists rest → ⊥) }
     {
         match keyword {
             Keyword::Point => {
-                let (list, rest) = read_one_point(text)?;
+                let (list, rest) = read_one_point(text, scale)?;
                 Some((ReadLists::of(list), rest))
             }
             Keyword::LineString => {
-                let (list, rest) = read_points(text)?;
+                let (list, rest) = read_points(text, scale)?;
                 Some((ReadLists::of(list), rest))
             }
-            Keyword::Polygon => read_lists(text),
+            Keyword::Polygon => read_lists(text, scale),
         }
     }
 
     /// The keyword of the text and what is read of its lists, where the grammar has it.
-    pub(crate) fn read(text: &[u8]) -> Option<RawText>
+    pub(crate) fn read(text: &[u8], scale: Scale) -> Option<RawText>
         ensures some { IfSome result (λ raw. (lists : List (List RawPoint))
-            × TakesText text.now raw.keyword lists × AreReadOf raw.lists lists) }
+            × TakesText text.now raw.keyword lists × AreReadOf scale raw.lists lists) }
         ensures none { IfNone result ((keyword : Keyword) (lists : List (List RawPoint))
             → TakesText text.now keyword lists → ⊥) }
     {
         let (keyword, rest) = Keyword::read(skip_blanks(text))?;
-        let (lists, rest) = RawText::read_body(keyword, skip_blanks(rest))?;
+        let (lists, rest) = RawText::read_body(keyword, skip_blanks(rest), scale)?;
         match skip_blanks(rest) {
             [] => Some(RawText { keyword, lists }),
             _ => None,
         }
     }
 
-    /// Whether each number is whole.
+    /// Whether each number is a whole number of units.
     #[inline(always)]
     pub(crate) fn is_whole(&self) -> bool
         ensures { result ≡ self.now.lists.whole }
@@ -68,7 +70,7 @@ impl RawText {
         self.lists.is_whole()
     }
 
-    /// Whether each number, without what stands behind its dot, is in range.
+    /// Whether each number, in whole units, is in range.
     #[inline(always)]
     pub(crate) fn is_in_range(&self) -> bool
         ensures { result ≡ self.now.lists.in_range }
@@ -79,14 +81,16 @@ impl RawText {
     /// The shape that the points draw, where each of their numbers is in range.
     #[inline(always)]
     pub(crate) fn shape(&self) -> Option<Shape>
-        ensures some { IfSome result (λ s. (text : List ℕ) (lists : List (List RawPoint))
-            → TakesText text self.now.keyword lists → AreReadOf self.now.lists lists
-            → IsTrue (list_all are_in_range lists)
-            → Forms self.now.keyword (positions lists) s) }
-        ensures none { IfNone result ((text : List ℕ) (lists : List (List RawPoint)) (s : Shape)
-            → TakesText text self.now.keyword lists → AreReadOf self.now.lists lists
-            → IsTrue (list_all are_in_range lists)
-            → Forms self.now.keyword (positions lists) s → ⊥) }
+        ensures some { IfSome result (λ s.
+            (scale : Scale) (text : List ℕ) (lists : List (List RawPoint))
+            → TakesText text self.now.keyword lists → AreReadOf scale self.now.lists lists
+            → IsTrue (list_all (are_in_range scale) lists)
+            → Forms self.now.keyword (positions scale lists) s) }
+        ensures none { IfNone result
+            ((scale : Scale) (text : List ℕ) (lists : List (List RawPoint)) (s : Shape)
+            → TakesText text self.now.keyword lists → AreReadOf scale self.now.lists lists
+            → IsTrue (list_all (are_in_range scale) lists)
+            → Forms self.now.keyword (positions scale lists) s → ⊥) }
     {
         let walk = self.lists.alone()?;
         shape_of(self.keyword, walk)

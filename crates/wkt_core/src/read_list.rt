@@ -14,6 +14,7 @@ pub(crate) struct ReadList {
 
 impl ReadList {
     ghost use Rattle.std.specs.Prelude.{[], ◌∷◌, ◌++◌, ◌≡◌, List};
+    ghost use Rattle.wkt_core.specs.declared.scale.Scale.{Scale};
     ghost use Rattle.wkt_core.specs.Grammar.{RawPoint};
     ghost use Rattle.wkt_core.specs.PointSteps.{point_read};
     ghost use Rattle.wkt_core.specs.ReadLists.{IsReadOf};
@@ -21,7 +22,7 @@ impl ReadList {
     /// Of no points.
     #[inline(always)]
     pub(crate) fn new() -> ReadList
-        ensures { IsReadOf result [] }
+        ensures { (scale : Scale) → IsReadOf scale result [] }
     {
         ReadList {
             walk: Walk::new(),
@@ -33,8 +34,8 @@ impl ReadList {
     /// Adds a point.
     #[inline(always)]
     pub(crate) fn push(&mut self, point: ReadPoint)
-        ensures { (ps : List RawPoint) (p : RawPoint)
-            → IsReadOf self.old ps → point ≡ point_read p → IsReadOf self.new (ps ++ p ∷ []) }
+        ensures { (scale : Scale) (ps : List RawPoint) (p : RawPoint) → IsReadOf scale self.old ps
+            → point ≡ point_read scale p → IsReadOf scale self.new (ps ++ p ∷ []) }
     {
         self.whole = self.whole && point.whole;
         match point.position {
@@ -56,13 +57,15 @@ pub(crate) struct ReadLists {
 
 impl ReadLists {
     ghost use Rattle.std.specs.Prelude.{◌≡◌, [], ◌∷◌, ◌++◌, List, false, IsTrue, IfSome, IfNone};
+    ghost use Rattle.wkt_core.specs.declared.scale.Scale.{Scale};
     ghost use Rattle.wkt_core.specs.Grammar.{RawPoint};
     ghost use Rattle.wkt_core.specs.ReadLists.{IsReadOf, AreReadOf};
 
     /// Of one list.
     #[inline(always)]
     pub(crate) fn of(first: ReadList) -> ReadLists
-        ensures { (ps : List RawPoint) → IsReadOf first ps → AreReadOf result (ps ∷ []) }
+        ensures { (scale : Scale) (ps : List RawPoint)
+            → IsReadOf scale first ps → AreReadOf scale result (ps ∷ []) }
     {
         let whole = first.whole;
         let in_range = first.in_range;
@@ -77,15 +80,16 @@ impl ReadLists {
     /// Adds a further list.
     #[inline(always)]
     pub(crate) fn push(&mut self, further: ReadList)
-        ensures { (lists : List (List RawPoint)) (ps : List RawPoint) → AreReadOf self.old lists
-            → IsReadOf further ps → AreReadOf self.new (lists ++ ps ∷ []) }
+        ensures { (scale : Scale) (lists : List (List RawPoint)) (ps : List RawPoint)
+            → AreReadOf scale self.old lists → IsReadOf scale further ps
+            → AreReadOf scale self.new (lists ++ ps ∷ []) }
     {
         self.alone = false;
         self.whole = self.whole && further.whole;
         self.in_range = self.in_range && further.in_range;
     }
 
-    /// Whether each number of the lists is whole.
+    /// Whether each number of the lists is a whole number of units.
     #[inline(always)]
     pub(crate) fn is_whole(&self) -> bool
         ensures { result ≡ self.now.whole }
@@ -93,7 +97,7 @@ impl ReadLists {
         self.whole
     }
 
-    /// Whether each number of the lists, without what stands behind its dot, is in range.
+    /// Whether each number of the lists, in whole units, is in range.
     #[inline(always)]
     pub(crate) fn is_in_range(&self) -> bool
         ensures { result ≡ self.now.in_range }

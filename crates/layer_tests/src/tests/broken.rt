@@ -8,38 +8,31 @@ const LEFT: &str =
     "id,wkt\na,\"POLYGON ((0 0, 4 0, 4 4, 0 4, 0 0))\"\nb,POINT (4 4)\nc,\"LINESTRING (1 0, 3 0)\"\n";
 
 // The text of the left layer up to this part of it, which it has once.
-fn cut_after(part: &str) -> Option<&'static str> {
+fn cut_after(part: &str) -> Option<&'static [u8]> {
     let at = LEFT.find(part)?;
-    LEFT.get(..at.checked_add(part.len())?)
+    LEFT.as_bytes().get(..at.checked_add(part.len())?)
 }
 
 // Whether no layer is read of these bytes, for this fault.
 fn has_fault(rt: &HostRuntime, bytes: &[u8], fault: ReadFault) -> Result<bool, Fail> {
-    Ok(layer_of(rt, bytes)?.err() == Some(fault))
+    Ok(fault_of(rt, bytes)? == Some(fault))
 }
 
-// Whether the layer of these bytes has exactly these points, under their ids and in this order.
-fn has_points(rt: &HostRuntime, bytes: &[u8], points: &[(&str, i64)]) -> Result<bool, Fail> {
-    let layer = layer_of(rt, bytes)??;
-    for ((id, x), number) in points.iter().zip(0..) {
-        if !finds(&layer, id, number, point(*x, *x)?) {
-            return Ok(false);
-        }
-    }
-    Ok(layer.len() == points.len())
+// Whether no layer is read of the left layer up to this part, for this fault.
+fn has_fault_after(rt: &HostRuntime, part: &str, fault: ReadFault) -> Result<bool, Fail> {
+    has_fault(rt, cut_after(part).ok_or("a front")?, fault)
 }
 
 #[test]
 fn broken_1(rt: HostRuntime) -> Result<(), Fail> {
-    let text = cut_after("id,wk").ok_or("a front")?;
-    assert!(rt; has_fault(&rt, text.as_bytes(), ReadFault::Header)?);
+    assert!(rt; has_fault_after(&rt, "id,wk", ReadFault::Header)?);
     Ok(())
 }
 
 #[test]
 fn broken_2(rt: HostRuntime) -> Result<(), Fail> {
-    assert!(rt; has_points(&rt, b"id,wkt", &[])?);
-    assert!(rt; has_points(&rt, b"id,wkt\n", &[])?);
+    assert!(rt; reads_as(&rt, b"id,wkt", &[])?);
+    assert!(rt; reads_as(&rt, b"id,wkt\n", &[])?);
     Ok(())
 }
 
@@ -52,28 +45,25 @@ fn broken_3(rt: HostRuntime) -> Result<(), Fail> {
 
 #[test]
 fn broken_4(rt: HostRuntime) -> Result<(), Fail> {
-    let text = cut_after("\nb").ok_or("a front")?;
-    assert!(rt; has_fault(&rt, text.as_bytes(), ReadFault::Row(2))?);
-    let text = cut_after("b,POINT (4 4").ok_or("a front")?;
-    assert!(rt; has_fault(&rt, text.as_bytes(), ReadFault::Wkt(2, WktFault::Text))?);
+    let fault = ReadFault::Wkt(2, WktFault::Text);
+    assert!(rt; has_fault_after(&rt, "\nb", ReadFault::Row(2))?);
+    assert!(rt; has_fault_after(&rt, "b,POINT (4 4", fault)?);
     Ok(())
 }
 
 #[test]
 fn broken_5(rt: HostRuntime) -> Result<(), Fail> {
-    let text = cut_after("b,POINT (4 4)").ok_or("a front")?;
-    let layer = layer_of(&rt, text.as_bytes())??;
     let square = Shape::new(0, 0, 4, 4).ok_or("a square")?;
-    assert!(rt; layer.len() == 2);
-    assert!(rt; finds(&layer, "a", 0, square));
-    assert!(rt; finds(&layer, "b", 1, point(4, 4)?));
+    let features = [("a", square), ("b", point(4, 4)?)];
+    let bytes = cut_after("b,POINT (4 4)").ok_or("a front")?;
+    assert!(rt; reads_as(&rt, bytes, &features)?);
     Ok(())
 }
 
 #[test]
 fn broken_6(rt: HostRuntime) -> Result<(), Fail> {
     let file = b"\xef\xbb\xbfID,Wkt\r\na,POINT (0 0)\r\n";
-    assert!(rt; has_points(&rt, file, &[("a", 0)])?);
+    assert!(rt; reads_as(&rt, file, &[("a", point(0, 0)?)])?);
     Ok(())
 }
 

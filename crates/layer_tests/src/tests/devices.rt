@@ -63,7 +63,7 @@ const ONE_POINT: &[u8] = b"id,wkt\na,POINT (1 2)\n";
 fn failing_reads(rt: HostRuntime) -> Result<(), Fail> {
     for good_reads in [0, 1, 20] {
         let mut source = FromRead::new(Device::new(ONE_EDIT, 2, good_reads));
-        let answer = read_edits(rt.alloc(), &mut source);
+        let answer = read_edits(rt.alloc(), &mut source, whole()?);
         assert!(rt; answer.err() == Some(ReadFault::Io));
         assert!(rt; source.failed());
     }
@@ -79,10 +79,18 @@ fn one_byte_at_a_time(rt: HostRuntime) -> Result<(), Fail> {
     Ok(())
 }
 
+// Whether a layer that is read one byte at a time has exactly these features, in this order.
+fn reads_bytewise(rt: &HostRuntime, text: &[u8], features: &[(&str, Shape)]) -> Result<bool, Fail> {
+    let mut source = FromRead::new(Device::new(text, 1, 1_000));
+    let state = RandomState::new(rt)?;
+    Ok(has_features(
+        &read_layer(rt.alloc(), state, &mut source, whole()?)?,
+        features,
+    ))
+}
+
 #[test]
 fn layer_one_byte_at_a_time(rt: HostRuntime) -> Result<(), Fail> {
-    let mut source = FromRead::new(Device::new(ONE_POINT, 1, 1_000));
-    let layer = read_layer(rt.alloc(), RandomState::new(&rt)?, &mut source)?;
-    assert!(rt; finds(&layer, "a", 0, point(1, 2)?));
+    assert!(rt; reads_bytewise(&rt, ONE_POINT, &[("a", point(1, 2)?)])?);
     Ok(())
 }

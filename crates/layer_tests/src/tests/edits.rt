@@ -44,13 +44,15 @@ fn removes(layer: &mut Layer, id: &str, shape: Shape) -> bool {
     layer.remove(id) == Ok(shape)
 }
 
+// Whether an empty layer takes the row's insertions, and then refuses a removal.
+fn takes_row(layer: &mut Layer) -> Result<bool, Fail> {
+    let inserted = inserts(layer, ROW)? && finds(layer, "a", 0, point(0, 0)?);
+    Ok(inserted && layer.remove("q") == Err(LayerFault::NoSuchId) && layer.len() == 2)
+}
+
 #[test]
 fn layer_edits(rt: HostRuntime) -> Result<(), Fail> {
-    let mut layer = empty_layer(&rt)?;
-    assert!(rt; inserts(&mut layer, ROW)?);
-    assert!(rt; finds(&layer, "a", 0, point(0, 0)?));
-    assert!(rt; layer.remove("q") == Err(LayerFault::NoSuchId));
-    assert!(rt; layer.len() == 2);
+    assert!(rt; on_empty(&rt, takes_row)?);
     Ok(())
 }
 
@@ -60,14 +62,20 @@ fn full_layer(rt: &HostRuntime) -> Result<Layer, Fail> {
     Ok(layer_of(rt, file.as_bytes())??)
 }
 
+// Whether a full layer refuses a new id, and still does so after one removal.
+fn stays_full(full: &mut Layer) -> Result<bool, Fail> {
+    let is_full = full.len() == 1_000_000 && inserts(full, INTO_FULL)?;
+    Ok(is_full && removes(full, "p7", point(7, 0)?) && inserts(full, INTO_FULL)?)
+}
+
+fn is_full_for_good(rt: &HostRuntime) -> Result<bool, Fail> {
+    stays_full(&mut full_layer(rt)?)
+}
+
 // The last part of the row on edits of a layer.
 #[test]
 fn layer_edits_when_full(rt: HostRuntime) -> Result<(), Fail> {
-    let mut full = full_layer(&rt)?;
-    assert!(rt; full.len() == 1_000_000);
-    assert!(rt; inserts(&mut full, INTO_FULL)?);
-    assert!(rt; removes(&mut full, "p7", point(7, 0)?));
-    assert!(rt; inserts(&mut full, INTO_FULL)?);
+    assert!(rt; is_full_for_good(&rt)?);
     Ok(())
 }
 
@@ -76,33 +84,42 @@ fn inserts_again(layer: &mut Layer) -> Result<bool, Fail> {
     Ok(removes(layer, "a", point(0, 0)?) && layer.at(0).is_none() && inserts(layer, AGAIN)?)
 }
 
-// Whether the layer finds this feature by its number.
-fn is_found(layer: &Layer, feature: FeatureRef<'_>) -> bool {
-    match layer.at(feature.number) {
-        Some((id, shape)) => id == feature.id && shape == feature.shape,
+// Whether an empty layer takes three points, and the first of them again behind the others.
+fn takes_again(layer: &mut Layer) -> Result<bool, Fail> {
+    let inserted = layer.is_empty() && inserts(layer, THREE)? && inserts_again(layer)?;
+    Ok(inserted && finds(layer, "a", 3, point(9, 9)?) && layer.len() == 3)
+}
+
+// Whether this is the feature of the id and the number, and the layer finds it by its number.
+fn is_listed(layer: &Layer, feature: &FeatureRef<'_>, id: &str, number: u32) -> bool {
+    match layer.at(number) {
+        Some(found) => {
+            feature.id == id && feature.number == number && found == (feature.id, feature.shape)
+        }
         None => false,
     }
 }
 
-// Whether the features have these ids and numbers, in this order, and are found.
+// Whether the iterator gives features of these ids and numbers, in this order, and no more.
 fn has_listed(layer: &Layer, wanted: &[(&str, u32)]) -> bool {
-    for (feature, (id, number)) in layer.iter().zip(wanted) {
-        if feature.id != *id || feature.number != *number || !is_found(layer, feature) {
-            return false;
+    let mut features = layer.iter();
+    for (id, number) in wanted {
+        match features.next() {
+            Some(feature) if is_listed(layer, &feature, id, *number) => {}
+            _ => return false,
         }
     }
-    layer.len() == wanted.len()
+    features.next().is_none()
+}
+
+// Whether a layer without features is edited as wanted, and lists its features so.
+fn lists_again(layer: &mut Layer) -> Result<bool, Fail> {
+    Ok(takes_again(layer)? && has_listed(layer, LISTED))
 }
 
 #[test]
 fn deleted_and_inserted_again(rt: HostRuntime) -> Result<(), Fail> {
-    let mut layer = empty_layer(&rt)?;
-    assert!(rt; layer.is_empty());
-    assert!(rt; inserts(&mut layer, THREE)?);
-    assert!(rt; inserts_again(&mut layer)?);
-    assert!(rt; finds(&layer, "a", 3, point(9, 9)?));
-    assert!(rt; layer.len() == 3);
-    assert!(rt; has_listed(&layer, LISTED));
+    assert!(rt; on_empty(&rt, lists_again)?);
     Ok(())
 }
 
@@ -127,16 +144,23 @@ fn are_doubles(edits: &[Edit], left: &mut Layer, right: &mut Layer) -> bool {
 fn edits_twice(edits: &[Edit], left: &mut Layer, right: &mut Layer) -> Result<bool, Fail> {
     apply_all(edits, left, right)?;
     let segment = Shape::new(0, 0, 0, 3).ok_or("a segment")?;
-    Ok(left.is_empty() && finds(right, "b", 0, segment) && are_doubles(edits, left, right))
+    let edited = left.is_empty() && finds(right, "b", 0, segment);
+    Ok(edited && are_doubles(edits, left, right) && right.len() == 1)
+}
+
+// Whether a list of edits is read, and does to two layers without features what it says.
+fn reads_edits(alloc: Global, left: &mut Layer, right: &mut Layer) -> Result<bool, Fail> {
+    let edits = edits_of_bytes(alloc, EDITS, whole()?)?;
+    Ok(edits.len() == 3 && edits_twice(&edits, left, right)?)
+}
+
+// The same for a left layer and a new right one.
+fn reads_edits_of(rt: &HostRuntime, left: &mut Layer) -> Result<bool, Fail> {
+    reads_edits(rt.alloc(), left, &mut empty_layer(rt)?)
 }
 
 #[test]
 fn edits_of_both_layers(rt: HostRuntime) -> Result<(), Fail> {
-    let mut left = empty_layer(&rt)?;
-    let mut right = empty_layer(&rt)?;
-    let edits = edits_of_bytes(rt.alloc(), EDITS)?;
-    assert!(rt; edits.len() == 3);
-    assert!(rt; edits_twice(&edits, &mut left, &mut right)?);
-    assert!(rt; right.len() == 1);
+    assert!(rt; on_empty(&rt, |left| reads_edits_of(&rt, left))?);
     Ok(())
 }

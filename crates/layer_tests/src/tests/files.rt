@@ -1,4 +1,5 @@
 //! Files of layers and of edits.
+ghost use Rattle.std.specs.Prelude.{◌≡◌, false};
 
 use super::devices::{Device, Endless};
 use super::*;
@@ -54,21 +55,22 @@ const SPELLINGS: &[&[u8]] = &[
     b"\n\n\"id\",\"wkt\"\n\na,\"LINESTRING (3 0, 1 0)\"\n\"b \"\"c\"\"\",point(4 4)\n\n",
 ];
 
-// The fault of a layer's file, if it has one.
-fn layer_fault(rt: &HostRuntime, bytes: &[u8]) -> Result<Option<ReadFault>, Fail> {
-    Ok(layer_of(rt, bytes)?.err())
+fn edits_fault(alloc: Global, bytes: &[u8]) -> Result<Option<ReadFault>, Fail> {
+    Ok(edits_of_bytes(alloc, bytes, whole()?).err())
 }
 
-fn edits_fault(alloc: Global, bytes: &[u8]) -> Option<ReadFault> {
-    edits_of_bytes(alloc, bytes).err()
+// The fault of a layer that is read from this source, if it has one.
+fn fault_from<S: Source>(rt: &HostRuntime, source: &mut S) -> Result<Option<ReadFault>, Fail>
+    requires { S.has_failed source.old ≡ false }
+{
+    Ok(read_layer(rt.alloc(), RandomState::new(rt)?, source, whole()?).err())
 }
 
 // The file of a layer whose second read fails.
 #[test]
 fn failing_layer(rt: HostRuntime) -> Result<(), Fail> {
     let mut failing = FromRead::new(Device::new(ONE_POINT, 5, 1));
-    let answer = read_layer(rt.alloc(), RandomState::new(&rt)?, &mut failing);
-    assert!(rt; answer.err() == Some(ReadFault::Io));
+    assert!(rt; fault_from(&rt, &mut failing)? == Some(ReadFault::Io));
     assert!(rt; failing.failed());
     Ok(())
 }
@@ -76,34 +78,44 @@ fn failing_layer(rt: HostRuntime) -> Result<(), Fail> {
 #[test]
 fn endless_layer(rt: HostRuntime) -> Result<(), Fail> {
     let mut endless = FromRead::new(Endless);
-    let answer = read_layer(rt.alloc(), RandomState::new(&rt)?, &mut endless);
-    assert!(rt; answer.err() == Some(ReadFault::TooLong));
+    assert!(rt; fault_from(&rt, &mut endless)? == Some(ReadFault::TooLong));
     assert!(rt; !endless.failed());
     Ok(())
 }
 
+// The place of the first of the broken layers that has another fault.
+fn first_other_layer(rt: &HostRuntime) -> Result<Option<usize>, Fail> {
+    for (place, (bytes, fault)) in BROKEN_LAYERS.iter().enumerate() {
+        if fault_of(rt, bytes)? != Some(*fault) {
+            return Ok(Some(place));
+        }
+    }
+    Ok(None)
+}
+
+// The place of the first of the broken lists of edits that has another fault.
+fn first_other_edits(alloc: Global) -> Result<Option<usize>, Fail> {
+    for (place, (bytes, fault)) in BROKEN_EDITS.iter().enumerate() {
+        if edits_fault(alloc, bytes)? != Some(*fault) {
+            return Ok(Some(place));
+        }
+    }
+    Ok(None)
+}
+
 #[test]
 fn broken_files(rt: HostRuntime) -> Result<(), Fail> {
-    for (bytes, fault) in BROKEN_LAYERS {
-        assert!(rt; layer_fault(&rt, bytes)? == Some(*fault), "of {bytes:?}");
-    }
-    for (bytes, fault) in BROKEN_EDITS {
-        assert!(rt;
-            edits_fault(rt.alloc(), bytes) == Some(*fault),
-            "of {bytes:?}"
-        );
-    }
+    assert_eq!(rt; first_other_layer(&rt)?, None);
+    assert_eq!(rt; first_other_edits(rt.alloc())?, None);
     Ok(())
 }
 
 #[test]
 fn spelled_files(rt: HostRuntime) -> Result<(), Fail> {
     let segment = Shape::new(1, 0, 3, 0).ok_or("a segment")?;
+    let features = [("a", segment), ("b \"c\"", point(4, 4)?)];
     for bytes in SPELLINGS {
-        let layer = layer_of(&rt, bytes)??;
-        assert!(rt; layer.len() == 2);
-        assert!(rt; finds(&layer, "a", 0, segment));
-        assert!(rt; finds(&layer, "b \"c\"", 1, point(4, 4)?));
+        assert!(rt; reads_as(&rt, bytes, &features)?);
     }
     Ok(())
 }
@@ -112,7 +124,7 @@ fn spelled_files(rt: HostRuntime) -> Result<(), Fail> {
 fn fault_behind_points(rt: &HostRuntime, row: &str) -> Result<Option<ReadFault>, Fail> {
     let mut file = points_file(rt.alloc(), 1_000_000)?;
     file.push_str(row)?;
-    layer_fault(rt, file.as_bytes())
+    fault_of(rt, file.as_bytes())
 }
 
 #[test]
@@ -124,14 +136,21 @@ fn full_file(rt: HostRuntime) -> Result<(), Fail> {
     Ok(())
 }
 
+// Whether a fault shows as this text and is of this row.
+fn shows(
+    alloc: Global,
+    fault: ReadFault,
+    text: &str,
+    row: Option<u32>,
+) -> Result<bool, AllocError> {
+    let shown = format!(in alloc; "{fault}")?;
+    Ok(shown.as_str() == text && fault.row() == row)
+}
+
 #[test]
 fn fault_texts(rt: HostRuntime) -> Result<(), Fail> {
     let fault = ReadFault::Layer(12, LayerFault::DoubleId);
-    assert!(rt; fault.row() == Some(12));
-    let text = format!(in rt.alloc(); "{fault}")?;
-    assert!(rt; text.as_str() == "row 12: id is already there");
-    let text = format!(in rt.alloc(); "{}", ReadFault::TooLong)?;
-    assert!(rt; text.as_str() == "file is too long");
-    assert!(rt; ReadFault::TooLong.row() == None);
+    assert!(rt; shows(rt.alloc(), fault, "row 12: id is already there", Some(12))?);
+    assert!(rt; shows(rt.alloc(), ReadFault::TooLong, "file is too long", None)?);
     Ok(())
 }

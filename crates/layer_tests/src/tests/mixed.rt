@@ -30,25 +30,14 @@ struct Trial {
 
 impl Trial {
     /// A layer of so many features that is read from a file.
-    fn read(rt: &HostRuntime, random: &mut Random, count: usize) -> Result<Trial, Fail> {
-        let mut file = String::from_str(rt.alloc(), "id,wkt\n")?;
-        let mut list = Vec::new(rt.alloc());
-        let mut next = 0;
-        for name in 0..count {
-            let shape = random.shape().ok_or("a shape")?;
-            let text = wkt_core::print(rt.alloc(), &shape)?;
-            writeln!(file, "p{name},\"{text}\"")?;
-            list.push(Held {
-                name,
-                entry: Entry {
-                    shape,
-                    number: next,
-                },
-            })?;
-            next = next.saturating_add(1);
-        }
-        let layer = layer_of_bytes(rt.alloc(), RandomState::new(rt)?, file.as_bytes())?;
-        Ok(Trial { layer, list, next })
+    fn read(rt: &HostRuntime, random: &mut Random, count: u32) -> Result<Trial, Fail> {
+        let list = listed(rt.alloc(), random, count)?;
+        let layer = layer_of_list(rt, &list)?;
+        Ok(Trial {
+            layer,
+            list,
+            next: count,
+        })
     }
 
     /// Where the feature of this name stands in the list.
@@ -99,12 +88,7 @@ impl Trial {
         insertions: usize,
     ) -> Result<(), Fail> {
         for turn in 0..count {
-            let agrees = if random.below(9) < insertions {
-                self.insert(alloc, random)?
-            } else {
-                self.remove(alloc, random)?
-            };
-            if !agrees {
+            if !self.edit_once(alloc, random, insertions)? {
                 return Err(Fail::new("an edit differs"));
             }
             if turn % 100 == 0 || self.list.len() < 5 {
@@ -114,25 +98,46 @@ impl Trial {
         Ok(())
     }
 
+    /// One edit, so often in nine an insertion, and says whether layer and list agree on it.
+    fn edit_once(
+        &mut self,
+        alloc: Global,
+        random: &mut Random,
+        insertions: usize,
+    ) -> Result<bool, Fail> {
+        if random.below(9) < insertions {
+            return self.insert(alloc, random);
+        }
+        self.remove(alloc, random)
+    }
+
     /// Compares list, tree, counts, and some windows.
     fn compare(&self, alloc: Global, random: &mut Random) -> Result<(), Fail> {
-        if !self.has_list() || !self.finds(alloc)? {
-            return Err(Fail::new("the list differs"));
+        if self.agrees(alloc, random)? {
+            return Ok(());
         }
-        if !self.has_entries(alloc)? || !self.has_counts() {
-            return Err(Fail::new("the tree or a count differs"));
-        }
-        let all = Shape::new(-1000, -1000, 2000, 2000).ok_or("a window")?;
-        let (one, two) = (
-            random.shape().ok_or("a shape")?,
-            random.shape().ok_or("a shape")?,
-        );
-        for window in [all, one, two, one.cover(&two)] {
-            if !self.agrees_at(alloc, &window)? {
-                return Err(Fail::new("a window differs"));
+        Err(Fail::new("the list, the tree, a count or a window differs"))
+    }
+
+    /// Whether list, tree, counts, and some windows agree.
+    fn agrees(&self, alloc: Global, random: &mut Random) -> Result<bool, Fail> {
+        let windows = windows(random).ok_or("four windows")?;
+        Ok(self.has_list() && self.has_counts() && self.agrees_on(alloc, &windows)?)
+    }
+
+    /// Whether the finds by id, the tree and these windows agree.
+    fn agrees_on(&self, alloc: Global, windows: &[Shape]) -> Result<bool, AllocError> {
+        Ok(self.finds(alloc)? && self.has_entries(alloc)? && self.agrees_at_all(alloc, windows)?)
+    }
+
+    /// Whether the tree finds the features of the list that meet each of some windows.
+    fn agrees_at_all(&self, alloc: Global, windows: &[Shape]) -> Result<bool, AllocError> {
+        for window in windows {
+            if !self.agrees_at(alloc, window)? {
+                return Ok(false);
             }
         }
-        Ok(())
+        Ok(true)
     }
 
     /// Whether the layer has the features of the list, in its order.
@@ -144,7 +149,7 @@ impl Trial {
                 _ => return false,
             }
         }
-        self.layer.len() == self.list.len()
+        features.next().is_none() && self.layer.len() == self.list.len()
     }
 
     /// Whether the layer finds the features of the list by their ids, and no other.
@@ -200,6 +205,41 @@ impl Trial {
     }
 }
 
+/// A window over all shapes, two others, and one that covers these; none never comes.
+fn windows(random: &mut Random) -> Option<[Shape; 4]> {
+    let all = Shape::new(-1000, -1000, 2000, 2000)?;
+    let (one, two) = (random.shape()?, random.shape()?);
+    Some([all, one, two, one.cover(&two)])
+}
+
+/// So many features, whose names are their numbers.
+fn listed(alloc: Global, random: &mut Random, count: u32) -> Result<Vec<Held>, Fail> {
+    let mut list = Vec::new(alloc);
+    for number in 0..count {
+        let shape = random.shape().ok_or("a shape")?;
+        let entry = Entry { shape, number };
+        let name = number as usize;
+        list.push(Held { name, entry })?;
+    }
+    Ok(list)
+}
+
+/// The file of a layer that has these features; none where there was no memory.
+fn file_of(alloc: Global, list: &[Held]) -> Option<String> {
+    let mut file = String::from_str(alloc, "id,wkt\n").ok()?;
+    for held in list {
+        let text = wkt_core::print(alloc, &held.entry.shape, Scale::new(0)?).ok()?;
+        writeln!(file, "p{},\"{text}\"", held.name).ok()?;
+    }
+    Some(file)
+}
+
+/// The layer that is read from that file.
+fn layer_of_list(rt: &HostRuntime, list: &[Held]) -> Result<Layer, Fail> {
+    let file = file_of(rt.alloc(), list).ok_or("a file")?;
+    Ok(layer_of(rt, file.as_bytes())??)
+}
+
 /// Takes the feature of this name out of a list, if it is there.
 fn take(list: &mut Vec<Held>, name: usize) -> Option<Held> {
     for (place, held) in list.iter().enumerate() {
@@ -226,15 +266,18 @@ fn gather(node: &Node, entries: &mut Vec<Entry>) -> Result<(), AllocError>
     Ok(())
 }
 
+/// Compares, and then makes mostly insertions and mostly removals in turn.
+fn edit_in_turn(trial: &mut Trial, alloc: Global, random: &mut Random) -> Result<(), Fail> {
+    trial.compare(alloc, random)?;
+    for insertions in [6, 1, 7, 0] {
+        trial.edit(alloc, random, 1500, insertions)?;
+    }
+    Ok(())
+}
+
 #[test]
 fn mixed_edits(rt: HostRuntime) -> Result<(), Fail> {
-    let alloc = rt.alloc();
     let mut random = Random::new(1);
     let mut trial = Trial::read(&rt, &mut random, 300)?;
-    trial.compare(alloc, &mut random)?;
-    trial.edit(alloc, &mut random, 1500, 6)?;
-    trial.edit(alloc, &mut random, 1500, 1)?;
-    trial.edit(alloc, &mut random, 1500, 7)?;
-    trial.edit(alloc, &mut random, 1500, 0)?;
-    Ok(())
+    edit_in_turn(&mut trial, rt.alloc(), &mut random)
 }

@@ -20,13 +20,25 @@ const STATS_OF_TWO: Stats = Stats {
     height: 1,
 };
 
-#[test]
-fn stats_extra(rt: HostRuntime) -> Result<(), Fail> {
-    let mut layer = layer_of(&rt, TWO)??;
-    assert!(rt; layer.stats() == STATS_OF_TWO);
+fn stats_of(rt: &HostRuntime, bytes: &[u8]) -> Result<Stats, Fail> {
+    Ok(layer_of(rt, bytes)??.stats())
+}
+
+// The counts of the layer of two features once they are removed.
+fn stats_emptied(layer: &mut Layer) -> Result<Stats, Fail> {
     layer.remove("a")?;
     layer.remove("b")?;
-    assert!(rt; layer.stats() == NOTHING);
-    assert!(rt; layer_of(&rt, b"id,wkt\n")??.stats() == NOTHING);
+    Ok(layer.stats())
+}
+
+fn stats_of_emptied(rt: &HostRuntime) -> Result<Stats, Fail> {
+    stats_emptied(&mut layer_of(rt, TWO)??)
+}
+
+#[test]
+fn stats_extra(rt: HostRuntime) -> Result<(), Fail> {
+    assert!(rt; stats_of(&rt, TWO)? == STATS_OF_TWO);
+    assert!(rt; stats_of_emptied(&rt)? == NOTHING);
+    assert!(rt; stats_of(&rt, b"id,wkt\n")? == NOTHING);
     Ok(())
 }

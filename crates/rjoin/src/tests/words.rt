@@ -4,62 +4,171 @@ use crate::word_line::{word_line, word_status};
 use crate::words::{Command, WordFault, read_words};
 use geom_core::{JoinRelation, Relation};
 use join_core::{Options, ToWrite};
-use std::process::Abort;
+use std::alloc::Global;
 use std::test::Fail;
+use wkt_core::Scale;
+
+/// Words, of which each follows a `|`, that don't fit the usage.
+const USAGE_FAULTS: [&str; 17] = [
+    "rjoin",
+    "rjoin|relate|x",
+    "rjoin|relate|x|y|z",
+    "rjoin|bridge",
+    "rjoin|window|q.csv",
+    "rjoin|stats",
+    "rjoin|stats|l.csv|q.csv",
+    "rjoin|stats|l.csv|--scale|x",
+    "rjoin|stats|l.csv|--cut|2",
+    "rjoin|join|l.csv|q.csv",
+    "rjoin|join|l.csv|--relation|touches",
+    "rjoin|join|l.csv|q.csv|--relation|disjoint|--workers|x",
+    "rjoin|join|l.csv|q.csv|--relation|touch|--cut|4294967296",
+    "rjoin|relate|x|y|--scale|4294967296",
+    "rjoin|join|-|-|--relation|touch",
+    "rjoin|join|-|q.csv|--relation|touches|--workers|17|--edits|-",
+    "rjoin|join|l.csv|-|--relation|touches|--edits|-|--scale|7",
+];
+
+/// Words of a join behind its files, and the line of their fault.
+const REFUSED_OPTIONS: [(&str, &str); 11] = [
+    (
+        "--relation|disjoint|--workers|17",
+        "rjoin: --relation: disjoint features may fit\n",
+    ),
+    (
+        "--relation|touch|--workers|0",
+        "rjoin: --relation: not a name or a mask of nine letters\n",
+    ),
+    (
+        "--workers|17|--relation|T*F**F**3",
+        "rjoin: --relation: bad letter at place 8\n",
+    ),
+    (
+        "--relation|touches|--workers|0|--batch|0",
+        "rjoin: --workers must be 1 to 16\n",
+    ),
+    (
+        "--relation|touches|--workers|17|--cut|9",
+        "rjoin: --workers must be 1 to 16\n",
+    ),
+    (
+        "--relation|touches|--batch|4097|--cut|9",
+        "rjoin: --batch must be 1 to 4096\n",
+    ),
+    (
+        "--relation|touches|--batch|0",
+        "rjoin: --batch must be 1 to 4096\n",
+    ),
+    (
+        "--relation|touches|--cut|9",
+        "rjoin: --cut must be 0 to 8\n",
+    ),
+    (
+        "--scale|7|--relation|touches|--cut|9",
+        "rjoin: --cut must be 0 to 8\n",
+    ),
+    (
+        "--scale|7|--relation|disjoint",
+        "rjoin: --relation: disjoint features may fit\n",
+    ),
+    (
+        "--relation|touches|--scale|4294967295",
+        "rjoin: --scale must be 0 to 6\n",
+    ),
+];
+
+/// Words of a join within, behind its files, with the edits, the three numbers and the decimals
+/// that they ask for.
+const JOINS: [(&str, Option<&str>, (u32, u32, u32), u32); 7] = [
+    ("--relation|within", None, (4, 256, 2), 0),
+    (
+        "--relation|within|--edits|e.csv",
+        Some("e.csv"),
+        (4, 256, 2),
+        0,
+    ),
+    ("--relation|Within|--edits|-", Some("-"), (4, 256, 2), 0),
+    ("--relation|within|--workers|16", None, (16, 256, 2), 0),
+    ("--relation|within|--batch|4096", None, (4, 4096, 2), 0),
+    ("--relation|within|--cut|0|--scale|6", None, (4, 256, 0), 6),
+    (
+        "--cut|8|--batch|1|--edits|e.csv|--scale|1|--workers|1|--relation|within",
+        Some("e.csv"),
+        (1, 1, 8),
+        1,
+    ),
+];
+
+/// Words that ask for help, and what is among it.
+const HELP: [(&str, &str); 10] = [
+    ("rjoin|--help", "id,wkt"),
+    ("rjoin|help", "Exit status"),
+    ("rjoin|--version", "rjoin "),
+    ("rjoin|relate|--help", "interior, boundary and exterior"),
+    ("rjoin|join|--help", "op,layer,id,wkt"),
+    ("rjoin|join|--help", "  overlaps "),
+    ("rjoin|join|--help", "1 to 16 [default: 4]"),
+    ("rjoin|help|join", "0 to 6 [default: 0]"),
+    ("rjoin|window|--help", "Exit status"),
+    ("rjoin|stats|--help", "Exit status"),
+];
+
+/// The words that stand between `|`.
+fn parted(alloc: Global, words: &'static str) -> Result<Vec<&'static str>, Fail> {
+    Ok(words.split('|').collect(alloc)?)
+}
+
+/// What is shown of words that are no command, or nothing where they are one, and their status.
+fn shown(alloc: Global, words: &[&str]) -> Result<(Vec<u8>, u8), Fail> {
+    let mut sink = ToWrite::new(Vec::new(alloc));
+    let Err(fault) = read_words(alloc, words) else {
+        return Ok((sink.into_inner(), 0));
+    };
+    word_line(&fault, &mut sink)?;
+    Ok((sink.into_inner(), word_status(&fault)))
+}
+
+/// Whether words are read as this command.
+fn reads(alloc: Global, words: &'static str, wanted: Command<'_>) -> Result<bool, Fail> {
+    Ok(read_words(alloc, parted(alloc, words)?.as_slice())? == wanted)
+}
 
 #[test]
 fn relate_words(rt: HostRuntime) -> Result<(), Fail> {
-    let command = read_words(rt.alloc(), &["rjoin", "relate", "POINT (0 0)", "x"])?;
+    let Some(scale) = Scale::new(0) else {
+        panic!(rt; "no scale");
+    };
     let a = "POINT (0 0)";
-    assert!(rt; command == Command::Relate { a, b: "x" });
+    let wanted = Command::Relate { a, b: "x", scale };
+    assert!(rt; reads(rt.alloc(), "rjoin|relate|POINT (0 0)|x", wanted)?);
     Ok(())
 }
 
 #[test]
 fn layer_words(rt: HostRuntime) -> Result<(), Fail> {
-    let command = read_words(rt.alloc(), &["rjoin", "window", "q.csv", "POINT (4 4)"])?;
+    let Some(scale) = Scale::new(2) else {
+        panic!(rt; "no scale");
+    };
     let wkt = "POINT (4 4)";
-    assert!(rt; command == Command::Window { path: "q.csv", wkt });
-    let command = read_words(rt.alloc(), &["rjoin", "stats", "l.csv"])?;
-    assert!(rt; command == Command::Stats { path: "l.csv" });
+    let wanted = Command::Window {
+        path: "-",
+        wkt,
+        scale,
+    };
+    assert!(rt; reads(rt.alloc(), "rjoin|window|-|POINT (4 4)|--scale|2", wanted)?);
+    let wanted = Command::Stats {
+        path: "l.csv",
+        scale,
+    };
+    assert!(rt; reads(rt.alloc(), "rjoin|stats|l.csv|--scale|02", wanted)?);
     Ok(())
 }
 
 #[test]
 fn usage_faults(rt: HostRuntime) -> Result<(), Fail> {
-    let no_words: [&str; 1] = ["rjoin"];
-    for words in [
-        no_words.as_slice(),
-        &["rjoin", "relate", "x"],
-        &["rjoin", "relate", "x", "y", "z"],
-        &["rjoin", "bridge"],
-        &["rjoin", "window", "q.csv"],
-        &["rjoin", "stats"],
-        &["rjoin", "stats", "l.csv", "q.csv"],
-        &["rjoin", "join", "l.csv", "q.csv"],
-        &["rjoin", "join", "l.csv", "--relation", "touches"],
-        &[
-            "rjoin",
-            "join",
-            "l.csv",
-            "q.csv",
-            "--relation",
-            "disjoint",
-            "--workers",
-            "x",
-        ],
-        &[
-            "rjoin",
-            "join",
-            "l.csv",
-            "q.csv",
-            "--relation",
-            "touch",
-            "--cut",
-            "4294967296",
-        ],
-    ] {
-        match read_words(rt.alloc(), words) {
+    for words in USAGE_FAULTS {
+        let words = parted(rt.alloc(), words)?;
+        match read_words(rt.alloc(), words.as_slice()) {
             Err(fault @ WordFault::Usage { .. }) => assert!(rt; word_status(&fault) == 2),
             _ => panic!(rt; "no usage fault"),
         }
@@ -69,19 +178,10 @@ fn usage_faults(rt: HostRuntime) -> Result<(), Fail> {
 
 #[test]
 fn help_and_version(rt: HostRuntime) -> Result<(), Fail> {
-    let Err(fault) = read_words(rt.alloc(), &["rjoin", "--version"]) else {
-        panic!(rt; "no version");
-    };
-    assert!(rt; word_status(&fault) == 0);
-    let mut sink = ToWrite::new(Vec::new(rt.alloc()));
-    word_line(&fault, &mut sink)?;
-    let written: Vec<u8> = sink.into_inner();
-    assert!(rt; written.as_slice().starts_with(b"rjoin "));
-    for words in [&["rjoin", "--help"], &["rjoin", "help"]] {
-        let Err(fault) = read_words(rt.alloc(), words) else {
-            panic!(rt; "no help");
-        };
-        assert!(rt; word_status(&fault) == 0);
+    for (words, part) in HELP {
+        let (help, status) = shown(rt.alloc(), parted(rt.alloc(), words)?.as_slice())?;
+        let help = String::from_utf8(help)?;
+        assert!(rt; status == 0 && help.as_str().contains(part), "{words}");
     }
     Ok(())
 }
@@ -96,108 +196,45 @@ fn no_memory_line(rt: HostRuntime) -> Result<(), Fail> {
     Ok(())
 }
 
-/// Checks the status and the line of words that are no command.
-fn check_refused(
-    rt: &(impl Abort + AllocGlobal),
-    words: &[&str],
-    status: u8,
-    line: &str,
-) -> Result<(), Fail> {
-    let Err(fault) = read_words(rt.alloc(), words) else {
-        panic!(rt; "no fault");
-    };
-    assert!(rt; word_status(&fault) == status);
-    let mut sink = ToWrite::new(Vec::new(rt.alloc()));
-    word_line(&fault, &mut sink)?;
-    let written: Vec<u8> = sink.into_inner();
-    assert!(rt; written.as_slice() == line.as_bytes());
-    Ok(())
-}
-
-/// Checks the faults of a join whose words end so.
-fn check_join_refused(
-    rt: &(impl Abort + AllocGlobal),
-    last: &[&str],
-    line: &str,
-) -> Result<(), Fail> {
-    let mut words = Vec::new(rt.alloc());
+/// The words of a join of two files that end so.
+fn join_words(alloc: Global, last: &'static str) -> Result<Vec<&'static str>, Fail> {
+    let mut words = Vec::new(alloc);
     words.extend_from_slice(&["rjoin", "join", "l.csv", "q.csv"])?;
-    words.extend_from_slice(last)?;
-    check_refused(rt, words.as_slice(), 2, line)
+    words.extend_from_slice(parted(alloc, last)?.as_slice())?;
+    Ok(words)
 }
 
 #[test]
 fn refused_options(rt: HostRuntime) -> Result<(), Fail> {
-    let disjoint = "rjoin: --relation: disjoint features may fit\n";
-    let length = "rjoin: --relation: not a name or a mask of nine letters\n";
-    let letter = "rjoin: --relation: bad letter at place 8\n";
-    let workers = "rjoin: --workers must be 1 to 16\n";
-    let batch = "rjoin: --batch must be 1 to 4096\n";
-    let cut = "rjoin: --cut must be 0 to 8\n";
-    for (last, line) in [
-        (
-            ["--relation", "disjoint", "--workers", "17"].as_slice(),
-            disjoint,
-        ),
-        (&["--relation", "touch", "--workers", "0"], length),
-        (&["--workers", "17", "--relation", "T*F**F**3"], letter),
-        (
-            &["--relation", "touches", "--workers", "0", "--batch", "0"],
-            workers,
-        ),
-        (
-            &["--relation", "touches", "--workers", "17", "--cut", "9"],
-            workers,
-        ),
-        (
-            &["--relation", "touches", "--batch", "4097", "--cut", "9"],
-            batch,
-        ),
-        (&["--relation", "touches", "--batch", "0"], batch),
-        (&["--relation", "touches", "--cut", "9"], cut),
-    ] {
-        check_join_refused(&rt, last, line)?;
+    for (last, line) in REFUSED_OPTIONS {
+        let (written, status) = shown(rt.alloc(), join_words(rt.alloc(), last)?.as_slice())?;
+        assert!(rt;
+            status == 2 && written.as_slice() == line.as_bytes(),
+            "{last}"
+        );
     }
-    Ok(())
-}
-
-/// Checks what a join whose words end so is read as.
-fn check_join(
-    rt: &(impl Abort + AllocGlobal),
-    last: &[&str],
-    edits_path: Option<&str>,
-    numbers: (u32, u32, u32),
-) -> Result<(), Fail> {
-    let mut words = Vec::new(rt.alloc());
-    words.extend_from_slice(&["rjoin", "join", "l.csv", "q.csv", "--relation", "within"])?;
-    words.extend_from_slice(last)?;
-    let wanted = Command::Join {
-        left_path: "l.csv",
-        right_path: "q.csv",
-        edits_path,
-        relation: JoinRelation::new(Relation::Within)?,
-        options: Options::new(numbers.0, numbers.1, numbers.2)?,
-    };
-    assert!(rt; read_words(rt.alloc(), words.as_slice())? == wanted);
     Ok(())
 }
 
 #[test]
 fn joins(rt: HostRuntime) -> Result<(), Fail> {
-    check_join(&rt, &[], None, (4, 256, 2))?;
-    check_join(&rt, &["--edits", "e.csv"], Some("e.csv"), (4, 256, 2))?;
-    check_join(&rt, &["--workers", "16"], None, (16, 256, 2))?;
-    check_join(&rt, &["--batch", "4096"], None, (4, 4096, 2))?;
-    check_join(&rt, &["--cut", "0"], None, (4, 256, 0))?;
-    let all = [
-        "--cut",
-        "8",
-        "--batch",
-        "1",
-        "--edits",
-        "e.csv",
-        "--workers",
-        "1",
-    ];
-    check_join(&rt, &all, Some("e.csv"), (1, 1, 8))
+    for (last, edits_path, (workers, batch, cut), decimals) in JOINS {
+        let Some(scale) = Scale::new(decimals) else {
+            panic!(rt; "no scale");
+        };
+        let wanted = Command::Join {
+            left_path: "l.csv",
+            right_path: "q.csv",
+            edits_path,
+            relation: JoinRelation::new(Relation::Within)?,
+            options: Options::new(workers, batch, cut)?,
+            scale,
+        };
+        let words = join_words(rt.alloc(), last)?;
+        assert!(rt;
+            read_words(rt.alloc(), words.as_slice())? == wanted,
+            "{last}"
+        );
+    }
+    Ok(())
 }

@@ -10,8 +10,8 @@ abbrev pub invariant-loop-edits : goal.invariant-loop-edits
 invariant-loop-edits l =
     IsReading l.rows
     × (length l.edits.items ≡ l.rows.count)
-    × ((answer : Result (List EditContent) ReadFault) → RowsGive EditsRowGives (l.rows.count + 1) (map content_of l.edits.items)
-    (rows_left l.rows) answer → IsEditFile l.bytes answer)
+    × ((answer : Result (List EditContent) ReadFault) → RowsGive (EditsRowGives l.scale) (l.rows.count + 1) (map content_of l.edits.items)
+    (rows_left l.rows) answer → IsEditFile l.scale l.bytes answer)
 
 abbrev pub decreases-loop-edits : goal.decreases-loop-edits
 decreases-loop-edits l = length (rows_left l.rows)

@@ -1,76 +1,48 @@
-use Rattle.rjoin.proofs.CommandLemmas.{relate_ends, left_missing, right_missing, edits_missing, no_keys, join_ends}
+use Rattle.rjoin.proofs.CommandLemmas.{relate_ends}
 use Rattle.rjoin.proofs.LayerCommandLemmas.{layer_missing, layer_without_keys, window_reads_one, window_none_first, window_ran, stats_reads_one, stats_none_first, stats_ran}
 use Rattle.rjoin.proofs.command.execute.Goals as goal
 
 pub returns-in-Relate : goal.returns-in-Relate
 returns-in-Relate g c =
-    relate_ends _ _ _ _ _ _ _ _ _ _ _ _ c.in-Relate.is c.as_bytes.ensures.value c.as_bytes-in-Relate.ensures.value
+    relate_ends _ _ _ _ _ _ _ _ _ _ _ _ _ c.in-Relate.is c.as_bytes.ensures.value c.as_bytes-in-Relate.ensures.value
     c.run_relate.ensures.writes c.run_relate.ensures.wkt c.run_relate.ensures.faults
 
-pub returns-in_err-left-in-Join : goal.returns-in_err-left-in-Join
-returns-in_err-left-in-Join g c =
-    left_missing _ _ _ _ _ _ _ _ _ _ _ _ _ c.in-Join.is c.requires c.from_residual.ensures.1 c.in_err-left-in-Join.ensures.fault
-    c.in_err-left-in-Join.ensures.missing
-
-pub returns-in_err-right-in-Join : goal.returns-in_err-right-in-Join
-returns-in_err-right-in-Join g c =
-    right_missing _ _ _ _ _ _ _ _ _ _ _ _ _ _ c.in-Join.is c.requires c.from_residual-in_err-right-in-Join.ensures.1 c.in_err-right-in-Join.ensures.fault
-    c.in_ok-left-in-Join.ensures.ok c.in_err-right-in-Join.ensures.missing
-
-pub returns-in_err-edits-in-Join : goal.returns-in_err-edits-in-Join
-returns-in_err-edits-in-Join g c =
-    edits_missing _ _ _ _ _ _ _ _ _ _ _ _ _ _ _ c.in-Join.is c.requires c.from_residual-in_err-edits-in-Join.ensures.1 c.in_err-edits-in-Join.ensures.fault
-    c.in_ok-left-in-Join.ensures.ok c.in_ok-right-in-Join.ensures.ok c.in_err-edits-in-Join.ensures.missing
-
-pub returns-in_err-hash_state-in-Join : goal.returns-in_err-hash_state-in-Join
-returns-in_err-hash_state-in-Join g c =
-    no_keys _ _ _ _ _ _ _ _ _ _ _ _ _ _ _ _ c.in-Join.is c.requires c.from_residual-in_err-hash_state-in-Join.ensures.1 c.in_err-hash_state-in-Join.ensures
-    c.in_ok-left-in-Join.ensures.ok c.in_ok-right-in-Join.ensures.ok c.in_ok-edits-in-Join.ensures.ok
-
-pub returns-in_err-hash_state-in-Join-2 : goal.returns-in_err-hash_state-in-Join-2
-returns-in_err-hash_state-in-Join-2 g c =
-    no_keys _ _ _ _ _ _ _ _ _ _ _ _ _ _ _ _ c.in-Join.is c.requires c.from_residual-in_err-hash_state-in-Join-2.ensures.1
-    c.in_err-hash_state-in-Join-2.ensures
-    c.in_ok-left-in-Join.ensures.ok c.in_ok-right-in-Join.ensures.ok c.in_ok-edits-in-Join.ensures.ok
-
-pub returns-in_ok-hash_state-in-Join-2 : goal.returns-in_ok-hash_state-in-Join-2
-returns-in_ok-hash_state-in-Join-2 g c =
-    join_ends _ _ _ _ _ _ _ _ _ _ _ _ _ _ _ _ c.in-Join.is c.in_ok-left-in-Join.ensures.ok c.in_ok-right-in-Join.ensures.ok c.in_ok-edits-in-Join.ensures.ok
-    c.run_join.ensures.writes c.run_join.ensures.fault c.run_join.ensures.faults
+pub returns-in-Join : goal.returns-in-Join
+returns-in-Join g c = rw c.in-Join.is c.execute_join.ensures
 
 pub returns-in_err-layer-in-Window : goal.returns-in_err-layer-in-Window
 returns-in_err-layer-in-Window g c =
     rw c.in-Window.is
-    (layer_missing _ _ _ _ _ _ _ (window_reads_one c.in-Window.path c.in-Window.wkt) _ _ _ c.requires c.from_residual-in_err-layer-in-Window.ensures.1
+    (layer_missing _ _ _ _ _ _ _ (window_reads_one c.in-Window.scale c.in-Window.path c.in-Window.wkt) _ _ _ c.requires c.from_residual.ensures.1
     c.in_err-layer-in-Window.ensures.fault c.in_err-layer-in-Window.ensures.missing)
 
 pub returns-in_err-state-in-Window : goal.returns-in_err-state-in-Window
 returns-in_err-state-in-Window g c =
     rw c.in-Window.is
-    (layer_without_keys _ _ _ _ _ _ _ (window_reads_one c.in-Window.path c.in-Window.wkt) _ _ _ _ c.requires
+    (layer_without_keys _ _ _ _ _ _ _ (window_reads_one c.in-Window.scale c.in-Window.path c.in-Window.wkt) _ _ _ _ c.requires
     c.from_residual-in_err-state-in-Window.ensures.1
-    c.in_err-state-in-Window.ensures c.in_ok-layer-in-Window.ensures.ok (window_none_first c.in-Window.path c.in-Window.wkt _))
+    c.in_err-state-in-Window.ensures c.in_ok-layer-in-Window.ensures.ok (window_none_first c.in-Window.scale c.in-Window.path c.in-Window.wkt _))
 
 pub returns-in_ok-state-in-Window : goal.returns-in_ok-state-in-Window
 returns-in_ok-state-in-Window g c =
     rw c.in-Window.is
-    (window_ran _ _ _ _ c.in-Window.path c.in-Window.wkt _ _ _ _ _ c.as_bytes-in-Window.ensures.value c.in_ok-layer-in-Window.ensures.ok
+    (window_ran _ _ _ _ c.in-Window.scale c.in-Window.path c.in-Window.wkt _ _ _ _ _ c.as_bytes-wkt.ensures.value c.in_ok-layer-in-Window.ensures.ok
     c.run_window.ensures.writes c.run_window.ensures.wkt c.run_window.ensures.fault c.run_window.ensures.faults)
 
 pub returns-in_err-layer-in-Stats : goal.returns-in_err-layer-in-Stats
 returns-in_err-layer-in-Stats g c =
     rw c.in-Stats.is
-    (layer_missing _ _ _ _ _ _ _ (stats_reads_one c.in-Stats.path) _ _ _ c.requires c.from_residual-in_err-layer-in-Stats.ensures.1
+    (layer_missing _ _ _ _ _ _ _ (stats_reads_one c.in-Stats.scale c.in-Stats.path) _ _ _ c.requires c.from_residual-in_err-layer-in-Stats.ensures.1
     c.in_err-layer-in-Stats.ensures.fault c.in_err-layer-in-Stats.ensures.missing)
 
 pub returns-in_err-hash_state-in-Stats : goal.returns-in_err-hash_state-in-Stats
 returns-in_err-hash_state-in-Stats g c =
     rw c.in-Stats.is
-    (layer_without_keys _ _ _ _ _ _ _ (stats_reads_one c.in-Stats.path) _ _ _ _ c.requires c.from_residual-in_err-hash_state-in-Stats.ensures.1
-    c.in_err-hash_state-in-Stats.ensures c.in_ok-layer-in-Stats.ensures.ok (stats_none_first c.in-Stats.path _))
+    (layer_without_keys _ _ _ _ _ _ _ (stats_reads_one c.in-Stats.scale c.in-Stats.path) _ _ _ _ c.requires c.from_residual-in_err-hash_state-in-Stats.ensures.1
+    c.in_err-hash_state-in-Stats.ensures c.in_ok-layer-in-Stats.ensures.ok (stats_none_first c.in-Stats.scale c.in-Stats.path _))
 
 pub returns-in_ok-hash_state-in-Stats : goal.returns-in_ok-hash_state-in-Stats
 returns-in_ok-hash_state-in-Stats g c =
     rw c.in-Stats.is
-    (stats_ran _ _ _ _ c.in-Stats.path _ _ _ _ c.in_ok-layer-in-Stats.ensures.ok
+    (stats_ran _ _ _ _ c.in-Stats.scale c.in-Stats.path _ _ _ _ c.in_ok-layer-in-Stats.ensures.ok
     c.run_stats.ensures.writes c.run_stats.ensures.fault c.run_stats.ensures.faults)

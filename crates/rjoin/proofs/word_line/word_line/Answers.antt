@@ -3,7 +3,7 @@ use Rattle.join_core.specs.Lines.{line_of}
 use Rattle.rjoin.specs.WordFaults.{word_fault_line}
 use Rattle.rjoin.proofs.WordLemmas.{one_piece, two_pieces, ok_as, err_as}
 use Rattle.rjoin.proofs.word_line.word_line.Goals as goal
-use Rattle.rjoin.proofs.word_line.word_line.Goals.{in-Relation, in-AllowsDisjoint, in-Options, in-Memory}
+use Rattle.rjoin.proofs.word_line.word_line.Goals.{in-Relation, in-AllowsDisjoint, in-Options, in-Scale, in-Memory}
 
 pub returns-clause-ok : goal.returns-clause-ok
 returns-clause-ok g c =
@@ -14,6 +14,7 @@ returns-clause-ok g c =
           (codes "--relation: " ++ t)) w.text.ensures)
       | in-Options w ↦ rw (w.in-Options.is, w.line-is, ← w.text-in-Options.ensures.text)
           (one_piece _ _ _ c.begun-line.ensures.text w.push-in-Options.ensures.text)
+      | in-Scale w ↦ rw (w.in-Scale.is, w.line-is) (one_piece _ _ _ c.begun-line.ensures.text w.push-in-Scale.ensures.text)
       | in-Memory w ↦ rw (w.in-Memory.is, w.line-is) (one_piece _ _ _ c.begun-line.ensures.text w.push-in-Memory.ensures.text)
     ] in
     ok_as _ _ _ _ _ said c.write.ensures.ok
@@ -27,6 +28,7 @@ returns-clause-err g c =
           (codes "--relation: " ++ t)) w.text.ensures)
       | in-Options w ↦ rw (w.in-Options.is, w.line-is, ← w.text-in-Options.ensures.text)
           (one_piece _ _ _ c.begun-line.ensures.text w.push-in-Options.ensures.text)
+      | in-Scale w ↦ rw (w.in-Scale.is, w.line-is) (one_piece _ _ _ c.begun-line.ensures.text w.push-in-Scale.ensures.text)
       | in-Memory w ↦ rw (w.in-Memory.is, w.line-is) (one_piece _ _ _ c.begun-line.ensures.text w.push-in-Memory.ensures.text)
     ] in
     err_as _ _ _ _ _ said c.write.ensures.err

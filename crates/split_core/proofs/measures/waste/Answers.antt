@@ -1,4 +1,5 @@
-use Rattle.std.proofs.Common.{arith, w64}
+use Rattle.std.proofs.Common.{arith}
+use Rattle.std.specs.Int.{w128}
 use Rattle.std.specs.Prelude.{pos, ◌-ℤ◌}
 use Rattle.std.proofs.lemmas.Int.{ints, to_z-of_z, to_z_pos}
 use Rattle.split_core.proofs.Areas.{waste_is}
@@ -10,9 +11,9 @@ overflow_sub-result c = omega (arith, ints)
 pub returns : goal.returns
 returns c =
     rw (
-      to_z_pos w64 c.enlargement.result (omega arith),
-      to_z_pos w64 c.area.result (omega arith),
-      to_z-of_z w64
+      to_z_pos w128 c.enlargement.result (omega arith),
+      to_z_pos w128 c.area.result (omega arith),
+      to_z-of_z w128
           (pos c.enlargement.result -ℤ pos c.area.result) (omega (arith, ints)),
     )
     (waste_is c.args.one.now c.args.two.now _ _ c.enlargement.ensures.growth c.area.ensures.product)

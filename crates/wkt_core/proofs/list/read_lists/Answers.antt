@@ -22,24 +22,24 @@ loop-behind-init c =
       rest = c.in_ok-rest.rest.now;
       begun = refl;
       taken = rw c.skip_blanks.ensures at taken;
-      firsts = c.of-lists.ensures ps firsts;
+      firsts = c.of-lists.ensures c.args.scale ps firsts;
     }
 
 pub returns-in_err-behind-clause-none : goal.returns-in_err-behind-clause-none
-returns-in_err-behind-clause-none c = if_none _ (no_lists_end _ _ _ c.loop-behind.invariant c.in_err-behind.ensures)
+returns-in_err-behind-clause-none c = if_none _ (no_lists_end c.args.scale _ _ _ c.loop-behind.invariant c.in_err-behind.ensures)
 
 pub returns-in_err-further-in-Item-clause-none : goal.returns-in_err-further-in-Item-clause-none
 returns-in_err-further-in-Item-clause-none c =
     let next : skip c.loop-behind.after.now ≡ 44 ∷ c.in-Item.behind.now = rw c.in-Item.is at c.in_ok-behind.ensures in
-    if_none _ (no_list_follows _ _ c.in-Item.behind.now _ c.loop-behind.invariant next
+    if_none _ (no_list_follows c.args.scale _ _ c.in-Item.behind.now _ c.loop-behind.invariant next
     (rw c.skip_blanks-in-Item.ensures at c.in_err-further-in-Item.ensures.none))
 
 pub loop-behind-preserved : goal.loop-behind-preserved
 loop-behind-preserved c =
     let next : skip c.loop-behind.after.now ≡ 44 ∷ c.in-Item.behind.now = rw c.in-Item.is at c.in_ok-behind.ensures in
     let (ps, taken, firsts) = c.in_ok-further-in-Item.ensures.some in
-    list_more _ _ c.in-Item.behind.now _ _ _ c.loop-behind.invariant ps next (rw c.skip_blanks-in-Item.ensures at taken)
-    (λ lists first. c.push.ensures lists ps first firsts)
+    list_more c.args.scale _ _ c.in-Item.behind.now _ _ _ c.loop-behind.invariant ps next (rw c.skip_blanks-in-Item.ensures at taken)
+    (λ lists first. c.push.ensures c.args.scale lists ps first firsts)
 
 pub loop-behind-smaller : goal.loop-behind-smaller
 loop-behind-smaller c =
@@ -53,4 +53,4 @@ loop-behind-smaller c =
 pub returns-in-End-clause-some : goal.returns-in-End-clause-some
 returns-in-End-clause-some c =
     let next : skip c.loop-behind.after.now ≡ 41 ∷ c.in-End.behind.now = rw c.in-End.is at c.in_ok-behind.ensures in
-    lists_ended _ _ _ _ c.loop-behind.invariant next
+    lists_ended c.args.scale _ _ _ _ c.loop-behind.invariant next

@@ -1,8 +1,23 @@
-use Rattle.std.proofs.Common.{arith}
-use Rattle.std.proofs.lemmas.Grind.{common_steps}
-use Rattle.wkt_core.specs.NumberSteps.{digits_at}
-use Rattle.wkt_core.proofs.NumberLemmas.{digits_value_after-ge}
+use Rattle.std.proofs.Common.{◌∙◌, sym, refl, inl, arith}
+use Rattle.wkt_core.proofs.NumberLemmas.{digit_taken, no_digit, leads_on, led}
 use Rattle.wkt_core.proofs.number.magnitude.Goals as goal
+use Rattle.wkt_core.proofs.number.magnitude.Goals.{in_default, in_default-2, in_default-3}
+
+pub loop-rest-init : goal.loop-rest-init
+loop-rest-init c = record { rest = refl; sum = record { so_far = 0; capped = inl refl; whole = refl } }
 
 pub loop-rest-preserved : goal.loop-rest-preserved
-loop-rest-preserved c = let ge = digits_value_after-ge c.loop-rest.sum (digits_at c.loop-rest.rest.now) in grind (arith, common_steps)
+loop-rest-preserved c =
+    let (digits, after) = digit_taken c.loop-rest.rest.now (omega arith) (omega arith) (omega arith) in
+    record {
+      rest = sym after ∙ c.loop-rest.invariant.rest;
+      sum = leads_on _ _ _ _ _ _ c.with_digit-sum.ensures digits c.loop-rest.invariant.sum;
+    }
+
+pub returns-clause-value : goal.returns-clause-value
+returns-clause-value c =
+    led _ _ _ (elim c.if-rest-lt1.branch [
+      | in_default w ↦ no_digit c.loop-rest.rest.now (λ some low high. omega arith)
+      | in_default-2 w ↦ no_digit c.loop-rest.rest.now (λ some low high. omega arith)
+      | in_default-3 w ↦ no_digit c.loop-rest.rest.now (λ some low high. omega arith)
+    ]) c.loop-rest.invariant.sum

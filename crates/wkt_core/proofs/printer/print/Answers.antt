@@ -2,16 +2,16 @@ use Rattle.wkt_core.proofs.CanonicalLemmas.{canonical_spells}
 use Rattle.wkt_core.proofs.printer.print.Goals as goal
 
 pub returns-in_err-text-clause-spells : goal.returns-in_err-text-clause-spells
-returns-in_err-text-clause-spells c = canonical_spells c.args.shape.now
+returns-in_err-text-clause-spells c = canonical_spells c.args.scale c.args.shape.now
 
 pub returns-in_err-push_geometry-in-0-clause-spells : goal.returns-in_err-push_geometry-in-0-clause-spells
-returns-in_err-push_geometry-in-0-clause-spells c = canonical_spells c.args.shape.now
+returns-in_err-push_geometry-in-0-clause-spells c = canonical_spells c.args.scale c.args.shape.now
 
 pub returns-in_err-push_geometry-in-1-clause-spells : goal.returns-in_err-push_geometry-in-1-clause-spells
-returns-in_err-push_geometry-in-1-clause-spells c = canonical_spells c.args.shape.now
+returns-in_err-push_geometry-in-1-clause-spells c = canonical_spells c.args.scale c.args.shape.now
 
 pub returns-in_err-push_geometry-in_default-clause-spells : goal.returns-in_err-push_geometry-in_default-clause-spells
-returns-in_err-push_geometry-in_default-clause-spells c = canonical_spells c.args.shape.now
+returns-in_err-push_geometry-in_default-clause-spells c = canonical_spells c.args.scale c.args.shape.now
 
 pub returns-clause-spells : goal.returns-clause-spells
-returns-clause-spells c = canonical_spells c.args.shape.now
+returns-clause-spells c = canonical_spells c.args.scale c.args.shape.now

@@ -20,7 +20,7 @@ returns-in_err-list-in-LineString-clause-none c =
 pub returns-in_ok-list-in-Point-clause-some : goal.returns-in_ok-list-in-Point-clause-some
 returns-in_ok-list-in-Point-clause-some c =
     let (p, taken, firsts) = c.in_ok-list-in-Point.ensures.some in
-    ((p ∷ []) ∷ [], rw c.in-Point.is taken, c.of.ensures (p ∷ []) firsts)
+    ((p ∷ []) ∷ [], rw c.in-Point.is taken, c.of.ensures c.args.scale (p ∷ []) firsts)
 
 pub returns-in-Polygon-clause-none : goal.returns-in-Polygon-clause-none
 returns-in-Polygon-clause-none c = rw c.in-Polygon.is c.read_lists.ensures.none

@@ -1,0 +1,172 @@
+//! What the program tells of its words: commands, options and help.
+
+use clap::{Arg, Command, value_parser};
+use std::alloc::{AllocError, Global};
+
+const PROGRAM_HELP: &str = "\
+Layers are CSV files with the header id,wkt and a feature a row:
+  id,wkt
+  mill lane,\"LINESTRING (10 0, 10 10)\"
+
+Geometries are points, segments along an axis and rectangles, as well-known text:
+  POINT (4 4)
+  POLYGON ((0 0, 4 0, 4 4, 0 4, 0 0))
+
+A coordinate has no decimals, or up to K with --scale K; counted in units of the last decimal, its
+absolute value is at most 1000000000000.
+
+The path - stands for standard input, for at most one file of a command.
+
+Exit status:
+  0  what was asked for is written
+  1  a fault of input, output, memory, threads or hashing keys; a line on standard error tells it
+  2  the words are wrong
+
+rjoin COMMAND --help tells more.";
+
+const RELATE_HELP: &str = "\
+Geometries are points, segments along an axis and rectangles:
+  POINT (4 4)    LINESTRING (1 0, 3 0)
+  POLYGON ((0 0, 4 0, 4 4, 0 4, 0 0))
+
+The nine letters are those of DE-9IM, in three rows of three: interior, boundary and exterior of A,
+each with interior, boundary and exterior of B. F says that the two share nothing, and 0, 1 or 2
+that they share points, lines or areas.
+
+Exit status: 0 for success, 1 for a text at fault or no output, 2 for wrong words";
+
+const JOIN_HELP: &str = "\
+A layer is a CSV file, as                 edits are a CSV file, as
+  id,wkt                                    op,layer,id,wkt
+  mill,\"LINESTRING (10 0, 10 10)\"           insert,left,inn,POINT (4 4)
+
+The path - stands for standard input, for at most one of the files.
+
+Relations of a left feature to a right one:
+  intersects  they share a point
+  touches     they share a point, and their interiors share none
+  crosses     of two dimensions: their interiors share a point, and the one of the lower dimension
+              lies outside the other too; two segments: their interiors share a single point
+  within      the left one lies in the right one, and their interiors share a point
+  contains    the right one lies in the left one, and their interiors share a point
+  overlaps    of one dimension, which what the interiors share has too: each lies outside the
+              other too
+  equals      they are the same set of points
+  disjoint    they share no point: known, but refused, as is each mask that disjoint features fit
+In place of a name stands a mask of nine letters, one for each letter of the matrix: T asks for
+0, 1 or 2, and F, 0, 1 and 2 for that letter, and * takes any.
+
+The report is CSV: left,right,matrix, and for each pair the two ids and the nine letters of DE-9IM,
+in three rows of three: interior, boundary and exterior of the left one, each with interior,
+boundary and exterior of the right one. F says that the two share nothing, and 0, 1 or 2 that they
+share points, lines or areas. Neither --workers nor --batch nor --cut changes the report.
+
+Exit status: 0 for success, 1 for a fault of a file, output, memory, threads or hashing keys, 2 for
+wrong words";
+
+const WINDOW_HELP: &str = "\
+A layer is a CSV file, as
+  id,wkt
+  mill lane,\"LINESTRING (10 0, 10 10)\"
+The path - stands for standard input.
+
+A feature meets the window where they share a point. The answer is CSV: id, and the ids in the
+order of the file.
+
+Exit status: 0 for success, 1 for a fault of the file, WKT, output, memory or hashing keys, 2 for
+wrong words";
+
+const STATS_HELP: &str = "\
+A layer is a CSV file, as
+  id,wkt
+  mill lane,\"LINESTRING (10 0, 10 10)\"
+The path - stands for standard input.
+
+The answer has five lines: features, points, segments, rectangles and height, each with a number.
+
+Exit status: 0 for success, 1 for a fault of the file, output, memory or hashing keys, 2 for wrong
+words";
+
+/// What `clap` is told of the program.
+pub fn usage<'a>(alloc: Global) -> Result<Command<'a>, AllocError> {
+    Command::new(alloc, "rjoin")
+        .about("Joins two layers of geometries by a spatial relation")
+        .after_help(PROGRAM_HELP)
+        .version("0.1.0")
+        .subcommand_required(true)
+        .subcommand(relate_usage(alloc)?)?
+        .subcommand(join_usage(alloc)?)?
+        .subcommand(window_usage(alloc)?)?
+        .subcommand(stats_usage(alloc)?)
+}
+
+fn relate_usage<'a>(alloc: Global) -> Result<Command<'a>, AllocError> {
+    Command::new(alloc, "relate")
+        .about("Writes the DE-9IM matrix of two geometries")
+        .after_help(RELATE_HELP)
+        .arg(positional(alloc, "A", "First geometry, as well-known text"))?
+        .arg(positional(alloc, "B", "Second geometry, as well-known text"))?
+        .arg(scale(alloc))
+}
+
+fn join_usage<'a>(alloc: Global) -> Result<Command<'a>, AllocError> {
+    let relation = Arg::new(alloc, "relation")
+        .long("relation")
+        .help("Name of a relation, or mask of nine letters")
+        .required(true);
+    let edits = Arg::new(alloc, "edits")
+        .long("edits")
+        .help("CSV file of edits, which are made before the join");
+    Command::new(alloc, "join")
+        .about("Writes the pairs of features of two layers that stand in a relation")
+        .after_help(JOIN_HELP)
+        .arg(positional(alloc, "LEFT", "CSV file of the left layer"))?
+        .arg(positional(alloc, "RIGHT", "CSV file of the right layer"))?
+        .arg(relation)?
+        .arg(edits)?
+        .arg(numeric(alloc, "workers", "Threads that join, 1 to 16", "4"))?
+        .arg(numeric(alloc, "batch", "Pairs a batch, 1 to 4096", "256"))?
+        .arg(numeric(alloc, "cut", "Rounds of cutting into tasks, 0 to 8", "2"))?
+        .arg(scale(alloc))
+}
+
+fn window_usage<'a>(alloc: Global) -> Result<Command<'a>, AllocError> {
+    Command::new(alloc, "window")
+        .about("Writes the ids of the features of a layer that meet a geometry")
+        .after_help(WINDOW_HELP)
+        .arg(positional(alloc, "LAYER", "CSV file of the layer"))?
+        .arg(positional(alloc, "WKT", "Geometry of the window, as well-known text"))?
+        .arg(scale(alloc))
+}
+
+fn stats_usage<'a>(alloc: Global) -> Result<Command<'a>, AllocError> {
+    Command::new(alloc, "stats")
+        .about("Counts the features of a layer by kind, and the levels of its tree")
+        .after_help(STATS_HELP)
+        .arg(positional(alloc, "LAYER", "CSV file of the layer"))?
+        .arg(scale(alloc))
+}
+
+/// An argument that has to be given, by its place.
+fn positional<'a>(alloc: Global, name: &'a str, help: &'a str) -> Arg<'a> {
+    Arg::new(alloc, name).help(help).required(true)
+}
+
+/// An option that is a whole number.
+fn numeric<'a>(alloc: Global, name: &'a str, help: &'a str, default: &'a str) -> Arg<'a> {
+    Arg::new(alloc, name)
+        .long(name)
+        .help(help)
+        .value_parser(value_parser!(u32))
+        .default_value(default)
+}
+
+/// The option of every command: decimals of all coordinates.
+fn scale<'a>(alloc: Global) -> Arg<'a> {
+    numeric(
+        alloc,
+        "scale",
+        "Decimals that a coordinate may have, 0 to 6",
+        "0",
+    )
+}

@@ -1,0 +1,52 @@
+-- The spelling of a shape that is printed.
+use Rattle.std.specs.Prelude.{◌==◌, ◌/◌, ◌%◌, ◌^◌, ℕ, zero, suc, ℤ, pos, negsuc}
+use Rattle.std.specs.Prelude.{List, [], ◌∷◌, ◌++◌, codes, decimal, if◌then◌else◌}
+use Rattle.std.specs.List.{flat_map}
+use Rattle.geom_core.specs.declared.shape.Shape.{Shape}
+use Rattle.geom_core.specs.Shapes.{x1, y1, x2, y2, dim_of}
+use Rattle.wkt_core.specs.declared.position.Position.{Position}
+use Rattle.wkt_core.specs.declared.scale.Scale.{Scale}
+use Rattle.wkt_core.specs.Scales.{digits_of}
+use Rattle.wkt_core.specs.Drawing.{corner, corners}
+
+-- f parts of 10^k, fewer than all, as digits behind a dot: up to the last that isn't 0
+abbrev pub decimals : ℕ → ℕ → List ℕ
+decimals zero f = []
+decimals (suc k) f = if f == 0 then [] else decimal (f / 10 ^ k) ++ decimals k (f % 10 ^ k)
+
+-- a dot and the decimals, where there are any
+abbrev pub fraction : ℕ → ℕ → List ℕ
+fraction k f = if f == 0 then [] else codes "." ++ decimals k f
+
+-- n units of 10^-k: the whole part and the fraction
+abbrev pub amount : ℕ → ℕ → List ℕ
+amount k n = decimal (n / 10 ^ k) ++ fraction k (n % 10 ^ k)
+
+-- a number of units, with a minus below 0
+abbrev pub number : Scale → ℤ → List ℕ
+number scale (pos n) = amount (digits_of scale) n
+number scale (negsuc n) = codes "-" ++ amount (digits_of scale) (suc n)
+
+-- the two numbers of a point, with a space between them
+abbrev pub pair : Scale → Position → List ℕ
+pair scale p = number scale p.x ++ codes " " ++ number scale p.y
+
+-- points with a comma and a space between them
+abbrev pub listed : Scale → List Position → List ℕ
+listed scale [] = []
+listed scale (p ∷ ps) = pair scale p ++ flat_map (λ q. codes ", " ++ pair scale q) ps
+
+-- the lowest and the highest corner
+abbrev pub lowest : Shape → Position
+lowest s = corner (x1 s) (y1 s)
+
+abbrev pub highest : Shape → Position
+highest s = corner (x2 s) (y2 s)
+
+-- the spelling that is printed: a point, a segment from its lowest corner, or a ring from there
+abbrev pub canonical : Scale → Shape → List ℕ
+canonical scale s =
+    if dim_of s == 0 then codes "POINT (" ++ listed scale (lowest s ∷ []) ++ codes ")"
+    else if dim_of s == 1
+    then codes "LINESTRING (" ++ listed scale (lowest s ∷ highest s ∷ []) ++ codes ")"
+    else codes "POLYGON ((" ++ listed scale (corners s ++ lowest s ∷ []) ++ codes "))"
