@@ -29,11 +29,7 @@ const COLUMNS: [&str; 4] = ["op", "layer", "id", "wkt"];
 /// first row that has one: [`ReadFault::Row`] where its fields aren't as above, else
 /// [`LayerFault::BadId`], else, in an insertion, [`ReadFault::Wkt`]. [`ReadFault::Memory`] may
 /// come in place of any other.
-pub fn edits_of_bytes(
-    alloc: Global,
-    bytes: &[u8],
-    scale: Scale,
-) -> Result<Vec<Edit>, ReadFault>
+pub fn edits_of_bytes(alloc: Global, bytes: &[u8], scale: Scale) -> Result<Vec<Edit>, ReadFault>
     ensures file { result ≢ Err ReadFault.Memory
         → IsEditFile scale bytes.now (edit_contents result) }
     ensures few { IfOk result (λ edits. length edits.items ≤ most_file_bytes) }

@@ -95,7 +95,8 @@ impl Features {
         state: RandomState,
         count: usize,
     ) -> Result<Features, AllocError>
-        ensures { IfOk result (λ features. features.list ≡ empty) }
+        ensures none { IfOk result (λ features. features.list ≡ empty) }
+        ensures room { IfOk result (λ features. count ≤ features.room) }
     {
         Ok(Features {
             ids: IndexMap::with_capacity_and_hasher(alloc, count, state)?,
@@ -113,9 +114,11 @@ impl Features {
         self.count
     }
 
-    /// The allocator of the map and the slots.
-    pub(crate) fn allocator(&self) -> Global {
-        *self.ids.allocator()
+    /// An id as the map will own it, by the allocator of the map.
+    pub(crate) fn owned(&self, id: &str) -> Result<String, AllocError>
+        ensures { IfOk result (λ own. string_bytes own ≡ id.now) }
+    {
+        String::from_str(*self.ids.allocator(), id)
     }
 
     /// The number that the next feature gets: how many were ever inserted.

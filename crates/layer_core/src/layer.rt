@@ -164,7 +164,7 @@ impl Layer {
         if self.features.next() >= MAX_FEATURES {
             return Err(LayerFault::LayerFull);
         }
-        let id = String::from_str(self.features.allocator(), id)?;
+        let id = self.features.owned(id)?;
         self.features.reserve()?;
         let number = self.features.next() as u32;
         self.tree.insert(Entry { shape, number })?;

@@ -1,8 +1,9 @@
 //! CSV files of layers.
-ghost use Rattle.std.specs.Prelude.{◌≡◌, ◌≢◌, ◌↔◌, false, Ok, Err, IsErrOf, IsTrue, OnOk, IfErr, IfSome};
+ghost use Rattle.std.specs.Prelude.{◌≡◌, ◌≢◌, ◌≤◌, ◌↔◌, false, Ok, Err, IsErrOf, IsTrue, OnOk, IfErr, IfSome};
 ghost use Rattle.csv.specs.Records.{fields_of};
 ghost use Rattle.layer_core.specs.LayerFiles.{IsLayerFile, LayerRowGives};
 ghost use Rattle.layer_core.specs.LayerTrees.{list_read};
+ghost use Rattle.layer_core.specs.Limits.{most_features};
 
 use crate::fault::LayerFault;
 use crate::features::MAX_FEATURES;
@@ -19,6 +20,9 @@ use wkt_core::Scale;
 
 /// The columns of a layer's file.
 const COLUMNS: [&str; 2] = ["id", "wkt"];
+
+// From how many bytes at its start the number of a file's rows is guessed.
+const SAMPLE: usize = 65_536;
 
 /// The layer that a CSV file stands for. `state` hashes the ids.
 ///
@@ -40,11 +44,7 @@ pub fn layer_of_bytes(
     ensures file { result ≢ Err ReadFault.Memory → IsLayerFile scale bytes.now (list_read result) }
     ensures no_io { result ≢ Err ReadFault.Io }
 {
-    let mut rows = Rows::open(alloc, bytes, &COLUMNS)?;
-    let mut loading = Loading::new(alloc, state, line_feeds(bytes).min(MAX_FEATURES))?;
-    while let Some(number) = rows.next()? {
-        insert_row(&mut loading, number, rows.row(), scale)?;
-    }
+    let loading = load(alloc, state, bytes, scale)?;
     Ok(loading.finish(alloc)?)
 }
 
@@ -64,11 +64,34 @@ pub fn read_layer<S: Source>(
         → IfSome (S.remaining source.old) (λ bytes. IsLayerFile scale bytes (list_read result)) }
 {
     let bytes = read_all(alloc, source)?;
-    layer_of_bytes(alloc, state, bytes.as_slice(), scale)
+    let loading = load(alloc, state, bytes.as_slice(), scale)?;
+    // The tree is packed when the file's memory is free again.
+    drop(bytes);
+    Ok(loading.finish(alloc)?)
 }
 
-fn line_feeds(bytes: &[u8]) -> usize {
-    bytes.iter().filter(|byte| **byte == b'\n').count()
+// The features of a file, whose tree isn't packed yet.
+fn load(alloc: Global, state: RandomState, bytes: &[u8], scale: Scale) -> Result<Loading, ReadFault>
+    ensures file { result ≢ Err ReadFault.Memory → IsLayerFile scale bytes.now result }
+    ensures no_io { result ≢ Err ReadFault.Io }
+{
+    let mut rows = Rows::open(alloc, bytes, &COLUMNS)?;
+    let mut loading = Loading::new(alloc, state, likely_rows(bytes))?;
+    while let Some(number) = rows.next()? {
+        insert_row(&mut loading, number, rows.row(), scale)?;
+    }
+    Ok(loading)
+}
+
+// How many rows a file is likely to have that a layer can take, judged by its first lines. A wrong
+// guess costs time or memory alone.
+fn likely_rows(bytes: &[u8]) -> usize
+    ensures { result ≤ most_features }
+{
+    let sample = &bytes[..bytes.len().min(SAMPLE)];
+    let lines = sample.iter().filter(|byte| **byte == b'\n').count();
+    let samples = bytes.len() / SAMPLE + 1;
+    lines.saturating_mul(samples).min(MAX_FEATURES)
 }
 
 // Inserts the feature of the row with this number.

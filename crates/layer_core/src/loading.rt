@@ -1,5 +1,6 @@
 //! A layer while it is loaded: its features go in one by one, and at the end its tree is packed.
-ghost use Rattle.std.specs.Prelude.{◌≡◌};
+ghost use Rattle.std.specs.Prelude.{◌≡◌, IfOk};
+ghost use Rattle.layer_core.specs.LayerTrees.{entries_for};
 
 use crate::fault::LayerFault;
 use crate::features::{Features, MAX_FEATURES};
@@ -14,8 +15,6 @@ use std::marker::Model;
 #[derive(Drop)]
 pub(crate) struct Loading {
     features: Features,
-    // What the tree is packed from.
-    entries: Vec<Entry>,
 }
 
 impl Model for Loading {
@@ -26,12 +25,7 @@ impl Model for Loading {
 
     ghost coded = { coded_contents };
 
-    ghost use Rattle.std.specs.Prelude.{◌≡◌};
-    ghost use Rattle.layer_core.specs.LayerTrees.{entries_for};
-
     ghost view = { λ l. l.features.list };
-
-    ghost invariant = { λ l. l.entries.items ≡ entries_for l.features.list };
 }
 
 impl Loading {
@@ -45,7 +39,6 @@ impl Loading {
     {
         Ok(Loading {
             features: Features::with_room(alloc, state, room)?,
-            entries: Vec::with_capacity(alloc, room)?,
         })
     }
 
@@ -64,20 +57,33 @@ impl Loading {
                 None => Err(LayerFault::LayerFull),
             };
         }
-        self.entries.reserve(1)?;
-        let number = self.features.next() as u32;
-        let id = String::from_str(self.features.allocator(), id)?;
-        if !self.features.insert(id, shape)? {
-            return Err(LayerFault::DoubleId);
+        let id = self.features.owned(id)?;
+        if self.features.insert(id, shape)? {
+            Ok(())
+        } else {
+            Err(LayerFault::DoubleId)
         }
-        self.entries.push_reserved(Entry { shape, number });
-        Ok(())
     }
 
     /// The layer of all features that were inserted.
     pub(crate) fn finish(self, alloc: Global) -> Result<Layer, AllocError>
         ensures { IfOk result (λ layer. layer.list ≡ self) }
     {
-        Layer::pack(alloc, self.features, self.entries)
+        let entries = entries_of(alloc, &self.features)?;
+        Layer::pack(alloc, self.features, entries)
     }
+}
+
+// What a tree holds of these features.
+fn entries_of(alloc: Global, features: &Features) -> Result<Vec<Entry>, AllocError>
+    ensures { IfOk result (λ entries. entries.items ≡ entries_for features.now.list) }
+{
+    let mut entries = Vec::with_capacity(alloc, features.len())?;
+    for feature in features.iter() {
+        entries.push_reserved(Entry {
+            shape: feature.shape,
+            number: feature.number,
+        });
+    }
+    Ok(entries)
 }

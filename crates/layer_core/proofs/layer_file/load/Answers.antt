@@ -1,6 +1,6 @@
 use Rattle.std.proofs.Common.{ap, refl, Err}
 use Rattle.std.proofs.lemmas.Result.{err_from_is_err_and}
-use Rattle.layer_core.proofs.layer_file.layer_of_bytes.Goals as goal
+use Rattle.layer_core.proofs.layer_file.load.Goals as goal
 
 pub returns-in_err-insert_row-clause-file : goal.returns-in_err-insert_row-clause-file
 returns-in_err-insert_row-clause-file c =

@@ -3,7 +3,7 @@ use Rattle.layer_core.specs.declared.read_fault.ReadFault.{ReadFault}
 use Rattle.layer_core.specs.LayerFiles.{IsLayerFile, LayerRowGives}
 use Rattle.layer_core.specs.Layers.{Contents}
 use Rattle.layer_core.specs.Rows.{IsReading, RowsGive, rows_left}
-use Rattle.layer_core.proofs.layer_file.layer_of_bytes.Given as goal
+use Rattle.layer_core.proofs.layer_file.load.Given as goal
 
 -- what the rows that are left give from here, the file gives
 abbrev pub invariant-loop-loading : goal.invariant-loop-loading
