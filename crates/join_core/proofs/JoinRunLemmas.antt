@@ -12,7 +12,7 @@ use Rattle.join_core.specs.declared.fault.Input.TheVariants.{First, Second, Left
 use Rattle.join_core.specs.declared.fault.RunFault.{RunFault}
 use Rattle.join_core.specs.declared.fault.RunFault.TheVariants.{NoFile, Read, Wkt, Edit, Join, Write, Memory, NoKeys}
 use Rattle.join_core.specs.Inputs.{LayerFile, BlamesBytes, BlamesEdit, BlamesInput}
-use Rattle.join_core.specs.JoinRuns.{JoinFiles, EditFile, JoinGives, left_fault, right_fault, edits_fault, edit_refused, reported, IsLateFault, IsJoinFault, FailedAt}
+use Rattle.join_core.specs.JoinRuns.{JoinFiles, EditFile, JoinGives, edits_fault, edit_refused, reported, IsLateFault, IsJoinFault, FailedAt}
 use Rattle.join_core.specs.Joins.{IsJoinList}
 use Rattle.join_core.specs.Reports.{IsHeld, IsReport}
 use Rattle.join_core.proofs.JoinLemmas.{contains_at}
@@ -37,18 +37,6 @@ handed_on J (Ok x) e is h same gives = absurd h
 handed_on J (Err x) e is h same gives =
     let whole : x ≡ is = h ∙ same in
     λ blame. subst (λ (y : RunFault). J (Err y)) (sym whole) (gives (subst BlamesInput whole blame))
-
-pub left_blamed : {T : Type 0} (relation : Relation) (files : JoinFiles) (out : Result T RunFault) (e : RunFault)
-    → IsErrAnd out (λ x. x ≡ e) → ((f : ReadFault) × (e ≡ Read Left f) × (BlamesBytes f → LayerFile files.scale files.left (Err f)))
-    → IfErr out (λ x. BlamesInput x → JoinGives relation files (Err x))
-left_blamed relation files out e h fault =
-    handed_on (JoinGives relation files) out e (Read Left fault.0) h fault.1 (λ blame. left_fault fault.0 (fault.2 blame))
-
-pub right_blamed : {T : Type 0} (relation : Relation) (files : JoinFiles) (l : Contents) (out : Result T RunFault) (e : RunFault)
-    → LayerFile files.scale files.left (Ok l) → IsErrAnd out (λ x. x ≡ e) → ((f : ReadFault) × (e ≡ Read Right f) × (BlamesBytes f → LayerFile files.scale files.right (Err f)))
-    → IfErr out (λ x. BlamesInput x → JoinGives relation files (Err x))
-right_blamed relation files l out e left h fault =
-    handed_on (JoinGives relation files) out e (Read Right fault.0) h fault.1 (λ blame. right_fault l fault.0 left (fault.2 blame))
 
 pub edits_blamed : {T : Type 0} (relation : Relation) (files : JoinFiles) (l r : Contents) (out : Result T RunFault) (e : RunFault)
     → LayerFile files.scale files.left (Ok l) → LayerFile files.scale files.right (Ok r) → IsErrAnd out (λ x. x ≡ e)
@@ -160,12 +148,11 @@ module _ {T U : Type 0} (out : Result T RunFault) (i : Input) (P : Type 0) where
   ] err
 
 -- the edits' file is as it was where another is at fault
-pub edits_unread : {T E : Type 0} (F : E → Bool) (edits : Option E) (out : Result T RunFault) (e : RunFault) (f : ReadFault)
-    → IfSome edits (λ x. F x ≡ false) → IsErrAnd out (λ x. x ≡ e) → e ≡ Read Right f
-    → IsErrOf out (Read Edits Io) ↔ IsSomeAnd edits (λ x. IsTrue (F x))
-edits_unread F edits (Ok x) e f fresh h is = absurd h
-edits_unread F None (Err x) e f fresh h is = ((λ q. let whole : x ≡ Read Right f = h ∙ is in let bad : x ≡ Read Edits Io = cc in absurd cc), (λ p. absurd p))
-edits_unread F (Some s) (Err x) e f fresh h is = (
-  (λ q. let whole : x ≡ Read Right f = h ∙ is in let bad : x ≡ Read Edits Io = cc in absurd cc),
+pub edits_unread : {T E : Type 0} (F : E → Bool) (edits : Option E) (out : Result T RunFault) (e : RunFault) → IfSome edits (λ x. F x ≡ false)
+    → IsErrAnd out (λ x. x ≡ e) → e ≢ Read Edits Io → IsErrOf out (Read Edits Io) ↔ IsSomeAnd edits (λ x. IsTrue (F x))
+edits_unread F edits (Ok x) e fresh h other = absurd h
+edits_unread F None (Err x) e fresh h other = ((λ q. absurd (other (let is : x ≡ Read Edits Io = cc in sym h ∙ is))), (λ p. absurd p))
+edits_unread F (Some s) (Err x) e fresh h other = (
+  (λ q. absurd (other (let is : x ≡ Read Edits Io = cc in sym h ∙ is))),
   (λ p. absurd (let both : F s ≡ false = fresh in let bad : F s ≡ true = p in cc)),
 )

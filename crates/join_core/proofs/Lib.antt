@@ -1,6 +1,7 @@
 pub mod CsvLemmas
 pub mod JoinLemmas
 pub mod JoinRunLemmas
+pub mod LayersLemmas
 pub mod LineLemmas
 pub mod RelatingLemmas
 pub mod ReportLemmas

@@ -1,5 +1,5 @@
 -- What the inputs of a run give, and which faults blame one.
-use Rattle.std.specs.Prelude.{⊤, ℕ, List, Option, Result, IfSome}
+use Rattle.std.specs.Prelude.{◌≢◌, ⊤, ℕ, List, Option, Result, Err, IfSome}
 use Rattle.wkt_core.specs.declared.scale.Scale.{Scale}
 use Rattle.layer_core.specs.declared.fault.LayerFault.{LayerFault}
 use Rattle.layer_core.specs.declared.fault.LayerFault.TheVariants as layer_faults
@@ -7,12 +7,19 @@ use Rattle.layer_core.specs.declared.read_fault.ReadFault.{ReadFault}
 use Rattle.layer_core.specs.declared.read_fault.ReadFault.TheVariants as read_faults
 use Rattle.layer_core.specs.Layers.{Contents}
 use Rattle.layer_core.specs.LayerFiles.{IsLayerFile}
+use Rattle.layer_core.specs.LayerTrees.{LayerState, list_read}
 use Rattle.join_core.specs.declared.fault.RunFault.{RunFault}
 use Rattle.join_core.specs.declared.fault.RunFault.TheVariants.{Read, Edit}
 
 -- what a file of a layer gives at a scale, where its bytes are known
 abbrev pub LayerFile : Scale → Option (List ℕ) → Result Contents ReadFault → Type 0
 LayerFile scale known answer = IfSome known (λ bytes. IsLayerFile scale bytes answer)
+
+-- the answer is what a layer's bytes give at a scale, or a want of memory
+pub record Builds (scale : Scale) (bytes : List ℕ) (answer : Result LayerState ReadFault)
+    : Type 0 where
+  pub no_io : answer ≢ Err read_faults.Io
+  pub gives : answer ≢ Err read_faults.Memory → IsLayerFile scale bytes (list_read answer)
 
 -- a fault of an input's bytes, and not of a device or of memory
 abbrev pub BlamesBytes : ReadFault → Type 0

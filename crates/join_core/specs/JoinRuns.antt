@@ -13,7 +13,7 @@ use Rattle.join_core.specs.declared.fault.Input.TheVariants.{Left, Right, Edits}
 use Rattle.join_core.specs.declared.fault.RunFault.{RunFault}
 use Rattle.join_core.specs.declared.fault.RunFault.TheVariants.{Read, Edit, Join, Memory}
 use Rattle.join_core.specs.declared.joins.sources.JoinSources.{JoinSources}
-use Rattle.join_core.specs.Inputs.{LayerFile}
+use Rattle.join_core.specs.Inputs.{LayerFile, BlamesBytes}
 use Rattle.join_core.specs.Joins.{IsJoinList}
 use Rattle.join_core.specs.Reports.{IsReport}
 
@@ -42,6 +42,13 @@ files_of scale left_bytes right_bytes edits_bytes sources = record {
 abbrev pub EditFile : Scale → Option (Option (List ℕ)) → Result (List EditContent) ReadFault → Type 0
 EditFile scale None answer = answer ≡ Ok []
 EditFile scale (Some known) answer = IfSome known (λ bytes. IsEditFile scale bytes answer)
+
+-- a fault of reading two layers: one in the bytes of the right file comes where the left is good
+abbrev pub IsLayersFault : Scale → Option (List ℕ) → Option (List ℕ) → RunFault → Type 0
+IsLayersFault scale left right (Read Left f) = BlamesBytes f → LayerFile scale left (Err f)
+IsLayersFault scale left right (Read Right f) =
+    BlamesBytes f → (l : Contents) × LayerFile scale left (Ok l) × LayerFile scale right (Err f)
+IsLayersFault scale left right _ = ⊥
 
 -- the report of the edited layers, or the first fault of the left file, the right one, that of
 -- edits and the edits, in this order

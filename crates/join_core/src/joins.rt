@@ -1,6 +1,7 @@
 //! Joins of two layers: edits, pairs, report, and the run of all three over files.
 
 mod edits;
+mod layers;
 mod pairs;
 mod report;
 mod run;

@@ -5,12 +5,7 @@ ghost use Rattle.join_core.specs.Limits.{most_workers, most_batch, most_cut};
 
 use std::error::Error;
 use std::fmt;
-
-/// The most workers of a join.
-pub const MAX_WORKERS: u32 = 16;
-
-/// The most pairs of a batch.
-pub const MAX_BATCH: u32 = 4096;
+use worker_core::{MAX_BATCH, MAX_WORKERS};
 
 /// The most rounds of cutting the two trees into tasks.
 pub const MAX_CUT: u8 = 8;

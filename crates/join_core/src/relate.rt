@@ -19,12 +19,7 @@ const LINE: usize = 10;
 ///
 /// Both are read before anything is written, and no memory is taken. The first text that spells no
 /// shape is at fault.
-pub fn run_relate<S: Sink>(
-    scale: Scale,
-    a: &[u8],
-    b: &[u8],
-    sink: &mut S,
-) -> Result<(), RunFault>
+pub fn run_relate<S: Sink>(scale: Scale, a: &[u8], b: &[u8], sink: &mut S) -> Result<(), RunFault>
     requires { S.has_failed sink.old ≡ false }
     ensures writes { Ends (IsMatrixLine scale a.now b.now)
         S.written S.is_flushed S.has_failed sink.old sink.new result }

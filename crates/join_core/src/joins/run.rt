@@ -1,6 +1,7 @@
 //! The join of two files of layers, after a file of edits.
 
-ghost use Rattle.std.specs.Prelude.{◌≡◌, ◌≢◌, ◌↔◌, ℕ, List, Ok, Err, Result, false, IsTrue, IfOk, IfErr, IfSome, OnOk, IsErrOf, IsSomeAnd, map, length, ◌≤◌};
+ghost use Rattle.std.specs.Prelude.{◌≡◌, ◌≢◌, ◌↔◌, ◌≤◌, ℕ, List, Ok, Err, Result, false, IsTrue};
+ghost use Rattle.std.specs.Prelude.{IfOk, IfErr, IfSome, OnOk, IsErrOf, IsSomeAnd, map, length};
 ghost use Rattle.geom_core.specs.JoinRelations.{relation_of};
 ghost use Rattle.layer_core.specs.declared.read_fault.ReadFault.{ReadFault};
 ghost use Rattle.layer_core.specs.Edits.{content_of};
@@ -10,14 +11,15 @@ ghost use Rattle.join_core.specs.Runs.{Ends};
 ghost use Rattle.join_core.specs.Joins.{IsJoinList};
 ghost use Rattle.join_core.specs.Reports.{IsReport};
 ghost use Rattle.join_core.specs.Inputs.{LayerFile, BlamesBytes, BlamesInput};
-ghost use Rattle.join_core.specs.JoinRuns.{EditFile, bytes_of, files_of, JoinGives, IsJoinText, IsJoinFault, IsLateFault, FailedAt};
+ghost use Rattle.join_core.specs.JoinRuns.{EditFile, bytes_of, files_of, JoinGives, IsJoinText};
+ghost use Rattle.join_core.specs.JoinRuns.{IsJoinFault, IsLateFault, FailedAt};
 
 use super::edits::apply_edits;
+use super::layers::read_layers;
 use super::pairs::join;
 use super::report::report_text;
 use super::sources::JoinSources;
 use crate::fault::{Input, RunFault};
-use crate::layer_input::read_input;
 use crate::options::Options;
 use crate::writing::{Sink, write_text};
 use geom_core::JoinRelation;
@@ -32,9 +34,12 @@ use worker_core::Gate;
 /// Writes the report of two layers, after the edits of both: the pairs of a left and a right
 /// feature that stand in the relation, in layer order, with the letters of their matrix.
 ///
-/// The left file is read first, then the right one, then that of the edits; then the edits are
-/// made in order, and the layers joined. The first fault is answered, and then nothing is written.
-/// `states` hash the ids of the two layers.
+/// The left file is read first, then the right one; then both layers are built, side by side where
+/// there is more than one worker. Then the file of the edits is read, the edits are made in order,
+/// and the layers joined. The first fault is answered, and then nothing is written: of the left
+/// file, the right one, that of the edits and the edits, in this order, but that a right source
+/// which fails comes before a fault in the bytes of the left one. `states` hash the ids of the two
+/// layers.
 pub fn run_join<R: Threads + Wait + Sync, A: Source, B: Source, E: Source, G: Gate + Sync, S: Sink>(
     rt: &R,
     alloc: Global,
@@ -91,9 +96,9 @@ fn join_text<R: Threads + Wait + Sync, A: Source, B: Source, E: Source, G: Gate 
     ensures edits_io { IsErrOf result (RunFault.Read Input.Edits ReadFault.Io)
         ↔ IsSomeAnd sources.new.edits (λ e. IsTrue (E.has_failed e)) }
 {
-    let (left_state, right_state) = states;
-    let mut left_layer = read_input(alloc, Input::Left, left_state, scale, &mut sources.left)?;
-    let mut right_layer = read_input(alloc, Input::Right, right_state, scale, &mut sources.right)?;
+    let (left, right) = (&mut sources.left, &mut sources.right);
+    let layers = read_layers(rt, alloc, states, scale, left, right, options.workers())?;
+    let (mut left_layer, mut right_layer) = layers;
     let edit_list = read_edit_list(alloc, scale, &mut sources.edits)?;
     apply_edits(edit_list.as_slice(), &mut left_layer, &mut right_layer)?;
     report_of(

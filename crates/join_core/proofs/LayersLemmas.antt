@@ -1,0 +1,97 @@
+-- What reading two layers answers, by what was read of each and what was built of it.
+use Rattle.std.proofs.Common.{◌≡◌, ◌≢◌, ◌<◌, ℕ, List, Option, Some, None, Result, Ok, Err, IsErrAnd, IsErrOf, IfSome, IfErr, IfOk, Vec, Global, length, ap, refl, sym, subst}
+use Rattle.geom_core.specs.declared.relation.Relation.{Relation}
+use Rattle.wkt_core.specs.declared.scale.Scale.{Scale}
+use Rattle.layer_core.specs.declared.read_fault.ReadFault.{ReadFault}
+use Rattle.layer_core.specs.declared.read_fault.ReadFault.TheVariants as read_faults
+use Rattle.layer_core.specs.LayerFiles.{IsLayerFile, LayerRowGives, layer_columns}
+use Rattle.layer_core.specs.Layers.{empty}
+use Rattle.layer_core.specs.LayerTrees.{LayerState, list_read}
+use Rattle.layer_core.specs.Limits.{most_file_bytes}
+use Rattle.layer_core.specs.Sources.{IsReadingFault}
+use Rattle.layer_core.proofs.FileLemmas.{file-unread}
+use Rattle.join_core.specs.declared.fault.Input.TheVariants.{First, Second, Left, Right, Edits, Layer, Window}
+use Rattle.join_core.specs.declared.fault.RunFault.{RunFault}
+use Rattle.join_core.specs.declared.fault.RunFault.TheVariants.{NoFile, Read, Wkt, Edit, Join, Write, Memory, NoKeys}
+use Rattle.join_core.specs.Inputs.{LayerFile, Builds, BlamesBytes, BlamesInput}
+use Rattle.join_core.specs.JoinRuns.{JoinFiles, JoinGives, left_fault, right_fault, IsLayersFault, IsJoinFault}
+use Rattle.join_core.proofs.JoinRunLemmas.{handed_on}
+
+-- a source that isn't read to its end gives no layer
+pub unread_blamed : (scale : Scale) (known : Option (List ℕ)) (f : ReadFault) → IsReadingFault f
+    → (f ≡ read_faults.TooLong → IfSome known (λ bytes. most_file_bytes < length bytes)) → BlamesBytes f → LayerFile scale known (Err f)
+unread_blamed scale known f reading long blame =
+    file-unread layer_columns (LayerRowGives scale) empty known f reading long (λ e. subst BlamesBytes e blame) (λ e. subst BlamesBytes e blame)
+
+module _ (scale : Scale) where
+  -- what is built of a source's bytes is what its file gives
+  pub built_blamed : (known : Option (List ℕ)) (items : List ℕ) (out : Result LayerState ReadFault) (f : ReadFault)
+      → IfSome known (λ bytes. items ≡ bytes) → Builds scale items out → out ≡ Err f → BlamesBytes f → LayerFile scale known (Err f)
+  built_blamed None items out f same built is blame = tt
+  built_blamed (Some bytes) items out f same built is blame =
+      let no_memory : out ≢ Err read_faults.Memory = λ e. let m : f ≡ read_faults.Memory = cc in subst BlamesBytes m blame in
+      let gives = subst (λ (r : Result LayerState ReadFault). IsLayerFile scale items (list_read r)) is (built.gives no_memory) in
+      subst (λ (b : List ℕ). IsLayerFile scale b (Err f)) same gives
+
+  pub built_well : (known : Option (List ℕ)) (items : List ℕ) (out : Result LayerState ReadFault) (layer : LayerState)
+      → IfSome known (λ bytes. items ≡ bytes) → Builds scale items out → out ≡ Ok layer → LayerFile scale known (Ok layer.list)
+  built_well None items out layer same built is = tt
+  built_well (Some bytes) items out layer same built is =
+      let no_memory : out ≢ Err read_faults.Memory = λ e. absurd cc in
+      let gives = subst (λ (r : Result LayerState ReadFault). IsLayerFile scale items (list_read r)) is (built.gives no_memory) in
+      subst (λ (b : List ℕ). IsLayerFile scale b (Ok layer.list)) same gives
+
+  -- the same of what was read of a source, all of it or not
+  pub read_blamed : (known : Option (List ℕ)) (read : Result (Vec ℕ Global) ReadFault) (out : Result LayerState ReadFault) (f : ReadFault)
+      → IfOk read (λ all. IfSome known (λ bytes. all.items ≡ bytes))
+      → (IsErrOf read read_faults.TooLong → IfSome known (λ bytes. most_file_bytes < length bytes)) → IfErr read IsReadingFault
+      → IfOk read (λ all. Builds scale all.items out) → IfErr read (λ fault. out ≡ Err fault) → out ≡ Err f → BlamesBytes f → LayerFile scale known (Err f)
+  read_blamed known (Ok all) out f same long reading built unread is blame = built_blamed known all.items out f same built is blame
+  read_blamed known (Err g) out f same long reading built unread is blame =
+      let whole : g ≡ f = cc in
+      subst (λ (x : ReadFault). LayerFile scale known (Err x)) whole
+      (unread_blamed scale known g reading (λ e. long (ap Err e)) (subst BlamesBytes (sym whole) blame))
+
+-- a fault of the two layers is what the join gives
+layers_give : (relation : Relation) (files : JoinFiles) (e : RunFault) → IsLayersFault files.scale files.left files.right e → BlamesInput e
+    → JoinGives relation files (Err e)
+layers_give relation files (Read Left f) fault blame = left_fault f (fault blame)
+layers_give relation files (Read Right f) fault blame = let both = fault blame in right_fault both.0 f both.1 both.2
+layers_give relation files (Read First f) fault blame = absurd fault
+layers_give relation files (Read Second f) fault blame = absurd fault
+layers_give relation files (Read Edits f) fault blame = absurd fault
+layers_give relation files (Read Layer f) fault blame = absurd fault
+layers_give relation files (Read Window f) fault blame = absurd fault
+layers_give relation files (NoFile i) fault blame = absurd fault
+layers_give relation files (Wkt i f) fault blame = absurd fault
+layers_give relation files (Edit row f) fault blame = absurd fault
+layers_give relation files (Join f) fault blame = absurd fault
+layers_give relation files Write fault blame = absurd fault
+layers_give relation files Memory fault blame = absurd fault
+layers_give relation files NoKeys fault blame = absurd fault
+
+pub layers_blamed : {T : Type 0} (relation : Relation) (files : JoinFiles) (out : Result T RunFault) (e : RunFault)
+    → IsErrAnd out (λ x. x ≡ e) → IsLayersFault files.scale files.left files.right e
+    → IfErr out (λ x. BlamesInput x → JoinGives relation files (Err x))
+layers_blamed relation files out e h fault =
+    handed_on (JoinGives relation files) out e e h refl (λ blame. layers_give relation files e fault blame)
+
+module _ (scale : Scale) (left right : Option (List ℕ)) where
+  pub layers_join_fault : (e : RunFault) → IsLayersFault scale left right e → IsJoinFault e
+  layers_join_fault (Read Left f) fault = tt
+  layers_join_fault (Read Right f) fault = tt
+  layers_join_fault (Read First f) fault = absurd fault
+  layers_join_fault (Read Second f) fault = absurd fault
+  layers_join_fault (Read Edits f) fault = absurd fault
+  layers_join_fault (Read Layer f) fault = absurd fault
+  layers_join_fault (Read Window f) fault = absurd fault
+  layers_join_fault (NoFile i) fault = absurd fault
+  layers_join_fault (Wkt i f) fault = absurd fault
+  layers_join_fault (Edit row f) fault = absurd fault
+  layers_join_fault (Join f) fault = absurd fault
+  layers_join_fault Write fault = absurd fault
+  layers_join_fault Memory fault = absurd fault
+  layers_join_fault NoKeys fault = absurd fault
+
+  pub none_of_edits : (e : RunFault) → IsLayersFault scale left right e → e ≢ Read Edits read_faults.Io
+  none_of_edits e fault is = subst (IsLayersFault scale left right) is fault
