@@ -1,0 +1,89 @@
+-- Texts that grow by pieces, groups of the same features, and sets that grow by a number.
+use Rattle.std.proofs.Common.{◌≡◌, ℕ, ℤ, pos, ◌-ℤ◌, ◌+ℤ◌, ◌≤ℤ◌, ◌<◌, ◌+◌, ◌==◌, Bool, true, List, [], ◌∷◌, ◌++◌, refl, ap, ◌∙◌, take, codes, length, get_or, append_assoc, flat_map, neg_ℤ, ◌≤◌, ◌*◌, unsigned_abs, to_z, of_z, w64, arith}
+use Rattle.std.proofs.lemmas.Grind.{common_steps}
+use Rattle.std.proofs.lemmas.List.Folds.{list_any_more}
+use Rattle.std.proofs.lemmas.Int.{ints, to_z_pos}
+use Rattle.std.specs.List.{list_any}
+use Rattle.std.specs.Ordering.{nat_cmp}
+use Rattle.std.specs.BTreeSet.{BTreeSet, contains, Updates}
+use Rattle.layer_core.specs.Layers.{Feature, Contents}
+use Rattle.draw_core.specs.declared.drawing.TheConstants.{OPENING, CLOSING}
+use Rattle.draw_core.specs.Marks.{has_left, has_right}
+use Rattle.draw_core.specs.Pictures.{element, group, legend, canvas, picture_of}
+use Rattle.draw_core.specs.Views.{View, margin_of, view_around, view_of}
+
+-- a piece, and what comes after it
+pub chain : (s t u a b : List ℕ) → t ≡ s ++ a → u ≡ t ++ b → u ≡ s ++ (a ++ b)
+chain s t u a b first rest = rest ∙ ap (λ l. l ++ b) first ∙ append_assoc s a b
+
+-- the features of a list, where two tests agree
+pub elements_same : (view : View) (f g : ℕ → Bool) → ((n : ℕ) → f n ≡ g n) → (fs : List Feature)
+    → flat_map (λ x. element view (f x.number) x) fs ≡ flat_map (λ x. element view (g x.number) x) fs
+elements_same view f g same [] = refl
+elements_same view f g same (x ∷ xs) =
+    ap (λ b. element view b x ++ flat_map (λ y. element view (f y.number) y) xs) (same x.number)
+    ∙ ap (λ l. element view (g x.number) x ++ l) (elements_same view f g same xs)
+
+pub group_same : (side : List ℕ) (view : View) (f g : ℕ → Bool) (layer : Contents) → ((n : ℕ) → f n ≡ g n)
+    → group side view f layer ≡ group side view g layer
+group_same side view f g layer same = rw (elements_same view f g same layer.features) refl
+
+-- a set of the numbers of the pairs so far, and one number more
+pub held_more : (side : ℕ × ℕ → ℕ) (s n : BTreeSet ℕ) (pairs : List (ℕ × ℕ)) (i : ℕ) → i < length pairs
+    → Updates nat_cmp s n (side (get_or pairs i (0, 0))) true
+    → ((q : ℕ) → contains nat_cmp s q ≡ list_any (λ p. q == side p) (take i pairs))
+    → (q : ℕ) → contains nat_cmp n q ≡ list_any (λ p. q == side p) (take (i + 1) pairs)
+held_more side s n pairs i within new so_far q =
+    grind (arith, common_steps, new.0 q, so_far q, list_any_more (λ p. q == side p) pairs i (0, 0) within)
+
+-- a coordinate, in 64 bits
+pub same_coordinate : (x : ℤ) → neg_ℤ (pos 1000000000000) ≤ℤ x → x ≤ℤ pos 1000000000000 → to_z w64 (of_z w64 x) ≡ x
+same_coordinate x above below = omega (arith, ints)
+
+-- a coordinate and a margin, in 64 bits
+pub moved_down : (x : ℤ) (m : ℕ) → neg_ℤ (pos 1000000000000) ≤ℤ x → x ≤ℤ pos 1000000000000 → m ≤ 100000000001
+    → to_z w64 (of_z w64 (to_z w64 (of_z w64 x) -ℤ to_z w64 m)) ≡ x -ℤ pos m
+moved_down x m above below small =
+    let p : to_z w64 (of_z w64 x) ≡ x = omega (arith, ints) in
+    let q : to_z w64 m ≡ pos m = to_z_pos w64 m (omega arith) in
+    rw (p, q) (let r : to_z w64 (of_z w64 (x -ℤ pos m)) ≡ x -ℤ pos m = omega (arith, ints) in r)
+
+pub moved_up : (x : ℤ) (m : ℕ) → neg_ℤ (pos 1000000000000) ≤ℤ x → x ≤ℤ pos 1000000000000 → m ≤ 100000000001
+    → to_z w64 (of_z w64 (to_z w64 (of_z w64 x) +ℤ to_z w64 m)) ≡ x +ℤ pos m
+moved_up x m above below small =
+    let p : to_z w64 (of_z w64 x) ≡ x = omega (arith, ints) in
+    let q : to_z w64 m ≡ pos m = to_z_pos w64 m (omega arith) in
+    rw (p, q) (let r : to_z w64 (of_z w64 (x +ℤ pos m)) ≡ x +ℤ pos m = omega (arith, ints) in r)
+
+abbrev the_view_record : ℤ → ℤ → ℕ → ℕ → ℕ → View
+the_view_record l t w h m = record { left = l; top = t; width = w + 2 * m; height = h + 2 * m }
+
+-- the view about corners, part by part
+pub around_is : (a b c d l t : ℤ) (w h m : ℕ) → w ≡ unsigned_abs (c -ℤ a) → h ≡ unsigned_abs (d -ℤ b) → m ≡ margin_of w h
+    → l ≡ a -ℤ pos m → t ≡ d +ℤ pos m
+    → the_view_record l t w h m ≡ view_around a b c d
+around_is a b c d l t w h m width height margin left top = rw (left, top, margin, width, height) refl
+
+-- the group of the features that the pairs set off, at the view of the layers
+pub group_is : (side : List ℕ) (v w : View) (f g : ℕ → Bool) (layer : Contents) (t u : List ℕ) → v ≡ w → ((n : ℕ) → f n ≡ g n)
+    → u ≡ t ++ group side v f layer → u ≡ t ++ group side w g layer
+group_is side v w f g layer t u view same more =
+    more ∙ ap (λ l. t ++ l) (group_same side v f g layer same ∙ ap (λ x. group side x g layer) view)
+
+-- the picture from its pieces
+pub assembled : (left right : Contents) (pairs : List (ℕ × ℕ)) (v : View) (t0 t1 t2 t3 t4 t5 t6 : List ℕ) → v ≡ view_of left right
+    → t0 ≡ [] → t1 ≡ t0 ++ OPENING.now → t2 ≡ t1 ++ legend (length left.features) (length right.features) (length pairs) → t3 ≡ t2 ++ canvas v
+    → t4 ≡ t3 ++ group (codes "left") (view_of left right) (has_left pairs) left
+    → t5 ≡ t4 ++ group (codes "right") (view_of left right) (has_right pairs) right → t6 ≡ t5 ++ CLOSING.now → t6 ≡ picture_of left right pairs
+assembled left right pairs v t0 t1 t2 t3 t4 t5 t6 view e0 e1 e2 e3 e4 e5 e6 =
+    let w = view_of left right in
+    let keys = legend (length left.features) (length right.features) (length pairs) in
+    let first = group (codes "left") w (has_left pairs) left in
+    let second = group (codes "right") w (has_right pairs) right in
+    let e3w = e3 ∙ ap (λ x. t2 ++ canvas x) view in
+    let after4 = chain t4 t5 t6 second CLOSING.now e5 e6 in
+    let after3 = chain t3 t4 t6 first (second ++ CLOSING.now) e4 after4 in
+    let after2 = chain t2 t3 t6 (canvas w) (first ++ (second ++ CLOSING.now)) e3w after3 in
+    let after1 = chain t1 t2 t6 keys (canvas w ++ (first ++ (second ++ CLOSING.now))) e2 after2 in
+    let all = chain t0 t1 t6 OPENING.now (keys ++ (canvas w ++ (first ++ (second ++ CLOSING.now)))) e1 after1 in
+    all ∙ ap (λ l. l ++ (OPENING.now ++ (keys ++ (canvas w ++ (first ++ (second ++ CLOSING.now)))))) e0

@@ -1,0 +1,52 @@
+-- The part of the plane that a picture shows.
+use Rattle.std.specs.Prelude.{ℕ, ◌+◌, ◌*◌, ◌/◌, max, ℤ, pos, neg_ℤ, ◌+ℤ◌, ◌-ℤ◌, ◌≤ℤ◌, unsigned_abs, List, [], ◌∷◌, Option, None, Some}
+use Rattle.geom_core.specs.declared.shape.Shape.{Shape}
+use Rattle.geom_core.specs.Shapes.{x1, y1, x2, y2, cover_of}
+use Rattle.layer_core.specs.Layers.{Feature, Contents}
+
+-- the first coordinate of the left side, the second one of the upper side, and the two lengths
+pub record View : Type 0 where
+  pub left : ℤ
+  pub top : ℤ
+  pub width : ℕ
+  pub height : ℕ
+
+-- at most twice as far out as a coordinate
+abbrev pub IsNear : ℤ → Type 0
+IsNear c = (neg_ℤ (pos 2000000000000) ≤ℤ c) × (c ≤ℤ pos 2000000000000)
+
+-- the smallest shape that contains the cover, if there is one, and the shape
+abbrev pub widened : Option Shape → Shape → Shape
+widened None s = s
+widened (Some cover) s = cover_of cover s
+
+-- the smallest shape that contains the cover, if there is one, and the shape of each feature
+abbrev pub cover_with : Option Shape → List Feature → Option Shape
+cover_with cover [] = cover
+cover_with cover (f ∷ fs) = cover_with (Some (widened cover f.shape)) fs
+
+-- a twentieth of the longer side, and one unit more
+abbrev pub margin_of : ℕ → ℕ → ℕ
+margin_of width height = max width height / 20 + 1
+
+-- about these corners, with a margin on each side
+abbrev pub view_around : ℤ → ℤ → ℤ → ℤ → View
+view_around a b c d =
+    let width = unsigned_abs (c -ℤ a) in
+    let height = unsigned_abs (d -ℤ b) in
+    let margin = margin_of width height in
+    record {
+      left = a -ℤ pos margin;
+      top = d +ℤ pos margin;
+      width = width + 2 * margin;
+      height = height + 2 * margin;
+    }
+
+-- about the cover, or about the origin where there is none
+abbrev pub view_about : Option Shape → View
+view_about None = view_around (pos 0) (pos 0) (pos 0) (pos 0)
+view_about (Some s) = view_around (x1 s) (y1 s) (x2 s) (y2 s)
+
+-- the view of two layers: their cover and its margin
+abbrev pub view_of : Contents → Contents → View
+view_of left right = view_about (cover_with (cover_with None left.features) right.features)

@@ -1,0 +1,147 @@
+//! The picture of two layers.
+
+ghost use Rattle.std.specs.Prelude.{◌≡◌, ◌++◌, ◌+◌, ◌≤◌, ◌↔◌, length, IfOk, OnOk, IsTrue};
+ghost use Rattle.std.specs.String.{string_bytes};
+ghost use Rattle.std.specs.Ordering.{nat_cmp};
+ghost use Rattle.std.specs.BTreeSet.{contains};
+ghost use Rattle.draw_core.specs.Limits.{most_drawn};
+ghost use Rattle.draw_core.specs.Pictures.{counted, legend, canvas, group, picture_of};
+
+use crate::frame::Frame;
+use crate::marks::Marks;
+use crate::outline::push_element;
+use itoa::Buffer;
+use layer_core::Layer;
+use std::alloc::{AllocError, Global};
+use std::collections::BTreeSet;
+
+/// How many features of both layers together a picture may have: with more, its reader sees
+/// nothing but strokes.
+pub const MAX_DRAWN: usize = 100_000;
+
+/// The root element's start, and what the classes look like.
+///
+/// Widths of strokes are parts of the picture's size, so a point is seen at any extent. The two
+/// colours are blue and vermillion of Okabe and Ito, which colour-blind readers tell apart.
+const OPENING: &str = "<svg xmlns=\"http://www.w3.org/2000/svg\" version=\"1.1\" \
+width=\"1000\" height=\"1040\" viewBox=\"0 0 1000 1040\">\n\
+<style>\
+text{font:16px sans-serif}\
+path{stroke-width:.1%;stroke-linecap:round;stroke-linejoin:round;fill-opacity:.1}\
+.point{stroke-width:.5%}\
+.match{stroke-width:.3%;fill-opacity:.4}\
+.point.match{stroke-width:1%}\
+.left{fill:#0072B2;stroke:#0072B2}\
+.right{fill:#D55E00;stroke:#D55E00}\
+</style>\n\
+<rect width=\"1000\" height=\"1040\" fill=\"#fff\"/>\n";
+
+/// The legend up to the number of left features.
+const LEFT_KEY: &str = "<path class=\"left\" d=\"M20 12h16v16h-16z\"/>\
+<text x=\"46\" y=\"26\">left features: ";
+
+/// From there to the number of right features.
+const RIGHT_KEY: &str = "</text>\n<path class=\"right\" d=\"M320 12h16v16h-16z\"/>\
+<text x=\"346\" y=\"26\">right features: ";
+
+/// From there to the number of pairs.
+const MATCH_KEY: &str = "</text>\n<path class=\"left match\" d=\"M620 12h16v16h-16z\"/>\
+<path class=\"right match\" d=\"M642 12h16v16h-16z\"/>\
+<text x=\"668\" y=\"26\">matching pairs: ";
+
+/// The end of the legend.
+const LEGEND_END: &str = "</text>\n";
+
+/// The start of the element that shows the frame, up to its width.
+const CANVAS: &str = "<svg y=\"40\" width=\"1000\" height=\"1000\" viewBox=\"0 0 ";
+
+/// The ends of the frame's element and of the root.
+const CLOSING: &str = "</svg>\n</svg>\n";
+
+/// Whether a picture may have this many features.
+pub fn can_be_drawn(left: &Layer, right: &Layer) -> bool
+    ensures { IsTrue result
+        ↔ (length left.now.list.features + length right.now.list.features ≤ most_drawn) }
+{
+    left.len().saturating_add(right.len()) <= MAX_DRAWN
+}
+
+/// Adds a text and a number.
+fn push_counted(text: &mut String, before: &str, count: u64) -> Result<(), AllocError>
+    ensures { OnOk result
+        (string_bytes text.new ≡ string_bytes text.old ++ counted before.now count) }
+{
+    let mut digits = Buffer::new();
+    text.push_str(before)?;
+    text.push_str(digits.format(count))
+}
+
+/// Adds the legend: each colour, and how many features or pairs have it.
+fn push_legend(text: &mut String, left: usize, right: usize, pairs: usize) -> Result<(), AllocError>
+    ensures { OnOk result
+        (string_bytes text.new ≡ string_bytes text.old ++ legend left right pairs) }
+{
+    push_counted(text, LEFT_KEY, left as u64)?;
+    push_counted(text, RIGHT_KEY, right as u64)?;
+    push_counted(text, MATCH_KEY, pairs as u64)?;
+    text.push_str(LEGEND_END)
+}
+
+/// Adds the start of the element that shows the frame.
+fn push_canvas(text: &mut String, frame: &Frame) -> Result<(), AllocError>
+    ensures { OnOk result (string_bytes text.new ≡ string_bytes text.old ++ canvas frame.now) }
+{
+    push_counted(text, CANVAS, frame.width())?;
+    push_counted(text, " ", frame.height())?;
+    text.push_str("\">\n")
+}
+
+/// Adds the features of a layer, where those with these numbers are set off.
+fn push_group(
+    text: &mut String,
+    side: &str,
+    frame: &Frame,
+    matches: &BTreeSet<u32>,
+    layer: &Layer,
+) -> Result<(), AllocError>
+    ensures { let is_match = contains nat_cmp matches.now in OnOk result (string_bytes text.new
+        ≡ string_bytes text.old ++ group side.now frame.now is_match layer.now.list) }
+{
+    text.push_str("<g class=\"")?;
+    text.push_str(side)?;
+    text.push_str("\">\n")?;
+    for feature in layer.iter() {
+        push_element(text, frame, &feature, matches.contains(&feature.number))?;
+    }
+    text.push_str("</g>\n")
+}
+
+/// The picture of two layers, as SVG 1.1: a legend with three counts, and below it each feature of
+/// the left layer and then each of the right one, in layer order, with its id as its title. Those
+/// that occur in a pair of numbers are set off.
+///
+/// Each shape stands at its place from the frame's upper left corner, with the second axis
+/// upwards, in units of the grid.
+///
+/// # Errors
+/// Where memory is refused.
+pub fn picture(
+    alloc: Global,
+    left: &Layer,
+    right: &Layer,
+    pairs: &[(u32, u32)],
+) -> Result<String, AllocError>
+    ensures text { IfOk result
+        (λ text. string_bytes text ≡ picture_of left.now.list right.now.list pairs.now) }
+{
+    let frame = Frame::new(left, right);
+    let marks = Marks::new(alloc, pairs)?;
+    let mut text = String::new(alloc);
+    text.push_str(OPENING)?;
+    push_legend(&mut text, left.len(), right.len(), pairs.len())?;
+    push_canvas(&mut text, &frame)?;
+    push_group(&mut text, "left", &frame, &marks.left, left)?;
+    push_group(&mut text, "right", &frame, &marks.right, right)?;
+    text.push_str(CLOSING)?;
+    Ok(text)
+}

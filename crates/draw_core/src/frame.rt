@@ -1,0 +1,129 @@
+//! The part of the plane that a picture shows.
+
+ghost use Rattle.std.specs.Prelude.{◌≡◌, ◌≤◌, ◌-ℤ◌, unsigned_abs};
+ghost use Rattle.geom_core.specs.Shapes.{IsCoordinate};
+ghost use Rattle.draw_core.specs.Views.{cover_with, margin_of};
+
+use geom_core::Shape;
+use layer_core::Layer;
+use std::marker::Model;
+
+/// The part of the plane that a picture shows: the cover of all shapes, and a margin about it.
+///
+/// Coordinates of the picture count from its upper left corner, to the right and downwards.
+#[derive(Drop)]
+pub(crate) struct Frame {
+    left: i64,
+    top: i64,
+    width: u64,
+    height: u64,
+}
+
+impl Model for Frame {
+    ghost use Rattle.std.specs.Prelude.{ℕ, ℤ};
+    ghost use Rattle.draw_core.specs.Views.{View, IsNear};
+
+    ghost Value = { View };
+
+    ghost view = { λ f. record {
+      left = f.left;
+      top = f.top;
+      width = f.width;
+      height = f.height;
+    } };
+
+    ghost invariant = { λ f. IsNear f.left × IsNear f.top };
+}
+
+/// How far apart two coordinates are.
+fn distance(a: i64, b: i64) -> u64
+    requires first { IsCoordinate a }
+    requires second { IsCoordinate b }
+    ensures distance { result ≡ unsigned_abs (b -ℤ a) }
+    ensures bound { result ≤ 2000000000000 }
+{
+    b.abs_diff(a)
+}
+
+/// A twentieth of the longer side, and one unit more.
+fn margin_of(width: u64, height: u64) -> u64
+    requires width { width ≤ 2000000000000 }
+    requires height { height ≤ 2000000000000 }
+    ensures margin { result ≡ margin_of width height }
+    ensures bound { result ≤ 100000000001 }
+{
+    width.max(height) / 20 + 1
+}
+
+/// The smallest shape that contains the cover and each shape of the layer.
+fn cover_with(cover: Option<Shape>, layer: &Layer) -> Option<Shape>
+    ensures { result ≡ cover_with cover layer.now.list.features }
+{
+    let mut cover = cover;
+    for feature in layer.iter() {
+        cover = match cover {
+            Some(cover) => Some(cover.cover(&feature.shape)),
+            None => Some(feature.shape),
+        };
+    }
+    cover
+}
+
+impl Frame {
+    ghost use Rattle.geom_core.specs.Shapes.{x1, y2, AreCorners};
+    ghost use Rattle.draw_core.specs.Views.{view_around, view_of};
+
+    /// The frame of two layers, about the origin where they have no features.
+    pub(crate) fn new(left: &Layer, right: &Layer) -> Frame
+        ensures { result ≡ view_of left.now.list right.now.list }
+    {
+        match cover_with(cover_with(None, left), right) {
+            Some(cover) => Frame::around(cover.x1(), cover.y1(), cover.x2(), cover.y2()),
+            None => Frame::around(0, 0, 0, 0),
+        }
+    }
+
+    /// The frame about the corners of a shape, with a twentieth of its longer side and one unit
+    /// more on each side, so that it has a width and a height.
+    fn around(x1: i64, y1: i64, x2: i64, y2: i64) -> Frame
+        requires { AreCorners x1 y1 x2 y2 }
+        ensures { result ≡ view_around x1 y1 x2 y2 }
+    {
+        let (width, height) = (distance(x1, x2), distance(y1, y2));
+        let margin = margin_of(width, height);
+        Frame {
+            left: x1 - margin as i64,
+            top: y2 + margin as i64,
+            width: width + 2 * margin,
+            height: height + 2 * margin,
+        }
+    }
+
+    /// How far the shape's left side is from the frame's.
+    pub(crate) fn x_of(&self, shape: &Shape) -> i64
+        ensures { result ≡ x1 shape.now -ℤ self.now.left }
+    {
+        shape.x1() - self.left
+    }
+
+    /// How far the shape's upper side is below the frame's.
+    pub(crate) fn y_of(&self, shape: &Shape) -> i64
+        ensures { result ≡ self.now.top -ℤ y2 shape.now }
+    {
+        self.top - shape.y2()
+    }
+
+    /// How wide the frame is.
+    pub(crate) fn width(&self) -> u64
+        ensures { result ≡ self.now.width }
+    {
+        self.width
+    }
+
+    /// How high the frame is.
+    pub(crate) fn height(&self) -> u64
+        ensures { result ≡ self.now.height }
+    {
+        self.height
+    }
+}

@@ -1,0 +1,10 @@
+//! A picture of two layers and of the pairs that were found in them, as SVG 1.1.
+#![tactic(auto)]
+
+mod drawing;
+mod frame;
+mod label;
+mod marks;
+mod outline;
+
+pub use drawing::{MAX_DRAWN, can_be_drawn, picture};

@@ -1,0 +1,161 @@
+//! Pictures by hand.
+
+use crate::layers::{Row, layer_of};
+use draw_core::{can_be_drawn, picture};
+use std::test::Fail;
+
+/// What a picture has to say: the counts of the legend, and the drawing from the size of its frame
+/// to the end.
+#[derive(Clone, Copy)]
+struct Expected {
+    counts: [&'static str; 3],
+    drawing: &'static str,
+}
+
+/// The count of the legend that stands after these words.
+fn count_after<'a>(text: &'a str, words: &str) -> Option<&'a str> {
+    let (_, rest) = text.split_once(words)?;
+    let (count, _) = rest.split_once("</text>")?;
+    Some(count)
+}
+
+/// What stands after the legend, from the size of the frame on.
+fn drawing(text: &str) -> Option<&str> {
+    let (_, rest) = text.split_once("</text>\n<svg ")?;
+    let (_, drawing) = rest.split_once(" viewBox=\"0 0 ")?;
+    Some(drawing)
+}
+
+/// Whether a legend has these counts.
+fn counts(text: &str, expected: [&str; 3]) -> bool {
+    count_after(text, "left features: ") == Some(expected[0])
+        && count_after(text, "right features: ") == Some(expected[1])
+        && count_after(text, "matching pairs: ") == Some(expected[2])
+}
+
+/// Whether the picture of these features and pairs says this, and begins as SVG.
+fn draws(
+    rt: &HostRuntime,
+    left: &[Row<'_>],
+    right: &[Row<'_>],
+    pairs: &[(u32, u32)],
+    expected: &Expected,
+) -> Result<bool, Fail> {
+    let left = layer_of(rt, left).ok_or("a left layer")?;
+    let right = layer_of(rt, right).ok_or("a right layer")?;
+    let text = picture(rt.alloc(), &left, &right, pairs)?;
+    let begins = text.as_str().starts_with(
+        "<svg xmlns=\"http://www.w3.org/2000/svg\" version=\"1.1\" ",
+    );
+    Ok(
+        begins
+            && can_be_drawn(&left, &right)
+            && counts(text.as_str(), expected.counts)
+            && drawing(text.as_str()) == Some(expected.drawing),
+    )
+}
+
+// With no features the frame is about the origin, one unit to each side.
+#[test]
+fn nothing_drawn(rt: HostRuntime) -> Result<(), Fail> {
+    let expected = Expected {
+        counts: ["0", "0", "0"],
+        drawing: "2 2\">\n<g class=\"left\">\n\
+            </g>\n<g class=\"right\">\n\
+            </g>\n</svg>\n</svg>\n",
+    };
+    assert!(rt; draws(&rt, &[], &[], &[], &expected)?);
+    Ok(())
+}
+
+// One point stands in the middle of a frame of two units.
+#[test]
+fn point_drawn(rt: HostRuntime) -> Result<(), Fail> {
+    let expected = Expected {
+        counts: ["0", "1", "0"],
+        drawing: "2 2\">\n<g class=\"left\">\n\
+            </g>\n<g class=\"right\">\n\
+            <path class=\"point\" d=\"M1 1h0v0\"><title>p</title></path>\n\
+            </g>\n</svg>\n</svg>\n",
+    };
+    assert!(rt; draws(&rt, &[], &[("p", (7, -3, 7, -3))], &[], &expected)?);
+    Ok(())
+}
+
+// The cover goes from (0, -10) to (40, 20), so the margin is 40 / 20 + 1 = 3 and the corner of the
+// frame (-3, 23). The right layer's second feature is in two pairs, and its first one in none.
+#[test]
+fn matches_drawn(rt: HostRuntime) -> Result<(), Fail> {
+    let left = [
+        ("road", (0, 5, 40, 5)),
+        ("tree", (10, 20, 10, 20)),
+        ("lake", (20, -10, 30, 0)),
+    ];
+    let right = [("wall", (5, 0, 5, 8)), ("park", (10, 0, 25, 20))];
+    let expected = Expected {
+        counts: ["3", "2", "2"],
+        drawing: "46 36\">\n<g class=\"left\">\n\
+            <path d=\"M3 18h40v0\"><title>road</title></path>\n\
+            <path class=\"point match\" d=\"M13 3h0v0\"><title>tree</title></path>\n\
+            <path class=\"match\" d=\"M23 23h10v10h-10z\"><title>lake</title></path>\n\
+            </g>\n<g class=\"right\">\n\
+            <path d=\"M8 15h0v8\"><title>wall</title></path>\n\
+            <path class=\"match\" d=\"M13 3h15v20h-15z\"><title>park</title></path>\n\
+            </g>\n</svg>\n</svg>\n",
+    };
+    assert!(rt; draws(&rt, &left, &right, &[(1, 1), (2, 1)], &expected)?);
+    Ok(())
+}
+
+// The whole plane: both lengths are 2 * 10^12, and the margin a twentieth of that and one.
+#[test]
+fn plane_drawn(rt: HostRuntime) -> Result<(), Fail> {
+    const FAR: i64 = 1_000_000_000_000;
+    let expected = Expected {
+        counts: ["1", "1", "0"],
+        drawing: "2200000000002 2200000000002\">\n<g class=\"left\">\n\
+            <path d=\"M100000000001 100000000001\
+            h2000000000000v2000000000000h-2000000000000z\"><title>all</title></path>\n\
+            </g>\n<g class=\"right\">\n\
+            <path class=\"point\" d=\"M2100000000001 2100000000001h0v0\">\
+            <title>far</title></path>\n\
+            </g>\n</svg>\n</svg>\n",
+    };
+    let left = [("all", (-FAR, -FAR, FAR, FAR))];
+    assert!(rt;
+        draws(
+            &rt,
+            &left,
+            &[("far", (FAR, -FAR, FAR, -FAR))],
+            &[],
+            &expected
+        )?
+    );
+    Ok(())
+}
+
+// XML 1.0, sections 2.2 and 2.4: markup by reference, and U+FFFD for what is forbidden.
+#[test]
+fn ids_escaped(rt: HostRuntime) -> Result<(), Fail> {
+    let right = [
+        ("a&b<c>\"d\" 'e'", (0, 0, 0, 0)),
+        ("]]>", (0, 0, 0, 0)),
+        ("\u{0}\u{8}\u{b}\u{1f}\u{fffe}\u{ffff}", (0, 0, 0, 0)),
+        ("\t\n\r \u{7f}é€\u{fffd}\u{1ffff}", (0, 0, 0, 0)),
+    ];
+    let expected = Expected {
+        counts: ["0", "4", "0"],
+        drawing: "2 2\">\n<g class=\"left\">\n\
+            </g>\n<g class=\"right\">\n\
+            <path class=\"point\" d=\"M1 1h0v0\">\
+            <title>a&amp;b&lt;c&gt;&quot;d&quot; &apos;e&apos;</title></path>\n\
+            <path class=\"point\" d=\"M1 1h0v0\"><title>]]&gt;</title></path>\n\
+            <path class=\"point\" d=\"M1 1h0v0\">\
+            <title>\u{fffd}\u{fffd}\u{fffd}\u{fffd}\u{fffd}\u{fffd}</title></path>\n\
+            <path class=\"point\" d=\"M1 1h0v0\">\
+            <title>\t\n\r \u{7f}é€\u{fffd}\u{1ffff}</title></path>\n\
+            </g>\n</svg>\n</svg>\n",
+    };
+    assert!(rt; draws(&rt, &[], &right, &[], &expected)?);
+    Ok(())
+}
