@@ -1,0 +1,17 @@
+"""Runs a command and writes four numbers into a file: launch.py FILE COMMAND..
+
+They are its seconds, its processor's seconds, its most kilobytes of memory and its status.
+
+A process has at least the memory of the one that starts it as its most. So this one is small, and does nothing else.
+"""
+import os
+import sys
+import time
+
+begun = time.monotonic()
+process = os.posix_spawnp(sys.argv[2], sys.argv[2:], os.environ)
+_, status, usage = os.wait4(process, 0)
+seconds = time.monotonic() - begun
+with open(sys.argv[1], "w", encoding="ascii") as file:
+    processor = usage.ru_utime + usage.ru_stime
+    file.write(f"{seconds} {processor} {usage.ru_maxrss} {os.waitstatus_to_exitcode(status)}")

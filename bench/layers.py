@@ -1,0 +1,173 @@
+"""Pairs of layers to join, made anew the same from a kind and a size.
+
+Random numbers come from SplitMix64 with a fixed seed, so that every machine makes the same files. Of the kinds that
+are regular, `expected` gives the number of pairs by arithmetic.
+"""
+from dataclasses import dataclass
+from math import isqrt
+from pathlib import Path
+
+WORD = (1 << 64) - 1
+
+
+class Random:
+    """SplitMix64 (Steele, Lea, Flood 2014)."""
+
+    def __init__(self, seed):
+        self.state = seed
+
+    def below(self, limit):
+        """A number from 0 to limit - 1; the bias is below 2^-32 for the limits that stand here."""
+        self.state = (self.state + 0x9E3779B97F4A7C15) & WORD
+        mixed = self.state
+        mixed = ((mixed ^ (mixed >> 30)) * 0xBF58476D1CE4E5B9) & WORD
+        mixed = ((mixed ^ (mixed >> 27)) * 0x94D049BB133111EB) & WORD
+        return (mixed ^ (mixed >> 31)) % limit
+
+
+def point(x, y):
+    return f"POINT ({x} {y})"
+
+
+def segment(x1, y1, x2, y2):
+    return f"LINESTRING ({x1} {y1}, {x2} {y2})"
+
+
+def rectangle(x1, y1, x2, y2):
+    return f"POLYGON (({x1} {y1}, {x2} {y1}, {x2} {y2}, {x1} {y2}, {x1} {y1}))"
+
+
+def random_points(size, random):
+    side = 10 * isqrt(size)
+    for _ in range(size):
+        yield point(random.below(side), random.below(side))
+
+
+def random_rectangles(size, random):
+    """Rectangles that cover the square about once."""
+    side = 10 * isqrt(size)
+    for _ in range(size):
+        x, y = random.below(side), random.below(side)
+        yield rectangle(x, y, x + 1 + random.below(20), y + 1 + random.below(20))
+
+
+def random_mixture(size, random):
+    """Points, segments along either axis and rectangles on a coarse grid, where ends and sides often coincide."""
+    side = 4 * isqrt(size)
+    for _ in range(size):
+        x, y = random.below(side), random.below(side)
+        width, height = random.below(5), random.below(5)
+        yield shape(x, y, x + width, y + height)
+
+
+def shape(x1, y1, x2, y2):
+    if (x1, y1) == (x2, y2):
+        return point(x1, y1)
+    if x1 == x2 or y1 == y2:
+        return segment(x1, y1, x2, y2)
+    return rectangle(x1, y1, x2, y2)
+
+
+PARCEL = 20
+BLOCK_PARCELS = 2
+
+
+def blocks_along(size):
+    """How many blocks lie along a side of the cadastre that has about this number of parcels."""
+    return max(1, isqrt(size) // BLOCK_PARCELS)
+
+
+def squares(along, side):
+    for row in range(along):
+        for column in range(along):
+            yield rectangle(column * side, row * side, (column + 1) * side, (row + 1) * side)
+
+
+def parcels(size, _random):
+    yield from squares(blocks_along(size) * BLOCK_PARCELS, PARCEL)
+
+
+def blocks(size, _random):
+    """Squares of two by two parcels, which share their sides with each other."""
+    yield from squares(blocks_along(size), PARCEL * BLOCK_PARCELS)
+
+
+TRACKS = 8
+PITCH = 10
+CELL = 200
+
+
+def cells(size):
+    """The corners of the cells of a chip, in rows."""
+    count = max(1, size // TRACKS)
+    along = max(1, isqrt(count))
+    for cell in range(count):
+        yield (cell % along) * CELL, (cell // along) * CELL
+
+
+def chip_bars(size, _random):
+    """Horizontal bars, eight a cell, that end inside the cell."""
+    for x, y in cells(size):
+        for track in range(TRACKS):
+            low = y + 10 + track * PITCH
+            yield rectangle(x + 5, low, x + 95, low + 4)
+
+
+def chip_wires(size, _random):
+    """Vertical wires, eight a cell, every second one without a width, that run over all bars of their cell."""
+    for x, y in cells(size):
+        for track in range(TRACKS):
+            left = x + 10 + track * PITCH
+            width = 0 if track % 2 else 4
+            yield shape(left, y + 5, left + width, y + 95)
+
+
+@dataclass(frozen=True)
+class Kind:
+    """Two layers and the relation that they are joined by."""
+
+    left: object
+    right: object
+    relation: str
+
+
+KINDS = {
+    "points": Kind(random_points, random_rectangles, "within"),
+    "rectangles": Kind(random_rectangles, random_rectangles, "overlaps"),
+    "mixture": Kind(random_mixture, random_mixture, "touches"),
+    "cadastre": Kind(parcels, blocks, "touches"),
+    "chip": Kind(chip_bars, chip_wires, "intersects"),
+}
+
+
+def expected(kind, relation, size):
+    """The number of pairs where arithmetic tells it, else None."""
+    if kind == "cadastre":
+        return cadastre_pairs(relation, blocks_along(size))
+    if kind == "chip" and relation == "intersects":
+        return max(1, size // TRACKS) * TRACKS * TRACKS
+    return None
+
+
+def cadastre_pairs(relation, along):
+    """Along one axis a block lies over two parcels and meets one more at either end, but for the border's two ends."""
+    meeting = (4 * along - 2) ** 2
+    inside = (2 * along) ** 2
+    return {"intersects": meeting, "within": inside, "touches": meeting - inside, "overlaps": 0}.get(relation)
+
+
+def write_layer(path, prefix, texts):
+    with open(path, "w", encoding="ascii") as file:
+        file.write("id,wkt\n")
+        for number, text in enumerate(texts):
+            quoted = f'"{text}"' if "," in text else text
+            file.write(f"{prefix}{number},{quoted}\n")
+
+
+def write_pair(folder, kind, size, seed=2026):
+    """Writes the two layers of a kind and gives their paths."""
+    random = Random(seed)
+    paths = Path(folder, f"{kind}-left.csv"), Path(folder, f"{kind}-right.csv")
+    write_layer(paths[0], "a", KINDS[kind].left(size, random))
+    write_layer(paths[1], "b", KINDS[kind].right(size, random))
+    return paths

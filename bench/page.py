@@ -1,0 +1,169 @@
+"""The page and the picture of a run of the bench."""
+import datetime
+import os
+import platform
+from dataclasses import dataclass
+from xml.sax.saxutils import escape
+
+COLOURS = ("#1b6ca8", "#8aa29e", "#c98b3c", "#7b5ea7")
+WIDTH = 760
+LABEL = 130
+BAR = 15
+GAP = 14
+LETTER = 12
+
+
+@dataclass(frozen=True)
+class Row:
+    """One join: its layers, and the best run of each program by its name."""
+
+    kind: str
+    relation: str
+    features: tuple
+    runs: dict
+
+
+def write(options, everyone, rows, wrong):
+    """Writes BENCH.md and bench.svg into the folder of the options."""
+    options.output.mkdir(parents=True, exist_ok=True)
+    (options.output / "BENCH.md").write_text(page(options, everyone, rows, wrong), encoding="utf-8")
+    (options.output / "bench.svg").write_text(picture(everyone, rows), encoding="utf-8")
+
+
+def page(options, everyone, rows, wrong):
+    names = [program.name for program in everyone]
+    versions = ", ".join(f"{program.name} {program.version.removeprefix('rjoin ')}" for program in everyone)
+    answer = "Every program gave the same pairs with the same DE-9IM letters." if not wrong else "\n".join(wrong)
+    return f"""# Bench
+
+`bench/run` makes layers, joins them by rjoin and by what else is installed, compares the answers, and writes this page. It is of one run on one machine: the ratios tell more than the seconds.
+
+| | |
+|---|---|
+| Day | {datetime.date.today()} |
+| Machine | {machine()} |
+| System | {system()} |
+| Programs | {versions} |
+| Threads | {options.workers} |
+| Runs | the best of {options.times} |
+
+Seconds from the two files to the written pairs, and in brackets how many times as long as rjoin:
+
+{table(names, rows)}
+
+{answer}
+
+![Seconds of each program](bench.svg)
+
+Seconds of the processor, over all threads, and in brackets the most memory in megabytes. They depend less on what else the machine does. PostGIS is left out, since its server does the work.
+
+{work_table([name for name in names if name != "PostGIS"], rows)}
+
+## What is joined
+
+| Kind | Left | Right |
+|---|---|---|
+| points | random points | random rectangles that cover the square about once |
+| rectangles | such rectangles | such rectangles |
+| mixture | points, segments and rectangles on a coarse grid, so that ends and sides coincide | the same |
+| cadastre | square parcels side by side | blocks of two by two parcels |
+| chip | horizontal bars, eight a cell | vertical wires, eight a cell, every second one without a width |
+
+The generator has a fixed seed (`bench/layers.py`). Of the cadastre and the chip, the number of pairs follows by arithmetic and is compared too; `bench/smoke` does that alone, at small sizes and with no peer.
+
+## What the peers do
+
+GEOS (C interface): an STRtree of the right layer, prepared geometries, the named predicate, and the letters of the pairs that hold. Boost.Geometry: a packed R-tree of boxes and `relation`, fitted to the masks. Both read the CSV files themselves and join by as many threads as rjoin. PostGIS: `\\copy` into unlogged tables, a GiST index each, `ANALYZE`, the join with `ST_Relate`; all of that is in its seconds. All of them take geometries of any form, and rjoin only points, axis-parallel segments and rectangles, which has a part in the difference.
+"""
+
+
+def machine():
+    try:
+        with open("/proc/cpuinfo", encoding="ascii", errors="replace") as file:
+            models = [line.split(":", 1)[1].strip() for line in file if line.startswith("model name")]
+    except OSError:
+        models = []
+    memory = os.sysconf("SC_PAGE_SIZE") * os.sysconf("SC_PHYS_PAGES") / 2**30
+    load = os.getloadavg()[0]
+    busy = " and busy with other work" if load > 2 * os.cpu_count() else ""
+    model = models[0] if models else platform.machine()
+    return f"{model}, {os.cpu_count()} cores, {memory:.0f} GB; load {load:.0f} at the end{busy}"
+
+
+def system():
+    try:
+        return f"{platform.freedesktop_os_release()['PRETTY_NAME']}, {platform.system()} {platform.release()}"
+    except OSError:
+        return platform.platform()
+
+
+def table(names, rows):
+    lines = [f"| Kind | Relation | Features | Pairs | {' | '.join(names)} |", "|---" * (4 + len(names)) + "|"]
+    for row in rows:
+        cells = " | ".join(seconds_cell(row, name) for name in names)
+        features = " x ".join(f"{count:,}" for count in row.features)
+        lines.append(f"| {row.kind} | {row.relation} | {features} | {row.runs['rjoin'].pairs:,} | {cells} |")
+    return "\n".join(lines)
+
+
+def seconds_cell(row, name):
+    seconds = row.runs[name].seconds
+    if name == "rjoin":
+        return f"{seconds:.2f}"
+    return f"{seconds:.2f} ({seconds / row.runs['rjoin'].seconds:.1f})"
+
+
+def work_table(names, rows):
+    lines = [f"| Kind | {' | '.join(names)} |", "|---" * (1 + len(names)) + "|"]
+    for row in rows:
+        cells = " | ".join(work_cell(row.runs[name]) for name in names)
+        lines.append(f"| {row.kind} | {cells} |")
+    return "\n".join(lines)
+
+
+def work_cell(run):
+    return f"{run.processor:.2f} ({run.kilobytes / 1024:.0f})"
+
+
+def picture(everyone, rows):
+    """Bars of seconds; a bar that would pass the edge is cut there, and its number tells. The machine stands below."""
+    names = [program.name for program in everyone]
+    block = BAR * len(names) + GAP
+    foot = GAP * 3 + block * len(rows) + LETTER
+    height = foot + GAP
+    scale = (WIDTH - LABEL - 90) / cut_of(rows)
+    parts = [legend(names)]
+    for at, row in enumerate(rows):
+        parts.append(bars(row, names, GAP * 3 + at * block, scale))
+    parts.append(f'<text x="8" y="{foot}" fill="#666666" font-size="10">{escape(machine())}</text>')
+    return (f'<svg xmlns="http://www.w3.org/2000/svg" viewBox="0 0 {WIDTH} {height}" width="{WIDTH}" '
+            f'height="{height}" font-family="sans-serif" font-size="{LETTER}">\n'
+            f'<rect width="{WIDTH}" height="{height}" fill="white"/>\n' + "\n".join(parts) + "\n</svg>\n")
+
+
+def cut_of(rows):
+    """Where bars are cut: 25 times the longest of rjoin's, or the longest bar of all."""
+    longest = max(run.seconds for row in rows for run in row.runs.values())
+    own = max(row.runs["rjoin"].seconds for row in rows)
+    return min(longest, 25 * own)
+
+
+def legend(names):
+    parts = []
+    for at, name in enumerate(names):
+        x = LABEL + at * 120
+        parts.append(f'<rect x="{x}" y="12" width="10" height="10" fill="{COLOURS[at]}"/>'
+                     f'<text x="{x + 15}" y="21">{escape(name)}</text>')
+    return "\n".join(parts)
+
+
+def bars(row, names, top, scale):
+    parts = [f'<text x="8" y="{top + LETTER}">{escape(row.kind)}</text>'
+             f'<text x="8" y="{top + 2 * LETTER + 2}" fill="#666666">{escape(row.relation)}</text>']
+    for at, name in enumerate(names):
+        seconds = row.runs[name].seconds
+        width = max(1.0, min(seconds * scale, WIDTH - LABEL - 90))
+        y = top + at * BAR
+        parts.append(f'<rect x="{LABEL}" y="{y}" width="{width:.1f}" height="{BAR - 3}" fill="{COLOURS[at]}"/>'
+                     f'<text x="{LABEL + width + 5:.1f}" y="{y + LETTER - 2}">{seconds:.2f} s</text>')
+    return "\n".join(parts)

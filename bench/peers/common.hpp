@@ -1,0 +1,66 @@
+// What the peers share: layers read from CSV, workers over stretches of the left layer, the report written.
+#pragma once
+
+#include <cstdio>
+#include <cstdlib>
+#include <fstream>
+#include <iostream>
+#include <stdexcept>
+#include <string>
+#include <thread>
+#include <vector>
+
+struct Row {
+    std::string id;
+    std::string wkt;
+};
+
+// The ids of the generated layers hold no comma and no quote.
+inline Row row_of(const std::string& line) {
+    const auto comma = line.find(',');
+    if (comma == std::string::npos) throw std::runtime_error("a row without a comma");
+    std::string wkt = line.substr(comma + 1);
+    if (!wkt.empty() && wkt.front() == '"') wkt = wkt.substr(1, wkt.size() - 2);
+    return {line.substr(0, comma), wkt};
+}
+
+inline std::vector<Row> read_rows(const char* path) {
+    std::ifstream file(path);
+    if (!file) throw std::runtime_error(std::string("cannot open ") + path);
+    std::string line;
+    std::getline(file, line);
+    std::vector<Row> rows;
+    while (std::getline(file, line)) rows.push_back(row_of(line));
+    return rows;
+}
+
+struct Words {
+    const char* left;
+    const char* right;
+    std::string relation;
+    unsigned workers;
+};
+
+inline Words words_of(int count, char** words) {
+    if (count != 5) throw std::runtime_error("LEFT RIGHT RELATION WORKERS");
+    return {words[1], words[2], words[3], unsigned(std::atoi(words[4]))};
+}
+
+// Runs `join(first, last, text)` on one stretch of the left layer for each worker, and writes the texts in order.
+template <class Join>
+void report(std::size_t size, unsigned workers, Join join) {
+    std::vector<std::string> texts(workers);
+    std::vector<std::thread> threads;
+    for (unsigned worker = 0; worker < workers; ++worker) {
+        threads.emplace_back([&, worker] {
+            join(size * worker / workers, size * (worker + 1) / workers, texts[worker]);
+        });
+    }
+    for (auto& thread : threads) thread.join();
+    std::puts("left,right,matrix");
+    for (const auto& text : texts) std::fwrite(text.data(), 1, text.size(), stdout);
+}
+
+inline void push_pair(std::string& text, const Row& left, const Row& right, const char* matrix) {
+    text.append(left.id).append(1, ',').append(right.id).append(1, ',').append(matrix).append(1, '\n');
+}

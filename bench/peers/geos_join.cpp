@@ -1,0 +1,86 @@
+// A join on GEOS by its C interface: an STRtree of the right layer, prepared geometries of the left one, the named
+// predicate, and the matrix of the pairs for which it holds.
+#include "common.hpp"
+
+#include <algorithm>
+#include <cstdarg>
+#include <geos_c.h>
+#include <map>
+
+namespace {
+
+using Predicate = char (*)(GEOSContextHandle_t, const GEOSPreparedGeometry*, const GEOSGeometry*);
+
+const std::map<std::string, Predicate> predicates = {
+    {"intersects", GEOSPreparedIntersects_r}, {"touches", GEOSPreparedTouches_r},
+    {"crosses", GEOSPreparedCrosses_r},       {"within", GEOSPreparedWithin_r},
+    {"contains", GEOSPreparedContains_r},     {"overlaps", GEOSPreparedOverlaps_r},
+};
+
+struct Layer {
+    std::vector<Row> rows;
+    std::vector<GEOSGeometry*> shapes;
+};
+
+Layer read_layer(GEOSContextHandle_t context, const char* path) {
+    Layer layer{read_rows(path), {}};
+    GEOSWKTReader* reader = GEOSWKTReader_create_r(context);
+    for (const Row& row : layer.rows) {
+        layer.shapes.push_back(GEOSWKTReader_read_r(context, reader, row.wkt.c_str()));
+        if (!layer.shapes.back()) throw std::runtime_error("not read: " + row.wkt);
+    }
+    GEOSWKTReader_destroy_r(context, reader);
+    return layer;
+}
+
+void note(void* item, void* found) {
+    static_cast<std::vector<std::size_t>*>(found)->push_back(reinterpret_cast<std::size_t>(item));
+}
+
+// The tree is built at its first query, which has to come before the threads.
+GEOSSTRtree* tree_of(GEOSContextHandle_t context, const Layer& layer) {
+    GEOSSTRtree* tree = GEOSSTRtree_create_r(context, 10);
+    for (std::size_t at = 0; at < layer.shapes.size(); ++at)
+        GEOSSTRtree_insert_r(context, tree, layer.shapes[at], reinterpret_cast<void*>(at));
+    std::vector<std::size_t> found;
+    if (!layer.shapes.empty()) GEOSSTRtree_query_r(context, tree, layer.shapes[0], note, &found);
+    return tree;
+}
+
+struct Stretch {
+    const Layer& left;
+    const Layer& right;
+    GEOSSTRtree* tree;
+    Predicate holds;
+};
+
+void join_one(GEOSContextHandle_t context, const Stretch& join, std::size_t at, std::string& text) {
+    std::vector<std::size_t> found;
+    GEOSSTRtree_query_r(context, join.tree, join.left.shapes[at], note, &found);
+    std::sort(found.begin(), found.end());
+    const GEOSPreparedGeometry* prepared = GEOSPrepare_r(context, join.left.shapes[at]);
+    for (const std::size_t other : found) {
+        if (join.holds(context, prepared, join.right.shapes[other]) != 1) continue;
+        char* matrix = GEOSRelate_r(context, join.left.shapes[at], join.right.shapes[other]);
+        push_pair(text, join.left.rows[at], join.right.rows[other], matrix);
+        GEOSFree_r(context, matrix);
+    }
+    GEOSPreparedGeom_destroy_r(context, prepared);
+}
+
+}  // namespace
+
+int main(int count, char** argument) {
+    const Words words = words_of(count, argument);
+    GEOSContextHandle_t context = GEOS_init_r();
+    const Layer left = read_layer(context, words.left);
+    const Layer right = read_layer(context, words.right);
+    const Stretch join{left, right, tree_of(context, right), predicates.at(words.relation)};
+    report(left.shapes.size(), words.workers, [&](std::size_t first, std::size_t last, std::string& text) {
+        GEOSContextHandle_t own = GEOS_init_r();
+        for (std::size_t at = first; at < last; ++at) join_one(own, join, at, text);
+        GEOS_finish_r(own);
+    });
+    std::fflush(stdout);
+    std::_Exit(0);  // what is held is left to the system, as the other peers do
+}

@@ -1,0 +1,110 @@
+"""The programs that are measured: how each is found or built, and the words that run it on two layers."""
+import os
+import shutil
+import subprocess
+from dataclasses import dataclass
+from pathlib import Path
+
+HERE = Path(__file__).resolve().parent
+BUILT = HERE / "out"
+
+
+@dataclass(frozen=True)
+class Task:
+    """Two layers, the relation that they are joined by, and how many threads may work."""
+
+    left: Path
+    right: Path
+    relation: str
+    workers: int
+
+
+@dataclass(frozen=True)
+class Program:
+    """A program that joins: its name, its version, and the words that run it."""
+
+    name: str
+    version: str
+    words: object
+
+
+def output_of(words):
+    """What a command writes, or None where it is not there or fails."""
+    try:
+        ended = subprocess.run(words, capture_output=True, text=True, check=True)
+    except (OSError, subprocess.CalledProcessError):
+        return None
+    return ended.stdout.strip()
+
+
+def rjoin(path):
+    """The program itself. The script at the root of the repository builds it first where it has to."""
+    version = output_of([path, "--version"])
+    if version is None:
+        raise SystemExit(f"bench: {path} doesn't run")
+    built = HERE.parent / "crates/rjoin/out/rjoin"
+    program = built if Path(path) == HERE.parent / "rjoin" else path
+
+    def words(task):
+        return [program, "join", task.left, task.right, "--relation", task.relation, "--workers", str(task.workers)]
+
+    return Program("rjoin", version, words)
+
+
+def built(source, *libraries):
+    """A C++ peer, built where it isn't there or is older than its source; None where that fails."""
+    program = BUILT / source.stem
+    sources = [source, HERE / "peers/common.hpp"]
+    if program.exists() and all(program.stat().st_mtime > file.stat().st_mtime for file in sources):
+        return program
+    print(f"building {source.name}", flush=True)
+    BUILT.mkdir(exist_ok=True)
+    words = ["g++", "-O2", "-std=c++17", "-pthread", source, "-o", program, *libraries]
+    return None if output_of(words) is None else program
+
+
+def header_version(header, macro):
+    text = output_of(["g++", "-E", "-dM", "-include", header, "-x", "c++", "/dev/null"]) or ""
+    values = [line.split(maxsplit=2)[2] for line in text.splitlines() if line.split()[1:2] == [macro]]
+    return values[0].strip('"') if values else None
+
+
+def in_cplusplus(name, source, version, *libraries):
+    program = built(HERE / "peers" / source, *libraries) if version else None
+    if program is None:
+        return None
+
+    def words(task):
+        return [program, task.left, task.right, task.relation, str(task.workers)]
+
+    return Program(name, version, words)
+
+
+def geos():
+    return in_cplusplus("GEOS", "geos_join.cpp", header_version("geos_c.h", "GEOS_VERSION"), "-lgeos_c")
+
+
+def boost():
+    version = header_version("boost/version.hpp", "BOOST_LIB_VERSION")
+    return in_cplusplus("Boost.Geometry", "boost_join.cpp", version and version.replace("_", "."))
+
+
+def postgis():
+    """PostGIS in the database that the environment of psql names; its time has the loading of the tables in it."""
+    if not shutil.which("psql") or "PGHOST" not in os.environ:
+        return None
+    asked = ["psql", "-qAtX", "-c", "set client_min_messages = error; create extension if not exists postgis",
+             "-c", "select postgis_lib_version()"]
+    version = output_of(asked)
+    return version and Program("PostGIS", version, postgis_words)
+
+
+def postgis_words(task):
+    copies = [f"\\copy {side}_rows (id, geom) from '{path}' csv header"
+              for side, path in (("left", task.left), ("right", task.right))]
+    return ["psql", "-qX", "--csv", "-v", f"relation=ST_{task.relation.capitalize()}",
+            "-v", f"workers={task.workers - 1}", "-f", HERE / "peers/tables.sql", "-c", copies[0], "-c", copies[1],
+            "-f", HERE / "peers/postgis_join.sql"]
+
+
+PEERS = {"geos": geos, "boost": boost, "postgis": postgis}
