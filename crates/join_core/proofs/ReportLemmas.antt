@@ -1,87 +1,119 @@
 -- The rows of a report.
-use Rattle.std.proofs.Common.{◌≡◌, ℕ, List, [], ◌∷◌, ◌++◌, Option, Some, None, Result, Ok, Err, OnOk, sym, ap, subst, ◌∙◌, refl, Vec, Global, ◌+◌, ◌<◌, ◌≤◌, length, get_or, take, take_all}
+use Rattle.std.proofs.Common.{◌≡◌, ℕ, List, [], ◌∷◌, ◌++◌, Bool, false, ◌||◌, Option, Some, None, IsSome, sym, ap, subst, ◌∙◌, refl, ◌+◌, ◌<◌, length, get_or, take, append_assoc, codes}
 use Rattle.std.specs.Borrow.{Bor}
 use Rattle.geom_core.specs.declared.shape.Shape.{Shape}
+use Rattle.geom_core.specs.declared.extent.Extent.{Extent}
+use Rattle.geom_core.specs.declared.extent.Extent.TheVariants.{Empty, Point, Line, Area}
 use Rattle.geom_core.specs.declared.matrix.Matrix.{Matrix}
-use Rattle.geom_core.specs.Matrices.{IsMatrix, letters_of}
-use Rattle.layer_core.specs.Layers.{Feature, Contents, with_number, IdAndShapeAre}
-use Rattle.csv.specs.declared.writer.Writer.{Writer}
-use Rattle.join_core.specs.CsvTexts.{csv_text}
-use Rattle.join_core.specs.CsvWriting.{HasRows, AddsRow}
+use Rattle.geom_core.specs.Matrices.{IsMatrix, letter_of, letters_of}
+use Rattle.layer_core.specs.Layers.{Feature, Contents, with_number}
+use Rattle.csv.specs.Machine.{line_feed}
+use Rattle.csv.specs.Writing.{comma, field_text, fields_text, is_blank, row_text, needs_byte, needs_quotes, default_writer}
+use Rattle.join_core.specs.Columns.{FieldAndShapeAre, line_of}
 use Rattle.join_core.specs.Reports.{IsRow, IsReport, header}
 use Rattle.std.specs.List.{AllZip}
-use Rattle.std.proofs.lemmas.List.{take_more}
+use Rattle.std.proofs.lemmas.List.{take_more, flat_map_more}
 use Rattle.std.proofs.lemmas.Slice.Zip.{all_zipped_more}
+
+-- no letter needs quotes
+letter_plain : (e : Extent) → needs_byte default_writer (letter_of e) ≡ false
+letter_plain Empty = refl
+letter_plain Point = refl
+letter_plain Line = refl
+letter_plain Area = refl
+
+either : (a b : Bool) → a ≡ false → b ≡ false → (a || b) ≡ false
+either a b p q = rw p q
+
+letters_plain : (m : Matrix) → needs_quotes default_writer (letters_of m) ≡ false
+letters_plain m =
+    either _ _ (letter_plain m.rows.interior.interior) (either _ _ (letter_plain m.rows.interior.boundary) (either _ _ (letter_plain m.rows.interior.exterior)
+    (either _ _ (letter_plain m.rows.boundary.interior) (either _ _ (letter_plain m.rows.boundary.boundary) (either _ _ (letter_plain m.rows.boundary.exterior)
+    (either _ _ (letter_plain m.rows.exterior.interior) (either _ _ (letter_plain m.rows.exterior.boundary)
+    (either _ _ (letter_plain m.rows.exterior.exterior) refl))))))))
+
+letters_field : (m : Matrix) → field_text default_writer (letters_of m) ≡ letters_of m
+letters_field m = let plain : needs_quotes default_writer (letters_of m) ≡ false = letters_plain m in rw plain refl
+
+appended : (a b c end : List ℕ) → (a ++ comma ∷ (b ++ comma ∷ (c ++ []))) ++ end ≡ a ++ comma ∷ (b ++ comma ∷ (c ++ end))
+appended a b c end = simp append_assoc refl
+
+-- the record of a pair is its line
+row_line : (first second : List ℕ) (m : Matrix)
+    → row_text default_writer (first ∷ second ∷ letters_of m ∷ []) ≡ line_of (field_text default_writer first) (field_text default_writer second) (letters_of m)
+unfolding fields_text is_blank
+row_line first second m =
+    appended (field_text default_writer first) (field_text default_writer second) (field_text default_writer (letters_of m)) (line_feed ∷ [])
+    ∙ ap (λ c. line_of (field_text default_writer first) (field_text default_writer second) c) (letters_field m)
 
 -- the feature that a look-up found
 pub record Found (o : Option Feature) (p : Bor (List ℕ) × Shape) : Type 0 where
   pub feature : Feature
   pub held : o ≡ Some feature
-  pub id : p.0.now ≡ feature.id
+  pub field : p.0.now ≡ field_text default_writer feature.id
   pub shape : p.1 ≡ feature.shape
 
-pub found : (answer : Option (Bor (List ℕ) × Shape)) (o : Option Feature) (p : Bor (List ℕ) × Shape) → IdAndShapeAre answer o → answer ≡ Some p → Found o p
+-- two pairs are one where their parts are
+parts_same : (a b : List ℕ) (s t : Shape) → ◌≡◌ {A = List ℕ × Shape} (a, s) (b, t) → (a ≡ b) × (s ≡ t)
+parts_same a b s t h = (ap (λ (z : List ℕ × Shape). z.0) h, ap (λ (z : List ℕ × Shape). z.1) h)
+
+pub found : (answer : Option (Bor (List ℕ) × Shape)) (o : Option Feature) (p : Bor (List ℕ) × Shape) → FieldAndShapeAre answer o → answer ≡ Some p → Found o p
 found None o p h e = absurd (let bad : None ≡ Some p = e in cc)
 found (Some q) None p h e = absurd cc
 found (Some q) (Some f) p h e =
     let same : q ≡ p = cc in
-    let both : (q.0.now, q.1) ≡ (f.id, f.shape) = cc in
+    let both : (q.0.now ≡ field_text default_writer f.id) × (q.1 ≡ f.shape) = parts_same q.0.now (field_text default_writer f.id) q.1 f.shape cc in
     record {
       feature = f;
       held = refl;
-      id = subst (λ (z : Bor (List ℕ) × Shape). z.0.now ≡ f.id) same (ap (λ (z : List ℕ × Shape). z.0) both);
-      shape = subst (λ (z : Bor (List ℕ) × Shape). z.1 ≡ f.shape) same (ap (λ (z : List ℕ × Shape). z.1) both);
+      field = subst (λ (z : Bor (List ℕ) × Shape). z.0.now ≡ field_text default_writer f.id) same both.0;
+      shape = subst (λ (z : Bor (List ℕ) × Shape). z.1 ≡ f.shape) same both.1;
     }
 
--- the record of a pair was written
-pub pair_row : {T E : Type 0} (r : Result T E) (old new : Writer (Vec ℕ Global)) (left right : Contents) (pair : ℕ × ℕ)
-    (x y : Bor (List ℕ) × Shape) (m : Matrix)
-    (first_id second_id letters : List ℕ) → Found (with_number pair.0 left) x → Found (with_number pair.1 right) y → IsMatrix x.1 y.1 m
-    → first_id ≡ x.0.now → second_id ≡ y.0.now → letters ≡ letters_of m
-    → OnOk r (AddsRow old new (first_id ∷ second_id ∷ letters ∷ []))
-    → OnOk r ((row : List (List ℕ)) × IsRow left right pair row × AddsRow old new row)
-pair_row (Err e) old new left right pair x y m first_id second_id letters f g related p q l h = tt
-pair_row (Ok u) old new left right pair x y m first_id second_id letters f g related p q l h = (
-  first_id ∷ second_id ∷ letters ∷ [],
-  record {
-    first = f.feature;
-    second = g.feature;
-    matrix = m;
-    first_held = f.held;
-    second_held = g.held;
-    related = subst (λ (s : Shape). IsMatrix s g.feature.shape m) f.shape (subst (λ (s : Shape). IsMatrix x.1 s m) g.shape related);
-    fields = let a : first_id ≡ f.feature.id = p ∙ f.id in let b : second_id ≡ g.feature.id = q ∙ g.id in cc;
-  },
-  h,
-)
+-- a feature that is there is found
+pub answered : (answer : Option (Bor (List ℕ) × Shape)) (o : Option Feature) → FieldAndShapeAre answer o → IsSome o → IsSome answer
+answered None None h some = some
+answered None (Some f) h some = absurd cc
+answered (Some q) o h some = refl
 
--- the header and the records of the pairs so far
-pub record HasReport (writer : Writer (Vec ℕ Global)) (left right : Contents) (pairs : List (ℕ × ℕ)) : Type 0 where
-  pub rows : List (List (List ℕ))
-  pub are_rows : AllZip (IsRow left right) pairs rows
-  pub written : HasRows writer (header ∷ rows)
+-- what is below a bound is below a number that equals it
+pub below_len : (n a b : ℕ) → n < b → a ≡ b → n < a
+below_len n a b h e = subst (λ z. n < z) (sym e) h
 
-pub header_written : (old writer : Writer (Vec ℕ Global)) (left right : Contents) → HasRows old [] → AddsRow old writer header
-    → HasReport writer left right []
-header_written old writer left right empty more = record { rows = []; are_rows = tt; written = more [] empty }
+-- the report of no pairs
+pub header_written : (text : List ℕ) (left right : Contents) → text ≡ codes "left,right,matrix\n" → IsReport left right [] text
+unfolding fields_text is_blank
+header_written text left right same = record { rows = []; are_rows = tt; written = same }
 
-pub pair_written : (old writer : Writer (Vec ℕ Global)) (left right : Contents) (pairs : List (ℕ × ℕ)) (i : ℕ) (pair : ℕ × ℕ) → i < length pairs
-    → pair ≡ get_or pairs i (0, 0)
-    → HasReport old left right (take i pairs) → ((row : List (List ℕ)) × IsRow left right pair row × AddsRow old writer row)
-    → HasReport writer left right (take (i + 1) pairs)
-pair_written old writer left right pairs i pair within at so_far h = record {
-  rows = so_far.rows ++ h.0 ∷ [];
-  are_rows = subst (λ (l : List (ℕ × ℕ)). AllZip (IsRow left right) l (so_far.rows ++ h.0 ∷ []))
+-- a report with the record of one pair more
+pub pair_written : (old new : List ℕ) (left right : Contents) (pairs : List (ℕ × ℕ)) (i : ℕ) (pair : ℕ × ℕ) (x y : Bor (List ℕ) × Shape)
+    → i < length pairs → pair ≡ get_or pairs i (0, 0)
+    → IsReport left right (take i pairs) old → Found (with_number pair.0 left) x → Found (with_number pair.1 right) y
+    → (m : Matrix) (letters : List ℕ) → IsMatrix x.1 y.1 m → letters ≡ letters_of m → new ≡ old ++ line_of x.0.now y.0.now letters
+    → IsReport left right (take (i + 1) pairs) new
+pair_written old new left right pairs i pair x y within at so_far f g m letters related are_letters grown = record {
+  rows = so_far.rows ++ row ∷ [];
+  are_rows = subst (λ (l : List (ℕ × ℕ)). AllZip (IsRow left right) l (so_far.rows ++ row ∷ []))
       (ap (λ p. take i pairs ++ p ∷ []) at ∙ sym (take_more pairs i (0, 0) within))
-      (all_zipped_more (IsRow left right) (take i pairs) so_far.rows pair h.0 so_far.are_rows h.1);
-  written = h.2 (header ∷ so_far.rows) so_far.written;
+      (all_zipped_more (IsRow left right) (take i pairs) so_far.rows pair row so_far.are_rows is_row);
+  written = grown ∙ line ∙ ap (λ t. t ++ row_text default_writer row) so_far.written ∙ flat_map_more (row_text default_writer) [] (header ∷ so_far.rows) row;
 }
+  where
+    row : List (List ℕ)
+    row = f.feature.id ∷ g.feature.id ∷ letters_of m ∷ []
 
-pub report_written : (writer : Writer (Vec ℕ Global)) (text : List ℕ) (left right : Contents) (pairs : List (ℕ × ℕ)) (i : ℕ) → length pairs ≤ i
-    → HasReport writer left right (take i pairs)
-    → ((rows : List (List (List ℕ))) → HasRows writer rows → text ≡ csv_text rows) → IsReport left right pairs text
-report_written writer text left right pairs i all so_far kept = record {
-  rows = so_far.rows;
-  are_rows = subst (λ (l : List (ℕ × ℕ)). AllZip (IsRow left right) l so_far.rows) (take_all i pairs all) so_far.are_rows;
-  written = kept (header ∷ so_far.rows) so_far.written;
-}
+    is_row : IsRow left right pair row
+    is_row = record {
+      first = f.feature;
+      second = g.feature;
+      matrix = m;
+      first_held = f.held;
+      second_held = g.held;
+      related = subst (λ (s : Shape). IsMatrix s g.feature.shape m) f.shape (subst (λ (s : Shape). IsMatrix x.1 s m) g.shape related);
+      fields = refl;
+    }
+
+    line : old ++ line_of x.0.now y.0.now letters ≡ old ++ row_text default_writer row
+    line = ap (λ l. old ++ l) (ap (λ l. line_of x.0.now y.0.now l) are_letters ∙ ap (λ a. line_of a y.0.now (letters_of m)) f.field
+        ∙ ap (λ b. line_of (field_text default_writer f.feature.id) b (letters_of m)) g.field
+        ∙ sym (row_line f.feature.id g.feature.id m))

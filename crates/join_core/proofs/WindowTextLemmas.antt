@@ -1,5 +1,5 @@
 -- The rows of a window's list.
-use Rattle.std.proofs.Common.{◌≡◌, ℕ, ◌<◌, ◌≤◌, List, [], ◌∷◌, ◌++◌, Option, Some, None, IsSome, Result, Ok, Err, OnOk, length, get_or, take, take_all, map, sym, ap, subst, ◌∙◌, Vec, Global, AllPairs, Contains, ◌↔◌, ◌+◌, codes}
+use Rattle.std.proofs.Common.{◌≡◌, ℕ, ◌<◌, ◌≤◌, List, [], ◌∷◌, ◌++◌, Option, Some, None, IsSome, Result, Ok, Err, OnOk, length, get_or, take, take_all, map, sym, ap, subst, ◌∙◌, refl, Vec, Global, AllPairs, Contains, ◌↔◌, ◌+◌, codes}
 use Rattle.std.specs.Borrow.{Bor}
 use Rattle.std.specs.List.{AllZip}
 use Rattle.std.specs.Option.{option_map}
@@ -7,14 +7,33 @@ use Rattle.std.proofs.lemmas.List.{take_more, map-append}
 use Rattle.std.proofs.lemmas.Slice.Zip.{all_zipped_more}
 use Rattle.csv.specs.declared.writer.Writer.{Writer}
 use Rattle.geom_core.specs.declared.shape.Shape.{Shape}
-use Rattle.layer_core.specs.Layers.{Feature, Contents, IsLayer, with_number}
+use Rattle.layer_core.specs.Layers.{Feature, Contents, IsLayer, with_number, IdAndShapeAre}
 use Rattle.join_core.specs.CsvTexts.{csv_text}
 use Rattle.join_core.specs.CsvWriting.{HasRows, AddsRow}
 use Rattle.join_core.specs.Windows.{IsWindowList, MeetsAt}
 use Rattle.join_core.proofs.JoinLemmas.{contains_at, contains_here, contains_later, held_by_number, listed_by_number}
 use Rattle.join_core.proofs.JoinRunLemmas.{is_some_of}
-use Rattle.join_core.proofs.ReportLemmas.{Found}
 use Rattle.join_core.proofs.WindowLemmas.{Listed, meeting_ids}
+
+-- the feature that a look-up found
+pub record Found (o : Option Feature) (p : Bor (List ℕ) × Shape) : Type 0 where
+  pub feature : Feature
+  pub held : o ≡ Some feature
+  pub id : p.0.now ≡ feature.id
+  pub shape : p.1 ≡ feature.shape
+
+pub found : (answer : Option (Bor (List ℕ) × Shape)) (o : Option Feature) (p : Bor (List ℕ) × Shape) → IdAndShapeAre answer o → answer ≡ Some p → Found o p
+found None o p h e = absurd (let bad : None ≡ Some p = e in cc)
+found (Some q) None p h e = absurd cc
+found (Some q) (Some f) p h e =
+    let same : q ≡ p = cc in
+    let both : (q.0.now, q.1) ≡ (f.id, f.shape) = cc in
+    record {
+      feature = f;
+      held = refl;
+      id = subst (λ (z : Bor (List ℕ) × Shape). z.0.now ≡ f.id) same (ap (λ (z : List ℕ × Shape). z.0) both);
+      shape = subst (λ (z : Bor (List ℕ) × Shape). z.1 ≡ f.shape) same (ap (λ (z : List ℕ × Shape). z.1) both);
+    }
 
 -- the layer's feature with this number has this id
 abbrev pub HasId : Contents → ℕ → List ℕ → Type 0

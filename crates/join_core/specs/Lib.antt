@@ -1,3 +1,4 @@
+pub mod Columns
 pub mod CsvTexts
 pub mod CsvWriting
 pub mod FaultTexts

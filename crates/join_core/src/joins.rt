@@ -1,5 +1,6 @@
 //! Joins of two layers: edits, pairs, report, and the run of all three over files.
 
+mod columns;
 mod edits;
 mod layers;
 mod pairs;

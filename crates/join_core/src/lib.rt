@@ -2,6 +2,7 @@
 //! the files to the bytes that are written.
 #![tactic(auto)]
 
+mod csv_fields;
 mod csv_rows;
 mod fault;
 mod fault_text;

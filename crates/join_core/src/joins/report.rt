@@ -1,14 +1,16 @@
 //! The report of a join, as CSV.
 
-ghost use Rattle.std.specs.Prelude.{List, ℕ, All, IfOk, OnOk};
-ghost use Rattle.join_core.specs.CsvWriting.{AddsRow};
-ghost use Rattle.join_core.specs.Reports.{IsHeld, IsRow, IsReport};
+ghost use Rattle.std.specs.Prelude.{◌≡◌, ◌≤◌, ◌<◌, ◌++◌, ◌^◌, All, IfOk, OnOk};
+ghost use Rattle.join_core.specs.Columns.{line_of};
+ghost use Rattle.join_core.specs.Reports.{IsHeld, IsReport};
 
-use crate::csv_rows::{new_rows, push_row, rows_text};
-use csv::Writer;
+use super::columns::Column;
 use geom_core::relate;
 use layer_core::Layer;
 use std::alloc::{AllocError, Global};
+
+/// How many bytes a pair's record has at least: two ids of one, nine letters, two commas, an end.
+const LEAST_RECORD: usize = 14;
 
 /// The report of these pairs: a CSV record `left,right,matrix`, and for each pair one with the ids
 /// of its features and the letters of their matrix.
@@ -21,27 +23,48 @@ pub fn report_text(
     requires { All (IsHeld left.now.list right.now.list) pairs.now }
     ensures { IfOk result (λ text. IsReport left.now.list right.now.list pairs.now text.items) }
 {
-    let mut writer = new_rows(alloc);
-    push_row(&mut writer, &[b"left", b"right", b"matrix"])?;
+    let (left_bound, right_bound) = bounds(pairs);
+    let left_column = Column::new(alloc, left, left_bound)?;
+    let right_column = Column::new(alloc, right, right_bound)?;
+    let mut text = Vec::with_capacity(alloc, pairs.len().saturating_mul(LEAST_RECORD))?;
+    text.extend_from_slice(b"left,right,matrix\n")?;
     for pair in pairs {
-        push_pair(&mut writer, left, right, *pair)?;
+        let (left_id, left_shape) = left_column.at(pair.0).unwrap();
+        let (right_id, right_shape) = right_column.at(pair.1).unwrap();
+        let letters = relate(&left_shape, &right_shape).text();
+        push_row(&mut text, left_id, right_id, &letters)?;
     }
-    rows_text(writer)
+    Ok(text)
 }
 
-/// Writes the record of a pair.
-fn push_pair(
-    writer: &mut Writer<Vec<u8>>,
-    left: &Layer,
-    right: &Layer,
-    pair: (u32, u32),
-) -> Result<(), AllocError>
-    requires { IsHeld left.now.list right.now.list pair }
-    ensures { OnOk result ((row : List (List ℕ)) × IsRow left.now.list right.now.list pair row
-        × AddsRow writer.old writer.new row) }
+/// One more than the greatest number of each side.
+fn bounds(pairs: &[(u32, u32)]) -> (usize, usize)
+    ensures above { All (λ pair. (pair.0 < result.0) × (pair.1 < result.1)) pairs.now }
+    ensures few { (result.0 ≤ 2 ^ 32) × (result.1 ≤ 2 ^ 32) }
 {
-    let (left_id, left_shape) = left.at(pair.0).unwrap();
-    let (right_id, right_shape) = right.at(pair.1).unwrap();
-    let letters = relate(&left_shape, &right_shape).text();
-    push_row(writer, &[left_id.as_bytes(), right_id.as_bytes(), &letters])
+    let (mut left, mut right) = (0, 0);
+    for pair in pairs {
+        left = left.max(pair.0 as usize + 1);
+        right = right.max(pair.1 as usize + 1);
+    }
+    (left, right)
+}
+
+/// Adds the record of two ids, as CSV fields, and the letters of a matrix.
+fn push_row(
+    text: &mut Vec<u8>,
+    left: &[u8],
+    right: &[u8],
+    letters: &[u8; 9],
+) -> Result<(), AllocError>
+    ensures { OnOk result
+        (text.new.items ≡ text.old.items ++ line_of left.now right.now letters.now) }
+{
+    text.extend_from_slice(left)?;
+    text.push(b',')?;
+    text.extend_from_slice(right)?;
+    text.push(b',')?;
+    text.extend_from_slice(letters)?;
+    text.push(b'\n')?;
+    Ok(())
 }

@@ -1,5 +1,4 @@
-use Rattle.join_core.proofs.ReportLemmas.{found}
-use Rattle.join_core.proofs.WindowTextLemmas.{id_pushed}
+use Rattle.join_core.proofs.WindowTextLemmas.{found, id_pushed}
 use Rattle.join_core.proofs.window.push_id.Goals as goal
 
 pub returns : goal.returns
