@@ -4,38 +4,36 @@ ghost use Rattle.deliver_core.specs.Boards.{IsSeatOf, fresh_seat};
 
 use deliver_core::{Board, BoardSeat, draws_law};
 use std::alloc::{AllocError, Global};
-use std::process::Abort;
 use std::test::Fail;
 use std::thread;
 use std::thread::Threads;
 
-// Claims for two seats in turn, and sees that each pair of claims answers so.
+// Claims for two seats in turn, and says whether each pair of claims answers so.
 fn claim_in_turn(
-    rt: &impl Abort,
     board: &Board,
     first: &mut BoardSeat,
     second: &mut BoardSeat,
     answers: &[[Option<u32>; 2]],
-)
+) -> bool
     requires { IsSeatOf board.now first.old × IsSeatOf board.now second.old }
     ensures { IsSeatOf board.now first.new × IsSeatOf board.now second.new }
 {
     for [of_first, of_second] in answers {
-        assert!(rt; board.claim(first) == *of_first);
-        assert!(rt; board.claim(second) == *of_second);
+        if (board.claim(first), board.claim(second)) != (*of_first, *of_second) {
+            return false;
+        }
     }
+    true
 }
 
-// Closes the board, and sees that each seat comes back with this count, done or not.
-fn closed(rt: &impl Abort, board: Board, seats: Vec<BoardSeat>, wanted: &[(u32, bool)])
+// Whether the seats come back from the board with these counts, done or not.
+fn come_back(board: Board, seats: Vec<BoardSeat>, wanted: &[(u32, bool)]) -> bool
     requires all { length seats.items ≡ board.seats }
     requires own { All (IsSeatOf board) seats.items }
 {
     let seats = board.close(seats);
-    assert!(rt; seats.len() == wanted.len());
-    for (seat, want) in seats.iter().zip(wanted) {
-        assert!(rt; (seat.count(), seat.done()) == *want);
-    }
+    let found = seats.iter().map(|seat| (seat.count(), seat.done()));
+    found.eq(wanted.iter().copied())
 }
 
 // A board, made again where memory was refused once.
@@ -55,71 +53,94 @@ fn board_at_last(
     }
 }
 
-// Claims for the two seats of a board of three tasks, and closes it. It takes no memory.
-fn see_three_drawn(rt: &impl Abort, board: Board, mut seats: Vec<BoardSeat>) -> Result<(), Fail>
+// Whether the two seats of a board of three tasks draw these in turn; none never comes. It takes
+// no memory.
+fn draw_three(board: Board, mut seats: Vec<BoardSeat>) -> Option<bool>
     requires board { board.seats ≡ 2 }
     requires seats { seats.items ≡ replicate 2 (fresh_seat board) }
 {
-    let mut second = seats.pop().ok_or("a second seat")?;
-    let mut first = seats.pop().ok_or("a first seat")?;
+    let mut second = seats.pop()?;
+    let mut first = seats.pop()?;
     let answers = [[Some(0), Some(1)], [Some(2), None], [None, None]];
-    claim_in_turn(rt, &board, &mut first, &mut second, &answers);
-    seats.push(first)?;
-    seats.push(second)?;
-    closed(rt, board, seats, &[(2, true), (1, true)]);
-    Ok(())
+    let are_claimed = claim_in_turn(&board, &mut first, &mut second, &answers);
+    seats.push(first).ok()?;
+    seats.push(second).ok()?;
+    Some(come_back(board, seats, &[(2, true), (1, true)]) && are_claimed)
 }
 
 #[test]
 fn board_and_outlet(rt: HostRuntime) -> Result<(), Fail> {
     let (board, seats) = Board::new(rt.alloc(), 3, 2)?;
     draws_law();
-    see_three_drawn(&rt, board, seats)
+    assert!(rt; draw_three(board, seats) == Some(true));
+    Ok(())
 }
 
 // Run with each allocation failing in turn, it ends as with ample memory.
 #[test]
 fn refused_6(rt: HostRuntime) -> Result<(), Fail> {
     let (board, seats) = board_at_last(rt.alloc(), 3, 2)?;
-    see_three_drawn(&rt, board, seats)
+    assert!(rt; draw_three(board, seats) == Some(true));
+    Ok(())
+}
+
+// Whether a seat of a board of five tasks comes back after two claims.
+fn comes_back_early(alloc: Global) -> Result<bool, AllocError> {
+    let (board, mut seats) = Board::new(alloc, 5, 1)?;
+    let claims = (board.claim(&mut seats[0]), board.claim(&mut seats[0]));
+    Ok(come_back(board, seats, &[(2, false)]) && claims == (Some(0), Some(1)))
 }
 
 #[test]
 fn board_early_close(rt: HostRuntime) -> Result<(), Fail> {
-    let (board, mut seats) = Board::new(rt.alloc(), 5, 1)?;
-    assert!(rt; board.claim(&mut seats[0]) == Some(0));
-    assert!(rt; board.claim(&mut seats[0]) == Some(1));
-    closed(&rt, board, seats, &[(2, false)]);
+    assert!(rt; comes_back_early(rt.alloc())?);
     Ok(())
 }
 
-// A board without tasks, and one of the most.
+// Whether a board without tasks gives none to the last of sixteen seats.
+fn gives_none(alloc: Global) -> Result<bool, AllocError> {
+    let (board, mut seats) = Board::new(alloc, 0, 16)?;
+    Ok(seats.len() == 16 && board.claim(&mut seats[15]) == None)
+}
+
+// Whether a board of the most tasks gives all to its only seat.
+fn gives_most(alloc: Global) -> Result<bool, AllocError> {
+    let (board, mut seats) = Board::new(alloc, 65_536, 1)?;
+    let Some(seat) = seats.pop() else {
+        return Ok(false);
+    };
+    let worker = draw_all(alloc, &board, seat);
+    Ok(worker.drawn.iter().copied().eq(0..65_536) && worker.seat.done())
+}
+
 #[test]
 fn board_limits(rt: HostRuntime) -> Result<(), Fail> {
-    let (board, mut seats) = Board::new(rt.alloc(), 0, 16)?;
-    assert!(rt; seats.len() == 16);
-    assert!(rt; board.claim(&mut seats[15]) == None);
-    let (board, mut seats) = Board::new(rt.alloc(), 65_536, 1)?;
-    let seat = seats.pop().ok_or("a seat")?;
-    let worker = draw_all(rt.alloc(), &board, seat);
-    assert!(rt; worker.drawn.iter().copied().eq(0..65_536));
-    assert!(rt; worker.seat.done());
+    assert!(rt; gives_none(rt.alloc())?);
+    assert!(rt; gives_most(rt.alloc())?);
     Ok(())
 }
 
-// Four threads draw all numbers, each of which notes its own.
+// Whether all four seats of a board come back, and have met the end.
+fn four_are_done(board: Board, seats: Vec<BoardSeat>) -> bool
+    requires all { board.seats ≡ 4 }
+    requires own { All (IsSeatOf board) seats.items }
+{
+    seats.len() == 4 && board.close(seats).iter().all(BoardSeat::done)
+}
+
+// Whether four threads draw all of ten thousand numbers, each of which notes its own.
+fn four_draw_all<R: Threads + Sync>(rt: &R, alloc: Global) -> Result<bool, AllocError> {
+    let (board, seats) = Board::new(alloc, 10_000, 4)?;
+    let workers = draw_in_threads(rt, alloc, &board, seats)?;
+    let are_in_order = workers.iter().all(Worker::is_in_order);
+    let (seats, drawn) = gathered(alloc, &board, workers)?;
+    let are_done = four_are_done(board, seats);
+    Ok(are_in_order && are_done && drawn.iter().copied().eq(0..10_000))
+}
+
 #[test]
 fn board_threads(rt: HostRuntime) -> Result<(), Fail> {
-    let alloc = rt.alloc();
-    let (board, seats) = Board::new(alloc, 10_000, 4)?;
-    let workers = draw_in_threads(&rt, alloc, &board, seats)?;
-    let (seats, mut drawn) = gathered(&rt, alloc, &board, workers)?;
-    drawn.sort_unstable();
-    assert!(rt; drawn.iter().copied().eq(0..10_000));
-    assert!(rt; seats.len() == 4);
-    for seat in &board.close(seats) {
-        assert!(rt; seat.done());
-    }
+    assert!(rt; four_draw_all(&rt, rt.alloc())?);
     Ok(())
 }
 
@@ -128,6 +149,13 @@ fn board_threads(rt: HostRuntime) -> Result<(), Fail> {
 struct Worker {
     seat: BoardSeat,
     drawn: Vec<u32>,
+}
+
+impl Worker {
+    // Whether its numbers rise, and are as many as its seat counts.
+    fn is_in_order(&self) -> bool {
+        self.drawn.is_sorted_by(|a, b| a < b) && self.drawn.len() == self.seat.count() as usize
+    }
 }
 
 // Claims until the seat meets None, or memory runs out.
@@ -160,10 +188,8 @@ fn draw_in_threads<R: Threads + Sync>(
     thread::map_vec(rt, seats, &|seat| draw_all(alloc, board, seat))
 }
 
-// The seats and all numbers of these workers, each of whose own rise and are as many as its seat
-// counts.
+// The seats and all numbers of these workers, in ascending order.
 fn gathered(
-    rt: &impl Abort,
     alloc: Global,
     board: &Board,
     mut workers: Vec<Worker>,
@@ -174,10 +200,9 @@ fn gathered(
     let mut seats = Vec::new(alloc);
     let mut drawn = Vec::new(alloc);
     while let Some(worker) = workers.pop() {
-        assert!(rt; worker.drawn.is_sorted_by(|a, b| a < b));
-        assert!(rt; worker.drawn.len() == worker.seat.count() as usize);
         drawn.extend_from_slice(&worker.drawn)?;
         seats.push(worker.seat)?;
     }
+    drawn.sort_unstable();
     Ok((seats, drawn))
 }

@@ -3,7 +3,7 @@
 use Said::{Batch, Bye, End};
 use deliver_core::{Body, Collector, Finish, Mark, Message, Outcome, Refusal};
 use std::alloc::{AllocError, Global};
-use std::process::Abort;
+use std::fmt::Display;
 use std::test::Fail;
 
 /// What a message says: a batch of a task, with its number and pairs; the end of a task, with the
@@ -28,30 +28,52 @@ fn message(alloc: Global, said: Said<'_>) -> Result<Message, AllocError> {
     })
 }
 
-/// Offers messages, and sees that each is answered so, and that a refusal leaves the marks.
-fn offer_all(
-    rt: &impl Abort,
+/// Whether a message is answered so, and a refusal leaves the marks.
+fn answers(
+    alloc: Global,
+    collector: &mut Collector,
+    said: Said<'_>,
+    answer: Result<(), Refusal>,
+) -> Result<bool, AllocError> {
+    let before = collector.taken().to_vec(alloc)?;
+    let given = collector.offer(message(alloc, said)?);
+    Ok(given == answer && (answer.is_ok() || collector.taken() == before.as_slice()))
+}
+
+/// Whether messages are answered so, each in turn.
+fn answers_all(
     alloc: Global,
     collector: &mut Collector,
     offers: &[(Said<'_>, Result<(), Refusal>)],
-) -> Result<(), AllocError> {
+) -> Result<bool, AllocError> {
     for (said, answer) in offers {
-        let before = collector.taken().to_vec(alloc)?;
-        assert!(rt; collector.offer(message(alloc, *said)?) == *answer);
-        if answer.is_err() {
-            assert!(rt; collector.taken() == before.as_slice());
+        if !answers(alloc, collector, *said, *answer)? {
+            return Ok(false);
         }
     }
-    Ok(())
+    Ok(true)
 }
 
-/// Sees that the collector ends with these pairs and marks.
-fn see_end(rt: &impl Abort, collector: Collector, pairs: &[(u32, u32)], marks: &[Mark]) {
-    let Ok(outcome) = collector.finish() else {
-        panic!(rt; "a task is open");
-    };
-    assert!(rt; outcome.pairs() == pairs);
-    assert!(rt; outcome.taken() == marks);
+/// Whether a collector ends with these pairs and marks.
+fn ends_with(collector: Collector, pairs: &[(u32, u32)], marks: &[Mark]) -> bool {
+    match collector.finish() {
+        Ok(outcome) => outcome.pairs() == pairs && outcome.taken() == marks,
+        Err(_) => false,
+    }
+}
+
+/// Whether a new collector of so many tasks answers messages so, and ends with these pairs and
+/// marks.
+fn collects(
+    alloc: Global,
+    tasks: u32,
+    offers: &[(Said<'_>, Result<(), Refusal>)],
+    pairs: &[(u32, u32)],
+    marks: &[Mark],
+) -> Result<bool, AllocError> {
+    let mut collector = Collector::new(alloc, tasks)?;
+    let are_answered = answers_all(alloc, &mut collector, offers)?;
+    Ok(ends_with(collector, pairs, marks) && are_answered)
 }
 
 const PAIRS: &[(u32, u32)] = &[(3, 1), (2, 9), (3, 1)];
@@ -69,65 +91,79 @@ const ONE_BATCH: &[(Said<'static>, Result<(), Refusal>)] = &[
     (Bye, Ok(())),
 ];
 
+/// Whether a collector of two tasks can't finish once only task 0 has come.
+fn stays_open(alloc: Global) -> Result<bool, AllocError> {
+    let mut collector = Collector::new(alloc, 2)?;
+    let are_answered = answers_all(alloc, &mut collector, ONE_BATCH)?;
+    let are_marked = collector.taken() == [Mark::Batch(0, 0), Mark::End(0, 1)].as_slice();
+    Ok(collector.finish().err() == Some(Finish::Open(1)) && are_answered && are_marked)
+}
+
+/// Whether a collector of two tasks delivers task 0 where the end of task 1 came first.
+fn ends_both(alloc: Global) -> Result<bool, AllocError> {
+    let mut collector = Collector::new(alloc, 2)?;
+    let is_ended = answers(alloc, &mut collector, End(1, 0), Ok(()))?;
+    let are_answered = answers_all(alloc, &mut collector, ONE_BATCH)?;
+    let marks = [Mark::End(1, 0), Mark::Batch(0, 0), Mark::End(0, 1)];
+    Ok(ends_with(collector, &[(2, 9), (3, 1), (3, 1)], &marks) && is_ended && are_answered)
+}
+
 #[test]
 fn collector_refusals(rt: HostRuntime) -> Result<(), Fail> {
-    let alloc = rt.alloc();
-    let mut open = Collector::new(alloc, 2)?;
-    offer_all(&rt, alloc, &mut open, ONE_BATCH)?;
-    assert!(rt; open.taken() == [Mark::Batch(0, 0), Mark::End(0, 1)].as_slice());
-    assert!(rt; open.finish().err() == Some(Finish::Open(1)));
-
-    let mut closed = Collector::new(alloc, 2)?;
-    offer_all(&rt, alloc, &mut closed, &[(End(1, 0), Ok(()))])?;
-    offer_all(&rt, alloc, &mut closed, ONE_BATCH)?;
-    let marks = [Mark::End(1, 0), Mark::Batch(0, 0), Mark::End(0, 1)];
-    see_end(&rt, closed, &[(2, 9), (3, 1), (3, 1)], &marks);
-    see_end(&rt, Collector::new(alloc, 0)?, &[], &[]);
+    assert!(rt; stays_open(rt.alloc())?);
+    assert!(rt; ends_both(rt.alloc())?);
+    assert!(rt; collects(rt.alloc(), 0, &[], &[], &[])?);
     Ok(())
 }
+
+// The messages of two tasks, the second of which comes first.
+const TURNED: &[(Said<'static>, Result<(), Refusal>)] = &[
+    (Batch(1, 0, &[(5, 0), (4, 7)]), Ok(())),
+    (Batch(1, 1, &[(4, 2)]), Ok(())),
+    (End(1, 2), Ok(())),
+    (Batch(0, 0, &[(0, 1), (9, 9)]), Ok(())),
+    (End(0, 1), Ok(())),
+];
+
+const TURNED_MARKS: &[Mark] = &[
+    Mark::Batch(1, 0),
+    Mark::Batch(1, 1),
+    Mark::End(1, 2),
+    Mark::Batch(0, 0),
+    Mark::End(0, 1),
+];
 
 #[test]
 fn collector_order(rt: HostRuntime) -> Result<(), Fail> {
-    let alloc = rt.alloc();
-    let mut collector = Collector::new(alloc, 2)?;
-    let offers = [
-        (Batch(1, 0, &[(5, 0), (4, 7)]), Ok(())),
-        (Batch(1, 1, &[(4, 2)]), Ok(())),
-        (End(1, 2), Ok(())),
-        (Batch(0, 0, &[(0, 1), (9, 9)]), Ok(())),
-        (End(0, 1), Ok(())),
-    ];
-    offer_all(&rt, alloc, &mut collector, &offers)?;
-    let Ok(outcome) = collector.finish() else {
-        return Err("a task is open".into());
-    };
-    assert!(rt; outcome.pairs() == [(0, 1), (4, 2), (4, 7), (5, 0), (9, 9)].as_slice());
+    let pairs = [(0, 1), (4, 2), (4, 7), (5, 0), (9, 9)];
+    assert!(rt; collects(rt.alloc(), 2, TURNED, &pairs, TURNED_MARKS)?);
     Ok(())
 }
 
+// Numbers that no worker sends, to a collector of one task.
+const STRANGE: &[(Said<'static>, Result<(), Refusal>)] = &[
+    (Batch(0, u64::MAX, &[]), Err(Refusal::Gap)),
+    (End(0, u64::MAX), Err(Refusal::WrongCount)),
+    (End(u32::MAX, 0), Err(Refusal::Stranger)),
+    (End(0, 0), Ok(())),
+    (Batch(0, 0, &[]), Err(Refusal::AfterEnd)),
+    (Batch(0, 1, &[]), Err(Refusal::AfterEnd)),
+    (Batch(0, u64::MAX, &[]), Err(Refusal::AfterEnd)),
+    (Bye, Ok(())),
+];
+
+// Messages to a collector of no task.
+const STRANGERS: &[(Said<'static>, Result<(), Refusal>)] = &[
+    (Batch(0, 0, &[]), Err(Refusal::Stranger)),
+    (Batch(u32::MAX, 1, PAIRS), Err(Refusal::Stranger)),
+    (End(0, 0), Err(Refusal::Stranger)),
+    (End(7, 1), Err(Refusal::Stranger)),
+];
+
 #[test]
 fn broken_12(rt: HostRuntime) -> Result<(), Fail> {
-    let alloc = rt.alloc();
-    let mut collector = Collector::new(alloc, 1)?;
-    let offers = [
-        (Batch(0, u64::MAX, &[]), Err(Refusal::Gap)),
-        (End(0, u64::MAX), Err(Refusal::WrongCount)),
-        (End(u32::MAX, 0), Err(Refusal::Stranger)),
-        (End(0, 0), Ok(())),
-        (Batch(0, 0, &[]), Err(Refusal::AfterEnd)),
-        (Batch(0, 1, &[]), Err(Refusal::AfterEnd)),
-        (Batch(0, u64::MAX, &[]), Err(Refusal::AfterEnd)),
-        (Bye, Ok(())),
-    ];
-    offer_all(&rt, alloc, &mut collector, &offers)?;
-    let mut none = Collector::new(alloc, 0)?;
-    let strangers = [
-        (Batch(0, 0, &[]), Err(Refusal::Stranger)),
-        (Batch(u32::MAX, 1, PAIRS), Err(Refusal::Stranger)),
-        (End(0, 0), Err(Refusal::Stranger)),
-        (End(7, 1), Err(Refusal::Stranger)),
-    ];
-    offer_all(&rt, alloc, &mut none, &strangers)?;
+    assert!(rt; collects(rt.alloc(), 1, STRANGE, &[], &[Mark::End(0, 0)])?);
+    assert!(rt; collects(rt.alloc(), 0, STRANGERS, &[], &[])?);
     Ok(())
 }
 
@@ -139,20 +175,16 @@ fn made(alloc: Global, said: Said<'_>) -> Result<Message, AllocError> {
     }
 }
 
-/// Offers a message, and where memory is refused once more after it is seen that nothing changed.
-fn accepted(
-    rt: &impl Abort,
-    alloc: Global,
-    collector: &mut Collector,
-    said: Said<'_>,
-) -> Result<(), AllocError> {
+/// Whether a message is taken, again where memory was refused once more and nothing has changed.
+fn takes(alloc: Global, collector: &mut Collector, said: Said<'_>) -> Result<bool, AllocError> {
     let before = collector.taken().len();
-    if let Err(refusal) = collector.offer(made(alloc, said)?) {
-        assert!(rt; refusal == Refusal::Memory);
-        assert!(rt; collector.taken().len() == before);
-        assert!(rt; collector.offer(message(alloc, said)?) == Ok(()));
+    match collector.offer(made(alloc, said)?) {
+        Ok(()) => Ok(true),
+        Err(Refusal::Memory) if collector.taken().len() == before => {
+            Ok(collector.offer(message(alloc, said)?).is_ok())
+        }
+        Err(_) => Ok(false),
     }
-    Ok(())
 }
 
 /// A collector of so many tasks, which is tried again where memory was refused once.
@@ -163,45 +195,73 @@ fn collector_at_last(alloc: Global, tasks: u32) -> Result<Collector, AllocError>
     }
 }
 
+/// Whether a collector takes a batch, and then has its mark.
+fn takes_a_batch(alloc: Global, collector: &mut Collector) -> Result<bool, AllocError> {
+    let is_taken = takes(alloc, collector, Batch(0, 0, PAIRS))?;
+    Ok(is_taken && collector.taken() == [Mark::Batch(0, 0)].as_slice())
+}
+
 // Run with each allocation failing in turn, these two end as with ample memory.
 #[test]
 fn refused_5(rt: HostRuntime) -> Result<(), Fail> {
-    let alloc = rt.alloc();
-    let mut collector = collector_at_last(alloc, 2)?;
-    accepted(&rt, alloc, &mut collector, Batch(0, 0, PAIRS))?;
-    assert!(rt; collector.taken() == [Mark::Batch(0, 0)].as_slice());
+    assert!(rt; takes_a_batch(rt.alloc(), &mut collector_at_last(rt.alloc(), 2)?)?);
     Ok(())
+}
+
+/// Whether a collector takes twenty batches of task 0, and its end.
+fn takes_twenty(alloc: Global, collector: &mut Collector) -> Result<bool, AllocError> {
+    for number in 0..20 {
+        if !takes(alloc, collector, Batch(0, number, &[(9, 9), (0, 0)]))? {
+            return Ok(false);
+        }
+    }
+    takes(alloc, collector, End(0, 20))
+}
+
+/// Whether these are twenty pairs of each of two kinds.
+fn are_forty(pairs: &[(u32, u32)]) -> bool {
+    pairs.len() == 40
+        && pairs.iter().take(20).all(|pair| *pair == (0, 0))
+        && pairs.iter().skip(20).all(|pair| *pair == (9, 9))
+}
+
+/// Whether a collector has taken 21 messages, with twenty pairs of each of two kinds.
+fn has_forty(collector: Collector) -> bool {
+    let is_whole = collector.taken().len() == 21;
+    match collector.finish() {
+        Ok(outcome) => is_whole && are_forty(outcome.pairs()),
+        Err(_) => false,
+    }
+}
+
+/// Whether a collector takes twenty batches, and has their pairs.
+fn grows(alloc: Global) -> Result<bool, AllocError> {
+    let mut collector = collector_at_last(alloc, 1)?;
+    let are_taken = takes_twenty(alloc, &mut collector)?;
+    Ok(has_forty(collector) && are_taken)
 }
 
 #[test]
 fn collector_growths(rt: HostRuntime) -> Result<(), Fail> {
-    let alloc = rt.alloc();
-    let mut collector = collector_at_last(alloc, 1)?;
-    for number in 0..20 {
-        accepted(
-            &rt,
-            alloc,
-            &mut collector,
-            Batch(0, number, &[(9, 9), (0, 0)]),
-        )?;
-    }
-    accepted(&rt, alloc, &mut collector, End(0, 20))?;
-    assert!(rt; collector.taken().len() == 21);
-    let Ok(outcome) = collector.finish() else {
-        return Err("a task is open".into());
-    };
-    assert!(rt; outcome.pairs().len() == 40);
-    assert!(rt; outcome.pairs().iter().take(20).all(|pair| *pair == (0, 0)));
-    assert!(rt; outcome.pairs().iter().skip(20).all(|pair| *pair == (9, 9)));
+    assert!(rt; grows(rt.alloc())?);
     Ok(())
+}
+
+/// Whether a fault shows as this text.
+fn shows(alloc: Global, fault: &impl Display, text: &str) -> Result<bool, AllocError> {
+    Ok(format!(in alloc; "{fault}")?.as_str() == text)
 }
 
 // The text of a refusal, and of a fault that names its task.
 #[test]
 fn fault_texts(rt: HostRuntime) -> Result<(), Fail> {
-    let gap = Refusal::Gap.to_string(rt.alloc())?;
-    assert!(rt; gap.as_str() == "a batch before this one is missing");
-    let open = Finish::Open(65_535).to_string(rt.alloc())?;
-    assert!(rt; open.as_str() == "task 65535 has no end");
+    assert!(rt;
+        shows(
+            rt.alloc(),
+            &Refusal::Gap,
+            "a batch before this one is missing"
+        )?
+    );
+    assert!(rt; shows(rt.alloc(), &Finish::Open(65_535), "task 65535 has no end")?);
     Ok(())
 }

@@ -6,7 +6,6 @@ ghost use Rattle.deliver_core.specs.Ports.{index_of, IsTapOf};
 
 use crate::outlet::last_port;
 use deliver_core::{Body, Message, Outlet, Port, Tap};
-use std::process::Abort;
 use std::sync::Wait;
 use std::sync::atomic::{AtomicU64, Ordering};
 use std::test::Fail;
@@ -68,30 +67,44 @@ fn await_stage<R: Wait>(rt: &R, stage: &AtomicU64, wanted: u64) {
     }
 }
 
-// Looks many times, and sees each time that the other thread isn't through.
-fn see_it_wait(rt: &impl Abort, stage: &AtomicU64) {
+// Whether the other thread isn't through, however often one looks.
+fn is_waiting(stage: &AtomicU64) -> bool {
     for _ in 0..LOOKS {
-        assert!(rt; stage.load(Ordering::SeqCst) == BEGUN);
+        if stage.load(Ordering::SeqCst) != BEGUN {
+            return false;
+        }
         thread::yield_now();
     }
+    true
 }
 
-// Takes all ends, the first of which lets the last one through.
-fn take_all<R: Wait + Abort>(rt: &R, outlet: &Outlet, mut tap: Tap, stage: &AtomicU64)
+// Whether the ends from this one to the last are taken, and then nothing.
+fn takes_from<R: Wait>(rt: &R, outlet: &Outlet, tap: &mut Tap, first: u64) -> bool
+    requires { IsTapOf outlet.now tap.old }
+{
+    for count in first..=ROOM {
+        if outlet.take(rt, tap) != Some(end(count)) {
+            return false;
+        }
+    }
+    outlet.take(rt, tap).is_none()
+}
+
+// Takes all ends, the first of which lets the last one through, and says whether it waited for
+// that and all have come.
+fn takes_all<R: Wait>(rt: &R, outlet: &Outlet, mut tap: Tap, stage: &AtomicU64) -> bool
     requires { IsTapOf outlet.now tap }
 {
     await_stage(rt, stage, BEGUN);
-    see_it_wait(rt, stage);
-    assert!(rt; outlet.take(rt, &mut tap) == Some(end(0)));
+    let has_waited = is_waiting(stage);
+    let first = outlet.take(rt, &mut tap);
     await_stage(rt, stage, THROUGH);
-    for count in 1..=ROOM {
-        assert!(rt; outlet.take(rt, &mut tap) == Some(end(count)));
-    }
-    assert!(rt; outlet.take(rt, &mut tap) == None);
+    has_waited && first == Some(end(0)) && takes_from(rt, outlet, &mut tap, 1)
 }
 
-// Fills the outlet, and then puts in one thread and takes in another.
-fn run<R: Threads + Wait + Abort + Sync>(rt: &R, outlet: &Outlet, mut port: Port, tap: Tap)
+// Fills the outlet, then puts in one thread and takes in another, and says whether all is taken
+// as it was put.
+fn runs<R: Threads + Wait + Sync>(rt: &R, outlet: &Outlet, mut port: Port, tap: Tap) -> bool
     requires port { IsFreshPort outlet.now port }
     requires index { index_of port ≡ 0 }
     requires tap { IsTapOf outlet.now tap }
@@ -99,15 +112,16 @@ fn run<R: Threads + Wait + Abort + Sync>(rt: &R, outlet: &Outlet, mut port: Port
     fill(rt, outlet, &mut port);
     let stage = AtomicU64::new(0);
     let shared = &stage;
-    thread::join(
+    let ((), is_taken) = thread::join(
         rt,
         move || -> ()
             requires { IsOpenPort outlet.now port × (index_of port ≡ 0) }
         { put_one_more(rt, outlet, port, shared) },
-        move || -> ()
+        move || -> bool
             requires { IsTapOf outlet.now tap }
-        { take_all(rt, outlet, tap, shared) },
+        { takes_all(rt, outlet, tap, shared) },
     );
+    is_taken
 }
 
 #[test]
@@ -115,6 +129,6 @@ fn full_outlet(rt: HostRuntime) -> Result<(), Fail> {
     let (outlet, mut ports, tap) = Outlet::new(rt.alloc(), 1)?;
     let port = last_port(&outlet, &mut ports).ok_or("the port")?;
     assert!(rt; port.index() == 0);
-    run(&rt, &outlet, port, tap);
+    assert!(rt; runs(&rt, &outlet, port, tap));
     Ok(())
 }

@@ -47,13 +47,16 @@ fn end(port: u32, batches: u64) -> Message
     }
 }
 
-// Takes, and sees these answers.
-fn take_these<R: Wait + Abort>(rt: &R, outlet: &Outlet, tap: &mut Tap, wanted: &[Option<Message>])
+// Whether this is what is taken next.
+fn takes<R: Wait>(rt: &R, outlet: &Outlet, tap: &mut Tap, wanted: &[Option<Message>]) -> bool
     requires { IsTapOf outlet.now tap.old }
 {
     for want in wanted {
-        assert!(rt; outlet.take(rt, tap) == *want);
+        if outlet.take(rt, tap) != *want {
+            return false;
+        }
     }
+    true
 }
 
 // Puts these many batches of the port's own task, their end and the port's Bye. Each fourth port
@@ -84,22 +87,14 @@ fn put_all<R: Wait + Clock>(
     port
 }
 
-// Checks a message against the number of messages that were taken of its port. True for a Bye.
-fn checked(rt: &impl Abort, message: &Message, taken: u64, batches: u64) -> bool {
+// Whether a message is the next of its port, of which so many were taken.
+fn is_next(message: &Message, taken: u64, batches: u64) -> bool {
     match &message.body {
         Body::Batch(number, pairs) => {
-            assert!(rt; *number == taken);
-            assert!(rt; pairs.as_slice() == [(message.port, 7)].as_slice());
-            false
+            *number == taken && pairs.as_slice() == [(message.port, 7)].as_slice()
         }
-        Body::End(count) => {
-            assert!(rt; (*count, taken) == (batches, batches));
-            false
-        }
-        Body::Bye(ok) => {
-            assert!(rt; (*ok, taken) == (true, batches.saturating_add(1)));
-            true
-        }
+        Body::End(count) => (*count, taken) == (batches, batches),
+        Body::Bye(ok) => *ok && taken == batches.saturating_add(1),
     }
 }
 
@@ -127,7 +122,8 @@ fn take_all<R: Wait + Abort>(
         let count = taken
             .get_mut(message.port as usize)
             .expect(rt, "one of the ports");
-        if checked(rt, &message, *count, batches) {
+        assert!(rt; is_next(&message, *count, batches));
+        if matches!(&message.body, Body::Bye(_)) {
             left -= 1;
         }
         *count = count.saturating_add(1);
@@ -135,20 +131,31 @@ fn take_all<R: Wait + Abort>(
     tap
 }
 
-// Meets each port, twice.
-fn meet_all<R: Wait + Abort>(rt: &R, outlet: &Outlet, tap: &mut Tap, mut ports: Vec<Port>)
+// Meets a port, twice, and says whether it stays as it is and nothing more is taken.
+fn is_met<R: Wait>(rt: &R, outlet: &Outlet, tap: &mut Tap, port: Port) -> bool
     requires tap { IsTapOf outlet.now tap.old }
-    requires ports { All (IsEndedPort outlet.now) ports.items }
+    requires port { IsEndedPort outlet.now port }
     ensures { IsTapOf outlet.now tap.new }
 {
+    let index = port.index();
+    let spent = outlet.meet(rt, tap, port);
+    let is_first_none = outlet.take(rt, tap).is_none();
+    let spent = outlet.meet(rt, tap, spent);
+    let is_same = (spent.index(), spent.said_bye()) == (index, true);
+    is_first_none && is_same && outlet.take(rt, tap).is_none()
+}
+
+// Whether each port is met, twice.
+fn are_met<R: Wait>(rt: &R, outlet: &Outlet, tap: &mut Tap, mut ports: Vec<Port>) -> bool
+    requires tap { IsTapOf outlet.now tap.old }
+    requires ports { All (IsEndedPort outlet.now) ports.items }
+{
     while let Some(port) = ports.pop() {
-        let index = port.index();
-        let spent = outlet.meet(rt, tap, port);
-        assert!(rt; outlet.take(rt, tap) == None);
-        let spent = outlet.meet(rt, tap, spent);
-        assert!(rt; (spent.index(), spent.said_bye()) == (index, true));
-        assert!(rt; outlet.take(rt, tap) == None);
+        if !is_met(rt, outlet, tap, port) {
+            return false;
+        }
     }
+    true
 }
 
 // Puts in a thread for each port.
@@ -189,7 +196,7 @@ fn exchange<R: Threads + Wait + Clock + Abort + Sync>(
             ensures { IsTapOf shared.entry.now result }
         { take_all(rt, shared, tap, count, batches) },
     );
-    meet_all(rt, shared, &mut tap, ended?);
+    assert!(rt; are_met(rt, shared, &mut tap, ended?));
     Ok(())
 }
 
@@ -204,43 +211,72 @@ fn batch_at_last(alloc: Global, port: u32, number: u64) -> Result<Message, Alloc
     }
 }
 
-// Puts into an outlet of two ports, and takes, again where memory was refused.
-fn see_put_and_taken<R: Wait + Abort>(
+// Puts a batch and a Bye at one port and an end at another, and says whether the first alone has
+// said bye.
+fn put_at_two<R: Wait>(
     rt: &R,
     alloc: Global,
     outlet: &Outlet,
-    mut ports: Vec<Port>,
-    mut tap: Tap,
-) -> Result<(), Fail>
-    requires ports { All (IsFreshPort outlet.now) ports.items }
-    requires tap { IsTapOf outlet.now tap }
+    zero: &mut Port,
+    one: &mut Port,
+) -> Result<bool, AllocError>
+    requires zero { IsFreshPort outlet.now zero.old }
+    requires one { IsFreshPort outlet.now one.old }
 {
-    let mut one = last_port(outlet, &mut ports).ok_or("port 1")?;
-    let mut zero = last_port(outlet, &mut ports).ok_or("port 0")?;
-    assert!(rt; (zero.index(), one.index(), ports.len()) == (0, 1, 0));
-    outlet.put(rt, &mut zero, batch_at_last(alloc, 0, 5)?);
-    outlet.put(rt, &mut one, end(1, 0));
-    outlet.bye(rt, &mut zero, true);
-    assert!(rt; (zero.said_bye(), one.said_bye()) == (true, false));
+    let batch = batch_at_last(alloc, zero.index(), 5)?;
+    outlet.put(rt, zero, batch);
+    outlet.put(rt, one, end(one.index(), 0));
+    outlet.bye(rt, zero, true);
+    Ok(zero.said_bye() && !one.said_bye())
+}
+
+// Whether these are taken, in the order in which they were put, and then nothing.
+fn takes_of_two<R: Wait>(
+    rt: &R,
+    alloc: Global,
+    outlet: &Outlet,
+    tap: &mut Tap,
+) -> Result<bool, AllocError>
+    requires { IsTapOf outlet.now tap.old }
+{
     let bye = Message {
         port: 0,
         task: 0,
         body: Body::Bye(true),
     };
-    let wanted = [
-        Some(batch_at_last(alloc, 0, 5)?),
-        Some(end(1, 0)),
-        Some(bye),
-        None,
-    ];
-    take_these(rt, outlet, &mut tap, &wanted);
-    Ok(())
+    let batch = batch_at_last(alloc, 0, 5)?;
+    Ok(takes(
+        rt,
+        outlet,
+        tap,
+        &[Some(batch), Some(end(1, 0)), Some(bye), None],
+    ))
+}
+
+// Whether the messages of two ports, 0 and 1, are taken as they were put; none without memory.
+fn passes_on<R: Wait>(
+    rt: &R,
+    alloc: Global,
+    outlet: &Outlet,
+    mut ports: Vec<Port>,
+    mut tap: Tap,
+) -> Option<bool>
+    requires ports { All (IsFreshPort outlet.now) ports.items }
+    requires tap { IsTapOf outlet.now tap }
+{
+    let mut one = last_port(outlet, &mut ports)?;
+    let mut zero = last_port(outlet, &mut ports)?;
+    let are_all = (zero.index(), one.index(), ports.len()) == (0, 1, 0);
+    let are_put = put_at_two(rt, alloc, outlet, &mut zero, &mut one).ok()?;
+    let are_taken = takes_of_two(rt, alloc, outlet, &mut tap).ok()?;
+    Some(are_all && are_put && are_taken)
 }
 
 #[test]
 fn board_and_outlet(rt: HostRuntime) -> Result<(), Fail> {
     let (outlet, ports, tap) = Outlet::new(rt.alloc(), 2)?;
-    see_put_and_taken(&rt, rt.alloc(), &outlet, ports, tap)
+    assert!(rt; passes_on(&rt, rt.alloc(), &outlet, ports, tap) == Some(true));
+    Ok(())
 }
 
 // An outlet, made again where memory was refused once.
@@ -259,7 +295,8 @@ fn outlet_at_last(alloc: Global, ports: u32) -> Result<(Outlet, Vec<Port>, Tap),
 #[test]
 fn refused_6(rt: HostRuntime) -> Result<(), Fail> {
     let (outlet, ports, tap) = outlet_at_last(rt.alloc(), 2)?;
-    see_put_and_taken(&rt, rt.alloc(), &outlet, ports, tap)
+    assert!(rt; passes_on(&rt, rt.alloc(), &outlet, ports, tap) == Some(true));
+    Ok(())
 }
 
 #[test]

@@ -5,5 +5,3 @@
 mod refused;
 #[cfg(test)]
 mod rows;
-#[cfg(test)]
-mod trees;

@@ -1,19 +1,11 @@
 //! Whichever growth is refused, the same call is done with memory, and gives what it would have.
 
-use crate::trees::packed;
+use crate::rows::are_diagonal;
 use descent_core::{Plan, row};
 use geom_core::{JoinRelation, Relation};
 use rtree_core::RTree;
+use samples::on_packed;
 use std::alloc::{AllocError, Global};
-use std::test::Fail;
-
-/// The packed tree of points so far apart, made again where memory was refused.
-fn packed_at_last(alloc: Global, count: u16, step: u16) -> Result<RTree, AllocError> {
-    match packed(alloc, count, step) {
-        Ok(tree) => Ok(tree),
-        Err(AllocError) => packed(alloc, count, step),
-    }
-}
 
 /// The plan of two trees, made again where memory was refused.
 fn plan_at_last<'a>(
@@ -28,54 +20,96 @@ fn plan_at_last<'a>(
     }
 }
 
-/// The row of a task, made again where memory was refused; empty where there is no such task.
+/// The row of a task, made again where memory was refused; none without such a task.
 fn row_at_last(
     alloc: Global,
     plan: &Plan<'_>,
     k: u32,
     relation: Relation,
-) -> Result<Vec<(u32, u32)>, Fail> {
-    let relation = JoinRelation::new(relation).ok().ok_or("a relation")?;
+) -> Option<Vec<(u32, u32)>> {
+    let relation = JoinRelation::new(relation).ok()?;
     if k >= plan.len() {
-        return Ok(Vec::new(alloc));
+        return None;
     }
     match row(alloc, plan, k, &relation) {
-        Ok(pairs) => Ok(pairs),
-        Err(AllocError) => Ok(row(alloc, plan, k, &relation)?),
+        Ok(pairs) => Some(pairs),
+        Err(AllocError) => row(alloc, plan, k, &relation).ok(),
     }
 }
 
-#[test]
-fn refused_4(rt: HostRuntime) -> Result<(), Fail> {
-    let left = packed_at_last(rt.alloc(), 20, 1)?;
-    let right = packed_at_last(rt.alloc(), 20, 1)?;
-    let plan = plan_at_last(rt.alloc(), &left, &right, 1)?;
-    assert!(rt; plan.len() == 3);
-    let equal = row_at_last(rt.alloc(), &plan, 1, Relation::Equals)?;
-    assert!(rt; equal.iter().map(|pair| pair.0).eq(7..14));
-    assert!(rt; equal.iter().map(|pair| pair.1).eq(7..14));
-    assert!(rt; row_at_last(rt.alloc(), &plan, 1, Relation::Touches)?.is_empty());
-    Ok(())
+/// Whether a task's row is that of equal numbers between these ends.
+fn has_row(alloc: Global, plan: &Plan<'_>, k: u32, relation: Relation, ends: (u32, u32)) -> bool {
+    row_at_last(alloc, plan, k, relation).is_some_and(|pairs| are_diagonal(&pairs, ends))
+}
+
+/// Whether task 1 of three has its rows by equals and by touches.
+fn has_rows(alloc: Global, left: &RTree, right: &RTree) -> bool {
+    let Ok(plan) = plan_at_last(alloc, left, right, 1) else {
+        return false;
+    };
+    plan.len() == 3
+        && has_row(alloc, &plan, 1, Relation::Equals, (7, 14))
+        && has_row(alloc, &plan, 1, Relation::Touches, (0, 0))
 }
 
 #[test]
-fn plan_growths(rt: HostRuntime) -> Result<(), Fail> {
-    let left = packed_at_last(rt.alloc(), 100, 0)?;
-    let right = packed_at_last(rt.alloc(), 100, 0)?;
+fn refused_4(rt: HostRuntime) {
+    let (alloc, twenty) = (rt.alloc(), (20, 1));
+    let seen = on_packed(
+        alloc,
+        twenty,
+        twenty,
+        |left, right| has_rows(alloc, left, right),
+    );
+    assert!(rt; seen == Ok(true));
+}
+
+/// Whether the plans of two trees have so many tasks, by their cuts.
+fn plans(alloc: Global, left: &RTree, right: &RTree) -> bool {
     for (cut, count) in [(0, 1), (1, 4), (2, 169), (8, 169)] {
-        assert!(rt; plan_at_last(rt.alloc(), &left, &right, cut)?.len() == count);
+        let Ok(plan) = plan_at_last(alloc, left, right, cut) else {
+            return false;
+        };
+        if plan.len() != count {
+            return false;
+        }
     }
-    Ok(())
+    true
 }
 
 #[test]
-fn row_growths(rt: HostRuntime) -> Result<(), Fail> {
-    let left = packed_at_last(rt.alloc(), 100, 0)?;
-    let right = packed_at_last(rt.alloc(), 100, 0)?;
-    let plan = plan_at_last(rt.alloc(), &left, &right, 0)?;
-    let pairs = row_at_last(rt.alloc(), &plan, 0, Relation::Equals)?;
-    assert!(rt; pairs.len() == 10_000);
-    assert!(rt; pairs.first() == Some(&(0, 0)));
-    assert!(rt; pairs.last() == Some(&(99, 99)));
-    Ok(())
+fn plan_growths(rt: HostRuntime) {
+    let (alloc, hundred) = (rt.alloc(), (100, 0));
+    let seen = on_packed(
+        alloc,
+        hundred,
+        hundred,
+        |left, right| plans(alloc, left, right),
+    );
+    assert!(rt; seen == Ok(true));
+}
+
+/// Whether these are the pairs of two times a hundred numbers, by their count and ends.
+fn are_ten_thousand(pairs: &[(u32, u32)]) -> bool {
+    pairs.len() == 10_000 && pairs.first() == Some(&(0, 0)) && pairs.last() == Some(&(99, 99))
+}
+
+/// Whether the only task of two trees has all pairs.
+fn has_all(alloc: Global, left: &RTree, right: &RTree) -> bool {
+    let Ok(plan) = plan_at_last(alloc, left, right, 0) else {
+        return false;
+    };
+    row_at_last(alloc, &plan, 0, Relation::Equals).is_some_and(|pairs| are_ten_thousand(&pairs))
+}
+
+#[test]
+fn row_growths(rt: HostRuntime) {
+    let (alloc, hundred) = (rt.alloc(), (100, 0));
+    let seen = on_packed(
+        alloc,
+        hundred,
+        hundred,
+        |left, right| has_all(alloc, left, right),
+    );
+    assert!(rt; seen == Ok(true));
 }

@@ -1,100 +1,147 @@
 //! The worked rows.
 
-use crate::trees::packed;
 use descent_core::{Plan, row};
 use geom_core::{JoinRelation, Relation};
 use rtree_core::RTree;
-use std::alloc::{AllocError, Global};
-use std::test::Fail;
+use samples::on_packed;
+use std::alloc::Global;
+
+/// Whether two packed trees of points are seen so.
+fn sees<F: FnOnce(&RTree, &RTree) -> bool>(
+    alloc: Global,
+    left: (u16, u16),
+    right: (u16, u16),
+    see: F,
+) -> bool
+    requires { F.IsAlwaysCallable see }
+{
+    on_packed(alloc, left, right, see) == Ok(true)
+}
 
 /// Whether the plan of two trees has so many tasks, for each of the cuts.
-fn has_tasks(
-    alloc: Global,
-    left: &RTree,
-    right: &RTree,
-    tasks: &[(u8, u32)],
-) -> Result<bool, AllocError> {
+fn has_tasks(alloc: Global, left: &RTree, right: &RTree, tasks: &[(u8, u32)]) -> bool {
     for (cut, count) in tasks {
-        let plan = Plan::new(alloc, left, right, *cut)?;
+        let Ok(plan) = Plan::new(alloc, left, right, *cut) else {
+            return false;
+        };
         if plan.len() != *count || plan.is_empty() != (*count == 0) {
-            return Ok(false);
+            return false;
         }
     }
-    Ok(true)
+    true
+}
+
+/// Whether pairs are (first, first) to (last, last).
+pub(crate) fn are_diagonal(pairs: &[(u32, u32)], ends: (u32, u32)) -> bool {
+    pairs.iter().map(|p| p.0).eq(ends.0..ends.1) && pairs.iter().map(|p| p.1).eq(ends.0..ends.1)
+}
+
+/// The row of a task; none without such a task.
+fn row_of(alloc: Global, plan: &Plan<'_>, k: u32, relation: Relation) -> Option<Vec<(u32, u32)>> {
+    let relation = JoinRelation::new(relation).ok()?;
+    if k >= plan.len() {
+        return None;
+    }
+    row(alloc, plan, k, &relation).ok()
 }
 
 /// Whether the row of a task has the pairs (first, first) to (last, last).
-fn has_row(
-    alloc: Global,
-    plan: &Plan<'_>,
-    k: u32,
-    relation: Relation,
-    ends: (u32, u32),
-) -> Result<bool, Fail> {
-    let relation = JoinRelation::new(relation).ok().ok_or("a relation")?;
-    if k >= plan.len() {
-        return Ok(false);
+fn has_row(alloc: Global, plan: &Plan<'_>, k: u32, relation: Relation, ends: (u32, u32)) -> bool {
+    row_of(alloc, plan, k, relation).is_some_and(|pairs| are_diagonal(&pairs, ends))
+}
+
+/// Whether the plan of two packed trees of points has so many tasks, for each of the cuts.
+fn plans(alloc: Global, left: (u16, u16), right: (u16, u16), tasks: &[(u8, u32)]) -> bool {
+    sees(
+        alloc,
+        left,
+        right,
+        |left, right| has_tasks(alloc, left, right, tasks),
+    )
+}
+
+/// Whether task 1 of three has its rows by equals and by touches.
+fn has_rows(alloc: Global, left: &RTree, right: &RTree) -> bool {
+    let Ok(plan) = Plan::new(alloc, left, right, 1) else {
+        return false;
+    };
+    has_row(alloc, &plan, 1, Relation::Equals, (7, 14))
+        && has_row(alloc, &plan, 1, Relation::Touches, (0, 0))
+}
+
+#[test]
+fn plan_and_scripts(rt: HostRuntime) {
+    let (alloc, twenty) = (rt.alloc(), (20, 1));
+    assert!(rt; plans(alloc, twenty, twenty, &[(0, 1), (1, 3), (8, 3)]));
+    assert!(rt;
+        sees(
+            alloc,
+            twenty,
+            twenty,
+            |left, right| has_rows(alloc, left, right)
+        )
+    );
+}
+
+/// Whether the only task of a plan is of two leaves.
+fn is_of_leaves(plan: &Plan<'_>) -> bool {
+    if plan.len() != 1 {
+        return false;
     }
-    let pairs = row(alloc, plan, k, &relation)?;
-    Ok(pairs.iter().map(|p| p.0).eq(ends.0..ends.1) && pairs.iter().map(|p| p.1).eq(ends.0..ends.1))
+    let (page, leaf) = plan.task(0);
+    page.is_leaf() && leaf.is_leaf()
+}
+
+/// Whether the plan of a tree and a leaf has one task of two leaves, and its row.
+fn has_leaf(alloc: Global, left: &RTree, right: &RTree) -> bool {
+    let Ok(plan) = Plan::new(alloc, left, right, 1) else {
+        return false;
+    };
+    is_of_leaves(&plan) && has_row(alloc, &plan, 0, Relation::Equals, (0, 5))
 }
 
 #[test]
-fn plan_and_scripts(rt: HostRuntime) -> Result<(), Fail> {
-    let left = packed(rt.alloc(), 20, 1)?;
-    let right = packed(rt.alloc(), 20, 1)?;
-    assert!(rt; has_tasks(rt.alloc(), &left, &right, &[(0, 1), (1, 3), (8, 3)])?);
-    let plan = Plan::new(rt.alloc(), &left, &right, 1)?;
-    assert!(rt; has_row(rt.alloc(), &plan, 1, Relation::Equals, (7, 14))?);
-    assert!(rt; has_row(rt.alloc(), &plan, 1, Relation::Touches, (0, 0))?);
-    Ok(())
+fn plan_of_a_leaf(rt: HostRuntime) {
+    let alloc = rt.alloc();
+    assert!(rt;
+        sees(
+            alloc,
+            (20, 1),
+            (5, 1),
+            |left, right| has_leaf(alloc, left, right)
+        )
+    );
 }
 
 #[test]
-fn plan_of_a_leaf(rt: HostRuntime) -> Result<(), Fail> {
-    let left = packed(rt.alloc(), 20, 1)?;
-    let right = packed(rt.alloc(), 5, 1)?;
-    let plan = Plan::new(rt.alloc(), &left, &right, 1)?;
-    assert!(rt; plan.len() == 1);
-    assert!(rt; has_row(rt.alloc(), &plan, 0, Relation::Equals, (0, 5))?);
-    if plan.len() == 1 {
-        let (page, leaf) = plan.task(0);
-        assert!(rt; page.is_leaf() && leaf.is_leaf());
-    }
-    Ok(())
-}
-
-#[test]
-fn plan_extra_1(rt: HostRuntime) -> Result<(), Fail> {
-    let left = packed(rt.alloc(), 2400, 0)?;
-    let right = packed(rt.alloc(), 2400, 0)?;
+fn plan_extra_1(rt: HostRuntime) {
     let tasks = [(0, 1), (1, 25), (2, 1444), (3, 1444), (8, 1444)];
-    assert!(rt; has_tasks(rt.alloc(), &left, &right, &tasks)?);
-    Ok(())
+    assert!(rt; plans(rt.alloc(), (2400, 0), (2400, 0), &tasks));
 }
 
 #[test]
-fn plan_extra_2(rt: HostRuntime) -> Result<(), Fail> {
-    let left = packed(rt.alloc(), 2400, 0)?;
-    let right = packed(rt.alloc(), 20, 0)?;
+fn plan_extra_2(rt: HostRuntime) {
     let tasks = [(1, 15), (2, 114), (3, 900), (4, 900)];
-    assert!(rt; has_tasks(rt.alloc(), &left, &right, &tasks)?);
-    Ok(())
+    assert!(rt; plans(rt.alloc(), (2400, 0), (20, 0), &tasks));
 }
 
 #[test]
-fn plan_extra_3(rt: HostRuntime) -> Result<(), Fail> {
-    let full = packed(rt.alloc(), 20, 1)?;
-    let empty = packed(rt.alloc(), 0, 1)?;
-    assert!(rt; has_tasks(rt.alloc(), &full, &empty, &[(0, 0), (8, 0)])?);
-    assert!(rt; has_tasks(rt.alloc(), &empty, &full, &[(0, 0), (8, 0)])?);
-    Ok(())
+fn plan_extra_3(rt: HostRuntime) {
+    assert!(rt; plans(rt.alloc(), (20, 1), (0, 1), &[(0, 0), (8, 0)]));
+    assert!(rt; plans(rt.alloc(), (0, 1), (20, 1), &[(0, 0), (8, 0)]));
+}
+
+/// Whether the plans of two new trees have no tasks.
+fn plans_nothing(alloc: Global) -> bool {
+    has_tasks(
+        alloc,
+        &RTree::new(alloc),
+        &RTree::new(alloc),
+        &[(0, 0), (2, 0)],
+    )
 }
 
 #[test]
-fn empty_layers(rt: HostRuntime) -> Result<(), Fail> {
-    let left = RTree::new(rt.alloc());
-    let right = RTree::new(rt.alloc());
-    assert!(rt; has_tasks(rt.alloc(), &left, &right, &[(0, 0), (2, 0)])?);
-    Ok(())
+fn empty_layers(rt: HostRuntime) {
+    assert!(rt; plans_nothing(rt.alloc()));
 }

@@ -1,18 +1,55 @@
-//! Layers for the tests.
+//! Layers for the tests, and their pictures.
+//!
+//! The proof of a function grows with the square of its length where it owns a layer. So layers
+//! are filled and drawn by functions that borrow them.
 
+use draw_core::{can_be_drawn, picture};
 use geom_core::Shape;
 use layer_core::Layer;
+use std::alloc::Global;
 use std::hash::RandomState;
 
 /// A feature: its id, and the corners of its shape.
 pub(crate) type Row<'a> = (&'a str, (i64, i64, i64, i64));
 
-/// The layer of these features, or none where one is refused.
-pub(crate) fn layer_of(rt: &HostRuntime, rows: &[Row<'_>]) -> Option<Layer> {
-    let mut layer = Layer::new(rt.alloc(), RandomState::new(rt).ok()?).ok()?;
+/// A layer with no features, or none without memory or random keys.
+fn empty_layer(rt: &HostRuntime) -> Option<Layer> {
+    Layer::new(rt.alloc(), RandomState::new(rt).ok()?).ok()
+}
+
+/// Inserts these features, or answers none where one is refused.
+fn insert_all(layer: &mut Layer, rows: &[Row<'_>]) -> Option<()> {
     for (id, (x1, y1, x2, y2)) in rows {
-        let shape = Shape::new(*x1, *y1, *x2, *y2)?;
-        layer.insert(id, shape).ok()?;
+        layer.insert(id, Shape::new(*x1, *y1, *x2, *y2)?).ok()?;
     }
-    Some(layer)
+    Some(())
+}
+
+/// The layer of these features, or none where one is refused.
+fn layer_of(rt: &HostRuntime, rows: &[Row<'_>]) -> Option<Layer> {
+    let mut layer = empty_layer(rt)?;
+    insert_all(&mut layer, rows).map(|()| layer)
+}
+
+/// The picture of two layers and these pairs, or none where it can't be drawn.
+fn drawn(alloc: Global, left: &Layer, right: &Layer, pairs: &[(u32, u32)]) -> Option<String> {
+    if !can_be_drawn(left, right) {
+        return None;
+    }
+    picture(alloc, left, right, pairs).ok()
+}
+
+/// The picture of these features and pairs, or none where something is refused.
+pub(crate) fn picture_of(
+    rt: &HostRuntime,
+    left: &[Row<'_>],
+    right: &[Row<'_>],
+    pairs: &[(u32, u32)],
+) -> Option<String> {
+    drawn(
+        rt.alloc(),
+        &layer_of(rt, left)?,
+        &layer_of(rt, right)?,
+        pairs,
+    )
 }

@@ -1,8 +1,6 @@
 //! Pictures by hand.
 
-use crate::layers::{Row, layer_of};
-use draw_core::{can_be_drawn, picture};
-use std::test::Fail;
+use crate::layers::{Row, picture_of};
 
 /// What a picture has to say: the counts of the legend, and the drawing from the size of its frame
 /// to the end.
@@ -33,44 +31,39 @@ fn counts(text: &str, expected: [&str; 3]) -> bool {
         && count_after(text, "matching pairs: ") == Some(expected[2])
 }
 
-/// Whether the picture of these features and pairs says this, and begins as SVG.
+/// Whether a picture says this, and begins as SVG.
+fn says(text: &str, expected: &Expected) -> bool {
+    text.starts_with("<svg xmlns=\"http://www.w3.org/2000/svg\" version=\"1.1\" ")
+        && counts(text, expected.counts)
+        && drawing(text) == Some(expected.drawing)
+}
+
+/// Whether the picture of these features and pairs says this.
 fn draws(
     rt: &HostRuntime,
     left: &[Row<'_>],
     right: &[Row<'_>],
     pairs: &[(u32, u32)],
     expected: &Expected,
-) -> Result<bool, Fail> {
-    let left = layer_of(rt, left).ok_or("a left layer")?;
-    let right = layer_of(rt, right).ok_or("a right layer")?;
-    let text = picture(rt.alloc(), &left, &right, pairs)?;
-    let begins = text.as_str().starts_with(
-        "<svg xmlns=\"http://www.w3.org/2000/svg\" version=\"1.1\" ",
-    );
-    Ok(
-        begins
-            && can_be_drawn(&left, &right)
-            && counts(text.as_str(), expected.counts)
-            && drawing(text.as_str()) == Some(expected.drawing),
-    )
+) -> bool {
+    picture_of(rt, left, right, pairs).is_some_and(|text| says(text.as_str(), expected))
 }
 
 // With no features the frame is about the origin, one unit to each side.
 #[test]
-fn nothing_drawn(rt: HostRuntime) -> Result<(), Fail> {
+fn nothing_drawn(rt: HostRuntime) {
     let expected = Expected {
         counts: ["0", "0", "0"],
         drawing: "2 2\">\n<g class=\"left\">\n\
             </g>\n<g class=\"right\">\n\
             </g>\n</svg>\n</svg>\n",
     };
-    assert!(rt; draws(&rt, &[], &[], &[], &expected)?);
-    Ok(())
+    assert!(rt; draws(&rt, &[], &[], &[], &expected));
 }
 
 // One point stands in the middle of a frame of two units.
 #[test]
-fn point_drawn(rt: HostRuntime) -> Result<(), Fail> {
+fn point_drawn(rt: HostRuntime) {
     let expected = Expected {
         counts: ["0", "1", "0"],
         drawing: "2 2\">\n<g class=\"left\">\n\
@@ -78,14 +71,13 @@ fn point_drawn(rt: HostRuntime) -> Result<(), Fail> {
             <path class=\"point\" d=\"M1 1h0v0\"><title>p</title></path>\n\
             </g>\n</svg>\n</svg>\n",
     };
-    assert!(rt; draws(&rt, &[], &[("p", (7, -3, 7, -3))], &[], &expected)?);
-    Ok(())
+    assert!(rt; draws(&rt, &[], &[("p", (7, -3, 7, -3))], &[], &expected));
 }
 
 // The cover goes from (0, -10) to (40, 20), so the margin is 40 / 20 + 1 = 3 and the corner of the
 // frame (-3, 23). The right layer's second feature is in two pairs, and its first one in none.
 #[test]
-fn matches_drawn(rt: HostRuntime) -> Result<(), Fail> {
+fn matches_drawn(rt: HostRuntime) {
     let left = [
         ("road", (0, 5, 40, 5)),
         ("tree", (10, 20, 10, 20)),
@@ -103,13 +95,12 @@ fn matches_drawn(rt: HostRuntime) -> Result<(), Fail> {
             <path class=\"match\" d=\"M13 3h15v20h-15z\"><title>park</title></path>\n\
             </g>\n</svg>\n</svg>\n",
     };
-    assert!(rt; draws(&rt, &left, &right, &[(1, 1), (2, 1)], &expected)?);
-    Ok(())
+    assert!(rt; draws(&rt, &left, &right, &[(1, 1), (2, 1)], &expected));
 }
 
 // The whole plane: both lengths are 2 * 10^12, and the margin a twentieth of that and one.
 #[test]
-fn plane_drawn(rt: HostRuntime) -> Result<(), Fail> {
+fn plane_drawn(rt: HostRuntime) {
     const FAR: i64 = 1_000_000_000_000;
     let expected = Expected {
         counts: ["1", "1", "0"],
@@ -122,21 +113,13 @@ fn plane_drawn(rt: HostRuntime) -> Result<(), Fail> {
             </g>\n</svg>\n</svg>\n",
     };
     let left = [("all", (-FAR, -FAR, FAR, FAR))];
-    assert!(rt;
-        draws(
-            &rt,
-            &left,
-            &[("far", (FAR, -FAR, FAR, -FAR))],
-            &[],
-            &expected
-        )?
-    );
-    Ok(())
+    let right = [("far", (FAR, -FAR, FAR, -FAR))];
+    assert!(rt; draws(&rt, &left, &right, &[], &expected));
 }
 
 // XML 1.0, sections 2.2 and 2.4: markup by reference, and U+FFFD for what is forbidden.
 #[test]
-fn ids_escaped(rt: HostRuntime) -> Result<(), Fail> {
+fn ids_escaped(rt: HostRuntime) {
     let right = [
         ("a&b<c>\"d\" 'e'", (0, 0, 0, 0)),
         ("]]>", (0, 0, 0, 0)),
@@ -156,6 +139,5 @@ fn ids_escaped(rt: HostRuntime) -> Result<(), Fail> {
             <title>\t\n\r \u{7f}é€\u{fffd}\u{1ffff}</title></path>\n\
             </g>\n</svg>\n</svg>\n",
     };
-    assert!(rt; draws(&rt, &[], &right, &[], &expected)?);
-    Ok(())
+    assert!(rt; draws(&rt, &[], &right, &[], &expected));
 }

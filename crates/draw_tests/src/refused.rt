@@ -1,32 +1,29 @@
 //! A picture with each growth refused in turn.
 
-use crate::layers::layer_of;
-use draw_core::picture;
-use std::test::Fail;
+use crate::layers::picture_of;
+
+/// The end of the picture of a rectangle and a point that match.
+const END: &str = "<g class=\"left\">\n\
+    <path class=\"match\" d=\"M1 1h4v2h-4z\"><title>a</title></path>\n</g>\n\
+    <g class=\"right\">\n\
+    <path class=\"point match\" d=\"M5 1h0v0\"><title>b</title></path>\n</g>\n\
+    </svg>\n</svg>\n";
+
+/// The picture of a rectangle and a point that match, made again where memory was refused.
+fn picture_at_last(rt: &HostRuntime) -> Option<String> {
+    let left = [("a", (0, 0, 4, 2))];
+    let right = [("b", (4, 2, 4, 2))];
+    for _ in 0..10 {
+        if let Some(text) = picture_of(rt, &left, &right, &[(0, 0)]) {
+            return Some(text);
+        }
+    }
+    None
+}
 
 // Run with each allocation failing in turn, it ends as with ample memory: where it is refused, the
 // same call gives the same text afterwards.
 #[test]
-fn refused_picture(rt: HostRuntime) -> Result<(), Fail> {
-    for _ in 0..10 {
-        let (Some(left), Some(right)) = (
-            layer_of(&rt, &[("a", (0, 0, 4, 2))]),
-            layer_of(&rt, &[("b", (4, 2, 4, 2))]),
-        ) else {
-            continue;
-        };
-        let Ok(text) = picture(rt.alloc(), &left, &right, &[(0, 0)]) else {
-            continue;
-        };
-        let ends = text.as_str().ends_with(
-            "<g class=\"left\">\n\
-            <path class=\"match\" d=\"M1 1h4v2h-4z\"><title>a</title></path>\n</g>\n\
-            <g class=\"right\">\n\
-            <path class=\"point match\" d=\"M5 1h0v0\"><title>b</title></path>\n</g>\n\
-            </svg>\n</svg>\n",
-        );
-        assert!(rt; ends);
-        return Ok(());
-    }
-    Err(Fail::new("no memory"))
+fn refused_picture(rt: HostRuntime) {
+    assert!(rt; picture_at_last(&rt).is_some_and(|text| text.as_str().ends_with(END)));
 }

@@ -1,6 +1,6 @@
 //! A long mixed list of edits of a tree, beside a plain list of its entries.
 
-ghost use Rattle.std.specs.Prelude.{ℕ, ◌<◌, ◌≤◌, IfOk};
+ghost use Rattle.std.specs.Prelude.{ℕ, ◌+◌, ◌<◌, ◌≤◌, IfOk};
 ghost use Rattle.rtree_core.specs.Nodes.{IsLeaf, IsLawful};
 ghost use Rattle.rtree_core.specs.Trees.{IsFresh};
 
@@ -13,6 +13,14 @@ use std::test::Fail;
 /// A point, a segment or a rectangle near one of nine centres.
 fn shape(random: &mut Random) -> Result<Shape, Fail> {
     Ok(random.shape().ok_or("a shape")?)
+}
+
+/// A window over all shapes, one far off, two others, and one that covers these; none never comes.
+fn windows(random: &mut Random) -> Option<[Shape; 5]> {
+    let all = Shape::new(-1000, -1000, 2000, 2000)?;
+    let far = Shape::new(5000, 5000, 6000, 6000)?;
+    let (one, two) = (random.shape()?, random.shape()?);
+    Some([all, far, one, two, one.cover(&two)])
 }
 
 /// One of the entries, if there are any.
@@ -99,18 +107,21 @@ impl Trial {
 
     /// Compares entries and some windows, and sees that the tree is lawful.
     fn compare(&self, alloc: Global, random: &mut Random) -> Result<(), Fail> {
-        if !self.is_lawful(alloc)? {
-            return Err(Fail::new("the tree is unlawful, or its entries differ"));
+        let windows = windows(random).ok_or("five windows")?;
+        if self.is_lawful(alloc)? && self.agrees_at_all(alloc, &windows)? {
+            return Ok(());
         }
-        let all = Shape::new(-1000, -1000, 2000, 2000).ok_or("a window")?;
-        let far = Shape::new(5000, 5000, 6000, 6000).ok_or("a window")?;
-        let (one, two) = (shape(random)?, shape(random)?);
-        for window in [all, far, one, two, one.cover(&two)] {
-            if !self.agrees_at(alloc, &window)? {
-                return Err(Fail::new("a window differs"));
+        Err(Fail::new("the tree is unlawful, or its entries or a window differ"))
+    }
+
+    /// Whether the tree finds the entries of the list that meet each of some windows.
+    fn agrees_at_all(&self, alloc: Global, windows: &[Shape]) -> Result<bool, AllocError> {
+        for window in windows {
+            if !self.agrees_at(alloc, window)? {
+                return Ok(false);
             }
         }
-        Ok(())
+        Ok(true)
     }
 
     /// Whether the tree is lawful and has the entries of the list.
@@ -193,21 +204,36 @@ fn visit_leaf(leaf: &Node, fewest: usize, entries: &mut Vec<Entry>) -> Result<bo
     Ok(fewest <= held.len() && held.len() <= 8 && cover == leaf.cover())
 }
 
-#[test]
-fn mixed_edits(rt: HostRuntime) -> Result<(), Fail> {
-    let alloc = rt.alloc();
-    let mut random = Random::new(1);
+/// Mostly insertions and then mostly removals, 2000 of each from this number on, and says whether
+/// the tree is then high and low.
+fn rises_and_falls(
+    trial: &mut Trial,
+    alloc: Global,
+    random: &mut Random,
+    first: u32,
+) -> Result<bool, Fail>
+    requires few { first ≤ 4000 }
+    requires fresh { (k : ℕ) → first ≤ k → IsFresh k trial.old.tree }
+    ensures { IfOk result (λ _. (k : ℕ) → first + 4000 ≤ k → IsFresh k trial.new.tree) }
+{
+    trial.edit(alloc, random, first, first + 2000, 6)?;
+    let is_high = trial.tree.height() == 4;
+    trial.edit(alloc, random, first + 2000, first + 4000, 2)?;
+    Ok(is_high && trial.tree.height() < 2)
+}
+
+/// The same twice, with a tree that is empty at first.
+fn rises_and_falls_twice(alloc: Global, random: &mut Random) -> Result<bool, Fail> {
     let mut trial = Trial {
         tree: RTree::new(alloc),
         list: Vec::new(alloc),
     };
-    trial.edit(alloc, &mut random, 0, 2000, 6)?;
-    assert!(rt; trial.tree.height() == 4);
-    trial.edit(alloc, &mut random, 2000, 4000, 2)?;
-    assert!(rt; trial.tree.height() < 2);
-    trial.edit(alloc, &mut random, 4000, 6000, 6)?;
-    assert!(rt; trial.tree.height() == 4);
-    trial.edit(alloc, &mut random, 6000, 8000, 2)?;
-    assert!(rt; trial.tree.height() < 2);
+    let once = rises_and_falls(&mut trial, alloc, random, 0)?;
+    Ok(once && rises_and_falls(&mut trial, alloc, random, 4000)?)
+}
+
+#[test]
+fn mixed_edits(rt: HostRuntime) -> Result<(), Fail> {
+    assert!(rt; rises_and_falls_twice(rt.alloc(), &mut Random::new(1))?);
     Ok(())
 }

@@ -9,8 +9,6 @@ use crate::trees::{Squares, has_leaves};
 use geom_core::Shape;
 use rtree_core::{Entry, RTree};
 use std::alloc::Global;
-use std::process::Abort;
-use std::test::Fail;
 
 /// The leaves of nine points.
 const NINE: [&[u32]; 2] = [&[0, 2, 4, 6, 8], &[1, 3, 5, 7]];
@@ -28,8 +26,16 @@ const ELEVEN: &[&[u32]] = &[&[0, 2, 4, 6, 8, 9, 10, 11], &[3, 5, 7]];
 
 const TEN: &[&[u32]] = &[&[0, 4, 8, 10, 5, 7], &[2, 6, 9, 11]];
 
-/// Inserts the entry, again where memory was refused, and sees that the leaf was then as before.
-fn insert_at_last(rt: &impl Abort, tree: &mut RTree, entry: Entry, before: &[u32]) -> bool
+/// Whether a tree is the leaf of these numbers, or empty where there are none.
+fn is_leaf_of(tree: &RTree, numbers: &[u32]) -> bool {
+    if numbers.is_empty() {
+        return tree.is_empty();
+    }
+    has_leaves(tree, &[numbers])
+}
+
+/// Inserts the entry, again where memory was refused, and says whether the leaf was then as before.
+fn insert_at_last(tree: &mut RTree, entry: Entry, before: &[u32]) -> bool
     requires { IsFresh entry.number tree.old }
     ensures { OnTrue result (Gains entry (entries_in tree.old) (entries_in tree.new)) }
 {
@@ -37,93 +43,120 @@ fn insert_at_last(rt: &impl Abort, tree: &mut RTree, entry: Entry, before: &[u32
         if tree.insert(entry).is_ok() {
             return true;
         }
-        assert!(rt; before.is_empty() == tree.is_empty());
-        assert!(rt; before.is_empty() || has_leaves(tree, &[before]));
+        if !is_leaf_of(tree, before) {
+            return false;
+        }
     }
     false
 }
 
-/// The last of the nine insertions splits the root.
-#[test]
-fn refused_1(rt: HostRuntime) -> Result<(), Fail> {
-    let mut tree = RTree::new(rt.alloc());
+/// Whether nine points of a crowd are inserted into an empty tree.
+fn grows_to_nine(tree: &mut RTree) -> bool
+    requires { (k : ℕ) → IsFresh k tree.old }
+{
     let numbers = [0, 1, 2, 3, 4, 5, 6, 7];
     for number in 0..9u8 {
         let before = numbers.get(..usize::from(number)).unwrap_or(&[]);
-        if !insert_at_last(&rt, &mut tree, Squares::Crowd.entry(number), before) {
-            return Err(Fail::new("no memory"));
+        if !insert_at_last(tree, Squares::Crowd.entry(number), before) {
+            return false;
         }
     }
-    assert!(rt; has_leaves(&tree, &NINE));
-    assert!(rt; tree.height() == 2);
-    Ok(())
+    has_leaves(tree, &NINE) && tree.height() == 2
+}
+
+/// The last of the nine insertions splits the root.
+#[test]
+fn refused_1(rt: HostRuntime) {
+    assert!(rt; grows_to_nine(&mut RTree::new(rt.alloc())));
+}
+
+/// What is seen of the tree into which the first squares were inserted, again where memory was
+/// refused.
+fn on_grown<F: FnOnce(&mut RTree) -> bool>(
+    alloc: Global,
+    squares: Squares,
+    count: u8,
+    see: F,
+) -> bool
+    requires { F.IsAlwaysCallable see }
+{
+    grown_at_last(alloc, squares, count).is_some_and(|mut tree| see(&mut tree))
 }
 
 /// Inserts the first squares in turn, again where memory was refused.
-fn grown_at_last(alloc: Global, squares: Squares, count: u8) -> Result<RTree, Fail> {
+fn grown_at_last(alloc: Global, squares: Squares, count: u8) -> Option<RTree> {
     for _ in 0..10 {
         if let Ok(tree) = squares.grown(alloc, count) {
-            return Ok(tree);
+            return Some(tree);
         }
     }
-    Err(Fail::new("no memory"))
+    None
 }
 
-/// Removes an entry, again where memory was refused, and sees that the tree was then as before.
-fn remove_at_last(
-    rt: &impl Abort,
-    tree: &mut RTree,
-    entry: &Entry,
-    before: &[&[u32]],
-) -> Result<bool, Fail> {
+/// Removes an entry, again where memory was refused, and says whether the tree held it and was
+/// then as before.
+fn remove_at_last(tree: &mut RTree, entry: &Entry, before: &[&[u32]]) -> bool {
     for _ in 0..10 {
         if let Ok(removed) = tree.remove(entry) {
-            return Ok(removed);
+            return removed;
         }
-        assert!(rt; has_leaves(tree, before));
+        if !has_leaves(tree, before) {
+            return false;
+        }
     }
-    Err(Fail::new("no memory"))
+    false
+}
+
+/// Whether a tree of nine squares loses one, and then is one leaf.
+fn loses_a_leaf(tree: &mut RTree) -> bool {
+    has_leaves(tree, &OUTLIER)
+        && remove_at_last(tree, &Squares::Outlier.entry(6), &OUTLIER)
+        && has_leaves(tree, ONE_LEAF)
+        && tree.height() == 1
 }
 
 /// The removal sets a node aside.
 #[test]
-fn removal_refused(rt: HostRuntime) -> Result<(), Fail> {
-    let mut tree = grown_at_last(rt.alloc(), Squares::Outlier, 9)?;
-    assert!(rt; has_leaves(&tree, &OUTLIER));
-    assert!(rt; remove_at_last(&rt, &mut tree, &Squares::Outlier.entry(6), &OUTLIER)?);
-    assert!(rt; has_leaves(&tree, ONE_LEAF));
-    assert!(rt; tree.height() == 1);
-    Ok(())
+fn removal_refused(rt: HostRuntime) {
+    assert!(rt; on_grown(rt.alloc(), Squares::Outlier, 9, loses_a_leaf));
+}
+
+/// Whether a tree of twelve points loses two, and has the others in two leaves.
+fn loses_two(tree: &mut RTree) -> bool {
+    remove_at_last(tree, &Squares::Crowd.entry(1), TWELVE)
+        && remove_at_last(tree, &Squares::Crowd.entry(3), ELEVEN)
+        && has_leaves(tree, TEN)
 }
 
 /// The second removal sets a node aside, and a node is split again.
 #[test]
-fn refused_2(rt: HostRuntime) -> Result<(), Fail> {
-    let mut tree = grown_at_last(rt.alloc(), Squares::Crowd, 12)?;
-    assert!(rt; remove_at_last(&rt, &mut tree, &Squares::Crowd.entry(1), TWELVE)?);
-    assert!(rt; remove_at_last(&rt, &mut tree, &Squares::Crowd.entry(3), ELEVEN)?);
-    assert!(rt; has_leaves(&tree, TEN));
-    Ok(())
+fn refused_2(rt: HostRuntime) {
+    assert!(rt; on_grown(rt.alloc(), Squares::Crowd, 12, loses_two));
 }
 
 /// Packs the first points of the row, again where memory was refused.
-fn packed_at_last(alloc: Global, count: u8) -> Result<RTree, Fail> {
+fn packed_at_last(alloc: Global, count: u8) -> Option<RTree> {
     for _ in 0..10 {
         if let Ok(tree) = Squares::Row.packed(alloc, count) {
-            return Ok(tree);
+            return Some(tree);
         }
     }
-    Err(Fail::new("no memory"))
+    None
 }
 
 /// The numbers in a window, asked for again where memory was refused.
-fn window_at_last(alloc: Global, tree: &RTree, window: &Shape) -> Result<Vec<u32>, Fail> {
+fn window_at_last(alloc: Global, tree: &RTree, window: &Shape) -> Option<Vec<u32>> {
     for _ in 0..10 {
         if let Ok(numbers) = tree.window(alloc, window) {
-            return Ok(numbers);
+            return Some(numbers);
         }
     }
-    Err(Fail::new("no memory"))
+    None
+}
+
+/// Whether a tree finds exactly these numbers in a window.
+fn finds(alloc: Global, tree: &RTree, window: &Shape, numbers: &[u32]) -> bool {
+    window_at_last(alloc, tree, window).is_some_and(|found| found.as_slice() == numbers)
 }
 
 /// The leaves of twenty packed points.
@@ -133,18 +166,18 @@ const TWENTY: [&[u32]; 3] = [
     &[14, 15, 16, 17, 18, 19],
 ];
 
+/// Whether a tree has the leaves of twenty packed points, and finds some of them in one window and
+/// none in another.
+fn is_twenty(alloc: Global, tree: &RTree) -> bool {
+    let (Some(four), Some(none)) = (Shape::new(5, 0, 8, 0), Shape::new(20, 0, 21, 5)) else {
+        return false;
+    };
+    let is_packed = has_leaves(tree, &TWENTY) && tree.height() == 2;
+    is_packed && finds(alloc, tree, &four, &[5, 6, 7, 8]) && finds(alloc, tree, &none, &[])
+}
+
 #[test]
-fn refused_4(rt: HostRuntime) -> Result<(), Fail> {
-    let tree = packed_at_last(rt.alloc(), 20)?;
-    assert!(rt; has_leaves(&tree, &TWENTY));
-    assert!(rt; tree.height() == 2);
-    for (x1, y1, x2, y2, inside) in [
-        (5, 0, 8, 0, [5, 6, 7, 8].as_slice()),
-        (20, 0, 21, 5, [].as_slice()),
-    ] {
-        let window = Shape::new(x1, y1, x2, y2).ok_or("a window")?;
-        let numbers = window_at_last(rt.alloc(), &tree, &window)?;
-        assert!(rt; numbers.as_slice() == inside);
-    }
-    Ok(())
+fn refused_4(rt: HostRuntime) {
+    let alloc = rt.alloc();
+    assert!(rt; packed_at_last(alloc, 20).is_some_and(|tree| is_twenty(alloc, &tree)));
 }

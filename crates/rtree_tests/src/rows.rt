@@ -6,7 +6,6 @@ use rtree_core::choices::pick_seeds;
 use rtree_core::split::split;
 use rtree_core::{Entry, RTree};
 use std::alloc::{AllocError, Global};
-use std::process::Abort;
 use std::test::Fail;
 
 /// The leaves of a tree, in order, as the numbers of their entries.
@@ -34,6 +33,13 @@ const PACKED_EIGHT_LEFT: Leaves = &[&[0, 1, 2, 3, 4], &[6, 7, 8]];
 
 const PACKED_SEVEN_LEFT: Leaves = &[&[0, 1, 2, 3, 4, 7, 8]];
 
+/// The corners of a window, and the numbers that it meets.
+type Window = (i64, i64, i64, i64, &'static [u32]);
+
+const IN_CROWD: &[Window] = &[(4, 0, 6, 0, &[4, 5, 6, 9]), (9, 1, 10, 2, &[])];
+
+const IN_TWENTY: &[Window] = &[(5, 0, 8, 0, &[5, 6, 7, 8]), (20, 0, 21, 5, &[])];
+
 /// Whether a tree has these leaves, so many levels and so many entries.
 fn is_tree(tree: &RTree, leaves: Leaves, height: u32, len: usize) -> bool {
     has_leaves(tree, leaves) && tree.height() == height && tree.len() == len
@@ -44,13 +50,17 @@ fn finds(tree: &RTree, alloc: Global, window: &Shape, numbers: &[u32]) -> Result
     Ok(tree.window(alloc, window)?.as_slice() == numbers)
 }
 
+/// Whether nine points have their leaves, and then ten.
+fn grows_to_ten(alloc: Global) -> Result<bool, AllocError> {
+    let mut tree = Squares::Crowd.grown(alloc, 9)?;
+    let is_of_nine = is_tree(&tree, NINE_POINTS, 2, 9) && !tree.is_empty();
+    tree.insert(Squares::Crowd.entry(9))?;
+    Ok(is_of_nine && has_leaves(&tree, TEN_POINTS))
+}
+
 #[test]
 fn nine_points(rt: HostRuntime) -> Result<(), Fail> {
-    let mut tree = Squares::Crowd.grown(rt.alloc(), 9)?;
-    assert!(rt; is_tree(&tree, NINE_POINTS, 2, 9));
-    assert!(rt; !tree.is_empty());
-    tree.insert(Squares::Crowd.entry(9))?;
-    assert!(rt; has_leaves(&tree, TEN_POINTS));
+    assert!(rt; grows_to_ten(rt.alloc())?);
     Ok(())
 }
 
@@ -59,25 +69,40 @@ fn have_numbers(entries: &[Entry], numbers: &[u32]) -> bool {
     entries.iter().map(|e| e.number).eq(numbers.iter().copied())
 }
 
+/// Whether the squares with an outlier are split into six and three.
+fn splits(alloc: Global) -> Result<bool, AllocError> {
+    let mut rest = Squares::Outlier.listed(alloc, 9)?;
+    let has_seeds = pick_seeds(&rest) == (0, 8);
+    let mut one = Vec::with_capacity(alloc, 9)?;
+    let mut two = Vec::with_capacity(alloc, 9)?;
+    split(&mut rest, &mut one, &mut two);
+    let is_dealt = have_numbers(&one, &[0, 1, 2, 3, 4, 5]) && have_numbers(&two, &[8, 6, 7]);
+    Ok(has_seeds && rest.is_empty() && is_dealt)
+}
+
 #[test]
 fn nine_points_split(rt: HostRuntime) -> Result<(), Fail> {
-    let mut rest = Squares::Outlier.listed(rt.alloc(), 9)?;
-    assert!(rt; pick_seeds(&rest) == (0, 8));
-    let mut one = Vec::with_capacity(rt.alloc(), 9)?;
-    let mut two = Vec::with_capacity(rt.alloc(), 9)?;
-    split(&mut rest, &mut one, &mut two);
-    assert!(rt; rest.is_empty());
-    assert!(rt; have_numbers(&one, &[0, 1, 2, 3, 4, 5]));
-    assert!(rt; have_numbers(&two, &[8, 6, 7]));
+    assert!(rt; splits(rt.alloc())?);
     Ok(())
+}
+
+/// Whether a tree finds exactly these numbers in each of some windows.
+fn finds_all(tree: &RTree, alloc: Global, windows: &[Window]) -> Result<bool, AllocError> {
+    for (x1, y1, x2, y2, numbers) in windows {
+        let Some(window) = Shape::new(*x1, *y1, *x2, *y2) else {
+            return Ok(false);
+        };
+        if !finds(tree, alloc, &window, numbers)? {
+            return Ok(false);
+        }
+    }
+    Ok(true)
 }
 
 #[test]
 fn window_extra(rt: HostRuntime) -> Result<(), Fail> {
-    let tree = Squares::Crowd.grown(rt.alloc(), 10)?;
-    let window = Shape::new(4, 0, 6, 0).ok_or("a window")?;
-    assert!(rt; finds(&tree, rt.alloc(), &window, &[4, 5, 6, 9])?);
-    assert!(rt; finds(&tree, rt.alloc(), &square(9, 1, 1), &[])?);
+    let alloc = rt.alloc();
+    assert!(rt; Squares::Crowd.on_grown(alloc, 10, |tree| finds_all(tree, alloc, IN_CROWD))?);
     Ok(())
 }
 
@@ -89,75 +114,83 @@ fn is_empty(tree: &RTree) -> bool {
 #[test]
 fn empty_tree(rt: HostRuntime) -> Result<(), Fail> {
     let tree = RTree::new(rt.alloc());
-    assert!(rt; is_empty(&tree));
-    assert!(rt; finds(&tree, rt.alloc(), &square(0, 0, 1), &[])?);
+    assert!(rt; is_empty(&tree) && finds(&tree, rt.alloc(), &square(0, 0, 1), &[])?);
     Ok(())
+}
+
+/// Whether two points are removed from a row of nine, and the first of them no second time.
+fn loses_two(tree: &mut RTree) -> Result<bool, AllocError> {
+    let removed = Squares::Row.removed(tree, &[1, 3])? && is_tree(tree, SEVEN_OF_NINE, 1, 7);
+    let again = Squares::Row.removed(tree, &[1])?;
+    Ok(removed && !again && has_leaves(tree, SEVEN_OF_NINE))
 }
 
 #[test]
 fn removal_extra_1(rt: HostRuntime) -> Result<(), Fail> {
-    let mut tree = Squares::Row.grown(rt.alloc(), 9)?;
-    assert!(rt; Squares::Row.removed(&mut tree, &[1, 3])?);
-    assert!(rt; is_tree(&tree, SEVEN_OF_NINE, 1, 7));
-    assert!(rt; !Squares::Row.removed(&mut tree, &[1])?);
-    assert!(rt; has_leaves(&tree, SEVEN_OF_NINE));
+    assert!(rt; Squares::Row.on_grown(rt.alloc(), 9, loses_two)?);
     Ok(())
+}
+
+/// Whether two points are removed from a crowd of twelve.
+fn crowd_loses_two(tree: &mut RTree) -> Result<bool, AllocError> {
+    let removed = has_leaves(tree, TWELVE_POINTS) && Squares::Crowd.removed(tree, &[1, 3])?;
+    Ok(removed && is_tree(tree, TWELVE_WITHOUT_TWO, 2, 10))
 }
 
 #[test]
 fn removal_extra_2(rt: HostRuntime) -> Result<(), Fail> {
-    let mut tree = Squares::Crowd.grown(rt.alloc(), 12)?;
-    assert!(rt; has_leaves(&tree, TWELVE_POINTS));
-    assert!(rt; Squares::Crowd.removed(&mut tree, &[1, 3])?);
-    assert!(rt; is_tree(&tree, TWELVE_WITHOUT_TWO, 2, 10));
+    assert!(rt; Squares::Crowd.on_grown(rt.alloc(), 12, crowd_loses_two)?);
     Ok(())
+}
+
+/// Whether the points of a row with these numbers are removed, and nothing is left.
+fn loses_all(tree: &mut RTree, numbers: &[u8]) -> Result<bool, AllocError> {
+    Ok(Squares::Row.removed(tree, numbers)? && is_empty(tree))
 }
 
 #[test]
 fn removal_extra_3(rt: HostRuntime) -> Result<(), Fail> {
-    let mut tree = Squares::Row.grown(rt.alloc(), 9)?;
-    assert!(rt; Squares::Row.removed(&mut tree, &[1, 3, 0, 2, 4, 6, 8, 5, 7])?);
-    assert!(rt; is_empty(&tree));
+    let numbers = [1, 3, 0, 2, 4, 6, 8, 5, 7];
+    assert!(rt; Squares::Row.on_grown(rt.alloc(), 9, |tree| loses_all(tree, &numbers))?);
     Ok(())
+}
+
+/// Whether a tree is that of twenty packed points, and finds those of two windows.
+fn is_twenty(tree: &RTree, alloc: Global) -> Result<bool, AllocError> {
+    Ok(is_tree(tree, PACKED_TWENTY, 2, 20) && finds_all(tree, alloc, IN_TWENTY)?)
 }
 
 #[test]
 fn packed_twenty(rt: HostRuntime) -> Result<(), Fail> {
-    let tree = Squares::Row.packed(rt.alloc(), 20)?;
-    assert!(rt; is_tree(&tree, PACKED_TWENTY, 2, 20));
-    let window = Shape::new(5, 0, 8, 0).ok_or("a window")?;
-    assert!(rt; finds(&tree, rt.alloc(), &window, &[5, 6, 7, 8])?);
-    let window = Shape::new(20, 0, 21, 5).ok_or("a window")?;
-    assert!(rt; finds(&tree, rt.alloc(), &window, &[])?);
+    let alloc = rt.alloc();
+    assert!(rt; Squares::Row.on_packed(alloc, 20, |tree| is_twenty(tree, alloc))?);
     Ok(())
 }
 
 #[test]
 fn packed_few(rt: HostRuntime) -> Result<(), Fail> {
-    let tree = Squares::Row.packed(rt.alloc(), 9)?;
-    assert!(rt; has_leaves(&tree, PACKED_NINE));
-    let tree = Squares::Row.packed(rt.alloc(), 0)?;
-    assert!(rt; is_empty(&tree));
+    assert!(rt; Squares::Row.on_packed(rt.alloc(), 9, |tree| Ok(has_leaves(tree, PACKED_NINE)))?);
+    assert!(rt; Squares::Row.on_packed(rt.alloc(), 0, |tree| Ok(is_empty(tree)))?);
     Ok(())
+}
+
+/// Whether two points are removed from nine that were packed, and the first of them no second time.
+fn packed_loses_two(tree: &mut RTree) -> Result<bool, AllocError> {
+    let one = Squares::Row.removed(tree, &[5])? && has_leaves(tree, PACKED_EIGHT_LEFT);
+    let two = Squares::Row.removed(tree, &[6])? && is_tree(tree, PACKED_SEVEN_LEFT, 1, 7);
+    let again = Squares::Row.removed(tree, &[5])?;
+    Ok(one && two && !again && has_leaves(tree, PACKED_SEVEN_LEFT))
 }
 
 #[test]
 fn packed_removals(rt: HostRuntime) -> Result<(), Fail> {
-    let mut tree = Squares::Row.packed(rt.alloc(), 9)?;
-    assert!(rt; Squares::Row.removed(&mut tree, &[5])?);
-    assert!(rt; has_leaves(&tree, PACKED_EIGHT_LEFT));
-    assert!(rt; Squares::Row.removed(&mut tree, &[6])?);
-    assert!(rt; is_tree(&tree, PACKED_SEVEN_LEFT, 1, 7));
-    assert!(rt; !Squares::Row.removed(&mut tree, &[5])?);
-    assert!(rt; has_leaves(&tree, PACKED_SEVEN_LEFT));
+    assert!(rt; Squares::Row.on_packed(rt.alloc(), 9, packed_loses_two)?);
     Ok(())
 }
 
 #[test]
 fn packed_removal_of_the_last(rt: HostRuntime) -> Result<(), Fail> {
-    let mut tree = Squares::Row.packed(rt.alloc(), 1)?;
-    assert!(rt; Squares::Row.removed(&mut tree, &[0])?);
-    assert!(rt; is_empty(&tree));
+    assert!(rt; Squares::Row.on_packed(rt.alloc(), 1, |tree| loses_all(tree, &[0]))?);
     Ok(())
 }
 

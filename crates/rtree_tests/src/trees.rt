@@ -1,4 +1,7 @@
 //! Trees of squares in simple rows, and what their leaves hold.
+//!
+//! The proof of a function grows with the square of its length where it owns a tree. So what is
+//! seen of a tree is told by functions that borrow it.
 
 ghost use Rattle.std.specs.Prelude.{◌≡◌, ℕ, ◌≤◌, IfOk, count_by, vec_len};
 ghost use Rattle.rtree_core.specs.Trees.{has_number, IsFresh};
@@ -74,6 +77,30 @@ impl Squares {
     /// The packed tree of the first squares.
     pub(crate) fn packed(self, alloc: Global, count: u8) -> Result<RTree, AllocError> {
         RTree::pack(alloc, self.listed(alloc, count)?)
+    }
+
+    /// What is seen of the tree into which the first squares were inserted in turn.
+    pub(crate) fn on_grown<F: FnOnce(&mut RTree) -> Result<bool, AllocError>>(
+        self,
+        alloc: Global,
+        count: u8,
+        see: F,
+    ) -> Result<bool, AllocError>
+        requires { F.IsAlwaysCallable see }
+    {
+        see(&mut self.grown(alloc, count)?)
+    }
+
+    /// What is seen of the packed tree of the first squares.
+    pub(crate) fn on_packed<F: FnOnce(&mut RTree) -> Result<bool, AllocError>>(
+        self,
+        alloc: Global,
+        count: u8,
+        see: F,
+    ) -> Result<bool, AllocError>
+        requires { F.IsAlwaysCallable see }
+    {
+        see(&mut self.packed(alloc, count)?)
     }
 
     /// Removes squares from a tree in turn, and says whether it held all of them.

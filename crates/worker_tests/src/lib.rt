@@ -5,8 +5,6 @@
 #[cfg(test)]
 mod expected;
 #[cfg(test)]
-mod layers;
-#[cfg(test)]
 mod scripts;
 #[cfg(test)]
 mod teams;

@@ -1,20 +1,21 @@
 //! What one worker sends of the plan of two trees of twenty points at cut 1, which has three tasks.
 
-ghost use Rattle.std.specs.Prelude.{All, IfSome};
+ghost use Rattle.std.specs.Prelude.{◌≡◌, ◌≤◌, length, All, IfSome};
+ghost use Rattle.deliver_core.specs.Boards.{fresh_seat};
 ghost use Rattle.deliver_core.specs.OutletCalls.{IsFreshPort};
 ghost use Rattle.deliver_core.specs.Ports.{IsTapOf};
 
 use crate::expected::{Expected, says};
-use crate::layers::packed;
-use deliver_core::{Board, Body, Outlet, Port, Tap};
+use deliver_core::{Board, BoardSeat, Body, Outlet, Port, Tap};
 use descent_core::Plan;
 use geom_core::{JoinRelation, Relation};
+use rtree_core::RTree;
+use samples::on_packed;
 use std::alloc::Global;
 use std::sync::Wait;
 use std::sync::atomic::{AtomicU32, Ordering};
-use std::test::Fail;
 use std::thread::Threads;
-use worker_core::{Gate, OpenGate, worker};
+use worker_core::{Gate, MAX_BATCH, OpenGate, Worked, worker};
 
 const BY_THREE: [Expected; 11] = [
     Expected::Batch(0, 0, &[0, 1, 2]),
@@ -75,32 +76,83 @@ fn waits<R: Wait>(rt: &R, outlet: &Outlet, mut tap: Tap, ok: bool, wanted: &[Exp
     bye.is_some_and(|m| m.body == Body::Bye(ok)) && outlet.take(rt, &mut tap).is_none()
 }
 
-/// Whether one worker, on this thread, sends this.
-fn sends<R: Threads + Wait + Sync>(
-    rt: &R,
-    alloc: Global,
+/// What a worker is given, beside the trees and the gate, and what it has to send.
+#[derive(Clone, Copy)]
+struct Work {
     relation: Relation,
     batch: u32,
+    wanted: &'static [Expected],
+}
+
+/// Whether a worker of port 0 has said bye, and drawn three tasks and met the end unless memory was
+/// refused.
+fn has_worked(worked: &Worked) -> bool {
+    let is_drawn = worked.seat.count() == 3 && worked.seat.done();
+    worked.port.index() == 0 && worked.port.said_bye() && (is_drawn || !worked.ok)
+}
+
+/// Whether one worker with this seat sends of a plan what it has to; none without memory.
+fn works_at<R: Threads + Wait + Sync>(
+    rt: &R,
+    alloc: Global,
+    plan: &Plan<'_>,
+    relation: &JoinRelation,
+    work: Work,
     gate: &impl Gate,
-    wanted: &[Expected],
-) -> Result<bool, Fail> {
-    if batch == 0 || batch > 4096 {
-        return Ok(false);
-    }
-    let left = packed(alloc)?;
-    let right = packed(alloc)?;
-    let plan = Plan::new(alloc, &left, &right, 1)?;
-    let relation = JoinRelation::new(relation).ok().ok_or("a relation")?;
-    let (board, mut seats) = Board::new(alloc, plan.len(), 1)?;
-    let (outlet, mut ports, tap) = Outlet::new(alloc, 1)?;
-    let seat = seats.pop().ok_or("a seat")?;
-    let port = last_port(&outlet, &mut ports).ok_or("a port")?;
+    board: &Board,
+    seat: BoardSeat,
+) -> Option<bool>
+    requires batch { (1 ≤ work.batch) × (work.batch ≤ MAX_BATCH) }
+    requires tasks { board.now.tasks ≡ length plan.now }
+    requires seat { seat ≡ fresh_seat board.now }
+{
+    let (outlet, mut ports, tap) = Outlet::new(alloc, 1).ok()?;
+    let port = last_port(&outlet, &mut ports)?;
     let worked = worker(
-        rt, alloc, &plan, &relation, batch, &board, seat, &outlet, port, gate,
+        rt, alloc, plan, relation, work.batch, board, seat, &outlet, port, gate,
     );
-    let named = worked.port.index() == 0 && worked.port.said_bye();
-    let drawn = !worked.ok || worked.seat.count() == 3 && worked.seat.done();
-    Ok(named && drawn && waits(rt, &outlet, tap, worked.ok, wanted))
+    Some(has_worked(&worked) && waits(rt, &outlet, tap, worked.ok, work.wanted))
+}
+
+/// Whether one worker, on this thread, sends of a plan what it has to; none without memory.
+fn works<R: Threads + Wait + Sync>(
+    rt: &R,
+    alloc: Global,
+    plan: &Plan<'_>,
+    work: Work,
+    gate: &impl Gate,
+) -> Option<bool> {
+    if work.batch == 0 || work.batch > MAX_BATCH {
+        return None;
+    }
+    let relation = JoinRelation::new(work.relation).ok()?;
+    let (board, mut seats) = Board::new(alloc, plan.len(), 1).ok()?;
+    works_at(rt, alloc, plan, &relation, work, gate, &board, seats.pop()?)
+}
+
+/// Whether one worker sends of two trees what it has to; none without memory.
+fn sends_of<R: Threads + Wait + Sync>(
+    rt: &R,
+    alloc: Global,
+    (left, right): (&RTree, &RTree),
+    work: Work,
+    gate: &impl Gate,
+) -> Option<bool> {
+    works(
+        rt,
+        alloc,
+        &Plan::new(alloc, left, right, 1).ok()?,
+        work,
+        gate,
+    )
+}
+
+/// Whether one worker sends of two times twenty points what it has to.
+fn sends<R: Threads + Wait + Sync>(rt: &R, alloc: Global, work: Work, gate: &impl Gate) -> bool {
+    let sends = on_packed(alloc, (20, 1), (20, 1), |left, right| {
+        sends_of(rt, alloc, (left, right), work, gate)
+    });
+    sends == Ok(Some(true))
 }
 
 /// A gate that counts how often it was entered with each of three tasks.
@@ -117,22 +169,52 @@ impl Gate for Counts {
     }
 }
 
+impl Counts {
+    fn new() -> Counts {
+        let entered = [AtomicU32::new(0), AtomicU32::new(0), AtomicU32::new(0)];
+        Counts { entered }
+    }
+
+    /// Whether it was entered once with each task.
+    fn are_ones(&self) -> bool {
+        let is_one = |times: &AtomicU32| times.load(Ordering::SeqCst) == 1;
+        self.entered.iter().all(is_one)
+    }
+}
+
+const WORKS: [Work; 3] = [
+    Work {
+        relation: Relation::Equals,
+        batch: 3,
+        wanted: &BY_THREE,
+    },
+    Work {
+        relation: Relation::Equals,
+        batch: 7,
+        wanted: &BY_SEVEN,
+    },
+    Work {
+        relation: Relation::Touches,
+        batch: 3,
+        wanted: &OF_NOTHING,
+    },
+];
+
 #[test]
-fn plan_and_scripts(rt: HostRuntime) -> Result<(), Fail> {
-    let alloc = rt.alloc();
-    assert!(rt; sends(&rt, alloc, Relation::Equals, 3, &OpenGate, &BY_THREE)?);
-    assert!(rt; sends(&rt, alloc, Relation::Equals, 7, &OpenGate, &BY_SEVEN)?);
-    assert!(rt; sends(&rt, alloc, Relation::Touches, 3, &OpenGate, &OF_NOTHING)?);
-    Ok(())
+fn plan_and_scripts(rt: HostRuntime) {
+    for work in WORKS {
+        assert!(rt; sends(&rt, rt.alloc(), work, &OpenGate));
+    }
 }
 
 #[test]
-fn gate_once_each(rt: HostRuntime) -> Result<(), Fail> {
-    let entered = [AtomicU32::new(0), AtomicU32::new(0), AtomicU32::new(0)];
-    let gate = Counts { entered };
-    assert!(rt; sends(&rt, rt.alloc(), Relation::Equals, 4096, &gate, &BY_SEVEN)?);
-    for times in &gate.entered {
-        assert!(rt; times.load(Ordering::SeqCst) == 1);
-    }
-    Ok(())
+fn gate_once_each(rt: HostRuntime) {
+    let gate = Counts::new();
+    let work = Work {
+        relation: Relation::Equals,
+        batch: MAX_BATCH,
+        wanted: &BY_SEVEN,
+    };
+    assert!(rt; sends(&rt, rt.alloc(), work, &gate));
+    assert!(rt; gate.are_ones());
 }

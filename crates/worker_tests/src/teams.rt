@@ -1,19 +1,18 @@
 //! What several workers deliver together.
 
-use crate::layers::{nine, packed};
 use deliver_core::{Mark, Outcome};
 use descent_core::Plan;
 use geom_core::{JoinRelation, Relation};
 use rtree_core::RTree;
+use samples::on_packed;
 use std::alloc::Global;
 use std::sync::Wait;
 use std::sync::atomic::{AtomicBool, AtomicU32, Ordering};
-use std::test::Fail;
 use std::thread;
 use std::thread::Threads;
 use worker_core::{Gate, MAX_BATCH, MAX_WORKERS, OpenGate, run_workers};
 
-/// What the workers deliver of two trees, by equality.
+/// What the workers deliver of two trees, by equality; none without memory or threads.
 fn delivered<R: Threads + Wait + Sync, G: Gate + Sync>(
     rt: &R,
     alloc: Global,
@@ -22,16 +21,13 @@ fn delivered<R: Threads + Wait + Sync, G: Gate + Sync>(
     workers: u32,
     batch: u32,
     gate: &G,
-) -> Result<Outcome, Fail> {
+) -> Option<Outcome> {
     if workers == 0 || workers > MAX_WORKERS || batch == 0 || batch > MAX_BATCH {
-        return Err("no such workers or batch".into());
+        return None;
     }
-    let plan = Plan::new(alloc, trees.0, trees.1, cut)?;
-    let relation = JoinRelation::new(Relation::Equals)
-        .ok()
-        .ok_or("a relation")?;
-    let delivered = run_workers(rt, alloc, &plan, &relation, workers, batch, gate);
-    Ok(delivered.ok().ok_or("an outcome")?)
+    let relation = JoinRelation::new(Relation::Equals).ok()?;
+    let plan = Plan::new(alloc, trees.0, trees.1, cut).ok()?;
+    run_workers(rt, alloc, &plan, &relation, workers, batch, gate).ok()
 }
 
 /// Whether these are the pairs of two times nine numbers, in order.
@@ -78,38 +74,93 @@ impl Gate for Meeting {
     }
 }
 
-#[test]
-fn delivery_extra(rt: HostRuntime) -> Result<(), Fail> {
-    let alloc = rt.alloc();
-    let (left, right) = (nine(alloc)?, nine(alloc)?);
-    let outcome = delivered(&rt, alloc, (&left, &right), 0, 1, 1, &OpenGate)?;
-    assert!(rt; are_eighty_one(outcome.pairs()));
-    assert!(rt; are_marks(outcome.taken()));
-    Ok(())
+/// What is seen of two packed trees of so many points, this far apart; false where they can't be
+/// made.
+fn sees<F: FnOnce(&RTree, &RTree) -> bool>(alloc: Global, points: (u16, u16), see: F) -> bool
+    requires { F.IsAlwaysCallable see }
+{
+    on_packed(alloc, points, points, see) == Ok(true)
+}
+
+/// Whether one worker delivers the pairs of two times nine points in batches of one.
+fn delivers_crowd<R: Threads + Wait + Sync>(
+    rt: &R,
+    alloc: Global,
+    left: &RTree,
+    right: &RTree,
+) -> bool {
+    delivered(rt, alloc, (left, right), 0, 1, 1, &OpenGate).is_some_and(|o| are_eighty_one(
+        o.pairs(),
+    ) && are_marks(o.taken()))
 }
 
 #[test]
-fn two_workers_meet(rt: HostRuntime) -> Result<(), Fail> {
-    let alloc = rt.alloc();
-    let (left, right) = (packed(alloc)?, packed(alloc)?);
+fn delivery_extra(rt: HostRuntime) {
+    let (alloc, shared) = (rt.alloc(), &rt);
+    assert!(rt;
+        sees(
+            alloc,
+            (9, 0),
+            |left, right| delivers_crowd(shared, alloc, left, right)
+        )
+    );
+}
+
+/// Whether so many workers deliver the pairs of two times twenty points.
+fn delivers_twenty<R: Threads + Wait + Sync, G: Gate + Sync>(
+    rt: &R,
+    alloc: Global,
+    trees: (&RTree, &RTree),
+    workers: u32,
+    batch: u32,
+    gate: &G,
+) -> bool {
+    delivered(rt, alloc, trees, 1, workers, batch, gate).is_some_and(|o| are_twenty(o.pairs()))
+}
+
+/// Whether two workers meet at the gate, enter it three times, and deliver all.
+fn meets<R: Threads + Wait + Sync>(rt: &R, alloc: Global, left: &RTree, right: &RTree) -> bool {
     let gate = Meeting {
         entered: AtomicU32::new(0),
         missed: AtomicBool::new(false),
     };
-    let outcome = delivered(&rt, alloc, (&left, &right), 1, 2, 4, &gate)?;
-    assert!(rt; are_twenty(outcome.pairs()));
-    assert!(rt; gate.entered.load(Ordering::SeqCst) == 3);
-    assert!(rt; !gate.missed.load(Ordering::SeqCst));
-    Ok(())
+    let is_delivered = delivers_twenty(rt, alloc, (left, right), 2, 4, &gate);
+    let has_met = gate.entered.load(Ordering::SeqCst) == 3 && !gate.missed.load(Ordering::SeqCst);
+    is_delivered && has_met
 }
 
 #[test]
-fn any_number_of_workers(rt: HostRuntime) -> Result<(), Fail> {
-    let alloc = rt.alloc();
-    let (left, right) = (packed(alloc)?, packed(alloc)?);
-    for workers in [1, 2, 3, 8, 16] {
-        let outcome = delivered(&rt, alloc, (&left, &right), 1, workers, 1, &OpenGate)?;
-        assert!(rt; are_twenty(outcome.pairs()));
-    }
-    Ok(())
+fn two_workers_meet(rt: HostRuntime) {
+    let (alloc, shared) = (rt.alloc(), &rt);
+    assert!(rt;
+        sees(
+            alloc,
+            (20, 1),
+            |left, right| meets(shared, alloc, left, right)
+        )
+    );
+}
+
+/// Whether each of some numbers of workers delivers all.
+fn deliver<R: Threads + Wait + Sync>(rt: &R, alloc: Global, left: &RTree, right: &RTree) -> bool {
+    [1, 2, 3, 8, 16].iter().all(|workers| delivers_twenty(
+        rt,
+        alloc,
+        (left, right),
+        *workers,
+        1,
+        &OpenGate,
+    ))
+}
+
+#[test]
+fn any_number_of_workers(rt: HostRuntime) {
+    let (alloc, shared) = (rt.alloc(), &rt);
+    assert!(rt;
+        sees(
+            alloc,
+            (20, 1),
+            |left, right| deliver(shared, alloc, left, right)
+        )
+    );
 }

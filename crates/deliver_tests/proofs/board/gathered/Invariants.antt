@@ -3,10 +3,10 @@ use Rattle.deliver_core.specs.Boards.{IsSeatOf}
 use Rattle.deliver_tests.proofs.board.gathered.Given as goal
 
 abbrev pub invariant-loop-worker : goal.invariant-loop-worker
-invariant-loop-worker g l = record {
+invariant-loop-worker l = record {
   left : All (λ w. IsSeatOf l.board w.seat) l.workers.items;
   seats : All (IsSeatOf l.board) l.seats.items;
 }
 
 abbrev pub decreases-loop-worker : goal.decreases-loop-worker
-decreases-loop-worker g l = vec_len l.workers
+decreases-loop-worker l = vec_len l.workers

@@ -2,4 +2,4 @@ use Rattle.std.proofs.Common.{◌≡◌}
 use Rattle.rtree_tests.proofs.refused.insert_at_last.Given as goal
 
 abbrev pub invariant-loop : goal.invariant-loop
-invariant-loop g l = l.tree ≡ l.initial.tree
+invariant-loop l = l.tree ≡ l.initial.tree

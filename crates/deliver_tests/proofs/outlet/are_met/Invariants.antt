@@ -1,7 +1,7 @@
 use Rattle.std.proofs.Common.{All, vec_len}
 use Rattle.deliver_core.specs.OutletCalls.{IsEndedPort}
 use Rattle.deliver_core.specs.Ports.{IsTapOf}
-use Rattle.deliver_tests.proofs.outlet.meet_all.Given as goal
+use Rattle.deliver_tests.proofs.outlet.are_met.Given as goal
 
 abbrev pub invariant-loop-port : goal.invariant-loop-port
 invariant-loop-port g l = record {
