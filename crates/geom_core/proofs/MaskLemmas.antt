@@ -1,5 +1,6 @@
 -- Reading a mask: nine letters stand for one mask at most, and what reading gives follows from the bytes.
-use Rattle.std.proofs.Common.{◌≡◌, ◌≢◌, ℕ, ◌+◌, ◌<◌, ◌≤◌, ◌==◌, ◌↔◌, if◌then◌else◌, List, [], ◌∷◌, length, slice_index, get_or, map, refl, sym, ap, subst, ◌∙◌, arith, pos, Option, Some, None, Result, Ok, Err, below_more}
+use Rattle.std.proofs.Common.{◌≡◌, ◌≢◌, ℕ, ◌+◌, ◌<◌, ◌≤◌, ◌==◌, ◌↔◌, if◌then◌else◌, List, [], ◌∷◌, length, slice_index, get_or, map, refl, sym, ap, subst, ◌∙◌}
+use Rattle.std.proofs.Common.{arith, pos, Option, Some, None, Result, Ok, Err, below_more}
 use Rattle.std.specs.Char.{to_ascii_uppercase}
 use Rattle.std.specs.Str.{str_to_ascii_uppercase}
 use Rattle.std.proofs.lemmas.List.{get_or-map, length-map}

@@ -6,7 +6,8 @@ use Rattle.geom_core.specs.declared.span.Span.{Span}
 use Rattle.geom_core.specs.declared.shape.Shape.{Shape}
 use Rattle.geom_core.specs.declared.matrix.Matrix.{Matrix}
 use Rattle.geom_core.specs.declared.meeting.Meeting.{Meeting}
-use Rattle.geom_core.specs.declared.meeting.Meeting.TheVariants.{Disjoint, Meet, Overlap, Inside, CoveredBy, Contains, Covers, Equal, PointDisjoint, PointAtEnd, PointInside, DisjointPoint, EndAtPoint, ContainsPoint, PointsDisjoint, PointsEqual}
+use Rattle.geom_core.specs.declared.meeting.Meeting.TheVariants.{Disjoint, Meet, Overlap, Inside, CoveredBy, Contains, Covers, Equal, PointDisjoint, PointAtEnd}
+use Rattle.geom_core.specs.declared.meeting.Meeting.TheVariants.{PointInside, DisjointPoint, EndAtPoint, ContainsPoint, PointsDisjoint, PointsEqual}
 use Rattle.geom_core.specs.declared.relation.Relation.TheVariants as relations
 use Rattle.geom_core.specs.Meetings.{IsMeeting}
 use Rattle.geom_core.specs.Axes.{axis_of, entries_of}

@@ -6,7 +6,8 @@ use Rattle.geom_core.specs.declared.span.Span.{Span}
 use Rattle.geom_core.specs.declared.part.Parts.{Parts}
 use Rattle.geom_core.specs.declared.meeting.Shared.{Shared}
 use Rattle.geom_core.specs.declared.meeting.Meeting.{Meeting}
-use Rattle.geom_core.specs.declared.meeting.Meeting.TheVariants.{Disjoint, Meet, Overlap, Inside, CoveredBy, Contains, Covers, Equal, PointDisjoint, PointAtEnd, PointInside, DisjointPoint, EndAtPoint, ContainsPoint, PointsDisjoint, PointsEqual}
+use Rattle.geom_core.specs.declared.meeting.Meeting.TheVariants.{Disjoint, Meet, Overlap, Inside, CoveredBy, Contains, Covers, Equal, PointDisjoint, PointAtEnd}
+use Rattle.geom_core.specs.declared.meeting.Meeting.TheVariants.{PointInside, DisjointPoint, EndAtPoint, ContainsPoint, PointsDisjoint, PointsEqual}
 use Rattle.geom_core.specs.Cells.{line, IsInner}
 use Rattle.geom_core.specs.Meetings.{IsMeeting, interior_of, boundary_of, exterior_of}
 use Rattle.geom_core.proofs.Zones.{IsEnd, IsOutside, IsShared, gap_right, end_is_line, point_is_line}

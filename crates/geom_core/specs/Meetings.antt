@@ -6,7 +6,12 @@ use Rattle.geom_core.specs.declared.part.Parts.{Parts}
 use Rattle.geom_core.specs.declared.meeting.Shared.{Shared}
 use Rattle.geom_core.specs.declared.meeting.Shared.TheVariants.{Nothing, Point, Interval}
 use Rattle.geom_core.specs.declared.meeting.Meeting.{Meeting}
-use Rattle.geom_core.specs.declared.meeting.Meeting.TheVariants.{Disjoint, Meet, Overlap, Inside, CoveredBy, Contains, Covers, Equal, PointDisjoint, PointAtEnd, PointInside, DisjointPoint, EndAtPoint, ContainsPoint, PointsDisjoint, PointsEqual}
+use Rattle.geom_core.specs.declared.meeting.Meeting.TheVariants.{Disjoint, Meet, Overlap, Inside}
+use Rattle.geom_core.specs.declared.meeting.Meeting.TheVariants.{CoveredBy, Contains, Covers, Equal}
+use Rattle.geom_core.specs.declared.meeting.Meeting.TheVariants.{PointDisjoint, PointAtEnd}
+use Rattle.geom_core.specs.declared.meeting.Meeting.TheVariants.{PointInside, DisjointPoint}
+use Rattle.geom_core.specs.declared.meeting.Meeting.TheVariants.{EndAtPoint, ContainsPoint}
+use Rattle.geom_core.specs.declared.meeting.Meeting.TheVariants.{PointsDisjoint, PointsEqual}
 
 -- the order of the four ends, from left to right or from right to left
 abbrev pub IsMeeting : Meeting → Span → Span → Type 0

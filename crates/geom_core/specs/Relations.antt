@@ -1,6 +1,7 @@
 -- Relations of two shapes: their names, their masks, when they hold, and which of them hold for
 -- disjoint shapes.
-use Rattle.std.specs.Prelude.{◌≡◌, ⊤, ℕ, ◌==◌, ◌&&◌, ◌⊎◌, nat_lt, if◌then◌else◌, List, [], ◌∷◌, codes}
+use Rattle.std.specs.Prelude.{◌≡◌, ⊤, ℕ, ◌==◌, ◌&&◌, ◌⊎◌, nat_lt, if◌then◌else◌, List, [], ◌∷◌}
+use Rattle.std.specs.Prelude.{codes}
 use Rattle.std.specs.Str.{str_to_ascii_lowercase}
 use Rattle.geom_core.specs.declared.extent.Extent.TheVariants.{Empty, Point, Line}
 use Rattle.geom_core.specs.declared.part.Parts.{Parts}
@@ -10,7 +11,9 @@ use Rattle.geom_core.specs.declared.pattern_value.PatternValue.{PatternValue}
 use Rattle.geom_core.specs.declared.pattern_value.PatternValue.TheVariants.{Any, NotEmpty, Exactly}
 use Rattle.geom_core.specs.declared.mask.Mask.{Mask as MaskType}
 use Rattle.geom_core.specs.declared.relation.Relation.{Relation}
-use Rattle.geom_core.specs.declared.relation.Relation.TheVariants.{Mask, Disjoint, Intersects, Touches, Crosses, Within, Contains, Overlaps, Equals}
+use Rattle.geom_core.specs.declared.relation.Relation.TheVariants.{Mask, Disjoint, Intersects}
+use Rattle.geom_core.specs.declared.relation.Relation.TheVariants.{Touches, Crosses, Within}
+use Rattle.geom_core.specs.declared.relation.Relation.TheVariants.{Contains, Overlaps, Equals}
 use Rattle.geom_core.specs.Cells.{Meets}
 use Rattle.geom_core.specs.Shapes.{dim_of}
 use Rattle.geom_core.specs.Matrices.{IsMatrix}

@@ -2,7 +2,9 @@
 use Rattle.std.specs.Prelude.{ℤ}
 use Rattle.geom_core.specs.declared.shape.Shape.{Shape}
 use Rattle.geom_core.specs.declared.relation.Relation.{Relation}
-use Rattle.geom_core.specs.declared.relation.Relation.TheVariants.{Mask, Disjoint, Intersects, Touches, Crosses, Within, Contains, Overlaps, Equals}
+use Rattle.geom_core.specs.declared.relation.Relation.TheVariants.{Mask, Disjoint, Intersects}
+use Rattle.geom_core.specs.declared.relation.Relation.TheVariants.{Touches, Crosses, Within}
+use Rattle.geom_core.specs.declared.relation.Relation.TheVariants.{Contains, Overlaps, Equals}
 use Rattle.geom_core.specs.Cells.{Meets, IsIn}
 use Rattle.geom_core.specs.Matrices.{IsInterior}
 use Rattle.geom_core.specs.Relations.{Holds}

@@ -134,7 +134,8 @@ impl Default for Mask {
     }
 }
 
-ghost use Rattle.std.specs.Prelude.{◌≡◌, ℕ, ◌+◌, ◌<◌, ◌≤◌, ◌↔◌, length, slice_index, IfOk, IfErr, IsTrue};
+ghost use Rattle.std.specs.Prelude.{◌≡◌, ℕ, ◌+◌, ◌<◌, ◌≤◌, ◌↔◌, length, slice_index, IfOk, IfErr};
+ghost use Rattle.std.specs.Prelude.{IsTrue};
 ghost use Rattle.geom_core.specs.Masks.{FitsRow, IsLetterOf, SpellsRow, SpellsRows, TellsBad};
 
 /// The values that the nine bytes stand for, row by row.

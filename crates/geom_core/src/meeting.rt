@@ -1,7 +1,8 @@
 //! How two intervals of one axis lie to each other, and what their parts then share.
 
 ghost use Rattle.std.specs.Prelude.{◌≡◌, ◌<ℤ◌};
-ghost use Rattle.geom_core.specs.Meetings.{IsMeeting, shares, interior_of, boundary_of, exterior_of};
+ghost use Rattle.geom_core.specs.Meetings.{IsMeeting, shares, interior_of, boundary_of};
+ghost use Rattle.geom_core.specs.Meetings.{exterior_of};
 
 use crate::part::Parts;
 use crate::span::Span;

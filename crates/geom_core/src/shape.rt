@@ -19,7 +19,8 @@ pub struct Shape {
 impl Shape {
     ghost use Rattle.std.specs.Prelude.{◌≡◌, ℕ, ◌+◌, ◌*◌, ◌≤◌, ◌-ℤ◌, ◌↔◌, IsTrue, IsSome, IfSome};
     ghost use Rattle.geom_core.specs.Cells.{Meets, IsIn};
-    ghost use Rattle.geom_core.specs.Shapes.{x1, y1, x2, y2, AreCorners, HasCorners, area_of, greatest_area, cover_of, dim_of};
+    ghost use Rattle.geom_core.specs.Shapes.{x1, y1, x2, y2, AreCorners, HasCorners, area_of};
+    ghost use Rattle.geom_core.specs.Shapes.{greatest_area, cover_of, dim_of};
 
     /// The shape from `(x1, y1)` to `(x2, y2)`, or `None` where these are out of order or a
     /// coordinate is out of range.

@@ -1,5 +1,6 @@
 -- The steps of a split, and what every split keeps.
-use Rattle.std.proofs.Common.{arith, ◌≡◌, ◌≢◌, ℕ, ◌+◌, ◌<◌, ◌≤◌, true, false, cond, suc, List, [], ◌∷◌, ◌++◌, length, get_or, take, drop, length-append, inl, inr, sym, ◌∙◌, ap, subst}
+use Rattle.std.proofs.Common.{arith, ◌≡◌, ◌≢◌, ℕ, ◌+◌, ◌<◌, ◌≤◌, true, false, cond, suc, List, [], ◌∷◌, ◌++◌, length, get_or, take, drop, length-append, inl}
+use Rattle.std.proofs.Common.{inr, sym, ◌∙◌, ap, subst}
 use Rattle.std.specs.Prelude.{remove, All, sum_by}
 use Rattle.std.proofs.lemmas.Bool.{cases_lt}
 use Rattle.std.proofs.Math.Seq.{drop-cons}

@@ -32,7 +32,8 @@ module _ (scale : Scale) where
   -- ---- of a text with a raw form
 
   module _ (text : List ℕ) (keyword : Keyword) (lists : List (List RawPoint)) (raw : Raw text keyword lists) where
-    forms_here : (l : Keyword) (ys : List (List RawPoint)) (s : Shape) → Raw text l ys → Forms l (positions scale ys) s → Forms keyword (positions scale lists) s
+    forms_here : (l : Keyword) (ys : List (List RawPoint)) (s : Shape) → Raw text l ys → Forms l (positions scale ys) s
+        → Forms keyword (positions scale lists) s
     forms_here l ys s h f =
         let same = one_raw_form text l keyword ys lists h raw in
         subst (λ v. Forms v (positions scale lists) s) same.0 (subst (λ v. Forms l (positions scale v) s) same.1 f)

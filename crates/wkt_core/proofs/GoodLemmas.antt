@@ -79,7 +79,8 @@ module _ (scale : Scale) where
       let y = in_range_value p.y h.0.1.in_range in
       rw (some_both (number_read scale p.x).value (number_read scale p.y).value x y) (points_in_range ps h.1)
 
-  pub lists_good : (lists : List (List RawPoint)) → list_all (are_whole scale) lists ≡ true → list_all (are_in_range scale) lists ≡ true → AllNumbersGood scale lists
+  pub lists_good : (lists : List (List RawPoint)) → list_all (are_whole scale) lists ≡ true → list_all (are_in_range scale) lists ≡ true
+      → AllNumbersGood scale lists
   lists_good [] w r = tt
   lists_good (ps ∷ lists) w r =
       let whole = both_parts _ _ w in

@@ -32,11 +32,13 @@ module _ (scale : Scale) where
   read_forms keyword read text [] s a h (m, e, word, body, end) r range = absurd r.alone
   read_forms keyword read text (ps ∷ []) s a h (m, e, word, body, end) r range =
       let kept : IsKeptOf read.first.walk (way_of (map (position scale) ps)) = r.alone.1.walk (both_parts _ _ range).0 in
-      kept_draws keyword (map (position scale) ps) s (alone keyword ps _ e body) (walk_drawn keyword read.first.walk (way_of (map (position scale) ps)) s kept h)
+      kept_draws keyword (map (position scale) ps) s (alone keyword ps _ e body)
+      (walk_drawn keyword read.first.walk (way_of (map (position scale) ps)) s kept h)
   read_forms keyword read text (ps ∷ qs ∷ lists) s a h (m, e, word, body, end) r range = absurd (false≢true (sym r.alone ∙ a))
 
   pub forms_read : (keyword : Keyword) (read : ReadLists) (lists : List (List RawPoint)) (s : Shape) → AreReadOf scale read lists
-      → IsTrue (list_all (are_in_range scale) lists) → Forms keyword (positions scale lists) s → IsDrawnBy keyword read.first.walk.turns.items read.first.walk.last s
+      → IsTrue (list_all (are_in_range scale) lists) → Forms keyword (positions scale lists) s
+      → IsDrawnBy keyword read.first.walk.turns.items read.first.walk.last s
   forms_read keyword read [] s r range h = absurd h
   forms_read keyword read (ps ∷ []) s r range h =
       let kept : IsKeptOf read.first.walk (way_of (map (position scale) ps)) = r.alone.1.walk (both_parts _ _ range).0 in

@@ -1,5 +1,6 @@
 -- A walk from point to point: what is kept of it, and which kept points draw a shape.
-use Rattle.std.specs.Prelude.{◌≡◌, ◌<◌, ℤ, int_lt, Bool, true, false, ◌&&◌, ◌||◌, ◌-◌, List, [], ◌∷◌, ◌++◌}
+use Rattle.std.specs.Prelude.{◌≡◌, ◌<◌, ℤ, int_lt, Bool, true, false, ◌&&◌, ◌||◌, ◌-◌, List, []}
+use Rattle.std.specs.Prelude.{◌∷◌, ◌++◌}
 use Rattle.std.specs.Prelude.{length, take, slice_get, Option, Some, None, if◌then◌else◌}
 use Rattle.std.specs.Ordering.{int_eq}
 use Rattle.geom_core.specs.declared.shape.Shape.{Shape}

@@ -21,6 +21,37 @@ impl Keyword {
         ensures none { IfNone result
             ((keyword : Keyword) (rest : List ℕ) → TakesWord text.now keyword rest → ⊥) }
     {
+        match Keyword::read_capitals(text) {
+            Some(read) => Some(read),
+            None => Keyword::read_any_case(text),
+        }
+    }
+
+    /// The keyword at the front of a text in capitals, as it mostly is, and what follows it.
+    #[inline(always)]
+    fn read_capitals(text: &[u8]) -> Option<(Keyword, &[u8])>
+        ensures { IfSome result (λ r. TakesWord text.now r.0 r.1.now) }
+    {
+        if let Some(rest) = text.strip_prefix(b"POINT") {
+            return Some((Keyword::Point, rest));
+        }
+        if let Some(rest) = text.strip_prefix(b"POLYGON") {
+            return Some((Keyword::Polygon, rest));
+        }
+        if let Some(rest) = text.strip_prefix(b"LINESTRING") {
+            return Some((Keyword::LineString, rest));
+        }
+        None
+    }
+
+    /// The keyword at the front of a text, in any case, and what follows it.
+    #[cold]
+    #[inline(never)]
+    fn read_any_case(text: &[u8]) -> Option<(Keyword, &[u8])>
+        ensures some { IfSome result (λ r. TakesWord text.now r.0 r.1.now) }
+        ensures none { IfNone result
+            ((keyword : Keyword) (rest : List ℕ) → TakesWord text.now keyword rest → ⊥) }
+    {
         if let Some(rest) = skip_word(text, b"point") {
             return Some((Keyword::Point, rest));
         }

@@ -10,60 +10,70 @@ use crate::read_list::{ReadList, ReadLists};
 use crate::scale::Scale;
 use crate::token::{Next, read_next, skip_blanks, skip_symbol};
 
-/// What is read of the list of points at the front of a text, and what follows it.
-pub(crate) fn read_points(text: &[u8], scale: Scale) -> Option<(ReadList, &[u8])>
-    ensures some { IfSome result (λ r.
-        (ps : List RawPoint) × TakesPoints text.now ps r.1.now × IsReadOf scale r.0 ps) }
+/// Reads the list of points at the front of a text into one of no points, and answers what
+/// follows it.
+pub(crate) fn read_points<'a>(text: &'a [u8], scale: Scale, list: &mut ReadList) -> Option<&'a [u8]>
+    requires { IsReadOf scale list.old [] }
+    ensures some { IfSome result (λ rest.
+        (ps : List RawPoint) × TakesPoints text.now ps rest.now × IsReadOf scale list.new ps) }
     ensures none { IfNone result
         ((ps : List RawPoint) (rest : List ℕ) → TakesPoints text.now ps rest → ⊥) }
 {
-    let mut list = ReadList::new();
     let mut rest = skip_symbol(text, b'(')?;
     loop {
         let (point, after) = read_point(skip_blanks(rest), scale)?;
         list.push(point);
         match read_next(after)? {
             Next::Item(behind) => rest = behind,
-            Next::End(behind) => return Some((list, behind)),
+            Next::End(behind) => return Some(behind),
         }
     }
 }
 
-/// What is read of the one point in parentheses at the front of a text, and what follows it.
-pub(crate) fn read_one_point(text: &[u8], scale: Scale) -> Option<(ReadList, &[u8])>
-    ensures some { IfSome result (λ r.
-        (p : RawPoint) × TakesPoints text.now (p ∷ []) r.1.now × IsReadOf scale r.0 (p ∷ [])) }
+/// Reads the one point in parentheses at the front of a text into a list of no points, and answers
+/// what follows it.
+pub(crate) fn read_one_point<'a>(
+    text: &'a [u8],
+    scale: Scale,
+    list: &mut ReadList,
+) -> Option<&'a [u8]>
+    requires { IsReadOf scale list.old [] }
+    ensures some { IfSome result (λ rest. (p : RawPoint)
+        × TakesPoints text.now (p ∷ []) rest.now × IsReadOf scale list.new (p ∷ [])) }
     ensures none { IfNone result
         ((p : RawPoint) (rest : List ℕ) → TakesPoints text.now (p ∷ []) rest → ⊥) }
 {
     let rest = skip_symbol(text, b'(')?;
     let (point, after) = read_point(skip_blanks(rest), scale)?;
     let behind = skip_symbol(skip_blanks(after), b')')?;
-    let mut list = ReadList::new();
     list.push(point);
-    Some((list, behind))
+    Some(behind)
 }
 
-/// What is read of the lists of points in parentheses at the front of a text, and what follows
-/// them.
-pub(crate) fn read_lists(text: &[u8], scale: Scale) -> Option<(ReadLists, &[u8])>
-    ensures some { IfSome result (λ r.
-        (lists : List (List RawPoint))
-        × TakesLists text.now lists r.1.now × AreReadOf scale r.0 lists) }
+/// Reads the lists of points in parentheses at the front of a text, and answers what follows them.
+pub(crate) fn read_lists<'a>(
+    text: &'a [u8],
+    scale: Scale,
+    lists: &mut ReadLists,
+) -> Option<&'a [u8]>
+    requires { IsReadOf scale lists.old.first [] }
+    ensures some { IfSome result (λ rest. (found : List (List RawPoint))
+        × TakesLists text.now found rest.now × AreReadOf scale lists.new found) }
     ensures none { IfNone result
-        ((lists : List (List RawPoint)) (rest : List ℕ) → TakesLists text.now lists rest → ⊥) }
+        ((found : List (List RawPoint)) (rest : List ℕ) → TakesLists text.now found rest → ⊥) }
 {
     let rest = skip_symbol(text, b'(')?;
-    let (first, mut after) = read_points(skip_blanks(rest), scale)?;
-    let mut lists = ReadLists::of(first);
+    let mut after = read_points(skip_blanks(rest), scale, &mut lists.first)?;
+    lists.first_was_read();
     loop {
         match read_next(after)? {
             Next::Item(behind) => {
-                let (further, rest) = read_points(skip_blanks(behind), scale)?;
+                let mut further = ReadList::new();
+                let rest = read_points(skip_blanks(behind), scale, &mut further)?;
                 lists.push(further);
                 after = rest;
             }
-            Next::End(behind) => return Some((lists, behind)),
+            Next::End(behind) => return Some(behind),
         }
     }
 }

@@ -17,6 +17,9 @@ use geom_core::LIMIT;
 /// The greatest absolute value of a coordinate.
 const LARGEST: u64 = LIMIT as u64;
 
+/// How many digits are read with one test of the room for them and none of their sum, which fits.
+const FEW: usize = 6;
+
 /// What is read of a number.
 #[derive(Drop)]
 pub(crate) struct ReadNumber {
@@ -33,6 +36,8 @@ fn sign(text: &[u8]) -> (bool, &[u8])
     ensures rest { result.1.now ≡ (sign_at text.now).1 }
 {
     match text {
+        // Digits mostly stand there, and both signs are below them.
+        [first, ..] if *first >= b'0' => (false, text),
         [b'+', rest @ ..] => (false, rest),
         [b'-', rest @ ..] => (true, rest),
         _ => (false, text),
@@ -53,6 +58,22 @@ fn with_digit(number: u64, digit: u8) -> u64
     }
 }
 
+/// The number with all the digits at the front behind its own, and what follows them.
+#[inline(always)]
+fn with_digits(number: u64, text: &[u8]) -> (u64, &[u8])
+    ensures value { (total : ℕ) → IsCapped number total
+        → IsCapped result.0 (digits_value_after 10 total (digits_at text.now)) }
+    ensures rest { result.1.now ≡ after_digits text.now }
+{
+    let mut sum = number;
+    let mut rest = text;
+    while let [digit @ b'0'..=b'9', after @ ..] = rest {
+        sum = with_digit(sum, *digit);
+        rest = after;
+    }
+    (sum, rest)
+}
+
 /// The number that the digits at the front write, and what follows them. Where it is beyond
 /// `LARGEST`, some number beyond `LARGEST` stands for it, however many digits there are.
 #[inline(always)]
@@ -60,13 +81,17 @@ fn magnitude(text: &[u8]) -> (u64, &[u8])
     ensures value { IsCapped result.0 (digits_value 10 (digits_at text.now)) }
     ensures rest { result.1.now ≡ after_digits text.now }
 {
-    let mut sum = 0;
-    let mut rest = text;
-    while let [digit @ b'0'..=b'9', after @ ..] = rest {
-        sum = with_digit(sum, *digit);
-        rest = after;
+    if text.len() < FEW {
+        return with_digits(0, text);
     }
-    (sum, rest)
+    let mut sum = 0;
+    for i in 0..FEW {
+        if !text[i].is_ascii_digit() {
+            return (sum, &text[i..]);
+        }
+        sum = sum * 10 + u64::from(text[i] - b'0');
+    }
+    with_digits(sum, &text[FEW..])
 }
 
 /// The digit at the front, or a 0 where there is none, and what follows it.

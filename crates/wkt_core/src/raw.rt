@@ -16,7 +16,7 @@ pub(crate) struct RawText {
 }
 
 impl RawText {
-    ghost use Rattle.std.specs.Prelude.{◌≡◌, List, ℕ, IsTrue, IfSome, IfNone};
+    ghost use Rattle.std.specs.Prelude.{◌≡◌, [], List, ℕ, IsTrue, IfSome, IfNone};
     ghost use Rattle.std.specs.List.{list_all};
     ghost use Rattle.geom_core.specs.declared.shape.Shape.{Shape};
     ghost use Rattle.wkt_core.specs.declared.keyword.Keyword.{Keyword};
@@ -24,26 +24,34 @@ impl RawText {
     ghost use Rattle.wkt_core.specs.Grammar.{RawPoint};
     ghost use Rattle.wkt_core.specs.Spelling.{Forms, positions};
     ghost use Rattle.wkt_core.specs.ListSteps.{TakesBody, TakesText};
-    ghost use Rattle.wkt_core.specs.ReadLists.{AreReadOf, are_in_range};
+    ghost use Rattle.wkt_core.specs.ReadLists.{IsReadOf, AreReadOf, are_in_range};
 
-    /// What is read of the lists behind the keyword, and what follows them.
+    /// Reads the lists behind the keyword, and answers what follows them.
     #[inline(always)]
-    fn read_body(keyword: Keyword, text: &[u8], scale: Scale) -> Option<(ReadLists, &[u8])>
-        ensures some { IfSome result (λ r. (lists : List (List RawPoint))
-            × TakesBody keyword text.now lists r.1.now × AreReadOf scale r.0 lists) }
-        ensures none { IfNone result ((lists : List (List RawPoint)) (rest : List ℕ)
-            → TakesBody keyword text.now lists rest → ⊥) }
+    fn read_body<'a>(
+        keyword: Keyword,
+        text: &'a [u8],
+        scale: Scale,
+        lists: &mut ReadLists,
+    ) -> Option<&'a [u8]>
+        requires { IsReadOf scale lists.old.first [] }
+        ensures some { IfSome result (λ rest. (found : List (List RawPoint))
+            × TakesBody keyword text.now found rest.now × AreReadOf scale lists.new found) }
+        ensures none { IfNone result ((found : List (List RawPoint)) (rest : List ℕ)
+            → TakesBody keyword text.now found rest → ⊥) }
     {
         match keyword {
             Keyword::Point => {
-                let (list, rest) = read_one_point(text, scale)?;
-                Some((ReadLists::of(list), rest))
+                let rest = read_one_point(text, scale, &mut lists.first)?;
+                lists.first_was_read();
+                Some(rest)
             }
             Keyword::LineString => {
-                let (list, rest) = read_points(text, scale)?;
-                Some((ReadLists::of(list), rest))
+                let rest = read_points(text, scale, &mut lists.first)?;
+                lists.first_was_read();
+                Some(rest)
             }
-            Keyword::Polygon => read_lists(text, scale),
+            Keyword::Polygon => read_lists(text, scale, lists),
         }
     }
 
@@ -55,7 +63,8 @@ impl RawText {
             → TakesText text.now keyword lists → ⊥) }
     {
         let (keyword, rest) = Keyword::read(skip_blanks(text))?;
-        let (lists, rest) = RawText::read_body(keyword, skip_blanks(rest), scale)?;
+        let mut lists = ReadLists::new();
+        let rest = RawText::read_body(keyword, skip_blanks(rest), scale, &mut lists)?;
         match skip_blanks(rest) {
             [] => Some(RawText { keyword, lists }),
             _ => None,

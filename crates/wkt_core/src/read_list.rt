@@ -37,7 +37,9 @@ impl ReadList {
         ensures { (scale : Scale) (ps : List RawPoint) (p : RawPoint) → IsReadOf scale self.old ps
             → point ≡ point_read scale p → IsReadOf scale self.new (ps ++ p ∷ []) }
     {
-        self.whole = self.whole && point.whole;
+        if !point.whole {
+            self.whole = false;
+        }
         match point.position {
             Some(position) => self.walk.push(position),
             None => self.in_range = false,
@@ -49,7 +51,7 @@ impl ReadList {
 /// lists.
 #[derive(Drop)]
 pub(crate) struct ReadLists {
-    first: ReadList,
+    pub(crate) first: ReadList,
     alone: bool,
     whole: bool,
     in_range: bool,
@@ -61,20 +63,28 @@ impl ReadLists {
     ghost use Rattle.wkt_core.specs.Grammar.{RawPoint};
     ghost use Rattle.wkt_core.specs.ReadLists.{IsReadOf, AreReadOf};
 
-    /// Of one list.
+    /// Before the first list is read.
     #[inline(always)]
-    pub(crate) fn of(first: ReadList) -> ReadLists
-        ensures { (scale : Scale) (ps : List RawPoint)
-            → IsReadOf scale first ps → AreReadOf scale result (ps ∷ []) }
+    pub(crate) fn new() -> ReadLists
+        ensures { (scale : Scale) → IsReadOf scale result.first [] }
     {
-        let whole = first.whole;
-        let in_range = first.in_range;
         ReadLists {
-            first,
+            first: ReadList::new(),
             alone: true,
-            whole,
-            in_range,
+            whole: true,
+            in_range: true,
         }
+    }
+
+    /// Takes in what was read of the first list, which stands alone as long as no other is added.
+    #[inline(always)]
+    pub(crate) fn first_was_read(&mut self)
+        ensures { (scale : Scale) (ps : List RawPoint)
+            → IsReadOf scale self.old.first ps → AreReadOf scale self.new (ps ∷ []) }
+    {
+        self.alone = true;
+        self.whole = self.first.whole;
+        self.in_range = self.first.in_range;
     }
 
     /// Adds a further list.

@@ -13,9 +13,10 @@ fn is_blank(byte: u8) -> bool
     matches!(byte, b' ' | b'\t' | b'\r' | b'\n')
 }
 
-/// The text behind its white space.
-#[inline(always)]
-pub(crate) fn skip_blanks(mut text: &[u8]) -> &[u8]
+/// The text behind its white space, of any length.
+#[cold]
+#[inline(never)]
+fn skip_all_blanks(mut text: &[u8]) -> &[u8]
     ensures { result.now ≡ skip text.now }
 {
     while let [first, rest @ ..] = text
@@ -24,6 +25,20 @@ pub(crate) fn skip_blanks(mut text: &[u8]) -> &[u8]
         text = rest;
     }
     text
+}
+
+/// The text behind its white space.
+#[inline(always)]
+pub(crate) fn skip_blanks(text: &[u8]) -> &[u8]
+    ensures { result.now ≡ skip text.now }
+{
+    // There is mostly none or one space, and every byte of white space is at most a space.
+    match text {
+        [] => text,
+        [first, ..] if *first > b' ' => text,
+        [b' ', second, ..] if *second > b' ' => &text[1..],
+        _ => skip_all_blanks(text),
+    }
 }
 
 /// The text behind its white space, of which there is some.
@@ -54,15 +69,26 @@ pub(crate) enum Next<'a> {
     End(&'a [u8]),
 }
 
-/// What follows an item and its white space.
+/// What follows an item, where no white space stands between.
+#[inline(always)]
+fn read_symbol(text: &[u8]) -> Option<Next<'_>>
+    ensures { StandsNext text.now result }
+{
+    match text {
+        [b',', rest @ ..] => Some(Next::Item(rest)),
+        [b')', rest @ ..] => Some(Next::End(rest)),
+        _ => None,
+    }
+}
+
+/// What follows an item and its white space, of which there is mostly none.
 #[inline(always)]
 pub(crate) fn read_next(text: &[u8]) -> Option<Next<'_>>
     ensures { StandsNext (skip text.now) result }
 {
-    match skip_blanks(text) {
-        [b',', rest @ ..] => Some(Next::Item(rest)),
-        [b')', rest @ ..] => Some(Next::End(rest)),
-        _ => None,
+    match read_symbol(text) {
+        Some(next) => Some(next),
+        None => read_symbol(skip_all_blanks(text)),
     }
 }
 

@@ -1,4 +1,5 @@
-//! Texts of a million digits, before and behind the dot, and of thousands of points, and a ring of as many.
+//! Texts of a million digits, before and behind the dot, and of thousands of points, and a ring of
+//! as many.
 
 use crate::readings::corners;
 use std::alloc::AllocError;

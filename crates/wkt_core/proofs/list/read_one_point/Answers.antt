@@ -7,7 +7,8 @@ use Rattle.wkt_core.proofs.list.read_one_point.Goals as goal
 
 pub returns-clause-some : goal.returns-clause-some
 returns-clause-some c =
-    let read : Some (c.in_ok-point.point, c.in_ok-point.after.now) ≡ point_answer c.args.scale (point_at (skip c.in_ok-rest.rest.now)) = rw c.skip_blanks.ensures
+    let read : Some (c.in_ok-point.point, c.in_ok-point.after.now)
+    ≡ point_answer c.args.scale (point_at (skip c.in_ok-rest.rest.now)) = rw c.skip_blanks.ensures
     at c.in_ok-point.ensures in
     let (p, taken, value) = point_taken c.args.scale (skip c.in_ok-rest.rest.now) _ _ read in (
       p,
@@ -16,5 +17,5 @@ returns-clause-some c =
         symbol_begins 40 _ _ (sym c.in_ok-rest.ensures),
         (c.in_ok-point.after.now, taken, sym c.skip_blanks-2.ensures ∙ symbol_begins 41 _ _ (sym c.in_ok-behind.ensures)),
       ),
-      c.push.ensures c.args.scale [] p (c.new-list.ensures c.args.scale) value,
+      c.push.ensures c.args.scale [] p c.requires value,
     )

@@ -9,14 +9,16 @@ use Rattle.wkt_core.proofs.list.read_points.Goals as goal
 
 pub loop-point-preserved : goal.loop-point-preserved
 loop-point-preserved c =
-    let read : Some (c.in_ok-point.point, c.in_ok-point.after.now) ≡ point_answer c.args.scale (point_at (skip c.loop-point.rest.now)) = rw c.skip_blanks.ensures
+    let read : Some (c.in_ok-point.point, c.in_ok-point.after.now)
+    ≡ point_answer c.args.scale (point_at (skip c.loop-point.rest.now)) = rw c.skip_blanks.ensures
     at c.in_ok-point.ensures in
     let next : skip c.in_ok-point.after.now ≡ 44 ∷ c.in-Item.behind.now = rw c.in-Item.is at c.in_ok-behind.ensures in
     point_more c.args.scale _ _ _ _ _ _ _ (c.push.ensures c.args.scale) read c.loop-point.invariant next
 
 pub returns-in-End-clause-some : goal.returns-in-End-clause-some
 returns-in-End-clause-some c =
-    let read : Some (c.in_ok-point.point, c.in_ok-point.after.now) ≡ point_answer c.args.scale (point_at (skip c.loop-point.rest.now)) = rw c.skip_blanks.ensures
+    let read : Some (c.in_ok-point.point, c.in_ok-point.after.now)
+    ≡ point_answer c.args.scale (point_at (skip c.loop-point.rest.now)) = rw c.skip_blanks.ensures
     at c.in_ok-point.ensures in
     let next : skip c.in_ok-point.after.now ≡ 41 ∷ c.in-End.behind.now = rw c.in-End.is at c.in_ok-behind.ensures in
     let (ps, items, firsts) = points_ended c.args.scale _ _ _ _ _ _ _ (c.push.ensures c.args.scale) read c.loop-point.invariant next in
@@ -24,7 +26,8 @@ returns-in-End-clause-some c =
 
 pub loop-point-smaller : goal.loop-point-smaller
 loop-point-smaller c =
-    let read : Some (c.in_ok-point.point, c.in_ok-point.after.now) ≡ point_answer c.args.scale (point_at (skip c.loop-point.rest.now)) = rw c.skip_blanks.ensures
+    let read : Some (c.in_ok-point.point, c.in_ok-point.after.now)
+    ≡ point_answer c.args.scale (point_at (skip c.loop-point.rest.now)) = rw c.skip_blanks.ensures
     at c.in_ok-point.ensures in
     let next : skip c.in_ok-point.after.now ≡ 44 ∷ c.in-Item.behind.now = rw c.in-Item.is at c.in_ok-behind.ensures in
     let (p, taken, value) = point_taken c.args.scale (skip c.loop-point.rest.now) _ _ read in
@@ -39,7 +42,8 @@ returns-in_err-point-clause-none c =
 
 pub returns-in_err-behind-clause-none : goal.returns-in_err-behind-clause-none
 returns-in_err-behind-clause-none c =
-    let read : Some (c.in_ok-point.point, c.in_ok-point.after.now) ≡ point_answer c.args.scale (point_at (skip c.loop-point.rest.now)) = rw c.skip_blanks.ensures
+    let read : Some (c.in_ok-point.point, c.in_ok-point.after.now)
+    ≡ point_answer c.args.scale (point_at (skip c.loop-point.rest.now)) = rw c.skip_blanks.ensures
     at c.in_ok-point.ensures in
     let (p, taken, value) = point_taken c.args.scale (skip c.loop-point.rest.now) _ _ read in
     let (done, begun, firsts) = c.loop-point.invariant in
@@ -47,4 +51,4 @@ returns-in_err-behind-clause-none c =
     c.in_err-behind.ensures)
 
 pub loop-point-init : goal.loop-point-init
-loop-point-init c = ([], refl, c.new-list.ensures c.args.scale)
+loop-point-init c = ([], refl, c.requires)

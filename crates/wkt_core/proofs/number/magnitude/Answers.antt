@@ -1,23 +1,17 @@
-use Rattle.std.proofs.Common.{◌∙◌, sym, refl, inl, arith}
-use Rattle.wkt_core.proofs.NumberLemmas.{digit_taken, no_digit, leads_on, led}
+use Rattle.std.proofs.Common.{◌≡◌, ℕ, ◌-◌, List, length, take, drop, ◌∙◌, refl, inl, arith}
+use Rattle.std.proofs.lemmas.List.{take_all, length-drop}
 use Rattle.wkt_core.proofs.number.magnitude.Goals as goal
-use Rattle.wkt_core.proofs.number.magnitude.Goals.{in_default, in_default-2, in_default-3}
 
-pub loop-rest-init : goal.loop-rest-init
-loop-rest-init c = record { rest = refl; sum = record { so_far = 0; capped = inl refl; whole = refl } }
-
-pub loop-rest-preserved : goal.loop-rest-preserved
-loop-rest-preserved c =
-    let (digits, after) = digit_taken c.loop-rest.rest.now (omega arith) (omega arith) (omega arith) in
-    record {
-      rest = sym after ∙ c.loop-rest.invariant.rest;
-      sum = leads_on _ _ _ _ _ _ c.with_digit-sum.ensures digits c.loop-rest.invariant.sum;
-    }
+behind : (text : List ℕ) → take (length text - 6) (drop 6 text) ≡ drop 6 text
+behind text = take_all (length text - 6) (drop 6 text) (omega (arith, length-drop 6 text))
 
 pub returns-clause-value : goal.returns-clause-value
 returns-clause-value c =
-    led _ _ _ (elim c.if-rest-lt1.branch [
-      | in_default w ↦ no_digit c.loop-rest.rest.now (λ some low high. omega arith)
-      | in_default-2 w ↦ no_digit c.loop-rest.rest.now (λ some low high. omega arith)
-      | in_default-3 w ↦ no_digit c.loop-rest.rest.now (λ some low high. omega arith)
-    ]) c.loop-rest.invariant.sum
+    let e : c.loop-i.i ≡ 6 = omega arith in
+    let same = rw e at c.loop-i.invariant.sum in
+    rw same at (rw (behind c.args.text.now) at (c.with_digits-2.ensures.value c.loop-i.sum (inl refl)))
+
+pub returns-clause-rest : goal.returns-clause-rest
+returns-clause-rest c =
+    let e : c.loop-i.i ≡ 6 = omega arith in
+    (rw (behind c.args.text.now) at c.with_digits-2.ensures.rest) ∙ (rw e at c.loop-i.invariant.rest)

@@ -1,14 +1,11 @@
-use Rattle.std.proofs.Common.{◌≡◌, length}
-use Rattle.std.specs.Str.Parse.{digits_value}
+use Rattle.std.proofs.Common.{◌≡◌, ◌<◌, ◌^◌, drop}
+use Rattle.std.specs.Str.Parse.{digits_value, digits_value_after}
 use Rattle.wkt_core.specs.NumberSteps.{digits_at, after_digits}
-use Rattle.wkt_core.proofs.NumberLemmas.{LeadsTo}
 use Rattle.wkt_core.proofs.number.magnitude.Given as goal
 
-abbrev pub invariant-loop-rest : goal.invariant-loop-rest
-invariant-loop-rest l = record {
-  rest : after_digits l.rest ≡ after_digits l.text;
-  sum : LeadsTo l.sum (digits_at l.rest) (digits_value 10 (digits_at l.text));
+abbrev pub invariant-loop-i : goal.invariant-loop-i
+invariant-loop-i l = record {
+  fits : l.sum < 10 ^ l.i;
+  rest : after_digits (drop l.i l.text) ≡ after_digits l.text;
+  sum : digits_value_after 10 l.sum (digits_at (drop l.i l.text)) ≡ digits_value 10 (digits_at l.text);
 }
-
-abbrev pub decreases-loop-rest : goal.decreases-loop-rest
-decreases-loop-rest l = length l.rest

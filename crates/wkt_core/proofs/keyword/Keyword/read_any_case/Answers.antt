@@ -4,7 +4,7 @@ use Rattle.wkt_core.specs.declared.keyword.Keyword.{Keyword}
 use Rattle.wkt_core.specs.declared.keyword.Keyword.TheVariants.{Point, LineString, Polygon}
 use Rattle.wkt_core.specs.TokenSteps.{TakesLetters}
 use Rattle.wkt_core.specs.ListSteps.{TakesWord}
-use Rattle.wkt_core.proofs.keyword.Keyword.read.Goals as goal
+use Rattle.wkt_core.proofs.keyword.Keyword.read_any_case.Goals as goal
 
 no_keyword : (text : List ℕ) → ((rest : List ℕ) → TakesLetters (codes "point") text rest → ⊥)
     → ((rest : List ℕ) → TakesLetters (codes "linestring") text rest → ⊥)
