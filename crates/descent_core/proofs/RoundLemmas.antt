@@ -1,5 +1,6 @@
 -- A round's list of tasks, pair by pair, and when there are too many.
-use Rattle.std.proofs.Common.{arith, ◌≡◌, ◌≢◌, ℕ, ◌+◌, ◌<◌, ◌≤◌, List, [], ◌∷◌, ◌++◌, length, get_or, take, drop, map, length-append, sym, ◌∙◌, ap, subst, append_assoc, Bor, inl, inr}
+use Rattle.std.proofs.Common.{arith, ◌≡◌, ◌≢◌, ℕ, ◌+◌, ◌<◌, ◌≤◌, List, [], ◌∷◌, ◌++◌, length, get_or, take, drop, map, length-append, sym, ◌∙◌, ap, subst}
+use Rattle.std.proofs.Common.{append_assoc, Bor, inl, inr}
 use Rattle.std.specs.Prelude.{◌⊎◌, ℤ}
 use Rattle.std.specs.List.{flat_map}
 use Rattle.std.proofs.lemmas.Int.{ints, by_lt_z}

@@ -1,5 +1,6 @@
 -- How tasks share out the entries of two trees, and what their rows are together.
-use Rattle.std.specs.Prelude.{◌≡◌, ◌≤◌, ◌==◌, ◌&&◌, ◌↔◌, ℕ, Bool, List, length, All, Contains, Some, slice_get, count_by}
+use Rattle.std.specs.Prelude.{◌≡◌, ◌≤◌, ◌==◌, ◌&&◌, ◌↔◌, ℕ, Bool, List, length, All, Contains, Some}
+use Rattle.std.specs.Prelude.{slice_get, count_by}
 use Rattle.std.specs.List.{flat_map}
 use Rattle.geom_core.specs.declared.relation.Relation.{Relation}
 use Rattle.geom_core.specs.Cells.{Meets}

@@ -33,7 +33,8 @@ impl<'a> Model for Plan<'a> {
 }
 
 impl<'a> Plan<'a> {
-    ghost use Rattle.std.specs.Prelude.{◌≡◌, ◌<◌, ◌≤◌, ◌↔◌, [], Some, length, slice_get, IsTrue, IfOk};
+    ghost use Rattle.std.specs.Prelude.{◌≡◌, ◌<◌, ◌≤◌, ◌↔◌, [], Some, length, slice_get, IsTrue};
+    ghost use Rattle.std.specs.Prelude.{IfOk};
     ghost use Rattle.geom_core.specs.declared.relation.Relation.{Relation};
     ghost use Rattle.geom_core.specs.Relations.{ForbidsDisjoint};
     ghost use Rattle.rtree_core.specs.Trees.{entries_in};

@@ -1,5 +1,6 @@
 -- What an insertion does to a node, from what it does to the node's list.
-use Rattle.std.proofs.Common.{arith, ◌≡◌, ℕ, suc, ◌+◌, ◌<◌, ◌≤◌, Bool, cond, List, [], ◌∷◌, ◌++◌, length, get_or, set, refl, sym, ◌∙◌, ap, subst, length-append, length-set, get_or-set_same, vec_len, vec_capacity}
+use Rattle.std.proofs.Common.{arith, ◌≡◌, ℕ, suc, ◌+◌, ◌<◌, ◌≤◌, Bool, cond, List, [], ◌∷◌, ◌++◌, length, get_or, set, refl, sym, ◌∙◌, ap, subst, length-append}
+use Rattle.std.proofs.Common.{length-set, get_or-set_same, vec_len, vec_capacity}
 use Rattle.std.specs.Prelude.{All, count_by, sum_by, Option, None, Some, MatchOption}
 use Rattle.std.specs.List.{flat_map}
 use Rattle.std.specs.declared.alloc.Global.{Global}
@@ -20,7 +21,8 @@ use Rattle.split_core.specs.Limits.{fewest}
 use Rattle.rtree_core.specs.Nodes.{entries_of, level_of, size_of, IsPage, IsLawful, IsLawfulAt}
 use Rattle.split_core.specs.Splits.{IsSplit}
 use Rattle.split_core.proofs.CoverLemmas.{in_trans, AllIn, all_in, cover_grow, All-front, All-last, All-unset}
-use Rattle.rtree_core.proofs.ItemLemmas.{leaf_entries, leaf_level, leaf_lawful, leaf_size, each_alone, inner_entries, inner_size, inner_lawful, inner_fits, count_below, Opened, open_inner, child_level}
+use Rattle.rtree_core.proofs.ItemLemmas.{leaf_entries, leaf_level, leaf_lawful, leaf_size, each_alone, inner_entries, inner_size, inner_lawful, inner_fits}
+use Rattle.rtree_core.proofs.ItemLemmas.{count_below, Opened, open_inner, child_level}
 use Rattle.rtree_core.proofs.NodeLemmas.{lawful_level}
 use Rattle.split_core.proofs.SplitLemmas.{split_sums, split_all, split_back}
 

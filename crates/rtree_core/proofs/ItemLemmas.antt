@@ -1,5 +1,6 @@
 -- A node by its list: its entries, its level, its size, and when it is lawful and packed.
-use Rattle.std.proofs.Common.{arith, ◌≡◌, ℕ, zero, suc, ◌<◌, ◌≤◌, Bool, cond, List, [], ◌∷◌, length, get_or, refl, sym, ◌∙◌, ap, subst, vec_len, max, map, add-one}
+use Rattle.std.proofs.Common.{arith, ◌≡◌, ℕ, zero, suc, ◌<◌, ◌≤◌, Bool, cond, List, [], ◌∷◌, length, get_or, refl, sym, ◌∙◌, ap, subst, vec_len, max, map}
+use Rattle.std.proofs.Common.{add-one}
 use Rattle.std.specs.Prelude.{All, count_by, sum_by}
 use Rattle.std.specs.List.{flat_map, fold}
 use Rattle.std.specs.declared.alloc.Global.{Global}

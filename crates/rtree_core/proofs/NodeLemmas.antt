@@ -14,7 +14,8 @@ use Rattle.std.proofs.lemmas.List.{length-map, get_or-map}
 use Rattle.std.proofs.lemmas.List.Elements.{All-head, All-tail, All-map, All-weaker}
 use Rattle.split_core.specs.Limits.{fewest}
 use Rattle.split_core.specs.Covers.{IsLeastCover}
-use Rattle.rtree_core.specs.Nodes.{entries_step, entries_of, level_step, level_of, size_of, children_of, leaf_law, inner_law, IsLawfulAt, IsLawful, AreLawfulChildren}
+use Rattle.rtree_core.specs.Nodes.{entries_step, entries_of, level_step, level_of, size_of, children_of, leaf_law, inner_law, IsLawfulAt, IsLawful}
+use Rattle.rtree_core.specs.Nodes.{AreLawfulChildren}
 
 flat_map-map : {A B C : Type 0} (f : A → B) (g : B → List C) (xs : List A) → flat_map g (map f xs) ≡ flat_map (λ x. g (f x)) xs
 flat_map-map f g [] = refl

@@ -1,5 +1,6 @@
 -- How a list of items is cut into the nodes of the level above, and what that makes of the whole.
-use Rattle.std.proofs.Common.{arith, ◌≡◌, ℕ, zero, suc, ◌+◌, ◌-◌, ◌*◌, ◌/◌, ◌%◌, ◌^◌, ◌<◌, ◌≤◌, Bool, cond, inl, inr, List, [], ◌∷◌, ◌++◌, min, length, refl, sym, ◌∙◌, ap, subst, append_assoc, append-nil, length-append, take, drop}
+use Rattle.std.proofs.Common.{arith, ◌≡◌, ℕ, zero, suc, ◌+◌, ◌-◌, ◌*◌, ◌/◌, ◌%◌, ◌^◌, ◌<◌, ◌≤◌, Bool, cond, inl, inr, List, [], ◌∷◌, ◌++◌, min, length, refl}
+use Rattle.std.proofs.Common.{sym, ◌∙◌, ap, subst, append_assoc, append-nil, length-append, take, drop}
 use Rattle.std.specs.Prelude.{All, count_by, sum_by}
 use Rattle.std.specs.Int.{div_ceil}
 use Rattle.std.specs.List.{flat_map}
@@ -10,7 +11,7 @@ use Rattle.std.proofs.lemmas.Bool.Decides.{nat_tests}
 use Rattle.std.proofs.lemmas.List.{flat_map_more, take_all, drop_all}
 use Rattle.std.proofs.lemmas.List.Concat.{flat_map-append}
 use Rattle.std.proofs.lemmas.List.Elements.{All-nil, All-head, All-tail, All-push, All-append}
-use Rattle.std.proofs.lemmas.List.Sorted.{All-permutation, IsPermutation-sym, sum_by-IsPermutation, length_permutation}
+use Rattle.std.proofs.lemmas.List.Sorted.{All-permutation, sum_by-IsPermutation, length_permutation}
 use Rattle.std.proofs.lemmas.List.Sums.{sum_by-append, sum_by-cons}
 use Rattle.geom_core.specs.declared.shape.Shape.{Shape}
 use Rattle.split_core.specs.Limits.{most}
@@ -171,38 +172,50 @@ module _ {K : Type 0} (entries : K → List Entry) (fits fits_packed : ℕ → K
         in_range = λ all. cut.in_range (rw e (All-append InRange page left known all));
       }
 
+  -- all pages were cut from the items
+  pub cut_all : (items : List K) (pages : ℕ) (nodes : List Node) (rest : List K) →
+      pages ≡ div_ceil (length items) most →
+      IsCut entries fits fits_packed InRange items pages pages nodes rest →
+      AreNodesOf entries fits fits_packed items nodes
+  cut_all items pages nodes rest e cut =
+      let none : rest ≡ [] = nothing rest (omega (arith, cut.few)) in
+      let all : flat_map entries items ≡ flat_map entries_of nodes = cut.joined ∙ rw none (append-nil (flat_map entries_of nodes)) in
+      record {
+        same = λ p. ap (count_by p) all;
+        count = cut.count ∙ e;
+        two = λ h. cut.big 2 (omega arith);
+        four = λ h. cut.big 4 (omega (arith, cut.count));
+        lawful = cut.lawful;
+        packed = cut.packed;
+      }
+
+  pub cut_in_range : (items : List K) (pages : ℕ) (nodes : List Node) (rest : List K) →
+      IsCut entries fits fits_packed InRange items pages pages nodes rest →
+      All InRange items
+  cut_in_range items pages nodes rest cut =
+      let none : rest ≡ [] = nothing rest (omega (arith, cut.few)) in cut.in_range (rw none (All-nil InRange))
+
   count_each : (p : Entry → Bool) (xs : List K) → count_by p (flat_map entries xs) ≡ sum_by (λ x. count_by p (entries x)) xs
   count_each p [] = refl
   count_each p (x ∷ xs) =
       omega (arith, sum_by-append (λ y. cond (p y) 1 0) (entries x) (flat_map entries xs), count_each p xs, sum_by-cons (λ y. count_by p (entries y)) x xs)
 
-  -- all pages were cut from the items, which were sorted before
-  pub cut_all : (unsorted items : List K) (pages : ℕ) (nodes : List Node) (rest : List K) →
+  -- the items were put in another order before
+  pub nodes_of_sorted : (unsorted items : List K) (nodes : List Node) →
       IsPermutation unsorted items →
-      pages ≡ div_ceil (length unsorted) most →
-      IsCut entries fits fits_packed InRange items pages pages nodes rest →
+      AreNodesOf entries fits fits_packed items nodes →
       AreNodesOf entries fits fits_packed unsorted nodes
-  cut_all unsorted items pages nodes rest perm e cut =
+  nodes_of_sorted unsorted items nodes perm made =
       let len : length items ≡ length unsorted = length_permutation unsorted items perm in
-      let none : rest ≡ [] = nothing rest (omega (arith, cut.few)) in
-      let all : flat_map entries items ≡ flat_map entries_of nodes = cut.joined ∙ rw none (append-nil (flat_map entries_of nodes)) in
       record {
-        same = λ p. count_each p unsorted ∙ sym (sum_by-IsPermutation (λ x. count_by p (entries x)) unsorted items perm) ∙ sym (count_each p items) ∙ ap
-            (count_by p) all;
-        count = cut.count ∙ e;
-        two = λ h. cut.big 2 (omega arith);
-        four = λ h. cut.big 4 (omega (arith, cut.count));
-        lawful = λ level h. cut.lawful level (All-permutation (fits level) unsorted items perm h);
-        packed = λ level h. cut.packed level (All-permutation (fits_packed level) unsorted items perm h);
+        same = λ p. count_each p unsorted ∙ sym (sum_by-IsPermutation (λ x. count_by p (entries x)) unsorted items perm) ∙ sym (count_each p items)
+            ∙ made.same p;
+        count = rw (← len) made.count;
+        two = λ h. made.two (omega arith);
+        four = made.four;
+        lawful = λ level h. made.lawful level (All-permutation (fits level) unsorted items perm h);
+        packed = λ level h. made.packed level (All-permutation (fits_packed level) unsorted items perm h);
       }
-
-  pub cut_in_range : (unsorted items : List K) (pages : ℕ) (nodes : List Node) (rest : List K) →
-      IsPermutation unsorted items →
-      IsCut entries fits fits_packed InRange items pages pages nodes rest →
-      All InRange unsorted
-  cut_in_range unsorted items pages nodes rest perm cut =
-      let none : rest ≡ [] = nothing rest (omega (arith, cut.few)) in
-      All-permutation InRange items unsorted (IsPermutation-sym unsorted items perm) (cut.in_range (rw none (All-nil InRange)))
 
 -- all nodes of a level of the tree, with the height of the tree up to it
 pub record IsRow (all : List Entry) (nodes : List Node) (height : ℕ) : Type 0 where

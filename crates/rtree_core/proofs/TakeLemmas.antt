@@ -1,5 +1,6 @@
 -- What taking an entry out leaves of a node, from what it leaves of the node's list.
-use Rattle.std.proofs.Common.{arith, ◌≡◌, ℕ, suc, ◌+◌, ◌<◌, ◌≤◌, Bool, cond, List, [], ◌∷◌, ◌++◌, length, get_or, set, take, drop, sym, ◌∙◌, ap, subst, length-append, length-set, get_or-set_same, vec_len, vec_capacity, inl, inr}
+use Rattle.std.proofs.Common.{arith, ◌≡◌, ℕ, suc, ◌+◌, ◌<◌, ◌≤◌, Bool, cond, List, [], ◌∷◌, ◌++◌, length, get_or, set, take, drop, sym, ◌∙◌, ap, subst}
+use Rattle.std.proofs.Common.{length-append, length-set, get_or-set_same, vec_len, vec_capacity, inl, inr}
 use Rattle.std.specs.Prelude.{count_by, sum_by, remove}
 use Rattle.std.specs.List.{flat_map}
 use Rattle.std.specs.Vec.{with_items}

@@ -1,5 +1,6 @@
 -- Nodes: the entries below one, its level, and when it is lawful.
-use Rattle.std.specs.Prelude.{◌≡◌, ℕ, zero, suc, ◌+◌, ◌<◌, ◌≤◌, List, [], length, vec_len, vec_capacity, All, max}
+use Rattle.std.specs.Prelude.{◌≡◌, ℕ, zero, suc, ◌+◌, ◌<◌, ◌≤◌, List, [], length, vec_len}
+use Rattle.std.specs.Prelude.{vec_capacity, All, max}
 use Rattle.std.specs.List.{flat_map, fold}
 use Rattle.std.specs.declared.alloc.Global.{Global}
 use Rattle.std.specs.declared.vec.Vec.{Vec}

@@ -1,5 +1,6 @@
 -- A root with its height and the lists that wait for edits, and what insertions do to it.
-use Rattle.std.specs.Prelude.{◌≡◌, ℕ, ◌+◌, ◌-◌, ◌*◌, ◌^◌, ◌<◌, ◌≤◌, suc, List, [], ◌++◌, IfSome, IsSomeAnd, vec_len, vec_capacity}
+use Rattle.std.specs.Prelude.{◌≡◌, ℕ, ◌+◌, ◌-◌, ◌*◌, ◌^◌, ◌<◌, ◌≤◌, suc, List, [], ◌++◌, IfSome}
+use Rattle.std.specs.Prelude.{IsSomeAnd, vec_len, vec_capacity}
 use Rattle.std.specs.declared.alloc.Global.{Global}
 use Rattle.std.specs.declared.vec.Vec.{Vec}
 use Rattle.rtree_core.specs.declared.node.Entry.{Entry}

@@ -8,6 +8,7 @@ mod node;
 mod pack;
 mod remove;
 mod spare;
+mod tile;
 mod tree;
 mod trunk;
 mod window;

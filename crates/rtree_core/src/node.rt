@@ -42,7 +42,8 @@ pub(crate) enum Below {
 impl Node {
     ghost use Rattle.std.specs.Prelude.{◌≡◌, ◌<◌, ◌↔◌, length, IsTrue};
     ghost use Rattle.std.specs.List.{flat_map};
-    ghost use Rattle.rtree_core.specs.Nodes.{entries_of, children_of, level_of, size_of, node_cover, IsLeaf, IsLawful, AreLawfulChildren};
+    ghost use Rattle.rtree_core.specs.Nodes.{entries_of, children_of, level_of, size_of};
+    ghost use Rattle.rtree_core.specs.Nodes.{node_cover, IsLeaf, IsLawful, AreLawfulChildren};
     ghost use Rattle.split_core.specs.Covers.{IsLeastCover};
 
     /// Whether it holds entries and no children: it is on level 0.

@@ -1,22 +1,25 @@
 //! Packing by Sort-Tile-Recursive: a tree made from all its entries at once.
 //!
-//! The items of a level, at first the entries, are to make P pages of at most eight. They are
-//! sorted by the centres of their covers along the first axis and cut into slices of √P pages,
-//! rounded up; each slice is sorted along the second axis and cut into its pages. Page sizes differ
-//! by one at most, larger ones first. The pages are the items of the next level, until there is
-//! one, the root (Leutenegger, Lopez and Edgington 1997, 2.2). Ties go by number, and among nodes
-//! by their places.
+//! The items of a level, at first the entries, are to make P pages of at most eight. They are cut
+//! into slices of √P pages, rounded up, by the centres of their covers along the first axis; each
+//! slice is sorted along the second axis and cut into its pages. Page sizes differ by one at most,
+//! larger ones first. The pages are the items of the next level, until there is one, the root
+//! (Leutenegger, Lopez and Edgington 1997, 2.2). Ties go by number, and among nodes by their
+//! places.
 
-ghost use Rattle.std.specs.Prelude.{◌≡◌, ℕ, ◌+◌, ◌*◌, ◌/◌, ◌%◌, ◌<◌, ◌≤◌, ◌++◌, ◌+ℤ◌, map, length, vec_len, vec_capacity, min, count_by, All, IfOk, OnOk};
-ghost use Rattle.std.specs.List.Sorted.{IsPermutation};
+ghost use Rattle.std.specs.Prelude.{◌≡◌, ℕ, ◌+◌, ◌<◌, ◌≤◌, ◌++◌, map, length};
+ghost use Rattle.std.specs.Prelude.{vec_len, vec_capacity, count_by, All, IfOk, OnOk};
 ghost use Rattle.std.specs.Vec.Iter.{into_iter_items, into_iter_len};
-ghost use Rattle.geom_core.specs.Shapes.{x1, y1, x2, y2};
-ghost use Rattle.rtree_core.specs.Packed.{AreNodesOf, IsNextPage, IsPackedTree, IsShare};
+ghost use Rattle.rtree_core.specs.Items.{FitsInner};
+ghost use Rattle.rtree_core.specs.Nodes.{entries_of};
+ghost use Rattle.rtree_core.specs.Packed.{AreNodesOf, FitsPacked, IsNextPage, IsPackedTree};
+ghost use Rattle.rtree_core.specs.Packed.{IsShare};
 ghost use Rattle.rtree_core.specs.Trees.{has_number};
 ghost use Rattle.split_core.specs.Limits.{most};
 
 use crate::item::Item;
 use crate::node::{Entry, MOST, Node};
+use crate::tile::{items_in, tile};
 use geom_core::Shape;
 use split_core::measures::Covered;
 use std::alloc::{AllocError, Global};
@@ -104,65 +107,12 @@ impl Packable for Placed {
     }
 }
 
-/// Twice the centre of a shape along the first axis.
-#[inline(always)]
-fn twice_x(shape: &Shape) -> i64
-    ensures { result ≡ x1 shape.now +ℤ x2 shape.now }
-{
-    shape.x1() + shape.x2()
-}
-
-/// Twice the centre of a shape along the second axis.
-#[inline(always)]
-fn twice_y(shape: &Shape) -> i64
-    ensures { result ≡ y1 shape.now +ℤ y2 shape.now }
-{
-    shape.y1() + shape.y2()
-}
-
-/// The square root, rounded up.
-fn ceil_sqrt(n: usize) -> usize
-    ensures square { n ≤ result * result }
-    ensures least { (k : ℕ) → n ≤ k * k → result ≤ k }
-{
-    let root = n.isqrt();
-    if root * root < n { root + 1 } else { root }
-}
-
-/// How many of some items lie in the first of some pages, of which the foremost have one more.
-fn items_in(first: usize, pages: usize, items: usize) -> usize
-    requires some { 0 < pages }
-    requires first { first ≤ pages }
-    ensures value { result ≡ first * (items / pages) + min first (items % pages) }
-    ensures within { result ≤ items }
-{
-    first * (items / pages) + first.min(items % pages)
-}
-
 /// How many of some items go into the first of some pages.
 fn page_size(items: usize, pages: usize) -> usize
     requires { 0 < pages }
     ensures { IsShare result items pages }
 {
     items_in(1, pages, items)
-}
-
-/// Sorts the items of a level into the order of their pages: slice by slice along the first axis,
-/// and along the second in each slice.
-fn tile<T: Packable>(items: &mut [T], pages: usize)
-    ensures { IsPermutation items.old items.new }
-{
-    items.sort_unstable_by_key(|item| (twice_x(&item.cover()), item.rank()));
-    let most = ceil_sqrt(pages);
-    let mut start = 0;
-    let mut left = pages;
-    while left > 0 {
-        let slice = most.min(left);
-        let end = start + items_in(slice, left, items.len() - start);
-        items[start..end].sort_unstable_by_key(|item| (twice_y(&item.cover()), item.rank()));
-        start = end;
-        left -= slice;
-    }
 }
 
 /// Takes the first so many items into a list, which has room for one more than the most.
@@ -187,15 +137,14 @@ fn next_page<T: Packable>(
     Ok(page)
 }
 
-/// The nodes of a level, given what they hold.
-fn level<T: Packable>(alloc: Global, mut items: Vec<T>) -> Result<Vec<Placed>, AllocError>
+/// The nodes of a level, given what they hold, in the order of their pages.
+fn nodes_of<T: Packable>(alloc: Global, items: Vec<T>) -> Result<Vec<Placed>, AllocError>
     ensures nodes { let held = map T.held items.items in
         let AreNodes = AreNodesOf T.Held.entries T.Held.fits T.Held.fits_packed held in
         IfOk result (λ v. AreNodes (map (λ p. p.node) v.items)) }
     ensures in_range { OnOk result (All T.in_range (map T.held items.items)) }
 {
     let pages = items.len().div_ceil(MOST);
-    tile(&mut items, pages);
     let mut rest = items.into_iter();
     let mut nodes = Vec::with_capacity(alloc, pages)?;
     for place in 0..pages {
@@ -207,16 +156,26 @@ fn level<T: Packable>(alloc: Global, mut items: Vec<T>) -> Result<Vec<Placed>, A
     Ok(nodes)
 }
 
-/// The root of the packed tree of some entries, and its height.
+/// The nodes of the level above some nodes.
+fn level_above(alloc: Global, mut nodes: Vec<Placed>) -> Result<Vec<Placed>, AllocError>
+    ensures { let held = map (λ p. p.node) nodes.items in
+        let AreNodes = AreNodesOf entries_of FitsInner FitsPacked held in
+        IfOk result (λ v. AreNodes (map (λ p. p.node) v.items)) }
+{
+    tile(&mut nodes);
+    nodes_of(alloc, nodes)
+}
+
+/// The root of the packed tree of entries that are in the order of their pages, and its height.
 pub(crate) fn pack_entries(alloc: Global, entries: Vec<Entry>) -> Result<(Node, u32), AllocError>
     requires some { 0 < vec_len entries }
     requires distinct { (k : ℕ) → count_by (has_number k) entries.items ≤ 1 }
     ensures { IfOk result (λ r. IsPackedTree entries.items r.0 r.1) }
 {
-    let mut nodes = level(alloc, entries)?;
+    let mut nodes = nodes_of(alloc, entries)?;
     let mut height = 1;
     while nodes.len() > 1 {
-        nodes = level(alloc, nodes)?;
+        nodes = level_above(alloc, nodes)?;
         height += 1;
     }
     match nodes.pop() {

@@ -1,6 +1,7 @@
 //! Removal of an entry from a tree and a subtree; nodes that are left with too few are set aside.
 
-ghost use Rattle.std.specs.Prelude.{◌≡◌, ◌+◌, ◌≤◌, ◌↔◌, [], vec_len, vec_capacity, All, Contains, IsTrue, IsFalse, IsSome, IfSome, IfNone};
+ghost use Rattle.std.specs.Prelude.{◌≡◌, ◌+◌, ◌≤◌, ◌↔◌, [], vec_len, vec_capacity, All, Contains};
+ghost use Rattle.std.specs.Prelude.{IsTrue, IsFalse, IsSome, IfSome, IfNone};
 ghost use Rattle.std.specs.List.{flat_map};
 ghost use Rattle.rtree_core.specs.Items.{leaf_node, inner_node};
 ghost use Rattle.rtree_core.specs.Nodes.{entries_of, level_of, size_of, IsPage, IsLawful};
@@ -13,7 +14,8 @@ use split_core::measures::cover_all;
 use split_core::split::FEWEST;
 
 impl Trunk {
-    ghost use Rattle.std.specs.Prelude.{◌≡◌, ◌+◌, ◌-◌, ◌*◌, ◌≤◌, ◌↔◌, [], ◌∷◌, None, vec_capacity, Contains, IsTrue, IsFalse, IsSomeAnd};
+    ghost use Rattle.std.specs.Prelude.{◌≡◌, ◌+◌, ◌-◌, ◌*◌, ◌≤◌, ◌↔◌, [], ◌∷◌, None, vec_capacity};
+    ghost use Rattle.std.specs.Prelude.{Contains, IsTrue, IsFalse, IsSomeAnd};
     ghost use Rattle.split_core.specs.Collections.{Gains};
     ghost use Rattle.rtree_core.specs.Nodes.{size_of, IsLawfulAt};
     ghost use Rattle.rtree_core.specs.Trees.{entries_in};

@@ -1,15 +1,18 @@
 //! The tree: its root, and the edits and questions of the whole.
 
-ghost use Rattle.std.specs.Prelude.{◌≡◌, ◌+◌, ◌≤◌, [], ◌∷◌, length, vec_len, IsSome, OnOk, OnErr, option_copied};
+ghost use Rattle.std.specs.Prelude.{◌≡◌, ◌+◌, ◌≤◌, [], ◌∷◌, length, vec_len, IsSome, OnOk, OnErr};
+ghost use Rattle.std.specs.Prelude.{option_copied};
 
 use crate::node::{Entry, Node};
 use crate::pack::pack_entries;
 use crate::spare::Spare;
+use crate::tile::{tile, tile_by_threads};
 use crate::trunk::Trunk;
 use crate::window::collect;
 use geom_core::Shape;
 use std::alloc::{AllocError, Global};
 use std::marker::Model;
+use std::thread::Threads;
 
 /// Guttman's R-tree over entries, no two of which have one number.
 ///
@@ -41,7 +44,8 @@ impl Model for RTree {
 }
 
 impl RTree {
-    ghost use Rattle.std.specs.Prelude.{◌≡◌, ◌↔◌, ℕ, ◌≤◌, None, count_by, length, IsTrue, IsFalse, Contains, OnOk, OnErr, IfOk, IfSome, option_copied};
+    ghost use Rattle.std.specs.Prelude.{◌≡◌, ◌↔◌, ℕ, ◌≤◌, None, count_by, length, IsTrue, IsFalse};
+    ghost use Rattle.std.specs.Prelude.{Contains, OnOk, OnErr, IfOk, IfSome, option_copied};
     ghost use Rattle.split_core.specs.Collections.{HasSame, Gains};
     ghost use Rattle.rtree_core.specs.Packed.{IsPacked};
     ghost use Rattle.rtree_core.specs.Trees.{entries_in, height_of, has_number, IsTree, IsFresh};
@@ -63,7 +67,34 @@ impl RTree {
     /// and Edgington 1997).
     ///
     /// Each node below the root has 4 to 8 entries or children. An `Err` drops the list.
-    pub fn pack(alloc: Global, entries: Vec<Entry>) -> Result<RTree, AllocError>
+    pub fn pack(alloc: Global, mut entries: Vec<Entry>) -> Result<RTree, AllocError>
+        requires distinct { (k : ℕ) → count_by (has_number k) entries.items ≤ 1 }
+        ensures entries { IfOk result (λ t. HasSame entries.items (entries_in t)) }
+        ensures packed { IfOk result (λ t. IfSome t IsPacked) }
+    {
+        tile(&mut entries);
+        RTree::from_pages(alloc, entries)
+    }
+
+    /// Packs entries into the same tree as `pack` does, by at most so many threads.
+    ///
+    /// By 0 or 1 it starts no thread. An `Err` drops the list.
+    pub fn pack_by_threads<R: Threads + Sync>(
+        alloc: Global,
+        mut entries: Vec<Entry>,
+        threads: u32,
+        rt: &R,
+    ) -> Result<RTree, AllocError>
+        requires distinct { (k : ℕ) → count_by (has_number k) entries.items ≤ 1 }
+        ensures entries { IfOk result (λ t. HasSame entries.items (entries_in t)) }
+        ensures packed { IfOk result (λ t. IfSome t IsPacked) }
+    {
+        tile_by_threads(rt, threads, &mut entries);
+        RTree::from_pages(alloc, entries)
+    }
+
+    /// The packed tree of entries that are in the order of their pages.
+    fn from_pages(alloc: Global, entries: Vec<Entry>) -> Result<RTree, AllocError>
         requires distinct { (k : ℕ) → count_by (has_number k) entries.items ≤ 1 }
         ensures entries { IfOk result (λ t. HasSame entries.items (entries_in t)) }
         ensures packed { IfOk result (λ t. IfSome t IsPacked) }

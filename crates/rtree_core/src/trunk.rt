@@ -15,7 +15,8 @@ pub(crate) struct Trunk {
 }
 
 impl Trunk {
-    ghost use Rattle.std.specs.Prelude.{◌≡◌, ◌+◌, ◌^◌, ◌<◌, ◌≤◌, [], ◌∷◌, suc, None, vec_len, IsSomeAnd, OnOk};
+    ghost use Rattle.std.specs.Prelude.{◌≡◌, ◌+◌, ◌^◌, ◌<◌, ◌≤◌, [], ◌∷◌, suc, None, vec_len};
+    ghost use Rattle.std.specs.Prelude.{IsSomeAnd, OnOk};
     ghost use Rattle.rtree_core.specs.Items.{FitsInner};
     ghost use Rattle.rtree_core.specs.Nodes.{level_of};
     ghost use Rattle.rtree_core.specs.Spares.{AreSpare};

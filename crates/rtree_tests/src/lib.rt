@@ -8,4 +8,6 @@ mod refused;
 #[cfg(test)]
 mod rows;
 #[cfg(test)]
+mod threads;
+#[cfg(test)]
 mod trees;

@@ -6,7 +6,9 @@ use Rattle.rtree_core.proofs.NodeLemmas.{level-le-top}
 use Rattle.descent_core.proofs.FindLemmas.{adds_no_lefts, adds_no_rights, adds_node_left, adds_node_right, adds_apart, entries_in_cover}
 use Rattle.descent_core.proofs.LowerLemmas.{top_lower, above_zero, at_place}
 use Rattle.descent_core.proofs.rows.+descent.Goals as goal
-use Rattle.descent_core.proofs.rows.+descent.Goals.{descend-else-is_leaf-via-then-is_leaf+else-is_leaf-2, descend-else-is_leaf-via-else-is_leaf, descend-then-meets+in_ok-descend_beside, descend-else-meets, descend_beside-then-meets+in_ok-descend, descend_beside-else-meets}
+use Rattle.descent_core.proofs.rows.+descent.Goals.{descend-else-is_leaf-via-then-is_leaf+else-is_leaf-2, descend-else-is_leaf-via-else-is_leaf}
+use Rattle.descent_core.proofs.rows.+descent.Goals.{descend-then-meets+in_ok-descend_beside, descend-else-meets, descend_beside-then-meets+in_ok-descend}
+use Rattle.descent_core.proofs.rows.+descent.Goals.{descend_beside-else-meets}
 
 pub descend-loop-child-init : goal.descend-loop-child-init
 descend-loop-child-init t c = adds_no_lefts (relation_of c.args.relation.now) (entries_of c.args.right.now) c.args.found.now.items

@@ -17,9 +17,9 @@ pub loop-alloc-preserved : goal.loop-alloc-preserved
 loop-alloc-preserved c =
     let many : 2 ≤ length (map (λ (p : Placed). p.node) c.loop-alloc.nodes.items) = omega
     (arith, c.len.ensures, c.loop-alloc-test.true, c.loop-alloc.nodes.ok.0, length-map c.loop-alloc.nodes.items (λ (p : Placed). p.node)) in
-    let fewer = fewer_above _ _ many c.in_ok-nodes-2.ensures.nodes in
+    let fewer = fewer_above _ _ many c.in_ok-nodes-2.ensures in
     record {
-      row = row_next _ _ _ _ many c.loop-alloc.invariant.row c.in_ok-nodes-2.ensures.nodes;
+      row = row_next _ _ _ _ many c.loop-alloc.invariant.row c.in_ok-nodes-2.ensures;
       small = omega (
         arith,
         fewer,

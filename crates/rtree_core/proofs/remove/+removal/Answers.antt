@@ -16,7 +16,8 @@ use Rattle.rtree_core.proofs.ItemLemmas.{Opened, open_inner, child_level, inner_
 use Rattle.rtree_core.proofs.RemovalLemmas.{contains_joined, cover_holds, none_above, none_so_far, list_as_it_was}
 use Rattle.rtree_core.proofs.TakeLemmas.{Written, written, child_kept, child_aside}
 use Rattle.rtree_core.proofs.remove.+removal.Goals as goal
-use Rattle.rtree_core.proofs.remove.+removal.Goals.{take_from_inner-After-index, take_from_inner-then-size-lt-FEWEST, take_from_inner-else-size-lt-FEWEST, take_from_one-else-is_in-via-then-is_in+else-take_out, take_from_one-else-is_in-via-else-is_in}
+use Rattle.rtree_core.proofs.remove.+removal.Goals.{take_from_inner-After-index, take_from_inner-then-size-lt-FEWEST, take_from_inner-else-size-lt-FEWEST}
+use Rattle.rtree_core.proofs.remove.+removal.Goals.{take_from_one-else-is_in-via-then-is_in+else-take_out, take_from_one-else-is_in-via-else-is_in}
 
 pub take_from_inner-take_from_one-requires : goal.take_from_inner-take_from_one-requires
 take_from_inner-take_from_one-requires t c =

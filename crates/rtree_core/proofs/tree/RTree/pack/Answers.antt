@@ -1,14 +1,16 @@
 use Rattle.std.proofs.Common.{arith}
-use Rattle.rtree_core.specs.Nodes.{entries_of}
-use Rattle.rtree_core.proofs.TreeLemmas.{same_length}
+use Rattle.std.proofs.lemmas.Result.{IfOk-weaker}
+use Rattle.rtree_core.specs.Trees.{entries_in}
+use Rattle.rtree_core.proofs.PackLemmas.{through_slice}
+use Rattle.rtree_core.proofs.TileLemmas.{same_permuted, distinct_permuted}
 use Rattle.rtree_core.proofs.tree.RTree.pack.Goals as goal
 
-pub invariant_of-result : goal.invariant_of-result
-invariant_of-result c =
-    let made = c.in_ok-root.ensures in
-    record {
-      tree = made.tree;
-      sound = record { lawful = made.tree.lawful.lawful; height_is = made.height_is; lists = c.new-2.ensures };
-      len = omega (arith, c.len-len.ensures, c.args.entries.ok.0, same_length c.args.entries.items (entries_of c.in_ok-root.root) made.same);
-      none_aside = c.new-3.ensures.items;
-    }
+pub from_pages-requires : goal.from_pages-requires
+from_pages-requires c =
+    let sorted = rw c.deref_mut.ensures.value at (through_slice c.args.entries.len _ _ (omega (arith, c.deref_mut.ensures.len)) c.tile.ensures) in
+    record { distinct = distinct_permuted _ _ sorted c.requires.distinct }
+
+pub returns-clause-entries : goal.returns-clause-entries
+returns-clause-entries c =
+    let sorted = rw c.deref_mut.ensures.value at (through_slice c.args.entries.len _ _ (omega (arith, c.deref_mut.ensures.len)) c.tile.ensures) in
+    IfOk-weaker c.from_pages.result _ _ (λ t same. same_permuted _ _ (entries_in t) sorted same) c.from_pages.ensures.entries

@@ -3,7 +3,8 @@ use Rattle.std.specs.List.{flat_map}
 use Rattle.rtree_core.specs.Items.{entry_alone}
 use Rattle.rtree_core.specs.Nodes.{entries_of, size_of}
 use Rattle.rtree_core.proofs.NodeLemmas.{lawful_is, lawful_level}
-use Rattle.rtree_core.proofs.ItemLemmas.{as_leaf, as_leaf_level, leaf_entries, leaf_size, each_alone, open_inner, as_inner, as_inner_level, as_inner_lawful, inner_entries, inner_size, inner_fits}
+use Rattle.rtree_core.proofs.ItemLemmas.{as_leaf, as_leaf_level, leaf_entries, leaf_size, each_alone, open_inner, as_inner, as_inner_level, as_inner_lawful}
+use Rattle.rtree_core.proofs.ItemLemmas.{inner_entries, inner_size, inner_fits}
 use Rattle.rtree_core.proofs.trunk.Trunk.reinsert_node.Goals as goal
 
 pub insert_all-requires-clause-fit : goal.insert_all-requires-clause-fit

@@ -1,7 +1,7 @@
 use Rattle.std.proofs.Common.{◌≡◌, map, vec_capacity}
 use Rattle.std.specs.Vec.Iter.{into_iter_items}
 use Rattle.rtree_core.proofs.PackLemmas.{IsCut}
-use Rattle.rtree_core.proofs.pack.level.Given as goal
+use Rattle.rtree_core.proofs.pack.nodes_of.Given as goal
 
 abbrev pub invariant-loop-place : goal.invariant-loop-place
 invariant-loop-place g l = record {

@@ -1,14 +1,12 @@
-use Rattle.std.proofs.Common.{arith, ◌≡◌, ◌-◌, map, length}
+use Rattle.std.proofs.Common.{arith, ◌≡◌, ◌-◌, ap, map, length}
 use Rattle.std.proofs.lemmas.List.{length-map, map-append}
-use Rattle.std.proofs.lemmas.List.Sorted.{IsPermutation-map, length_permutation}
-use Rattle.std.specs.List.Sorted.{IsPermutation}
 use Rattle.std.specs.Vec.Iter.{into_iter_items}
 use Rattle.rtree_core.specs.declared.pack.Placed.{Placed}
 use Rattle.rtree_core.specs.declared.node.Node.{Node}
 use Rattle.rtree_core.specs.Packed.{IsShare}
-use Rattle.rtree_core.proofs.PackLemmas.{share_some, share_fits, cut_none, cut_more, cut_all, cut_in_range, through_slice}
-use Rattle.rtree_core.proofs.pack.level.Goals as goal
-use Rattle.rtree_core.proofs.pack.level.Goals.{In_ok-nodes, After-page_size-size}
+use Rattle.rtree_core.proofs.PackLemmas.{share_some, share_fits, cut_none, cut_more, cut_all, cut_in_range}
+use Rattle.rtree_core.proofs.pack.nodes_of.Goals as goal
+use Rattle.rtree_core.proofs.pack.nodes_of.Goals.{In_ok-nodes, After-page_size-size}
 
 share : (g : _) (c : After-page_size-size g) →
     IsShare c.page_size-size.result (length (map g.T.Packable.held (into_iter_items c.loop-place.rest))) (c.div_ceil-pages.result - c.loop-place.place)
@@ -22,23 +20,20 @@ next_page-requires-clause-few g c =
     let at = (goal.at.next_page-requires-clause-few g c).After-page_size-size in
     share_fits _ _ _ _ _ _ _ _ _ _ c.loop-place-test.true c.loop-place.invariant.cut (share g at)
 
-sorted : (g : _) (c : In_ok-nodes g) → IsPermutation (map g.T.Packable.held c.args.items.items)
-    (map g.T.Packable.held (into_iter_items c.into_iter-rest.result))
-sorted g c = IsPermutation-map g.T.Packable.held _ _ (rw (c.into_iter-rest.ensures.rest, ← c.deref_mut.ensures.value)
-    (through_slice _ _ _ (omega (arith, c.deref_mut.ensures.len)) c.tile.ensures))
+counted : (g : _) (c : In_ok-nodes g) → length (map g.T.Packable.held (into_iter_items c.into_iter-rest.result)) ≡ c.len.result
+counted g c = omega (
+  arith,
+  length-map (into_iter_items c.into_iter-rest.result) g.T.Packable.held,
+  ap length c.into_iter-rest.ensures.rest,
+  c.args.items.ok.0,
+  c.len.ensures,
+)
 
 pub node_of-node-requires : goal.node_of-node-requires
 node_of-node-requires g c =
     let at = (goal.at.node_of-node-requires g c).After-page_size-size in
-    let some = share_some _ _ _ _ _ _ _ _ _ _ c.loop-place-test.true (omega (
-      arith,
-      length_permutation _ _ (sorted g (goal.at.node_of-node-requires g c).In_ok-nodes),
-      length-map c.args.items.items
-          g.T.Packable.held,
-      c.args.items.ok.0,
-      c.div_ceil-pages.ensures,
-      c.len.ensures,
-    )) c.loop-place.invariant.cut (share g at) in
+    let some = share_some _ _ _ _ _ _ _ _ _ _ c.loop-place-test.true
+    (omega (arith, counted g (goal.at.node_of-node-requires g c).In_ok-nodes, c.div_ceil-pages.ensures)) c.loop-place.invariant.cut (share g at) in
     let few = share_fits _ _ _ _ _ _ _ _ _ _ c.loop-place-test.true c.loop-place.invariant.cut (share g at) in
     record {
       some = omega (arith, c.in_ok-page.ensures.page.len, some);
@@ -50,15 +45,7 @@ pub loop-place-init : goal.loop-place-init
 loop-place-init g c = record {
   cut =
       rw c.in_ok-nodes.ensures.items
-      (cut_none _ _ _ _ _ _ (omega (
-        arith,
-        length_permutation _ _ (sorted g c),
-        length-map c.args.items.items
-            g.T.Packable.held,
-        c.args.items.ok.0,
-        c.div_ceil-pages.ensures,
-        c.len.ensures,
-      )));
+      (cut_none _ _ _ _ _ _ (omega (arith, counted g c, c.div_ceil-pages.ensures)));
   room = c.in_ok-nodes.ensures.exact;
 }
 
@@ -78,11 +65,10 @@ loop-place-preserved g c =
 pub returns-clause-nodes : goal.returns-clause-nodes
 returns-clause-nodes g c =
     let all : c.loop-place.place ≡ c.div_ceil-pages.result = omega arith in
-    cut_all _ _ _ _ _ _ c.div_ceil-pages.result _ _ (sorted g (goal.at.returns-clause-nodes g c).In_ok-nodes)
-    (omega (arith, length-map c.args.items.items g.T.Packable.held, c.args.items.ok.0, c.div_ceil-pages.ensures, c.len.ensures))
-    (rw all at c.loop-place.invariant.cut)
+    let pages = rw (← counted g (goal.at.returns-clause-nodes g c).In_ok-nodes) at c.div_ceil-pages.ensures in
+    rw c.into_iter-rest.ensures.rest at (cut_all _ _ _ _ _ c.div_ceil-pages.result _ _ pages (rw all at c.loop-place.invariant.cut))
 
 pub returns-clause-in_range : goal.returns-clause-in_range
 returns-clause-in_range g c =
     let all : c.loop-place.place ≡ c.div_ceil-pages.result = omega arith in
-    cut_in_range _ _ _ _ _ _ c.div_ceil-pages.result _ _ (sorted g (goal.at.returns-clause-in_range g c).In_ok-nodes) (rw all at c.loop-place.invariant.cut)
+    rw c.into_iter-rest.ensures.rest at (cut_in_range _ _ _ _ _ c.div_ceil-pages.result _ _ (rw all at c.loop-place.invariant.cut))
