@@ -1,5 +1,6 @@
 -- A seat at the table that takes over what the board's seats have, one after another.
-use Rattle.std.proofs.Common.{◌≡◌, ℕ, ◌+◌, ◌-◌, ◌<◌, cond, List, [], ◌∷◌, ◌++◌, map, length, take, drop, get_or, flat_map, count_by, sym, ap, ◌∙◌, arith, length-append, length-take, get_or-drop, le_refl}
+use Rattle.std.proofs.Common.{◌≡◌, ℕ, ◌+◌, ◌-◌, ◌<◌, cond, List, [], ◌∷◌, ◌++◌, map, length, take, drop, get_or, flat_map, count_by, sym, ap, ◌∙◌, arith}
+use Rattle.std.proofs.Common.{length-append, length-take, get_or-drop, le_refl}
 use Rattle.std.proofs.lemmas.List.{flat_map_more, get_or-append_right, length-map}
 use Rattle.std.proofs.lemmas.List.Sums.{sum_by_push}
 use Rattle.atomic_table.specs.declared.shared.Seat.{Seat}

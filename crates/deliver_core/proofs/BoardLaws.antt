@@ -1,5 +1,6 @@
 -- The laws of the board hold of a new one, and every draw keeps them.
-use Rattle.std.proofs.Common.{◌≡◌, ℕ, zero, suc, ◌+◌, ◌*◌, ◌<◌, ◌≤◌, min, Bool, true, false, cond, List, [], ◌∷◌, length, set, fold, sum_by, count_by, flat_map, All, Any, Option, Some, None, slice_get, refl, sym, ap, ◌∙◌, subst, arith, length-set, ⊎_elim}
+use Rattle.std.proofs.Common.{◌≡◌, ℕ, zero, suc, ◌+◌, ◌*◌, ◌<◌, ◌≤◌, min, Bool, true, false, cond, List, [], ◌∷◌, length, set, fold, sum_by, count_by, flat_map}
+use Rattle.std.proofs.Common.{All, Any, Option, Some, None, slice_get, refl, sym, ap, ◌∙◌, subst, arith, length-set, ⊎_elim}
 use Rattle.std.specs.Option.{option_map_or}
 use Rattle.std.specs.List.Sorted.{IsStrictlyIncreasing}
 use Rattle.std.proofs.lemmas.Bool.{cases_lt}

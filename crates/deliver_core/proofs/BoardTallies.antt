@@ -1,5 +1,6 @@
 -- How a tally changes when one holder draws, and what it says of each holder.
-use Rattle.std.proofs.Common.{◌≡◌, ℕ, zero, suc, ◌+◌, ◌<◌, ◌≤◌, min, Bool, true, cond, eqb, List, [], ◌∷◌, ◌++◌, length, get_or, set, sum_by, count_by, flat_map, All, Any, refl, sym, ap, ◌∙◌, arith, length-append}
+use Rattle.std.proofs.Common.{◌≡◌, ℕ, zero, suc, ◌+◌, ◌<◌, ◌≤◌, min, Bool, true, cond, eqb, List, [], ◌∷◌, ◌++◌, length, get_or, set, sum_by, count_by}
+use Rattle.std.proofs.Common.{flat_map, All, Any, refl, sym, ap, ◌∙◌, arith, length-append}
 use Rattle.std.proofs.lemmas.Bool.Decides.{nat_tests}
 use Rattle.std.proofs.lemmas.List.Sums.{sum_by-cons, sum_by-append, sum_by_push, get_or-le-sum_by}
 use mathlib.Core.Option.{some, some-injective, some-ne-none}

@@ -1,5 +1,6 @@
 -- a collector refuses exactly what would break its history
-use Rattle.std.proofs.Common.{◌≡◌, ℕ, zero, suc, ◌+◌, ◌<◌, ◌≤◌, ◌⊎◌, Bool, true, false, cond, not, count_by, List, [], ◌∷◌, ◌++◌, length, take, None, Result, Ok, Err, refl, sym, ap, ◌∙◌, subst, inl, inr, arith, add-one, length-append}
+use Rattle.std.proofs.Common.{◌≡◌, ℕ, zero, suc, ◌+◌, ◌<◌, ◌≤◌, ◌⊎◌, Bool, true, false, cond, not, count_by, List, [], ◌∷◌, ◌++◌, length, take, None, Result}
+use Rattle.std.proofs.Common.{Ok, Err, refl, sym, ap, ◌∙◌, subst, inl, inr, arith, add-one, length-append}
 use Rattle.std.specs.List.{list_any}
 use Rattle.std.proofs.Math.Seq.{take-append_seam}
 use Rattle.std.proofs.lemmas.Bool.Decides.{nat_tests, eqb_tells, leb_tells}
@@ -15,7 +16,8 @@ use Rattle.deliver_core.specs.Collectors.{Collection, awaited, batch_refusal, en
 use Rattle.deliver_core.specs.Marks.{task_of, is_end, marks_of, batch_count, has_end, batch_marks, script_marks, IsLegalHistory}
 use Rattle.deliver_core.specs.Progress.{told}
 use Rattle.deliver_core.specs.Scripts.{Content, batch_of, end_of, bye}
-use Rattle.deliver_core.proofs.Histories.{list_any-told, count_by-told, told-prefix, told-batch, told-end, marks_of-push_same, marks_of-push_other, batch_marks-more, list_any-batch_marks, count_by-batch_marks, awaited-Ok, Ok-awaited}
+use Rattle.deliver_core.proofs.Histories.{list_any-told, count_by-told, told-prefix, told-batch, told-end, marks_of-push_same, marks_of-push_other}
+use Rattle.deliver_core.proofs.Histories.{batch_marks-more, list_any-batch_marks, count_by-batch_marks, awaited-Ok, Ok-awaited}
 
 -- a prefix of a script's marks is what some counter tells
 counter_from_prefix : (task count : ℕ) (front : List Mark) → IsPrefix front (script_marks task count) → (p : Progress) × (front ≡ told task p)

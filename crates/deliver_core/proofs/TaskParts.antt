@@ -10,7 +10,8 @@ use Rattle.deliver_core.specs.declared.mark.Mark.TheVariants.{Batch, End}
 use Rattle.deliver_core.specs.Draws.{times}
 use Rattle.deliver_core.specs.Marks.{marks_of}
 use Rattle.deliver_core.specs.Owners.{IsPart, IsWhole, last_word}
-use Rattle.deliver_core.specs.Scripts.{Content, Task, batch_of, end_of, bye, marks_in, pairs_in, is_of, of_task, batches_for, piece_of, script_batches, script, scripts_of}
+use Rattle.deliver_core.specs.Scripts.{Content, Task, batch_of, end_of, bye, marks_in, pairs_in, is_of, of_task, batches_for, piece_of, script_batches, script}
+use Rattle.deliver_core.specs.Scripts.{scripts_of}
 use Rattle.deliver_core.proofs.Prefixes.{prefix_filter}
 use Rattle.deliver_core.proofs.Scripts.{pairs_in-script}
 

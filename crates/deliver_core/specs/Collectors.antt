@@ -1,10 +1,12 @@
 -- what a collector holds, which messages it refuses and what it does with the others
-use Rattle.std.specs.Prelude.{◌≡◌, ◌↔◌, ℕ, ◌<◌, false, nat_lt, nat_le, ◌==◌, if◌then◌else◌, List, [], ◌∷◌, ◌++◌, fold, Option, Some, None, Result, Ok, Err, IsTrue}
+use Rattle.std.specs.Prelude.{◌≡◌, ◌↔◌, ℕ, ◌<◌, false, nat_lt, nat_le, ◌==◌, if◌then◌else◌, List}
+use Rattle.std.specs.Prelude.{[], ◌∷◌, ◌++◌, fold, Option, Some, None, Result, Ok, Err, IsTrue}
 use Rattle.std.specs.Ordering.{nat_cmp, ordering_then}
 use Rattle.std.specs.declared.cmp.Ordering.{Ordering}
 use Rattle.deliver_core.specs.declared.mark.Mark.{Mark}
 use Rattle.deliver_core.specs.declared.faults.Refusal.{Refusal}
-use Rattle.deliver_core.specs.declared.faults.Refusal.TheVariants.{Stranger, AfterEnd, Double, Gap, WrongCount}
+use Rattle.deliver_core.specs.declared.faults.Refusal.TheVariants.{Stranger, AfterEnd, Double, Gap}
+use Rattle.deliver_core.specs.declared.faults.Refusal.TheVariants.{WrongCount}
 use Rattle.deliver_core.specs.declared.faults.Finish.{Finish}
 use Rattle.deliver_core.specs.declared.faults.Finish.TheVariants.{Open}
 use Rattle.deliver_core.specs.Marks.{has_end, batch_count, IsLegalHistory}

@@ -1,5 +1,7 @@
 -- The board as a list of events: seats draw the numbers of tasks, one after another, from one word.
-use Rattle.std.specs.Prelude.{◌≡◌, ℕ, ◌+◌, ◌≤◌, Bool, true, false, List, [], ◌∷◌, ◌++◌, min, nat_lt, ◌==◌, if◌then◌else◌, slice_get, slice_set, replicate, length, count_by, sum_by, fold}
+use Rattle.std.specs.Prelude.{◌≡◌, ℕ, ◌+◌, ◌≤◌, Bool, true, false, List, [], ◌∷◌, ◌++◌, min, nat_lt}
+use Rattle.std.specs.Prelude.{◌==◌, if◌then◌else◌, slice_get, slice_set, replicate, length}
+use Rattle.std.specs.Prelude.{count_by, sum_by, fold}
 use Rattle.std.specs.Option.{option_map_or}
 
 -- what a seat has drawn, in order, and whether it is done: it has met the end of the numbers

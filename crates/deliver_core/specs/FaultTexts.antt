@@ -1,7 +1,8 @@
 -- the texts of the faults
 use Rattle.std.specs.Prelude.{ℕ, List, ◌++◌, codes, decimal}
 use Rattle.deliver_core.specs.declared.faults.Refusal.{Refusal}
-use Rattle.deliver_core.specs.declared.faults.Refusal.TheVariants.{Stranger, AfterEnd, Double, Gap, WrongCount, Memory}
+use Rattle.deliver_core.specs.declared.faults.Refusal.TheVariants.{Stranger, AfterEnd, Double, Gap}
+use Rattle.deliver_core.specs.declared.faults.Refusal.TheVariants.{WrongCount, Memory}
 use Rattle.deliver_core.specs.declared.faults.Finish.{Finish}
 use Rattle.deliver_core.specs.declared.faults.Finish.TheVariants.{Open}
 

@@ -1,5 +1,6 @@
 -- the marks of a collector, and which lists of them are a legal history
-use Rattle.std.specs.Prelude.{ℕ, ◌<◌, ◌==◌, Bool, true, false, not, List, [], ◌∷◌, ◌++◌, map, filter, count_by, All, IsTrue}
+use Rattle.std.specs.Prelude.{ℕ, ◌<◌, ◌==◌, Bool, true, false, not, List, [], ◌∷◌, ◌++◌, map}
+use Rattle.std.specs.Prelude.{filter, count_by, All, IsTrue}
 use Rattle.std.specs.List.{list_any, range_with_len}
 use mathlib.Core.List.{IsPrefix}
 use Rattle.deliver_core.specs.declared.mark.Mark.{Mark}

@@ -8,7 +8,8 @@ use Rattle.deliver_core.specs.declared.port.Port.{Port}
 use Rattle.deliver_core.specs.declared.tap.Tap.{Tap}
 use Rattle.deliver_core.specs.Byes.{is_bye, has_bye}
 use Rattle.deliver_core.specs.Outlets.{of_port}
-use Rattle.deliver_core.specs.Ports.{index_of, has_said_bye, is_spent, sent_by, taken_by, met_by, port_count, IsPortOf, IsTapOf}
+use Rattle.deliver_core.specs.Ports.{index_of, has_said_bye, is_spent, sent_by, taken_by, met_by}
+use Rattle.deliver_core.specs.Ports.{port_count, IsPortOf, IsTapOf}
 
 -- a port of the outlet that has sent nothing
 pub record IsFreshPort (outlet : Outlet) (port : Port) : Type 0 where

@@ -4,7 +4,8 @@ use mathlib.Core.List.{IsPrefix}
 use Rattle.deliver_core.specs.declared.message.Message.{Message}
 use Rattle.deliver_core.specs.declared.pass_view.PassView.{PassView}
 use Rattle.deliver_core.specs.Byes.{is_bye, has_bye, EndsAtBye}
-use Rattle.deliver_core.specs.PassViews.{sender_of, sent_of, ports_of, taken_of, met_of, with_taken, with_met}
+use Rattle.deliver_core.specs.PassViews.{sender_of, sent_of, ports_of, taken_of, met_of, with_taken}
+use Rattle.deliver_core.specs.PassViews.{with_met}
 use Rattle.deliver_core.specs.Outlets.{of_port}
 
 -- of each port that was met, a beginning of its list was taken

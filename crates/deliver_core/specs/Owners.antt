@@ -1,12 +1,14 @@
 -- Each task has an owner, a port that says its script, and the messages of all ports interleave.
-use Rattle.std.specs.Prelude.{◌≡◌, ℕ, ◌<◌, Bool, Option, Some, None, List, [], ◌∷◌, ◌++◌, All, map, length, slice_get, flat_map}
+use Rattle.std.specs.Prelude.{◌≡◌, ℕ, ◌<◌, Bool, Option, Some, None, List, [], ◌∷◌, ◌++◌, All, map}
+use Rattle.std.specs.Prelude.{length, slice_get, flat_map}
 use mathlib.Core.List.{IsPrefix}
 use Rattle.deliver_core.specs.declared.message.Message.{Message}
 use Rattle.deliver_core.specs.Collectors.{Collection, collected}
 use Rattle.deliver_core.specs.Draws.{AreNumbersBelow, AreSomeBelow}
 use Rattle.deliver_core.specs.Marks.{marks_of, script_marks}
 use Rattle.deliver_core.specs.Outlets.{of_port}
-use Rattle.deliver_core.specs.Scripts.{Content, Task, content_of, bye, of_task, batches_for, script, scripts_of}
+use Rattle.deliver_core.specs.Scripts.{Content, Task, content_of, bye, of_task, batches_for, script}
+use Rattle.deliver_core.specs.Scripts.{scripts_of}
 
 -- The number of tasks, how many pairs a batch has, the tasks that each port owns, by the port's
 -- index, and the messages of all ports, interleaved in any way

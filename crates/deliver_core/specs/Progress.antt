@@ -1,5 +1,6 @@
 -- how a collector's counters, one a task, tell its history
-use Rattle.std.specs.Prelude.{◌≡◌, ℕ, ◌<◌, ◌^◌, if◌then◌else◌, List, [], ◌∷◌, ◌++◌, length, All, slice_index_or}
+use Rattle.std.specs.Prelude.{◌≡◌, ℕ, ◌<◌, ◌^◌, if◌then◌else◌, List, [], ◌∷◌, ◌++◌, length, All}
+use Rattle.std.specs.Prelude.{slice_index_or}
 use Rattle.deliver_core.specs.declared.mark.Mark.{Mark}
 use Rattle.deliver_core.specs.declared.mark.Mark.TheVariants.{End}
 use Rattle.deliver_core.specs.declared.collector.Progress.{Progress}

@@ -1,5 +1,7 @@
 //! The board, from which workers draw the numbers of tasks.
-ghost use Rattle.std.specs.Prelude.{◌≡◌, ℕ, ◌+◌, ◌<◌, ◌≤◌, List, [], ◌∷◌, ◌++◌, true, false, All, Any, None, IfSome, IfNone, IfOk, map, replicate, length, flat_map};
+ghost use Rattle.std.specs.Prelude.{◌≡◌, ℕ, ◌+◌, ◌<◌, ◌≤◌, List, [], ◌∷◌, ◌++◌, true, false, All};
+ghost use Rattle.std.specs.Prelude.{Any, None, IfSome, IfNone, IfOk, map, replicate, length};
+ghost use Rattle.std.specs.Prelude.{flat_map};
 ghost use Rattle.deliver_core.specs.Draws.{AreNumbersBelow};
 ghost use Rattle.deliver_core.specs.BoardRule.{ObeysRule};
 ghost use Rattle.deliver_core.specs.declared.board.rule.SeatView.{SeatView};
@@ -36,7 +38,8 @@ impl Model for Board {
 }
 
 impl Board {
-    ghost use Rattle.deliver_core.specs.Boards.{fresh_seat, spent_seat, size_of, IsSeatOf, IsAfterNumber, IsAfterEnd, IsDraw};
+    ghost use Rattle.deliver_core.specs.Boards.{fresh_seat, spent_seat, size_of, IsSeatOf};
+    ghost use Rattle.deliver_core.specs.Boards.{IsAfterNumber, IsAfterEnd, IsDraw};
 
     /// The most tasks of a board.
     pub const MAX_TASKS: u32 = 65_536;

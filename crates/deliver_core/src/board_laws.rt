@@ -1,5 +1,6 @@
 //! The laws of the board.
-ghost use Rattle.std.specs.Prelude.{◌≡◌, ℕ, ◌+◌, ◌<◌, ◌≤◌, List, true, min, length, All, Any, count_by, sum_by, flat_map};
+ghost use Rattle.std.specs.Prelude.{◌≡◌, ℕ, ◌+◌, ◌<◌, ◌≤◌, List, true, min, length, All, Any};
+ghost use Rattle.std.specs.Prelude.{count_by, sum_by, flat_map};
 ghost use Rattle.std.specs.List.Sorted.{IsStrictlyIncreasing};
 ghost use Rattle.deliver_core.specs.Draws.{AreNumbersBelow, after_draws};
 

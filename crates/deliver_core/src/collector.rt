@@ -1,10 +1,13 @@
 //! The collector: it accepts each task's batches in order, each once, and then its end, and gives
 //! all pairs in ascending order.
-ghost use Rattle.std.specs.Prelude.{◌≡◌, ◌↔◌, ◌<◌, [], true, false, length, All, IfOk, IfErr, IsOk, OnOk, OnErr, IsOkUnless, IfSome, IfNone, IsPermutation, IsSorted};
+ghost use Rattle.std.specs.Prelude.{◌≡◌, ◌↔◌, ◌<◌, [], true, false, length, All, IfOk, IfErr, IsOk};
+ghost use Rattle.std.specs.Prelude.{OnOk, OnErr, IsOkUnless, IfSome, IfNone, IsPermutation};
+ghost use Rattle.std.specs.Prelude.{IsSorted};
 ghost use Rattle.std.specs.List.{AllWithin, HoldsAt};
 ghost use Rattle.deliver_core.specs.Marks.{IsLegalHistory, IsClosed};
 ghost use Rattle.deliver_core.specs.Scripts.{content_of, batch_of, end_of, IsBye};
-ghost use Rattle.deliver_core.specs.Collectors.{awaited, refusal_of, accept, RefusesIllegal, IsLeastOpen, pair_cmp};
+ghost use Rattle.deliver_core.specs.Collectors.{awaited, refusal_of, accept, RefusesIllegal};
+ghost use Rattle.deliver_core.specs.Collectors.{IsLeastOpen, pair_cmp};
 
 use crate::faults::{Finish, Refusal};
 use crate::mark::Mark;

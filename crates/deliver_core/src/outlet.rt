@@ -22,17 +22,23 @@ pub struct Outlet {
 }
 
 impl Outlet {
-    ghost use Rattle.std.specs.Prelude.{◌≡◌, ◌<◌, ◌≤◌, ◌++◌, [], ◌∷◌, true, false, Some, IsSome, IfOk, IfSome, IfNone, All, map, vec_len};
+    ghost use Rattle.std.specs.Prelude.{◌≡◌, ◌<◌, ◌≤◌, ◌++◌, [], ◌∷◌, true, false, Some, IsSome};
+    ghost use Rattle.std.specs.Prelude.{IfOk, IfSome, IfNone, All, map, vec_len};
     ghost use Rattle.std.specs.List.{range_with_len};
     ghost use mathlib.Core.List.{IsPrefix};
     ghost use Rattle.crossbeam_queue.specs.Passes.{view, IsPassOf, IsSamePass};
     ghost use Rattle.deliver_core.specs.Byes.{has_bye};
     ghost use Rattle.deliver_core.specs.Limits.{most_ports, room};
-    ghost use Rattle.deliver_core.specs.OutletCalls.{IsFreshPort, IsFreshTap, IsOpenPort, IsEndedPort, IsForPort, bye_of, IsAfterTaking, IsAfterNothing, IsSameTap, IsSpentPort, IsAfterMeeting};
-    ghost use Rattle.deliver_core.specs.OutletSteps.{Begins, IsAfterSend, IsAfterTake, IsAfterMiss, IsAfterMeet};
+    ghost use Rattle.deliver_core.specs.OutletCalls.{IsFreshPort, IsFreshTap, IsOpenPort};
+    ghost use Rattle.deliver_core.specs.OutletCalls.{IsEndedPort, IsForPort, bye_of, IsAfterTaking};
+    ghost use Rattle.deliver_core.specs.OutletCalls.{IsAfterNothing, IsSameTap, IsSpentPort};
+    ghost use Rattle.deliver_core.specs.OutletCalls.{IsAfterMeeting};
+    ghost use Rattle.deliver_core.specs.OutletSteps.{Begins, IsAfterSend, IsAfterTake, IsAfterMiss};
+    ghost use Rattle.deliver_core.specs.OutletSteps.{IsAfterMeet};
     ghost use Rattle.deliver_core.specs.Outlets.{of_port};
     ghost use Rattle.deliver_core.specs.PassViews.{sender_of, is_receiver, sent_of};
-    ghost use Rattle.deliver_core.specs.Ports.{index_of, is_spent, sent_by, taken_by, met_by, port_count, room_of, IsTapOf};
+    ghost use Rattle.deliver_core.specs.Ports.{index_of, is_spent, sent_by, taken_by, met_by};
+    ghost use Rattle.deliver_core.specs.Ports.{port_count, room_of, IsTapOf};
 
     /// The most ports of an outlet.
     pub const MAX_PORTS: u32 = 16;

@@ -3,7 +3,9 @@ ghost use Rattle.std.specs.Prelude.{◌≡◌, ℕ, ◌<◌, [], All, IsPermutat
 ghost use Rattle.deliver_core.specs.Collectors.{RefusesNone};
 ghost use Rattle.deliver_core.specs.Draws.{times};
 ghost use Rattle.deliver_core.specs.Marks.{IsClosed};
-ghost use Rattle.deliver_core.specs.Owners.{Owners, KeepsOwners, IsComplete, BeginsScript, IsScript, owned_tasks, owned_numbers, contents, collection};
+ghost use Rattle.deliver_core.specs.Owners.{Owners, KeepsOwners, IsComplete, BeginsScript};
+ghost use Rattle.deliver_core.specs.Owners.{IsScript, owned_tasks, owned_numbers, contents};
+ghost use Rattle.deliver_core.specs.Owners.{collection};
 ghost use Rattle.deliver_core.specs.Scripts.{of_task};
 
 /// Law of owners, for any number of ports: where no task has two owners, and each port sends the

@@ -1,5 +1,6 @@
 -- a collector that is offered one more message
-use Rattle.std.proofs.Common.{◌≡◌, ◌⊎◌, ℕ, inl, inr, Option, Some, None, Result, Ok, Err, is_ok, false, IfSome, IfNone, OnOk, OnErr, IsOkUnless, List, [], ◌∷◌, ◌++◌, refl, sym, ap, ◌∙◌, subst, append_assoc}
+use Rattle.std.proofs.Common.{◌≡◌, ◌⊎◌, ℕ, inl, inr, Option, Some, None, Result, Ok, Err, is_ok, false, IfSome, IfNone, OnOk, OnErr, IsOkUnless, List, [], ◌∷◌}
+use Rattle.std.proofs.Common.{◌++◌, refl, sym, ap, ◌∙◌, subst, append_assoc}
 use Rattle.std.proofs.lemmas.List.Sums.{fold_push}
 use Rattle.deliver_core.specs.declared.faults.Refusal.{Refusal}
 use Rattle.deliver_core.specs.declared.faults.Refusal.TheVariants.{Memory}

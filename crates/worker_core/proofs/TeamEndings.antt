@@ -1,5 +1,6 @@
 -- A team from its start to its outcome.
-use Rattle.std.proofs.Common.{◌≡◌, ℕ, ◌+◌, ◌<◌, ◌≤◌, true, Some, Result, IfOk, IfErr, List, All, length, map, slice_get, get_or, replicate, refl, sym, ap, ◌∙◌, subst, arith}
+use Rattle.std.proofs.Common.{◌≡◌, ℕ, ◌+◌, ◌<◌, ◌≤◌, true, Some, Result, IfOk, IfErr, List, All, length, map, slice_get, get_or, replicate, refl, sym, ap, ◌∙◌}
+use Rattle.std.proofs.Common.{subst, arith}
 use Rattle.std.specs.Prelude.{Any}
 use Rattle.std.specs.List.{flat_map, range_with_len}
 use Rattle.std.proofs.lemmas.List.{get_or-map, length-replicate}
@@ -67,8 +68,10 @@ all_end relation plan size workers room board outlet begun team result some_work
     let owners : AreOwners relation plan size board.tasks team.all_ok taken =
     are_owners relation plan size board taken team.all_ok team.seats.items (omega arith) known shares.each numbers in
     let same : team.gathering.intake.collector.tasks ≡ board.tasks = run.gathering.tasks ∙ counts in (
-      delivered relation plan size board.tasks team.all_ok taken team.gathering.intake.collector law owners same tasks some team.gathering.intake.accepted result gathers.taken_in ends,
-      only_want relation plan size board.tasks team.all_ok taken team.gathering.intake.collector law owners same team.gathering.intake.accepted result gathers.taken_in ends,
+      delivered relation plan size board.tasks team.all_ok taken team.gathering.intake.collector law owners same tasks some team.gathering.intake.accepted
+          result gathers.taken_in ends,
+      only_want relation plan size board.tasks team.all_ok taken team.gathering.intake.collector law owners same team.gathering.intake.accepted result
+          gathers.taken_in ends,
     )
 
 pub all_own : (relation : Relation) (plan : List (Node × Node)) (size workers : ℕ) (board : BoardValue) (team : Team)

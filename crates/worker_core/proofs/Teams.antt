@@ -1,5 +1,6 @@
 -- the worker that comes off a team, and what a team leaves once it has ended
-use Rattle.std.proofs.Common.{◌≡◌, ℕ, zero, suc, ◌+◌, ◌≤◌, ◌⊎◌, ◌&&◌, inl, inr, Bool, true, false, Some, List, [], ◌∷◌, ◌++◌, All, length, map, slice_get, vec_capacity, refl, sym, ap, ◌∙◌, subst, arith, length-append}
+use Rattle.std.proofs.Common.{◌≡◌, ℕ, zero, suc, ◌+◌, ◌≤◌, ◌⊎◌, ◌&&◌, inl, inr, Bool, true, false, Some, List, [], ◌∷◌, ◌++◌, All, length, map, slice_get}
+use Rattle.std.proofs.Common.{vec_capacity, refl, sym, ap, ◌∙◌, subst, arith, length-append}
 use Rattle.std.proofs.lemmas.List.{get_or_append_left}
 use Rattle.std.proofs.lemmas.Option.{slice_get_within, same_Some, none-some}
 use Rattle.std.proofs.Math.Seq.{get_or-append_seam}

@@ -1,5 +1,6 @@
 -- What a worker has sent, when it has worked off the tasks that it drew.
-use Rattle.std.specs.Prelude.{◌≡◌, ℕ, ◌<◌, Bool, true, false, List, [], ◌∷◌, ◌++◌, map, All, MatchBool, IsSomeAnd, slice_get}
+use Rattle.std.specs.Prelude.{◌≡◌, ℕ, ◌<◌, Bool, true, false, List, [], ◌∷◌, ◌++◌, map, All}
+use Rattle.std.specs.Prelude.{MatchBool, IsSomeAnd, slice_get}
 use mathlib.Core.List.{IsPrefix}
 use Rattle.geom_core.specs.declared.relation.Relation.{Relation}
 use Rattle.rtree_core.specs.declared.node.Node.{Node}

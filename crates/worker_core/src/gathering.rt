@@ -1,5 +1,6 @@
 //! The gatherer: it takes what the workers send, and offers it to the collector.
-ghost use Rattle.std.specs.Prelude.{◌≡◌, ◌<◌, ◌⊎◌, ℕ, true, false, Some, IfOk, length, map, slice_get};
+ghost use Rattle.std.specs.Prelude.{◌≡◌, ◌<◌, ◌⊎◌, ℕ, true, false, Some, IfOk, length, map};
+ghost use Rattle.std.specs.Prelude.{slice_get};
 ghost use Rattle.deliver_core.specs.Byes.{is_bye, has_bye};
 ghost use Rattle.deliver_core.specs.OutletCalls.{IsFreshTap};
 ghost use Rattle.deliver_core.specs.Outlets.{of_port};

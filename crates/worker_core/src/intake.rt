@@ -1,5 +1,6 @@
 //! The intake: a collector that is offered messages until it refuses one.
-ghost use Rattle.std.specs.Prelude.{◌≡◌, List, [], ◌∷◌, ◌++◌, true, false, IsOk, IsPermutation, IsSorted, IfOk, IfErr};
+ghost use Rattle.std.specs.Prelude.{◌≡◌, List, [], ◌∷◌, ◌++◌, true, false, IsOk, IsPermutation};
+ghost use Rattle.std.specs.Prelude.{IsSorted, IfOk, IfErr};
 ghost use Rattle.deliver_core.specs.Collectors.{pair_cmp};
 ghost use Rattle.deliver_core.specs.Marks.{IsClosed, IsLegalHistory};
 ghost use Rattle.deliver_core.specs.Scripts.{Content, content_of};

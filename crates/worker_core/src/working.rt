@@ -6,7 +6,8 @@ ghost use Rattle.deliver_core.specs.OutletCalls.{IsFreshPort, IsOpenPort};
 ghost use Rattle.deliver_core.specs.Ports.{index_of};
 ghost use Rattle.worker_core.specs.Sending.{said_by, StaysOpen};
 ghost use Rattle.worker_core.specs.Workers.{IsSeatBelow, IsReadyToMeet, WorkerSays};
-ghost use Rattle.worker_core.specs.Workers.{AreScripts, BeginScripts, SaysScripts, SaysBeginning, ComesBack};
+ghost use Rattle.worker_core.specs.Workers.{AreScripts, BeginScripts, SaysScripts, SaysBeginning};
+ghost use Rattle.worker_core.specs.Workers.{ComesBack};
 
 use crate::gate::Gate;
 use crate::rows::Rows;

@@ -17,7 +17,8 @@ loop-preserved g c =
 
 pub returns-in_err-send_task-clause-seat : goal.returns-in_err-send_task-clause-seat
 returns-in_err-send_task-clause-seat g c =
-    seat_gains c.args.shared.now.board.now c.loop.seat c.claim.new.seat c.in-Some-claim.task c.loop.invariant.seat c.claim.ensures.seat c.in-Some-claim.ensures.number
+    seat_gains c.args.shared.now.board.now c.loop.seat c.claim.new.seat c.in-Some-claim.task c.loop.invariant.seat c.claim.ensures.seat
+    c.in-Some-claim.ensures.number
 
 pub returns-in_err-send_task-clause-err : goal.returns-in_err-send_task-clause-err
 returns-in_err-send_task-clause-err g c =

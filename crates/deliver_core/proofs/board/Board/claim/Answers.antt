@@ -1,7 +1,8 @@
 use Rattle.std.proofs.Common.{ℕ, ◌+◌, ◌<◌, List, [], ◌∷◌, ◌++◌, All, Bool, false, sym, ap, ◌∙◌, subst, refl, arith}
 use Rattle.deliver_core.specs.Boards.{BoardValue, size_of, state_of, IsCounted}
 use Rattle.deliver_core.proofs.BoardMoves.{word_bound, draws}
-use Rattle.deliver_core.proofs.BoardClaims.{board_at, counted_at, drawn_at, done_at, NumberDrawn, number_drawn, EndMet, end_met, seat_number, seat_end, same_state}
+use Rattle.deliver_core.proofs.BoardClaims.{board_at, counted_at, drawn_at, done_at, NumberDrawn, number_drawn, EndMet, end_met, seat_number, seat_end}
+use Rattle.deliver_core.proofs.BoardClaims.{same_state}
 use Rattle.deliver_core.proofs.board.Board.claim.Goals as goal
 use Rattle.deliver_core.proofs.board.Board.claim.Goals.{Then-word-from, Else-word-from}
 
