@@ -1,5 +1,6 @@
 -- Texts that grow by pieces, groups of the same features, and sets that grow by a number.
-use Rattle.std.proofs.Common.{◌≡◌, ℕ, ℤ, pos, ◌-ℤ◌, ◌+ℤ◌, ◌≤ℤ◌, ◌<◌, ◌+◌, ◌==◌, Bool, true, List, [], ◌∷◌, ◌++◌, refl, ap, ◌∙◌, take, codes, length, get_or, append_assoc, flat_map, neg_ℤ, ◌≤◌, ◌*◌, unsigned_abs, to_z, of_z, w64, arith}
+use Rattle.std.proofs.Common.{◌≡◌, ℕ, ℤ, pos, ◌-ℤ◌, ◌+ℤ◌, ◌≤ℤ◌, ◌<◌, ◌+◌, ◌==◌, Bool, true, List, [], ◌∷◌, ◌++◌, refl, ap, ◌∙◌, take, codes, length, get_or}
+use Rattle.std.proofs.Common.{append_assoc, flat_map, neg_ℤ, ◌≤◌, ◌*◌, unsigned_abs, to_z, of_z, w64, arith}
 use Rattle.std.proofs.lemmas.Grind.{common_steps}
 use Rattle.std.proofs.lemmas.List.Folds.{list_any_more}
 use Rattle.std.proofs.lemmas.Int.{ints, to_z_pos}

@@ -1,5 +1,6 @@
 -- An id as the text of an XML element (XML 1.0, sections 2.2 and 2.4).
-use Rattle.std.specs.Prelude.{◌==◌, ℕ, Bool, List, ◌||◌, ◌&&◌, not, codes, nat_le, if◌then◌else◌, chars}
+use Rattle.std.specs.Prelude.{◌==◌, ℕ, Bool, List, ◌||◌, ◌&&◌, not, codes, nat_le, if◌then◌else◌}
+use Rattle.std.specs.Prelude.{chars}
 use Rattle.std.specs.List.{flat_map}
 use Rattle.std.specs.Char.{encode_utf8}
 

@@ -1,11 +1,13 @@
 -- The picture of two layers.
-use Rattle.std.specs.Prelude.{◌==◌, ℕ, ℤ, ◌-ℤ◌, Bool, List, [], ◌++◌, length, decimal, codes, if◌then◌else◌}
+use Rattle.std.specs.Prelude.{◌==◌, ℕ, ℤ, ◌-ℤ◌, Bool, List, [], ◌++◌, length, decimal, codes}
+use Rattle.std.specs.Prelude.{if◌then◌else◌}
 use Rattle.std.specs.Fmt.{signed_decimal}
 use Rattle.std.specs.List.{flat_map}
 use Rattle.geom_core.specs.declared.shape.Shape.{Shape}
 use Rattle.geom_core.specs.Shapes.{x1, y1, x2, y2, dim_of}
 use Rattle.layer_core.specs.Layers.{Feature, Contents}
-use Rattle.draw_core.specs.declared.drawing.TheConstants.{OPENING, LEFT_KEY, RIGHT_KEY, MATCH_KEY, LEGEND_END, CANVAS, CLOSING}
+use Rattle.draw_core.specs.declared.drawing.TheConstants.{OPENING, LEFT_KEY, RIGHT_KEY, MATCH_KEY}
+use Rattle.draw_core.specs.declared.drawing.TheConstants.{LEGEND_END, CANVAS, CLOSING}
 use Rattle.draw_core.specs.Labels.{label}
 use Rattle.draw_core.specs.Marks.{has_left, has_right}
 use Rattle.draw_core.specs.Views.{View, view_of}

@@ -27,10 +27,10 @@ const OPENING: &str = "<svg xmlns=\"http://www.w3.org/2000/svg\" version=\"1.1\"
 width=\"1000\" height=\"1040\" viewBox=\"0 0 1000 1040\">\n\
 <style>\
 text{font:16px sans-serif}\
-path{stroke-width:.1%;stroke-linecap:round;stroke-linejoin:round;fill-opacity:.1}\
+path{stroke-width:.1%;stroke-linecap:round;stroke-linejoin:round;fill-opacity:.06}\
 .point{stroke-width:.5%}\
-.match{stroke-width:.3%;fill-opacity:.4}\
-.point.match{stroke-width:1%}\
+.match{stroke-width:.25%;fill-opacity:.24}\
+.point.match{stroke-width:.9%}\
 .left{fill:#0072B2;stroke:#0072B2}\
 .right{fill:#D55E00;stroke:#D55E00}\
 </style>\n\
@@ -53,7 +53,8 @@ const MATCH_KEY: &str = "</text>\n<path class=\"left match\" d=\"M620 12h16v16h-
 const LEGEND_END: &str = "</text>\n";
 
 /// The start of the element that shows the frame, up to its width.
-const CANVAS: &str = "<svg y=\"40\" width=\"1000\" height=\"1000\" viewBox=\"0 0 ";
+const CANVAS: &str = "<svg y=\"40\" width=\"1000\" height=\"1000\" \
+preserveAspectRatio=\"xMidYMin\" viewBox=\"0 0 ";
 
 /// The ends of the frame's element and of the root.
 const CLOSING: &str = "</svg>\n</svg>\n";

@@ -4,7 +4,8 @@ ghost use Rattle.std.specs.Prelude.{◌≡◌, ◌++◌, ◌-ℤ◌, OnOk};
 ghost use Rattle.std.specs.String.{string_bytes};
 ghost use Rattle.geom_core.specs.Shapes.{x1, y1, x2, y2};
 ghost use Rattle.layer_core.specs.Walks.{feature_read};
-ghost use Rattle.draw_core.specs.Pictures.{numbered, corner, way_back, outline, title, start_of, element};
+ghost use Rattle.draw_core.specs.Pictures.{numbered, corner, way_back, outline, title, start_of};
+ghost use Rattle.draw_core.specs.Pictures.{element};
 
 use crate::frame::Frame;
 use crate::label::push_label;

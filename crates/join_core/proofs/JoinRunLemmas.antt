@@ -1,18 +1,20 @@
 -- The answers of a join of files.
-use Rattle.std.proofs.Common.{◌≡◌, ℕ, List, Option, Some, None, Result, Ok, Err, IsSome, IsErrAnd, IsErrOf, IsSomeAnd, IfSome, IsTrue, Bool, true, false, IfErr, IfOk, Vec, Global, ◌↔◌, ◌≢◌, All, get_or, refl, sym, subst, ◌∙◌, map}
+use Rattle.std.proofs.Common.{◌≡◌, ℕ, List, Option, Some, None, Result, Ok, Err, IsSome, IsErrAnd, IsErrOf, IsSomeAnd, IfSome, IsTrue, Bool, true, false, IfErr}
+use Rattle.std.proofs.Common.{IfOk, Vec, Global, ◌↔◌, ◌≢◌, All, get_or, refl, sym, subst, ◌∙◌, map}
 use Rattle.geom_core.specs.declared.relation.Relation.{Relation}
 use Rattle.layer_core.specs.declared.edit.Edit.{Edit as EditType}
 use Rattle.layer_core.specs.declared.fault.LayerFault.{LayerFault}
 use Rattle.layer_core.specs.declared.read_fault.ReadFault.{ReadFault}
 use Rattle.layer_core.specs.declared.read_fault.ReadFault.TheVariants.{Io}
-use Rattle.layer_core.specs.Edits.{both, content_of, edits_give}
+use Rattle.layer_core.specs.Edits.{Layers, both, content_of, edits_give}
 use Rattle.layer_core.specs.Layers.{Feature, Contents, with_number}
 use Rattle.join_core.specs.declared.fault.Input.{Input}
 use Rattle.join_core.specs.declared.fault.Input.TheVariants.{First, Second, Left, Right, Edits, Layer, Window}
 use Rattle.join_core.specs.declared.fault.RunFault.{RunFault}
-use Rattle.join_core.specs.declared.fault.RunFault.TheVariants.{NoFile, Read, Wkt, Edit, Join, Write, Memory, NoKeys}
+use Rattle.join_core.specs.declared.fault.RunFault.TheVariants.{NoFile, Read, Wkt, Edit, Join, TooManyToDraw, Write, Memory, NoKeys}
 use Rattle.join_core.specs.Inputs.{LayerFile, BlamesBytes, BlamesEdit, BlamesInput}
-use Rattle.join_core.specs.JoinRuns.{JoinFiles, EditFile, JoinGives, edits_fault, edit_refused, reported, IsLateFault, IsJoinFault, FailedAt}
+use Rattle.join_core.specs.JoinRuns.{JoinFiles, EditFile, LayersGive, edits_fault, edit_refused, edited, JoinGives, no_layers, reported, IsLateFault}
+use Rattle.join_core.specs.JoinRuns.{IsJoinFault, FailedAt}
 use Rattle.join_core.specs.Joins.{IsJoinList}
 use Rattle.join_core.specs.Reports.{IsHeld, IsReport}
 use Rattle.join_core.proofs.JoinLemmas.{contains_at}
@@ -30,30 +32,38 @@ pairs_held relation left right pairs list e joined =
     let s = (joined.exact (get_or pairs k d)).0 (contains_at pairs k d within) in
     (is_some_of (with_number (get_or pairs k d).0 left) s.first s.first_held, is_some_of (with_number (get_or pairs k d).1 right) s.second s.second_held))
 
--- what `?` hands on of a fault that is one of the join's
-pub handed_on : {T : Type 0} (J : Result (List ℕ) RunFault → Type 0) (out : Result T RunFault) (e is : RunFault) → IsErrAnd out (λ x. x ≡ e) → e ≡ is
+-- what `?` hands on of a fault that is one of the run's
+pub handed_on : {T V : Type 0} (J : Result V RunFault → Type 0) (out : Result T RunFault) (e is : RunFault) → IsErrAnd out (λ x. x ≡ e) → e ≡ is
     → (BlamesInput is → J (Err is)) → IfErr out (λ x. BlamesInput x → J (Err x))
 handed_on J (Ok x) e is h same gives = absurd h
 handed_on J (Err x) e is h same gives =
     let whole : x ≡ is = h ∙ same in
     λ blame. subst (λ (y : RunFault). J (Err y)) (sym whole) (gives (subst BlamesInput whole blame))
 
-pub edits_blamed : {T : Type 0} (relation : Relation) (files : JoinFiles) (l r : Contents) (out : Result T RunFault) (e : RunFault)
+pub edits_blamed : {T : Type 0} (files : JoinFiles) (l r : Contents) (out : Result T RunFault) (e : RunFault)
     → LayerFile files.scale files.left (Ok l) → LayerFile files.scale files.right (Ok r) → IsErrAnd out (λ x. x ≡ e)
     → ((f : ReadFault) × (e ≡ Read Edits f) × (BlamesBytes f → EditFile files.scale files.edits (Err f)))
-    → IfErr out (λ x. BlamesInput x → JoinGives relation files (Err x))
-edits_blamed relation files l r out e left right h fault =
-    handed_on (JoinGives relation files) out e (Read Edits fault.0) h fault.1 (λ blame. edits_fault l r fault.0 left right (fault.2 blame))
+    → IfErr out (λ x. BlamesInput x → LayersGive files (Err x))
+edits_blamed files l r out e left right h fault =
+    handed_on (LayersGive files) out e (Read Edits fault.0) h fault.1 (λ blame. edits_fault l r fault.0 left right (fault.2 blame))
 
-pub edit_blamed : {T : Type 0} (relation : Relation) (files : JoinFiles) (l r : Contents) (list items : List EditType) (out : Result T RunFault)
+pub edit_blamed : {T : Type 0} (files : JoinFiles) (l r : Contents) (list items : List EditType) (out : Result T RunFault)
     (e : RunFault)
-    → LayerFile files.scale files.left (Ok l) → LayerFile files.scale files.right (Ok r) → EditFile files.scale files.edits (Ok (map content_of items)) → list ≡ items → IsErrAnd out (λ x. x ≡ e)
+    → LayerFile files.scale files.left (Ok l) → LayerFile files.scale files.right (Ok r) → EditFile files.scale files.edits (Ok (map content_of items))
+    → list ≡ items → IsErrAnd out (λ x. x ≡ e)
     → ((row : ℕ) × (f : LayerFault) × (e ≡ Edit row f) × (BlamesEdit f → edits_give 1 (both l r) (map content_of list) ≡ Err (row, f)))
-    → IfErr out (λ x. BlamesInput x → JoinGives relation files (Err x))
-edit_blamed relation files l r list items out e left right edits same h fault =
-    handed_on (JoinGives relation files) out e (Edit fault.0 fault.1) h fault.2
+    → IfErr out (λ x. BlamesInput x → LayersGive files (Err x))
+edit_blamed files l r list items out e left right edits same h fault =
+    handed_on (LayersGive files) out e (Edit fault.0 fault.1) h fault.2
     (λ blame. edit_refused l r (map content_of items) fault.0 fault.1 left right edits
     (subst (λ (es : List EditType). edits_give 1 (both l r) (map content_of es) ≡ Err (fault.0, fault.1)) same (fault.3 blame)))
+
+pub layers_edited : (files : JoinFiles) (l r : Contents) (list items : List EditType) (layers : Layers)
+    → LayerFile files.scale files.left (Ok l) → LayerFile files.scale files.right (Ok r) → EditFile files.scale files.edits (Ok (map content_of items))
+    → list ≡ items → edits_give 1 (both l r) (map content_of list) ≡ Ok layers → LayersGive files (Ok layers)
+layers_edited files l r list items layers left right edits same given =
+    edited l r (map content_of items) layers left right edits
+    (subst (λ (es : List EditType). edits_give 1 (both l r) (map content_of es) ≡ Ok layers) same given)
 
 -- a late fault blames no input, and is none of a source
 pub none_blamed : (e : RunFault) → IsLateFault e → BlamesInput e → ⊥
@@ -62,43 +72,35 @@ none_blamed (Read i f) late blame = late
 none_blamed (Wkt i f) late blame = late
 none_blamed (Edit row f) late blame = late
 none_blamed (Join f) late blame = blame
+none_blamed TooManyToDraw late blame = late
 none_blamed Write late blame = blame
 none_blamed Memory late blame = blame
 none_blamed NoKeys late blame = blame
 
-late_is_no_read : (e : RunFault) (i : Input) (f : ReadFault) → IsLateFault e → e ≡ Read i f → ⊥
-late_is_no_read e i f late is = subst IsLateFault is late
-
-pub text_reported : (relation : Relation) (files : JoinFiles) (l r : Contents) (list items : List EditType) (left right : Contents) (text : List ℕ)
-    → LayerFile files.scale files.left (Ok l) → LayerFile files.scale files.right (Ok r) → EditFile files.scale files.edits (Ok (map content_of items)) → list ≡ items
-    → edits_give 1 (both l r) (map content_of list) ≡ Ok (both left right)
-    → ((pairs : List (ℕ × ℕ)) × IsJoinList relation left right pairs × IsReport left right pairs text) → JoinGives relation files (Ok text)
-text_reported relation files l r list items left right text a b edits same given report =
-    reported l r (map content_of items) (both left right) report.0 text a b edits
-    (subst (λ (es : List EditType). edits_give 1 (both l r) (map content_of es) ≡ Ok (both left right)) same given) report.1 report.2
+-- without layers there is no report
+pub no_report : {T : Type 0} (relation : Relation) (files : JoinFiles) (out : Result T RunFault) (e : RunFault) → IsErrAnd out (λ x. x ≡ e)
+    → (BlamesInput e → LayersGive files (Err e)) → IfErr out (λ x. BlamesInput x → JoinGives relation files (Err x))
+no_report relation files out e h fault = handed_on (JoinGives relation files) out e e h refl (λ blame. no_layers e (fault blame))
 
 -- the last step of a join, which lists the pairs and makes the report
-pub last_ok : (relation : Relation) (files : JoinFiles) (l r : Contents) (list items : List EditType) (left right : Contents)
-    (out : Result (Vec ℕ Global) RunFault)
-    → LayerFile files.scale files.left (Ok l) → LayerFile files.scale files.right (Ok r) → EditFile files.scale files.edits (Ok (map content_of items)) → list ≡ items
-    → edits_give 1 (both l r) (map content_of list) ≡ Ok (both left right)
+pub last_ok : (relation : Relation) (files : JoinFiles) (left right : Contents) (out : Result (Vec ℕ Global) RunFault) → LayersGive files (Ok (both left right))
     → IfOk out (λ text. (pairs : List (ℕ × ℕ)) × IsJoinList relation left right pairs × IsReport left right pairs text.items)
     → IfOk out (λ text. JoinGives relation files (Ok text.items))
-last_ok relation files l r list items left right (Ok text) a b edits same given report =
-    text_reported relation files l r list items left right text.items a b edits same given report
-last_ok relation files l r list items left right (Err e) a b edits same given report = tt
+last_ok relation files left right (Ok text) given report = reported (both left right) report.0 text.items given report.1 report.2
+last_ok relation files left right (Err e) given report = tt
 
 pub last_fault : {T : Type 0} (relation : Relation) (files : JoinFiles) (out : Result T RunFault)
     → IfErr out IsLateFault → IfErr out (λ f. BlamesInput f → JoinGives relation files (Err f))
 last_fault relation files (Ok x) err = tt
 last_fault relation files (Err e) err = λ blame. absurd (none_blamed e err blame)
 
-late_is_of_join : (e : RunFault) → IsLateFault e → IsJoinFault e
+pub late_is_of_join : (e : RunFault) → IsLateFault e → IsJoinFault e
 late_is_of_join (NoFile i) late = absurd late
 late_is_of_join (Read i f) late = absurd late
 late_is_of_join (Wkt i f) late = absurd late
 late_is_of_join (Edit row f) late = tt
 late_is_of_join (Join f) late = late
+late_is_of_join TooManyToDraw late = absurd late
 late_is_of_join Write late = absurd late
 late_is_of_join Memory late = tt
 late_is_of_join NoKeys late = absurd late
@@ -141,10 +143,11 @@ module _ {T U : Type 0} (out : Result T RunFault) (i : Input) (P : Type 0) where
   ] h
 
   -- a late fault is none
-  pub io_before : (y : U) → IsErrOf {E = RunFault} (Ok y) (Read i Io) ↔ P → IfErr out IsLateFault → IsErrOf out (Read i Io) ↔ P
-  io_before y io err = elim out as (λ r. IfErr r IsLateFault → IsErrOf r (Read i Io) ↔ P) [
+  pub io_before : (Late : RunFault → Type 0) → ((f : ReadFault) → Late (Read i f) → ⊥) → (y : U) → IsErrOf {E = RunFault} (Ok y) (Read i Io) ↔ P
+      → IfErr out Late → IsErrOf out (Read i Io) ↔ P
+  io_before Late none y io err = elim out as (λ r. IfErr r Late → IsErrOf r (Read i Io) ↔ P) [
     | Ok x ↦ λ h. ((λ q. absurd cc), (λ p. absurd (let q = io.1 p in cc)))
-    | Err x ↦ λ h. ((λ q. absurd (late_is_no_read x i Io h (let is : x ≡ Read i Io = cc in is))), (λ p. absurd (let q = io.1 p in cc)))
+    | Err x ↦ λ h. ((λ q. absurd (none Io (subst Late (let is : x ≡ Read i Io = cc in is) h))), (λ p. absurd (let q = io.1 p in cc)))
   ] err
 
 -- the edits' file is as it was where another is at fault

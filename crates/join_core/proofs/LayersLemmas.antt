@@ -1,6 +1,6 @@
 -- What reading two layers answers, by what was read of each and what was built of it.
-use Rattle.std.proofs.Common.{◌≡◌, ◌≢◌, ◌<◌, ℕ, List, Option, Some, None, Result, Ok, Err, IsErrAnd, IsErrOf, IfSome, IfErr, IfOk, Vec, Global, length, ap, refl, sym, subst}
-use Rattle.geom_core.specs.declared.relation.Relation.{Relation}
+use Rattle.std.proofs.Common.{◌≡◌, ◌≢◌, ◌<◌, ℕ, List, Option, Some, None, Result, Ok, Err, IsErrAnd, IsErrOf, IfSome, IfErr, IfOk, Vec, Global, length, ap}
+use Rattle.std.proofs.Common.{refl, sym, subst}
 use Rattle.wkt_core.specs.declared.scale.Scale.{Scale}
 use Rattle.layer_core.specs.declared.read_fault.ReadFault.{ReadFault}
 use Rattle.layer_core.specs.declared.read_fault.ReadFault.TheVariants as read_faults
@@ -12,9 +12,9 @@ use Rattle.layer_core.specs.Sources.{IsReadingFault}
 use Rattle.layer_core.proofs.FileLemmas.{file-unread}
 use Rattle.join_core.specs.declared.fault.Input.TheVariants.{First, Second, Left, Right, Edits, Layer, Window}
 use Rattle.join_core.specs.declared.fault.RunFault.{RunFault}
-use Rattle.join_core.specs.declared.fault.RunFault.TheVariants.{NoFile, Read, Wkt, Edit, Join, Write, Memory, NoKeys}
+use Rattle.join_core.specs.declared.fault.RunFault.TheVariants.{NoFile, Read, Wkt, Edit, Join, TooManyToDraw, Write, Memory, NoKeys}
 use Rattle.join_core.specs.Inputs.{LayerFile, Builds, BlamesBytes, BlamesInput}
-use Rattle.join_core.specs.JoinRuns.{JoinFiles, JoinGives, left_fault, right_fault, IsLayersFault, IsJoinFault}
+use Rattle.join_core.specs.JoinRuns.{JoinFiles, LayersGive, left_fault, right_fault, IsLayersFault, IsJoinFault}
 use Rattle.join_core.proofs.JoinRunLemmas.{handed_on}
 
 -- a source that isn't read to its end gives no layer
@@ -52,29 +52,30 @@ module _ (scale : Scale) where
       subst (λ (x : ReadFault). LayerFile scale known (Err x)) whole
       (unread_blamed scale known g reading (λ e. long (ap Err e)) (subst BlamesBytes (sym whole) blame))
 
--- a fault of the two layers is what the join gives
-layers_give : (relation : Relation) (files : JoinFiles) (e : RunFault) → IsLayersFault files.scale files.left files.right e → BlamesInput e
-    → JoinGives relation files (Err e)
-layers_give relation files (Read Left f) fault blame = left_fault f (fault blame)
-layers_give relation files (Read Right f) fault blame = let both = fault blame in right_fault both.0 f both.1 both.2
-layers_give relation files (Read First f) fault blame = absurd fault
-layers_give relation files (Read Second f) fault blame = absurd fault
-layers_give relation files (Read Edits f) fault blame = absurd fault
-layers_give relation files (Read Layer f) fault blame = absurd fault
-layers_give relation files (Read Window f) fault blame = absurd fault
-layers_give relation files (NoFile i) fault blame = absurd fault
-layers_give relation files (Wkt i f) fault blame = absurd fault
-layers_give relation files (Edit row f) fault blame = absurd fault
-layers_give relation files (Join f) fault blame = absurd fault
-layers_give relation files Write fault blame = absurd fault
-layers_give relation files Memory fault blame = absurd fault
-layers_give relation files NoKeys fault blame = absurd fault
+-- a fault of the two layers is what the files give
+layers_give : (files : JoinFiles) (e : RunFault) → IsLayersFault files.scale files.left files.right e → BlamesInput e
+    → LayersGive files (Err e)
+layers_give files (Read Left f) fault blame = left_fault f (fault blame)
+layers_give files (Read Right f) fault blame = let both = fault blame in right_fault both.0 f both.1 both.2
+layers_give files (Read First f) fault blame = absurd fault
+layers_give files (Read Second f) fault blame = absurd fault
+layers_give files (Read Edits f) fault blame = absurd fault
+layers_give files (Read Layer f) fault blame = absurd fault
+layers_give files (Read Window f) fault blame = absurd fault
+layers_give files (NoFile i) fault blame = absurd fault
+layers_give files (Wkt i f) fault blame = absurd fault
+layers_give files (Edit row f) fault blame = absurd fault
+layers_give files (Join f) fault blame = absurd fault
+layers_give files TooManyToDraw fault blame = absurd fault
+layers_give files Write fault blame = absurd fault
+layers_give files Memory fault blame = absurd fault
+layers_give files NoKeys fault blame = absurd fault
 
-pub layers_blamed : {T : Type 0} (relation : Relation) (files : JoinFiles) (out : Result T RunFault) (e : RunFault)
+pub layers_blamed : {T : Type 0} (files : JoinFiles) (out : Result T RunFault) (e : RunFault)
     → IsErrAnd out (λ x. x ≡ e) → IsLayersFault files.scale files.left files.right e
-    → IfErr out (λ x. BlamesInput x → JoinGives relation files (Err x))
-layers_blamed relation files out e h fault =
-    handed_on (JoinGives relation files) out e e h refl (λ blame. layers_give relation files e fault blame)
+    → IfErr out (λ x. BlamesInput x → LayersGive files (Err x))
+layers_blamed files out e h fault =
+    handed_on (LayersGive files) out e e h refl (λ blame. layers_give files e fault blame)
 
 module _ (scale : Scale) (left right : Option (List ℕ)) where
   pub layers_join_fault : (e : RunFault) → IsLayersFault scale left right e → IsJoinFault e
@@ -89,6 +90,7 @@ module _ (scale : Scale) (left right : Option (List ℕ)) where
   layers_join_fault (Wkt i f) fault = absurd fault
   layers_join_fault (Edit row f) fault = absurd fault
   layers_join_fault (Join f) fault = absurd fault
+  layers_join_fault TooManyToDraw fault = absurd fault
   layers_join_fault Write fault = absurd fault
   layers_join_fault Memory fault = absurd fault
   layers_join_fault NoKeys fault = absurd fault

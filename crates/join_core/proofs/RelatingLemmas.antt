@@ -32,7 +32,8 @@ second_at_fault scale a b s e out is spelled spelled_only read only Second f =
 second_at_fault scale a b s e out is spelled spelled_only read only _ f = ((λ q. absurd cc), (λ h. absurd h))
 
 -- both spell shapes
-pub none_at_fault : {T : Type 0} (scale : Scale) (a b : List ℕ) (s t : Shape) (x : T) (out : Result T RunFault) → out ≡ Ok x → ReadsOnly scale a (Ok s) → ReadsOnly scale b (Ok t)
+pub none_at_fault : {T : Type 0} (scale : Scale) (a b : List ℕ) (s t : Shape) (x : T) (out : Result T RunFault) → out ≡ Ok x → ReadsOnly scale a (Ok s)
+    → ReadsOnly scale b (Ok t)
     → (i : Input) (f : WktFault) → (out ≡ Err (Wkt i f)) ↔ HasFirstFault scale a b i f
 none_at_fault scale a b s t x out is first second First f = ((λ q. absurd cc), (λ h. let bad = first (Err f) h in absurd cc))
 none_at_fault scale a b s t x out is first second Second f = ((λ q. absurd cc), (λ h. let bad = second (Err f) h.1 in absurd cc))

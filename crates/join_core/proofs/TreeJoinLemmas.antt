@@ -26,8 +26,10 @@ module _ (relation : Relation) (left right : Contents) (left_root right_root : O
   -- two entries of the trees are two features
   of_entries : (pair : ℕ × ℕ) → EntriesStandIn relation (entries_in left_root) (entries_in right_root) pair → StandIn relation left right pair
   of_entries pair s =
-      let f = feature_of left.features s.first (same-contains (entries_in left_root) (map indexed left.features) s.first (λ p. sym (left_tree p)) s.first_held) in
-      let g = feature_of right.features s.second (same-contains (entries_in right_root) (map indexed right.features) s.second (λ p. sym (right_tree p)) s.second_held) in
+      let f = feature_of left.features s.first (same-contains (entries_in left_root) (map indexed left.features) s.first
+      (λ p. sym (left_tree p)) s.first_held) in
+      let g = feature_of right.features s.second (same-contains (entries_in right_root) (map indexed right.features) s.second
+      (λ p. sym (right_tree p)) s.second_held) in
       record {
         first = f.0;
         second = g.0;

@@ -1,5 +1,6 @@
 -- The numbers that a layer's tree finds in a window, as those of the layer's features.
-use Rattle.std.proofs.Common.{◌≡◌, ℕ, ◌<◌, inl, inr, Bool, true, false, cond, List, [], ◌∷◌, Option, Some, Result, Ok, Err, IfOk, Vec, Global, map, refl, sym, ap, subst, ◌∙◌, arith, Contains, ◌↔◌}
+use Rattle.std.proofs.Common.{◌≡◌, ℕ, ◌<◌, inl, inr, Bool, true, false, cond, List, [], ◌∷◌, Option, Some, Result, Ok, Err, IfOk, Vec, Global, map, refl, sym}
+use Rattle.std.proofs.Common.{ap, subst, ◌∙◌, arith, Contains, ◌↔◌}
 use Rattle.std.specs.Prelude.{Any, count_by}
 use Rattle.std.proofs.lemmas.List.Elements.{All-contains}
 use Rattle.std.proofs.lemmas.List.Sums.{sum_by-cons}
@@ -76,7 +77,8 @@ found_exactly window layer root seen numbers lawful exact same met all k = (
       let listed = same-contains (map indexed layer.features) (entries_in root) (indexed m.feature) exact (entry_of layer.features m.feature f.0) in
       let seen_there : Contains (entries_in seen) (indexed m.feature) =
       subst (λ (r : Option Node). Contains (entries_in r) (indexed m.feature)) (sym same) listed in
-      subst (Contains numbers) f.1 (All-contains (λ (x : Entry). Meets x.shape window → Contains numbers x.number) (entries_in seen) (indexed m.feature) all seen_there m.meets)),
+      subst (Contains numbers) f.1 (All-contains
+      (λ (x : Entry). Meets x.shape window → Contains numbers x.number) (entries_in seen) (indexed m.feature) all seen_there m.meets)),
 )
 
 pub all_exactly : {E : Type 0} (r : Result (Vec ℕ Global) E) (window : Shape) (layer : Contents) (root seen : Option Node) → IsLayer layer

@@ -81,7 +81,8 @@ meeting_ids window (f ∷ fs) (n ∷ numbers) (id ∷ ids) rising increasing are
       ] in
       subst (λ (i : List ℕ). MeetingIds window (f ∷ fs) (i ∷ ids)) (ap (λ (h : Feature). h.id) first ∙ are.0.id_is)
       (met (subst (λ (h : Feature). Meets h.shape window) (sym first) are.0.meets)
-      (meeting_ids window fs numbers ids (rising_rest (λ a b. a.number < b.number) f fs rising) (rising_rest (λ a b. a < b) n numbers increasing) (all_behind window f fs numbers ids above are.1) rest))
+      (meeting_ids window fs numbers ids (rising_rest (λ a b. a.number < b.number) f fs rising) (rising_rest (λ a b. a < b) n numbers increasing)
+      (all_behind window f fs numbers ids above are.1) rest))
   | inr differs ↦
       let head = behind window f fs n id differs are.0 in
       let higher : f.number < n = subst (λ k. f.number < k) head.number_is (above_head f head.feature fs rising head.listed) in
@@ -91,7 +92,8 @@ meeting_ids window (f ∷ fs) (n ∷ numbers) (id ∷ ids) rising increasing are
         | inr later ↦ absurd (omega (arith, above_first n k numbers increasing later))
       ] in
       missed (λ h. above f.number (all f (contains_here f fs) h) refl)
-      (meeting_ids window fs (n ∷ numbers) (id ∷ ids) (rising_rest (λ a b. a.number < b.number) f fs rising) increasing (all_behind window f fs (n ∷ numbers) (id ∷ ids) above are)
+      (meeting_ids window fs (n ∷ numbers) (id ∷ ids) (rising_rest (λ a b. a.number < b.number) f fs rising) increasing
+      (all_behind window f fs (n ∷ numbers) (id ∷ ids) above are)
       (λ g c h. all g (contains_later f fs g c) h))
 ]
   where

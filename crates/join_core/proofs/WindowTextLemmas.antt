@@ -1,5 +1,6 @@
 -- The rows of a window's list.
-use Rattle.std.proofs.Common.{◌≡◌, ℕ, ◌<◌, ◌≤◌, List, [], ◌∷◌, ◌++◌, Option, Some, None, IsSome, Result, Ok, Err, OnOk, length, get_or, take, take_all, map, sym, ap, subst, ◌∙◌, refl, Vec, Global, AllPairs, Contains, ◌↔◌, ◌+◌, codes}
+use Rattle.std.proofs.Common.{◌≡◌, ℕ, ◌<◌, ◌≤◌, List, [], ◌∷◌, ◌++◌, Option, Some, None, IsSome, Result, Ok, Err, OnOk, length, get_or, take, take_all, map}
+use Rattle.std.proofs.Common.{sym, ap, subst, ◌∙◌, refl, Vec, Global, AllPairs, Contains, ◌↔◌, ◌+◌, codes}
 use Rattle.std.specs.Borrow.{Bor}
 use Rattle.std.specs.List.{AllZip}
 use Rattle.std.specs.Option.{option_map}

@@ -1,5 +1,6 @@
 -- How what was written grows.
-use Rattle.std.proofs.Common.{◌≡◌, ℕ, ◌-◌, ◌≤◌, List, [], ◌∷◌, ◌++◌, Option, Bool, true, false, length, take, drop, refl, sym, ap, subst, arith, append-nil, append_assoc, ◌∙◌, IsTrue, ◌↔◌}
+use Rattle.std.proofs.Common.{◌≡◌, ℕ, ◌-◌, ◌≤◌, List, [], ◌∷◌, ◌++◌, Option, Bool, true, false, length, take, drop, refl, sym, ap, subst, arith, append-nil}
+use Rattle.std.proofs.Common.{append_assoc, ◌∙◌, IsTrue, ◌↔◌}
 use Rattle.std.proofs.lemmas.Grind.{common_steps}
 use Rattle.std.specs.Io.KnownBytes.{Appends, Keeps}
 use Rattle.std.proofs.KnownBytes.{Appends-trans, Appends-kept}

@@ -2,7 +2,8 @@
 use Rattle.std.specs.Prelude.{◌≡◌, false, ℕ, List, [], ◌∷◌, ◌++◌, Option, Some}
 use Rattle.std.specs.Global.{Global}
 use Rattle.std.specs.declared.vec.Vec.{Vec}
-use Rattle.csv.specs.Writing.{default_writer, writer_setup, fields_written, has_written, text_written}
+use Rattle.csv.specs.Writing.{default_writer, writer_setup, fields_written, has_written}
+use Rattle.csv.specs.Writing.{text_written}
 use Rattle.csv.specs.declared.writer.Writer.{Writer}
 use Rattle.join_core.specs.CsvTexts.{csv_text}
 

@@ -4,7 +4,8 @@ use Rattle.wkt_core.specs.FaultTexts.{wkt_text}
 use Rattle.layer_core.specs.FaultTexts.{layer_text, read_text, row_text}
 use Rattle.worker_core.specs.Faults.{join_text}
 use Rattle.join_core.specs.declared.fault.Input.{Input}
-use Rattle.join_core.specs.declared.fault.Input.TheVariants.{First, Second, Left, Right, Edits, Layer, Window}
+use Rattle.join_core.specs.declared.fault.Input.TheVariants.{First, Second, Left, Right, Edits}
+use Rattle.join_core.specs.declared.fault.Input.TheVariants.{Layer, Window}
 use Rattle.join_core.specs.declared.fault.RunFault.{RunFault}
 use Rattle.join_core.specs.declared.fault.RunFault.TheVariants as run
 
@@ -23,6 +24,7 @@ run_text (run.Read input fault) = input_word input ++ (codes ": " ++ read_text f
 run_text (run.Wkt input fault) = input_word input ++ (codes ": " ++ wkt_text fault)
 run_text (run.Edit n fault) = codes "edits: " ++ (row_text n ++ layer_text fault)
 run_text (run.Join fault) = join_text fault
+run_text run.TooManyToDraw = codes "more than 100000 features to draw"
 run_text run.Write = codes "write failed"
 run_text run.Memory = codes "no memory"
 run_text run.NoKeys = codes "no random keys for hashing"

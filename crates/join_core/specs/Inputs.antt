@@ -9,7 +9,7 @@ use Rattle.layer_core.specs.Layers.{Contents}
 use Rattle.layer_core.specs.LayerFiles.{IsLayerFile}
 use Rattle.layer_core.specs.LayerTrees.{LayerState, list_read}
 use Rattle.join_core.specs.declared.fault.RunFault.{RunFault}
-use Rattle.join_core.specs.declared.fault.RunFault.TheVariants.{Read, Edit}
+use Rattle.join_core.specs.declared.fault.RunFault.TheVariants.{Read, Edit, TooManyToDraw}
 
 -- what a file of a layer gives at a scale, where its bytes are known
 abbrev pub LayerFile : Scale → Option (List ℕ) → Result Contents ReadFault → Type 0
@@ -34,4 +34,5 @@ BlamesEdit _ = ⊤
 abbrev pub BlamesInput : RunFault → Type 0
 BlamesInput (Read input f) = BlamesBytes f
 BlamesInput (Edit row f) = BlamesEdit f
+BlamesInput TooManyToDraw = ⊤
 BlamesInput _ = ⊥

@@ -39,7 +39,8 @@ files_of scale left_bytes right_bytes edits_bytes sources = record {
 }
 
 -- what a file of edits gives at a scale: no edits where there is none
-abbrev pub EditFile : Scale → Option (Option (List ℕ)) → Result (List EditContent) ReadFault → Type 0
+abbrev pub EditFile : Scale → Option (Option (List ℕ))
+    → Result (List EditContent) ReadFault → Type 0
 EditFile scale None answer = answer ≡ Ok []
 EditFile scale (Some known) answer = IfSome known (λ bytes. IsEditFile scale bytes answer)
 
@@ -50,29 +51,33 @@ IsLayersFault scale left right (Read Right f) =
     BlamesBytes f → (l : Contents) × LayerFile scale left (Ok l) × LayerFile scale right (Err f)
 IsLayersFault scale left right _ = ⊥
 
--- the report of the edited layers, or the first fault of the left file, the right one, that of
--- edits and the edits, in this order
-pub data JoinGives (relation : Relation) (files : JoinFiles)
-    : Result (List ℕ) RunFault → Type 0 where
+-- the edited layers, or the first fault of the left file, the right one, that of edits and the
+-- edits, in this order
+pub data LayersGive (files : JoinFiles) : Result Layers RunFault → Type 0 where
   left_fault : (f : ReadFault) → LayerFile files.scale files.left (Err f)
-      → JoinGives relation files (Err (Read Left f))
+      → LayersGive files (Err (Read Left f))
   right_fault : (l : Contents) (f : ReadFault) → LayerFile files.scale files.left (Ok l)
-      → LayerFile files.scale files.right (Err f)
-      → JoinGives relation files (Err (Read Right f))
+      → LayerFile files.scale files.right (Err f) → LayersGive files (Err (Read Right f))
   edits_fault : (l r : Contents) (f : ReadFault) → LayerFile files.scale files.left (Ok l)
       → LayerFile files.scale files.right (Ok r)
-      → EditFile files.scale files.edits (Err f) → JoinGives relation files (Err (Read Edits f))
+      → EditFile files.scale files.edits (Err f) → LayersGive files (Err (Read Edits f))
   edit_refused : (l r : Contents) (edits : List EditContent) (row : ℕ) (f : LayerFault)
       → LayerFile files.scale files.left (Ok l) → LayerFile files.scale files.right (Ok r)
       → EditFile files.scale files.edits (Ok edits)
-      → edits_give 1 (both l r) edits ≡ Err (row, f) → JoinGives relation files (Err (Edit row f))
-  reported : (l r : Contents) (edits : List EditContent) (edited : Layers)
-      (pairs : List (ℕ × ℕ)) (text : List ℕ)
+      → edits_give 1 (both l r) edits ≡ Err (row, f) → LayersGive files (Err (Edit row f))
+  edited : (l r : Contents) (edits : List EditContent) (layers : Layers)
       → LayerFile files.scale files.left (Ok l) → LayerFile files.scale files.right (Ok r)
       → EditFile files.scale files.edits (Ok edits)
-      → edits_give 1 (both l r) edits ≡ Ok edited
-      → IsJoinList relation edited.left edited.right pairs
-      → IsReport edited.left edited.right pairs text → JoinGives relation files (Ok text)
+      → edits_give 1 (both l r) edits ≡ Ok layers → LayersGive files (Ok layers)
+
+-- the report of the edited layers' pairs, or the fault for which there are no such layers
+pub data JoinGives (relation : Relation) (files : JoinFiles)
+    : Result (List ℕ) RunFault → Type 0 where
+  no_layers : (f : RunFault) → LayersGive files (Err f) → JoinGives relation files (Err f)
+  reported : (layers : Layers) (pairs : List (ℕ × ℕ)) (text : List ℕ)
+      → LayersGive files (Ok layers)
+      → IsJoinList relation layers.left layers.right pairs
+      → IsReport layers.left layers.right pairs text → JoinGives relation files (Ok text)
 
 -- the report that a join of these files gives
 abbrev pub IsJoinText : Relation → JoinFiles → List ℕ → Type 0

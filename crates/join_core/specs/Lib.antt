@@ -1,6 +1,7 @@
 pub mod Columns
 pub mod CsvTexts
 pub mod CsvWriting
+pub mod DrawRuns
 pub mod FaultTexts
 pub mod Inputs
 pub mod JoinRuns
@@ -10,6 +11,7 @@ pub mod Lines
 pub mod OptionTexts
 pub mod Options
 pub mod Relating
+pub mod ReportRows
 pub mod Reports
 pub mod Runs
 pub mod StatsRuns

@@ -11,7 +11,8 @@ use Rattle.join_core.specs.Inputs.{LayerFile}
 use Rattle.join_core.specs.StatsTexts.{stats_text}
 
 -- the counts of the layer with the height of its tree, or the fault of the layer's file
-pub data StatsGives (scale : Scale) (file : Option (List ℕ)) : Result (List ℕ) RunFault → Type 0 where
+pub data StatsGives (scale : Scale) (file : Option (List ℕ))
+    : Result (List ℕ) RunFault → Type 0 where
   layer_fault : (f : ReadFault) → LayerFile scale file (Err f)
       → StatsGives scale file (Err (Read input.Layer f))
   counted : (layer : LayerState) → LayerFile scale file (Ok layer.list)

@@ -19,7 +19,8 @@ pub data WindowGives (scale : Scale) (wkt : List ℕ) (file : Option (List ℕ))
     : Result (List ℕ) RunFault → Type 0 where
   text_fault : (f : WktFault) → Reads scale wkt (Err f)
       → WindowGives scale wkt file (Err (Wkt input.Window f))
-  layer_fault : (window : Shape) (f : ReadFault) → Reads scale wkt (Ok window) → LayerFile scale file (Err f)
+  layer_fault : (window : Shape) (f : ReadFault)
+      → Reads scale wkt (Ok window) → LayerFile scale file (Err f)
       → WindowGives scale wkt file (Err (Read input.Layer f))
   listed : (window : Shape) (layer : Contents) (text : List ℕ) → Reads scale wkt (Ok window)
       → LayerFile scale file (Ok layer) → IsWindowList window layer text

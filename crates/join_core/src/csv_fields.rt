@@ -2,12 +2,26 @@
 
 ghost use Rattle.std.specs.Prelude.{◌≡◌, ◌++◌, IfOk, OnOk};
 ghost use Rattle.csv.specs.Writing.{default_writer, field_text, needs_quotes};
+ghost use Rattle.join_core.specs.CsvTexts.{leading_field};
 
 use crate::csv_rows::new_rows;
 use std::alloc::{AllocError, Global};
 
+/// Adds a field to a text, and the comma behind it.
+pub(crate) fn push_leading_field(
+    alloc: Global,
+    text: &mut Vec<u8>,
+    field: &[u8],
+) -> Result<(), AllocError>
+    ensures { OnOk result (text.new.items ≡ text.old.items ++ leading_field field.now) }
+{
+    push_field(alloc, text, field)?;
+    text.push(b',')?;
+    Ok(())
+}
+
 /// Adds a field to a text, between quotes where it needs them.
-pub(crate) fn push_field(alloc: Global, text: &mut Vec<u8>, field: &[u8]) -> Result<(), AllocError>
+fn push_field(alloc: Global, text: &mut Vec<u8>, field: &[u8]) -> Result<(), AllocError>
     ensures { OnOk result
         (text.new.items ≡ text.old.items ++ field_text default_writer field.now) }
 {

@@ -62,6 +62,8 @@ pub enum RunFault {
     Edit(u32, LayerFault),
     /// The layers can't be joined.
     Join(JoinFault),
+    /// The layers have more features than a picture may have.
+    TooManyToDraw,
     /// The output has failed.
     Write,
     /// Memory ran out.

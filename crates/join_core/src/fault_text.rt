@@ -1,6 +1,7 @@
 //! What a fault says, and the line that is written of it.
 
-ghost use Rattle.std.specs.Prelude.{◌≡◌, ◌+◌, ◌≤◌, ◌↔◌, ◌++◌, false, length, IsTrue, IsErr, OnOk, OnErr};
+ghost use Rattle.std.specs.Prelude.{◌≡◌, ◌+◌, ◌≤◌, ◌↔◌, ◌++◌, false, length, IsTrue, IsErr, OnOk};
+ghost use Rattle.std.specs.Prelude.{OnErr};
 ghost use Rattle.std.specs.Io.KnownBytes.{Appends};
 ghost use Rattle.layer_core.specs.FaultTexts.{read_text};
 ghost use Rattle.worker_core.specs.Faults.{join_text};
@@ -71,6 +72,7 @@ fn push_run_text(line: &mut Line, fault: &RunFault)
             line.push(fault.text());
         }
         RunFault::Join(fault) => push_join_text(line, fault),
+        RunFault::TooManyToDraw => line.push("more than 100000 features to draw"),
         RunFault::Write => line.push("write failed"),
         RunFault::Memory => line.push("no memory"),
         RunFault::NoKeys => line.push("no random keys for hashing"),

@@ -1,6 +1,8 @@
-//! Joins of two layers: edits, pairs, report, and the run of all three over files.
+//! Joins of two layers: edits, pairs, report, picture, and the runs over files.
 
 mod columns;
+mod drawing;
+mod edited;
 mod edits;
 mod layers;
 mod pairs;
@@ -8,6 +10,7 @@ mod report;
 mod run;
 mod sources;
 
+pub use drawing::run_draw;
 pub use edits::apply_edits;
 pub use pairs::join;
 pub use report::report_text;

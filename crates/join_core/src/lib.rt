@@ -15,9 +15,10 @@ mod window;
 mod writing;
 
 pub use deliver_core::Outcome;
+pub use draw_core::MAX_DRAWN;
 pub use fault::{Input, RunFault};
 pub use fault_text::fault_line;
-pub use joins::{JoinSources, apply_edits, join, report_text, run_join};
+pub use joins::{JoinSources, apply_edits, join, report_text, run_draw, run_join};
 pub use options::{MAX_CUT, OptionFault, Options};
 pub use relate::run_relate;
 pub use stats::run_stats;

@@ -66,7 +66,8 @@ impl Error for OptionFault {}
 
 impl Options {
     ghost use Rattle.std.specs.Prelude.{◌≡◌, ◌↔◌, IfOk, IsErrOf};
-    ghost use Rattle.join_core.specs.Options.{workers_of, batch_of, cut_of, AreWorkers, IsBatch, IsCut};
+    ghost use Rattle.join_core.specs.Options.{workers_of, batch_of, cut_of, AreWorkers, IsBatch};
+    ghost use Rattle.join_core.specs.Options.{IsCut};
 
     /// The options with these three numbers.
     ///

@@ -1,6 +1,7 @@
 //! The matrix of two geometries that are given as texts.
 
-ghost use Rattle.std.specs.Prelude.{◌≡◌, ◌≢◌, ◌↔◌, ◌++◌, ◌∷◌, [], ℕ, List, Ok, Err, false, IfOk, IfErr, OnOk, OnErr, IsErrOf, IsTrue};
+ghost use Rattle.std.specs.Prelude.{◌≡◌, ◌≢◌, ◌↔◌, ◌++◌, ◌∷◌, [], ℕ, List, Ok, Err, false, IfOk};
+ghost use Rattle.std.specs.Prelude.{IfErr, OnOk, OnErr, IsErrOf, IsTrue};
 ghost use Rattle.geom_core.specs.Matrices.{letters_of};
 ghost use Rattle.wkt_core.specs.declared.fault.WktFault.{WktFault};
 ghost use Rattle.join_core.specs.declared.fault.Input.{Input};

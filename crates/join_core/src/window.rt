@@ -1,6 +1,7 @@
 //! The features of a layer that meet a window.
 
-ghost use Rattle.std.specs.Prelude.{◌≡◌, ◌≢◌, ◌↔◌, [], ◌∷◌, List, ℕ, Err, Some, false, Contains, IsSome, IsTrue, IfOk, IfErr, IsErrOf, OnOk, AllPairs, ◌<◌};
+ghost use Rattle.std.specs.Prelude.{◌≡◌, ◌≢◌, ◌↔◌, [], ◌∷◌, List, ℕ, Err, Some, false, Contains};
+ghost use Rattle.std.specs.Prelude.{IsSome, IsTrue, IfOk, IfErr, IsErrOf, OnOk, AllPairs, ◌<◌};
 ghost use Rattle.std.specs.Option.{option_map};
 ghost use Rattle.layer_core.specs.declared.read_fault.ReadFault.{ReadFault};
 ghost use Rattle.layer_core.specs.Layers.{IsLayer, with_number};
@@ -9,7 +10,8 @@ ghost use Rattle.join_core.specs.declared.fault.Input.{Input};
 ghost use Rattle.join_core.specs.CsvWriting.{AddsRow};
 ghost use Rattle.join_core.specs.Inputs.{BlamesInput};
 ghost use Rattle.join_core.specs.Runs.{Ends};
-ghost use Rattle.join_core.specs.WindowRuns.{WindowGives, IsWindowText, HasWindowFault, IsWindowFault};
+ghost use Rattle.join_core.specs.WindowRuns.{WindowGives, IsWindowText, HasWindowFault};
+ghost use Rattle.join_core.specs.WindowRuns.{IsWindowFault};
 ghost use Rattle.join_core.specs.Windows.{IsWindowList, MeetsAt};
 
 use crate::csv_rows::{new_rows, push_row, rows_text};
@@ -62,7 +64,8 @@ fn window_run_text<L: Source>(
     wkt: &[u8],
 ) -> Result<Vec<u8>, RunFault>
     requires { L.has_failed layer.old ≡ false }
-    ensures ok { IfOk result (λ text. IsWindowText scale wkt.now (L.remaining layer.old) text.items) }
+    ensures ok { IfOk result (λ text.
+        IsWindowText scale wkt.now (L.remaining layer.old) text.items) }
     ensures wkt { (i : Input) (f : WktFault) →
         (result ≡ Err (RunFault.Wkt i f)) ↔ HasWindowFault scale wkt.now i f }
     ensures fault { IfErr result (λ f.

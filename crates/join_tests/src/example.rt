@@ -1,10 +1,11 @@
 //! The files of the worked example, which are joined by touches, and what is written of them.
 
-pub const LEFT: &str =
-    "id,wkt\na,\"POLYGON ((0 0, 4 0, 4 4, 0 4, 0 0))\"\nb,POINT (4 4)\nc,\"LINESTRING (1 0, 3 0)\"\n";
+pub const LEFT: &str = "id,wkt\na,\"POLYGON ((0 0, 4 0, 4 4, 0 4, 0 0))\"\n\
+     b,POINT (4 4)\nc,\"LINESTRING (1 0, 3 0)\"\n";
 
-pub const RIGHT: &str =
-    "id,wkt\nx,\"POLYGON ((4 4, 8 4, 8 8, 4 8, 4 4))\"\ny,\"POLYGON ((2 2, 6 2, 6 6, 2 6, 2 2))\"\nz,\"LINESTRING (0 0, 5 0)\"\n";
+pub const RIGHT: &str = "id,wkt\nx,\"POLYGON ((4 4, 8 4, 8 8, 4 8, 4 4))\"\n\
+     y,\"POLYGON ((2 2, 6 2, 6 6, 2 6, 2 2))\"\n\
+     z,\"LINESTRING (0 0, 5 0)\"\n";
 
 pub const REPORT: &str = "left,right,matrix\na,x,FF2F01212\na,z,FF2101102\nb,x,F0FFFF212\n";
 

@@ -109,6 +109,7 @@ fn joins(rt: HostRuntime) {
 #[test]
 fn the_machine(rt: HostRuntime) {
     for (fault, text) in [
+        (RunFault::TooManyToDraw, "more than 100000 features to draw"),
         (RunFault::Write, "write failed"),
         (RunFault::Memory, "no memory"),
         (RunFault::NoKeys, "no random keys for hashing"),

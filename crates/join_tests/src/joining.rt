@@ -33,6 +33,36 @@ fn join_touches(rt: HostRuntime) {
     }
 }
 
+/// Seven points, two of whose ids need quotes.
+const POINTS: &str = "id,wkt\n\"a,1\",POINT (0 0)\nb,POINT (1 0)\nc,POINT (2 0)\n\
+     \"d \"\"4\"\"\",POINT (3 0)\ne,POINT (4 0)\nf,POINT (5 0)\ng,POINT (6 0)\n";
+
+const EQUAL_POINTS: &str = "left,right,matrix\n\"a,1\",\"a,1\",0FFFFFFF2\n\
+     b,b,0FFFFFFF2\nc,c,0FFFFFFF2\n\"d \"\"4\"\"\",\"d \"\"4\"\"\",0FFFFFFF2\n\
+     e,e,0FFFFFFF2\nf,f,0FFFFFFF2\ng,g,0FFFFFFF2\n";
+
+/// Whether a join of the points with themselves by equals, with so many workers, writes its report.
+fn reports_points<R: Threads + Wait + Sync + RandomSource + AllocGlobal>(
+    rt: &R,
+    workers: u32,
+) -> Option<bool> {
+    let files = Files {
+        left: at_once(POINTS),
+        right: at_once(POINTS),
+        edits: None,
+    };
+    let options = Options::new(workers, 256, 2).ok()?;
+    Some(join(rt, &files, Relation::Equals, &options)?.is(Ok(()), EQUAL_POINTS))
+}
+
+// Three threads write 3, 3 and 1 of the pairs, and four write 2, 2, 2 and 1.
+#[test]
+fn report_in_chunks(rt: HostRuntime) {
+    for workers in [1, 3, 4] {
+        assert!(rt; reports_points(&rt, workers) == Some(true));
+    }
+}
+
 #[test]
 fn empty_layers(rt: HostRuntime) {
     let files = Files {

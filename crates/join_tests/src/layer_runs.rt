@@ -81,8 +81,8 @@ fn empty_layers(rt: HostRuntime) {
 
 #[test]
 fn quoted_ids_in_layer_order(rt: HostRuntime) {
-    let layer =
-        "id,wkt\nz,POINT (9 9)\n\"a, b\",POINT (0 0)\nfar,POINT (90 0)\n\"say \"\"a\"\"\",POINT (5 0)\n";
+    let layer = "id,wkt\nz,POINT (9 9)\n\"a, b\",POINT (0 0)\n\
+         far,POINT (90 0)\n\"say \"\"a\"\"\",POINT (5 0)\n";
     let window = "POLYGON ((0 0, 9 0, 9 9, 0 9, 0 0))";
     let ids = "id\nz\n\"a, b\"\n\"say \"\"a\"\"\"\n";
     assert!(rt; finds(&rt, layer, window, Ok(()), ids) == Some(true));

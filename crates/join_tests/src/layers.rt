@@ -1,7 +1,7 @@
 //! Layers for tests.
 
 use geom_core::Shape;
-use layer_core::{Layer, layer_of_bytes};
+use layer_core::{FromRead, Layer, ReadFault, read_layer};
 use samples::Random;
 use std::alloc::Global;
 use std::fmt::Write;
@@ -16,7 +16,7 @@ pub(crate) fn whole() -> Result<Scale, Fail> {
 }
 
 /// A layer file of so many points (0, 0), (1, 0) and on.
-fn points_text(alloc: Global, count: u32) -> Result<String, Fail> {
+pub(crate) fn points_text(alloc: Global, count: u32) -> Result<String, Fail> {
     let mut text = String::from_str(alloc, "id,wkt\n")?;
     for x in 0..count {
         writeln!(text, "p{x},POINT ({x} 0)")?;
@@ -24,10 +24,23 @@ fn points_text(alloc: Global, count: u32) -> Result<String, Fail> {
     Ok(text)
 }
 
+/// What a file with this text is read as.
+pub(crate) fn read_text<R: RandomSource + AllocGlobal>(
+    rt: &R,
+    text: &str,
+) -> Result<Result<Layer, ReadFault>, Fail> {
+    let mut source = FromRead::new(text.as_bytes());
+    Ok(read_layer(rt.alloc(), RandomState::new(rt)?, &mut source, whole()?))
+}
+
+/// The layer of a file with this text.
+pub(crate) fn layer_of<R: RandomSource + AllocGlobal>(rt: &R, text: &str) -> Result<Layer, Fail> {
+    Ok(read_text(rt, text)??)
+}
+
 /// The layer of these points.
 pub(crate) fn points<R: RandomSource + AllocGlobal>(rt: &R, count: u32) -> Result<Layer, Fail> {
-    let text = points_text(rt.alloc(), count)?;
-    Ok(layer_of_bytes(rt.alloc(), RandomState::new(rt)?, text.as_bytes(), whole()?)?)
+    layer_of(rt, points_text(rt.alloc(), count)?.as_str())
 }
 
 /// A layer file of so many shapes that look random; none where there was no memory.
@@ -68,8 +81,12 @@ fn packed<R: RandomSource + AllocGlobal>(
     random: &mut Random,
     count: u32,
 ) -> Result<Layer, Fail> {
-    let text = shapes_text(rt.alloc(), random, count).ok_or("a text")?;
-    Ok(layer_of_bytes(rt.alloc(), RandomState::new(rt)?, text.as_bytes(), whole()?)?)
+    layer_of(
+        rt,
+        shapes_text(rt.alloc(), random, count)
+            .ok_or("a text")?
+            .as_str(),
+    )
 }
 
 /// A layer that was packed from so many shapes and then edited.

@@ -6,6 +6,8 @@ mod broken;
 #[cfg(test)]
 mod device;
 #[cfg(test)]
+mod drawing;
+#[cfg(test)]
 mod example;
 #[cfg(test)]
 mod fault_lines;

@@ -1,11 +1,10 @@
 //! What the workers of a join deliver, by the marks of its outcome and by the gate that they enter.
 
-use crate::layers::{points, whole};
+use crate::layers::{layer_of, points, read_text};
 use deliver_core::Mark;
 use geom_core::{JoinRelation, Relation};
 use join_core::{Gate, JoinFault, OpenGate, Options, Outcome, join};
-use layer_core::{Layer, layer_of_bytes};
-use std::hash::RandomState;
+use layer_core::Layer;
 use std::random::RandomSource;
 use std::sync::Wait;
 use std::sync::atomic::{AtomicU32, Ordering};
@@ -302,11 +301,9 @@ const CROSS: &str = "id,wkt\na,\"LINESTRING (0 2, 4 2)\"\nb,\"LINESTRING (2 0, 2
 
 /// The layer of two segments that cross, read again where memory is refused.
 fn cross<R: RandomSource + AllocGlobal>(rt: &R) -> Result<Layer, Fail> {
-    let alloc = rt.alloc();
-    let state = RandomState::new(rt)?;
-    match layer_of_bytes(alloc, state, CROSS.as_bytes(), whole()?) {
+    match read_text(rt, CROSS)? {
         Ok(layer) => Ok(layer),
-        Err(_) => Ok(layer_of_bytes(alloc, RandomState::new(rt)?, CROSS.as_bytes(), whole()?)?),
+        Err(_) => layer_of(rt, CROSS),
     }
 }
 

@@ -1,5 +1,6 @@
 -- The tree of a layer against its list, as edits change both.
-use Rattle.std.proofs.Common.{arith, ◌≡◌, ◌≢◌, ℕ, suc, ◌+◌, ◌<◌, ◌≤◌, Bool, true, false, cond, not, List, [], ◌∷◌, map, Option, Some, None, find, filter, All, AllPairs, refl, sym, ◌∙◌, ap, inl, inr}
+use Rattle.std.proofs.Common.{arith, ◌≡◌, ◌≢◌, ℕ, suc, ◌+◌, ◌<◌, ◌≤◌, Bool, true, false, cond, not, List, [], ◌∷◌, map, Option, Some, None, find, filter, All}
+use Rattle.std.proofs.Common.{AllPairs, refl, sym, ◌∙◌, ap, inl, inr}
 use Rattle.std.specs.Prelude.{Contains, count_by, nat_eq}
 use Rattle.std.specs.Str.{bytes_eq}
 use Rattle.std.proofs.lemmas.Bool.{cases_eq}

@@ -6,3 +6,4 @@ pub mod FieldLemmas
 pub mod HeaderLemmas
 pub mod FileLemmas
 pub mod LayerTreeLemmas
+pub mod BatchLemmas

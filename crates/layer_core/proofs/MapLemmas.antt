@@ -1,5 +1,6 @@
 -- The map of ids and the slots of a layer: what a look-up finds, and what an edit keeps.
-use Rattle.std.proofs.Common.{◌≡◌, ◌≢◌, ℕ, zero, suc, ◌+◌, ◌-◌, ◌<◌, ◌≤◌, ◌⊎◌, Bool, true, false, List, [], ◌∷◌, ◌++◌, set, get_or, length, slice_get, position, Option, Some, None, is_some, refl, sym, ap, ◌∙◌, inl, inr, arith, zero-add, add-one}
+use Rattle.std.proofs.Common.{◌≡◌, ◌≢◌, ℕ, zero, suc, ◌+◌, ◌-◌, ◌<◌, ◌≤◌, ◌⊎◌, Bool, true, false, List, [], ◌∷◌, ◌++◌, set, get_or, length, slice_get, position}
+use Rattle.std.proofs.Common.{Option, Some, None, is_some, refl, sym, ap, ◌∙◌, inl, inr, arith, zero-add, add-one}
 use Rattle.std.specs.List.{IsDistinct}
 use Rattle.std.specs.Map.{keys_of, values_of, lookup, lookup_key}
 use Rattle.std.specs.Option.{option_map, option_flatten}
@@ -22,7 +23,8 @@ use Rattle.layer_core.specs.declared.features.Slot.{Slot}
 use Rattle.layer_core.specs.Limits.{most_features}
 use Rattle.layer_core.specs.Layers.{IsLayer, with_id, with_number, inserted, deleted}
 use Rattle.layer_core.specs.MapAndSlots.{AreInverse, StandForLayer, IsWalk, ids_of, places, id_of, feature_of, features_from, contents_of, IsAbsent, IsOnly}
-use Rattle.layer_core.proofs.SlotLemmas.{feature_in, find-number, find-absent, find-only, filter-absent, filter-only, features-push, features-more_ids, features-rising, numbers-below, features-distinct, length-features_without, length-features-le}
+use Rattle.layer_core.proofs.SlotLemmas.{feature_in, find-number, find-absent, find-only, filter-absent, filter-only, features-push, features-more_ids}
+use Rattle.layer_core.proofs.SlotLemmas.{features-rising, numbers-below, features-distinct, length-features_without, length-features-le}
 use Rattle.layer_core.proofs.Lists.{get-push_before, get-push_other, get-push_at, get-set_at, get-set_other, get-all, get-within}
 
 same_or_other : (a b : ℕ) → (a ≡ b) ⊎ (a ≢ b)

@@ -1,6 +1,7 @@
 -- Each record takes at least a byte, so the records that a reader has left are those of the bytes that it has left.
 use Rattle.std.specs.Bool.{MatchBool}
-use Rattle.std.proofs.Common.{◌≡◌, ◌∙◌, ℕ, zero, suc, ◌+◌, ◌<◌, ◌≤◌, Bool, true, false, List, [], ◌∷◌, length, Option, Some, None, refl, sym, ap, arith, ◌==◌, ◌||◌, ◌++◌, if◌then◌else◌, Bor, unwrap_or, inl, add-one}
+use Rattle.std.proofs.Common.{◌≡◌, ◌∙◌, ℕ, zero, suc, ◌+◌, ◌<◌, ◌≤◌, Bool, true, false, List, [], ◌∷◌, length, Option, Some, None, refl, sym, ap, arith, ◌==◌}
+use Rattle.std.proofs.Common.{◌||◌, ◌++◌, if◌then◌else◌, Bor, unwrap_or, inl, add-one}
 use Rattle.csv.specs.Machine.{Read, after_end, ends_at_end, field_after, fields_after, in_field, is_end, next_record, start_field, start_record, step}
 use Rattle.csv.specs.Reading.{ExplainsRead, Reached, ReadRecord, default_config, is_flexible, reader_state, records_from, records_next, took_first}
 use Rattle.csv.specs.declared.error.ErrorKind.{ErrorKind}

@@ -1,5 +1,6 @@
 -- What the features of a list of slots are, and become where a slot changes.
-use Rattle.std.proofs.Common.{◌≡◌, ◌≢◌, ◌==◌, ℕ, zero, suc, ◌+◌, ◌<◌, ◌≤◌, Bool, true, false, not, List, [], ◌∷◌, ◌++◌, set, length, slice_get, Option, Some, None, filter, find, All, AllPairs, refl, sym, ap, ◌∙◌, arith, add-zero}
+use Rattle.std.proofs.Common.{◌≡◌, ◌≢◌, ◌==◌, ℕ, zero, suc, ◌+◌, ◌<◌, ◌≤◌, Bool, true, false, not, List, [], ◌∷◌, ◌++◌, set, length, slice_get, Option, Some}
+use Rattle.std.proofs.Common.{None, filter, find, All, AllPairs, refl, sym, ap, ◌∙◌, arith, add-zero}
 use Rattle.std.specs.Str.{bytes_eq}
 use Rattle.std.proofs.Math.ListN.{get_or-append}
 use Rattle.std.proofs.lemmas.List.Elements.{All-cons}

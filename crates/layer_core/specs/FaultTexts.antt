@@ -4,7 +4,8 @@ use Rattle.wkt_core.specs.FaultTexts.{wkt_text}
 use Rattle.layer_core.specs.declared.fault.LayerFault.{LayerFault}
 use Rattle.layer_core.specs.declared.fault.LayerFault.TheVariants as layer
 use Rattle.layer_core.specs.declared.read_fault.ReadFault.{ReadFault}
-use Rattle.layer_core.specs.declared.read_fault.ReadFault.TheVariants.{Io, TooLong, Header, Row, Wkt, Layer, Memory}
+use Rattle.layer_core.specs.declared.read_fault.ReadFault.TheVariants.{Io, TooLong, Header, Row}
+use Rattle.layer_core.specs.declared.read_fault.ReadFault.TheVariants.{Wkt, Layer, Memory}
 
 abbrev pub layer_text : LayerFault → List ℕ
 layer_text layer.BadId = codes "id must have 1 to 64 bytes of UTF-8"

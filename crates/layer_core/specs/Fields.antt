@@ -1,5 +1,6 @@
 -- What the fields of a row say.
-use Rattle.std.specs.Prelude.{◌≡◌, ◌⊎◌, ℕ, List, IsTrue, IsUtf8, codes, Option, Some, None, Result, Err, if◌then◌else◌}
+use Rattle.std.specs.Prelude.{◌≡◌, ◌⊎◌, ℕ, List, IsTrue, IsUtf8, codes, Option, Some, None, Result}
+use Rattle.std.specs.Prelude.{Err, if◌then◌else◌}
 use Rattle.std.specs.Str.{bytes_eq}
 use Rattle.layer_core.specs.declared.edit.Side.{Side}
 use Rattle.layer_core.specs.declared.edit.Side.TheVariants.{Left, Right}

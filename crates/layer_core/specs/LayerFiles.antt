@@ -1,15 +1,13 @@
 -- The layer that a CSV file stands for, or why it is refused.
 use Rattle.std.specs.Prelude.{◌≡◌, ℕ, List, [], ◌∷◌, codes, Option, Some, None, Result, Ok, Err}
-use Rattle.geom_core.specs.declared.shape.Shape.{Shape}
-use Rattle.wkt_core.specs.declared.fault.WktFault.{WktFault}
 use Rattle.wkt_core.specs.declared.scale.Scale.{Scale}
 use Rattle.layer_core.specs.declared.fault.LayerFault.{LayerFault}
-use Rattle.layer_core.specs.declared.fault.LayerFault.TheVariants.{BadId, DoubleId, LayerFull, NoSuchId, Memory}
+use Rattle.layer_core.specs.declared.fault.LayerFault.TheVariants.{BadId, DoubleId, LayerFull}
+use Rattle.layer_core.specs.declared.fault.LayerFault.TheVariants.{NoSuchId, Memory}
 use Rattle.layer_core.specs.declared.read_fault.ReadFault.{ReadFault}
-use Rattle.layer_core.specs.declared.read_fault.ReadFault.TheVariants.{Memory as no_memory, Row, Wkt, Layer}
-use Rattle.layer_core.specs.Fields.{AfterId}
+use Rattle.layer_core.specs.declared.read_fault.ReadFault.TheVariants.{Memory as no_memory, Layer}
+use Rattle.layer_core.specs.LayerRows.{RowContent, RowSays}
 use Rattle.layer_core.specs.Layers.{Contents, empty, inserted}
-use Rattle.wkt_core.specs.Readings.{Reads}
 use Rattle.layer_core.specs.Records.{Record}
 use Rattle.layer_core.specs.Refusals.{insert_refusal}
 use Rattle.layer_core.specs.Rows.{FileGives}
@@ -29,17 +27,17 @@ fault_of_row n DoubleId = Layer n DoubleId
 fault_of_row n LayerFull = Layer n LayerFull
 fault_of_row n NoSuchId = Layer n NoSuchId
 
--- the layer with the row's feature, where its geometry was read
-abbrev pub with_row : ℕ → Contents → List ℕ → Result Shape WktFault → Result Contents ReadFault
-with_row n layer id (Ok shape) = refused_or n (insert_refusal layer id) (inserted layer id shape)
-with_row n layer id (Err fault) = Err (Wkt n fault)
+-- the layer with the feature of the row of this number, or the row's fault
+abbrev pub with_row : ℕ → Contents → Result RowContent ReadFault → Result Contents ReadFault
+with_row n layer (Ok row) =
+    refused_or n (insert_refusal layer row.id) (inserted layer row.id row.shape)
+with_row n layer (Err fault) = Err fault
 
 -- what the row of this number gives a layer, with numbers read at a scale
 abbrev pub LayerRowGives : Scale → ℕ → Contents → Record → Result Contents ReadFault → Type 0
-LayerRowGives scale n layer (id ∷ wkt ∷ []) answer =
-    AfterId n id answer
-    ((shape : Result Shape WktFault) × Reads scale wkt shape × (answer ≡ with_row n layer id shape))
-LayerRowGives scale n layer _ answer = answer ≡ Err (Row n)
+LayerRowGives scale n layer row answer =
+    (content : Result RowContent ReadFault) × RowSays scale n row content
+    × (answer ≡ with_row n layer content)
 
 abbrev pub IsLayerFile : Scale → List ℕ → Result Contents ReadFault → Type 0
 IsLayerFile scale bytes answer =

@@ -1,9 +1,11 @@
+pub mod Batches
 pub mod EditFiles
 pub mod Edits
 pub mod FaultTexts
 pub mod Fields
 pub mod LayerCodes
 pub mod LayerFiles
+pub mod LayerRows
 pub mod LayerTrees
 pub mod Layers
 pub mod Limits

@@ -1,8 +1,11 @@
 -- The records of a CSV text, and those that a reader of it has left.
-use Rattle.std.specs.Prelude.{◌≡◌, ◌+◌, ℕ, true, false, List, [], ◌∷◌, length, IsTrue, Option, Some, unwrap_or}
+use Rattle.std.specs.Prelude.{◌≡◌, ◌+◌, ℕ, true, false, List, [], ◌∷◌, length, IsTrue, Option, Some}
+use Rattle.std.specs.Prelude.{unwrap_or}
 use Rattle.std.specs.Borrow.{Bor}
 use Rattle.csv.specs.Machine.{ends_at_end}
-use Rattle.csv.specs.Reading.{Ready, default_config, is_flexible, reader_config, reader_state, reader_trim, records, records_from, source_of, stops_reader, strip_bom}
+use Rattle.csv.specs.Reading.{Ready, default_config, is_flexible, reader_config, reader_state}
+use Rattle.csv.specs.Reading.{reader_trim, records, records_from, source_of, stops_reader}
+use Rattle.csv.specs.Reading.{strip_bom}
 use Rattle.csv.specs.declared.error.ErrorKind.{ErrorKind}
 use Rattle.csv.specs.declared.reader.Reader.{Reader}
 use Rattle.csv.specs.declared.reader.Trim.TheVariants as trim

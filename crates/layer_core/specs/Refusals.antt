@@ -1,7 +1,9 @@
 -- When an edit of a layer is refused, and as what.
-use Rattle.std.specs.Prelude.{◌≡◌, ◌&&◌, ℕ, Bool, not, List, length, nat_le, Option, Some, None, is_some, Result, Err, IsOkUnless, if◌then◌else◌}
+use Rattle.std.specs.Prelude.{◌≡◌, ◌&&◌, ℕ, Bool, not, List, length, nat_le, Option, Some, None}
+use Rattle.std.specs.Prelude.{is_some, Result, Err, IsOkUnless, if◌then◌else◌}
 use Rattle.layer_core.specs.declared.fault.LayerFault.{LayerFault}
-use Rattle.layer_core.specs.declared.fault.LayerFault.TheVariants.{BadId, DoubleId, LayerFull, NoSuchId, Memory}
+use Rattle.layer_core.specs.declared.fault.LayerFault.TheVariants.{BadId, DoubleId, LayerFull}
+use Rattle.layer_core.specs.declared.fault.LayerFault.TheVariants.{NoSuchId, Memory}
 use Rattle.layer_core.specs.Limits.{most_features, most_id_bytes}
 use Rattle.layer_core.specs.Layers.{Contents, with_id}
 

@@ -28,7 +28,8 @@ pub enum Edit {
 impl Edit {
     ghost use Rattle.std.specs.Prelude.{◌≡◌, OnOk, OnErr};
     ghost use Rattle.layer_core.specs.Refusals.{AnswersWith};
-    ghost use Rattle.layer_core.specs.Edits.{content_of, edited, refusal, both, edited_layers, edit_refusal};
+    ghost use Rattle.layer_core.specs.Edits.{content_of, edited, refusal, both, edited_layers};
+    ghost use Rattle.layer_core.specs.Edits.{edit_refusal};
 
     /// The layer that is edited.
     pub fn side(&self) -> Side

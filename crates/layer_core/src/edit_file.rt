@@ -1,8 +1,10 @@
 //! CSV files of edits.
-ghost use Rattle.std.specs.Prelude.{◌≡◌, ◌≢◌, ◌↔◌, ◌≤◌, length, false, Ok, Err, IsErrOf, IsTrue, IfOk, IfErr, IfSome};
+ghost use Rattle.std.specs.Prelude.{◌≡◌, ◌≢◌, ◌↔◌, ◌≤◌, length, false, Ok, Err, IsErrOf, IsTrue};
+ghost use Rattle.std.specs.Prelude.{IfOk, IfErr, IfSome};
 ghost use Rattle.csv.specs.Records.{fields_of};
 ghost use Rattle.layer_core.specs.Edits.{content_of};
-ghost use Rattle.layer_core.specs.EditFiles.{edit_contents, DeletionGives, EditRowGives, InsertionGives, IsEditFile};
+ghost use Rattle.layer_core.specs.EditFiles.{edit_contents, DeletionGives, EditRowGives};
+ghost use Rattle.layer_core.specs.EditFiles.{InsertionGives, IsEditFile};
 ghost use Rattle.layer_core.specs.Limits.{most_file_bytes};
 
 use crate::edit::{Edit, Side};

@@ -73,9 +73,11 @@ fn locate(ids: &Ids, slots: &[Option<Slot>], id: &str) -> Option<(u32, Slot)>
 }
 
 impl Features {
-    ghost use Rattle.std.specs.Prelude.{◌≡◌, ◌<◌, ◌≤◌, length, not, is_some, if◌then◌else◌, IfNone, IfOk, IsOk, OnOk, OnErr, string_bytes};
+    ghost use Rattle.std.specs.Prelude.{◌≡◌, ◌<◌, ◌≤◌, length, not, is_some, if◌then◌else◌, IfNone};
+    ghost use Rattle.std.specs.Prelude.{IfOk, IsOk, OnOk, OnErr, string_bytes};
     ghost use Rattle.std.specs.Option.{option_map};
-    ghost use Rattle.layer_core.specs.Layers.{empty, IsLayer, IdAndShapeAre, NumberAndShapeAre, with_id, with_number, inserted, deleted};
+    ghost use Rattle.layer_core.specs.Layers.{empty, IsLayer, IdAndShapeAre, NumberAndShapeAre};
+    ghost use Rattle.layer_core.specs.Layers.{with_id, with_number, inserted, deleted};
     ghost use Rattle.layer_core.specs.Limits.{most_features};
 
     /// No features. `state` hashes the ids.

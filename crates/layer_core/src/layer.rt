@@ -11,6 +11,7 @@ use rtree_core::{Entry, RTree};
 use std::alloc::{AllocError, Global};
 use std::hash::RandomState;
 use std::marker::Model;
+use std::thread::Threads;
 
 /// How many bytes an id may have. It has at least one.
 pub const MAX_ID_BYTES: usize = 64;
@@ -53,9 +54,11 @@ pub(crate) fn is_id(id: &str) -> bool
 }
 
 impl Layer {
-    ghost use Rattle.std.specs.Prelude.{◌≡◌, ◌↔◌, [], None, Some, Ok, length, IsTrue, OnOk, OnErr, IfOk};
+    ghost use Rattle.std.specs.Prelude.{◌≡◌, ◌↔◌, [], None, Some, Ok, length, IsTrue, OnOk, OnErr};
+    ghost use Rattle.std.specs.Prelude.{IfOk};
     ghost use Rattle.std.specs.Option.{option_map};
-    ghost use Rattle.layer_core.specs.Layers.{empty, IsLayer, IdAndShapeAre, NumberAndShapeAre, with_id, with_number, inserted, deleted};
+    ghost use Rattle.layer_core.specs.Layers.{empty, IsLayer, IdAndShapeAre, NumberAndShapeAre};
+    ghost use Rattle.layer_core.specs.Layers.{with_id, with_number, inserted, deleted};
     ghost use Rattle.layer_core.specs.LayerTrees.{entries_for, IsTreeOf};
     ghost use Rattle.layer_core.specs.Refusals.{AnswersWith, insert_refusal, delete_refusal};
     ghost use Rattle.layer_core.specs.Statistics.{stats_of};
@@ -84,6 +87,24 @@ impl Layer {
         Ok(Layer {
             features,
             tree: RTree::pack(alloc, entries)?,
+        })
+    }
+
+    /// The same layer, whose tree is packed by at most so many threads.
+    pub(crate) fn pack_by_threads<R: Threads + Sync>(
+        alloc: Global,
+        features: Features,
+        entries: Vec<Entry>,
+        threads: u32,
+        rt: &R,
+    ) -> Result<Layer, AllocError>
+        requires { entries.items ≡ entries_for features.list }
+        ensures { IfOk result (λ layer. layer.list ≡ features.list) }
+    {
+        let _len = features.len();
+        Ok(Layer {
+            features,
+            tree: RTree::pack_by_threads(alloc, entries, threads, rt)?,
         })
     }
 

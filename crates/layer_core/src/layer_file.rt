@@ -1,21 +1,20 @@
 //! CSV files of layers.
-ghost use Rattle.std.specs.Prelude.{◌≡◌, ◌≢◌, ◌≤◌, ◌↔◌, false, Ok, Err, IsErrOf, IsTrue, OnOk, IfErr, IfSome};
-ghost use Rattle.csv.specs.Records.{fields_of};
-ghost use Rattle.layer_core.specs.LayerFiles.{IsLayerFile, LayerRowGives};
+ghost use Rattle.std.specs.Prelude.{◌≡◌, ◌≢◌, ◌≤◌, ◌↔◌, false, Err, IsErrOf, IsTrue, IfSome};
+ghost use Rattle.layer_core.specs.LayerFiles.{IsLayerFile};
 ghost use Rattle.layer_core.specs.LayerTrees.{list_read};
 ghost use Rattle.layer_core.specs.Limits.{most_features};
 
-use crate::fault::LayerFault;
+use crate::batch::{add_and_read, read_batch};
 use crate::features::MAX_FEATURES;
-use crate::fields::{id_in, two_fields};
 use crate::layer::Layer;
+use crate::layer_row::read_row;
 use crate::loading::Loading;
 use crate::read_fault::ReadFault;
 use crate::rows::Rows;
 use crate::source::{Source, read_all};
-use csv::ByteRecord;
 use std::alloc::Global;
 use std::hash::RandomState;
+use std::thread::Threads;
 use wkt_core::Scale;
 
 /// The columns of a layer's file.
@@ -26,6 +25,9 @@ const SAMPLE: usize = 65_536;
 
 /// The layer that a CSV file stands for. `state` hashes the ids.
 ///
+/// Where `threads` is more than 1, one thread reads rows ahead while another inserts those before
+/// them. The answer is the same.
+///
 /// The file is records of comma-separated fields with double quotes where needed (RFC 4180), with
 /// line ends LF or CR LF. Its header is `id,wkt`, in any ASCII case, with or without a byte order
 /// mark before it. Each row inserts a feature, by [`Layer::insert`].
@@ -35,17 +37,22 @@ const SAMPLE: usize = 65_536;
 /// first row that has one: [`ReadFault::Row`] where it hasn't two fields, else
 /// [`LayerFault::BadId`], else [`ReadFault::Wkt`], else [`LayerFault::DoubleId`], else
 /// [`LayerFault::LayerFull`]. [`ReadFault::Memory`] may come in place of any other.
-pub fn layer_of_bytes(
+pub fn layer_of_bytes<R: Threads + Sync>(
     alloc: Global,
     state: RandomState,
-    bytes: &[u8],
+    bytes: Vec<u8>,
     scale: Scale,
+    threads: u32,
+    rt: &R,
 ) -> Result<Layer, ReadFault>
-    ensures file { result ≢ Err ReadFault.Memory → IsLayerFile scale bytes.now (list_read result) }
+    ensures file { result ≢ Err ReadFault.Memory
+        → IsLayerFile scale bytes.items (list_read result) }
     ensures no_io { result ≢ Err ReadFault.Io }
 {
-    let loading = load(alloc, state, bytes, scale)?;
-    Ok(loading.finish(alloc)?)
+    let loading = load_by(alloc, state, bytes.as_slice(), scale, threads, rt)?;
+    // The tree is packed when the file's memory is free again.
+    drop(bytes);
+    Ok(loading.finish_by_threads(alloc, threads, rt)?)
 }
 
 /// The layer that a file stands for, which is read from a source that hasn't failed.
@@ -70,7 +77,26 @@ pub fn read_layer<S: Source>(
     Ok(loading.finish(alloc)?)
 }
 
-// The features of a file, whose tree isn't packed yet.
+// The features of a file, whose tree isn't packed yet, by one thread or by two.
+fn load_by<R: Threads + Sync>(
+    alloc: Global,
+    state: RandomState,
+    bytes: &[u8],
+    scale: Scale,
+    threads: u32,
+    rt: &R,
+) -> Result<Loading, ReadFault>
+    ensures file { result ≢ Err ReadFault.Memory → IsLayerFile scale bytes.now result }
+    ensures no_io { result ≢ Err ReadFault.Io }
+{
+    if threads > 1 {
+        load_ahead(alloc, state, bytes, scale, rt)
+    } else {
+        load(alloc, state, bytes, scale)
+    }
+}
+
+// The features of a file, row by row.
 fn load(alloc: Global, state: RandomState, bytes: &[u8], scale: Scale) -> Result<Loading, ReadFault>
     ensures file { result ≢ Err ReadFault.Memory → IsLayerFile scale bytes.now result }
     ensures no_io { result ≢ Err ReadFault.Io }
@@ -78,8 +104,32 @@ fn load(alloc: Global, state: RandomState, bytes: &[u8], scale: Scale) -> Result
     let mut rows = Rows::open(alloc, bytes, &COLUMNS)?;
     let mut loading = Loading::new(alloc, state, likely_rows(bytes))?;
     while let Some(number) = rows.next()? {
-        insert_row(&mut loading, number, rows.row(), scale)?;
+        loading.add_row(read_row(alloc, number, rows.row(), scale)?)?;
     }
+    Ok(loading)
+}
+
+// The same, by two threads: while one inserts a batch of rows, the other reads the next one.
+fn load_ahead<R: Threads + Sync>(
+    alloc: Global,
+    state: RandomState,
+    bytes: &[u8],
+    scale: Scale,
+    rt: &R,
+) -> Result<Loading, ReadFault>
+    ensures file { result ≢ Err ReadFault.Memory → IsLayerFile scale bytes.now result }
+    ensures no_io { result ≢ Err ReadFault.Io }
+{
+    let mut rows = Rows::open(alloc, bytes, &COLUMNS)?;
+    let mut loading = Loading::new(alloc, state, likely_rows(bytes))?;
+    let mut batch = read_batch(alloc, &mut rows, scale);
+    while let Ok(true) = batch.more {
+        let (added, next) = add_and_read(rt, alloc, scale, loading, batch.rows, rows);
+        loading = added?;
+        (rows, batch) = next;
+    }
+    loading.add_rows(batch.rows)?;
+    batch.more?;
     Ok(loading)
 }
 
@@ -92,26 +142,4 @@ fn likely_rows(bytes: &[u8]) -> usize
     let lines = sample.iter().filter(|byte| **byte == b'\n').count();
     let samples = bytes.len() / SAMPLE + 1;
     lines.saturating_mul(samples).min(MAX_FEATURES)
-}
-
-// Inserts the feature of the row with this number.
-fn insert_row(
-    layer: &mut Loading,
-    number: u32,
-    row: &ByteRecord,
-    scale: Scale,
-) -> Result<(), ReadFault>
-    ensures ok { OnOk result
-        (LayerRowGives scale number layer.old (fields_of row.now) (Ok layer.new)) }
-    ensures err { IfErr result (λ fault. fault ≢ ReadFault.Memory
-        → LayerRowGives scale number layer.old (fields_of row.now) (Err fault)) }
-    ensures no_io { result ≢ Err ReadFault.Io }
-{
-    let (id, wkt) = two_fields(row).ok_or(ReadFault::Row(number))?;
-    let id = id_in(id).ok_or(ReadFault::Layer(number, LayerFault::BadId))?;
-    let shape = wkt_core::read(wkt, scale).map_err(|fault| ReadFault::Wkt(number, fault))?;
-    match layer.add(id, shape) {
-        Ok(()) => Ok(()),
-        Err(fault) => Err(ReadFault::of_row(number, fault)),
-    }
 }

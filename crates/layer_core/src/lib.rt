@@ -1,6 +1,7 @@
 //! Layers of features, their edits, and the CSV files that they are read from.
 #![tactic(auto)]
 
+mod batch;
 mod edit;
 mod edit_file;
 mod fault;
@@ -9,6 +10,7 @@ mod fields;
 mod iter;
 mod layer;
 mod layer_file;
+mod layer_row;
 mod loading;
 mod read_fault;
 mod rows;

@@ -5,11 +5,14 @@ ghost use Rattle.layer_core.specs.LayerTrees.{entries_for};
 use crate::fault::LayerFault;
 use crate::features::{Features, MAX_FEATURES};
 use crate::layer::Layer;
+use crate::layer_row::ReadRow;
+use crate::read_fault::ReadFault;
 use geom_core::Shape;
 use rtree_core::Entry;
 use std::alloc::{AllocError, Global};
 use std::hash::RandomState;
 use std::marker::Model;
+use std::thread::Threads;
 
 /// A layer that has no tree yet.
 #[derive(Drop)]
@@ -29,7 +32,11 @@ impl Model for Loading {
 }
 
 impl Loading {
-    ghost use Rattle.std.specs.Prelude.{◌≡◌, ◌≢◌, Err, IsTrue, OnOk, OnErr, IfOk};
+    ghost use Rattle.std.specs.Prelude.{◌≡◌, ◌≢◌, Ok, Err, IsTrue, OnOk, OnErr, IfOk, IfErr};
+    ghost use Rattle.std.specs.Prelude.{All, string_bytes};
+    ghost use Rattle.layer_core.specs.Batches.{HasId, with_rows};
+    ghost use Rattle.layer_core.specs.LayerFiles.{with_row};
+    ghost use Rattle.layer_core.specs.LayerRows.{content_of};
     ghost use Rattle.layer_core.specs.Layers.{empty, inserted};
     ghost use Rattle.layer_core.specs.Refusals.{is_id, AnswersWith, insert_refusal};
 
@@ -43,26 +50,55 @@ impl Loading {
     }
 
     /// Inserts a feature at the end, under an id of 1 to 64 bytes.
-    pub(crate) fn add(&mut self, id: &str, shape: Shape) -> Result<(), LayerFault>
-        requires { IsTrue (is_id id.now) }
-        ensures ok { OnOk result (self.new ≡ inserted self.old id.now shape) }
+    pub(crate) fn add(&mut self, id: String, shape: Shape) -> Result<(), LayerFault>
+        requires { IsTrue (is_id (string_bytes id)) }
+        ensures ok { OnOk result (self.new ≡ inserted self.old (string_bytes id) shape) }
         ensures err { OnErr result (self.new ≡ self.old) }
         // Memory may be refused before another reason is found.
         ensures refused { result ≢ Err LayerFault.Memory
-            → AnswersWith (insert_refusal self.old id.now) result }
+            → AnswersWith (insert_refusal self.old (string_bytes id)) result }
     {
         if self.features.next() >= MAX_FEATURES {
-            return match self.features.find(id) {
+            return match self.features.find(id.as_str()) {
                 Some(_) => Err(LayerFault::DoubleId),
                 None => Err(LayerFault::LayerFull),
             };
         }
-        let id = self.features.owned(id)?;
         if self.features.insert(id, shape)? {
             Ok(())
         } else {
             Err(LayerFault::DoubleId)
         }
+    }
+
+    /// Inserts the feature of a row.
+    pub(crate) fn add_row(&mut self, row: ReadRow) -> Result<(), ReadFault>
+        requires { HasId row }
+        ensures ok { OnOk result
+            (with_row row.number self.old (Ok (content_of row)) ≡ Ok self.new) }
+        ensures err { IfErr result (λ fault. fault ≢ ReadFault.Memory
+            → with_row row.number self.old (Ok (content_of row)) ≡ Err fault) }
+        ensures no_io { result ≢ Err ReadFault.Io }
+    {
+        let ReadRow { number, id, shape } = row;
+        match self.add(id, shape) {
+            Ok(()) => Ok(()),
+            Err(fault) => Err(ReadFault::of_row(number, fault)),
+        }
+    }
+
+    /// Inserts the features of some rows in turn, up to the first that is refused.
+    pub(crate) fn add_rows(&mut self, rows: Vec<ReadRow>) -> Result<(), ReadFault>
+        requires { All HasId rows.items }
+        ensures ok { OnOk result (with_rows self.old rows.items ≡ Ok self.new) }
+        ensures err { IfErr result (λ fault. fault ≢ ReadFault.Memory
+            → with_rows self.old rows.items ≡ Err fault) }
+        ensures no_io { result ≢ Err ReadFault.Io }
+    {
+        for row in rows {
+            self.add_row(row)?;
+        }
+        Ok(())
     }
 
     /// The layer of all features that were inserted.
@@ -71,6 +107,19 @@ impl Loading {
     {
         let entries = entries_of(alloc, &self.features)?;
         Layer::pack(alloc, self.features, entries)
+    }
+
+    /// The same, by at most so many threads.
+    pub(crate) fn finish_by_threads<R: Threads + Sync>(
+        self,
+        alloc: Global,
+        threads: u32,
+        rt: &R,
+    ) -> Result<Layer, AllocError>
+        ensures { IfOk result (λ layer. layer.list ≡ self) }
+    {
+        let entries = entries_of(alloc, &self.features)?;
+        Layer::pack_by_threads(alloc, self.features, entries, threads, rt)
     }
 }
 

@@ -4,7 +4,8 @@ ghost use Rattle.std.specs.Bool.{MatchBool};
 ghost use Rattle.csv.specs.Reading.{error_kind};
 ghost use Rattle.csv.specs.Records.{fields_of};
 ghost use Rattle.layer_core.specs.Rows.{IsHeader};
-ghost use Rattle.layer_core.specs.Records.{records_of, records_left, IsBetweenRecords, IsRefusedOrUnread, TakesRecord};
+ghost use Rattle.layer_core.specs.Records.{records_of, records_left, IsBetweenRecords};
+ghost use Rattle.layer_core.specs.Records.{IsRefusedOrUnread, TakesRecord};
 
 use crate::read_fault::ReadFault;
 use crate::source::MAX_FILE_BYTES;
@@ -22,7 +23,8 @@ pub(crate) struct Rows<'a> {
 }
 
 impl<'a> Rows<'a> {
-    ghost use Rattle.layer_core.specs.Rows.{last_row, rows_left, AreRows, IsOpened, IsReading, ReadsRow};
+    ghost use Rattle.layer_core.specs.Rows.{last_row, rows_left, AreRows, IsOpened, IsReading};
+    ghost use Rattle.layer_core.specs.Rows.{ReadsRow};
 
     /// The rows of a file, behind its header, which names these columns in any ASCII case.
     pub(crate) fn open(

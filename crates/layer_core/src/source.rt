@@ -1,5 +1,6 @@
 //! Where bytes are read from, and reading all of them.
-ghost use Rattle.std.specs.Prelude.{◌≡◌, ◌≤◌, ◌<◌, ◌↔◌, ℕ, List, Option, None, Bool, true, false, length, is_err, IfOk, IfErr, IfSome, IsErrOf, IsTrue};
+ghost use Rattle.std.specs.Prelude.{◌≡◌, ◌≤◌, ◌<◌, ◌↔◌, ℕ, List, Option, None, Bool, true, false};
+ghost use Rattle.std.specs.Prelude.{length, is_err, IfOk, IfErr, IfSome, IsErrOf, IsTrue};
 ghost use Rattle.std.specs.Io.KnownBytes.{ReadConsumes};
 ghost use Rattle.layer_core.specs.Limits.{most_file_bytes};
 ghost use Rattle.layer_core.specs.Sources.{IsReadingFault};

@@ -13,10 +13,12 @@ mod stats;
 
 use geom_core::Shape;
 use layer_core::*;
-use std::alloc::{AllocError, Global};
+use std::alloc::{AllocError, AllocGlobal, Global};
 use std::fmt::Write;
 use std::hash::RandomState;
+use std::random::RandomSource;
 use std::test::Fail;
+use std::thread::Threads;
 use wkt_core::Scale;
 
 // The point at these coordinates.
@@ -29,19 +31,66 @@ fn whole() -> Result<Scale, Fail> {
     Ok(Scale::new(0).ok_or("a scale")?)
 }
 
-// The layer that these bytes of a file stand for.
-fn layer_of(rt: &HostRuntime, bytes: &[u8]) -> Result<Result<Layer, ReadFault>, Fail> {
-    Ok(layer_of_bytes(rt.alloc(), RandomState::new(rt)?, bytes, whole()?))
+// The layer that these bytes of a file stand for, as so many threads load it.
+fn layer_by<R: Threads + Sync + RandomSource + AllocGlobal>(
+    rt: &R,
+    bytes: &[u8],
+    threads: u32,
+) -> Result<Result<Layer, ReadFault>, Fail> {
+    let state = RandomState::new(rt)?;
+    Ok(layer_of_copy(rt, state, bytes, whole()?, threads))
 }
 
-// The fault of a layer's file, if it has one.
-fn fault_of(rt: &HostRuntime, bytes: &[u8]) -> Result<Option<ReadFault>, Fail> {
-    Ok(layer_of(rt, bytes)?.err())
+// The layer of a copy of these bytes.
+fn layer_of_copy<R: Threads + Sync + AllocGlobal>(
+    rt: &R,
+    state: RandomState,
+    bytes: &[u8],
+    scale: Scale,
+    threads: u32,
+) -> Result<Layer, ReadFault> {
+    let copy = Vec::from_slice(rt.alloc(), bytes)?;
+    layer_of_bytes(rt.alloc(), state, copy, scale, threads, rt)
 }
 
-// Whether the layer of these bytes has exactly these features, in this order.
-fn reads_as(rt: &HostRuntime, bytes: &[u8], features: &[(&str, Shape)]) -> Result<bool, Fail> {
-    Ok(has_features(&layer_of(rt, bytes)??, features))
+// The layer that these bytes of a file stand for, as two threads load it.
+fn layer_of<R: Threads + Sync + RandomSource + AllocGlobal>(
+    rt: &R,
+    bytes: &[u8],
+) -> Result<Result<Layer, ReadFault>, Fail> {
+    layer_by(rt, bytes, 2)
+}
+
+// The fault of a layer's file, if it has one, and the same by one thread as by two.
+fn fault_of<R: Threads + Sync + RandomSource + AllocGlobal>(
+    rt: &R,
+    bytes: &[u8],
+) -> Result<Option<ReadFault>, Fail> {
+    let fault = layer_by(rt, bytes, 1)?.err();
+    if layer_by(rt, bytes, 2)?.err() != fault {
+        return Err(Fail::new("two threads find another fault than one"));
+    }
+    Ok(fault)
+}
+
+// Whether the layer of these bytes has exactly these features, in this order, by one thread and by
+// two.
+fn reads_as<R: Threads + Sync + RandomSource + AllocGlobal>(
+    rt: &R,
+    bytes: &[u8],
+    features: &[(&str, Shape)],
+) -> Result<bool, Fail> {
+    Ok(reads_by(rt, bytes, 1, features)? && reads_by(rt, bytes, 2, features)?)
+}
+
+// Whether so many threads load exactly these features, in this order.
+fn reads_by<R: Threads + Sync + RandomSource + AllocGlobal>(
+    rt: &R,
+    bytes: &[u8],
+    threads: u32,
+    features: &[(&str, Shape)],
+) -> Result<bool, Fail> {
+    Ok(has_features(&layer_by(rt, bytes, threads)??, features))
 }
 
 // Whether the layer has exactly these features, in this order and numbered from 0.

@@ -1,5 +1,6 @@
 -- How a command ends that reads one layer.
-use Rattle.std.proofs.Common.{◌≡◌, ◌≢◌, ◌↔◌, ℕ, List, Option, Some, None, Bool, Result, Ok, Err, IsErrAnd, ◌⊎◌, inl, inr, IfErr, IfSome, false, refl, sym, subst}
+use Rattle.std.proofs.Common.{◌≡◌, ◌≢◌, ◌↔◌, ℕ, List, Option, Some, None, Bool, Result, Ok, Err, IsErrAnd, ◌⊎◌, inl, inr, IfErr, IfSome, false, refl, sym}
+use Rattle.std.proofs.Common.{subst}
 use Rattle.std.specs.Borrow.{Bor}
 use Rattle.wkt_core.specs.declared.fault.WktFault.{WktFault}
 use Rattle.wkt_core.specs.declared.scale.Scale.{Scale}
@@ -141,6 +142,7 @@ window_blamed scale wkt l (run.NoFile i) is named given blame = absurd is
 window_blamed scale wkt l (run.Read i r) is named given blame = given blame
 window_blamed scale wkt l (run.Edit n e) is named given blame = absurd is
 window_blamed scale wkt l (run.Join j) is named given blame = absurd is
+window_blamed scale wkt l run.TooManyToDraw is named given blame = absurd is
 window_blamed scale wkt l run.Write is named given blame = absurd is
 window_blamed scale wkt l run.Memory is named given blame = absurd blame
 window_blamed scale wkt l run.NoKeys is named given blame = absurd is
@@ -170,6 +172,7 @@ window_allows scale path wkt (run.Wkt i w) is = is
 window_allows scale path wkt (run.Read i r) is = is
 window_allows scale path wkt (run.Edit n e) is = is
 window_allows scale path wkt (run.Join j) is = is
+window_allows scale path wkt run.TooManyToDraw is = is
 window_allows scale path wkt run.Write is = is
 window_allows scale path wkt run.Memory is = is
 window_allows scale path wkt run.NoKeys is = tt
@@ -218,6 +221,7 @@ stats_blamed scale l (run.NoFile i) is given blame = absurd is
 stats_blamed scale l (run.Read i r) is given blame = given blame
 stats_blamed scale l (run.Edit n e) is given blame = absurd is
 stats_blamed scale l (run.Join j) is given blame = absurd is
+stats_blamed scale l run.TooManyToDraw is given blame = absurd is
 stats_blamed scale l run.Write is given blame = absurd is
 stats_blamed scale l run.Memory is given blame = absurd blame
 stats_blamed scale l run.NoKeys is given blame = absurd is
@@ -234,6 +238,7 @@ stats_allows scale path (run.Wkt i w) is = is
 stats_allows scale path (run.Read i r) is = is
 stats_allows scale path (run.Edit n e) is = is
 stats_allows scale path (run.Join j) is = is
+stats_allows scale path run.TooManyToDraw is = is
 stats_allows scale path run.Write is = is
 stats_allows scale path run.Memory is = is
 stats_allows scale path run.NoKeys is = tt

@@ -1,3 +1,4 @@
 pub mod CommandLemmas
+pub mod JoinCommandLemmas
 pub mod LayerCommandLemmas
 pub mod WordLemmas

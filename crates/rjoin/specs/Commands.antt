@@ -1,14 +1,15 @@
 -- What a command gives, by what lies at the paths that it names.
-use Rattle.std.specs.Prelude.{◌≡◌, ◌≢◌, ⊤, ℕ, List, Option, Some, None, Bool, Result, Ok, Err, IfSome, IfErr}
+use Rattle.std.specs.Prelude.{◌≡◌, ◌≢◌, ⊤, ℕ, List, Option, Some, None, Bool, Result, Ok, Err}
+use Rattle.std.specs.Prelude.{IfSome, IfErr}
 use Rattle.std.specs.Borrow.{Bor}
-use Rattle.geom_core.specs.declared.relation.Relation.{Relation as RelationType}
 use Rattle.geom_core.specs.JoinRelations.{relation_of}
 use Rattle.wkt_core.specs.declared.scale.Scale.{Scale}
 use Rattle.join_core.specs.declared.fault.Input.{Input}
 use Rattle.join_core.specs.declared.fault.Input.TheVariants as input
 use Rattle.join_core.specs.declared.fault.RunFault.{RunFault}
 use Rattle.join_core.specs.declared.fault.RunFault.TheVariants as run
-use Rattle.join_core.specs.JoinRuns.{JoinGives, IsJoinFault}
+use Rattle.join_core.specs.DrawRuns.{DrawGives, IsDrawFault}
+use Rattle.join_core.specs.JoinRuns.{JoinFiles, JoinGives, IsJoinFault}
 use Rattle.join_core.specs.Inputs.{BlamesInput}
 use Rattle.join_core.specs.Relating.{IsMatrixLine, HasFirstFault, IsTextFault}
 use Rattle.join_core.specs.Runs.{Ends}
@@ -16,7 +17,8 @@ use Rattle.join_core.specs.StatsRuns.{StatsGives, IsStatsFault}
 use Rattle.join_core.specs.WindowRuns.{WindowGives, IsWindowFault}
 use Rattle.rjoin.specs.Opening.{Files}
 use Rattle.rjoin.specs.declared.words.Command.{Command}
-use Rattle.rjoin.specs.declared.words.Command.TheVariants.{Relate, Join, Window, Stats}
+use Rattle.rjoin.specs.declared.words.Command.TheVariants.{Relate, Join, Draw, Window, Stats}
+use Rattle.rjoin.specs.declared.words.JoinRequest.{JoinRequest}
 
 -- an input that has to be opened, and what follows where it is
 abbrev pub AfterOpening : Input → Option (List ℕ) → Result (List ℕ) RunFault
@@ -31,15 +33,14 @@ AfterEdits at None answer Then = Then None
 AfterEdits at (Some path) answer Then =
     AfterOpening input.Edits (at path.now) answer (λ bytes. Then (Some (Some bytes)))
 
--- the join of the files at these paths, which are opened in the order left, right, edits
-abbrev pub PathsGive : Scale → Files → List ℕ → List ℕ → Option (Bor (List ℕ)) → RelationType
+-- what the files of a join give, which are opened in the order left, right, edits
+abbrev pub PathsGive : (JoinFiles → Result (List ℕ) RunFault → Type 0) → Files → JoinRequest
     → Result (List ℕ) RunFault → Type 0
-PathsGive scale at left right edits relation answer =
-    AfterOpening input.Left (at left) answer (λ l.
-    AfterOpening input.Right (at right) answer (λ r.
-    AfterEdits at edits answer (λ e.
-    JoinGives relation (record { scale = scale; left = Some l; right = Some r; edits = e })
-    answer)))
+PathsGive Gives at join answer =
+    AfterOpening input.Left (at join.left_path.now) answer (λ l.
+    AfterOpening input.Right (at join.right_path.now) answer (λ r.
+    AfterEdits at join.edits_path answer (λ e.
+    Gives (record { scale = join.scale; left = Some l; right = Some r; edits = e }) answer)))
 
 -- the matrix of two texts, or the first that is at fault
 abbrev pub TextsGive : Scale → List ℕ → List ℕ → Result (List ℕ) RunFault → Type 0
@@ -49,8 +50,10 @@ TextsGive scale a b (Err _) = ⊥
 
 abbrev pub CommandGives : Files → Command → Result (List ℕ) RunFault → Type 0
 CommandGives at (Relate a b scale) answer = TextsGive scale a.now b.now answer
-CommandGives at (Join left right edits relation options scale) answer =
-    PathsGive scale at left.now right.now edits (relation_of relation) answer
+CommandGives at (Join join) answer =
+    PathsGive (JoinGives (relation_of join.relation)) at join answer
+CommandGives at (Draw join) answer =
+    PathsGive (DrawGives (relation_of join.relation)) at join answer
 CommandGives at (Window path wkt scale) answer =
     AfterOpening input.Layer (at path.now) answer (λ l. WindowGives scale wkt.now (Some l) answer)
 CommandGives at (Stats path scale) answer =
@@ -80,9 +83,12 @@ IsFoundNext _ _ = ⊥
 -- a fault that a command may have, that of its sink aside
 abbrev pub IsFaultOf : Command → RunFault → Type 0
 IsFaultOf (Relate a b scale) fault = IsTextFault fault
-IsFaultOf (Join left right edits relation options scale) (run.NoFile input) = ⊤
-IsFaultOf (Join left right edits relation options scale) run.NoKeys = ⊤
-IsFaultOf (Join left right edits relation options scale) fault = IsJoinFault fault
+IsFaultOf (Join join) (run.NoFile input) = ⊤
+IsFaultOf (Join join) run.NoKeys = ⊤
+IsFaultOf (Join join) fault = IsJoinFault fault
+IsFaultOf (Draw join) (run.NoFile input) = ⊤
+IsFaultOf (Draw join) run.NoKeys = ⊤
+IsFaultOf (Draw join) fault = IsDrawFault fault
 IsFaultOf (Window path wkt scale) (run.NoFile input.Layer) = ⊤
 IsFaultOf (Window path wkt scale) run.NoKeys = ⊤
 IsFaultOf (Window path wkt scale) fault = IsWindowFault fault

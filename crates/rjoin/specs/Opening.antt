@@ -1,6 +1,10 @@
 -- What opening a file answers, and what is known of the files of a join.
 use Rattle.std.specs.Prelude.{◌≡◌, ⊤, ℕ, List, Option, Some, None, Result, Ok, Err, IfSome}
 use Rattle.std.specs.Borrow.{Bor}
+use Rattle.join_core.specs.declared.fault.Input.TheVariants.{Left, Right, Edits}
+use Rattle.join_core.specs.declared.fault.RunFault.{RunFault}
+use Rattle.join_core.specs.declared.fault.RunFault.TheVariants.{NoFile}
+use Rattle.rjoin.specs.declared.words.JoinRequest.{JoinRequest}
 
 -- what lies at each path: bytes, or nothing that can be opened
 abbrev pub Files : Type 0
@@ -30,3 +34,19 @@ AreEditsAt known (Some path) told =
 abbrev pub AreEditsMissing : Option Files → Option (Bor (List ℕ)) → Type 0
 AreEditsMissing known None = ⊥
 AreEditsMissing known (Some path) = IsMissing known path.now
+
+-- the bytes at the paths of a join, which its opened files tell
+pub record AreOpened (known : Option Files) (join : JoinRequest)
+    (left right : Option (List ℕ)) (edits : Option (Option (List ℕ))) : Type 0 where
+  pub at_left : IsAt known join.left_path.now left
+  pub at_right : IsAt known join.right_path.now right
+  pub at_edits : AreEditsAt known join.edits_path edits
+
+-- the first file of a join that can't be opened, in the order left, right, edits
+pub data IsFirstMissing (known : Option Files) (join : JoinRequest) : RunFault → Type 0 where
+  no_left : IsMissing known join.left_path.now → IsFirstMissing known join (NoFile Left)
+  no_right : (left : Option (List ℕ)) → IsAt known join.left_path.now left
+      → IsMissing known join.right_path.now → IsFirstMissing known join (NoFile Right)
+  no_edits : (left right : Option (List ℕ)) → IsAt known join.left_path.now left
+      → IsAt known join.right_path.now right → AreEditsMissing known join.edits_path
+      → IsFirstMissing known join (NoFile Edits)

@@ -4,7 +4,8 @@ use Rattle.geom_core.specs.FaultTexts.{mask_text, allows_disjoint_text}
 use Rattle.join_core.specs.Lines.{line_of}
 use Rattle.join_core.specs.OptionTexts.{option_text}
 use Rattle.rjoin.specs.declared.words.WordFault.{WordFault}
-use Rattle.rjoin.specs.declared.words.WordFault.TheVariants.{Usage, Relation, AllowsDisjoint, Options, Scale, Memory}
+use Rattle.rjoin.specs.declared.words.WordFault.TheVariants.{Usage, Relation, AllowsDisjoint}
+use Rattle.rjoin.specs.declared.words.WordFault.TheVariants.{Options, Scale, Memory}
 
 abbrev pub word_status_of : WordFault → ℕ
 word_status_of (Usage text true) = 0

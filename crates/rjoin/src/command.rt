@@ -3,21 +3,20 @@
 ghost use Rattle.std.specs.Prelude.{◌≡◌, false, IfOk, IfErr, IfSome};
 ghost use Rattle.join_core.specs.JoinRuns.{bytes_of};
 ghost use Rattle.rjoin.specs.Commands.{CommandEnds};
-ghost use Rattle.rjoin.specs.Opening.{IsAt, IsMissing, AreEditsAt, AreEditsMissing};
+ghost use Rattle.rjoin.specs.Opening.{IsAt, IsMissing, AreEditsAt, AreEditsMissing, AreOpened};
+ghost use Rattle.rjoin.specs.Opening.{IsFirstMissing};
 ghost use Rattle.rjoin.specs.Endings.{CommandIsDone};
 
 use crate::inputs::Inputs;
-use crate::words::Command;
-use geom_core::JoinRelation;
+use crate::words::{Command, JoinRequest};
 use join_core::{
-    Input, JoinSources, OpenGate, Options, RunFault, Sink, fault_line, run_join, run_relate,
+    Input, JoinSources, OpenGate, RunFault, Sink, fault_line, run_draw, run_join, run_relate,
     run_stats, run_window,
 };
 use std::hash::RandomState;
 use std::random::RandomSource;
 use std::sync::Wait;
 use std::thread::Threads;
-use wkt_core::Scale;
 
 /// The status of a command that failed.
 pub const FAILED: u8 = 1;
@@ -61,17 +60,8 @@ fn execute<R: RandomSource + AllocGlobal + Threads + Wait + Sync, I: Inputs, O: 
         Command::Relate { a, b, scale } => {
             run_relate(*scale, a.as_bytes(), b.as_bytes(), output)
         }
-        Command::Join {
-            left_path,
-            right_path,
-            edits_path,
-            relation,
-            options,
-            scale,
-        } => {
-            let paths = (*left_path, *right_path, *edits_path);
-            execute_join(rt, inputs, paths, relation, options, *scale, output)
-        }
+        Command::Join(join) => execute_join(rt, inputs, join, output),
+        Command::Draw(join) => execute_draw(rt, inputs, join, output),
         Command::Window { path, wkt, scale } => {
             let mut layer = open_input(inputs, Input::Layer, path)?;
             let state = hash_state(rt)?;
@@ -85,38 +75,76 @@ fn execute<R: RandomSource + AllocGlobal + Threads + Wait + Sync, I: Inputs, O: 
     }
 }
 
-/// Joins the layers at the first two paths, after the edits at the third.
+/// Writes the report of a join.
 fn execute_join<R: RandomSource + AllocGlobal + Threads + Wait + Sync, I: Inputs, O: Sink>(
     rt: &R,
     inputs: &I,
-    paths: (&str, &str, Option<&str>),
-    relation: &JoinRelation,
-    options: &Options,
-    scale: Scale,
+    join: &JoinRequest<'_>,
     output: &mut O,
 ) -> Result<(), RunFault>
     requires { O.has_failed output.old ≡ false }
     ensures { CommandEnds (I.files inputs.now) O.written O.is_flushed O.has_failed
-        (Command.Join paths.entry.0 paths.entry.1 paths.entry.2 relation.now options.now scale)
-        output.old output.new result }
+        (Command.Join join.now) output.old output.new result }
 {
-    let (left_path, right_path, edits_path) = paths;
-    let left = open_input(inputs, Input::Left, left_path)?;
-    let right = open_input(inputs, Input::Right, right_path)?;
-    let edits = open_edits(inputs, edits_path)?;
+    let mut sources = open_sources(inputs, join)?;
     let states = (hash_state(rt)?, hash_state(rt)?);
-    let mut sources = JoinSources { left, right, edits };
     run_join(
         rt,
         rt.alloc(),
         states,
-        scale,
+        join.scale,
         &mut sources,
-        relation,
-        options,
+        &join.relation,
+        &join.options,
         &OpenGate,
         output,
     )
+}
+
+/// Writes the picture of a join.
+fn execute_draw<R: RandomSource + AllocGlobal + Threads + Wait + Sync, I: Inputs, O: Sink>(
+    rt: &R,
+    inputs: &I,
+    join: &JoinRequest<'_>,
+    output: &mut O,
+) -> Result<(), RunFault>
+    requires { O.has_failed output.old ≡ false }
+    ensures { CommandEnds (I.files inputs.now) O.written O.is_flushed O.has_failed
+        (Command.Draw join.now) output.old output.new result }
+{
+    let mut sources = open_sources(inputs, join)?;
+    let states = (hash_state(rt)?, hash_state(rt)?);
+    run_draw(
+        rt,
+        rt.alloc(),
+        states,
+        join.scale,
+        &mut sources,
+        &join.relation,
+        &join.options,
+        &OpenGate,
+        output,
+    )
+}
+
+/// The files of a join, opened in the order left, right, edits.
+fn open_sources<I: Inputs>(
+    inputs: &I,
+    join: &JoinRequest<'_>,
+) -> Result<JoinSources<I::File, I::File, I::File>, RunFault>
+    ensures opened { IfOk result (λ sources. AreOpened (I.files inputs.now) join.now
+        (I.File.remaining sources.left) (I.File.remaining sources.right)
+        (bytes_of I.File.remaining sources.edits)) }
+    ensures left { IfOk result (λ sources. I.File.has_failed sources.left ≡ false) }
+    ensures right { IfOk result (λ sources. I.File.has_failed sources.right ≡ false) }
+    ensures edits { IfOk result (λ sources.
+        IfSome sources.edits (λ e. I.File.has_failed e ≡ false)) }
+    ensures missing { IfErr result (IsFirstMissing (I.files inputs.now) join.now) }
+{
+    let left = open_input(inputs, Input::Left, join.left_path)?;
+    let right = open_input(inputs, Input::Right, join.right_path)?;
+    let edits = open_edits(inputs, join.edits_path)?;
+    Ok(JoinSources { left, right, edits })
 }
 
 /// The file of an input.

@@ -2,6 +2,7 @@
 #![tactic(auto)]
 
 mod command;
+mod hint;
 mod host;
 mod inputs;
 mod program;

@@ -64,6 +64,20 @@ share points, lines or areas. Neither --workers nor --batch nor --cut changes th
 Exit status: 0 for success, 1 for a fault of a file, output, memory, threads or hashing keys, 2 for
 wrong words";
 
+const DRAW_HELP: &str = "\
+The layers are read, edited and joined as by rjoin join, whose --help tells files and relations.
+
+The picture is SVG 1.1, which browsers show: the second axis upwards, left features in blue and
+right ones in orange, those that occur in a pair set off by stronger lines and fillings, each with
+its id as a title that shows under the pointer. Its head counts features and pairs:
+  rjoin draw parcels.csv roads.csv --relation touches > picture.svg
+
+Layers with more than 100000 features together, after the edits, are refused. Neither --workers nor
+--batch nor --cut changes the picture.
+
+Exit status: 0 for success, 1 for a fault of a file, output, memory, threads or hashing keys, or too
+many features, 2 for wrong words";
+
 const WINDOW_HELP: &str = "\
 A layer is a CSV file, as
   id,wkt
@@ -96,6 +110,7 @@ pub fn usage<'a>(alloc: Global) -> Result<Command<'a>, AllocError> {
         .subcommand_required(true)
         .subcommand(relate_usage(alloc)?)?
         .subcommand(join_usage(alloc)?)?
+        .subcommand(draw_usage(alloc)?)?
         .subcommand(window_usage(alloc)?)?
         .subcommand(stats_usage(alloc)?)
 }
@@ -110,6 +125,21 @@ fn relate_usage<'a>(alloc: Global) -> Result<Command<'a>, AllocError> {
 }
 
 fn join_usage<'a>(alloc: Global) -> Result<Command<'a>, AllocError> {
+    let command = Command::new(alloc, "join")
+        .about("Writes the pairs of features of two layers that stand in a relation")
+        .after_help(JOIN_HELP);
+    with_join_arguments(alloc, command)
+}
+
+fn draw_usage<'a>(alloc: Global) -> Result<Command<'a>, AllocError> {
+    let command = Command::new(alloc, "draw")
+        .about("Writes a picture of two layers and of the pairs that stand in a relation, as SVG")
+        .after_help(DRAW_HELP);
+    with_join_arguments(alloc, command)
+}
+
+/// The command with the arguments of a join.
+fn with_join_arguments<'a>(alloc: Global, command: Command<'a>) -> Result<Command<'a>, AllocError> {
     let relation = Arg::new(alloc, "relation")
         .long("relation")
         .help("Name of a relation, or mask of nine letters")
@@ -117,9 +147,7 @@ fn join_usage<'a>(alloc: Global) -> Result<Command<'a>, AllocError> {
     let edits = Arg::new(alloc, "edits")
         .long("edits")
         .help("CSV file of edits, which are made before the join");
-    Command::new(alloc, "join")
-        .about("Writes the pairs of features of two layers that stand in a relation")
-        .after_help(JOIN_HELP)
+    command
         .arg(positional(alloc, "LEFT", "CSV file of the left layer"))?
         .arg(positional(alloc, "RIGHT", "CSV file of the right layer"))?
         .arg(relation)?

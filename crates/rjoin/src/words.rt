@@ -3,6 +3,7 @@
 ghost use Rattle.std.specs.Prelude.{◌≡◌};
 ghost use Rattle.rjoin.specs.declared.words.WordFault.TheVariants as word_faults;
 
+use crate::hint::nearest_relation;
 use crate::inputs::STANDARD_INPUT;
 use crate::usage::usage;
 use clap::ArgMatches;
@@ -11,6 +12,17 @@ use geom_core::{AllowsDisjoint, JoinRelation, MaskFault, Relation};
 use join_core::{OptionFault, Options};
 use std::alloc::{AllocError, Global};
 use wkt_core::Scale;
+
+/// Two layers that are to be joined after edits, and how.
+#[derive(Clone, Copy, Debug, PartialEq, Eq)]
+pub struct JoinRequest<'a> {
+    pub left_path: &'a str,
+    pub right_path: &'a str,
+    pub edits_path: Option<&'a str>,
+    pub relation: JoinRelation,
+    pub options: Options,
+    pub scale: Scale,
+}
 
 /// What the program is asked to do. Texts and paths are borrowed from the words.
 #[derive(Clone, Copy, Debug, PartialEq, Eq)]
@@ -21,15 +33,10 @@ pub enum Command<'a> {
         b: &'a str,
         scale: Scale,
     },
-    /// Write the pairs of features of two layers that stand in a relation, after edits.
-    Join {
-        left_path: &'a str,
-        right_path: &'a str,
-        edits_path: Option<&'a str>,
-        relation: JoinRelation,
-        options: Options,
-        scale: Scale,
-    },
+    /// Write the pairs of features of two layers that stand in a relation.
+    Join(JoinRequest<'a>),
+    /// Write a picture of two layers, in which the features of those pairs are set off.
+    Draw(JoinRequest<'a>),
     /// Write the ids of a layer's features that meet the geometry of a text.
     Window {
         path: &'a str,
@@ -100,7 +107,8 @@ pub fn read_words<'a>(alloc: Global, words: &'a [&'a str]) -> Result<Command<'a>
     };
     match matches.subcommand() {
         Some(("relate", given)) => read_relate(alloc, given),
-        Some(("join", given)) => read_join(alloc, given),
+        Some(("join", given)) => Ok(Command::Join(read_join(alloc, given)?)),
+        Some(("draw", given)) => Ok(Command::Draw(read_join(alloc, given)?)),
         Some(("window", given)) => read_window(alloc, given),
         Some(("stats", given)) => read_stats(alloc, given),
         _ => Err(missing(alloc, "COMMAND")),
@@ -114,22 +122,41 @@ fn read_relate<'a>(alloc: Global, given: &ArgMatches<'a>) -> Result<Command<'a>,
     Ok(Command::Relate { a, b, scale })
 }
 
-fn read_join<'a>(alloc: Global, given: &ArgMatches<'a>) -> Result<Command<'a>, WordFault> {
+fn read_join<'a>(alloc: Global, given: &ArgMatches<'a>) -> Result<JoinRequest<'a>, WordFault> {
     let left_path = required(alloc, given, "LEFT")?;
     let right_path = required(alloc, given, "RIGHT")?;
     let edits_path = given.get_str("edits");
     refuse_shared_input(alloc, &[Some(left_path), Some(right_path), edits_path])?;
-    let relation = Relation::read(required(alloc, given, "relation")?.as_bytes())?;
-    let relation = JoinRelation::new(relation)?;
+    let relation = read_relation(alloc, required(alloc, given, "relation")?)?;
     let options = read_options(alloc, given)?;
     let scale = read_scale(alloc, given)?;
-    Ok(Command::Join {
+    Ok(JoinRequest {
         left_path,
         right_path,
         edits_path,
         relation,
         options,
         scale,
+    })
+}
+
+/// The relation that a word names, or that it spells as a mask.
+fn read_relation(alloc: Global, word: &str) -> Result<JoinRelation, WordFault> {
+    match Relation::read(word.as_bytes()) {
+        Ok(relation) => Ok(JoinRelation::new(relation)?),
+        Err(fault) => Err(relation_fault(alloc, word, fault)?),
+    }
+}
+
+/// The fault of a word that is no relation, with a hint where it is nearly a name.
+fn relation_fault(alloc: Global, word: &str, fault: MaskFault) -> Result<WordFault, AllocError> {
+    let Some(name) = nearest_relation(alloc, word)? else {
+        return Ok(WordFault::Relation(fault));
+    };
+    let reason = MaskFault::Length.text();
+    Ok(WordFault::Usage {
+        text: format!(in alloc; "rjoin: --relation: {reason}; did you mean {name}?\n")?,
+        help: false,
     })
 }
 

@@ -1,13 +1,16 @@
-//! What a report tells of a layer's features, found by number.
+//! What a report tells of the features of two layers, found by number.
 
-ghost use Rattle.std.specs.Prelude.{◌≡◌, ◌≤◌, ◌<◌, ◌++◌, ◌^◌, List, ℕ, length, IfOk, OnOk};
+ghost use Rattle.std.specs.Prelude.{◌≡◌, ◌≤◌, ◌<◌, ◌++◌, ◌^◌, All, List, ℕ, length, IfOk, OnOk};
 ghost use Rattle.layer_core.specs.Layers.{Contents, with_number};
-ghost use Rattle.join_core.specs.Columns.{IsCell, IsColumn, FieldAndShapeAre};
+ghost use Rattle.join_core.specs.Columns.{IsCell, IsColumn, FieldAndShapeAre, AreColumnsFor};
+ghost use Rattle.join_core.specs.Reports.{IsHeld};
 
-use crate::csv_fields::push_field;
+use crate::csv_fields::push_leading_field;
 use geom_core::Shape;
 use layer_core::Layer;
 use std::alloc::{AllocError, Global};
+use std::thread;
+use std::thread::Threads;
 
 /// The shape of a feature, and where its id stands in the text of its column.
 #[derive(Clone, Copy)]
@@ -17,7 +20,7 @@ struct Cell {
     end: usize,
 }
 
-/// The ids of a layer's features, as CSV fields, and their shapes, by number.
+/// The ids of a layer's features, as CSV fields with their commas, and their shapes, by number.
 ///
 /// A report asks for right features in no order. Here what it needs of one stands together, where
 /// a layer would look at a slot, a place in its map of ids and the id.
@@ -29,9 +32,16 @@ pub(crate) struct Column {
     text: Vec<u8>,
 }
 
+/// The columns of a left and a right layer.
+#[derive(Drop)]
+pub(crate) struct Columns {
+    pub(crate) left: Column,
+    pub(crate) right: Column,
+}
+
 impl Column {
     /// The column of the features of a layer whose numbers are below a bound.
-    pub(crate) fn new(alloc: Global, layer: &Layer, bound: usize) -> Result<Column, AllocError>
+    fn new(alloc: Global, layer: &Layer, bound: usize) -> Result<Column, AllocError>
         requires { bound ≤ 2 ^ 32 }
         ensures cells { IfOk result
             (λ column. IsColumn layer.now.list column.cells.items column.text.items) }
@@ -46,7 +56,7 @@ impl Column {
         Ok(Column { cells, text })
     }
 
-    /// The id of the feature with this number, as a CSV field, and its shape.
+    /// The id of the feature with this number, as a CSV field with its comma, and its shape.
     pub(crate) fn at(&self, number: u32) -> Option<(&[u8], Shape)>
         ensures { (layer : Contents) → IsColumn layer self.now.cells.items self.now.text.items
             → number < length self.now.cells.items
@@ -56,6 +66,61 @@ impl Column {
         let field = self.text.get(cell.start..cell.end)?;
         Some((field, cell.shape))
     }
+}
+
+impl Columns {
+    /// The columns of two layers, as far as these pairs of numbers need them.
+    pub(crate) fn new(
+        alloc: Global,
+        left: &Layer,
+        right: &Layer,
+        pairs: &[(u32, u32)],
+    ) -> Result<Columns, AllocError>
+        requires { All (IsHeld left.now.list right.now.list) pairs.now }
+        ensures { IfOk result (AreColumnsFor left.now.list right.now.list pairs.now) }
+    {
+        let (left_bound, right_bound) = bounds(pairs);
+        Ok(Columns {
+            left: Column::new(alloc, left, left_bound)?,
+            right: Column::new(alloc, right, right_bound)?,
+        })
+    }
+
+    /// The same columns, made side by side.
+    pub(crate) fn side_by_side<R: Threads + Sync>(
+        alloc: Global,
+        left: &Layer,
+        right: &Layer,
+        pairs: &[(u32, u32)],
+        rt: &R,
+    ) -> Result<Columns, AllocError>
+        requires { All (IsHeld left.now.list right.now.list) pairs.now }
+        ensures { IfOk result (AreColumnsFor left.now.list right.now.list pairs.now) }
+    {
+        let (left_bound, right_bound) = bounds(pairs);
+        let (left_column, right_column) = thread::join(
+            rt,
+            move || Column::new(alloc, left, left_bound),
+            move || Column::new(alloc, right, right_bound),
+        );
+        Ok(Columns {
+            left: left_column?,
+            right: right_column?,
+        })
+    }
+}
+
+/// One more than the greatest number of each side.
+fn bounds(pairs: &[(u32, u32)]) -> (usize, usize)
+    ensures above { All (λ pair. (pair.0 < result.0) × (pair.1 < result.1)) pairs.now }
+    ensures few { (result.0 ≤ 2 ^ 32) × (result.1 ≤ 2 ^ 32) }
+{
+    let (mut left, mut right) = (0, 0);
+    for pair in pairs {
+        left = left.max(pair.0 as usize + 1);
+        right = right.max(pair.1 as usize + 1);
+    }
+    (left, right)
 }
 
 /// Adds the id of the feature with this number to a text, if there is one, and gives its cell.
@@ -73,7 +138,7 @@ fn push_cell(
         return Ok(None);
     };
     let start = text.len();
-    push_field(alloc, text, id.as_bytes())?;
+    push_leading_field(alloc, text, id.as_bytes())?;
     let end = text.len();
     Ok(Some(Cell { shape, start, end }))
 }

@@ -17,8 +17,8 @@ use wkt_core::Scale;
 /// The layers that the left and the right source are read as. `states` hash their ids.
 ///
 /// The left source is read first, then the right one, and then the layers are built: side by side
-/// where there is more than one worker. A source that fails is answered at once; a fault in what
-/// was read of the left source comes before one of the right.
+/// where there is more than one worker, and each by half of the workers. A source that fails is
+/// answered at once; a fault in what was read of the left source comes before one of the right.
 pub(crate) fn read_layers<R: Threads + Sync, A: Source, B: Source>(
     rt: &R,
     alloc: Global,
@@ -77,13 +77,14 @@ fn build_layers<R: Threads + Sync>(
     ensures unread { IfErr right (λ fault. result.1 ≡ Err fault) }
 {
     let (left_state, right_state) = states;
+    let threads = (workers / 2).max(1);
     let build_left = move || -> Result<Layer, ReadFault>
         ensures { Builds scale left.items result }
-    { layer_of_bytes(alloc, left_state, left.as_slice(), scale) };
+    { layer_of_bytes(alloc, left_state, left, scale, threads, rt) };
     let build_right = move || -> Result<Layer, ReadFault>
         ensures built { IfOk right (λ bytes. Builds scale bytes.items result) }
         ensures unread { IfErr right (λ fault. result ≡ Err fault) }
-    { layer_of_bytes(alloc, right_state, right?.as_slice(), scale) };
+    { layer_of_bytes(alloc, right_state, right?, scale, threads, rt) };
     if workers > 1 {
         thread::join(rt, build_left, build_right)
     } else {

@@ -1,21 +1,18 @@
 //! The join of two files of layers, after a file of edits.
 
-ghost use Rattle.std.specs.Prelude.{◌≡◌, ◌≢◌, ◌↔◌, ◌≤◌, ℕ, List, Ok, Err, Result, false, IsTrue};
-ghost use Rattle.std.specs.Prelude.{IfOk, IfErr, IfSome, OnOk, IsErrOf, IsSomeAnd, map, length};
+ghost use Rattle.std.specs.Prelude.{◌≡◌, ◌≢◌, ◌↔◌, ℕ, List, Err, Result, false, IsTrue};
+ghost use Rattle.std.specs.Prelude.{IfOk, IfErr, IfSome, IsErrOf, IsSomeAnd};
 ghost use Rattle.geom_core.specs.JoinRelations.{relation_of};
 ghost use Rattle.layer_core.specs.declared.read_fault.ReadFault.{ReadFault};
-ghost use Rattle.layer_core.specs.Edits.{content_of};
-ghost use Rattle.layer_core.specs.Limits.{most_file_bytes};
 ghost use Rattle.join_core.specs.declared.fault.Input.{Input};
 ghost use Rattle.join_core.specs.Runs.{Ends};
 ghost use Rattle.join_core.specs.Joins.{IsJoinList};
 ghost use Rattle.join_core.specs.Reports.{IsReport};
-ghost use Rattle.join_core.specs.Inputs.{LayerFile, BlamesBytes, BlamesInput};
-ghost use Rattle.join_core.specs.JoinRuns.{EditFile, bytes_of, files_of, JoinGives, IsJoinText};
+ghost use Rattle.join_core.specs.Inputs.{BlamesInput};
+ghost use Rattle.join_core.specs.JoinRuns.{files_of, JoinGives, IsJoinText};
 ghost use Rattle.join_core.specs.JoinRuns.{IsJoinFault, IsLateFault, FailedAt};
 
-use super::edits::apply_edits;
-use super::layers::read_layers;
+use super::edited::edited_layers;
 use super::pairs::join;
 use super::report::report_text;
 use super::sources::JoinSources;
@@ -23,7 +20,7 @@ use crate::fault::{Input, RunFault};
 use crate::options::Options;
 use crate::writing::{Sink, write_text};
 use geom_core::JoinRelation;
-use layer_core::{Edit, Layer, ReadFault, Source, read_edits};
+use layer_core::{Layer, ReadFault, Source};
 use std::alloc::Global;
 use std::hash::RandomState;
 use std::sync::Wait;
@@ -96,44 +93,8 @@ fn join_text<R: Threads + Wait + Sync, A: Source, B: Source, E: Source, G: Gate 
     ensures edits_io { IsErrOf result (RunFault.Read Input.Edits ReadFault.Io)
         ↔ IsSomeAnd sources.new.edits (λ e. IsTrue (E.has_failed e)) }
 {
-    let (left, right) = (&mut sources.left, &mut sources.right);
-    let layers = read_layers(rt, alloc, states, scale, left, right, options.workers())?;
-    let (mut left_layer, mut right_layer) = layers;
-    let edit_list = read_edit_list(alloc, scale, &mut sources.edits)?;
-    apply_edits(edit_list.as_slice(), &mut left_layer, &mut right_layer)?;
-    report_of(
-        rt,
-        alloc,
-        &left_layer,
-        &right_layer,
-        relation,
-        options,
-        gate,
-    )
-}
-
-/// The edits, if there is a file of them.
-fn read_edit_list<E: Source>(
-    alloc: Global,
-    scale: Scale,
-    edits: &mut Option<E>,
-) -> Result<Vec<Edit>, RunFault>
-    requires { IfSome edits.old (λ e. E.has_failed e ≡ false) }
-    ensures ok { IfOk result (λ list.
-        EditFile scale (bytes_of E.remaining edits.old) (Ok (map content_of list.items))) }
-    ensures few { IfOk result (λ list. length list.items ≤ most_file_bytes) }
-    ensures fault { IfErr result (λ e. (f : ReadFault) × (e ≡ RunFault.Read Input.Edits f)
-        × (BlamesBytes f → EditFile scale (bytes_of E.remaining edits.old) (Err f))) }
-    ensures io { IsErrOf result (RunFault.Read Input.Edits ReadFault.Io)
-        ↔ IsSomeAnd edits.new (λ e. IsTrue (E.has_failed e)) }
-{
-    let Some(source) = edits else {
-        return Ok(Vec::new(alloc));
-    };
-    match read_edits(alloc, source, scale) {
-        Ok(list) => Ok(list),
-        Err(fault) => Err(RunFault::Read(Input::Edits, fault)),
-    }
+    let (left, right) = edited_layers(rt, alloc, states, scale, sources, options.workers())?;
+    report_of(rt, alloc, &left, &right, relation, options, gate)
 }
 
 /// The report of two layers.
@@ -152,5 +113,6 @@ fn report_of<R: Threads + Wait + Sync, G: Gate + Sync>(
     ensures err { IfErr result IsLateFault }
 {
     let outcome = join(rt, alloc, left, right, relation, options, gate)?;
-    Ok(report_text(alloc, left, right, outcome.pairs())?)
+    let workers = options.workers();
+    Ok(report_text(alloc, left, right, outcome.pairs(), workers, rt)?)
 }

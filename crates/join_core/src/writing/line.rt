@@ -1,6 +1,7 @@
 //! A short text, made on the stack: one line of a message, or the lines of a layer's counts.
 
-ghost use Rattle.std.specs.Prelude.{◌≡◌, ◌+◌, ◌<◌, ◌≤◌, ◌↔◌, List, ℕ, [], ◌∷◌, ◌++◌, false, length, decimal, codes, IsTrue, IsErr, OnOk, OnErr};
+ghost use Rattle.std.specs.Prelude.{◌≡◌, ◌+◌, ◌<◌, ◌≤◌, ◌↔◌, List, ℕ, [], ◌∷◌, ◌++◌, false, length};
+ghost use Rattle.std.specs.Prelude.{decimal, codes, IsTrue, IsErr, OnOk, OnErr};
 ghost use Rattle.std.specs.Io.KnownBytes.{Appends};
 ghost use Rattle.layer_core.specs.FaultTexts.{row_text};
 ghost use Rattle.join_core.specs.Written.{AppendsPrefix};

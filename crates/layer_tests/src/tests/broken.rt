@@ -4,8 +4,8 @@ use super::*;
 use wkt_core::WktFault;
 
 // The left layer of the row of a join by touches.
-const LEFT: &str =
-    "id,wkt\na,\"POLYGON ((0 0, 4 0, 4 4, 0 4, 0 0))\"\nb,POINT (4 4)\nc,\"LINESTRING (1 0, 3 0)\"\n";
+const LEFT: &str = "id,wkt\na,\"POLYGON ((0 0, 4 0, 4 4, 0 4, 0 0))\"\n\
+     b,POINT (4 4)\nc,\"LINESTRING (1 0, 3 0)\"\n";
 
 // The text of the left layer up to this part of it, which it has once.
 fn cut_after(part: &str) -> Option<&'static [u8]> {
@@ -14,12 +14,20 @@ fn cut_after(part: &str) -> Option<&'static [u8]> {
 }
 
 // Whether no layer is read of these bytes, for this fault.
-fn has_fault(rt: &HostRuntime, bytes: &[u8], fault: ReadFault) -> Result<bool, Fail> {
+fn has_fault<R: Threads + Sync + RandomSource + AllocGlobal>(
+    rt: &R,
+    bytes: &[u8],
+    fault: ReadFault,
+) -> Result<bool, Fail> {
     Ok(fault_of(rt, bytes)? == Some(fault))
 }
 
 // Whether no layer is read of the left layer up to this part, for this fault.
-fn has_fault_after(rt: &HostRuntime, part: &str, fault: ReadFault) -> Result<bool, Fail> {
+fn has_fault_after<R: Threads + Sync + RandomSource + AllocGlobal>(
+    rt: &R,
+    part: &str,
+    fault: ReadFault,
+) -> Result<bool, Fail> {
     has_fault(rt, cut_after(part).ok_or("a front")?, fault)
 }
 

@@ -26,8 +26,8 @@ const AGAIN: &[Insertion] = &[("a", 9, Ok(()))];
 
 const LISTED: &[(&str, u32)] = &[("b", 1), ("c", 2), ("a", 3)];
 
-const EDITS: &[u8] =
-    b"op,layer,id,wkt\r\ninsert,left,a,POINT (1 2)\r\ninsert,right,b,\"LINESTRING (0 0, 0 3)\"\r\ndelete,left,a,\r\n";
+const EDITS: &[u8] = b"op,layer,id,wkt\r\ninsert,left,a,POINT (1 2)\r\n\
+      insert,right,b,\"LINESTRING (0 0, 0 3)\"\r\ndelete,left,a,\r\n";
 
 // Makes insertions, and says whether each is answered so.
 fn inserts(layer: &mut Layer, points: &[Insertion]) -> Result<bool, Fail> {
@@ -57,7 +57,7 @@ fn layer_edits(rt: HostRuntime) -> Result<(), Fail> {
 }
 
 // A layer that has had all its features.
-fn full_layer(rt: &HostRuntime) -> Result<Layer, Fail> {
+fn full_layer<R: Threads + Sync + RandomSource + AllocGlobal>(rt: &R) -> Result<Layer, Fail> {
     let file = points_file(rt.alloc(), 1_000_000)?;
     Ok(layer_of(rt, file.as_bytes())??)
 }
@@ -68,7 +68,7 @@ fn stays_full(full: &mut Layer) -> Result<bool, Fail> {
     Ok(is_full && removes(full, "p7", point(7, 0)?) && inserts(full, INTO_FULL)?)
 }
 
-fn is_full_for_good(rt: &HostRuntime) -> Result<bool, Fail> {
+fn is_full_for_good<R: Threads + Sync + RandomSource + AllocGlobal>(rt: &R) -> Result<bool, Fail> {
     stays_full(&mut full_layer(rt)?)
 }
 

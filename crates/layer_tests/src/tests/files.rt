@@ -16,6 +16,14 @@ const BROKEN_LAYERS: &[(&[u8], ReadFault)] = &[
         ReadFault::Layer(2, LayerFault::DoubleId),
     ),
     (
+        b"id,wkt\na,POINT (1 2)\na,POINT (3 4)\nb,POINT (5\n",
+        ReadFault::Layer(2, LayerFault::DoubleId),
+    ),
+    (
+        b"id,wkt\na,POINT (1 2)\nb,POINT (5\na,POINT (3 4)\n",
+        ReadFault::Wkt(2, WktFault::Text),
+    ),
+    (
         b"id,wkt\n,POINT (1 2\n",
         ReadFault::Layer(1, LayerFault::BadId),
     ),
@@ -84,7 +92,9 @@ fn endless_layer(rt: HostRuntime) -> Result<(), Fail> {
 }
 
 // The place of the first of the broken layers that has another fault.
-fn first_other_layer(rt: &HostRuntime) -> Result<Option<usize>, Fail> {
+fn first_other_layer<R: Threads + Sync + RandomSource + AllocGlobal>(
+    rt: &R,
+) -> Result<Option<usize>, Fail> {
     for (place, (bytes, fault)) in BROKEN_LAYERS.iter().enumerate() {
         if fault_of(rt, bytes)? != Some(*fault) {
             return Ok(Some(place));
@@ -120,19 +130,52 @@ fn spelled_files(rt: HostRuntime) -> Result<(), Fail> {
     Ok(())
 }
 
-// The fault of the file of 1,000,000 points with this row behind them.
-fn fault_behind_points(rt: &HostRuntime, row: &str) -> Result<Option<ReadFault>, Fail> {
-    let mut file = points_file(rt.alloc(), 1_000_000)?;
-    file.push_str(row)?;
+// The fault of the file of so many points with these rows behind them, if it has one.
+fn fault_behind<R: Threads + Sync + RandomSource + AllocGlobal>(
+    rt: &R,
+    count: u32,
+    rows: &str,
+) -> Result<Option<ReadFault>, Fail> {
+    let mut file = points_file(rt.alloc(), count)?;
+    file.push_str(rows)?;
     fault_of(rt, file.as_bytes())
 }
 
 #[test]
 fn full_file(rt: HostRuntime) -> Result<(), Fail> {
-    let double = fault_behind_points(&rt, "p0,POINT (0 0)\n")?;
+    let double = fault_behind(&rt, 1_000_000, "p0,POINT (0 0)\n")?;
     assert!(rt; double == Some(ReadFault::Layer(1_000_001, LayerFault::DoubleId)));
-    let full = fault_behind_points(&rt, "q,POINT (0 0)\n")?;
+    let full = fault_behind(&rt, 1_000_000, "q,POINT (0 0)\n")?;
     assert!(rt; full == Some(ReadFault::Layer(1_000_001, LayerFault::LayerFull)));
+    Ok(())
+}
+
+// The first fault of two rows is answered, wherever they stand among the batches that are read
+// ahead, each of which has 16,384 rows.
+#[test]
+fn batched_file(rt: HostRuntime) -> Result<(), Fail> {
+    for count in [16_383, 16_384, 40_000] {
+        let double = fault_behind(&rt, count, "p0,POINT (0 0)\nq,POINT (0\n")?;
+        assert!(rt; double == Some(ReadFault::Layer(count + 1, LayerFault::DoubleId)));
+        let unread = fault_behind(&rt, count, "q,POINT (0\np0,POINT (0 0)\n")?;
+        assert!(rt; unread == Some(ReadFault::Wkt(count + 1, WktFault::Text)));
+    }
+    Ok(())
+}
+
+// How many features the layer of the file of so many points has, as two threads load it.
+fn points_loaded<R: Threads + Sync + RandomSource + AllocGlobal>(
+    rt: &R,
+    count: u32,
+) -> Result<usize, Fail> {
+    let file = points_file(rt.alloc(), count)?;
+    Ok(layer_of(rt, file.as_bytes())??.len())
+}
+
+#[test]
+fn whole_batches(rt: HostRuntime) -> Result<(), Fail> {
+    assert_eq!(rt; points_loaded(&rt, 16_384)?, 16_384);
+    assert_eq!(rt; points_loaded(&rt, 40_000)?, 40_000);
     Ok(())
 }
 

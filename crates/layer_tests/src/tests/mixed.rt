@@ -30,7 +30,11 @@ struct Trial {
 
 impl Trial {
     /// A layer of so many features that is read from a file.
-    fn read(rt: &HostRuntime, random: &mut Random, count: u32) -> Result<Trial, Fail> {
+    fn read<R: Threads + Sync + RandomSource + AllocGlobal>(
+        rt: &R,
+        random: &mut Random,
+        count: u32,
+    ) -> Result<Trial, Fail> {
         let list = listed(rt.alloc(), random, count)?;
         let layer = layer_of_list(rt, &list)?;
         Ok(Trial {
@@ -235,7 +239,10 @@ fn file_of(alloc: Global, list: &[Held]) -> Option<String> {
 }
 
 /// The layer that is read from that file.
-fn layer_of_list(rt: &HostRuntime, list: &[Held]) -> Result<Layer, Fail> {
+fn layer_of_list<R: Threads + Sync + RandomSource + AllocGlobal>(
+    rt: &R,
+    list: &[Held],
+) -> Result<Layer, Fail> {
     let file = file_of(rt.alloc(), list).ok_or("a file")?;
     Ok(layer_of(rt, file.as_bytes())??)
 }

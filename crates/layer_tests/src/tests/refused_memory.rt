@@ -121,7 +121,9 @@ fn refused_3(rt: HostRuntime) -> Result<(), Fail> {
 }
 
 // Whether ten features are loaded, or the fault.
-fn loads_ten(rt: &HostRuntime) -> Result<Result<bool, ReadFault>, Fail> {
+fn loads_ten<R: Threads + Sync + RandomSource + AllocGlobal>(
+    rt: &R,
+) -> Result<Result<bool, ReadFault>, Fail> {
     Ok(layer_of(rt, TEN)?.map(|layer| has_len(&layer, 10)))
 }
 

@@ -20,7 +20,10 @@ const STATS_OF_TWO: Stats = Stats {
     height: 1,
 };
 
-fn stats_of(rt: &HostRuntime, bytes: &[u8]) -> Result<Stats, Fail> {
+fn stats_of<R: Threads + Sync + RandomSource + AllocGlobal>(
+    rt: &R,
+    bytes: &[u8],
+) -> Result<Stats, Fail> {
     Ok(layer_of(rt, bytes)??.stats())
 }
 
@@ -31,7 +34,7 @@ fn stats_emptied(layer: &mut Layer) -> Result<Stats, Fail> {
     Ok(layer.stats())
 }
 
-fn stats_of_emptied(rt: &HostRuntime) -> Result<Stats, Fail> {
+fn stats_of_emptied<R: Threads + Sync + RandomSource + AllocGlobal>(rt: &R) -> Result<Stats, Fail> {
     stats_emptied(&mut layer_of(rt, TWO)??)
 }
 

@@ -151,6 +151,56 @@ const MISSING_FILES: [Run; 6] = [
     ),
 ];
 
+const PICTURE_FAULTS: [Run; 6] = [
+    (
+        "draw|l.csv|q.csv|--relation|touches|--edits|e.csv",
+        1,
+        "",
+        "rjoin: left: cannot be opened\n",
+    ),
+    (
+        "draw|bad.csv|q.csv|--relation|touches|--edits|e.csv",
+        1,
+        "",
+        "rjoin: right: cannot be opened\n",
+    ),
+    (
+        "draw|bad.csv|right.csv|--relation|touches|--edits|e.csv",
+        1,
+        "",
+        "rjoin: edits: cannot be opened\n",
+    ),
+    (
+        "draw|bad.csv|right.csv|--relation|touches|--edits|edits.csv",
+        1,
+        "",
+        "rjoin: left: row 2: id is already there\n",
+    ),
+    (
+        "draw|left.csv|right.csv|--relation|touches|--edits|bad.csv",
+        1,
+        "",
+        "rjoin: edits: wrong header\n",
+    ),
+    (
+        "draw|left.csv|right.csv|--relation|disjoint",
+        2,
+        "",
+        "rjoin: --relation: disjoint features may fit\n",
+    ),
+];
+
+/// A picture of FILES, after their edits: the left point is gone, and the right one is there.
+const PICTURE_WORDS: &str = "draw|left.csv|right.csv|--relation|intersects|--edits|edits.csv";
+
+/// Its end: the cover goes from (0, 0) to (4, 4), so the corner of the frame is (-1, 5).
+const PICTURE_END: &str = " viewBox=\"0 0 6 6\">\n<g class=\"left\">\n\
+    <path class=\"match\" d=\"M2 5h2v0\"><title>b</title></path>\n\
+    </g>\n<g class=\"right\">\n\
+    <path class=\"match\" d=\"M1 1h4v4h-4z\"><title>x</title></path>\n\
+    <path class=\"point match\" d=\"M4 5h0v0\"><title>y</title></path>\n\
+    </g>\n</svg>\n</svg>\n";
+
 const COMMAND_WORDS: [Run; 3] = [
     (
         "join|l.csv|q.csv|--relation|touches",
@@ -227,13 +277,20 @@ const LAYER_FAULTS: [Run; 5] = [
     ("stats|edits.csv", 1, "", "rjoin: layer: wrong header\n"),
 ];
 
-/// Whether a run ends with its status, and writes and says what it has to.
-fn ends<R: RandomSource + AllocGlobal + Threads + Wait + Sync>(
+/// How a run ended.
+#[derive(Drop)]
+struct Ended {
+    status: u8,
+    written: Vec<u8>,
+    said: Vec<u8>,
+}
+
+/// Runs the words between `|` over files.
+fn run_on<R: RandomSource + AllocGlobal + Threads + Wait + Sync>(
     rt: &R,
     files: &[(&str, &str)],
-    run: &Run,
-) -> Result<bool, Fail> {
-    let (words, status, written, said) = *run;
+    words: &str,
+) -> Result<Ended, Fail> {
     let mut given = Vec::new(rt.alloc());
     given.push(String::from_str(rt.alloc(), "rjoin")?)?;
     for word in words.split('|') {
@@ -242,12 +299,43 @@ fn ends<R: RandomSource + AllocGlobal + Threads + Wait + Sync>(
     let mut output = ToWrite::new(Vec::new(rt.alloc()));
     let mut errors = ToWrite::new(Vec::new(rt.alloc()));
     let shelf = Shelf { files };
-    let ended = run_words(rt, given.as_slice(), &shelf, &mut output, &mut errors);
-    let (output, errors) = (output.into_inner(), errors.into_inner());
+    let status = run_words(rt, given.as_slice(), &shelf, &mut output, &mut errors);
+    let (written, said) = (output.into_inner(), errors.into_inner());
+    Ok(Ended {
+        status,
+        written,
+        said,
+    })
+}
+
+/// Whether a run ends with its status, and writes and says what it has to.
+fn ends<R: RandomSource + AllocGlobal + Threads + Wait + Sync>(
+    rt: &R,
+    files: &[(&str, &str)],
+    run: &Run,
+) -> Result<bool, Fail> {
+    let (words, status, written, said) = *run;
+    let ended = run_on(rt, files, words)?;
     Ok(
-        ended == status
-            && output.as_slice() == written.as_bytes()
-            && errors.as_slice() == said.as_bytes(),
+        ended.status == status
+            && ended.written.as_slice() == written.as_bytes()
+            && ended.said.as_slice() == said.as_bytes(),
+    )
+}
+
+/// Whether a run succeeds, and writes a text with this beginning and this end.
+fn writes<R: RandomSource + AllocGlobal + Threads + Wait + Sync>(
+    rt: &R,
+    words: &str,
+    front: &str,
+    end: &str,
+) -> Result<bool, Fail> {
+    let ended = run_on(rt, &FILES, words)?;
+    Ok(
+        ended.status == 0
+            && ended.said.is_empty()
+            && ended.written.as_slice().starts_with(front.as_bytes())
+            && ended.written.as_slice().ends_with(end.as_bytes()),
     )
 }
 
@@ -286,6 +374,17 @@ fn sides_stay(rt: HostRuntime) -> Result<(), Fail> {
 #[test]
 fn missing_files(rt: HostRuntime) -> Result<(), Fail> {
     check(&rt, &FILES, &MISSING_FILES)
+}
+
+#[test]
+fn picture_faults(rt: HostRuntime) -> Result<(), Fail> {
+    check(&rt, &FILES, &PICTURE_FAULTS)
+}
+
+#[test]
+fn picture_after_edits(rt: HostRuntime) -> Result<(), Fail> {
+    assert!(rt; writes(&rt, PICTURE_WORDS, "<svg ", PICTURE_END)?);
+    Ok(())
 }
 
 #[test]

@@ -1,7 +1,7 @@
 //! The words of the command line.
 
 use crate::word_line::{word_line, word_status};
-use crate::words::{Command, WordFault, read_words};
+use crate::words::{Command, JoinRequest, WordFault, read_words};
 use geom_core::{JoinRelation, Relation};
 use join_core::{Options, ToWrite};
 use std::alloc::Global;
@@ -9,7 +9,7 @@ use std::test::Fail;
 use wkt_core::Scale;
 
 /// Words, of which each follows a `|`, that don't fit the usage.
-const USAGE_FAULTS: [&str; 17] = [
+const USAGE_FAULTS: [&str; 20] = [
     "rjoin",
     "rjoin|relate|x",
     "rjoin|relate|x|y|z",
@@ -27,17 +27,32 @@ const USAGE_FAULTS: [&str; 17] = [
     "rjoin|join|-|-|--relation|touch",
     "rjoin|join|-|q.csv|--relation|touches|--workers|17|--edits|-",
     "rjoin|join|l.csv|-|--relation|touches|--edits|-|--scale|7",
+    "rjoin|draw|l.csv|q.csv",
+    "rjoin|draw|l.csv|--relation|touches",
+    "rjoin|draw|-|-|--relation|touches",
 ];
 
 /// Words of a join behind its files, and the line of their fault.
-const REFUSED_OPTIONS: [(&str, &str); 11] = [
+const REFUSED_OPTIONS: [(&str, &str); 14] = [
     (
         "--relation|disjoint|--workers|17",
         "rjoin: --relation: disjoint features may fit\n",
     ),
     (
-        "--relation|touch|--workers|0",
+        "--relation|beside|--workers|0",
         "rjoin: --relation: not a name or a mask of nine letters\n",
+    ),
+    (
+        "--relation|touch|--workers|0",
+        "rjoin: --relation: not a name or a mask of nine letters; did you mean touches?\n",
+    ),
+    (
+        "--relation|kontainss",
+        "rjoin: --relation: not a name or a mask of nine letters; did you mean contains?\n",
+    ),
+    (
+        "--relation|interects",
+        "rjoin: --relation: not a name or a mask of nine letters; did you mean intersects?\n",
     ),
     (
         "--workers|17|--relation|T*F**F**3",
@@ -100,7 +115,7 @@ const JOINS: [(&str, Option<&str>, (u32, u32, u32), u32); 7] = [
 ];
 
 /// Words that ask for help, and what is among it.
-const HELP: [(&str, &str); 10] = [
+const HELP: [(&str, &str); 12] = [
     ("rjoin|--help", "id,wkt"),
     ("rjoin|help", "Exit status"),
     ("rjoin|--version", "rjoin "),
@@ -109,6 +124,8 @@ const HELP: [(&str, &str); 10] = [
     ("rjoin|join|--help", "  overlaps "),
     ("rjoin|join|--help", "1 to 16 [default: 4]"),
     ("rjoin|help|join", "0 to 6 [default: 0]"),
+    ("rjoin|draw|--help", "SVG 1.1"),
+    ("rjoin|help|draw", "100000 features"),
     ("rjoin|window|--help", "Exit status"),
     ("rjoin|stats|--help", "Exit status"),
 ];
@@ -196,22 +213,29 @@ fn no_memory_line(rt: HostRuntime) -> Result<(), Fail> {
     Ok(())
 }
 
-/// The words of a join of two files that end so.
-fn join_words(alloc: Global, last: &'static str) -> Result<Vec<&'static str>, Fail> {
+/// The words of a command on two files that end so.
+fn join_words(
+    alloc: Global,
+    command: &'static str,
+    last: &'static str,
+) -> Result<Vec<&'static str>, Fail> {
     let mut words = Vec::new(alloc);
-    words.extend_from_slice(&["rjoin", "join", "l.csv", "q.csv"])?;
+    words.extend_from_slice(&["rjoin", command, "l.csv", "q.csv"])?;
     words.extend_from_slice(parted(alloc, last)?.as_slice())?;
     Ok(words)
 }
 
 #[test]
 fn refused_options(rt: HostRuntime) -> Result<(), Fail> {
-    for (last, line) in REFUSED_OPTIONS {
-        let (written, status) = shown(rt.alloc(), join_words(rt.alloc(), last)?.as_slice())?;
-        assert!(rt;
-            status == 2 && written.as_slice() == line.as_bytes(),
-            "{last}"
-        );
+    for command in ["join", "draw"] {
+        for (last, line) in REFUSED_OPTIONS {
+            let words = join_words(rt.alloc(), command, last)?;
+            let (written, status) = shown(rt.alloc(), words.as_slice())?;
+            assert!(rt;
+                status == 2 && written.as_slice() == line.as_bytes(),
+                "{command} {last}"
+            );
+        }
     }
     Ok(())
 }
@@ -222,7 +246,7 @@ fn joins(rt: HostRuntime) -> Result<(), Fail> {
         let Some(scale) = Scale::new(decimals) else {
             panic!(rt; "no scale");
         };
-        let wanted = Command::Join {
+        let wanted = JoinRequest {
             left_path: "l.csv",
             right_path: "q.csv",
             edits_path,
@@ -230,9 +254,14 @@ fn joins(rt: HostRuntime) -> Result<(), Fail> {
             options: Options::new(workers, batch, cut)?,
             scale,
         };
-        let words = join_words(rt.alloc(), last)?;
+        let words = join_words(rt.alloc(), "join", last)?;
         assert!(rt;
-            read_words(rt.alloc(), words.as_slice())? == wanted,
+            read_words(rt.alloc(), words.as_slice())? == Command::Join(wanted),
+            "{last}"
+        );
+        let words = join_words(rt.alloc(), "draw", last)?;
+        assert!(rt;
+            read_words(rt.alloc(), words.as_slice())? == Command::Draw(wanted),
             "{last}"
         );
     }

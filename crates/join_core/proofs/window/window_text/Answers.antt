@@ -15,5 +15,6 @@ push_id-requires c = number_held _ _ _ _ _ c.deref-number-items.ensures.value c.
 pub returns : goal.returns
 returns c =
     IfOk-weaker c.rows_text.result _ _ (λ text kept.
-    window_written _ _ _ text.items _ _ _ c.deref-number-items.ensures.value c.loop-number-test.false c.in_ok-numbers.ensures.layer c.in_ok-numbers.ensures.rising
+    window_written _ _ _ text.items _ _ _ c.deref-number-items.ensures.value c.loop-number-test.false c.in_ok-numbers.ensures.layer
+    c.in_ok-numbers.ensures.rising
     c.in_ok-numbers.ensures.exact c.loop-number.invariant kept) c.rows_text.ensures

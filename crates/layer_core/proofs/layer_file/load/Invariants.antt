@@ -9,7 +9,8 @@ use Rattle.layer_core.proofs.layer_file.load.Given as goal
 abbrev pub invariant-loop-loading : goal.invariant-loop-loading
 invariant-loop-loading l =
     IsReading l.rows
-    × ((answer : Result Contents ReadFault) → RowsGive (LayerRowGives l.scale) (l.rows.count + 1) l.loading (rows_left l.rows) answer → IsLayerFile l.scale l.bytes answer)
+    × ((answer : Result Contents ReadFault) → RowsGive (LayerRowGives l.scale) (l.rows.count + 1) l.loading (rows_left l.rows) answer
+    → IsLayerFile l.scale l.bytes answer)
 
 abbrev pub decreases-loop-loading : goal.decreases-loop-loading
 decreases-loop-loading l = length (rows_left l.rows)

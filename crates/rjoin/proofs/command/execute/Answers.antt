@@ -1,5 +1,6 @@
 use Rattle.rjoin.proofs.CommandLemmas.{relate_ends}
-use Rattle.rjoin.proofs.LayerCommandLemmas.{layer_missing, layer_without_keys, window_reads_one, window_none_first, window_ran, stats_reads_one, stats_none_first, stats_ran}
+use Rattle.rjoin.proofs.LayerCommandLemmas.{layer_missing, layer_without_keys, window_reads_one, window_none_first, window_ran, stats_reads_one}
+use Rattle.rjoin.proofs.LayerCommandLemmas.{stats_none_first, stats_ran}
 use Rattle.rjoin.proofs.command.execute.Goals as goal
 
 pub returns-in-Relate : goal.returns-in-Relate
@@ -9,6 +10,9 @@ returns-in-Relate g c =
 
 pub returns-in-Join : goal.returns-in-Join
 returns-in-Join g c = rw c.in-Join.is c.execute_join.ensures
+
+pub returns-in-Draw : goal.returns-in-Draw
+returns-in-Draw g c = rw c.in-Draw.is c.execute_draw.ensures
 
 pub returns-in_err-layer-in-Window : goal.returns-in_err-layer-in-Window
 returns-in_err-layer-in-Window g c =

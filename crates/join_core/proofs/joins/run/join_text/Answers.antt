@@ -1,51 +1,20 @@
-use Rattle.std.proofs.Common.{refl}
-use Rattle.join_core.proofs.LayersLemmas.{layers_blamed, layers_join_fault, none_of_edits}
-use Rattle.join_core.proofs.JoinRunLemmas.{edits_blamed, edit_blamed, last_ok, last_fault, last_faults, is_join_fault, io_handed_on, io_before, edits_unread}
+use Rattle.join_core.proofs.JoinRunLemmas.{no_report, last_ok, last_fault, last_faults, io_handed_on, io_before}
 use Rattle.join_core.proofs.joins.run.join_text.Goals as goal
 
-pub returns-in_err-layers-clause-fault : goal.returns-in_err-layers-clause-fault
-returns-in_err-layers-clause-fault g c = layers_blamed _ _ c.from_residual.result _ c.from_residual.ensures.1 c.in_err-layers.ensures.fault
+pub returns-in_err-left-clause-fault : goal.returns-in_err-left-clause-fault
+returns-in_err-left-clause-fault g c = no_report _ _ c.from_residual.result _ c.from_residual.ensures.1 c.in_err-left.ensures.fault
 
-pub returns-in_err-layers-clause-faults : goal.returns-in_err-layers-clause-faults
-returns-in_err-layers-clause-faults g c =
-    is_join_fault c.from_residual.result _ _ c.from_residual.ensures.1 refl (layers_join_fault c.args.scale _ _ _ c.in_err-layers.ensures.fault)
+pub returns-in_err-left-clause-left_io : goal.returns-in_err-left-clause-left_io
+returns-in_err-left-clause-left_io g c = io_handed_on c.from_residual.result _ _ _ c.from_residual.ensures.1 c.in_err-left.ensures.left_io
 
-pub returns-in_err-layers-clause-left_io : goal.returns-in_err-layers-clause-left_io
-returns-in_err-layers-clause-left_io g c =
-    io_handed_on c.from_residual.result _ _ _ c.from_residual.ensures.1 c.in_err-layers.ensures.left_io
+pub returns-in_err-left-clause-right_io : goal.returns-in_err-left-clause-right_io
+returns-in_err-left-clause-right_io g c = io_handed_on c.from_residual.result _ _ _ c.from_residual.ensures.1 c.in_err-left.ensures.right_io
 
-pub returns-in_err-layers-clause-right_io : goal.returns-in_err-layers-clause-right_io
-returns-in_err-layers-clause-right_io g c =
-    io_handed_on c.from_residual.result _ _ _ c.from_residual.ensures.1 c.in_err-layers.ensures.right_io
-
-pub returns-in_err-layers-clause-edits_io : goal.returns-in_err-layers-clause-edits_io
-returns-in_err-layers-clause-edits_io g c =
-    edits_unread _ _ c.from_residual.result _ c.requires.edits c.from_residual.ensures.1
-    (none_of_edits c.args.scale _ _ _ c.in_err-layers.ensures.fault)
-
-pub returns-in_err-edit_list-clause-fault : goal.returns-in_err-edit_list-clause-fault
-returns-in_err-edit_list-clause-fault g c =
-    edits_blamed _ _ _ _ c.from_residual-in_err-edit_list.result _ c.in_ok-layers.ensures.left c.in_ok-layers.ensures.right
-    c.from_residual-in_err-edit_list.ensures.1 c.in_err-edit_list.ensures.fault
-
-pub returns-in_err-edit_list-clause-faults : goal.returns-in_err-edit_list-clause-faults
-returns-in_err-edit_list-clause-faults g c =
-    is_join_fault c.from_residual-in_err-edit_list.result _ _ c.from_residual-in_err-edit_list.ensures.1 c.in_err-edit_list.ensures.fault.1 tt
-
-pub returns-in_err-apply_edits-clause-fault : goal.returns-in_err-apply_edits-clause-fault
-returns-in_err-apply_edits-clause-fault g c =
-    edit_blamed _ _ _ _ _ _ c.from_residual-in_err-apply_edits.result _ c.in_ok-layers.ensures.left c.in_ok-layers.ensures.right
-    c.in_ok-edit_list.ensures.ok
-    c.as_slice.ensures.value c.from_residual-in_err-apply_edits.ensures.1 c.in_err-apply_edits.ensures.err
-
-pub returns-in_err-apply_edits-clause-faults : goal.returns-in_err-apply_edits-clause-faults
-returns-in_err-apply_edits-clause-faults g c =
-    is_join_fault c.from_residual-in_err-apply_edits.result _ _ c.from_residual-in_err-apply_edits.ensures.1 c.in_err-apply_edits.ensures.err.2 tt
+pub returns-in_err-left-clause-edits_io : goal.returns-in_err-left-clause-edits_io
+returns-in_err-left-clause-edits_io g c = io_handed_on c.from_residual.result _ _ _ c.from_residual.ensures.1 c.in_err-left.ensures.edits_io
 
 pub returns-clause-ok : goal.returns-clause-ok
-returns-clause-ok g c =
-    last_ok _ _ _ _ _ _ _ _ c.report_of.result c.in_ok-layers.ensures.left c.in_ok-layers.ensures.right c.in_ok-edit_list.ensures.ok
-    c.as_slice.ensures.value c.in_ok-apply_edits.ensures.ok c.report_of.ensures.ok
+returns-clause-ok g c = last_ok _ _ _ _ c.report_of.result c.in_ok-left.ensures.ok c.report_of.ensures.ok
 
 pub returns-clause-fault : goal.returns-clause-fault
 returns-clause-fault g c = last_fault _ _ c.report_of.result c.report_of.ensures.err
@@ -53,15 +22,11 @@ returns-clause-fault g c = last_fault _ _ c.report_of.result c.report_of.ensures
 pub returns-clause-faults : goal.returns-clause-faults
 returns-clause-faults g c = last_faults c.report_of.result c.report_of.ensures.err
 
-pub returns-in_err-edit_list-clause-edits_io : goal.returns-in_err-edit_list-clause-edits_io
-returns-in_err-edit_list-clause-edits_io g c =
-    io_handed_on c.from_residual-in_err-edit_list.result _ _ _ c.from_residual-in_err-edit_list.ensures.1 c.in_err-edit_list.ensures.io
-
 pub returns-clause-left_io : goal.returns-clause-left_io
-returns-clause-left_io g c = io_before c.report_of.result _ _ _ c.in_ok-layers.ensures.left_io c.report_of.ensures.err
+returns-clause-left_io g c = io_before c.report_of.result _ _ _ (λ f late. late) _ c.in_ok-left.ensures.left_io c.report_of.ensures.err
 
 pub returns-clause-right_io : goal.returns-clause-right_io
-returns-clause-right_io g c = io_before c.report_of.result _ _ _ c.in_ok-layers.ensures.right_io c.report_of.ensures.err
+returns-clause-right_io g c = io_before c.report_of.result _ _ _ (λ f late. late) _ c.in_ok-left.ensures.right_io c.report_of.ensures.err
 
 pub returns-clause-edits_io : goal.returns-clause-edits_io
-returns-clause-edits_io g c = io_before c.report_of.result _ _ _ c.in_ok-edit_list.ensures.io c.report_of.ensures.err
+returns-clause-edits_io g c = io_before c.report_of.result _ _ _ (λ f late. late) _ c.in_ok-left.ensures.edits_io c.report_of.ensures.err

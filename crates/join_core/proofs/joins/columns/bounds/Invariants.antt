@@ -1,5 +1,5 @@
 use Rattle.std.proofs.Common.{◌<◌, ◌≤◌, ◌^◌, ℕ, get_or}
-use Rattle.join_core.proofs.joins.report.bounds.Given as goal
+use Rattle.join_core.proofs.joins.columns.bounds.Given as goal
 
 abbrev pub invariant-loop-pair : goal.invariant-loop-pair
 invariant-loop-pair l = record {

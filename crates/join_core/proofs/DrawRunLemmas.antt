@@ -1,0 +1,66 @@
+-- The answers of a picture of files.
+use Rattle.std.proofs.Common.{◌≡◌, ◌≤◌, ◌<◌, ℕ, List, Result, Ok, Err, IsErrAnd, IsErrOf, IfErr, IfOk, Global, String, refl, sym, subst}
+use Rattle.std.specs.String.{string_bytes}
+use Rattle.geom_core.specs.declared.relation.Relation.{Relation}
+use Rattle.layer_core.specs.Edits.{Layers, both}
+use Rattle.layer_core.specs.Layers.{Contents}
+use Rattle.draw_core.specs.Limits.{most_drawn}
+use Rattle.draw_core.specs.Pictures.{picture_of}
+use Rattle.join_core.specs.declared.fault.RunFault.{RunFault}
+use Rattle.join_core.specs.declared.fault.RunFault.TheVariants.{TooManyToDraw}
+use Rattle.join_core.specs.Inputs.{BlamesInput}
+use Rattle.join_core.specs.Joins.{IsJoinList}
+use Rattle.join_core.specs.JoinRuns.{JoinFiles, LayersGive, IsJoinFault}
+use Rattle.join_core.specs.DrawRuns.{features_of, DrawGives, no_layers, too_many, drawn, IsLateDrawFault, IsDrawFault}
+use Rattle.join_core.proofs.JoinRunLemmas.{handed_on, none_blamed, late_is_of_join}
+
+-- without layers there is no picture
+pub no_picture : {T : Type 0} (relation : Relation) (files : JoinFiles) (out : Result T RunFault) (e : RunFault) → IsErrAnd out (λ x. x ≡ e)
+    → (BlamesInput e → LayersGive files (Err e)) → IfErr out (λ x. BlamesInput x → DrawGives relation files (Err x))
+no_picture relation files out e h fault = handed_on (DrawGives relation files) out e e h refl (λ blame. no_layers e (fault blame))
+
+-- the picture of listed pairs
+pub pairs_drawn : (relation : Relation) (left right : Contents) (pairs list : List (ℕ × ℕ)) (text : List ℕ) → list ≡ pairs
+    → IsJoinList relation left right pairs → text ≡ picture_of left right list
+    → (ps : List (ℕ × ℕ)) × IsJoinList relation left right ps × (text ≡ picture_of left right ps)
+pairs_drawn relation left right pairs list text same joined is =
+    (pairs, joined, subst (λ (l : List (ℕ × ℕ)). text ≡ picture_of left right l) same is)
+
+-- the last step, which lists the pairs and draws the layers
+pub picture_given : (relation : Relation) (files : JoinFiles) (left right : Contents) (out : Result (String Global) RunFault)
+    → LayersGive files (Ok (both left right))
+    → IfOk out (λ _. features_of (both left right) ≤ most_drawn)
+    → IfOk out (λ text. (pairs : List (ℕ × ℕ)) × IsJoinList relation left right pairs × (string_bytes text ≡ picture_of left right pairs))
+    → IfOk out (λ text. DrawGives relation files (Ok (string_bytes text)))
+picture_given relation files left right (Ok text) given few picture =
+    subst (λ (t : List ℕ). DrawGives relation files (Ok t)) (sym picture.2) (drawn (both left right) picture.0 given few picture.1)
+picture_given relation files left right (Err e) given few picture = tt
+
+-- of the late faults only that of too many features blames the input
+late_blamed : (relation : Relation) (files : JoinFiles) (layers : Layers) (e : RunFault) → LayersGive files (Ok layers)
+    → (e ≡ TooManyToDraw → most_drawn < features_of layers) → IsLateDrawFault e → BlamesInput e → DrawGives relation files (Err e)
+late_blamed relation files layers TooManyToDraw given many late blame = too_many layers given (many refl)
+late_blamed relation files layers e given many late blame = absurd (none_blamed e late blame)
+
+pub picture_blamed : {T : Type 0} (relation : Relation) (files : JoinFiles) (layers : Layers) (out : Result T RunFault) → LayersGive files (Ok layers)
+    → (IsErrOf out TooManyToDraw → most_drawn < features_of layers) → IfErr out IsLateDrawFault
+    → IfErr out (λ x. BlamesInput x → DrawGives relation files (Err x))
+picture_blamed relation files layers (Ok x) given many late = tt
+picture_blamed relation files layers (Err e) given many late = λ blame. late_blamed relation files layers e given (λ is. many cc) late blame
+
+late_is_of_draw : (e : RunFault) → IsLateDrawFault e → IsDrawFault e
+late_is_of_draw TooManyToDraw late = tt
+late_is_of_draw e late = late_is_of_join e late
+
+pub late_draw_faults : {T : Type 0} (out : Result T RunFault) → IfErr out IsLateDrawFault → IfErr out IsDrawFault
+late_draw_faults (Ok x) late = tt
+late_draw_faults (Err e) late = late_is_of_draw e late
+
+join_is_draw : (e : RunFault) → IsJoinFault e → IsDrawFault e
+join_is_draw TooManyToDraw is = tt
+join_is_draw e is = is
+
+-- what `?` hands on is one of a picture's faults
+pub is_draw_fault : {T : Type 0} (out : Result T RunFault) (e : RunFault) → IsErrAnd out (λ x. x ≡ e) → IsJoinFault e → IfErr out IsDrawFault
+is_draw_fault (Ok x) e h fault = absurd h
+is_draw_fault (Err x) e h fault = subst IsDrawFault (sym h) (join_is_draw e fault)

@@ -1,0 +1,39 @@
+-- What a picture of three files gives.
+use Rattle.std.specs.Prelude.{◌≡◌, ◌+◌, ◌≤◌, ◌<◌, ⊤, ℕ, List, Result, Ok, Err, length}
+use Rattle.geom_core.specs.declared.relation.Relation.{Relation}
+use Rattle.layer_core.specs.Edits.{Layers}
+use Rattle.draw_core.specs.Limits.{most_drawn}
+use Rattle.draw_core.specs.Pictures.{picture_of}
+use Rattle.join_core.specs.declared.fault.RunFault.{RunFault}
+use Rattle.join_core.specs.declared.fault.RunFault.TheVariants.{TooManyToDraw}
+use Rattle.join_core.specs.Joins.{IsJoinList}
+use Rattle.join_core.specs.JoinRuns.{JoinFiles, LayersGive, IsLateFault, IsJoinFault}
+
+-- how many features two layers have
+abbrev pub features_of : Layers → ℕ
+features_of layers = length layers.left.features + length layers.right.features
+
+-- the picture of the edited layers and their pairs, the fault for which there are no such layers,
+-- or that they have too many features
+pub data DrawGives (relation : Relation) (files : JoinFiles)
+    : Result (List ℕ) RunFault → Type 0 where
+  no_layers : (f : RunFault) → LayersGive files (Err f) → DrawGives relation files (Err f)
+  too_many : (layers : Layers) → LayersGive files (Ok layers)
+      → most_drawn < features_of layers → DrawGives relation files (Err TooManyToDraw)
+  drawn : (layers : Layers) (pairs : List (ℕ × ℕ)) → LayersGive files (Ok layers)
+      → features_of layers ≤ most_drawn → IsJoinList relation layers.left layers.right pairs
+      → DrawGives relation files (Ok (picture_of layers.left layers.right pairs))
+
+-- the picture that these files give
+abbrev pub IsDrawnText : Relation → JoinFiles → List ℕ → Type 0
+IsDrawnText relation files text = DrawGives relation files (Ok text)
+
+-- a fault that may come when all is read and the edits are made, that of the sink aside
+abbrev pub IsLateDrawFault : RunFault → Type 0
+IsLateDrawFault TooManyToDraw = ⊤
+IsLateDrawFault fault = IsLateFault fault
+
+-- a fault that drawing files may have, that of its sink aside
+abbrev pub IsDrawFault : RunFault → Type 0
+IsDrawFault TooManyToDraw = ⊤
+IsDrawFault fault = IsJoinFault fault

@@ -1,0 +1,80 @@
+//! The two layers of a join or a picture, after a file of edits.
+
+ghost use Rattle.std.specs.Prelude.{◌≡◌, ◌↔◌, ◌≤◌, Ok, Err, false, map, length, IsTrue, IfOk};
+ghost use Rattle.std.specs.Prelude.{IfErr, IfSome, IsErrOf, IsSomeAnd};
+ghost use Rattle.layer_core.specs.declared.read_fault.ReadFault.{ReadFault};
+ghost use Rattle.layer_core.specs.Edits.{both, content_of};
+ghost use Rattle.layer_core.specs.Limits.{most_file_bytes};
+ghost use Rattle.join_core.specs.declared.fault.Input.{Input};
+ghost use Rattle.join_core.specs.Inputs.{BlamesBytes, BlamesInput};
+ghost use Rattle.join_core.specs.JoinRuns.{EditFile, bytes_of, files_of, LayersGive, IsJoinFault};
+
+use super::edits::apply_edits;
+use super::layers::read_layers;
+use super::sources::JoinSources;
+use crate::fault::{Input, RunFault};
+use layer_core::{Edit, Layer, ReadFault, Source, read_edits};
+use std::alloc::Global;
+use std::hash::RandomState;
+use std::thread::Threads;
+use wkt_core::Scale;
+
+/// The layers that are read, after the edits of both. `states` hash their ids.
+///
+/// The left source is read first, then the right one; then both layers are built, side by side
+/// where there is more than one worker. Then the edits are read, and made in order. The first fault
+/// is answered, but that a right source which fails comes before a fault in the bytes of the left.
+pub(crate) fn edited_layers<R: Threads + Sync, A: Source, B: Source, E: Source>(
+    rt: &R,
+    alloc: Global,
+    states: (RandomState, RandomState),
+    scale: Scale,
+    sources: &mut JoinSources<A, B, E>,
+    workers: u32,
+) -> Result<(Layer, Layer), RunFault>
+    requires left { A.has_failed sources.old.left ≡ false }
+    requires right { B.has_failed sources.old.right ≡ false }
+    requires edits { IfSome sources.old.edits (λ e. E.has_failed e ≡ false) }
+    ensures ok { let files = files_of scale A.remaining B.remaining E.remaining sources.old in
+        IfOk result (λ layers. LayersGive files (Ok (both layers.0.list layers.1.list))) }
+    ensures fault { let files = files_of scale A.remaining B.remaining E.remaining sources.old in
+        IfErr result (λ f. BlamesInput f → LayersGive files (Err f)) }
+    ensures faults { IfErr result IsJoinFault }
+    ensures left_io { IsErrOf result (RunFault.Read Input.Left ReadFault.Io)
+        ↔ IsTrue (A.has_failed sources.new.left) }
+    ensures right_io { IsErrOf result (RunFault.Read Input.Right ReadFault.Io)
+        ↔ IsTrue (B.has_failed sources.new.right) }
+    ensures edits_io { IsErrOf result (RunFault.Read Input.Edits ReadFault.Io)
+        ↔ IsSomeAnd sources.new.edits (λ e. IsTrue (E.has_failed e)) }
+{
+    let (left, right) = (&mut sources.left, &mut sources.right);
+    let layers = read_layers(rt, alloc, states, scale, left, right, workers)?;
+    let (mut left_layer, mut right_layer) = layers;
+    let edit_list = read_edit_list(alloc, scale, &mut sources.edits)?;
+    apply_edits(edit_list.as_slice(), &mut left_layer, &mut right_layer)?;
+    Ok((left_layer, right_layer))
+}
+
+/// The edits, if there is a file of them.
+fn read_edit_list<E: Source>(
+    alloc: Global,
+    scale: Scale,
+    edits: &mut Option<E>,
+) -> Result<Vec<Edit>, RunFault>
+    requires { IfSome edits.old (λ e. E.has_failed e ≡ false) }
+    ensures ok { IfOk result (λ list.
+        EditFile scale (bytes_of E.remaining edits.old) (Ok (map content_of list.items))) }
+    ensures few { IfOk result (λ list. length list.items ≤ most_file_bytes) }
+    ensures fault { IfErr result (λ e. (f : ReadFault) × (e ≡ RunFault.Read Input.Edits f)
+        × (BlamesBytes f → EditFile scale (bytes_of E.remaining edits.old) (Err f))) }
+    ensures io { IsErrOf result (RunFault.Read Input.Edits ReadFault.Io)
+        ↔ IsSomeAnd edits.new (λ e. IsTrue (E.has_failed e)) }
+{
+    let Some(source) = edits else {
+        return Ok(Vec::new(alloc));
+    };
+    match read_edits(alloc, source, scale) {
+        Ok(list) => Ok(list),
+        Err(fault) => Err(RunFault::Read(Input::Edits, fault)),
+    }
+}
