@@ -6,5 +6,4 @@ pub mod TreeLemmas
 pub mod WindowLemmas
 pub mod RemovalLemmas
 pub mod TakeLemmas
-pub mod TileLemmas
 pub mod PackLemmas

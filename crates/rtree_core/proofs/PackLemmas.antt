@@ -34,6 +34,16 @@ through_slice n old new e perm =
     let none : drop (length new) old ≡ [] = drop_all (length new) old (omega arith) in
     rw (none, append-nil new, take_all n new (omega arith)) perm
 
+-- numbers that differ do so in another order
+pub distinct_permuted : (old new : List Entry) →
+    IsPermutation old new →
+    ((k : ℕ) → count_by (has_number k) old ≤ 1) →
+    (k : ℕ) →
+    count_by (has_number k) new ≤ 1
+distinct_permuted old new perm distinct k =
+    let counted : Entry → ℕ = λ x. cond (has_number k x) 1 0 in
+    omega (arith, distinct k, sum_by-IsPermutation counted old new perm)
+
 -- the last item of a list of one
 pub only_one : {T : Type 0} (all front : List T) (x : T) → all ≡ front ++ x ∷ [] → length all ≤ 1 → all ≡ x ∷ []
 only_one all [] x e h = e

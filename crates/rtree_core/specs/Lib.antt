@@ -3,7 +3,6 @@ pub use Rattle.split_core.specs.Collections
 pub use Rattle.split_core.specs.Covers
 pub use Rattle.split_core.specs.Limits
 pub use Rattle.split_core.specs.Splits
-pub mod Grids
 pub mod Insertions
 pub mod Items
 pub mod Nodes

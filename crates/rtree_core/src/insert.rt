@@ -8,12 +8,12 @@ ghost use Rattle.rtree_core.specs.Nodes.{entries_of, level_of, IsPage, IsLawful}
 ghost use Rattle.rtree_core.specs.Spares.{HasSpare, HasSpent, IsReady, IsSpent};
 
 use crate::item::Item;
-use crate::node::{Below, Entry, MOST, Node};
+use crate::node::{Below, Entry, Node};
 use crate::spare::{Spare, take_list};
 use geom_core::Shape;
 use split_core::choices::choose;
 use split_core::measures::cover_all;
-use split_core::split::split;
+use split_core::split::{MOST, split};
 use std::mem;
 
 /// What can be put into the list of a node.

@@ -8,12 +8,11 @@ mod node;
 mod pack;
 mod remove;
 mod spare;
-mod tile;
 mod tree;
 mod trunk;
 mod window;
 
-pub use node::{Entry, MOST, Node};
-pub use split_core::split::FEWEST;
+pub use node::{Entry, Node};
+pub use split_core::split::{FEWEST, MOST};
 pub use split_core::{choices, measures, split};
 pub use tree::RTree;

@@ -3,9 +3,6 @@
 use geom_core::Shape;
 use split_core::measures::Covered;
 
-/// The most entries or children of a node (Guttman's M).
-pub const MOST: usize = 8;
-
 /// A shape with the number that names it.
 #[derive(Clone, Copy, Debug, PartialEq, Eq)]
 pub struct Entry {

@@ -18,16 +18,17 @@ ghost use Rattle.rtree_core.specs.Trees.{has_number};
 ghost use Rattle.split_core.specs.Limits.{most};
 
 use crate::item::Item;
-use crate::node::{Entry, MOST, Node};
-use crate::tile::{items_in, tile};
+use crate::node::{Entry, Node};
 use geom_core::Shape;
 use split_core::measures::Covered;
+use split_core::split::MOST;
+use split_core::tile::{Ranked, items_in, tile};
 use std::alloc::{AllocError, Global};
 use std::vec::IntoIter;
 
-/// What the sorts of a level put in order: entries, or the nodes of the level below.
-pub(crate) trait Packable: Covered + Drop {
-    ghost use Rattle.std.specs.Prelude.{◌≡◌, ℕ};
+/// What is packed into a level: entries, or the nodes of the level below.
+pub(crate) trait Packable: Ranked + Drop {
+    ghost use Rattle.std.specs.Prelude.{◌≡◌};
 
     /// What a node of the level holds of it.
     type Held: Item;
@@ -37,16 +38,19 @@ pub(crate) trait Packable: Covered + Drop {
     // What its type says of its numbers.
     ghost in_range: { Self.Held → Type 0 };
 
-    ghost rank_of: { Self → ℕ };
-
-    /// What ranks it among those of the same centre: no two items of a level have one rank.
-    fn rank(&self) -> usize
-        ensures { result ≡ rank_of self.now };
-
     /// Drops what only the sorts read.
     fn into_held(self) -> Self::Held
         ensures held { result ≡ held self }
         ensures in_range { in_range (held self) };
+}
+
+impl Ranked for Entry {
+    ghost rank_of = { λ e. e.number };
+
+    #[inline(always)]
+    fn rank(&self) -> usize {
+        self.number as usize
+    }
 }
 
 impl Packable for Entry {
@@ -57,13 +61,6 @@ impl Packable for Entry {
     ghost held = { λ e. e };
 
     ghost in_range = { HasU32 };
-
-    ghost rank_of = { λ e. e.number };
-
-    #[inline(always)]
-    fn rank(&self) -> usize {
-        self.number as usize
-    }
 
     #[inline(always)]
     fn into_held(self) -> Entry {
@@ -87,19 +84,21 @@ impl Covered for Placed {
     }
 }
 
-impl Packable for Placed {
-    type Held = Node;
-
-    ghost held = { λ p. p.node };
-
-    ghost in_range = { λ _. Unit {0} };
-
+impl Ranked for Placed {
     ghost rank_of = { λ p. p.place };
 
     #[inline(always)]
     fn rank(&self) -> usize {
         self.place
     }
+}
+
+impl Packable for Placed {
+    type Held = Node;
+
+    ghost held = { λ p. p.node };
+
+    ghost in_range = { λ _. Unit {0} };
 
     #[inline(always)]
     fn into_held(self) -> Node {

@@ -4,7 +4,8 @@ ghost use Rattle.std.specs.Prelude.{◌≡◌, ◌+◌, ◌<◌, ◌≤◌, vec_
 ghost use Rattle.split_core.specs.Splits.{IsRoom};
 ghost use Rattle.rtree_core.specs.Spares.{IsSpare};
 
-use crate::node::{Entry, MOST, Node};
+use crate::node::{Entry, Node};
+use split_core::split::MOST;
 use std::alloc::{AllocError, Global};
 
 /// Empty lists for the nodes that an edit makes, with room for nine each.

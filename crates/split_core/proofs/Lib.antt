@@ -3,3 +3,4 @@ pub mod ChoiceLemmas
 pub mod CoverLemmas
 pub mod SeedLemmas
 pub mod SplitLemmas
+pub mod TileLemmas

@@ -2,6 +2,7 @@ pub mod Choices
 pub mod Collections
 pub mod Covers
 pub mod Dealing
+pub mod Grids
 pub mod Limits
 pub mod Orders
 pub mod Seeds

@@ -12,6 +12,9 @@ use geom_core::Shape;
 /// The fewest items of a group, and of a node other than the root (Guttman's m).
 pub const FEWEST: usize = 3;
 
+/// The most entries or children of a node (Guttman's M).
+pub const MOST: usize = 8;
+
 /// What a group of a split needs to take in an item: by enlargement, then area, then size.
 #[derive(Clone, Copy, PartialEq, Eq, PartialOrd, Ord)]
 struct Cost {

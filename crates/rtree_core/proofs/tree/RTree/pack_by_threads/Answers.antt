@@ -1,8 +1,8 @@
 use Rattle.std.proofs.Common.{arith}
 use Rattle.std.proofs.lemmas.Result.{IfOk-weaker}
 use Rattle.rtree_core.specs.Trees.{entries_in}
-use Rattle.rtree_core.proofs.PackLemmas.{through_slice}
-use Rattle.rtree_core.proofs.TileLemmas.{same_permuted, distinct_permuted}
+use Rattle.split_core.proofs.TileLemmas.{same_permuted}
+use Rattle.rtree_core.proofs.PackLemmas.{through_slice, distinct_permuted}
 use Rattle.rtree_core.proofs.tree.RTree.pack_by_threads.Goals as goal
 
 pub from_pages-requires : goal.from_pages-requires
