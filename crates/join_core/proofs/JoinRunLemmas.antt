@@ -14,9 +14,10 @@ use Rattle.join_core.specs.declared.fault.RunFault.{RunFault}
 use Rattle.join_core.specs.declared.fault.RunFault.TheVariants.{NoFile, Read, Wkt, Edit, Join, TooManyToDraw, Write, Memory, NoKeys}
 use Rattle.join_core.specs.Inputs.{LayerFile, BlamesBytes, BlamesEdit, BlamesInput}
 use Rattle.join_core.specs.JoinRuns.{JoinFiles, EditFile, LayersGive, edits_fault, edit_refused, edited, JoinGives, no_layers, reported, IsLateFault}
-use Rattle.join_core.specs.JoinRuns.{IsJoinFault, FailedAt}
+use Rattle.join_core.specs.JoinRuns.{IsJoinFault}
+use Rattle.join_core.specs.SourceStates.{FailedAt}
 use Rattle.join_core.specs.Joins.{IsJoinList}
-use Rattle.join_core.specs.Reports.{IsHeld, IsReport}
+use Rattle.output_core.specs.Reports.{IsHeld, IsReport}
 use Rattle.join_core.proofs.JoinLemmas.{contains_at}
 
 pub is_some_of : (o : Option Feature) (f : Feature) → o ≡ Some f → IsSome o
@@ -114,16 +115,16 @@ pub is_join_fault : {T : Type 0} (out : Result T RunFault) (e is : RunFault) →
 is_join_fault (Ok x) e is h same fault = absurd h
 is_join_fault (Err x) e is h same fault = subst IsJoinFault (sym (h ∙ same)) fault
 
-no_other : {T : Type 0} (out : Result T RunFault) (i : Input) → IfErr out (λ f. f ≢ Write → IsJoinFault f)
+no_other : {T : Type 0} (out : Result T RunFault) (i : Input) → IfErr out IsJoinFault
     → ((f : ReadFault) → IsJoinFault (Read i f) → ⊥) → IsErrOf out (Read i Io) → ⊥
 no_other (Ok x) i faults none h = absurd cc
 no_other (Err x) i faults none h =
     let is : x ≡ Read i Io = cc in
-    none Io (subst IsJoinFault is (faults (λ e. absurd cc)))
+    none Io (subst IsJoinFault is faults)
 
 -- three clauses on failed sources, as one
 pub failed_at : {T : Type 0} (L R E : Type 0) (out : Result T RunFault) → (IsErrOf out (Read Left Io) ↔ L) → (IsErrOf out (Read Right Io) ↔ R)
-    → (IsErrOf out (Read Edits Io) ↔ E) → IfErr out (λ f. f ≢ Write → IsJoinFault f) → (i : Input) → IsErrOf out (Read i Io) ↔ FailedAt L R E i
+    → (IsErrOf out (Read Edits Io) ↔ E) → IfErr out IsJoinFault → (i : Input) → IsErrOf out (Read i Io) ↔ FailedAt L R E i
 failed_at L R E out left right edits faults Left = left
 failed_at L R E out left right edits faults Right = right
 failed_at L R E out left right edits faults Edits = edits
@@ -149,6 +150,16 @@ module _ {T U : Type 0} (out : Result T RunFault) (i : Input) (P : Type 0) where
     | Ok x ↦ λ h. ((λ q. absurd cc), (λ p. absurd (let q = io.1 p in cc)))
     | Err x ↦ λ h. ((λ q. absurd (none Io (subst Late (let is : x ≡ Read i Io = cc in is) h))), (λ p. absurd (let q = io.1 p in cc)))
   ] err
+
+-- what `?` hands on, by what it is
+residual_is : {T : Type 0} (out : Result T RunFault) (e is : RunFault) → IsErrAnd out (λ x. x ≡ e) → e ≡ is → IfErr out (λ x. x ≡ is)
+residual_is (Ok x) e is h same = tt
+residual_is (Err x) e is h same = h ∙ same
+
+-- a fault of something else, after an input was read
+pub io_passed : {T U : Type 0} (out : Result T RunFault) (i : Input) (P : Type 0) (e is : RunFault) → IsErrAnd out (λ x. x ≡ e) → e ≡ is
+    → ((f : ReadFault) → Read i f ≡ is → ⊥) → (y : U) → IsErrOf {E = RunFault} (Ok y) (Read i Io) ↔ P → IsErrOf out (Read i Io) ↔ P
+io_passed out i P e is h same none y io = io_before out i P (λ x. x ≡ is) none y io (residual_is out e is h same)
 
 -- the edits' file is as it was where another is at fault
 pub edits_unread : {T E : Type 0} (F : E → Bool) (edits : Option E) (out : Result T RunFault) (e : RunFault) → IfSome edits (λ x. F x ≡ false)

@@ -1,16 +1,12 @@
-pub mod CsvLemmas
 pub mod DrawRunLemmas
 pub mod JoinLemmas
 pub mod JoinRunLemmas
 pub mod LayersLemmas
 pub mod LineLemmas
 pub mod RelatingLemmas
-pub mod ReportChunkLemmas
-pub mod ReportLemmas
 pub mod StatsLemmas
 pub mod TreeJoinLemmas
 pub mod TreeWindowLemmas
 pub mod WindowLemmas
 pub mod WindowRunLemmas
 pub mod WindowTextLemmas
-pub mod WrittenLemmas

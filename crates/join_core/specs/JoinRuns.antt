@@ -8,14 +8,13 @@ use Rattle.layer_core.specs.Layers.{Contents}
 use Rattle.layer_core.specs.Edits.{EditContent, Layers, both, edits_give}
 use Rattle.layer_core.specs.EditFiles.{IsEditFile}
 use Rattle.worker_core.specs.Faults.{IsWant}
-use Rattle.join_core.specs.declared.fault.Input.{Input}
 use Rattle.join_core.specs.declared.fault.Input.TheVariants.{Left, Right, Edits}
 use Rattle.join_core.specs.declared.fault.RunFault.{RunFault}
 use Rattle.join_core.specs.declared.fault.RunFault.TheVariants.{Read, Edit, Join, Memory}
 use Rattle.join_core.specs.declared.joins.sources.JoinSources.{JoinSources}
 use Rattle.join_core.specs.Inputs.{LayerFile, BlamesBytes}
 use Rattle.join_core.specs.Joins.{IsJoinList}
-use Rattle.join_core.specs.Reports.{IsReport}
+use Rattle.output_core.specs.Reports.{IsReport}
 
 -- the scale of a join, and what its sources tell of their bytes; there may be no file of edits
 pub record JoinFiles : Type 0 where
@@ -97,10 +96,3 @@ IsJoinFault (Read Right f) = ⊤
 IsJoinFault (Read Edits f) = ⊤
 IsJoinFault (Edit row f) = ⊤
 IsJoinFault fault = IsLateFault fault
-
--- which source of a join has failed
-abbrev pub FailedAt : Type 0 → Type 0 → Type 0 → Input → Type 0
-FailedAt LeftFailed RightFailed EditsFailed Left = LeftFailed
-FailedAt LeftFailed RightFailed EditsFailed Right = RightFailed
-FailedAt LeftFailed RightFailed EditsFailed Edits = EditsFailed
-FailedAt LeftFailed RightFailed EditsFailed _ = ⊥

@@ -1,6 +1,3 @@
-pub mod Columns
-pub mod CsvTexts
-pub mod CsvWriting
 pub mod DrawRuns
 pub mod FaultTexts
 pub mod Inputs
@@ -11,12 +8,9 @@ pub mod Lines
 pub mod OptionTexts
 pub mod Options
 pub mod Relating
-pub mod ReportRows
-pub mod Reports
 pub mod Runs
+pub mod SourceStates
 pub mod StatsRuns
 pub mod StatsTexts
-pub mod ToWrite
 pub mod WindowRuns
 pub mod Windows
-pub mod Written

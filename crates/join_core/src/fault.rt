@@ -3,8 +3,8 @@
 ghost use Rattle.std.specs.Prelude.{◌≡◌};
 ghost use Rattle.join_core.specs.declared.fault.RunFault.TheVariants as run_faults;
 
-use crate::writing::WriteFailed;
 use layer_core::{LayerFault, ReadFault};
+use output_core::WriteFailed;
 use std::alloc::AllocError;
 use wkt_core::WktFault;
 use worker_core::JoinFault;

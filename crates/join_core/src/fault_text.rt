@@ -3,15 +3,15 @@
 ghost use Rattle.std.specs.Prelude.{◌≡◌, ◌+◌, ◌≤◌, ◌↔◌, ◌++◌, false, length, IsTrue, IsErr, OnOk};
 ghost use Rattle.std.specs.Prelude.{OnErr};
 ghost use Rattle.std.specs.Io.KnownBytes.{Appends};
-ghost use Rattle.layer_core.specs.FaultTexts.{read_text};
+ghost use Rattle.layer_core.specs.FaultTexts.{read_text, row_text};
 ghost use Rattle.worker_core.specs.Faults.{join_text};
 ghost use Rattle.join_core.specs.FaultTexts.{run_text};
 ghost use Rattle.join_core.specs.Lines.{run_line};
-ghost use Rattle.join_core.specs.Written.{AppendsPrefix};
+ghost use Rattle.output_core.specs.Written.{AppendsPrefix};
 
 use crate::fault::RunFault;
-use crate::writing::{Line, Sink, WriteFailed};
 use layer_core::ReadFault;
+use output_core::{Line, ROOM, Sink, WriteFailed};
 use std::error::Error;
 use std::fmt;
 use worker_core::JoinFault;
@@ -68,7 +68,7 @@ fn push_run_text(line: &mut Line, fault: &RunFault)
         }
         RunFault::Edit(row, fault) => {
             line.push("edits: ");
-            line.push_row(*row);
+            push_row(line, *row);
             line.push(fault.text());
         }
         RunFault::Join(fault) => push_join_text(line, fault),
@@ -85,9 +85,20 @@ fn push_read_text(line: &mut Line, fault: &ReadFault)
     ensures short { length line.new ≤ length line.old + 70 }
 {
     if let Some(row) = fault.row() {
-        line.push_row(row);
+        push_row(line, row);
     }
     line.push(fault.text());
+}
+
+/// Adds the number of a row, and what parts it from what is said of it.
+fn push_row(line: &mut Line, row: u32)
+    requires { length line.old + 16 ≤ ROOM }
+    ensures text { line.new ≡ line.old ++ row_text row }
+    ensures len { length line.new ≤ length line.old + 16 }
+{
+    line.push("row ");
+    line.push_number(row);
+    line.push(": ");
 }
 
 fn push_join_text(line: &mut Line, fault: &JoinFault)

@@ -2,8 +2,6 @@
 //! the files to the bytes that are written.
 #![tactic(auto)]
 
-mod csv_fields;
-mod csv_rows;
 mod fault;
 mod fault_text;
 mod joins;
@@ -12,16 +10,15 @@ mod options;
 mod relate;
 mod stats;
 mod window;
-mod writing;
 
 pub use deliver_core::Outcome;
 pub use draw_core::MAX_DRAWN;
 pub use fault::{Input, RunFault};
 pub use fault_text::fault_line;
-pub use joins::{JoinSources, apply_edits, join, report_text, run_draw, run_join};
+pub use joins::{JoinSources, apply_edits, join, run_draw, run_join};
 pub use options::{MAX_CUT, OptionFault, Options};
+pub use output_core::{Line, ROOM, Sink, ToWrite, WriteFailed, report_text, write_text};
 pub use relate::run_relate;
 pub use stats::run_stats;
 pub use window::run_window;
 pub use worker_core::{Gate, JoinFault, MAX_BATCH, MAX_WORKERS, OpenGate};
-pub use writing::{Line, ROOM, Sink, ToWrite, WriteFailed, write_text};

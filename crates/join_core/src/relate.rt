@@ -9,8 +9,8 @@ ghost use Rattle.join_core.specs.Relating.{IsMatrixLine, HasFirstFault, IsTextFa
 ghost use Rattle.join_core.specs.Runs.{Ends};
 
 use crate::fault::{Input, RunFault};
-use crate::writing::{Sink, write_text};
 use geom_core::{Matrix, relate};
+use output_core::{Sink, write_text};
 use wkt_core::Scale;
 
 /// Letters of a matrix and a line feed.

@@ -11,8 +11,8 @@ ghost use Rattle.join_core.specs.StatsTexts.{count_line, stats_text};
 
 use crate::fault::{Input, RunFault};
 use crate::layer_input::read_input;
-use crate::writing::{Line, ROOM, Sink, write_text};
 use layer_core::{ReadFault, Source, Stats};
+use output_core::{Line, ROOM, Sink, write_text};
 use std::alloc::Global;
 use std::hash::RandomState;
 use wkt_core::Scale;

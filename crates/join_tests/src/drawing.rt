@@ -1,7 +1,7 @@
 //! The rows of `run_draw`.
 
 ghost use Rattle.std.specs.Prelude.{◌≡◌, false};
-ghost use Rattle.join_core.specs.ToWrite.{failed_of};
+ghost use Rattle.output_core.specs.ToWrite.{failed_of};
 
 use crate::example::{LEFT, RIGHT};
 use crate::layers::points_text;

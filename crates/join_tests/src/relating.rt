@@ -1,7 +1,7 @@
 //! The rows of `run_relate`, and devices that fail under it.
 
 ghost use Rattle.std.specs.Prelude.{◌≡◌, false};
-ghost use Rattle.join_core.specs.ToWrite.{failed_of};
+ghost use Rattle.output_core.specs.ToWrite.{failed_of};
 
 use crate::device::{has_front, make_device};
 use crate::running::Ended;

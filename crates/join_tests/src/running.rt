@@ -1,7 +1,7 @@
 //! Runs of joins over files that stand in memory.
 
 ghost use Rattle.std.specs.Prelude.{◌≡◌, false};
-ghost use Rattle.join_core.specs.ToWrite.{failed_of};
+ghost use Rattle.output_core.specs.ToWrite.{failed_of};
 
 use crate::example::{EDITS, LEFT, RIGHT};
 use geom_core::{JoinRelation, Relation};

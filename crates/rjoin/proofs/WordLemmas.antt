@@ -1,7 +1,7 @@
 -- A line that is made in pieces.
 use Rattle.std.proofs.Common.{◌≡◌, ℕ, List, [], ◌∷◌, ◌++◌, Option, Result, OnOk, OnErr, ap, subst, append_assoc, codes, ◌∙◌}
 use Rattle.std.specs.Io.KnownBytes.{Appends}
-use Rattle.join_core.specs.Written.{AppendsPrefix}
+use Rattle.output_core.specs.Written.{AppendsPrefix}
 use Rattle.join_core.specs.Lines.{line_of}
 
 -- a line that begins with the program's name, and one text behind it

@@ -5,7 +5,7 @@ use Rattle.std.specs.Io.KnownBytes.{Appends}
 use Rattle.join_core.specs.declared.fault.RunFault.{RunFault}
 use Rattle.join_core.specs.declared.fault.RunFault.TheVariants.{Write}
 use Rattle.join_core.specs.Lines.{run_line}
-use Rattle.join_core.specs.Written.{AppendsPrefix}
+use Rattle.output_core.specs.Written.{AppendsPrefix}
 use Rattle.rjoin.specs.declared.words.Command.{Command}
 use Rattle.rjoin.specs.declared.words.WordFault.{WordFault}
 use Rattle.rjoin.specs.Commands.{CommandEnds}

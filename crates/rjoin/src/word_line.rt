@@ -4,7 +4,7 @@ ghost use Rattle.std.specs.Prelude.{◌≡◌, ◌+◌, ◌≤◌, ◌↔◌, �
 ghost use Rattle.std.specs.Prelude.{IsErr, OnOk, OnErr};
 ghost use Rattle.std.specs.Io.KnownBytes.{Appends};
 ghost use Rattle.geom_core.specs.FaultTexts.{mask_text};
-ghost use Rattle.join_core.specs.Written.{AppendsPrefix};
+ghost use Rattle.output_core.specs.Written.{AppendsPrefix};
 ghost use Rattle.rjoin.specs.WordFaults.{word_status_of, word_fault_line};
 
 use crate::words::WordFault;

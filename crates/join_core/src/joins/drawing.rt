@@ -1,30 +1,28 @@
 //! The picture of two files of layers, after a file of edits.
 
-ghost use Rattle.std.specs.Prelude.{◌≡◌, ◌≢◌, ◌↔◌, ◌+◌, ◌≤◌, ◌<◌, ℕ, List, Err, Result, false};
-ghost use Rattle.std.specs.Prelude.{length, IsTrue, IfOk, IfErr, IfSome, IsErrOf, IsSomeAnd};
+ghost use Rattle.std.specs.Prelude.{◌≡◌, ◌≢◌, ◌≤◌, ◌<◌, ℕ, List, Err, false, IfOk, IfErr, IsErrOf};
 ghost use Rattle.std.specs.String.{string_bytes};
 ghost use Rattle.geom_core.specs.JoinRelations.{relation_of};
-ghost use Rattle.layer_core.specs.declared.read_fault.ReadFault.{ReadFault};
 ghost use Rattle.layer_core.specs.Edits.{both};
 ghost use Rattle.draw_core.specs.Limits.{most_drawn};
 ghost use Rattle.draw_core.specs.Pictures.{picture_of};
-ghost use Rattle.join_core.specs.declared.fault.Input.{Input};
 ghost use Rattle.join_core.specs.Runs.{Ends};
 ghost use Rattle.join_core.specs.Joins.{IsJoinList};
 ghost use Rattle.join_core.specs.Inputs.{BlamesInput};
-ghost use Rattle.join_core.specs.JoinRuns.{files_of, FailedAt};
+ghost use Rattle.join_core.specs.JoinRuns.{files_of};
 ghost use Rattle.join_core.specs.DrawRuns.{DrawGives, IsDrawnText, IsDrawFault, IsLateDrawFault};
 ghost use Rattle.join_core.specs.DrawRuns.{features_of};
+ghost use Rattle.join_core.specs.SourceStates.{AreFresh, TellsFailures};
 
 use super::edited::edited_layers;
 use super::pairs::join;
 use super::sources::JoinSources;
-use crate::fault::{Input, RunFault};
+use crate::fault::RunFault;
 use crate::options::Options;
-use crate::writing::{Sink, write_text};
 use draw_core::{can_be_drawn, picture};
 use geom_core::JoinRelation;
-use layer_core::{Layer, ReadFault, Source};
+use layer_core::{Layer, Source};
+use output_core::{Sink, write_text};
 use std::alloc::Global;
 use std::hash::RandomState;
 use std::sync::Wait;
@@ -50,9 +48,7 @@ pub fn run_draw<R: Threads + Wait + Sync, A: Source, B: Source, E: Source, G: Ga
     gate: &G,
     sink: &mut S,
 ) -> Result<(), RunFault>
-    requires left { A.has_failed sources.old.left ≡ false }
-    requires right { B.has_failed sources.old.right ≡ false }
-    requires edits { IfSome sources.old.edits (λ e. E.has_failed e ≡ false) }
+    requires sources { AreFresh A.has_failed B.has_failed E.has_failed sources.old }
     requires sink { S.has_failed sink.old ≡ false }
     ensures writes { let files = files_of scale A.remaining B.remaining E.remaining sources.old in
         Ends (IsDrawnText (relation_of relation.now) files)
@@ -60,9 +56,7 @@ pub fn run_draw<R: Threads + Wait + Sync, A: Source, B: Source, E: Source, G: Ga
     ensures fault { let files = files_of scale A.remaining B.remaining E.remaining sources.old in
         IfErr result (λ f. BlamesInput f → DrawGives (relation_of relation.now) files (Err f)) }
     ensures faults { IfErr result (λ f. f ≢ RunFault.Write → IsDrawFault f) }
-    ensures io { (i : Input) → IsErrOf result (RunFault.Read i ReadFault.Io) ↔ FailedAt
-        (IsTrue (A.has_failed sources.new.left)) (IsTrue (B.has_failed sources.new.right))
-        (IsSomeAnd sources.new.edits (λ e. IsTrue (E.has_failed e))) i }
+    ensures io { TellsFailures A.has_failed B.has_failed E.has_failed sources.new result }
 {
     let text = draw_text(rt, alloc, states, scale, sources, relation, options, gate)?;
     write_text(sink, text.as_bytes())?;
@@ -80,20 +74,13 @@ fn draw_text<R: Threads + Wait + Sync, A: Source, B: Source, E: Source, G: Gate 
     options: &Options,
     gate: &G,
 ) -> Result<String, RunFault>
-    requires left { A.has_failed sources.old.left ≡ false }
-    requires right { B.has_failed sources.old.right ≡ false }
-    requires edits { IfSome sources.old.edits (λ e. E.has_failed e ≡ false) }
+    requires { AreFresh A.has_failed B.has_failed E.has_failed sources.old }
     ensures ok { let files = files_of scale A.remaining B.remaining E.remaining sources.old in
         IfOk result (λ text. IsDrawnText (relation_of relation.now) files (string_bytes text)) }
     ensures fault { let files = files_of scale A.remaining B.remaining E.remaining sources.old in
         IfErr result (λ f. BlamesInput f → DrawGives (relation_of relation.now) files (Err f)) }
     ensures faults { IfErr result IsDrawFault }
-    ensures left_io { IsErrOf result (RunFault.Read Input.Left ReadFault.Io)
-        ↔ IsTrue (A.has_failed sources.new.left) }
-    ensures right_io { IsErrOf result (RunFault.Read Input.Right ReadFault.Io)
-        ↔ IsTrue (B.has_failed sources.new.right) }
-    ensures edits_io { IsErrOf result (RunFault.Read Input.Edits ReadFault.Io)
-        ↔ IsSomeAnd sources.new.edits (λ e. IsTrue (E.has_failed e)) }
+    ensures io { TellsFailures A.has_failed B.has_failed E.has_failed sources.new result }
 {
     let (left, right) = edited_layers(rt, alloc, states, scale, sources, options.workers())?;
     drawing_of(rt, alloc, &left, &right, relation, options, gate)

@@ -8,6 +8,7 @@ ghost use Rattle.layer_core.specs.Limits.{most_file_bytes};
 ghost use Rattle.join_core.specs.declared.fault.Input.{Input};
 ghost use Rattle.join_core.specs.Inputs.{BlamesBytes, BlamesInput};
 ghost use Rattle.join_core.specs.JoinRuns.{EditFile, bytes_of, files_of, LayersGive, IsJoinFault};
+ghost use Rattle.join_core.specs.SourceStates.{AreFresh, TellsFailures};
 
 use super::edits::apply_edits;
 use super::layers::read_layers;
@@ -32,20 +33,13 @@ pub(crate) fn edited_layers<R: Threads + Sync, A: Source, B: Source, E: Source>(
     sources: &mut JoinSources<A, B, E>,
     workers: u32,
 ) -> Result<(Layer, Layer), RunFault>
-    requires left { A.has_failed sources.old.left ≡ false }
-    requires right { B.has_failed sources.old.right ≡ false }
-    requires edits { IfSome sources.old.edits (λ e. E.has_failed e ≡ false) }
+    requires { AreFresh A.has_failed B.has_failed E.has_failed sources.old }
     ensures ok { let files = files_of scale A.remaining B.remaining E.remaining sources.old in
         IfOk result (λ layers. LayersGive files (Ok (both layers.0.list layers.1.list))) }
     ensures fault { let files = files_of scale A.remaining B.remaining E.remaining sources.old in
         IfErr result (λ f. BlamesInput f → LayersGive files (Err f)) }
     ensures faults { IfErr result IsJoinFault }
-    ensures left_io { IsErrOf result (RunFault.Read Input.Left ReadFault.Io)
-        ↔ IsTrue (A.has_failed sources.new.left) }
-    ensures right_io { IsErrOf result (RunFault.Read Input.Right ReadFault.Io)
-        ↔ IsTrue (B.has_failed sources.new.right) }
-    ensures edits_io { IsErrOf result (RunFault.Read Input.Edits ReadFault.Io)
-        ↔ IsSomeAnd sources.new.edits (λ e. IsTrue (E.has_failed e)) }
+    ensures io { TellsFailures A.has_failed B.has_failed E.has_failed sources.new result }
 {
     let (left, right) = (&mut sources.left, &mut sources.right);
     let layers = read_layers(rt, alloc, states, scale, left, right, workers)?;

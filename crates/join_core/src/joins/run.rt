@@ -1,26 +1,23 @@
 //! The join of two files of layers, after a file of edits.
 
-ghost use Rattle.std.specs.Prelude.{◌≡◌, ◌≢◌, ◌↔◌, ℕ, List, Err, Result, false, IsTrue};
-ghost use Rattle.std.specs.Prelude.{IfOk, IfErr, IfSome, IsErrOf, IsSomeAnd};
+ghost use Rattle.std.specs.Prelude.{◌≡◌, ◌≢◌, ℕ, List, Err, false, IfOk, IfErr};
 ghost use Rattle.geom_core.specs.JoinRelations.{relation_of};
-ghost use Rattle.layer_core.specs.declared.read_fault.ReadFault.{ReadFault};
-ghost use Rattle.join_core.specs.declared.fault.Input.{Input};
 ghost use Rattle.join_core.specs.Runs.{Ends};
 ghost use Rattle.join_core.specs.Joins.{IsJoinList};
-ghost use Rattle.join_core.specs.Reports.{IsReport};
+ghost use Rattle.output_core.specs.Reports.{IsReport};
 ghost use Rattle.join_core.specs.Inputs.{BlamesInput};
 ghost use Rattle.join_core.specs.JoinRuns.{files_of, JoinGives, IsJoinText};
-ghost use Rattle.join_core.specs.JoinRuns.{IsJoinFault, IsLateFault, FailedAt};
+ghost use Rattle.join_core.specs.JoinRuns.{IsJoinFault, IsLateFault};
+ghost use Rattle.join_core.specs.SourceStates.{AreFresh, TellsFailures};
 
 use super::edited::edited_layers;
 use super::pairs::join;
-use super::report::report_text;
 use super::sources::JoinSources;
-use crate::fault::{Input, RunFault};
+use crate::fault::RunFault;
 use crate::options::Options;
-use crate::writing::{Sink, write_text};
 use geom_core::JoinRelation;
-use layer_core::{Layer, ReadFault, Source};
+use layer_core::{Layer, Source};
+use output_core::{Sink, report_text, write_text};
 use std::alloc::Global;
 use std::hash::RandomState;
 use std::sync::Wait;
@@ -48,9 +45,7 @@ pub fn run_join<R: Threads + Wait + Sync, A: Source, B: Source, E: Source, G: Ga
     gate: &G,
     sink: &mut S,
 ) -> Result<(), RunFault>
-    requires left { A.has_failed sources.old.left ≡ false }
-    requires right { B.has_failed sources.old.right ≡ false }
-    requires edits { IfSome sources.old.edits (λ e. E.has_failed e ≡ false) }
+    requires sources { AreFresh A.has_failed B.has_failed E.has_failed sources.old }
     requires sink { S.has_failed sink.old ≡ false }
     ensures writes { let files = files_of scale A.remaining B.remaining E.remaining sources.old in
         Ends (IsJoinText (relation_of relation.now) files)
@@ -58,9 +53,7 @@ pub fn run_join<R: Threads + Wait + Sync, A: Source, B: Source, E: Source, G: Ga
     ensures fault { let files = files_of scale A.remaining B.remaining E.remaining sources.old in
         IfErr result (λ f. BlamesInput f → JoinGives (relation_of relation.now) files (Err f)) }
     ensures faults { IfErr result (λ f. f ≢ RunFault.Write → IsJoinFault f) }
-    ensures io { (i : Input) → IsErrOf result (RunFault.Read i ReadFault.Io) ↔ FailedAt
-        (IsTrue (A.has_failed sources.new.left)) (IsTrue (B.has_failed sources.new.right))
-        (IsSomeAnd sources.new.edits (λ e. IsTrue (E.has_failed e))) i }
+    ensures io { TellsFailures A.has_failed B.has_failed E.has_failed sources.new result }
 {
     let text = join_text(rt, alloc, states, scale, sources, relation, options, gate)?;
     write_text(sink, text.as_slice())?;
@@ -78,20 +71,13 @@ fn join_text<R: Threads + Wait + Sync, A: Source, B: Source, E: Source, G: Gate 
     options: &Options,
     gate: &G,
 ) -> Result<Vec<u8>, RunFault>
-    requires left { A.has_failed sources.old.left ≡ false }
-    requires right { B.has_failed sources.old.right ≡ false }
-    requires edits { IfSome sources.old.edits (λ e. E.has_failed e ≡ false) }
+    requires { AreFresh A.has_failed B.has_failed E.has_failed sources.old }
     ensures ok { let files = files_of scale A.remaining B.remaining E.remaining sources.old in
         IfOk result (λ text. IsJoinText (relation_of relation.now) files text.items) }
     ensures fault { let files = files_of scale A.remaining B.remaining E.remaining sources.old in
         IfErr result (λ f. BlamesInput f → JoinGives (relation_of relation.now) files (Err f)) }
     ensures faults { IfErr result IsJoinFault }
-    ensures left_io { IsErrOf result (RunFault.Read Input.Left ReadFault.Io)
-        ↔ IsTrue (A.has_failed sources.new.left) }
-    ensures right_io { IsErrOf result (RunFault.Read Input.Right ReadFault.Io)
-        ↔ IsTrue (B.has_failed sources.new.right) }
-    ensures edits_io { IsErrOf result (RunFault.Read Input.Edits ReadFault.Io)
-        ↔ IsSomeAnd sources.new.edits (λ e. IsTrue (E.has_failed e)) }
+    ensures io { TellsFailures A.has_failed B.has_failed E.has_failed sources.new result }
 {
     let (left, right) = edited_layers(rt, alloc, states, scale, sources, options.workers())?;
     report_of(rt, alloc, &left, &right, relation, options, gate)

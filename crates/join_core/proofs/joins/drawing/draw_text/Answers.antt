@@ -8,15 +8,6 @@ returns-in_err-left-clause-fault g c = no_picture _ _ c.from_residual.result _ c
 pub returns-in_err-left-clause-faults : goal.returns-in_err-left-clause-faults
 returns-in_err-left-clause-faults g c = is_draw_fault c.from_residual.result _ c.from_residual.ensures.1 c.in_err-left.ensures.faults
 
-pub returns-in_err-left-clause-left_io : goal.returns-in_err-left-clause-left_io
-returns-in_err-left-clause-left_io g c = io_handed_on c.from_residual.result _ _ _ c.from_residual.ensures.1 c.in_err-left.ensures.left_io
-
-pub returns-in_err-left-clause-right_io : goal.returns-in_err-left-clause-right_io
-returns-in_err-left-clause-right_io g c = io_handed_on c.from_residual.result _ _ _ c.from_residual.ensures.1 c.in_err-left.ensures.right_io
-
-pub returns-in_err-left-clause-edits_io : goal.returns-in_err-left-clause-edits_io
-returns-in_err-left-clause-edits_io g c = io_handed_on c.from_residual.result _ _ _ c.from_residual.ensures.1 c.in_err-left.ensures.edits_io
-
 pub returns-clause-ok : goal.returns-clause-ok
 returns-clause-ok g c = picture_given _ _ _ _ c.drawing_of.result c.in_ok-left.ensures.ok c.drawing_of.ensures.few c.drawing_of.ensures.ok
 
@@ -26,11 +17,8 @@ returns-clause-fault g c = picture_blamed _ _ _ c.drawing_of.result c.in_ok-left
 pub returns-clause-faults : goal.returns-clause-faults
 returns-clause-faults g c = late_draw_faults c.drawing_of.result c.drawing_of.ensures.err
 
-pub returns-clause-left_io : goal.returns-clause-left_io
-returns-clause-left_io g c = io_before c.drawing_of.result _ _ _ (λ f late. late) _ c.in_ok-left.ensures.left_io c.drawing_of.ensures.err
+pub returns-in_err-left-clause-io : goal.returns-in_err-left-clause-io
+returns-in_err-left-clause-io g c = λ i. io_handed_on c.from_residual.result i _ _ c.from_residual.ensures.1 (c.in_err-left.ensures.io i)
 
-pub returns-clause-right_io : goal.returns-clause-right_io
-returns-clause-right_io g c = io_before c.drawing_of.result _ _ _ (λ f late. late) _ c.in_ok-left.ensures.right_io c.drawing_of.ensures.err
-
-pub returns-clause-edits_io : goal.returns-clause-edits_io
-returns-clause-edits_io g c = io_before c.drawing_of.result _ _ _ (λ f late. late) _ c.in_ok-left.ensures.edits_io c.drawing_of.ensures.err
+pub returns-clause-io : goal.returns-clause-io
+returns-clause-io g c = λ i. io_before c.drawing_of.result i _ _ (λ f late. late) _ (c.in_ok-left.ensures.io i) c.drawing_of.ensures.err

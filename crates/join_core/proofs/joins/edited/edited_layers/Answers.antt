@@ -1,6 +1,8 @@
 use Rattle.std.proofs.Common.{refl}
+use Rattle.join_core.specs.declared.fault.Input.TheVariants.{Left, Right, Edits}
 use Rattle.join_core.proofs.LayersLemmas.{layers_blamed, layers_join_fault, none_of_edits}
-use Rattle.join_core.proofs.JoinRunLemmas.{edits_blamed, edit_blamed, layers_edited, is_join_fault, io_handed_on, edits_unread}
+use Rattle.join_core.proofs.JoinRunLemmas.{edits_blamed, edit_blamed, layers_edited, is_join_fault}
+use Rattle.join_core.proofs.JoinRunLemmas.{failed_at, io_handed_on, io_before, io_passed, edits_unread}
 use Rattle.join_core.proofs.joins.edited.edited_layers.Goals as goal
 
 pub returns-in_err-layers-clause-fault : goal.returns-in_err-layers-clause-fault
@@ -9,19 +11,6 @@ returns-in_err-layers-clause-fault g c = layers_blamed _ c.from_residual.result 
 pub returns-in_err-layers-clause-faults : goal.returns-in_err-layers-clause-faults
 returns-in_err-layers-clause-faults g c =
     is_join_fault c.from_residual.result _ _ c.from_residual.ensures.1 refl (layers_join_fault c.args.scale _ _ _ c.in_err-layers.ensures.fault)
-
-pub returns-in_err-layers-clause-left_io : goal.returns-in_err-layers-clause-left_io
-returns-in_err-layers-clause-left_io g c =
-    io_handed_on c.from_residual.result _ _ _ c.from_residual.ensures.1 c.in_err-layers.ensures.left_io
-
-pub returns-in_err-layers-clause-right_io : goal.returns-in_err-layers-clause-right_io
-returns-in_err-layers-clause-right_io g c =
-    io_handed_on c.from_residual.result _ _ _ c.from_residual.ensures.1 c.in_err-layers.ensures.right_io
-
-pub returns-in_err-layers-clause-edits_io : goal.returns-in_err-layers-clause-edits_io
-returns-in_err-layers-clause-edits_io g c =
-    edits_unread _ _ c.from_residual.result _ c.requires.edits c.from_residual.ensures.1
-    (none_of_edits c.args.scale _ _ _ c.in_err-layers.ensures.fault)
 
 pub returns-in_err-edit_list-clause-fault : goal.returns-in_err-edit_list-clause-fault
 returns-in_err-edit_list-clause-fault g c =
@@ -47,6 +36,39 @@ returns-clause-ok g c =
     layers_edited _ _ _ _ _ _ c.in_ok-layers.ensures.left c.in_ok-layers.ensures.right c.in_ok-edit_list.ensures.ok
     c.as_slice.ensures.value c.in_ok-apply_edits.ensures.ok
 
-pub returns-in_err-edit_list-clause-edits_io : goal.returns-in_err-edit_list-clause-edits_io
-returns-in_err-edit_list-clause-edits_io g c =
-    io_handed_on c.from_residual-in_err-edit_list.result _ _ _ c.from_residual-in_err-edit_list.ensures.1 c.in_err-edit_list.ensures.io
+pub returns-in_err-layers-clause-io : goal.returns-in_err-layers-clause-io
+returns-in_err-layers-clause-io g c =
+    let out = c.from_residual.result in
+    failed_at _ _ _ out
+    (io_handed_on out _ _ _ c.from_residual.ensures.1 c.in_err-layers.ensures.left_io)
+    (io_handed_on out _ _ _ c.from_residual.ensures.1 c.in_err-layers.ensures.right_io)
+    (edits_unread _ _ out _ c.requires.edits c.from_residual.ensures.1 (none_of_edits c.args.scale _ _ _ c.in_err-layers.ensures.fault))
+    (is_join_fault out _ _ c.from_residual.ensures.1 refl (layers_join_fault c.args.scale _ _ _ c.in_err-layers.ensures.fault))
+
+pub returns-in_err-edit_list-clause-io : goal.returns-in_err-edit_list-clause-io
+returns-in_err-edit_list-clause-io g c =
+    let r = c.from_residual-in_err-edit_list in
+    let is = c.in_err-edit_list.ensures.fault.1 in
+    failed_at _ _ _ r.result
+    (io_passed r.result _ _ _ _ r.ensures.1 is (λ f h. absurd cc) _ c.in_ok-layers.ensures.left_io)
+    (io_passed r.result _ _ _ _ r.ensures.1 is (λ f h. absurd cc) _ c.in_ok-layers.ensures.right_io)
+    (io_handed_on r.result _ _ _ r.ensures.1 c.in_err-edit_list.ensures.io)
+    (is_join_fault r.result _ _ r.ensures.1 is tt)
+
+pub returns-in_err-apply_edits-clause-io : goal.returns-in_err-apply_edits-clause-io
+returns-in_err-apply_edits-clause-io g c =
+    let r = c.from_residual-in_err-apply_edits in
+    let is = c.in_err-apply_edits.ensures.err.2 in
+    failed_at _ _ _ r.result
+    (io_passed r.result _ _ _ _ r.ensures.1 is (λ f h. absurd cc) _ c.in_ok-layers.ensures.left_io)
+    (io_passed r.result _ _ _ _ r.ensures.1 is (λ f h. absurd cc) _ c.in_ok-layers.ensures.right_io)
+    (io_passed r.result _ _ _ _ r.ensures.1 is (λ f h. absurd cc) _ c.in_ok-edit_list.ensures.io)
+    (is_join_fault r.result _ _ r.ensures.1 is tt)
+
+pub returns-clause-io : goal.returns-clause-io
+returns-clause-io g c =
+    failed_at _ _ _ _
+    (io_before _ Left _ (λ _. ⊥) (λ f none. none) _ c.in_ok-layers.ensures.left_io tt)
+    (io_before _ Right _ (λ _. ⊥) (λ f none. none) _ c.in_ok-layers.ensures.right_io tt)
+    (io_before _ Edits _ (λ _. ⊥) (λ f none. none) _ c.in_ok-edit_list.ensures.io tt)
+    tt

@@ -1,9 +1,0 @@
-use Rattle.std.proofs.Common.{◌≡◌, length}
-use Rattle.join_core.specs.Columns.{IsColumn}
-use Rattle.join_core.proofs.joins.columns.Column.new.Given as goal
-
-abbrev pub invariant-loop-number : goal.invariant-loop-number
-invariant-loop-number l = record {
-  cells : IsColumn l.layer.list l.cells.items l.text.items;
-  len : length l.cells.items ≡ l.number;
-}

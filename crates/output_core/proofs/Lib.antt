@@ -1,0 +1,4 @@
+pub mod CsvLemmas
+pub mod ReportChunkLemmas
+pub mod ReportLemmas
+pub mod WrittenLemmas

@@ -1,0 +1,146 @@
+-- The rows of a report.
+use Rattle.std.proofs.Common.{◌≡◌, ℕ, List, [], ◌∷◌, ◌++◌, Bool, false, ◌||◌, Option, Some, None, IsSome, sym, ap, subst, ◌∙◌, refl, ◌+◌, ◌<◌, length, get_or}
+use Rattle.std.proofs.Common.{take, append_assoc, codes}
+use Rattle.std.specs.Borrow.{Bor}
+use Rattle.geom_core.specs.declared.shape.Shape.{Shape}
+use Rattle.geom_core.specs.declared.extent.Extent.{Extent}
+use Rattle.geom_core.specs.declared.extent.Extent.TheVariants.{Empty, Point, Line, Area}
+use Rattle.geom_core.specs.declared.matrix.Matrix.{Matrix}
+use Rattle.geom_core.specs.Matrices.{IsMatrix, letter_of, letters_of}
+use Rattle.layer_core.specs.Layers.{Feature, Contents, with_number}
+use Rattle.csv.specs.Machine.{line_feed}
+use Rattle.csv.specs.Writing.{comma, field_text, fields_text, is_blank, row_text, needs_byte, needs_quotes, default_writer}
+use Rattle.output_core.specs.Columns.{FieldAndShapeAre}
+use Rattle.output_core.specs.CsvTexts.{leading_field}
+use Rattle.output_core.specs.ReportRows.{AreRows, AddsRows, line_of}
+use Rattle.output_core.specs.Reports.{IsRow, IsReport}
+use Rattle.std.specs.List.{AllZip}
+use Rattle.std.proofs.lemmas.List.{append-nil, take_more, flat_map_more}
+use Rattle.std.proofs.lemmas.Slice.Zip.{all_zipped_more}
+
+-- no letter needs quotes
+letter_plain : (e : Extent) → needs_byte default_writer (letter_of e) ≡ false
+letter_plain Empty = refl
+letter_plain Point = refl
+letter_plain Line = refl
+letter_plain Area = refl
+
+either : (a b : Bool) → a ≡ false → b ≡ false → (a || b) ≡ false
+either a b p q = rw p q
+
+letters_plain : (m : Matrix) → needs_quotes default_writer (letters_of m) ≡ false
+letters_plain m =
+    either _ _ (letter_plain m.rows.interior.interior) (either _ _ (letter_plain m.rows.interior.boundary) (either _ _ (letter_plain m.rows.interior.exterior)
+    (either _ _ (letter_plain m.rows.boundary.interior) (either _ _ (letter_plain m.rows.boundary.boundary) (either _ _ (letter_plain m.rows.boundary.exterior)
+    (either _ _ (letter_plain m.rows.exterior.interior) (either _ _ (letter_plain m.rows.exterior.boundary)
+    (either _ _ (letter_plain m.rows.exterior.exterior) refl))))))))
+
+letters_field : (m : Matrix) → field_text default_writer (letters_of m) ≡ letters_of m
+letters_field m = let plain : needs_quotes default_writer (letters_of m) ≡ false = letters_plain m in rw plain refl
+
+appended : (a b c end : List ℕ)
+    → (a ++ comma ∷ (b ++ comma ∷ (c ++ []))) ++ end ≡ (a ++ comma ∷ []) ++ ((b ++ comma ∷ []) ++ (c ++ end))
+appended a b c end = simp append_assoc refl
+
+-- the record of a pair is its line
+row_line : (first second : List ℕ) (m : Matrix)
+    → row_text default_writer (first ∷ second ∷ letters_of m ∷ []) ≡ line_of (leading_field first) (leading_field second) (letters_of m)
+unfolding fields_text is_blank
+row_line first second m =
+    appended (field_text default_writer first) (field_text default_writer second) (field_text default_writer (letters_of m)) (line_feed ∷ [])
+    ∙ ap (λ c. line_of (leading_field first) (leading_field second) c) (letters_field m)
+
+-- the feature that a look-up found
+pub record Found (o : Option Feature) (p : Bor (List ℕ) × Shape) : Type 0 where
+  pub feature : Feature
+  pub held : o ≡ Some feature
+  pub field : p.0.now ≡ leading_field feature.id
+  pub shape : p.1 ≡ feature.shape
+
+-- two pairs are one where their parts are
+parts_same : (a b : List ℕ) (s t : Shape) → ◌≡◌ {A = List ℕ × Shape} (a, s) (b, t) → (a ≡ b) × (s ≡ t)
+parts_same a b s t h = (ap (λ (z : List ℕ × Shape). z.0) h, ap (λ (z : List ℕ × Shape). z.1) h)
+
+pub found : (answer : Option (Bor (List ℕ) × Shape)) (o : Option Feature) (p : Bor (List ℕ) × Shape) → FieldAndShapeAre answer o → answer ≡ Some p → Found o p
+found None o p h e = absurd (let bad : None ≡ Some p = e in cc)
+found (Some q) None p h e = absurd cc
+found (Some q) (Some f) p h e =
+    let same : q ≡ p = cc in
+    let both : (q.0.now ≡ leading_field f.id) × (q.1 ≡ f.shape) = parts_same q.0.now (leading_field f.id) q.1 f.shape cc in
+    record {
+      feature = f;
+      held = refl;
+      field = subst (λ (z : Bor (List ℕ) × Shape). z.0.now ≡ leading_field f.id) same both.0;
+      shape = subst (λ (z : Bor (List ℕ) × Shape). z.1 ≡ f.shape) same both.1;
+    }
+
+-- a feature that is there is found
+pub answered : (answer : Option (Bor (List ℕ) × Shape)) (o : Option Feature) → FieldAndShapeAre answer o → IsSome o → IsSome answer
+answered None None h some = some
+answered None (Some f) h some = absurd cc
+answered (Some q) o h some = refl
+
+-- what is below a bound is below a number that equals it
+pub below_len : (n a b : ℕ) → n < b → a ≡ b → n < a
+below_len n a b h e = subst (λ z. n < z) (sym e) h
+
+-- no records were added yet
+pub none_added : (old new : List ℕ) (left right : Contents) → new ≡ old → AddsRows left right [] old new
+none_added old new left right same = record {
+  text = [];
+  are_rows = record { rows = []; are_rows = tt; written = refl };
+  added = same ∙ sym (append-nil old);
+}
+
+-- the record of one pair more is added
+pub pair_added : (old mid new : List ℕ) (left right : Contents) (pairs : List (ℕ × ℕ)) (i : ℕ) (pair : ℕ × ℕ) (x y : Bor (List ℕ) × Shape)
+    → i < length pairs → pair ≡ get_or pairs i (0, 0)
+    → AddsRows left right (take i pairs) old mid → Found (with_number pair.0 left) x → Found (with_number pair.1 right) y
+    → (m : Matrix) (letters : List ℕ) → IsMatrix x.1 y.1 m → letters ≡ letters_of m → new ≡ mid ++ line_of x.0.now y.0.now letters
+    → AddsRows left right (take (i + 1) pairs) old new
+pair_added old mid new left right pairs i pair x y within at so_far f g m letters related are_letters grown = record {
+  text = so_far.text ++ row_text default_writer row;
+  are_rows = record {
+    rows = so_far.are_rows.rows ++ row ∷ [];
+    are_rows = subst (λ (l : List (ℕ × ℕ)). AllZip (IsRow left right) l (so_far.are_rows.rows ++ row ∷ []))
+        (ap (λ p. take i pairs ++ p ∷ []) at ∙ sym (take_more pairs i (0, 0) within))
+        (all_zipped_more (IsRow left right) (take i pairs) so_far.are_rows.rows pair row so_far.are_rows.are_rows is_row);
+    written = ap (λ t. t ++ row_text default_writer row) so_far.are_rows.written ∙ flat_map_more (row_text default_writer) [] so_far.are_rows.rows row;
+  };
+  added = grown ∙ line ∙ ap (λ t. t ++ row_text default_writer row) so_far.added ∙ append_assoc old so_far.text (row_text default_writer row);
+}
+  where
+    row : List (List ℕ)
+    row = f.feature.id ∷ g.feature.id ∷ letters_of m ∷ []
+
+    is_row : IsRow left right pair row
+    is_row = record {
+      first = f.feature;
+      second = g.feature;
+      matrix = m;
+      first_held = f.held;
+      second_held = g.held;
+      related = subst (λ (s : Shape). IsMatrix s g.feature.shape m) f.shape (subst (λ (s : Shape). IsMatrix x.1 s m) g.shape related);
+      fields = refl;
+    }
+
+    line : mid ++ line_of x.0.now y.0.now letters ≡ mid ++ row_text default_writer row
+    line = ap (λ l. mid ++ l) (ap (λ l. line_of x.0.now y.0.now l) are_letters ∙ ap (λ a. line_of a y.0.now (letters_of m)) f.field
+        ∙ ap (λ b. line_of (leading_field f.feature.id) b (letters_of m)) g.field
+        ∙ sym (row_line f.feature.id g.feature.id m))
+
+-- records that were added to nothing
+pub rows_alone : (old text : List ℕ) (left right : Contents) (pairs : List (ℕ × ℕ)) → old ≡ [] → AddsRows left right pairs old text
+    → AreRows left right pairs text
+rows_alone old text left right pairs none adds =
+    subst (AreRows left right pairs) (sym (adds.added ∙ ap (λ t. t ++ adds.text) none)) adds.are_rows
+
+-- the header, and the records that were added to it
+pub report_written : (old new text : List ℕ) (left right : Contents) (pairs : List (ℕ × ℕ))
+    → old ≡ codes "left,right,matrix\n" → AddsRows left right pairs old new → text ≡ new → IsReport left right pairs text
+unfolding fields_text is_blank
+report_written old new text left right pairs same adds is = record {
+  rows = adds.are_rows.rows;
+  are_rows = adds.are_rows.are_rows;
+  written = is ∙ adds.added ∙ ap (λ t. t ++ adds.text) same ∙ ap (λ t. codes "left,right,matrix\n" ++ t) adds.are_rows.written;
+}

@@ -1,0 +1,7 @@
+pub mod Columns
+pub mod CsvTexts
+pub mod CsvWriting
+pub mod ReportRows
+pub mod Reports
+pub mod ToWrite
+pub mod Written

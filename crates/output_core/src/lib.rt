@@ -1,0 +1,17 @@
+//! What a run writes: rows of CSV, the report of a join, short lines, and the devices that take
+//! text.
+#![tactic(auto)]
+
+mod columns;
+mod csv_fields;
+mod csv_rows;
+mod line;
+mod report;
+mod sink;
+mod to_write;
+
+pub use csv_rows::{new_rows, push_row, rows_text};
+pub use line::{Line, ROOM};
+pub use report::report_text;
+pub use sink::{Sink, WriteFailed, write_text};
+pub use to_write::ToWrite;
