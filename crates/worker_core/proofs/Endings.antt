@@ -1,5 +1,5 @@
 -- How the workers of a plan end: by what was gathered of them, given the law of owners.
-use Rattle.std.proofs.Common.{◌≡◌, ℕ, ◌+◌, ◌<◌, inl, inr, Bool, true, false, Option, Some, None, Result, Ok, Err, IfOk, IfErr, IsOk, List, ◌∷◌, ◌++◌, All}
+use Rattle.std.proofs.Common.{◌≡◌, ℕ, ◌<◌, inl, inr, Bool, true, false, Option, Some, None, Result, Ok, Err, IfOk, IfErr, IsOk, List, ◌∷◌, ◌++◌, All}
 use Rattle.std.proofs.Common.{length, map, refl, sym, ap, ◌∙◌, subst}
 use Rattle.std.specs.Prelude.{IsPermutation, IsSorted, IsSomeAnd}
 use Rattle.std.specs.List.{flat_map}

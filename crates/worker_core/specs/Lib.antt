@@ -4,4 +4,5 @@ pub mod Gatherings
 pub mod Intakes
 pub mod Sending
 pub mod Teams
+pub mod Terms
 pub mod Workers

@@ -7,6 +7,7 @@ ghost use Rattle.deliver_core.specs.declared.outlet.Outlet.{Outlet};
 ghost use Rattle.deliver_core.specs.OutletCalls.{IsFreshPort};
 ghost use Rattle.deliver_core.specs.Ports.{index_of};
 ghost use Rattle.worker_core.specs.Teams.{IsReady, IsBeside, IsAsBefore, HasRun};
+ghost use Rattle.worker_core.specs.Terms.{terms_by, terms_of};
 ghost use Rattle.worker_core.specs.Workers.{ComesBack};
 
 use crate::gate::Gate;
@@ -80,8 +81,9 @@ struct Working<'a, P> {
 }
 
 impl<'a, P: Rows> Promise<Worked> for Working<'a, P> {
-    ghost kept_by = { λ p w. ComesBack (relation_of p.relation.now) (P.tasks p.plan.now) p.batch
-        p.board.now p.outlet.now p.index w };
+    ghost kept_by = { λ p w. let terms = terms_by (relation_of p.relation.now)
+        (P.tasks p.plan.now) p.batch p.board.now p.outlet.now in
+        ComesBack terms p.index w };
 }
 
 /// Runs the workers of a team side by side, and gathers until all that were started have ended.
@@ -97,11 +99,8 @@ pub(crate) fn run<'a, R: Threads + Wait + Sync, P: Rows + Sync, G: Gate + Sync>(
     requires batch { (1 ≤ shared.batch) × (shared.batch ≤ MAX_BATCH) }
     requires tasks { shared.board.now.tasks ≡ length (P.tasks shared.plan.now) }
     requires ready { IsReady shared.board.now shared.outlet.now team }
-    ensures { let relation = relation_of shared.entry.relation.now in
-        let plan = P.tasks shared.entry.plan.now in let size = shared.entry.batch in
-        let board = shared.entry.board.now in let outlet = shared.entry.outlet.now in
-        let count = length team.ports.items in let room = vec_capacity team.seats in
-        HasRun relation plan size board outlet count room team.gathering result }
+    ensures { let count = length team.ports.items in let room = vec_capacity team.seats in
+        HasRun (terms_of P.tasks shared.entry) count room team.gathering result }
 {
     let Some((seat, port)) = team.next() else {
         return team;
@@ -125,11 +124,10 @@ pub(crate) fn run<'a, R: Threads + Wait + Sync, P: Rows + Sync, G: Gate + Sync>(
             requires tasks { board.now.tasks ≡ length (P.tasks plan.now) }
             requires beside { IsBeside board.now outlet.now team seat port }
             requires index { index ≡ index_of port }
-            ensures { let relation = relation_of relation.entry.now in
-                let plan = P.tasks plan.entry.now in
-                let board = board.entry.now in let outlet = outlet.entry.now in
+            ensures { let terms = terms_by (relation_of relation.entry.now)
+                (P.tasks plan.entry.now) batch board.entry.now outlet.entry.now in
                 let count = length team.ports.items + 1 in let room = vec_capacity team.seats in
-                HasRun relation plan batch board outlet count room team.gathering result }
+                HasRun terms count room team.gathering result }
         {
             let working = Working {
                 plan,
@@ -146,10 +144,9 @@ pub(crate) fn run<'a, R: Threads + Wait + Sync, P: Rows + Sync, G: Gate + Sync>(
                     requires tasks { board.now.tasks ≡ length (P.tasks plan.now) }
                     requires seat { seat ≡ fresh_seat board.now }
                     requires port { IsFreshPort outlet.now port }
-                    ensures { let relation = relation_of relation.entry.now in
-                        let plan = P.tasks plan.entry.now in
-                        let board = board.entry.now in let outlet = outlet.entry.now in
-                        ComesBack relation plan batch board outlet (index_of port) result }
+                    ensures { let terms = terms_by (relation_of relation.entry.now)
+                        (P.tasks plan.entry.now) batch board.entry.now outlet.entry.now in
+                        ComesBack terms (index_of port) result }
                 {
                     let shared = Shared {
                         plan,

@@ -5,6 +5,7 @@ ghost use Rattle.deliver_core.specs.Boards.{fresh_seat};
 ghost use Rattle.deliver_core.specs.OutletCalls.{IsFreshPort, IsOpenPort};
 ghost use Rattle.deliver_core.specs.Ports.{index_of};
 ghost use Rattle.worker_core.specs.Sending.{said_by, StaysOpen};
+ghost use Rattle.worker_core.specs.Terms.{terms_of};
 ghost use Rattle.worker_core.specs.Workers.{IsSeatBelow, IsReadyToMeet, WorkerSays};
 ghost use Rattle.worker_core.specs.Workers.{AreScripts, BeginScripts, SaysScripts, SaysBeginning};
 ghost use Rattle.worker_core.specs.Workers.{ComesBack};
@@ -80,10 +81,7 @@ pub(crate) fn work<R: Threads + Wait + Sync, P: Rows, G: Gate>(
     requires tasks { shared.now.board.now.tasks ≡ length (P.tasks shared.now.plan.now) }
     requires seat { seat ≡ fresh_seat shared.now.board.now }
     requires port { IsFreshPort shared.now.outlet.now port }
-    ensures { let relation = relation_of shared.now.relation.now in
-        let plan = P.tasks shared.now.plan.now in let size = shared.now.batch in
-        let board = shared.now.board.now in let outlet = shared.now.outlet.now in
-        ComesBack relation plan size board outlet (index_of port) result }
+    ensures { ComesBack (terms_of P.tasks shared.now) (index_of port) result }
 {
     let worked = work_off(rt, alloc, shared, &mut seat, &mut port);
     let ok = worked.is_ok();
@@ -105,14 +103,11 @@ fn work_off<R: Threads + Wait + Sync, P: Rows, G: Gate>(
     requires port { IsFreshPort shared.now.outlet.now port.old }
     ensures seat { IsSeatBelow shared.now.board.now seat.new }
     ensures port { StaysOpen shared.now.outlet.now port.old port.new }
-    ensures ok { let relation = relation_of shared.now.relation.now in
-        let plan = P.tasks shared.now.plan.now in let size = shared.now.batch in
-        let drawn = seat.new.drawn in IfOk result (λ _. (seat.new.done ≡ true)
-        × AreScripts relation plan size drawn (said_by port.new)) }
-    ensures err { let relation = relation_of shared.now.relation.now in
-        let plan = P.tasks shared.now.plan.now in let size = shared.now.batch in
-        let drawn = seat.new.drawn in IfErr result (λ _.
-        BeginScripts relation plan size drawn (said_by port.new)) }
+    ensures ok { let it = terms_of P.tasks shared.now in let drawn = seat.new.drawn in
+        IfOk result (λ _. (seat.new.done ≡ true)
+        × AreScripts it.relation it.plan it.size drawn (said_by port.new)) }
+    ensures err { let it = terms_of P.tasks shared.now in let drawn = seat.new.drawn in
+        IfErr result (λ _. BeginScripts it.relation it.plan it.size drawn (said_by port.new)) }
 {
     for _ in rt.forever() {
         let Some(task) = shared.board.claim(seat) else {
@@ -136,12 +131,10 @@ fn send_task<R: Wait, P: Rows, G>(
     requires batch { 0 < shared.now.batch }
     requires port { IsOpenPort shared.now.outlet.now port.old }
     ensures port { StaysOpen shared.now.outlet.now port.old port.new }
-    ensures ok { let relation = relation_of shared.now.relation.now in
-        let plan = P.tasks shared.now.plan.now in let size = shared.now.batch in
-        IfOk result (λ _. SaysScripts relation plan size (task ∷ []) port.old port.new) }
-    ensures err { let relation = relation_of shared.now.relation.now in
-        let plan = P.tasks shared.now.plan.now in let size = shared.now.batch in
-        IfErr result (λ _. SaysBeginning relation plan size (task ∷ []) port.old port.new) }
+    ensures ok { let it = terms_of P.tasks shared.now in let numbers = task ∷ [] in IfOk result
+        (λ _. SaysScripts it.relation it.plan it.size numbers port.old port.new) }
+    ensures err { let it = terms_of P.tasks shared.now in let numbers = task ∷ [] in IfErr result
+        (λ _. SaysBeginning it.relation it.plan it.size numbers port.old port.new) }
 {
     let row = shared.plan.row_of(alloc, task, shared.relation)?;
     send_script(rt, alloc, shared.outlet, port, task, &row, shared.batch)
