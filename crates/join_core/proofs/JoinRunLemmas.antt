@@ -4,8 +4,8 @@ use Rattle.std.proofs.Common.{IfOk, Vec, Global, ◌↔◌, ◌≢◌, All, get_
 use Rattle.geom_core.specs.declared.relation.Relation.{Relation}
 use Rattle.layer_core.specs.declared.edit.Edit.{Edit as EditType}
 use Rattle.layer_core.specs.declared.fault.LayerFault.{LayerFault}
-use Rattle.layer_core.specs.declared.read_fault.ReadFault.{ReadFault}
-use Rattle.layer_core.specs.declared.read_fault.ReadFault.TheVariants.{Io}
+use Rattle.file_core.specs.declared.read_fault.ReadFault.{ReadFault}
+use Rattle.file_core.specs.declared.read_fault.ReadFault.TheVariants.{Io}
 use Rattle.layer_core.specs.Edits.{Layers, both, content_of, edits_give}
 use Rattle.layer_core.specs.Layers.{Feature, Contents, with_number}
 use Rattle.join_core.specs.declared.fault.Input.{Input}

@@ -2,14 +2,14 @@
 use Rattle.std.proofs.Common.{◌≡◌, ◌≢◌, ◌<◌, ℕ, List, Option, Some, None, Result, Ok, Err, IsErrAnd, IsErrOf, IfSome, IfErr, IfOk, Vec, Global, length, ap}
 use Rattle.std.proofs.Common.{refl, sym, subst}
 use Rattle.wkt_core.specs.declared.scale.Scale.{Scale}
-use Rattle.layer_core.specs.declared.read_fault.ReadFault.{ReadFault}
-use Rattle.layer_core.specs.declared.read_fault.ReadFault.TheVariants as read_faults
-use Rattle.layer_core.specs.LayerFiles.{IsLayerFile, LayerRowGives, layer_columns}
+use Rattle.file_core.specs.declared.read_fault.ReadFault.{ReadFault}
+use Rattle.file_core.specs.declared.read_fault.ReadFault.TheVariants as read_faults
+use Rattle.file_core.specs.LayerFiles.{IsLayerFile, LayerRowGives, layer_columns, list_read}
 use Rattle.layer_core.specs.Layers.{empty}
-use Rattle.layer_core.specs.LayerTrees.{LayerState, list_read}
-use Rattle.layer_core.specs.Limits.{most_file_bytes}
-use Rattle.layer_core.specs.Sources.{IsReadingFault}
-use Rattle.layer_core.proofs.FileLemmas.{file-unread}
+use Rattle.layer_core.specs.LayerTrees.{LayerState}
+use Rattle.file_core.specs.Limits.{most_file_bytes}
+use Rattle.file_core.specs.Sources.{IsReadingFault}
+use Rattle.file_core.proofs.FileLemmas.{file-unread}
 use Rattle.join_core.specs.declared.fault.Input.TheVariants.{First, Second, Left, Right, Edits, Layer, Window}
 use Rattle.join_core.specs.declared.fault.RunFault.{RunFault}
 use Rattle.join_core.specs.declared.fault.RunFault.TheVariants.{NoFile, Read, Wkt, Edit, Join, TooManyToDraw, Write, Memory, NoKeys}

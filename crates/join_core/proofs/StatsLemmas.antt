@@ -1,7 +1,7 @@
 -- What counting the features of a file answers.
 use Rattle.std.proofs.Common.{◌≡◌, ℕ, List, Option, Result, Ok, Err, IfErr, IsErrAnd, sym, ap, subst, ◌∙◌}
 use Rattle.wkt_core.specs.declared.scale.Scale.{Scale}
-use Rattle.layer_core.specs.declared.read_fault.ReadFault.{ReadFault}
+use Rattle.file_core.specs.declared.read_fault.ReadFault.{ReadFault}
 use Rattle.layer_core.specs.declared.stats.Stats.{Stats}
 use Rattle.layer_core.specs.LayerTrees.{LayerState, IsTreeOf}
 use Rattle.layer_core.specs.Statistics.{stats_of}

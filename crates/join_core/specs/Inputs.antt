@@ -3,11 +3,11 @@ use Rattle.std.specs.Prelude.{◌≢◌, ⊤, ℕ, List, Option, Result, Err, If
 use Rattle.wkt_core.specs.declared.scale.Scale.{Scale}
 use Rattle.layer_core.specs.declared.fault.LayerFault.{LayerFault}
 use Rattle.layer_core.specs.declared.fault.LayerFault.TheVariants as layer_faults
-use Rattle.layer_core.specs.declared.read_fault.ReadFault.{ReadFault}
-use Rattle.layer_core.specs.declared.read_fault.ReadFault.TheVariants as read_faults
+use Rattle.file_core.specs.declared.read_fault.ReadFault.{ReadFault}
+use Rattle.file_core.specs.declared.read_fault.ReadFault.TheVariants as read_faults
 use Rattle.layer_core.specs.Layers.{Contents}
-use Rattle.layer_core.specs.LayerFiles.{IsLayerFile}
-use Rattle.layer_core.specs.LayerTrees.{LayerState, list_read}
+use Rattle.file_core.specs.LayerFiles.{IsLayerFile, list_read}
+use Rattle.layer_core.specs.LayerTrees.{LayerState}
 use Rattle.join_core.specs.declared.fault.RunFault.{RunFault}
 use Rattle.join_core.specs.declared.fault.RunFault.TheVariants.{Read, Edit, TooManyToDraw}
 

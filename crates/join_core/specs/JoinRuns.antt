@@ -3,10 +3,10 @@ use Rattle.std.specs.Prelude.{◌≡◌, ⊤, ℕ, List, [], Option, Some, None,
 use Rattle.geom_core.specs.declared.relation.Relation.{Relation}
 use Rattle.wkt_core.specs.declared.scale.Scale.{Scale}
 use Rattle.layer_core.specs.declared.fault.LayerFault.{LayerFault}
-use Rattle.layer_core.specs.declared.read_fault.ReadFault.{ReadFault}
+use Rattle.file_core.specs.declared.read_fault.ReadFault.{ReadFault}
 use Rattle.layer_core.specs.Layers.{Contents}
 use Rattle.layer_core.specs.Edits.{EditContent, Layers, both, edits_give}
-use Rattle.layer_core.specs.EditFiles.{IsEditFile}
+use Rattle.file_core.specs.EditFiles.{IsEditFile}
 use Rattle.worker_core.specs.Faults.{IsWant}
 use Rattle.join_core.specs.declared.fault.Input.TheVariants.{Left, Right, Edits}
 use Rattle.join_core.specs.declared.fault.RunFault.{RunFault}

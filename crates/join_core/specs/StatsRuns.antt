@@ -1,7 +1,7 @@
 -- What counting the features of a file gives.
 use Rattle.std.specs.Prelude.{⊤, ℕ, List, Option, Result, Ok, Err}
 use Rattle.wkt_core.specs.declared.scale.Scale.{Scale}
-use Rattle.layer_core.specs.declared.read_fault.ReadFault.{ReadFault}
+use Rattle.file_core.specs.declared.read_fault.ReadFault.{ReadFault}
 use Rattle.layer_core.specs.LayerTrees.{LayerState, IsTreeOf}
 use Rattle.layer_core.specs.Statistics.{stats_of}
 use Rattle.join_core.specs.declared.fault.Input.TheVariants as input

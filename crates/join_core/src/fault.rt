@@ -3,7 +3,8 @@
 ghost use Rattle.std.specs.Prelude.{◌≡◌};
 ghost use Rattle.join_core.specs.declared.fault.RunFault.TheVariants as run_faults;
 
-use layer_core::{LayerFault, ReadFault};
+use file_core::ReadFault;
+use layer_core::LayerFault;
 use output_core::WriteFailed;
 use std::alloc::AllocError;
 use wkt_core::WktFault;

@@ -3,14 +3,14 @@
 ghost use Rattle.std.specs.Prelude.{◌≡◌, ◌+◌, ◌≤◌, ◌↔◌, ◌++◌, false, length, IsTrue, IsErr, OnOk};
 ghost use Rattle.std.specs.Prelude.{OnErr};
 ghost use Rattle.std.specs.Io.KnownBytes.{Appends};
-ghost use Rattle.layer_core.specs.FaultTexts.{read_text, row_text};
+ghost use Rattle.file_core.specs.FaultTexts.{read_text, row_text};
 ghost use Rattle.worker_core.specs.Faults.{join_text};
 ghost use Rattle.join_core.specs.FaultTexts.{run_text};
 ghost use Rattle.join_core.specs.Lines.{run_line};
 ghost use Rattle.output_core.specs.Written.{AppendsPrefix};
 
 use crate::fault::RunFault;
-use layer_core::ReadFault;
+use file_core::ReadFault;
 use output_core::{Line, ROOM, Sink, WriteFailed};
 use std::error::Error;
 use std::fmt;

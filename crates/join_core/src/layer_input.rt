@@ -1,11 +1,12 @@
 //! The layer that an input is read as.
 
 ghost use Rattle.std.specs.Prelude.{◌≡◌, ◌↔◌, Ok, Err, false, IsTrue, IfOk, IfErr, IsErrOf};
-ghost use Rattle.layer_core.specs.declared.read_fault.ReadFault.{ReadFault};
+ghost use Rattle.file_core.specs.declared.read_fault.ReadFault.{ReadFault};
 ghost use Rattle.join_core.specs.Inputs.{LayerFile, BlamesBytes};
 
 use crate::fault::{Input, RunFault};
-use layer_core::{Layer, ReadFault, Source, read_layer};
+use file_core::{ReadFault, Source, read_layer};
+use layer_core::Layer;
 use std::alloc::Global;
 use std::hash::RandomState;
 use wkt_core::Scale;

@@ -2,7 +2,7 @@
 
 ghost use Rattle.std.specs.Prelude.{◌≡◌, ◌≢◌, ◌↔◌, ◌+◌, ◌≤◌, ◌++◌, Err, false, length, IsTrue};
 ghost use Rattle.std.specs.Prelude.{IfOk, IfErr, IsErrOf};
-ghost use Rattle.layer_core.specs.declared.read_fault.ReadFault.{ReadFault};
+ghost use Rattle.file_core.specs.declared.read_fault.ReadFault.{ReadFault};
 ghost use Rattle.join_core.specs.declared.fault.Input.{Input};
 ghost use Rattle.join_core.specs.Inputs.{BlamesInput};
 ghost use Rattle.join_core.specs.Runs.{Ends};
@@ -11,7 +11,8 @@ ghost use Rattle.join_core.specs.StatsTexts.{count_line, stats_text};
 
 use crate::fault::{Input, RunFault};
 use crate::layer_input::read_input;
-use layer_core::{ReadFault, Source, Stats};
+use file_core::{ReadFault, Source};
+use layer_core::Stats;
 use output_core::{Line, ROOM, Sink, write_text};
 use std::alloc::Global;
 use std::hash::RandomState;

@@ -1,27 +1,18 @@
 //! Layers for tests.
 
+use file_core::{FromRead, ReadFault, read_layer};
 use geom_core::Shape;
-use layer_core::{FromRead, Layer, ReadFault, read_layer};
-use samples::Random;
+use layer_core::Layer;
+use samples::{Random, points_text, shapes_text};
 use std::alloc::Global;
-use std::fmt::Write;
 use std::hash::RandomState;
 use std::random::RandomSource;
 use std::test::Fail;
-use wkt_core::{Scale, print};
+use wkt_core::Scale;
 
 /// The scale of whole numbers.
 pub(crate) fn whole() -> Result<Scale, Fail> {
     Ok(Scale::new(0).ok_or("a scale")?)
-}
-
-/// A layer file of so many points (0, 0), (1, 0) and on.
-pub(crate) fn points_text(alloc: Global, count: u32) -> Result<String, Fail> {
-    let mut text = String::from_str(alloc, "id,wkt\n")?;
-    for x in 0..count {
-        writeln!(text, "p{x},POINT ({x} 0)")?;
-    }
-    Ok(text)
 }
 
 /// What a file with this text is read as.
@@ -41,16 +32,6 @@ pub(crate) fn layer_of<R: RandomSource + AllocGlobal>(rt: &R, text: &str) -> Res
 /// The layer of these points.
 pub(crate) fn points<R: RandomSource + AllocGlobal>(rt: &R, count: u32) -> Result<Layer, Fail> {
     layer_of(rt, points_text(rt.alloc(), count)?.as_str())
-}
-
-/// A layer file of so many shapes that look random; none where there was no memory.
-pub(crate) fn shapes_text(alloc: Global, random: &mut Random, count: u32) -> Option<String> {
-    let mut text = String::from_str(alloc, "id,wkt\n").ok()?;
-    for id in 0..count {
-        let row = print(alloc, &random.shape()?, Scale::new(0)?).ok()?;
-        writeln!(text, "f{id},\"{row}\"").ok()?;
-    }
-    Some(text)
 }
 
 fn insert(alloc: Global, layer: &mut Layer, number: u32, shape: Shape) -> Option<()> {

@@ -1,33 +1,11 @@
-//! Tests of the join library, from outside: worked examples, and devices that fail.
+//! Tests of joins of two layers, from outside: their pairs and marks, workers and options.
 #![tactic(auto)]
 
 #[cfg(test)]
-mod broken;
-#[cfg(test)]
-mod device;
-#[cfg(test)]
-mod drawing;
-#[cfg(test)]
-mod example;
-#[cfg(test)]
-mod fault_lines;
-#[cfg(test)]
 mod join_scan;
-#[cfg(test)]
-mod joining;
-#[cfg(test)]
-mod layer_runs;
 #[cfg(test)]
 mod layers;
 #[cfg(test)]
 mod options;
-#[cfg(test)]
-mod refused;
-#[cfg(test)]
-mod relating;
-#[cfg(test)]
-mod running;
-#[cfg(test)]
-mod thousand_joins;
 #[cfg(test)]
 mod workers;

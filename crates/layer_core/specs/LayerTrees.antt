@@ -1,10 +1,9 @@
 -- The tree of a layer, which holds exactly its features.
-use Rattle.std.specs.Prelude.{List, Option, map, Result, Ok, Err}
+use Rattle.std.specs.Prelude.{List, Option, map}
 use Rattle.rtree_core.specs.declared.node.Entry.{Entry}
 use Rattle.rtree_core.specs.declared.node.Node.{Node}
 use Rattle.rtree_core.specs.Collections.{HasSame}
 use Rattle.rtree_core.specs.Trees.{entries_in, IsTree}
-use Rattle.layer_core.specs.declared.read_fault.ReadFault.{ReadFault}
 use Rattle.layer_core.specs.Layers.{Feature, Contents}
 
 -- what is seen of a layer: the list of its features, and the root of its tree
@@ -29,8 +28,3 @@ HoldsExactly layer root = HasSame (entries_for layer) (entries_in root)
 pub record IsTreeOf (layer : Contents) (root : Option Node) : Type 0 where
   pub lawful : IsTree root
   pub same : HoldsExactly layer root
-
--- the list of a layer that was read, or why none was
-abbrev pub list_read : Result LayerState ReadFault → Result Contents ReadFault
-list_read (Ok layer) = Ok layer.list
-list_read (Err fault) = Err fault

@@ -46,8 +46,8 @@ impl Model for Layer {
     ghost invariant = { λ layer. HoldsExactly layer.features.list layer.tree };
 }
 
-/// Whether an id has 1 to [`MAX_ID_BYTES`] bytes.
-pub(crate) fn is_id(id: &str) -> bool
+/// Whether a text has 1 to [`MAX_ID_BYTES`] bytes, as an id has.
+pub fn is_id(id: &str) -> bool
     ensures { result ≡ is_id id.now }
 {
     !id.is_empty() && id.len() <= MAX_ID_BYTES

@@ -11,6 +11,7 @@ mod mixed;
 mod refused_memory;
 mod stats;
 
+use file_core::*;
 use geom_core::Shape;
 use layer_core::*;
 use std::alloc::{AllocError, AllocGlobal, Global};

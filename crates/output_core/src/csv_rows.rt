@@ -14,7 +14,10 @@ pub fn new_rows(alloc: Global) -> Writer<Vec<u8>>
     Writer::from_writer(Vec::new(alloc))
 }
 
-/// Writes a row. A writer over memory fails only for want of memory.
+/// Writes a row behind those that the writer has written, with quotes where a field needs them.
+///
+/// # Errors
+/// Only want of memory: a writer over memory fails for nothing else.
 pub fn push_row(writer: &mut Writer<Vec<u8>>, row: &[&[u8]]) -> Result<(), AllocError>
     ensures { OnOk result (AddsRow writer.old writer.new (map (λ field. field.now) row.now)) }
 {
@@ -24,7 +27,10 @@ pub fn push_row(writer: &mut Writer<Vec<u8>>, row: &[&[u8]]) -> Result<(), Alloc
     }
 }
 
-/// The text of the rows.
+/// The text of the rows that the writer has written, each with a line feed.
+///
+/// # Errors
+/// Only want of memory.
 pub fn rows_text(writer: Writer<Vec<u8>>) -> Result<Vec<u8>, AllocError>
     ensures { IfOk result (λ text. (rows : List (List (List ℕ))) → HasRows writer rows
         → text.items ≡ csv_text rows) }

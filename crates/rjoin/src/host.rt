@@ -1,7 +1,7 @@
 //! The files of the host.
 
-use crate::inputs::{Inputs, NotOpened, STANDARD_INPUT};
-use layer_core::FromRead;
+use command_core::{Inputs, NotOpened, STANDARD_INPUT};
+use file_core::FromRead;
 use std::io::{Input, Read};
 use std::rt::Files;
 use std::{fs, io};

@@ -2,9 +2,9 @@
 
 ghost use Rattle.std.specs.Prelude.{◌≡◌, ◌↔◌, ◌≤◌, Ok, Err, false, map, length, IsTrue, IfOk};
 ghost use Rattle.std.specs.Prelude.{IfErr, IfSome, IsErrOf, IsSomeAnd};
-ghost use Rattle.layer_core.specs.declared.read_fault.ReadFault.{ReadFault};
+ghost use Rattle.file_core.specs.declared.read_fault.ReadFault.{ReadFault};
 ghost use Rattle.layer_core.specs.Edits.{both, content_of};
-ghost use Rattle.layer_core.specs.Limits.{most_file_bytes};
+ghost use Rattle.file_core.specs.Limits.{most_file_bytes};
 ghost use Rattle.join_core.specs.declared.fault.Input.{Input};
 ghost use Rattle.join_core.specs.Inputs.{BlamesBytes, BlamesInput};
 ghost use Rattle.join_core.specs.JoinRuns.{EditFile, bytes_of, files_of, LayersGive, IsJoinFault};
@@ -14,7 +14,8 @@ use super::edits::apply_edits;
 use super::layers::read_layers;
 use super::sources::JoinSources;
 use crate::fault::{Input, RunFault};
-use layer_core::{Edit, Layer, ReadFault, Source, read_edits};
+use file_core::{ReadFault, Source, read_edits};
+use layer_core::{Edit, Layer};
 use std::alloc::Global;
 use std::hash::RandomState;
 use std::thread::Threads;

@@ -1,13 +1,14 @@
 //! The two layers that a join reads.
 
 ghost use Rattle.std.specs.Prelude.{◌≡◌, ◌↔◌, Ok, Err, false, IsTrue, IfOk, IfErr, IsErrOf};
-ghost use Rattle.layer_core.specs.declared.read_fault.ReadFault.{ReadFault};
+ghost use Rattle.file_core.specs.declared.read_fault.ReadFault.{ReadFault};
 ghost use Rattle.join_core.specs.declared.fault.Input.{Input};
 ghost use Rattle.join_core.specs.Inputs.{LayerFile, Builds};
 ghost use Rattle.join_core.specs.JoinRuns.{IsLayersFault};
 
 use crate::fault::{Input, RunFault};
-use layer_core::{Layer, ReadFault, Source, layer_of_bytes, read_all};
+use file_core::{ReadFault, Source, layer_of_bytes, read_all};
+use layer_core::Layer;
 use std::alloc::Global;
 use std::hash::RandomState;
 use std::thread;

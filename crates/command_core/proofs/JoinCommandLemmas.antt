@@ -1,0 +1,321 @@
+-- How a command ends that joins the layers of two files, after a file of edits.
+use Rattle.std.proofs.Common.{◌≡◌, ◌≢◌, ◌↔◌, ℕ, List, Option, Some, None, Bool, false, Result, Ok, Err, IsErrAnd, ◌⊎◌, inl, inr, IfErr, IfSome}
+use Rattle.std.proofs.Common.{refl, sym, subst, ◌∙◌}
+use Rattle.std.specs.Prelude.{⊤}
+use Rattle.std.specs.Borrow.{Bor}
+use Rattle.geom_core.specs.JoinRelations.{relation_of}
+use Rattle.layer_core.specs.Edits.{Layers}
+use Rattle.join_core.specs.declared.fault.Input.{Input}
+use Rattle.join_core.specs.declared.fault.Input.TheVariants.{Left, Right, Edits}
+use Rattle.join_core.specs.declared.fault.RunFault.{RunFault}
+use Rattle.join_core.specs.declared.fault.RunFault.TheVariants as run
+use Rattle.join_core.specs.DrawRuns.{DrawGives, no_layers as draw_no_layers, too_many, drawn, IsDrawFault}
+use Rattle.join_core.specs.Inputs.{BlamesInput}
+use Rattle.join_core.specs.JoinRuns.{JoinFiles, LayersGive, left_fault, right_fault, edits_fault, edit_refused, edited, JoinGives, no_layers, reported}
+use Rattle.join_core.specs.JoinRuns.{IsJoinFault}
+use Rattle.join_core.specs.Runs.{Ends}
+use Rattle.command_core.specs.declared.command.Product.{Product}
+use Rattle.command_core.specs.declared.command.Product.TheVariants.{Report, Picture}
+use Rattle.command_core.specs.declared.words.Command.{Command}
+use Rattle.command_core.specs.declared.words.Command.TheVariants.{Join, Draw}
+use Rattle.command_core.specs.declared.words.JoinRequest.{JoinRequest}
+use Rattle.command_core.specs.Commands.{AfterOpening, AfterEdits, PathsGive, CommandGives, IsCommandText, BlamesCommand, IsFoundFirst, IsFoundNext}
+use Rattle.command_core.specs.Commands.{IsFaultOf, CommandEnds, command_of}
+use Rattle.command_core.specs.Opening.{Files, IsAt, IsMissing, AreEditsAt, AreEditsMissing, AreOpened, IsFirstMissing, no_left, no_right, no_edits}
+use Rattle.command_core.proofs.CommandLemmas.{ends_as, refused_ends, input_opened, err_is}
+
+-- what `?` hands on of the first file that can't be opened
+pub missing_as : {T : Type 0} (known : Option Files) (join : JoinRequest) (result : Result T RunFault) (e f : RunFault) → IsErrAnd result (λ x. x ≡ e) → e ≡ f
+    → IsFirstMissing known join f → IfErr result (IsFirstMissing known join)
+missing_as known join (Ok x) e f h named missing = absurd h
+missing_as known join (Err x) e f h named missing = subst (IsFirstMissing known join) (sym (h ∙ named)) missing
+
+-- what follows the opening of the edits, given that they are opened
+edits_opened : (at : Files) (edits : Option (Bor (List ℕ))) (told : Option (Option (List ℕ))) (answer : Result (List ℕ) RunFault)
+    (Then : Option (Option (List ℕ)) → Type 0)
+    → AreEditsAt (Some at) edits told → Then told ↔ AfterEdits at edits answer Then
+edits_opened at None told answer Then is = ((λ h. subst Then is h), (λ h. subst Then (sym is) h))
+edits_opened at (Some path) told answer Then is =
+    let After : Option (List ℕ) → Type 0 = λ lies. AfterOpening Edits lies answer (λ bytes. Then (Some (Some bytes))) in
+    let whole : told ≡ Some (Some is.2.0) = let a : told ≡ Some is.0 = is.1 in let b : is.0 ≡ Some is.2.0 = is.2.2 in cc in (
+      (λ h. let now : After (Some is.2.0) = subst Then whole h in subst After (sym is.2.1) now),
+      (λ h. let now : After (Some is.2.0) = subst After is.2.1 h in subst Then (sym whole) now),
+    )
+
+-- what follows once the left and the right file are opened, where the file of edits can't be
+edits_refused : (at : Files) (edits : Option (Bor (List ℕ))) (answer : Result (List ℕ) RunFault) (Then : Option (Option (List ℕ)) → Type 0)
+    → AreEditsMissing (Some at) edits → (answer ≡ Err (run.NoFile Edits)) ↔ AfterEdits at edits answer Then
+edits_refused at None answer Then missing = absurd missing
+edits_refused at (Some path) answer Then missing =
+    let After : Option (List ℕ) → Type 0 = λ lies. AfterOpening Edits lies answer (λ bytes. Then (Some (Some bytes))) in
+    ((λ h. let now : After None = h in subst After (sym missing) now), (λ h. let now : After None = subst After missing h in now))
+
+blames : (f : RunFault) → IsDrawFault f → BlamesCommand f → BlamesInput f
+blames (run.NoFile i) allowed blame = absurd allowed
+blames (run.Wkt i w) allowed blame = absurd allowed
+blames f allowed blame = blame
+
+-- what a command gives is what its run gives of the files at the paths of a join
+pub record ReadsFiles (command : Command) (join : JoinRequest) (Gives : JoinFiles → Result (List ℕ) RunFault → Type 0) : Type 0 where
+  pub gives : (at : Files) (answer : Result (List ℕ) RunFault) → PathsGive Gives at join answer ↔ CommandGives at command answer
+  pub none_first : (g : RunFault) → IsFoundFirst command g → (files : JoinFiles) → Gives files (Err g) → ⊥
+  pub none_next : (g : RunFault) → IsFoundNext command g → ⊥
+  pub may_miss : (i : Input) → IsFaultOf command (run.NoFile i)
+  pub may_lack_keys : IsFaultOf command run.NoKeys
+
+module _ {S : Type 0} (known : Option Files) (written : S → Option (List ℕ)) (is_flushed has_failed : S → Bool)
+    (command : Command) (join : JoinRequest) (Gives : JoinFiles → Result (List ℕ) RunFault → Type 0) (reads : ReadsFiles command join Gives) where
+  abbrev files_at : Option (List ℕ) → Option (List ℕ) → Option (Option (List ℕ)) → JoinFiles
+  files_at l r e = record { scale = join.scale; left = l; right = r; edits = e }
+
+  -- what follows once the left file is opened
+  abbrev AfterLeft : Files → Result (List ℕ) RunFault → Option (List ℕ) → List ℕ → Type 0
+  AfterLeft at answer lies p =
+      AfterOpening Right lies answer (λ q. AfterEdits at join.edits_path answer (λ d. Gives (files_at (Some p) (Some q) d) answer))
+
+  -- once all are opened, the command gives what its run gives of their bytes
+  opened : (at : Files) (l r : Option (List ℕ)) (e : Option (Option (List ℕ))) (answer : Result (List ℕ) RunFault) → AreOpened (Some at) join l r e
+      → Gives (files_at l r e) answer ↔ CommandGives at command answer
+  opened at l r e answer is =
+      let is_l = is.at_left in
+      let is_r = is.at_right in
+      let Given : Option (List ℕ) → Option (List ℕ) → Type 0 = λ p q. Gives (files_at p q e) answer in
+      let last = edits_opened at join.edits_path e answer (λ d. Gives (files_at (Some is_l.0) (Some is_r.0) d) answer) is.at_edits in
+      let second = input_opened (at join.right_path.now) is_r.0 Right answer
+      (λ q. AfterEdits at join.edits_path answer (λ d. Gives (files_at (Some is_l.0) (Some q) d) answer)) is_r.1 in
+      let first = input_opened (at join.left_path.now) is_l.0 Left answer (AfterLeft at answer (at join.right_path.now)) is_l.1 in (
+        (λ h. (reads.gives at answer).0 (first.0 (second.0 (last.0 (subst (λ (q : Option (List ℕ)). Given (Some is_l.0) q) is_r.2
+            (subst (λ (p : Option (List ℕ)). Given p r) is_l.2 h)))))),
+        (λ h. subst (λ (p : Option (List ℕ)). Given p r) (sym is_l.2) (subst (λ (q : Option (List ℕ)). Given (Some is_l.0) q) (sym is_r.2)
+            (last.1 (second.1 (first.1 ((reads.gives at answer).1 h)))))),
+      )
+
+  -- the command gives this fault and nothing else
+  abbrev GivesOnly : Option Files → RunFault → Type 0
+  GivesOnly known f = IfSome known (λ at. (answer : Result (List ℕ) RunFault) → (answer ≡ Err f) ↔ CommandGives at command answer)
+
+  left_missing : (known : Option Files) → IsMissing known join.left_path.now → GivesOnly known (run.NoFile Left)
+  left_missing None missing = tt
+  left_missing (Some at) missing = λ answer.
+      let After : Option (List ℕ) → Type 0 = λ lies. AfterOpening Left lies answer (AfterLeft at answer (at join.right_path.now)) in (
+        (λ h. (reads.gives at answer).0 (let now : After None = h in subst After (sym missing) now)),
+        (λ h. let now : After None = subst After missing ((reads.gives at answer).1 h) in now),
+      )
+
+  right_missing : (known : Option Files) (l : Option (List ℕ)) → IsAt known join.left_path.now l → IsMissing known join.right_path.now
+      → GivesOnly known (run.NoFile Right)
+  right_missing None l is_l missing = tt
+  right_missing (Some at) l is_l missing = λ answer.
+      let After : Option (List ℕ) → Type 0 = λ lies. AfterLeft at answer lies is_l.0 in
+      let first = input_opened (at join.left_path.now) is_l.0 Left answer (AfterLeft at answer (at join.right_path.now)) is_l.1 in (
+        (λ h. (reads.gives at answer).0 (first.0 (let now : After None = h in subst After (sym missing) now))),
+        (λ h. let now : After None = subst After missing (first.1 ((reads.gives at answer).1 h)) in now),
+      )
+
+  edits_missing : (known : Option Files) (l r : Option (List ℕ)) → IsAt known join.left_path.now l → IsAt known join.right_path.now r
+      → AreEditsMissing known join.edits_path → GivesOnly known (run.NoFile Edits)
+  edits_missing None l r is_l is_r missing = tt
+  edits_missing (Some at) l r is_l is_r missing = λ answer.
+      let last = edits_refused at join.edits_path answer (λ d. Gives (files_at (Some is_l.0) (Some is_r.0) d) answer) missing in
+      let second = input_opened (at join.right_path.now) is_r.0 Right answer
+      (λ q. AfterEdits at join.edits_path answer (λ d. Gives (files_at (Some is_l.0) (Some q) d) answer)) is_r.1 in
+      let first = input_opened (at join.left_path.now) is_l.0 Left answer (AfterLeft at answer (at join.right_path.now)) is_l.1 in
+      ((λ h. (reads.gives at answer).0 (first.0 (second.0 (last.0 h)))), (λ h. last.1 (second.1 (first.1 ((reads.gives at answer).1 h)))))
+
+  that_fault : (known : Option Files) (f : RunFault) → GivesOnly known f
+      → IfSome known (λ at. CommandGives at command (Err f) ⊎ (BlamesCommand f → ⊥))
+  that_fault None f only = tt
+  that_fault (Some at) f only = inl ((only (Err f)).0 refl)
+
+  no_other : (known : Option Files) (f : RunFault) → GivesOnly known f → (g : RunFault) → IfSome known (λ at. CommandGives at command (Err g) → g ≡ f)
+  no_other None f only g = tt
+  no_other (Some at) f only g = λ gives. err_is g f ((only (Err g)).1 gives)
+
+  refused_by : {T : Type 0} (sink : S) (result : Result T RunFault) (i : Input) → GivesOnly known (run.NoFile i) → has_failed sink ≡ false
+      → IsErrAnd result (λ x. x ≡ run.NoFile i) → CommandEnds known written is_flushed has_failed command sink sink result
+  refused_by sink result i only fresh h =
+      refused_ends known written is_flushed has_failed command sink result (run.NoFile i) fresh h (λ e. absurd cc) (that_fault known (run.NoFile i) only)
+      (λ g found. no_other known (run.NoFile i) only g) (λ g found keys. no_other known (run.NoFile i) only g) (reads.may_miss i)
+
+  -- a file can't be opened
+  pub not_opened : {T : Type 0} (sink : S) (result : Result T RunFault) (f : RunFault) → IsFirstMissing known join f → has_failed sink ≡ false
+      → IsErrAnd result (λ x. x ≡ f) → CommandEnds known written is_flushed has_failed command sink sink result
+  not_opened sink result f (no_left missing) fresh h = refused_by sink result Left (left_missing known missing) fresh h
+  not_opened sink result f (no_right l is_l missing) fresh h = refused_by sink result Right (right_missing known l is_l missing) fresh h
+  not_opened sink result f (no_edits l r is_l is_r missing) fresh h =
+      refused_by sink result Edits (edits_missing known l r is_l is_r missing) fresh h
+
+  no_keys_given : (known : Option Files) → IfSome known (λ at. CommandGives at command (Err run.NoKeys) ⊎ (BlamesCommand run.NoKeys → ⊥))
+  no_keys_given None = tt
+  no_keys_given (Some at) = inr (λ blame. blame)
+
+  none_found : (known : Option Files) (l r : Option (List ℕ)) (e : Option (Option (List ℕ))) → AreOpened known join l r e → (g f : RunFault)
+      → IsFoundFirst command g → IfSome known (λ at. CommandGives at command (Err g) → g ≡ f)
+  none_found None l r e is g f found = tt
+  none_found (Some at) l r e is g f found = λ gives. absurd (reads.none_first g found (files_at l r e) ((opened at l r e (Err g) is).1 gives))
+
+  -- the system gives no keys
+  pub without_keys : {T : Type 0} (sink : S) (result : Result T RunFault) (f : RunFault) (l r : Option (List ℕ)) (e : Option (Option (List ℕ)))
+      → has_failed sink ≡ false → IsErrAnd result (λ x. x ≡ f) → f ≡ run.NoKeys → AreOpened known join l r e
+      → CommandEnds known written is_flushed has_failed command sink sink result
+  without_keys sink result f l r e fresh h named is =
+      refused_ends known written is_flushed has_failed command sink result run.NoKeys fresh
+      (subst (λ (x : RunFault). IsErrAnd result (λ y. y ≡ x)) named h) (λ w. absurd cc) (no_keys_given known)
+      (λ g found. none_found known l r e is g run.NoKeys found) (λ g found keys. absurd (reads.none_next g found)) reads.may_lack_keys
+
+  text_as : (known : Option Files) (l r : Option (List ℕ)) (e : Option (Option (List ℕ))) → AreOpened known join l r e → (text : List ℕ)
+      → Gives (files_at l r e) (Ok text) → IsCommandText known command text
+  text_as None l r e is text h = tt
+  text_as (Some at) l r e is text h = (opened at l r e (Ok text) is).0 h
+
+  blamed_as : {T : Type 0} (known : Option Files) (l r : Option (List ℕ)) (e : Option (Option (List ℕ))) → AreOpened known join l r e
+      → (result : Result T RunFault) → IfErr result (λ f. BlamesInput f → Gives (files_at l r e) (Err f))
+      → IfErr result (λ f. f ≢ run.Write → IsDrawFault f) → IfErr result (λ f. BlamesCommand f → IfSome known (λ at. CommandGives at command (Err f)))
+  blamed_as known l r e is (Ok x) fault faults = tt
+  blamed_as None l r e is (Err f) fault faults = λ blame. tt
+  blamed_as (Some at) l r e is (Err f) fault faults = λ blame.
+      (opened at l r e (Err f) is).0 (fault (blames f (faults (λ w. subst BlamesCommand w blame)) blame))
+
+  first_as : {T : Type 0} (known : Option Files) (l r : Option (List ℕ)) (e : Option (Option (List ℕ))) → AreOpened known join l r e
+      → (result : Result T RunFault) (f : RunFault) → IsFoundFirst command f → IfSome known (λ at. CommandGives at command (Err f) → result ≡ Err f)
+  first_as None l r e is result f found = tt
+  first_as (Some at) l r e is result f found = λ gives. absurd (reads.none_first f found (files_at l r e) ((opened at l r e (Err f) is).1 gives))
+
+  -- all files were opened, and the run made
+  files_ran : {T : Type 0} (l r : Option (List ℕ)) (e : Option (Option (List ℕ))) (old new : S) (result : Result T RunFault) → AreOpened known join l r e
+      → Ends (λ text. Gives (files_at l r e) (Ok text)) written is_flushed has_failed old new result
+      → IfErr result (λ f. BlamesInput f → Gives (files_at l r e) (Err f))
+      → IfErr result (λ f. f ≢ run.Write → IsDrawFault f) → IfErr result (λ f. f ≢ run.Write → IsFaultOf command f)
+      → CommandEnds known written is_flushed has_failed command old new result
+  files_ran l r e old new result is ends fault faults allowed = record {
+    writes = ends_as _ _ written is_flushed has_failed old new result (text_as known l r e is) ends;
+    fault = blamed_as known l r e is result fault faults;
+    first = first_as known l r e is result;
+    next = λ f nothing. absurd (reads.none_next f nothing);
+    faults = allowed;
+  }
+
+-- ---- what a join and a picture give
+
+-- a fault of reading or editing layers
+abbrev IsOfLayers : RunFault → Type 0
+IsOfLayers (run.Read i f) = ⊤
+IsOfLayers (run.Edit row f) = ⊤
+IsOfLayers _ = ⊥
+
+layers_fault : (files : JoinFiles) (answer : Result Layers RunFault) (g : RunFault) → LayersGive files answer → answer ≡ Err g → IsOfLayers g
+layers_fault files answer g (left_fault f a) is = subst IsOfLayers (let same : run.Read Left f ≡ g = cc in same) tt
+layers_fault files answer g (right_fault l f a b) is = subst IsOfLayers (let same : run.Read Right f ≡ g = cc in same) tt
+layers_fault files answer g (edits_fault l r f a b d) is = subst IsOfLayers (let same : run.Read Edits f ≡ g = cc in same) tt
+layers_fault files answer g (edit_refused l r es row f a b d e) is = subst IsOfLayers (let same : run.Edit row f ≡ g = cc in same) tt
+layers_fault files answer g (edited l r es layers a b d e) is = absurd cc
+
+-- ---- a report
+
+join_not_first : (join : JoinRequest) (g : RunFault) → IsFoundFirst (Join join) g → IsOfLayers g → ⊥
+join_not_first join (run.Read i f) first is = first
+join_not_first join (run.Edit row f) first is = first
+join_not_first join g first is = is
+
+join_none_first : (join : JoinRequest) (g : RunFault) → IsFoundFirst (Join join) g → (files : JoinFiles)
+    → JoinGives (relation_of join.relation) files (Err g) → ⊥
+join_none_first join g found files gives = by (Err g) gives refl
+  where
+    by : (answer : Result (List ℕ) RunFault) → JoinGives (relation_of join.relation) files answer → answer ≡ Err g → ⊥
+    by answer (no_layers f given) is = join_not_first join g found (layers_fault files (Err f) g given (let same : f ≡ g = cc in cc))
+    by answer (reported layers pairs text a b d) is = cc
+
+pub join_reads : (join : JoinRequest) → ReadsFiles (Join join) join (JoinGives (relation_of join.relation))
+join_reads join = record {
+  gives = λ at answer. ((λ h. h), (λ h. h));
+  none_first = join_none_first join;
+  none_next = λ g nothing. nothing;
+  may_miss = λ i. tt;
+  may_lack_keys = tt;
+}
+
+join_is_draw : (f : RunFault) → IsJoinFault f → IsDrawFault f
+join_is_draw run.TooManyToDraw is = tt
+join_is_draw f is = is
+
+joins_draw : {T : Type 0} (result : Result T RunFault) → IfErr result (λ f. f ≢ run.Write → IsJoinFault f) → IfErr result (λ f. f ≢ run.Write → IsDrawFault f)
+joins_draw (Ok x) faults = tt
+joins_draw (Err f) faults = λ w. join_is_draw f (faults w)
+
+join_allows : (join : JoinRequest) (f : RunFault) → IsJoinFault f → IsFaultOf (Join join) f
+join_allows join (run.NoFile i) is = tt
+join_allows join run.NoKeys is = tt
+join_allows join f is = is
+
+join_allowed : {T : Type 0} (join : JoinRequest) (result : Result T RunFault) → IfErr result (λ f. f ≢ run.Write → IsJoinFault f)
+    → IfErr result (λ f. f ≢ run.Write → IsFaultOf (Join join) f)
+join_allowed join (Ok x) faults = tt
+join_allowed join (Err f) faults = λ w. join_allows join f (faults w)
+
+module _ {T S : Type 0} (known : Option Files) (written : S → Option (List ℕ)) (is_flushed has_failed : S → Bool) (join : JoinRequest)
+    (l r : Option (List ℕ)) (e : Option (Option (List ℕ))) (old new : S) (result : Result T RunFault) where
+  pub join_ran : AreOpened known join l r e
+      → Ends (λ text. JoinGives (relation_of join.relation) (record { scale = join.scale; left = l; right = r; edits = e }) (Ok text))
+      written is_flushed has_failed old new result
+      → IfErr result (λ f. BlamesInput f → JoinGives (relation_of join.relation) (record { scale = join.scale; left = l; right = r; edits = e }) (Err f))
+      → IfErr result (λ f. f ≢ run.Write → IsJoinFault f) → CommandEnds known written is_flushed has_failed (Join join) old new result
+  join_ran is ends fault faults =
+      files_ran known written is_flushed has_failed (Join join) join (JoinGives (relation_of join.relation)) (join_reads join) l r e old new result is ends
+      fault (joins_draw result faults) (join_allowed join result faults)
+
+-- ---- a picture
+
+draw_not_first : (join : JoinRequest) (g : RunFault) → IsFoundFirst (Draw join) g → IsOfLayers g → ⊥
+draw_not_first join (run.Read i f) first is = first
+draw_not_first join (run.Edit row f) first is = first
+draw_not_first join g first is = is
+
+draw_none_first : (join : JoinRequest) (g : RunFault) → IsFoundFirst (Draw join) g → (files : JoinFiles)
+    → DrawGives (relation_of join.relation) files (Err g) → ⊥
+draw_none_first join g found files gives = by (Err g) gives refl
+  where
+    by : (answer : Result (List ℕ) RunFault) → DrawGives (relation_of join.relation) files answer → answer ≡ Err g → ⊥
+    by answer (draw_no_layers f given) is = draw_not_first join g found (layers_fault files (Err f) g given (let same : f ≡ g = cc in cc))
+    by answer (too_many layers a b) is = subst (IsFoundFirst (Draw join)) (let same : g ≡ run.TooManyToDraw = cc in same) found
+    by answer (drawn layers pairs a b d) is = cc
+
+pub draw_reads : (join : JoinRequest) → ReadsFiles (Draw join) join (DrawGives (relation_of join.relation))
+draw_reads join = record {
+  gives = λ at answer. ((λ h. h), (λ h. h));
+  none_first = draw_none_first join;
+  none_next = λ g nothing. nothing;
+  may_miss = λ i. tt;
+  may_lack_keys = tt;
+}
+
+draw_allows : (join : JoinRequest) (f : RunFault) → IsDrawFault f → IsFaultOf (Draw join) f
+draw_allows join (run.NoFile i) is = tt
+draw_allows join run.NoKeys is = tt
+draw_allows join f is = is
+
+draw_allowed : {T : Type 0} (join : JoinRequest) (result : Result T RunFault) → IfErr result (λ f. f ≢ run.Write → IsDrawFault f)
+    → IfErr result (λ f. f ≢ run.Write → IsFaultOf (Draw join) f)
+draw_allowed join (Ok x) faults = tt
+draw_allowed join (Err f) faults = λ w. draw_allows join f (faults w)
+
+module _ {T S : Type 0} (known : Option Files) (written : S → Option (List ℕ)) (is_flushed has_failed : S → Bool) (join : JoinRequest)
+    (l r : Option (List ℕ)) (e : Option (Option (List ℕ))) (old new : S) (result : Result T RunFault) where
+  pub draw_ran : AreOpened known join l r e
+      → Ends (λ text. DrawGives (relation_of join.relation) (record { scale = join.scale; left = l; right = r; edits = e }) (Ok text))
+      written is_flushed has_failed old new result
+      → IfErr result (λ f. BlamesInput f → DrawGives (relation_of join.relation) (record { scale = join.scale; left = l; right = r; edits = e }) (Err f))
+      → IfErr result (λ f. f ≢ run.Write → IsDrawFault f) → CommandEnds known written is_flushed has_failed (Draw join) old new result
+  draw_ran is ends fault faults =
+      files_ran known written is_flushed has_failed (Draw join) join (DrawGives (relation_of join.relation)) (draw_reads join) l r e old new result is ends
+      fault faults (draw_allowed join result faults)
+
+-- ---- either
+
+-- what is given of the files of a join
+abbrev pub ProductGives : Product → JoinRequest → JoinFiles → Result (List ℕ) RunFault → Type 0
+ProductGives Report join = JoinGives (relation_of join.relation)
+ProductGives Picture join = DrawGives (relation_of join.relation)
+
+pub product_reads : (product : Product) (join : JoinRequest) → ReadsFiles (command_of product join) join (ProductGives product join)
+product_reads Report join = join_reads join
+product_reads Picture join = draw_reads join

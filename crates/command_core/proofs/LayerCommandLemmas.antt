@@ -1,0 +1,259 @@
+-- How a command ends that reads one layer.
+use Rattle.std.proofs.Common.{◌≡◌, ◌≢◌, ◌↔◌, ℕ, List, Option, Some, None, Bool, Result, Ok, Err, IsErrAnd, ◌⊎◌, inl, inr, IfErr, IfSome, false, refl, sym}
+use Rattle.std.proofs.Common.{subst}
+use Rattle.std.specs.Borrow.{Bor}
+use Rattle.wkt_core.specs.declared.fault.WktFault.{WktFault}
+use Rattle.wkt_core.specs.declared.scale.Scale.{Scale}
+use Rattle.join_core.specs.declared.fault.Input.{Input}
+use Rattle.join_core.specs.declared.fault.Input.TheVariants as input
+use Rattle.join_core.specs.declared.fault.RunFault.{RunFault}
+use Rattle.join_core.specs.declared.fault.RunFault.TheVariants as run
+use Rattle.join_core.specs.Inputs.{BlamesInput}
+use Rattle.join_core.specs.Runs.{Ends}
+use Rattle.join_core.specs.StatsRuns.{StatsGives, layer_fault as stats_fault, counted, IsStatsFault}
+use Rattle.join_core.specs.WindowRuns.{WindowGives, text_fault, layer_fault as window_layer_fault, listed, IsWindowFault, HasWindowFault}
+use Rattle.command_core.specs.declared.words.Command.{Command}
+use Rattle.command_core.specs.declared.words.Command.TheVariants.{Window, Stats}
+use Rattle.command_core.specs.Commands.{AfterOpening, CommandGives, IsCommandText, BlamesCommand, IsFoundFirst, IsFoundNext, IsFaultOf, CommandEnds}
+use Rattle.command_core.specs.Opening.{Files, IsAt, IsMissing}
+use Rattle.command_core.proofs.CommandLemmas.{ends_as, refused_ends, input_opened, err_is}
+
+-- what a command gives is what its run gives of the file at this path
+pub record ReadsOne (command : Command) (path : List ℕ) (Gives : Option (List ℕ) → Result (List ℕ) RunFault → Type 0) : Type 0 where
+  pub gives : (at : Files) (answer : Result (List ℕ) RunFault) →
+      AfterOpening input.Layer (at path) answer (λ l. Gives (Some l) answer) ↔ CommandGives at command answer
+  pub may_miss : IsFaultOf command (run.NoFile input.Layer)
+  pub may_lack_keys : IsFaultOf command run.NoKeys
+
+module _ {S : Type 0} (known : Option Files) (written : S → Option (List ℕ)) (is_flushed has_failed : S → Bool)
+    (command : Command) (path : List ℕ) (Gives : Option (List ℕ) → Result (List ℕ) RunFault → Type 0) (one : ReadsOne command path Gives) where
+  -- an opened file gives what its bytes give
+  opened : (at : Files) (l : Option (List ℕ)) (answer : Result (List ℕ) RunFault) → IsAt (Some at) path l → Gives l answer ↔ CommandGives at command answer
+  opened at l answer is =
+      let After = input_opened (at path) is.0 input.Layer answer (λ p. Gives (Some p) answer) is.1 in
+      let Told : Option (List ℕ) → Type 0 = λ o. Gives o answer in (
+        (λ h. (one.gives at answer).0 (After.0 (subst Told is.2 h))),
+        (λ h. subst Told (sym is.2) (After.1 ((one.gives at answer).1 h))),
+      )
+
+  only_missing : (known : Option Files) → IsMissing known path → (g : RunFault)
+      → IfSome known (λ at. CommandGives at command (Err g) → g ≡ run.NoFile input.Layer)
+  only_missing None missing g = tt
+  only_missing (Some at) missing g = λ given.
+      let After : Option (List ℕ) → Type 0 = λ lies. AfterOpening input.Layer lies (Err g) (λ l. Gives (Some l) (Err g)) in
+      err_is g (run.NoFile input.Layer) (subst After missing ((one.gives at (Err g)).1 given))
+
+  is_missing : (known : Option Files) → IsMissing known path
+      → IfSome known (λ at. CommandGives at command (Err (run.NoFile input.Layer)) ⊎ (BlamesCommand (run.NoFile input.Layer) → ⊥))
+  is_missing None missing = tt
+  is_missing (Some at) missing =
+      let fault : Result (List ℕ) RunFault = Err (run.NoFile input.Layer) in
+      let After : Option (List ℕ) → Type 0 = λ lies. AfterOpening input.Layer lies fault (λ l. Gives (Some l) fault) in
+      inl ((one.gives at fault).0 (subst After (sym missing) refl))
+
+  -- nothing lies at the path
+  pub layer_missing : {T : Type 0} (sink : S) (result : Result T RunFault) (f : RunFault) → has_failed sink ≡ false → IsErrAnd result (λ x. x ≡ f)
+      → f ≡ run.NoFile input.Layer → IsMissing known path → CommandEnds known written is_flushed has_failed command sink sink result
+  layer_missing sink result f fresh h named missing =
+      refused_ends known written is_flushed has_failed command sink result (run.NoFile input.Layer) fresh
+      (subst (λ (x : RunFault). IsErrAnd result (λ y. y ≡ x)) named h) (λ e. absurd cc) (is_missing known missing)
+      (λ g found. only_missing known missing g) (λ g found keys. only_missing known missing g) one.may_miss
+
+  no_keys_given : (known : Option Files) → IfSome known (λ at. CommandGives at command (Err run.NoKeys) ⊎ (BlamesCommand run.NoKeys → ⊥))
+  no_keys_given None = tt
+  no_keys_given (Some at) = inr (λ blame. blame)
+
+  none_first : (known : Option Files) (l : Option (List ℕ)) → IsAt known path l → ((g : RunFault) → IsFoundFirst command g → Gives l (Err g) → ⊥)
+      → (g f : RunFault) → IsFoundFirst command g → IfSome known (λ at. CommandGives at command (Err g) → g ≡ f)
+  none_first None l is none g f found = tt
+  none_first (Some at) l is none g f found = λ given. absurd (none g found ((opened at l (Err g) is).1 given))
+
+  none_next : (known : Option Files) (g : RunFault) → (run.NoKeys ≢ run.NoKeys) → IfSome known (λ at. CommandGives at command (Err g) → g ≡ run.NoKeys)
+  none_next None g keys = tt
+  none_next (Some at) g keys = λ given. absurd (keys refl)
+
+  -- the system gives no keys
+  pub layer_without_keys : {T : Type 0} (sink : S) (result : Result T RunFault) (f : RunFault) (l : Option (List ℕ)) → has_failed sink ≡ false
+      → IsErrAnd result (λ x. x ≡ f) → f ≡ run.NoKeys → IsAt known path l → ((g : RunFault) → IsFoundFirst command g → Gives l (Err g) → ⊥)
+      → CommandEnds known written is_flushed has_failed command sink sink result
+  layer_without_keys sink result f l fresh h named is none =
+      refused_ends known written is_flushed has_failed command sink result run.NoKeys fresh
+      (subst (λ (x : RunFault). IsErrAnd result (λ y. y ≡ x)) named h) (λ e. absurd cc) (no_keys_given known)
+      (λ g found. none_first known l is none g run.NoKeys found) (λ g found keys. none_next known g keys) one.may_lack_keys
+
+  text_as : (known : Option Files) (l : Option (List ℕ)) → IsAt known path l → (text : List ℕ) → Gives l (Ok text) → IsCommandText known command text
+  text_as None l is text h = tt
+  text_as (Some at) l is text h = (opened at l (Ok text) is).0 h
+
+  blamed_as : {T : Type 0} (known : Option Files) (l : Option (List ℕ)) → IsAt known path l → (result : Result T RunFault)
+      → IfErr result (λ f. BlamesCommand f → Gives l (Err f))
+      → IfErr result (λ f. BlamesCommand f → IfSome known (λ at. CommandGives at command (Err f)))
+  blamed_as known l is (Ok x) fault = tt
+  blamed_as None l is (Err f) fault = λ blame. tt
+  blamed_as (Some at) l is (Err f) fault = λ blame. (opened at l (Err f) is).0 (fault blame)
+
+  first_as : {T : Type 0} (known : Option Files) (l : Option (List ℕ)) (result : Result T RunFault) → IsAt known path l
+      → ((g : RunFault) → IsFoundFirst command g → Gives l (Err g) → ⊥) → (f : RunFault) → IsFoundFirst command f
+      → IfSome known (λ at. CommandGives at command (Err f) → result ≡ Err f)
+  first_as None l result is none f found = tt
+  first_as (Some at) l result is none f found = λ given. absurd (none f found ((opened at l (Err f) is).1 given))
+
+  next_as : {T : Type 0} (known : Option Files) (l : Option (List ℕ)) (result : Result T RunFault) → IsAt known path l
+      → ((g : RunFault) → IsFoundNext command g → Gives l (Err g) → result ≡ Err g) → (f : RunFault) → IsFoundNext command f
+      → IfSome known (λ at. CommandGives at command (Err f) → result ≡ Err f)
+  next_as None l result is exact f found = tt
+  next_as (Some at) l result is exact f found = λ given. exact f found ((opened at l (Err f) is).1 given)
+
+  -- the file was opened, and the run made
+  pub layer_ran : {T : Type 0} (l : Option (List ℕ)) (old new : S) (result : Result T RunFault) → IsAt known path l
+      → Ends (λ text. Gives l (Ok text)) written is_flushed has_failed old new result
+      → IfErr result (λ f. BlamesCommand f → Gives l (Err f))
+      → ((g : RunFault) → IsFoundFirst command g → Gives l (Err g) → ⊥)
+      → ((g : RunFault) → IsFoundNext command g → Gives l (Err g) → result ≡ Err g)
+      → IfErr result (λ f. f ≢ run.Write → IsFaultOf command f) → CommandEnds known written is_flushed has_failed command old new result
+  layer_ran l old new result is ends fault none exact faults = record {
+    writes = ends_as _ _ written is_flushed has_failed old new result (text_as known l is) ends;
+    fault = blamed_as known l is result fault;
+    first = first_as known l result is none;
+    next = λ f found keys. next_as known l result is exact f found;
+    faults = faults;
+  }
+
+-- ---- a window
+
+pub window_reads_one : (scale : Scale) (path wkt : Bor (List ℕ)) → ReadsOne (Window path wkt scale) path.now (WindowGives scale wkt.now)
+window_reads_one scale path wkt = record { gives = λ at answer. ((λ h. h), (λ h. h)); may_miss = tt; may_lack_keys = tt }
+
+pub window_none_first : (scale : Scale) (path wkt : Bor (List ℕ)) (l : Option (List ℕ)) (g : RunFault) → IsFoundFirst (Window path wkt scale) g
+    → WindowGives scale wkt.now l (Err g) → ⊥
+window_none_first scale path wkt l g found gives = by (Err g) gives refl
+  where
+    by : (answer : Result (List ℕ) RunFault) → WindowGives scale wkt.now l answer → answer ≡ Err g → ⊥
+    by answer (text_fault f a) is = subst (IsFoundFirst (Window path wkt scale)) (let same : g ≡ run.Wkt input.Window f = cc in same) found
+    by answer (window_layer_fault s f a b) is = subst (IsFoundFirst (Window path wkt scale)) (let same : g ≡ run.Read input.Layer f = cc in same) found
+    by answer (listed s layer text a b c) is = cc
+
+window_blamed : (scale : Scale) (wkt : List ℕ) (l : Option (List ℕ)) (f : RunFault) → IsWindowFault f
+    → ((i : Input) (w : WktFault) → f ≡ run.Wkt i w → HasWindowFault scale wkt i w)
+    → (BlamesInput f → WindowGives scale wkt l (Err f)) → BlamesCommand f → WindowGives scale wkt l (Err f)
+window_blamed scale wkt l (run.Wkt input.Window w) is named given blame = text_fault w (named input.Window w refl)
+window_blamed scale wkt l (run.Wkt _ w) is named given blame = absurd is
+window_blamed scale wkt l (run.NoFile i) is named given blame = absurd is
+window_blamed scale wkt l (run.Read i r) is named given blame = given blame
+window_blamed scale wkt l (run.Edit n e) is named given blame = absurd is
+window_blamed scale wkt l (run.Join j) is named given blame = absurd is
+window_blamed scale wkt l run.TooManyToDraw is named given blame = absurd is
+window_blamed scale wkt l run.Write is named given blame = absurd is
+window_blamed scale wkt l run.Memory is named given blame = absurd blame
+window_blamed scale wkt l run.NoKeys is named given blame = absurd is
+
+window_fault : {T : Type 0} (scale : Scale) (wkt : List ℕ) (l : Option (List ℕ)) (result : Result T RunFault)
+    → ((i : Input) (w : WktFault) → (result ≡ Err (run.Wkt i w)) ↔ HasWindowFault scale wkt i w)
+    → IfErr result (λ f. BlamesInput f → WindowGives scale wkt l (Err f))
+    → IfErr result (λ f. f ≢ run.Write → IsWindowFault f) → IfErr result (λ f. BlamesCommand f → WindowGives scale wkt l (Err f))
+window_fault scale wkt l (Ok x) exact fault faults = tt
+window_fault scale wkt l (Err f) exact fault faults = λ blame.
+    window_blamed scale wkt l f (faults (λ w. subst BlamesCommand w blame)) (λ i w e. (exact i w).0 (let is : Err f ≡ Err (run.Wkt i w) = cc in is)) fault blame
+
+window_exact : {T : Type 0} (scale : Scale) (path wkt : Bor (List ℕ)) (l : Option (List ℕ)) (result : Result T RunFault)
+    → ((i : Input) (w : WktFault) → (result ≡ Err (run.Wkt i w)) ↔ HasWindowFault scale wkt.now i w)
+    → (g : RunFault) → IsFoundNext (Window path wkt scale) g → WindowGives scale wkt.now l (Err g) → result ≡ Err g
+window_exact scale path wkt l result exact g found gives = by (Err g) gives refl
+  where
+    by : (answer : Result (List ℕ) RunFault) → WindowGives scale wkt.now l answer → answer ≡ Err g → result ≡ Err g
+    by answer (text_fault f a) is = let same : g ≡ run.Wkt input.Window f = cc in let told = (exact input.Window f).1 a in cc
+    by answer (window_layer_fault s f a b) is =
+        absurd (subst (IsFoundNext (Window path wkt scale)) (let same : g ≡ run.Read input.Layer f = cc in same) found)
+    by answer (listed s layer text a b c) is = absurd cc
+
+window_allows : (scale : Scale) (path wkt : Bor (List ℕ)) (f : RunFault) → IsWindowFault f → IsFaultOf (Window path wkt scale) f
+window_allows scale path wkt (run.NoFile i) is = absurd is
+window_allows scale path wkt (run.Wkt i w) is = is
+window_allows scale path wkt (run.Read i r) is = is
+window_allows scale path wkt (run.Edit n e) is = is
+window_allows scale path wkt (run.Join j) is = is
+window_allows scale path wkt run.TooManyToDraw is = is
+window_allows scale path wkt run.Write is = is
+window_allows scale path wkt run.Memory is = is
+window_allows scale path wkt run.NoKeys is = tt
+
+window_allowed : {T : Type 0} (scale : Scale) (path wkt : Bor (List ℕ)) (result : Result T RunFault) → IfErr result (λ f. f ≢ run.Write → IsWindowFault f)
+    → IfErr result (λ f. f ≢ run.Write → IsFaultOf (Window path wkt scale) f)
+window_allowed scale path wkt (Ok x) faults = tt
+window_allowed scale path wkt (Err f) faults = λ w. window_allows scale path wkt f (faults w)
+
+-- the window was run over the opened file
+pub window_ran : {T S : Type 0} (known : Option Files) (written : S → Option (List ℕ)) (is_flushed has_failed : S → Bool)
+    (scale : Scale) (path wkt : Bor (List ℕ)) (text : List ℕ) (l : Option (List ℕ)) (old new : S) (result : Result T RunFault)
+    → text ≡ wkt.now → IsAt known path.now l
+    → Ends (λ t. WindowGives scale text l (Ok t)) written is_flushed has_failed old new result
+    → ((i : Input) (w : WktFault) → (result ≡ Err (run.Wkt i w)) ↔ HasWindowFault scale text i w)
+    → IfErr result (λ f. BlamesInput f → WindowGives scale text l (Err f))
+    → IfErr result (λ f. f ≢ run.Write → IsWindowFault f) → CommandEnds known written is_flushed has_failed (Window path wkt scale) old new result
+window_ran {T} {S} known written is_flushed has_failed scale path wkt text l old new result same is ends exact fault faults =
+    layer_ran known written is_flushed has_failed (Window path wkt scale) path.now (WindowGives scale wkt.now)
+    (window_reads_one scale path wkt) l old new result is
+    (subst (λ (t : List ℕ). Ends (λ x. WindowGives scale t l (Ok x)) written is_flushed has_failed old new result) same ends)
+    (window_fault scale wkt.now l result exact_now
+    (subst (λ (t : List ℕ). IfErr result (λ f. BlamesInput f → WindowGives scale t l (Err f))) same fault) faults)
+    (window_none_first scale path wkt l) (window_exact scale path wkt l result exact_now) (window_allowed scale path wkt result faults)
+  where
+    exact_now : (i : Input) (w : WktFault) → (result ≡ Err (run.Wkt i w)) ↔ HasWindowFault scale wkt.now i w
+    exact_now = subst (λ (t : List ℕ). (i : Input) (w : WktFault) → (result ≡ Err (run.Wkt i w)) ↔ HasWindowFault scale t i w) same exact
+
+-- ---- counts
+
+pub stats_reads_one : (scale : Scale) (path : Bor (List ℕ)) → ReadsOne (Stats path scale) path.now (StatsGives scale)
+stats_reads_one scale path = record { gives = λ at answer. ((λ h. h), (λ h. h)); may_miss = tt; may_lack_keys = tt }
+
+pub stats_none_first : (scale : Scale) (path : Bor (List ℕ)) (l : Option (List ℕ)) (g : RunFault) → IsFoundFirst (Stats path scale) g
+    → StatsGives scale l (Err g) → ⊥
+stats_none_first scale path l g found gives = by (Err g) gives refl
+  where
+    by : (answer : Result (List ℕ) RunFault) → StatsGives scale l answer → answer ≡ Err g → ⊥
+    by answer (stats_fault f a) is = subst (IsFoundFirst (Stats path scale)) (let same : g ≡ run.Read input.Layer f = cc in same) found
+    by answer (counted layer a b) is = cc
+
+stats_blamed : (scale : Scale) (l : Option (List ℕ)) (f : RunFault) → IsStatsFault f → (BlamesInput f → StatsGives scale l (Err f)) → BlamesCommand f
+    → StatsGives scale l (Err f)
+stats_blamed scale l (run.Wkt i w) is given blame = absurd is
+stats_blamed scale l (run.NoFile i) is given blame = absurd is
+stats_blamed scale l (run.Read i r) is given blame = given blame
+stats_blamed scale l (run.Edit n e) is given blame = absurd is
+stats_blamed scale l (run.Join j) is given blame = absurd is
+stats_blamed scale l run.TooManyToDraw is given blame = absurd is
+stats_blamed scale l run.Write is given blame = absurd is
+stats_blamed scale l run.Memory is given blame = absurd blame
+stats_blamed scale l run.NoKeys is given blame = absurd is
+
+stats_fault_of : {T : Type 0} (scale : Scale) (l : Option (List ℕ)) (result : Result T RunFault)
+    → IfErr result (λ f. BlamesInput f → StatsGives scale l (Err f))
+    → IfErr result (λ f. f ≢ run.Write → IsStatsFault f) → IfErr result (λ f. BlamesCommand f → StatsGives scale l (Err f))
+stats_fault_of scale l (Ok x) fault faults = tt
+stats_fault_of scale l (Err f) fault faults = λ blame. stats_blamed scale l f (faults (λ w. subst BlamesCommand w blame)) fault blame
+
+stats_allows : (scale : Scale) (path : Bor (List ℕ)) (f : RunFault) → IsStatsFault f → IsFaultOf (Stats path scale) f
+stats_allows scale path (run.NoFile i) is = absurd is
+stats_allows scale path (run.Wkt i w) is = is
+stats_allows scale path (run.Read i r) is = is
+stats_allows scale path (run.Edit n e) is = is
+stats_allows scale path (run.Join j) is = is
+stats_allows scale path run.TooManyToDraw is = is
+stats_allows scale path run.Write is = is
+stats_allows scale path run.Memory is = is
+stats_allows scale path run.NoKeys is = tt
+
+stats_allowed : {T : Type 0} (scale : Scale) (path : Bor (List ℕ)) (result : Result T RunFault) → IfErr result (λ f. f ≢ run.Write → IsStatsFault f)
+    → IfErr result (λ f. f ≢ run.Write → IsFaultOf (Stats path scale) f)
+stats_allowed scale path (Ok x) faults = tt
+stats_allowed scale path (Err f) faults = λ w. stats_allows scale path f (faults w)
+
+-- the counts were made of the opened file
+pub stats_ran : {T S : Type 0} (known : Option Files) (written : S → Option (List ℕ)) (is_flushed has_failed : S → Bool)
+    (scale : Scale) (path : Bor (List ℕ)) (l : Option (List ℕ)) (old new : S) (result : Result T RunFault) → IsAt known path.now l
+    → Ends (λ t. StatsGives scale l (Ok t)) written is_flushed has_failed old new result
+    → IfErr result (λ f. BlamesInput f → StatsGives scale l (Err f))
+    → IfErr result (λ f. f ≢ run.Write → IsStatsFault f) → CommandEnds known written is_flushed has_failed (Stats path scale) old new result
+stats_ran known written is_flushed has_failed scale path l old new result is ends fault faults =
+    layer_ran known written is_flushed has_failed (Stats path scale) path.now (StatsGives scale) (stats_reads_one scale path) l old new result is ends
+    (stats_fault_of scale l result fault faults) (stats_none_first scale path l) (λ g nothing. absurd nothing) (stats_allowed scale path result faults)

@@ -1,0 +1,52 @@
+use Rattle.command_core.proofs.CommandLemmas.{relate_ends}
+use Rattle.command_core.proofs.LayerCommandLemmas.{layer_missing, layer_without_keys, window_reads_one, window_none_first, window_ran, stats_reads_one}
+use Rattle.command_core.proofs.LayerCommandLemmas.{stats_none_first, stats_ran}
+use Rattle.command_core.proofs.command.execute.Goals as goal
+
+pub returns-in-Relate : goal.returns-in-Relate
+returns-in-Relate g c =
+    relate_ends _ _ _ _ _ _ _ _ _ _ _ _ _ c.in-Relate.is c.as_bytes.ensures.value c.as_bytes-in-Relate.ensures.value
+    c.run_relate.ensures.writes c.run_relate.ensures.wkt c.run_relate.ensures.faults
+
+pub returns-in-Join : goal.returns-in-Join
+returns-in-Join g c = rw c.in-Join.is c.execute_join.ensures
+
+pub returns-in-Draw : goal.returns-in-Draw
+returns-in-Draw g c = rw c.in-Draw.is c.execute_join-in-Draw.ensures
+
+pub returns-in_err-layer-in-Window : goal.returns-in_err-layer-in-Window
+returns-in_err-layer-in-Window g c =
+    rw c.in-Window.is
+    (layer_missing _ _ _ _ _ _ _ (window_reads_one c.in-Window.scale c.in-Window.path c.in-Window.wkt) _ _ _ c.requires c.from_residual.ensures.1
+    c.in_err-layer-in-Window.ensures.fault c.in_err-layer-in-Window.ensures.missing)
+
+pub returns-in_err-state-in-Window : goal.returns-in_err-state-in-Window
+returns-in_err-state-in-Window g c =
+    rw c.in-Window.is
+    (layer_without_keys _ _ _ _ _ _ _ (window_reads_one c.in-Window.scale c.in-Window.path c.in-Window.wkt) _ _ _ _ c.requires
+    c.from_residual-in_err-state-in-Window.ensures.1
+    c.in_err-state-in-Window.ensures c.in_ok-layer-in-Window.ensures.ok (window_none_first c.in-Window.scale c.in-Window.path c.in-Window.wkt _))
+
+pub returns-in_ok-state-in-Window : goal.returns-in_ok-state-in-Window
+returns-in_ok-state-in-Window g c =
+    rw c.in-Window.is
+    (window_ran _ _ _ _ c.in-Window.scale c.in-Window.path c.in-Window.wkt _ _ _ _ _ c.as_bytes-wkt.ensures.value c.in_ok-layer-in-Window.ensures.ok
+    c.run_window.ensures.writes c.run_window.ensures.wkt c.run_window.ensures.fault c.run_window.ensures.faults)
+
+pub returns-in_err-layer-in-Stats : goal.returns-in_err-layer-in-Stats
+returns-in_err-layer-in-Stats g c =
+    rw c.in-Stats.is
+    (layer_missing _ _ _ _ _ _ _ (stats_reads_one c.in-Stats.scale c.in-Stats.path) _ _ _ c.requires c.from_residual-in_err-layer-in-Stats.ensures.1
+    c.in_err-layer-in-Stats.ensures.fault c.in_err-layer-in-Stats.ensures.missing)
+
+pub returns-in_err-hash_state-in-Stats : goal.returns-in_err-hash_state-in-Stats
+returns-in_err-hash_state-in-Stats g c =
+    rw c.in-Stats.is
+    (layer_without_keys _ _ _ _ _ _ _ (stats_reads_one c.in-Stats.scale c.in-Stats.path) _ _ _ _ c.requires c.from_residual-in_err-hash_state-in-Stats.ensures.1
+    c.in_err-hash_state-in-Stats.ensures c.in_ok-layer-in-Stats.ensures.ok (stats_none_first c.in-Stats.scale c.in-Stats.path _))
+
+pub returns-in_ok-hash_state-in-Stats : goal.returns-in_ok-hash_state-in-Stats
+returns-in_ok-hash_state-in-Stats g c =
+    rw c.in-Stats.is
+    (stats_ran _ _ _ _ c.in-Stats.scale c.in-Stats.path _ _ _ _ c.in_ok-layer-in-Stats.ensures.ok
+    c.run_stats.ensures.writes c.run_stats.ensures.fault c.run_stats.ensures.faults)

@@ -1,0 +1,29 @@
+use Rattle.command_core.proofs.JoinCommandLemmas.{not_opened, without_keys, product_reads, join_ran, draw_ran}
+use Rattle.command_core.proofs.command.execute_join.Goals as goal
+
+pub returns-in_err-sources : goal.returns-in_err-sources
+returns-in_err-sources g c =
+    not_opened _ _ _ _ _ _ _ (product_reads c.args.product c.args.join.now) _ c.from_residual.result _ c.in_err-sources.ensures.missing c.requires
+    c.from_residual.ensures.1
+
+pub returns-in_err-hash_state : goal.returns-in_err-hash_state
+returns-in_err-hash_state g c =
+    without_keys _ _ _ _ _ _ _ (product_reads c.args.product c.args.join.now) _ c.from_residual-in_err-hash_state.result _ _ _ _ c.requires
+    c.from_residual-in_err-hash_state.ensures.1 c.in_err-hash_state.ensures c.in_ok-sources.ensures.opened
+
+pub returns-in_err-hash_state-2 : goal.returns-in_err-hash_state-2
+returns-in_err-hash_state-2 g c =
+    without_keys _ _ _ _ _ _ _ (product_reads c.args.product c.args.join.now) _ c.from_residual-in_err-hash_state-2.result _ _ _ _ c.requires
+    c.from_residual-in_err-hash_state-2.ensures.1 c.in_err-hash_state-2.ensures c.in_ok-sources.ensures.opened
+
+pub returns-in-Report : goal.returns-in-Report
+returns-in-Report g c =
+    rw c.in-Report.is
+    (join_ran _ _ _ _ c.args.join.now _ _ _ _ _ c.run_join.result c.in_ok-sources.ensures.opened
+    c.run_join.ensures.writes c.run_join.ensures.fault c.run_join.ensures.faults)
+
+pub returns : goal.returns
+returns g c =
+    rw c.in-Picture.is
+    (draw_ran _ _ _ _ c.args.join.now _ _ _ _ _ c.run_draw.result c.in_ok-sources.ensures.opened
+    c.run_draw.ensures.writes c.run_draw.ensures.fault c.run_draw.ensures.faults)

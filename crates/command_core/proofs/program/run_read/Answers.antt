@@ -1,0 +1,8 @@
+use Rattle.std.proofs.Common.{Ok, Err}
+use Rattle.command_core.proofs.program.run_read.Goals as goal
+
+pub returns-in-Ok : goal.returns-in-Ok
+returns-in-Ok g c = record { read = Ok c.in-Ok.command; done = c.run_command.ensures }
+
+pub returns-in-Err : goal.returns-in-Err
+returns-in-Err g c = record { read = Err c.in-Err.fault; done = c.show_word_fault.ensures }

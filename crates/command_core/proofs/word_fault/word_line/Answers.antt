@@ -1,0 +1,34 @@
+use Rattle.std.proofs.Common.{◌≡◌, ◌++◌, ◌∷◌, [], ap, codes, ◌∙◌}
+use Rattle.join_core.specs.Lines.{line_of}
+use Rattle.command_core.specs.WordFaults.{word_fault_line}
+use Rattle.command_core.proofs.WordLemmas.{one_piece, two_pieces, ok_as, err_as}
+use Rattle.command_core.proofs.word_fault.word_line.Goals as goal
+use Rattle.command_core.proofs.word_fault.word_line.Goals.{in-Relation, in-AllowsDisjoint, in-Options, in-Scale, in-Memory}
+
+pub returns-clause-ok : goal.returns-clause-ok
+returns-clause-ok g c =
+    let said : c.match-fault.line ++ 10 ∷ [] ≡ word_fault_line c.args.fault.now = elim c.match-fault.branch [
+      | in-Relation w ↦ rw (w.in-Relation.is, w.line-is) (two_pieces _ _ _ _ _ c.begun-line.ensures.text w.push.ensures.text w.push_mask_text.ensures.text)
+      | in-AllowsDisjoint w ↦ rw (w.in-AllowsDisjoint.is, w.line-is)
+          (two_pieces _ _ _ _ _ c.begun-line.ensures.text w.push-in-AllowsDisjoint.ensures.text w.push-in-AllowsDisjoint-2.ensures.text ∙ ap (λ t. line_of
+          (codes "--relation: " ++ t)) w.text.ensures)
+      | in-Options w ↦ rw (w.in-Options.is, w.line-is, ← w.text-in-Options.ensures.text)
+          (one_piece _ _ _ c.begun-line.ensures.text w.push-in-Options.ensures.text)
+      | in-Scale w ↦ rw (w.in-Scale.is, w.line-is) (one_piece _ _ _ c.begun-line.ensures.text w.push-in-Scale.ensures.text)
+      | in-Memory w ↦ rw (w.in-Memory.is, w.line-is) (one_piece _ _ _ c.begun-line.ensures.text w.push-in-Memory.ensures.text)
+    ] in
+    ok_as _ _ _ _ _ said c.write.ensures.ok
+
+pub returns-clause-err : goal.returns-clause-err
+returns-clause-err g c =
+    let said : c.match-fault.line ++ 10 ∷ [] ≡ word_fault_line c.args.fault.now = elim c.match-fault.branch [
+      | in-Relation w ↦ rw (w.in-Relation.is, w.line-is) (two_pieces _ _ _ _ _ c.begun-line.ensures.text w.push.ensures.text w.push_mask_text.ensures.text)
+      | in-AllowsDisjoint w ↦ rw (w.in-AllowsDisjoint.is, w.line-is)
+          (two_pieces _ _ _ _ _ c.begun-line.ensures.text w.push-in-AllowsDisjoint.ensures.text w.push-in-AllowsDisjoint-2.ensures.text ∙ ap (λ t. line_of
+          (codes "--relation: " ++ t)) w.text.ensures)
+      | in-Options w ↦ rw (w.in-Options.is, w.line-is, ← w.text-in-Options.ensures.text)
+          (one_piece _ _ _ c.begun-line.ensures.text w.push-in-Options.ensures.text)
+      | in-Scale w ↦ rw (w.in-Scale.is, w.line-is) (one_piece _ _ _ c.begun-line.ensures.text w.push-in-Scale.ensures.text)
+      | in-Memory w ↦ rw (w.in-Memory.is, w.line-is) (one_piece _ _ _ c.begun-line.ensures.text w.push-in-Memory.ensures.text)
+    ] in
+    err_as _ _ _ _ _ said c.write.ensures.err

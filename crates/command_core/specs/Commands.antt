@@ -1,0 +1,118 @@
+-- What a command gives, by what lies at the paths that it names.
+use Rattle.std.specs.Prelude.{◌≡◌, ◌≢◌, ⊤, ℕ, List, Option, Some, None, Bool, Result, Ok, Err}
+use Rattle.std.specs.Prelude.{IfSome, IfErr}
+use Rattle.std.specs.Borrow.{Bor}
+use Rattle.geom_core.specs.JoinRelations.{relation_of}
+use Rattle.wkt_core.specs.declared.scale.Scale.{Scale}
+use Rattle.join_core.specs.declared.fault.Input.{Input}
+use Rattle.join_core.specs.declared.fault.Input.TheVariants as input
+use Rattle.join_core.specs.declared.fault.RunFault.{RunFault}
+use Rattle.join_core.specs.declared.fault.RunFault.TheVariants as run
+use Rattle.join_core.specs.DrawRuns.{DrawGives, IsDrawFault}
+use Rattle.join_core.specs.JoinRuns.{JoinFiles, JoinGives, IsJoinFault}
+use Rattle.join_core.specs.Inputs.{BlamesInput}
+use Rattle.join_core.specs.Relating.{IsMatrixLine, HasFirstFault, IsTextFault}
+use Rattle.join_core.specs.Runs.{Ends}
+use Rattle.join_core.specs.StatsRuns.{StatsGives, IsStatsFault}
+use Rattle.join_core.specs.WindowRuns.{WindowGives, IsWindowFault}
+use Rattle.command_core.specs.Opening.{Files}
+use Rattle.command_core.specs.declared.command.Product.{Product}
+use Rattle.command_core.specs.declared.command.Product.TheVariants.{Report, Picture}
+use Rattle.command_core.specs.declared.words.Command.{Command}
+use Rattle.command_core.specs.declared.words.Command.TheVariants.{Relate, Join, Draw, Window, Stats}
+use Rattle.command_core.specs.declared.words.JoinRequest.{JoinRequest}
+
+-- an input that has to be opened, and what follows where it is
+abbrev pub AfterOpening : Input → Option (List ℕ) → Result (List ℕ) RunFault
+    → (List ℕ → Type 0) → Type 0
+AfterOpening input None answer Then = answer ≡ Err (run.NoFile input)
+AfterOpening input (Some bytes) answer Then = Then bytes
+
+-- the file of edits, if one is asked for
+abbrev pub AfterEdits : Files → Option (Bor (List ℕ)) → Result (List ℕ) RunFault
+    → (Option (Option (List ℕ)) → Type 0) → Type 0
+AfterEdits at None answer Then = Then None
+AfterEdits at (Some path) answer Then =
+    AfterOpening input.Edits (at path.now) answer (λ bytes. Then (Some (Some bytes)))
+
+-- what the files of a join give, which are opened in the order left, right, edits
+abbrev pub PathsGive : (JoinFiles → Result (List ℕ) RunFault → Type 0) → Files → JoinRequest
+    → Result (List ℕ) RunFault → Type 0
+PathsGive Gives at join answer =
+    AfterOpening input.Left (at join.left_path.now) answer (λ l.
+    AfterOpening input.Right (at join.right_path.now) answer (λ r.
+    AfterEdits at join.edits_path answer (λ e.
+    Gives (record { scale = join.scale; left = Some l; right = Some r; edits = e }) answer)))
+
+-- the matrix of two texts, or the first that is at fault
+abbrev pub TextsGive : Scale → List ℕ → List ℕ → Result (List ℕ) RunFault → Type 0
+TextsGive scale a b (Ok line) = IsMatrixLine scale a b line
+TextsGive scale a b (Err (run.Wkt input fault)) = HasFirstFault scale a b input fault
+TextsGive scale a b (Err _) = ⊥
+
+abbrev pub CommandGives : Files → Command → Result (List ℕ) RunFault → Type 0
+CommandGives at (Relate a b scale) answer = TextsGive scale a.now b.now answer
+CommandGives at (Join join) answer =
+    PathsGive (JoinGives (relation_of join.relation)) at join answer
+CommandGives at (Draw join) answer =
+    PathsGive (DrawGives (relation_of join.relation)) at join answer
+CommandGives at (Window path wkt scale) answer =
+    AfterOpening input.Layer (at path.now) answer (λ l. WindowGives scale wkt.now (Some l) answer)
+CommandGives at (Stats path scale) answer =
+    AfterOpening input.Layer (at path.now) answer (λ l. StatsGives scale (Some l) answer)
+
+-- the command that asks for this of a join
+abbrev pub command_of : Product → JoinRequest → Command
+command_of Report join = Join join
+command_of Picture join = Draw join
+
+-- the text that a command writes, where it is known what lies at its paths
+abbrev pub IsCommandText : Option Files → Command → List ℕ → Type 0
+IsCommandText known command text = IfSome known (λ at. CommandGives at command (Ok text))
+
+-- a fault of what was asked for or of what lies there, and not of a device, of memory or of keys
+abbrev pub BlamesCommand : RunFault → Type 0
+BlamesCommand (run.NoFile input) = ⊤
+BlamesCommand (run.Wkt input fault) = ⊤
+BlamesCommand fault = BlamesInput fault
+
+-- a fault that is found before keys are asked for and any memory is taken
+abbrev pub IsFoundFirst : Command → RunFault → Type 0
+IsFoundFirst (Relate a b scale) (run.Wkt input fault) = ⊤
+IsFoundFirst _ (run.NoFile input) = ⊤
+IsFoundFirst _ _ = ⊥
+
+-- a fault that is found next, once there are keys: that of a window's text
+abbrev pub IsFoundNext : Command → RunFault → Type 0
+IsFoundNext (Window path wkt scale) (run.Wkt input fault) = ⊤
+IsFoundNext _ _ = ⊥
+
+-- a fault that a command may have, that of its sink aside
+abbrev pub IsFaultOf : Command → RunFault → Type 0
+IsFaultOf (Relate a b scale) fault = IsTextFault fault
+IsFaultOf (Join join) (run.NoFile input) = ⊤
+IsFaultOf (Join join) run.NoKeys = ⊤
+IsFaultOf (Join join) fault = IsJoinFault fault
+IsFaultOf (Draw join) (run.NoFile input) = ⊤
+IsFaultOf (Draw join) run.NoKeys = ⊤
+IsFaultOf (Draw join) fault = IsDrawFault fault
+IsFaultOf (Window path wkt scale) (run.NoFile input.Layer) = ⊤
+IsFaultOf (Window path wkt scale) run.NoKeys = ⊤
+IsFaultOf (Window path wkt scale) fault = IsWindowFault fault
+IsFaultOf (Stats path scale) (run.NoFile input.Layer) = ⊤
+IsFaultOf (Stats path scale) run.NoKeys = ⊤
+IsFaultOf (Stats path scale) fault = IsStatsFault fault
+
+-- how a command ends: what it writes, which fault it names, exactly those that are found first and
+-- next, and no others
+pub record CommandEnds {T S : Type 0} (known : Option Files)
+    (written : S → Option (List ℕ)) (is_flushed has_failed : S → Bool)
+    (command : Command) (old new : S) (result : Result T RunFault) : Type 0 where
+  pub writes : Ends (IsCommandText known command) written is_flushed has_failed old new result
+  pub fault : IfErr result (λ f.
+      BlamesCommand f → IfSome known (λ at. CommandGives at command (Err f)))
+  pub first : (f : RunFault) → IsFoundFirst command f →
+      IfSome known (λ at. CommandGives at command (Err f) → result ≡ Err f)
+  pub next : (f : RunFault) → IsFoundNext command f → result ≢ Err run.NoKeys →
+      IfSome known (λ at. CommandGives at command (Err f) → result ≡ Err f)
+  pub faults : IfErr result (λ f. f ≢ run.Write → IsFaultOf command f)

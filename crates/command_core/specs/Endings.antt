@@ -1,0 +1,64 @@
+-- What is told of how a command ended.
+use Rattle.std.specs.Prelude.{◌≡◌, ◌≢◌, ℕ, List, Option, Bool, false, Result, Ok, Err, MatchResult}
+use Rattle.std.specs.Prelude.{IsTrue}
+use Rattle.std.specs.Io.KnownBytes.{Appends}
+use Rattle.join_core.specs.declared.fault.RunFault.{RunFault}
+use Rattle.join_core.specs.declared.fault.RunFault.TheVariants.{Write}
+use Rattle.join_core.specs.Lines.{run_line}
+use Rattle.output_core.specs.Written.{AppendsPrefix}
+use Rattle.command_core.specs.declared.words.Command.{Command}
+use Rattle.command_core.specs.declared.words.WordFault.{WordFault}
+use Rattle.command_core.specs.Commands.{CommandEnds}
+use Rattle.command_core.specs.Opening.{Files}
+use Rattle.command_core.specs.WordFaults.{word_status_of, word_fault_line}
+
+-- known bytes grow by this line, or by a prefix of it where the sink has failed
+pub record IsLineOn {S : Type 0} (written : S → Option (List ℕ)) (has_failed : S → Bool)
+    (old new : S) (line : List ℕ) : Type 0 where
+  pub whole : has_failed new ≡ false → Appends (written old) (written new) line
+  pub front : IsTrue (has_failed new) → AppendsPrefix (written old) (written new) line
+
+-- success is status 0 and no word; a fault is status 1 and its line
+abbrev pub IsToldBy : {S : Type 0} → (S → Option (List ℕ)) → (S → Bool) → S → S
+    → Result Unit RunFault → ℕ → Type 0
+IsToldBy written has_failed old new (Ok done) status = (status ≡ 0) × (new ≡ old)
+IsToldBy written has_failed old new (Err fault) status =
+    (status ≡ 1) × IsLineOn written has_failed old new (run_line fault)
+
+-- a fault of words is told on the errors' sink, with its status; help goes to the output, and where
+-- that fails, so does the program
+pub record IsShownBy {O E : Type 0}
+    (written : O → Option (List ℕ)) (has_failed : O → Bool) (output output' : O)
+    (told : E → Option (List ℕ)) (has_failed' : E → Bool) (errors errors' : E)
+    (fault : WordFault) (status : ℕ) : Type 0 where
+  pub wrong : word_status_of fault ≢ 0
+      → (status ≡ word_status_of fault) × (output' ≡ output)
+      × IsLineOn told has_failed' errors errors' (word_fault_line fault)
+  pub help : word_status_of fault ≡ 0
+      → IsLineOn written has_failed output output' (word_fault_line fault)
+  pub shown : word_status_of fault ≡ 0 → has_failed output' ≡ false
+      → (status ≡ 0) × (errors' ≡ errors)
+  pub lost : word_status_of fault ≡ 0 → IsTrue (has_failed output')
+      → (status ≡ 1) × IsLineOn told has_failed' errors errors' (run_line Write)
+
+-- a command has ended, and its end was told
+abbrev pub CommandIsDone : {O E : Type 0} → Option Files
+    → (O → Option (List ℕ)) → (O → Bool) → (O → Bool) → O → O
+    → (E → Option (List ℕ)) → (E → Bool) → E → E → Command → ℕ → Type 0
+CommandIsDone known written is_flushed has_failed output output'
+    told has_failed' errors errors' command status =
+    (outcome : Result Unit RunFault)
+    × CommandEnds known written is_flushed has_failed command output output' outcome
+    × IsToldBy told has_failed' errors errors' outcome status
+
+-- words were read as a command, which is done, or as a fault, which is shown
+pub record WordsAreDone {O E : Type 0} (known : Option Files)
+    (written : O → Option (List ℕ)) (is_flushed has_failed : O → Bool) (output output' : O)
+    (told : E → Option (List ℕ)) (has_failed' : E → Bool) (errors errors' : E)
+    (status : ℕ) : Type 0 where
+  pub read : Result Command WordFault
+  pub done : MatchResult read
+      (λ command. CommandIsDone known written is_flushed has_failed output output'
+      told has_failed' errors errors' command status)
+      (λ fault. IsShownBy written has_failed output output'
+      told has_failed' errors errors' fault status)

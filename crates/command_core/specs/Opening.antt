@@ -1,0 +1,52 @@
+-- What opening a file answers, and what is known of the files of a join.
+use Rattle.std.specs.Prelude.{◌≡◌, ⊤, ℕ, List, Option, Some, None, Result, Ok, Err, IfSome}
+use Rattle.std.specs.Borrow.{Bor}
+use Rattle.join_core.specs.declared.fault.Input.TheVariants.{Left, Right, Edits}
+use Rattle.join_core.specs.declared.fault.RunFault.{RunFault}
+use Rattle.join_core.specs.declared.fault.RunFault.TheVariants.{NoFile}
+use Rattle.command_core.specs.declared.words.JoinRequest.{JoinRequest}
+
+-- what lies at each path: bytes, or nothing that can be opened
+abbrev pub Files : Type 0
+Files = List ℕ → Option (List ℕ)
+
+-- the file of the bytes that lie at its path, or an error where nothing does
+abbrev pub Opens : {F E : Type 0} → (F → Option (List ℕ)) → Option (List ℕ) → Result F E → Type 0
+Opens remaining (Some bytes) (Ok file) = remaining file ≡ Some bytes
+Opens remaining (Some bytes) (Err e) = ⊥
+Opens remaining None (Ok file) = ⊥
+Opens remaining None (Err e) = ⊤
+
+-- the bytes at a path, which a file tells that was opened there
+abbrev pub IsAt : Option Files → List ℕ → Option (List ℕ) → Type 0
+IsAt known path told =
+    IfSome known (λ at. (bytes : List ℕ) × (at path ≡ Some bytes) × (told ≡ Some bytes))
+
+abbrev pub IsMissing : Option Files → List ℕ → Type 0
+IsMissing known path = IfSome known (λ at. at path ≡ None)
+
+-- the same of the file of edits, if one is asked for
+abbrev pub AreEditsAt : Option Files → Option (Bor (List ℕ)) → Option (Option (List ℕ)) → Type 0
+AreEditsAt known None told = told ≡ None
+AreEditsAt known (Some path) told =
+    (bytes : Option (List ℕ)) × (told ≡ Some bytes) × IsAt known path.now bytes
+
+abbrev pub AreEditsMissing : Option Files → Option (Bor (List ℕ)) → Type 0
+AreEditsMissing known None = ⊥
+AreEditsMissing known (Some path) = IsMissing known path.now
+
+-- the bytes at the paths of a join, which its opened files tell
+pub record AreOpened (known : Option Files) (join : JoinRequest)
+    (left right : Option (List ℕ)) (edits : Option (Option (List ℕ))) : Type 0 where
+  pub at_left : IsAt known join.left_path.now left
+  pub at_right : IsAt known join.right_path.now right
+  pub at_edits : AreEditsAt known join.edits_path edits
+
+-- the first file of a join that can't be opened, in the order left, right, edits
+pub data IsFirstMissing (known : Option Files) (join : JoinRequest) : RunFault → Type 0 where
+  no_left : IsMissing known join.left_path.now → IsFirstMissing known join (NoFile Left)
+  no_right : (left : Option (List ℕ)) → IsAt known join.left_path.now left
+      → IsMissing known join.right_path.now → IsFirstMissing known join (NoFile Right)
+  no_edits : (left right : Option (List ℕ)) → IsAt known join.left_path.now left
+      → IsAt known join.right_path.now right → AreEditsMissing known join.edits_path
+      → IsFirstMissing known join (NoFile Edits)

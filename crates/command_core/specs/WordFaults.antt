@@ -1,0 +1,26 @@
+-- What is shown of words that are no command, and the status that they end with.
+use Rattle.std.specs.Prelude.{ℕ, true, false, List, ◌++◌, codes, string_bytes}
+use Rattle.geom_core.specs.FaultTexts.{mask_text, allows_disjoint_text}
+use Rattle.join_core.specs.Lines.{line_of}
+use Rattle.join_core.specs.OptionTexts.{option_text}
+use Rattle.command_core.specs.declared.words.WordFault.{WordFault}
+use Rattle.command_core.specs.declared.words.WordFault.TheVariants.{Usage, Relation, AllowsDisjoint}
+use Rattle.command_core.specs.declared.words.WordFault.TheVariants.{Options, Scale, Memory}
+
+abbrev pub word_status_of : WordFault → ℕ
+word_status_of (Usage text true) = 0
+word_status_of (Usage text false) = 2
+word_status_of (Relation fault) = 2
+word_status_of AllowsDisjoint = 2
+word_status_of (Options fault) = 2
+word_status_of Scale = 2
+word_status_of Memory = 1
+
+-- the text of `clap`, or a line of the program's own
+abbrev pub word_fault_line : WordFault → List ℕ
+word_fault_line (Usage text help) = string_bytes text
+word_fault_line (Relation fault) = line_of (codes "--relation: " ++ mask_text fault)
+word_fault_line AllowsDisjoint = line_of (codes "--relation: " ++ allows_disjoint_text)
+word_fault_line (Options fault) = line_of (option_text fault)
+word_fault_line Scale = line_of (codes "--scale must be 0 to 6")
+word_fault_line Memory = line_of (codes "no memory")

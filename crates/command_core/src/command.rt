@@ -1,0 +1,181 @@
+//! What a command does: its files are opened, it runs, and its end is told by line and status.
+
+ghost use Rattle.std.specs.Prelude.{◌≡◌, false, IfOk, IfErr, IfSome};
+ghost use Rattle.join_core.specs.JoinRuns.{bytes_of};
+ghost use Rattle.command_core.specs.Commands.{CommandEnds, command_of};
+ghost use Rattle.command_core.specs.Opening.{IsAt, IsMissing, AreEditsAt, AreEditsMissing};
+ghost use Rattle.command_core.specs.Opening.{AreOpened, IsFirstMissing};
+ghost use Rattle.command_core.specs.Endings.{CommandIsDone};
+
+use crate::inputs::Inputs;
+use crate::words::{Command, JoinRequest};
+use join_core::{
+    Input, JoinSources, OpenGate, RunFault, Sink, fault_line, run_draw, run_join, run_relate,
+    run_stats, run_window,
+};
+use std::hash::RandomState;
+use std::random::RandomSource;
+use std::sync::Wait;
+use std::thread::Threads;
+
+/// What is made of the pairs of a join.
+#[derive(Clone, Copy)]
+enum Product {
+    Report,
+    Picture,
+}
+
+/// The status of a command that failed.
+pub const FAILED: u8 = 1;
+
+/// Does what a command asks for, and returns the exit status: 0 where all was written, else 1 with
+/// the line of the fault on `errors`.
+pub fn run_command<
+    R: RandomSource + AllocGlobal + Threads + Wait + Sync,
+    I: Inputs,
+    O: Sink,
+    E: Sink,
+>(rt: &R, inputs: &I, command: &Command<'_>, output: &mut O, errors: &mut E) -> u8
+    requires output { O.has_failed output.old ≡ false }
+    requires errors { E.has_failed errors.old ≡ false }
+    ensures { CommandIsDone (I.files inputs.now)
+        O.written O.is_flushed O.has_failed output.old output.new
+        E.written E.has_failed errors.old errors.new command.now result }
+{
+    match execute(rt, inputs, command, output) {
+        Ok(()) => 0,
+        Err(fault) => {
+            // Where standard error fails too, the status is all that is left to tell.
+            let _ = fault_line(&fault, errors);
+            FAILED
+        }
+    }
+}
+
+/// Does what a command asks for.
+fn execute<R: RandomSource + AllocGlobal + Threads + Wait + Sync, I: Inputs, O: Sink>(
+    rt: &R,
+    inputs: &I,
+    command: &Command<'_>,
+    output: &mut O,
+) -> Result<(), RunFault>
+    requires { O.has_failed output.old ≡ false }
+    ensures { CommandEnds (I.files inputs.now) O.written O.is_flushed O.has_failed
+        command.now output.old output.new result }
+{
+    match command {
+        Command::Relate { a, b, scale } => {
+            run_relate(*scale, a.as_bytes(), b.as_bytes(), output)
+        }
+        Command::Join(join) => execute_join(rt, inputs, Product::Report, join, output),
+        Command::Draw(join) => execute_join(rt, inputs, Product::Picture, join, output),
+        Command::Window { path, wkt, scale } => {
+            let mut layer = open_input(inputs, Input::Layer, path)?;
+            let state = hash_state(rt)?;
+            let wkt = wkt.as_bytes();
+            run_window(rt.alloc(), state, *scale, &mut layer, wkt, output)
+        }
+        Command::Stats { path, scale } => {
+            let mut layer = open_input(inputs, Input::Layer, path)?;
+            run_stats(rt.alloc(), hash_state(rt)?, *scale, &mut layer, output)
+        }
+    }
+}
+
+/// Writes the report or the picture of a join.
+fn execute_join<R: RandomSource + AllocGlobal + Threads + Wait + Sync, I: Inputs, O: Sink>(
+    rt: &R,
+    inputs: &I,
+    product: Product,
+    join: &JoinRequest<'_>,
+    output: &mut O,
+) -> Result<(), RunFault>
+    requires { O.has_failed output.old ≡ false }
+    ensures { CommandEnds (I.files inputs.now) O.written O.is_flushed O.has_failed
+        (command_of product join.now) output.old output.new result }
+{
+    let mut sources = open_sources(inputs, join)?;
+    let states = (hash_state(rt)?, hash_state(rt)?);
+    match product {
+        Product::Report => run_join(
+            rt,
+            rt.alloc(),
+            states,
+            join.scale,
+            &mut sources,
+            &join.relation,
+            &join.options,
+            &OpenGate,
+            output,
+        ),
+        Product::Picture => run_draw(
+            rt,
+            rt.alloc(),
+            states,
+            join.scale,
+            &mut sources,
+            &join.relation,
+            &join.options,
+            &OpenGate,
+            output,
+        ),
+    }
+}
+
+/// The files of a join, opened in the order left, right, edits.
+fn open_sources<I: Inputs>(
+    inputs: &I,
+    join: &JoinRequest<'_>,
+) -> Result<JoinSources<I::File, I::File, I::File>, RunFault>
+    ensures opened { IfOk result (λ sources. AreOpened (I.files inputs.now) join.now
+        (I.File.remaining sources.left) (I.File.remaining sources.right)
+        (bytes_of I.File.remaining sources.edits)) }
+    ensures left { IfOk result (λ sources. I.File.has_failed sources.left ≡ false) }
+    ensures right { IfOk result (λ sources. I.File.has_failed sources.right ≡ false) }
+    ensures edits { IfOk result (λ sources.
+        IfSome sources.edits (λ e. I.File.has_failed e ≡ false)) }
+    ensures missing { IfErr result (IsFirstMissing (I.files inputs.now) join.now) }
+{
+    let left = open_input(inputs, Input::Left, join.left_path)?;
+    let right = open_input(inputs, Input::Right, join.right_path)?;
+    let edits = open_edits(inputs, join.edits_path)?;
+    Ok(JoinSources { left, right, edits })
+}
+
+/// The file of an input.
+fn open_input<I: Inputs>(inputs: &I, input: Input, path: &str) -> Result<I::File, RunFault>
+    ensures ok { IfOk result (λ file.
+        IsAt (I.files inputs.now) path.now (I.File.remaining file)) }
+    ensures fresh { IfOk result (λ file. I.File.has_failed file ≡ false) }
+    ensures missing { IfErr result (λ _. IsMissing (I.files inputs.now) path.now) }
+    ensures fault { IfErr result (λ f. f ≡ RunFault.NoFile input) }
+{
+    match inputs.open(path) {
+        Ok(file) => Ok(file),
+        Err(_) => Err(RunFault::NoFile(input)),
+    }
+}
+
+/// The file of edits, if one is asked for.
+fn open_edits<I: Inputs>(inputs: &I, path: Option<&str>) -> Result<Option<I::File>, RunFault>
+    ensures ok { IfOk result (λ edits.
+        AreEditsAt (I.files inputs.now) path.entry (bytes_of I.File.remaining edits)) }
+    ensures fresh { IfOk result (λ edits. IfSome edits (λ e. I.File.has_failed e ≡ false)) }
+    ensures missing { IfErr result (λ _. AreEditsMissing (I.files inputs.now) path.entry) }
+    ensures fault { IfErr result (λ f. f ≡ RunFault.NoFile Input.Edits) }
+{
+    match path {
+        Some(path) => Ok(Some(open_input(inputs, Input::Edits, path)?)),
+        None => Ok(None),
+    }
+}
+
+/// Random keys by which the ids of a layer are hashed.
+fn hash_state<R: RandomSource>(rt: &R) -> Result<RandomState, RunFault>
+    ensures { IfErr result (λ f. f ≡ RunFault.NoKeys) }
+{
+    match RandomState::new(rt) {
+        Ok(state) => Ok(state),
+        Err(_) => Err(RunFault::NoKeys),
+    }
+}

@@ -1,0 +1,27 @@
+//! Where the files of a command are opened.
+
+ghost use Rattle.std.specs.Prelude.{◌≡◌, ℕ, List, Option, None, false, IfOk, IfSome};
+ghost use Rattle.command_core.specs.Opening.{Opens};
+
+use file_core::Source;
+
+/// The path at which standard input lies.
+pub const STANDARD_INPUT: &str = "-";
+
+/// A file can't be opened.
+#[derive(Clone, Copy, Debug, PartialEq, Eq)]
+pub struct NotOpened;
+
+/// What opens files by their paths.
+pub trait Inputs {
+    type File: Source + Drop;
+
+    /// What lies at each path, where that is known: bytes, or nothing that can be opened.
+    ghost files: { Self → Option (List ℕ → Option (List ℕ)) } = { λ _. None };
+
+    /// Opens the file at a path, for reading from its start.
+    fn open(&self, path: &str) -> Result<Self::File, NotOpened>
+        ensures file { IfSome (files self.now) (λ at.
+            Opens Self.File.remaining (at path.now) result) }
+        ensures fresh { IfOk result (λ file. Self.File.has_failed file ≡ false) };
+}

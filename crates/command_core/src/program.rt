@@ -1,0 +1,112 @@
+//! The program: from the words of the command line to the exit status.
+
+ghost use Rattle.std.specs.Prelude.{◌≡◌, false};
+ghost use Rattle.command_core.specs.Endings.{IsShownBy, WordsAreDone};
+
+use crate::command::{FAILED, run_command};
+use crate::inputs::Inputs;
+use crate::word_fault::{word_line, word_status};
+use crate::words::{WordFault, read_words};
+use join_core::{RunFault, Sink, WriteFailed, fault_line};
+use std::alloc::AllocError;
+use std::random::RandomSource;
+use std::rt::Env;
+use std::sync::Wait;
+use std::thread::Threads;
+use std::{env, io};
+
+/// Does what the words of the command line ask for, and returns the exit status. What they ask for,
+/// help included, goes to `output`, and the line of a fault to `errors`.
+pub fn run_program<
+    R: Env + RandomSource + AllocGlobal + Threads + Wait + Sync,
+    I: Inputs,
+    O: Sink,
+    E: Sink,
+>(rt: &R, inputs: &I, output: &mut O, errors: &mut E) -> u8
+    requires output { O.has_failed output.old ≡ false }
+    requires errors { E.has_failed errors.old ≡ false }
+    ensures { WordsAreDone (I.files inputs.now)
+        O.written O.is_flushed O.has_failed output.old output.new
+        E.written E.has_failed errors.old errors.new result }
+{
+    match given_words(rt) {
+        Ok(words) => run_words(rt, words.as_slice(), inputs, output, errors),
+        Err(fault) => show_word_fault(&fault, output, errors),
+    }
+}
+
+/// The words of the command line.
+fn given_words<R: Env + AllocGlobal>(rt: &R) -> Result<Vec<String>, WordFault> {
+    match env::args(rt) {
+        Ok(words) => Ok(words.collect(rt.alloc())?),
+        Err(error) if error.kind() == io::ErrorKind::OutOfMemory => Err(WordFault::Memory),
+        Err(_) => Err(WordFault::Usage {
+            text: String::from_str(rt.alloc(), "error: a word is not UTF-8\n")?,
+            help: false,
+        }),
+    }
+}
+
+/// Does what words ask for.
+pub fn run_words<
+    R: RandomSource + AllocGlobal + Threads + Wait + Sync,
+    I: Inputs,
+    O: Sink,
+    E: Sink,
+>(rt: &R, words: &[String], inputs: &I, output: &mut O, errors: &mut E) -> u8
+    requires output { O.has_failed output.old ≡ false }
+    requires errors { E.has_failed errors.old ≡ false }
+    ensures { WordsAreDone (I.files inputs.now)
+        O.written O.is_flushed O.has_failed output.old output.new
+        E.written E.has_failed errors.old errors.new result }
+{
+    let words: Result<Vec<&str>, AllocError> = words
+        .iter()
+        .map(|word| word.as_str())
+        .collect(rt.alloc());
+    match words {
+        Ok(words) => run_read(rt, words.as_slice(), inputs, output, errors),
+        Err(AllocError) => show_word_fault(&WordFault::Memory, output, errors),
+    }
+}
+
+/// Reads words as a command, which is run, or as the fault that is shown.
+fn run_read<R: RandomSource + AllocGlobal + Threads + Wait + Sync, I: Inputs, O: Sink, E: Sink>(
+    rt: &R,
+    words: &[&str],
+    inputs: &I,
+    output: &mut O,
+    errors: &mut E,
+) -> u8
+    requires output { O.has_failed output.old ≡ false }
+    requires errors { E.has_failed errors.old ≡ false }
+    ensures { WordsAreDone (I.files inputs.now)
+        O.written O.is_flushed O.has_failed output.old output.new
+        E.written E.has_failed errors.old errors.new result }
+{
+    match read_words(rt.alloc(), words) {
+        Ok(command) => run_command(rt, inputs, &command, output, errors),
+        Err(fault) => show_word_fault(&fault, output, errors),
+    }
+}
+
+/// Shows what is wrong with words, or the help that they ask for, and returns the exit status.
+fn show_word_fault<O: Sink, E: Sink>(fault: &WordFault, output: &mut O, errors: &mut E) -> u8
+    requires output { O.has_failed output.old ≡ false }
+    requires errors { E.has_failed errors.old ≡ false }
+    ensures { IsShownBy O.written O.has_failed output.old output.new
+        E.written E.has_failed errors.old errors.new fault.now result }
+{
+    let status = word_status(fault);
+    if status != 0 {
+        let _ = word_line(fault, errors);
+        return status;
+    }
+    match word_line(fault, output) {
+        Ok(()) => status,
+        Err(WriteFailed) => {
+            let _ = fault_line(&RunFault::Write, errors);
+            FAILED
+        }
+    }
+}

@@ -1,0 +1,67 @@
+//! What is shown of words that are no command, and the status that they end with.
+
+ghost use Rattle.std.specs.Prelude.{◌≡◌, ◌+◌, ◌≤◌, ◌↔◌, ◌++◌, ◌∷◌, [], false, length, IsTrue};
+ghost use Rattle.std.specs.Prelude.{IsErr, OnOk, OnErr};
+ghost use Rattle.std.specs.Io.KnownBytes.{Appends};
+ghost use Rattle.geom_core.specs.FaultTexts.{mask_text};
+ghost use Rattle.output_core.specs.Written.{AppendsPrefix};
+ghost use Rattle.command_core.specs.WordFaults.{word_status_of, word_fault_line};
+
+use crate::words::WordFault;
+use geom_core::{AllowsDisjoint, MaskFault};
+use join_core::{Line, Sink, WriteFailed, write_text};
+
+/// The exit status: 0 for help, 1 where memory ran out, and else 2.
+pub fn word_status(fault: &WordFault) -> u8
+    ensures { result ≡ word_status_of fault.now }
+{
+    match fault {
+        WordFault::Usage { help: true, .. } => 0,
+        WordFault::Usage { help: false, .. } => 2,
+        WordFault::Relation(_) => 2,
+        WordFault::AllowsDisjoint => 2,
+        WordFault::Options(_) => 2,
+        WordFault::Scale => 2,
+        WordFault::Memory => 1,
+    }
+}
+
+/// Writes what to show of words that are no command: the text of `clap`, or a line of the
+/// program's own.
+pub fn word_line<S: Sink>(fault: &WordFault, sink: &mut S) -> Result<(), WriteFailed>
+    requires { S.has_failed sink.old ≡ false }
+    ensures ok { OnOk result (Appends (S.written sink.old) (S.written sink.new)
+        (word_fault_line fault.now)) }
+    ensures flushed { OnOk result (IsTrue (S.is_flushed sink.new)) }
+    ensures err { OnErr result (AppendsPrefix (S.written sink.old) (S.written sink.new)
+        (word_fault_line fault.now)) }
+    ensures failed { IsErr result ↔ IsTrue (S.has_failed sink.new) }
+{
+    let mut line = Line::begun();
+    match fault {
+        WordFault::Usage { text, .. } => return write_text(sink, text.as_bytes()),
+        WordFault::Relation(fault) => {
+            line.push("--relation: ");
+            push_mask_text(&mut line, fault);
+        }
+        WordFault::AllowsDisjoint => {
+            line.push("--relation: ");
+            line.push(AllowsDisjoint.text());
+        }
+        WordFault::Options(fault) => line.push(fault.text()),
+        WordFault::Scale => line.push("--scale must be 0 to 6"),
+        WordFault::Memory => line.push("no memory"),
+    }
+    line.write(sink)
+}
+
+fn push_mask_text(line: &mut Line, fault: &MaskFault)
+    requires { length line.old ≤ 19 }
+    ensures text { line.new ≡ line.old ++ mask_text fault.now }
+    ensures short { length line.new ≤ 100 }
+{
+    line.push(fault.text());
+    if let MaskFault::Letter(place) = fault {
+        line.push_number(*place);
+    }
+}

@@ -1,0 +1,152 @@
+//! What commands write over files in memory.
+
+use crate::runs::{Run, check, writes};
+use crate::shelf::FILES;
+use std::test::Fail;
+
+const MAPS: [(&str, &str); 2] = [
+    (
+        "data/parcels.csv",
+        "id,wkt
+mill field,\"POLYGON ((0 0, 10 0, 10 10, 0 10, 0 0))\"
+church field,\"POLYGON ((10 0, 20 0, 20 10, 10 10, 10 0))\"
+\"meadow, upper\",\"POLYGON ((0 12, 20 12, 20 20, 0 20, 0 12))\"
+",
+    ),
+    (
+        "data/roads.csv",
+        "id,wkt
+mill lane,\"LINESTRING (10 0, 10 10)\"
+high street,\"LINESTRING (0 11, 20 11)\"
+church path,\"LINESTRING (15 -5, 15 10)\"
+north road,\"LINESTRING (20 10, 20 25)\"
+",
+    ),
+];
+
+const PARCELS_THAT_TOUCH_A_ROAD: [Run; 1] = [(
+    "join|data/parcels.csv|data/roads.csv|--relation|touches",
+    0,
+    "left,right,matrix
+mill field,mill lane,FF2101FF2
+church field,mill lane,FF2101FF2
+church field,north road,FF2F01102
+\"meadow, upper\",north road,FF21F1102
+",
+    "",
+)];
+
+const FIELDS_THAT_MEET_A_WINDOW: [Run; 2] = [
+    (
+        "window|data/parcels.csv|LINESTRING (5 10, 5 12)",
+        0,
+        "id\nmill field\n\"meadow, upper\"\n",
+        "",
+    ),
+    (
+        "stats|data/roads.csv",
+        0,
+        "features 4\npoints 0\nsegments 4\nrectangles 0\nheight 1\n",
+        "",
+    ),
+];
+
+const EDITS_ARE_MADE: [Run; 3] = [
+    (
+        "join|left.csv|right.csv|--relation|intersects",
+        0,
+        "left,right,matrix\na,x,F0FFFF212\nb,x,F1FF0F212\n",
+        "",
+    ),
+    (
+        "join|left.csv|right.csv|--relation|intersects|--edits|edits.csv",
+        0,
+        "left,right,matrix\nb,x,F1FF0F212\nb,y,FF10F0FF2\n",
+        "",
+    ),
+    (
+        "join|left.csv|right.csv|--relation|intersects|--edits|-",
+        0,
+        "left,right,matrix\nb,x,F1FF0F212\n",
+        "",
+    ),
+];
+
+const SIDES_STAY: [Run; 2] = [
+    (
+        "join|right.csv|left.csv|--relation|contains",
+        0,
+        "left,right,matrix\n",
+        "",
+    ),
+    (
+        "join|right.csv|left.csv|--relation|touches",
+        0,
+        "left,right,matrix\nx,a,FF20F1FF2\nx,b,FF2101FF2\n",
+        "",
+    ),
+];
+
+const GEOMETRIES_IN_ORDER: [Run; 4] = [
+    (
+        "relate|LINESTRING (1 0, 3 0)|POLYGON ((0 0, 4 0, 4 4, 0 4, 0 0))",
+        0,
+        "F1FF0F212\n",
+        "",
+    ),
+    (
+        "relate|POLYGON ((0 0, 4 0, 4 4, 0 4, 0 0))|LINESTRING (1 0, 3 0)",
+        0,
+        "FF2101FF2\n",
+        "",
+    ),
+    ("relate|x|y", 1, "", "rjoin: first: not a geometry text\n"),
+    (
+        "relate|LINESTRING (1 0, 3 0)|y",
+        1,
+        "",
+        "rjoin: second: not a geometry text\n",
+    ),
+];
+
+/// A picture of FILES, after their edits: the left point is gone, and the right one is there.
+const PICTURE_WORDS: &str = "draw|left.csv|right.csv|--relation|intersects|--edits|edits.csv";
+
+/// Its end: the cover goes from (0, 0) to (4, 4), so the corner of the frame is (-1, 5).
+const PICTURE_END: &str = " viewBox=\"0 0 6 6\">\n<g class=\"left\">\n\
+    <path class=\"match\" d=\"M2 5h2v0\"><title>b</title></path>\n\
+    </g>\n<g class=\"right\">\n\
+    <path class=\"match\" d=\"M1 1h4v4h-4z\"><title>x</title></path>\n\
+    <path class=\"point match\" d=\"M4 5h0v0\"><title>y</title></path>\n\
+    </g>\n</svg>\n</svg>\n";
+
+#[test]
+fn parcels_that_touch_a_road(rt: HostRuntime) -> Result<(), Fail> {
+    check(&rt, &MAPS, &PARCELS_THAT_TOUCH_A_ROAD)
+}
+
+#[test]
+fn fields_that_meet_a_window(rt: HostRuntime) -> Result<(), Fail> {
+    check(&rt, &MAPS, &FIELDS_THAT_MEET_A_WINDOW)
+}
+
+#[test]
+fn edits_are_made(rt: HostRuntime) -> Result<(), Fail> {
+    check(&rt, &FILES, &EDITS_ARE_MADE)
+}
+
+#[test]
+fn sides_stay(rt: HostRuntime) -> Result<(), Fail> {
+    check(&rt, &FILES, &SIDES_STAY)
+}
+
+#[test]
+fn geometries_in_order(rt: HostRuntime) -> Result<(), Fail> {
+    check(&rt, &FILES, &GEOMETRIES_IN_ORDER)
+}
+
+#[test]
+fn picture_after_edits(rt: HostRuntime) -> Result<(), Fail> {
+    assert!(rt; writes(&rt, &FILES, PICTURE_WORDS, "<svg ", PICTURE_END)?);
+    Ok(())
+}

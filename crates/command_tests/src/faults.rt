@@ -1,0 +1,162 @@
+//! What commands say of files and words at fault, and their status.
+
+use crate::runs::{Run, check};
+use crate::shelf::FILES;
+use std::test::Fail;
+
+const MISSING_FILES: [Run; 6] = [
+    (
+        "join|l.csv|q.csv|--relation|touches|--edits|e.csv",
+        1,
+        "",
+        "rjoin: left: cannot be opened\n",
+    ),
+    (
+        "join|bad.csv|q.csv|--relation|touches|--edits|e.csv",
+        1,
+        "",
+        "rjoin: right: cannot be opened\n",
+    ),
+    (
+        "join|bad.csv|right.csv|--relation|touches|--edits|e.csv",
+        1,
+        "",
+        "rjoin: edits: cannot be opened\n",
+    ),
+    (
+        "join|bad.csv|right.csv|--relation|touches|--edits|edits.csv",
+        1,
+        "",
+        "rjoin: left: row 2: id is already there\n",
+    ),
+    (
+        "join|left.csv|bad.csv|--relation|touches|--edits|edits.csv",
+        1,
+        "",
+        "rjoin: right: row 2: id is already there\n",
+    ),
+    (
+        "join|left.csv|right.csv|--relation|touches|--edits|bad.csv",
+        1,
+        "",
+        "rjoin: edits: wrong header\n",
+    ),
+];
+
+const PICTURE_FAULTS: [Run; 6] = [
+    (
+        "draw|l.csv|q.csv|--relation|touches|--edits|e.csv",
+        1,
+        "",
+        "rjoin: left: cannot be opened\n",
+    ),
+    (
+        "draw|bad.csv|q.csv|--relation|touches|--edits|e.csv",
+        1,
+        "",
+        "rjoin: right: cannot be opened\n",
+    ),
+    (
+        "draw|bad.csv|right.csv|--relation|touches|--edits|e.csv",
+        1,
+        "",
+        "rjoin: edits: cannot be opened\n",
+    ),
+    (
+        "draw|bad.csv|right.csv|--relation|touches|--edits|edits.csv",
+        1,
+        "",
+        "rjoin: left: row 2: id is already there\n",
+    ),
+    (
+        "draw|left.csv|right.csv|--relation|touches|--edits|bad.csv",
+        1,
+        "",
+        "rjoin: edits: wrong header\n",
+    ),
+    (
+        "draw|left.csv|right.csv|--relation|disjoint",
+        2,
+        "",
+        "rjoin: --relation: disjoint features may fit\n",
+    ),
+];
+
+const COMMAND_WORDS: [Run; 3] = [
+    (
+        "join|l.csv|q.csv|--relation|touches",
+        1,
+        "",
+        "rjoin: left: cannot be opened\n",
+    ),
+    (
+        "join|l.csv|q.csv|--relation|disjoint",
+        2,
+        "",
+        "rjoin: --relation: disjoint features may fit\n",
+    ),
+    (
+        "join|l.csv|q.csv|--relation|touches|--workers|17",
+        2,
+        "",
+        "rjoin: --workers must be 1 to 16\n",
+    ),
+];
+
+const SCALE_12: [Run; 2] = [
+    (
+        "stats|l.csv|--scale|7",
+        2,
+        "",
+        "rjoin: --scale must be 0 to 6\n",
+    ),
+    (
+        "join|l.csv|q.csv|--relation|touches|--workers|17|--scale|7",
+        2,
+        "",
+        "rjoin: --workers must be 1 to 16\n",
+    ),
+];
+
+const LAYER_FAULTS: [Run; 5] = [
+    ("window|l.csv|x", 1, "", "rjoin: layer: cannot be opened\n"),
+    (
+        "window|bad.csv|x",
+        1,
+        "",
+        "rjoin: window: not a geometry text\n",
+    ),
+    (
+        "window|bad.csv|POINT (0 0)",
+        1,
+        "",
+        "rjoin: layer: row 2: id is already there\n",
+    ),
+    ("stats|l.csv", 1, "", "rjoin: layer: cannot be opened\n"),
+    ("stats|edits.csv", 1, "", "rjoin: layer: wrong header\n"),
+];
+
+#[test]
+fn missing_files(rt: HostRuntime) -> Result<(), Fail> {
+    check(&rt, &FILES, &MISSING_FILES)
+}
+
+#[test]
+fn picture_faults(rt: HostRuntime) -> Result<(), Fail> {
+    check(&rt, &FILES, &PICTURE_FAULTS)
+}
+
+#[test]
+fn command_words(rt: HostRuntime) -> Result<(), Fail> {
+    check(&rt, &FILES, &COMMAND_WORDS)
+}
+
+#[test]
+fn scale_12(rt: HostRuntime) -> Result<(), Fail> {
+    check(&rt, &FILES, &SCALE_12)
+}
+
+#[test]
+fn layer_faults(rt: HostRuntime) -> Result<(), Fail> {
+    check(&rt, &FILES, &LAYER_FAULTS)
+}

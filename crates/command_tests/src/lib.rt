@@ -1,0 +1,13 @@
+//! Tests of commands, from outside: their words, and what they do over files in memory.
+#![tactic(auto)]
+
+#[cfg(test)]
+mod commands;
+#[cfg(test)]
+mod faults;
+#[cfg(test)]
+mod runs;
+#[cfg(test)]
+mod shelf;
+#[cfg(test)]
+mod words;

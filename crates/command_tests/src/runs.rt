@@ -1,0 +1,92 @@
+//! Commands that are run over files in memory, and how they end.
+
+use crate::shelf::Shelf;
+use command_core::run_words;
+use join_core::ToWrite;
+use std::alloc::{AllocError, Global};
+use std::process::Abort;
+use std::random::RandomSource;
+use std::sync::Wait;
+use std::test::Fail;
+use std::thread::Threads;
+
+/// The words of a run with `|` between them, its status, and what it writes and says.
+pub type Run = (&'static str, u8, &'static str, &'static str);
+
+/// How a run ended.
+#[derive(Drop)]
+struct Ended {
+    status: u8,
+    written: Vec<u8>,
+    said: Vec<u8>,
+}
+
+/// The name of the program, and the words between `|`.
+fn given_words(alloc: Global, words: &str) -> Result<Vec<String>, AllocError> {
+    let mut given = Vec::new(alloc);
+    given.push(String::from_str(alloc, "rjoin")?)?;
+    for word in words.split('|') {
+        given.push(String::from_str(alloc, word)?)?;
+    }
+    Ok(given)
+}
+
+/// Runs words over files.
+fn run_on<R: RandomSource + AllocGlobal + Threads + Wait + Sync>(
+    rt: &R,
+    files: &[(&str, &str)],
+    words: &[String],
+) -> Ended {
+    let mut output = ToWrite::new(Vec::new(rt.alloc()));
+    let mut errors = ToWrite::new(Vec::new(rt.alloc()));
+    let status = run_words(rt, words, &Shelf { files }, &mut output, &mut errors);
+    Ended {
+        status,
+        written: output.into_inner(),
+        said: errors.into_inner(),
+    }
+}
+
+/// Whether a run ends with its status, and writes and says what it has to.
+fn ends<R: RandomSource + AllocGlobal + Threads + Wait + Sync>(
+    rt: &R,
+    files: &[(&str, &str)],
+    run: &Run,
+) -> Result<bool, Fail> {
+    let (words, status, written, said) = *run;
+    let ended = run_on(rt, files, given_words(rt.alloc(), words)?.as_slice());
+    Ok(
+        ended.status == status
+            && ended.written.as_slice() == written.as_bytes()
+            && ended.said.as_slice() == said.as_bytes(),
+    )
+}
+
+/// Whether a run succeeds, and writes a text with this beginning and this end.
+pub fn writes<R: RandomSource + AllocGlobal + Threads + Wait + Sync>(
+    rt: &R,
+    files: &[(&str, &str)],
+    words: &str,
+    front: &str,
+    end: &str,
+) -> Result<bool, Fail> {
+    let ended = run_on(rt, files, given_words(rt.alloc(), words)?.as_slice());
+    Ok(
+        ended.status == 0
+            && ended.said.is_empty()
+            && ended.written.as_slice().starts_with(front.as_bytes())
+            && ended.written.as_slice().ends_with(end.as_bytes()),
+    )
+}
+
+/// Checks each run.
+pub fn check<R: Abort + RandomSource + AllocGlobal + Threads + Wait + Sync>(
+    rt: &R,
+    files: &[(&str, &str)],
+    runs: &[Run],
+) -> Result<(), Fail> {
+    for run in runs {
+        assert!(rt; ends(rt, files, run)?, "{}", run.0);
+    }
+    Ok(())
+}

@@ -1,0 +1,15 @@
+use Rattle.std.proofs.Common.{Err, ap, []}
+use Rattle.std.proofs.lemmas.Result.{err_from_is_err_and}
+use Rattle.file_core.specs.EditFiles.{EditsRowGives, edit_columns}
+use Rattle.file_core.proofs.FileLemmas.{file-unread}
+use Rattle.file_core.proofs.edit_file.read_edits.Goals as goal
+
+pub returns-in_err-bytes-clause-file : goal.returns-in_err-bytes-clause-file
+returns-in_err-bytes-clause-file g c =
+    let read = c.in_err-bytes.ensures in
+    let p = err_from_is_err_and c.from_residual.result c.from_residual.ensures.1 in
+    rw (p.1, p.2)
+    (λ no_io no_memory.
+    file-unread edit_columns (EditsRowGives c.args.scale) [] (g.S.Source.remaining c.args.source.now) c.in_err-bytes.field-0.0 read.others
+    (λ e. read.too_long (ap Err e))
+    (λ e. no_io (ap Err e)) (λ e. no_memory (ap Err e)))

@@ -1,0 +1,26 @@
+use Rattle.std.proofs.Common.{◌∙◌, sym, lit<}
+use Rattle.csv.specs.Records.{fields_of}
+use Rattle.file_core.proofs.FieldLemmas.{field-missing, four-fields}
+use Rattle.file_core.proofs.fields.four_fields.Goals as goal
+
+pub returns-in_err-get-clause-none : goal.returns-in_err-get-clause-none
+returns-in_err-get-clause-none c =
+    rw c.from_residual.ensures (field-missing (fields_of c.args.row.now) 0 4 c.in_err-get.ensures.value (lit< tt))
+
+pub returns-in_err-get-2-clause-none : goal.returns-in_err-get-2-clause-none
+returns-in_err-get-2-clause-none c =
+    rw c.from_residual-in_err-get-2.ensures (field-missing (fields_of c.args.row.now) 1 4 c.in_err-get-2.ensures.value (lit< tt))
+
+pub returns-in_err-get-3-clause-none : goal.returns-in_err-get-3-clause-none
+returns-in_err-get-3-clause-none c =
+    rw c.from_residual-in_err-get-3.ensures (field-missing (fields_of c.args.row.now) 2 4 c.in_err-get-3.ensures.value (lit< tt))
+
+pub returns-in_err-get-4-clause-none : goal.returns-in_err-get-4-clause-none
+returns-in_err-get-4-clause-none c =
+    rw c.from_residual-in_err-get-4.ensures (field-missing (fields_of c.args.row.now) 3 4 c.in_err-get-4.ensures.value (lit< tt))
+
+pub returns-clause-some : goal.returns-clause-some
+returns-clause-some c =
+    four-fields (fields_of c.args.row.now) c.in_ok-get.field-0.now c.in_ok-get-2.field-0.now c.in_ok-get-3.field-0.now c.in_ok-get-4.field-0.now
+    (sym c.len.ensures ∙ c.if-len-ne4.false) c.in_ok-get.ensures.value c.in_ok-get-2.ensures.value c.in_ok-get-3.ensures.value
+    c.in_ok-get-4.ensures.value

@@ -1,0 +1,19 @@
+use Rattle.std.proofs.Common.{◌∙◌, length, map, sym, ap, arith, refl}
+use Rattle.csv.specs.Records.{fields_of}
+use Rattle.file_core.specs.Records.{records_left}
+use Rattle.file_core.proofs.FileLemmas.{rows-headed, length-records_of}
+use Rattle.file_core.proofs.rows.Rows.open.Goals as goal
+
+pub returns-clause-ok : goal.returns-clause-ok
+returns-clause-ok c =
+    let columns = map (λ col. col.now) c.args.columns.now in
+    let takes = rw c.if-not-branch.false at c.in_ok-next_record.ensures in
+    let records = sym c.records-reader.ensures.records ∙ takes.records in
+    let header = c.is_header.ensures.0 c.if-not-is_header.false in
+    record {
+      behind_header =
+          rows-headed columns c.args.file.now c.if-file-gt-MAX_FILE_BYTES.false (fields_of c.next_record.new.row)
+          (records_left c.next_record.new.reader) records header;
+      none_read = refl;
+      reading = record { reader = takes.reading; few = omega (arith, length-records_of c.args.file.now, ap length records) };
+    }

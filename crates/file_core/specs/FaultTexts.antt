@@ -1,0 +1,38 @@
+-- The text of each fault of a file.
+use Rattle.std.specs.Prelude.{ℕ, List, [], ◌++◌, Option, Some, None, codes, decimal}
+use Rattle.wkt_core.specs.FaultTexts.{wkt_text}
+use Rattle.layer_core.specs.FaultTexts.{layer_text}
+use Rattle.file_core.specs.declared.read_fault.ReadFault.{ReadFault}
+use Rattle.file_core.specs.declared.read_fault.ReadFault.TheVariants.{Io, TooLong, Header, Row}
+use Rattle.file_core.specs.declared.read_fault.ReadFault.TheVariants.{Wkt, Layer, Memory}
+
+-- the row that is at fault, if one is
+abbrev pub row_of : ReadFault → Option ℕ
+row_of (Row n) = Some n
+row_of (Wkt n fault) = Some n
+row_of (Layer n fault) = Some n
+row_of Io = None
+row_of TooLong = None
+row_of Header = None
+row_of Memory = None
+
+-- what is wrong, be it with a row
+abbrev pub cause_text : ReadFault → List ℕ
+cause_text Io = codes "read failed"
+cause_text TooLong = codes "file is too long"
+cause_text Header = codes "wrong header"
+cause_text (Row n) = codes "wrong fields"
+cause_text (Wkt n fault) = wkt_text fault
+cause_text (Layer n fault) = layer_text fault
+cause_text Memory = codes "no memory"
+
+-- the number of a row, before what is wrong with it
+abbrev pub row_text : ℕ → List ℕ
+row_text n = codes "row " ++ (decimal n ++ codes ": ")
+
+abbrev pub row_part : Option ℕ → List ℕ
+row_part (Some n) = row_text n
+row_part None = []
+
+abbrev pub read_text : ReadFault → List ℕ
+read_text fault = row_part (row_of fault) ++ cause_text fault

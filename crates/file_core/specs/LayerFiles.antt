@@ -1,0 +1,50 @@
+-- The layer that a CSV file stands for, or why it is refused.
+use Rattle.std.specs.Prelude.{◌≡◌, ℕ, List, [], ◌∷◌, codes, Option, Some, None, Result, Ok, Err}
+use Rattle.wkt_core.specs.declared.scale.Scale.{Scale}
+use Rattle.layer_core.specs.declared.fault.LayerFault.{LayerFault}
+use Rattle.layer_core.specs.declared.fault.LayerFault.TheVariants.{BadId, DoubleId, LayerFull}
+use Rattle.layer_core.specs.declared.fault.LayerFault.TheVariants.{NoSuchId, Memory}
+use Rattle.file_core.specs.declared.read_fault.ReadFault.{ReadFault}
+use Rattle.file_core.specs.declared.read_fault.ReadFault.TheVariants.{Memory as no_memory, Layer}
+use Rattle.file_core.specs.LayerRows.{RowContent, RowSays}
+use Rattle.layer_core.specs.Layers.{Contents, empty, inserted}
+use Rattle.layer_core.specs.LayerTrees.{LayerState}
+use Rattle.file_core.specs.Records.{Record}
+use Rattle.layer_core.specs.Refusals.{insert_refusal}
+use Rattle.file_core.specs.Rows.{FileGives}
+
+abbrev pub layer_columns : List (List ℕ)
+layer_columns = codes "id" ∷ codes "wkt" ∷ []
+
+abbrev pub refused_or : {A : Type 0} → ℕ → Option LayerFault → A → Result A ReadFault
+refused_or n (Some fault) a = Err (Layer n fault)
+refused_or n None a = Ok a
+
+-- the fault of a row that a layer refuses
+abbrev pub fault_of_row : ℕ → LayerFault → ReadFault
+fault_of_row n Memory = no_memory
+fault_of_row n BadId = Layer n BadId
+fault_of_row n DoubleId = Layer n DoubleId
+fault_of_row n LayerFull = Layer n LayerFull
+fault_of_row n NoSuchId = Layer n NoSuchId
+
+-- the layer with the feature of the row of this number, or the row's fault
+abbrev pub with_row : ℕ → Contents → Result RowContent ReadFault → Result Contents ReadFault
+with_row n layer (Ok row) =
+    refused_or n (insert_refusal layer row.id) (inserted layer row.id row.shape)
+with_row n layer (Err fault) = Err fault
+
+-- what the row of this number gives a layer, with numbers read at a scale
+abbrev pub LayerRowGives : Scale → ℕ → Contents → Record → Result Contents ReadFault → Type 0
+LayerRowGives scale n layer row answer =
+    (content : Result RowContent ReadFault) × RowSays scale n row content
+    × (answer ≡ with_row n layer content)
+
+abbrev pub IsLayerFile : Scale → List ℕ → Result Contents ReadFault → Type 0
+IsLayerFile scale bytes answer =
+    FileGives layer_columns (LayerRowGives scale) empty bytes answer
+
+-- the list of a layer that was read, or why none was
+abbrev pub list_read : Result LayerState ReadFault → Result Contents ReadFault
+list_read (Ok layer) = Ok layer.list
+list_read (Err fault) = Err fault

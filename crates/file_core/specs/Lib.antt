@@ -1,0 +1,10 @@
+pub mod Batches
+pub mod EditFiles
+pub mod FaultTexts
+pub mod Fields
+pub mod LayerFiles
+pub mod LayerRows
+pub mod Limits
+pub mod Records
+pub mod Rows
+pub mod Sources

@@ -1,0 +1,76 @@
+-- The rows of a CSV file: what they give together, and how they are read in turn.
+use Rattle.std.specs.Prelude.{◌≡◌, ◌≤◌, ◌+◌, ◌⊎◌, ℕ, List, [], ◌∷◌, length, map, nat_lt, Result, Ok}
+use Rattle.std.specs.Prelude.{Err, MatchResult}
+use Rattle.std.specs.Bool.{MatchBool}
+use Rattle.std.specs.Char.{to_ascii_lowercase}
+use Rattle.csv.specs.Records.{fields_of}
+use Rattle.file_core.specs.declared.read_fault.ReadFault.{ReadFault}
+use Rattle.file_core.specs.declared.read_fault.ReadFault.TheVariants.{TooLong, Header}
+use Rattle.file_core.specs.declared.rows.Rows.{Rows}
+use Rattle.file_core.specs.Limits.{most_file_bytes}
+use Rattle.file_core.specs.Records.{Record, records_of, records_left, IsBetweenRecords}
+
+abbrev pub lowercase : Record → Record
+lowercase fields = map (map to_ascii_lowercase) fields
+
+-- the record names these columns, in any ASCII case
+abbrev pub IsHeader : List (List ℕ) → Record → Type 0
+IsHeader columns header = lowercase header ≡ lowercase columns
+
+-- the records behind a header of these columns, or why there are none
+abbrev pub AreBehindHeader : List (List ℕ) → List Record → Result (List Record) ReadFault → Type 0
+AreBehindHeader columns [] rows = rows ≡ Err Header
+AreBehindHeader columns (header ∷ others) rows =
+    (IsHeader columns header × (rows ≡ Ok others))
+    ⊎ (¬ (IsHeader columns header) × (rows ≡ Err Header))
+
+-- the rows of a file of these columns, which may have so many bytes, or why there are none
+abbrev pub AreRows : List (List ℕ) → List ℕ → Result (List Record) ReadFault → Type 0
+AreRows columns bytes rows =
+    MatchBool (nat_lt most_file_bytes (length bytes))
+    (rows ≡ Err TooLong)
+    (AreBehindHeader columns (records_of bytes) rows)
+
+-- the rows in turn, the first of this number, each from what those before it gave:
+-- what all of them give, or the fault of the first that has one
+abbrev pub RowsGive : {A : Type 0} → (ℕ → A → Record → Result A ReadFault → Type 0)
+    → ℕ → A → List Record → Result A ReadFault → Type 0
+RowsGive RowGives n sofar [] answer = answer ≡ Ok sofar
+RowsGive {A} RowGives n sofar (row ∷ rows) answer =
+    (next : Result A ReadFault) × RowGives n sofar row next
+    × MatchResult next (λ a. RowsGive RowGives (n + 1) a rows answer) (λ fault. answer ≡ Err fault)
+
+-- a file of these columns gives what its rows give, numbered from 1, or why it has none
+abbrev pub FileGives : {A : Type 0} → List (List ℕ) → (ℕ → A → Record → Result A ReadFault → Type 0)
+    → A → List ℕ → Result A ReadFault → Type 0
+FileGives columns RowGives start bytes answer =
+    (rows : Result (List Record) ReadFault) × AreRows columns bytes rows
+    × MatchResult rows (λ rows. RowsGive RowGives 1 start rows answer) (λ fault. answer ≡ Err fault)
+
+-- ---- reading them
+
+-- the fields of the row that was read last
+abbrev pub last_row : Rows → Record
+last_row rows = fields_of rows.row
+
+-- the rows that are left
+abbrev pub rows_left : Rows → List Record
+rows_left rows = records_left rows.reader
+
+-- the reader stands between two rows, and no file has more rows than bytes
+pub record IsReading (rows : Rows) : Type 0 where
+  pub reader : IsBetweenRecords rows.reader
+  pub few : rows.count + length (rows_left rows) ≤ most_file_bytes
+
+-- the rows of a file of these columns, none of which was read
+pub record IsOpened (columns : List (List ℕ)) (bytes : List ℕ) (rows : Rows) : Type 0 where
+  pub behind_header : AreRows columns bytes (Ok (rows_left rows))
+  pub none_read : rows.count ≡ 0
+  pub reading : IsReading rows
+
+-- the first row left was read, and this is its number
+pub record ReadsRow (old : Rows) (number : ℕ) (new : Rows) : Type 0 where
+  pub row : rows_left old ≡ last_row new ∷ rows_left new
+  pub numbered : number ≡ old.count + 1
+  pub counted : new.count ≡ number
+  pub reading : IsReading new

@@ -1,0 +1,122 @@
+//! CSV files of edits.
+ghost use Rattle.std.specs.Prelude.{◌≡◌, ◌≢◌, ◌↔◌, ◌≤◌, length, false, Ok, Err, IsErrOf, IsTrue};
+ghost use Rattle.std.specs.Prelude.{IfOk, IfErr, IfSome};
+ghost use Rattle.csv.specs.Records.{fields_of};
+ghost use Rattle.layer_core.specs.Edits.{content_of};
+ghost use Rattle.file_core.specs.EditFiles.{edit_contents, DeletionGives, EditRowGives};
+ghost use Rattle.file_core.specs.EditFiles.{InsertionGives, IsEditFile};
+ghost use Rattle.file_core.specs.Limits.{most_file_bytes};
+
+use crate::fields::{four_fields, id_in, side_in};
+use crate::read_fault::ReadFault;
+use crate::rows::Rows;
+use crate::source::{Source, read_all};
+use csv::ByteRecord;
+use layer_core::{Edit, LayerFault, Side};
+use std::alloc::Global;
+use wkt_core::Scale;
+
+/// The columns of a file of edits.
+const COLUMNS: [&str; 4] = ["op", "layer", "id", "wkt"];
+
+/// The edits that a CSV file stands for, in the order of its rows.
+///
+/// The file is of the same kind as that of a layer ([`crate::layer_of_bytes`]). Its header is
+/// `op,layer,id,wkt`. A row's `op` is `insert` or `delete`, its `layer` is `left` or `right`, and
+/// in a deletion the last field is empty. Ids are looked up by [`Edit::apply`] alone.
+///
+/// # Errors
+/// [`ReadFault::TooLong`] and [`ReadFault::Header`], in this order, and then the fault of the
+/// first row that has one: [`ReadFault::Row`] where its fields aren't as above, else
+/// [`LayerFault::BadId`], else, in an insertion, [`ReadFault::Wkt`]. [`ReadFault::Memory`] may
+/// come in place of any other.
+pub fn edits_of_bytes(alloc: Global, bytes: &[u8], scale: Scale) -> Result<Vec<Edit>, ReadFault>
+    ensures file { result ≢ Err ReadFault.Memory
+        → IsEditFile scale bytes.now (edit_contents result) }
+    ensures few { IfOk result (λ edits. length edits.items ≤ most_file_bytes) }
+    ensures no_io { result ≢ Err ReadFault.Io }
+{
+    let mut rows = Rows::open(alloc, bytes, &COLUMNS)?;
+    let mut edits = Vec::new(alloc);
+    while let Some(number) = rows.next()? {
+        let edit = edit_of_row(alloc, number, rows.row(), scale)?;
+        if edits.push(edit).is_err() {
+            return Err(ReadFault::Memory);
+        }
+    }
+    Ok(edits)
+}
+
+/// The edits that a file stands for, which is read from a source that hasn't failed.
+///
+/// # Errors
+/// Those of [`read_all`], and then those of [`edits_of_bytes`].
+pub fn read_edits<S: Source>(
+    alloc: Global,
+    source: &mut S,
+    scale: Scale,
+) -> Result<Vec<Edit>, ReadFault>
+    requires { S.has_failed source.old ≡ false }
+    ensures io { IsErrOf result ReadFault.Io ↔ IsTrue (S.has_failed source.new) }
+    ensures file { result ≢ Err ReadFault.Io → result ≢ Err ReadFault.Memory
+        → IfSome (S.remaining source.old) (λ bytes. IsEditFile scale bytes (edit_contents result)) }
+    ensures few { IfOk result (λ edits. length edits.items ≤ most_file_bytes) }
+{
+    let bytes = read_all(alloc, source)?;
+    edits_of_bytes(alloc, bytes.as_slice(), scale)
+}
+
+// The edit of the row with this number.
+fn edit_of_row(
+    alloc: Global,
+    number: u32,
+    row: &ByteRecord,
+    scale: Scale,
+) -> Result<Edit, ReadFault>
+    ensures ok { IfOk result
+        (λ edit. EditRowGives scale number (fields_of row.now) (Ok (content_of edit))) }
+    ensures err { IfErr result (λ fault. fault ≢ ReadFault.Memory
+        → EditRowGives scale number (fields_of row.now) (Err fault)) }
+    ensures no_io { result ≢ Err ReadFault.Io }
+{
+    let (op, layer, id, wkt) = four_fields(row).ok_or(ReadFault::Row(number))?;
+    let side = side_in(layer).ok_or(ReadFault::Row(number))?;
+    if op == b"insert".as_slice() {
+        insertion(alloc, number, side, id, wkt, scale)
+    } else if op == b"delete".as_slice() && wkt.is_empty() {
+        deletion(alloc, number, side, id)
+    } else {
+        Err(ReadFault::Row(number))
+    }
+}
+
+fn insertion(
+    alloc: Global,
+    number: u32,
+    side: Side,
+    id: &[u8],
+    wkt: &[u8],
+    scale: Scale,
+) -> Result<Edit, ReadFault>
+    ensures ok { IfOk result
+        (λ edit. InsertionGives scale number side id.now wkt.now (Ok (content_of edit))) }
+    ensures err { IfErr result (λ fault. fault ≢ ReadFault.Memory
+        → InsertionGives scale number side id.now wkt.now (Err fault)) }
+    ensures no_io { result ≢ Err ReadFault.Io }
+{
+    let id = id_in(id).ok_or(ReadFault::Layer(number, LayerFault::BadId))?;
+    let shape = wkt_core::read(wkt, scale).map_err(|fault| ReadFault::Wkt(number, fault))?;
+    let id = String::from_str(alloc, id)?;
+    Ok(Edit::Insert { side, id, shape })
+}
+
+fn deletion(alloc: Global, number: u32, side: Side, id: &[u8]) -> Result<Edit, ReadFault>
+    ensures ok { IfOk result (λ edit. DeletionGives number side id.now (Ok (content_of edit))) }
+    ensures err { IfErr result (λ fault. fault ≢ ReadFault.Memory
+        → DeletionGives number side id.now (Err fault)) }
+    ensures no_io { result ≢ Err ReadFault.Io }
+{
+    let id = id_in(id).ok_or(ReadFault::Layer(number, LayerFault::BadId))?;
+    let id = String::from_str(alloc, id)?;
+    Ok(Edit::Delete { side, id })
+}

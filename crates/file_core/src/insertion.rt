@@ -1,0 +1,39 @@
+//! Rows of a layer's file are inserted into the layer that is loaded.
+ghost use Rattle.std.specs.Prelude.{◌≡◌, ◌≢◌, Ok, Err, All, OnOk, IfErr};
+ghost use Rattle.file_core.specs.Batches.{HasId, with_rows};
+ghost use Rattle.file_core.specs.LayerFiles.{with_row};
+ghost use Rattle.file_core.specs.LayerRows.{content_of};
+
+use crate::layer_row::ReadRow;
+use crate::read_fault::ReadFault;
+use layer_core::Loading;
+
+/// Inserts the feature of a row.
+pub(crate) fn add_row(loading: &mut Loading, row: ReadRow) -> Result<(), ReadFault>
+    requires { HasId row }
+    ensures ok { OnOk result
+        (with_row row.number loading.old (Ok (content_of row)) ≡ Ok loading.new) }
+    ensures err { IfErr result (λ fault. fault ≢ ReadFault.Memory
+        → with_row row.number loading.old (Ok (content_of row)) ≡ Err fault) }
+    ensures no_io { result ≢ Err ReadFault.Io }
+{
+    let ReadRow { number, id, shape } = row;
+    match loading.add(id, shape) {
+        Ok(()) => Ok(()),
+        Err(fault) => Err(ReadFault::of_row(number, fault)),
+    }
+}
+
+/// Inserts the features of some rows in turn, up to the first that is refused.
+pub(crate) fn add_rows(loading: &mut Loading, rows: Vec<ReadRow>) -> Result<(), ReadFault>
+    requires { All HasId rows.items }
+    ensures ok { OnOk result (with_rows loading.old rows.items ≡ Ok loading.new) }
+    ensures err { IfErr result (λ fault. fault ≢ ReadFault.Memory
+        → with_rows loading.old rows.items ≡ Err fault) }
+    ensures no_io { result ≢ Err ReadFault.Io }
+{
+    for row in rows {
+        add_row(loading, row)?;
+    }
+    Ok(())
+}

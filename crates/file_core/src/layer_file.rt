@@ -1,0 +1,143 @@
+//! CSV files of layers.
+ghost use Rattle.std.specs.Prelude.{◌≡◌, ◌≢◌, ◌≤◌, ◌↔◌, false, Err, IsErrOf, IsTrue, IfSome};
+ghost use Rattle.file_core.specs.LayerFiles.{IsLayerFile, list_read};
+ghost use Rattle.layer_core.specs.Limits.{most_features};
+
+use crate::batch::{add_and_read, read_batch};
+use crate::insertion::{add_row, add_rows};
+use crate::layer_row::read_row;
+use crate::read_fault::ReadFault;
+use crate::rows::Rows;
+use crate::source::{Source, read_all};
+use layer_core::{Layer, Loading, MAX_FEATURES};
+use std::alloc::Global;
+use std::hash::RandomState;
+use std::thread::Threads;
+use wkt_core::Scale;
+
+/// The columns of a layer's file.
+const COLUMNS: [&str; 2] = ["id", "wkt"];
+
+// From how many bytes at its start the number of a file's rows is guessed.
+const SAMPLE: usize = 65_536;
+
+/// The layer that a CSV file stands for. `state` hashes the ids.
+///
+/// Where `threads` is more than 1, one thread reads rows ahead while another inserts those before
+/// them. The answer is the same.
+///
+/// The file is records of comma-separated fields with double quotes where needed (RFC 4180), with
+/// line ends LF or CR LF. Its header is `id,wkt`, in any ASCII case, with or without a byte order
+/// mark before it. Each row inserts a feature, by [`Layer::insert`].
+///
+/// # Errors
+/// [`ReadFault::TooLong`] and [`ReadFault::Header`], in this order, and then the fault of the
+/// first row that has one: [`ReadFault::Row`] where it hasn't two fields, else
+/// [`LayerFault::BadId`], else [`ReadFault::Wkt`], else [`LayerFault::DoubleId`], else
+/// [`LayerFault::LayerFull`]. [`ReadFault::Memory`] may come in place of any other.
+pub fn layer_of_bytes<R: Threads + Sync>(
+    alloc: Global,
+    state: RandomState,
+    bytes: Vec<u8>,
+    scale: Scale,
+    threads: u32,
+    rt: &R,
+) -> Result<Layer, ReadFault>
+    ensures file { result ≢ Err ReadFault.Memory
+        → IsLayerFile scale bytes.items (list_read result) }
+    ensures no_io { result ≢ Err ReadFault.Io }
+{
+    let loading = load_by(alloc, state, bytes.as_slice(), scale, threads, rt)?;
+    // The tree is packed when the file's memory is free again.
+    drop(bytes);
+    Ok(loading.finish_by_threads(alloc, threads, rt)?)
+}
+
+/// The layer that a file stands for, which is read from a source that hasn't failed.
+///
+/// # Errors
+/// Those of [`read_all`], and then those of [`layer_of_bytes`].
+pub fn read_layer<S: Source>(
+    alloc: Global,
+    state: RandomState,
+    source: &mut S,
+    scale: Scale,
+) -> Result<Layer, ReadFault>
+    requires { S.has_failed source.old ≡ false }
+    ensures io { IsErrOf result ReadFault.Io ↔ IsTrue (S.has_failed source.new) }
+    ensures file { result ≢ Err ReadFault.Io → result ≢ Err ReadFault.Memory
+        → IfSome (S.remaining source.old) (λ bytes. IsLayerFile scale bytes (list_read result)) }
+{
+    let bytes = read_all(alloc, source)?;
+    let loading = load(alloc, state, bytes.as_slice(), scale)?;
+    // The tree is packed when the file's memory is free again.
+    drop(bytes);
+    Ok(loading.finish(alloc)?)
+}
+
+// The features of a file, whose tree isn't packed yet, by one thread or by two.
+fn load_by<R: Threads + Sync>(
+    alloc: Global,
+    state: RandomState,
+    bytes: &[u8],
+    scale: Scale,
+    threads: u32,
+    rt: &R,
+) -> Result<Loading, ReadFault>
+    ensures file { result ≢ Err ReadFault.Memory → IsLayerFile scale bytes.now result }
+    ensures no_io { result ≢ Err ReadFault.Io }
+{
+    if threads > 1 {
+        load_ahead(alloc, state, bytes, scale, rt)
+    } else {
+        load(alloc, state, bytes, scale)
+    }
+}
+
+// The features of a file, row by row.
+fn load(alloc: Global, state: RandomState, bytes: &[u8], scale: Scale) -> Result<Loading, ReadFault>
+    ensures file { result ≢ Err ReadFault.Memory → IsLayerFile scale bytes.now result }
+    ensures no_io { result ≢ Err ReadFault.Io }
+{
+    let mut rows = Rows::open(alloc, bytes, &COLUMNS)?;
+    let mut loading = Loading::new(alloc, state, likely_rows(bytes))?;
+    while let Some(number) = rows.next()? {
+        add_row(&mut loading, read_row(alloc, number, rows.row(), scale)?)?;
+    }
+    Ok(loading)
+}
+
+// The same, by two threads: while one inserts a batch of rows, the other reads the next one.
+fn load_ahead<R: Threads + Sync>(
+    alloc: Global,
+    state: RandomState,
+    bytes: &[u8],
+    scale: Scale,
+    rt: &R,
+) -> Result<Loading, ReadFault>
+    ensures file { result ≢ Err ReadFault.Memory → IsLayerFile scale bytes.now result }
+    ensures no_io { result ≢ Err ReadFault.Io }
+{
+    let mut rows = Rows::open(alloc, bytes, &COLUMNS)?;
+    let mut loading = Loading::new(alloc, state, likely_rows(bytes))?;
+    let mut batch = read_batch(alloc, &mut rows, scale);
+    while let Ok(true) = batch.more {
+        let (added, next) = add_and_read(rt, alloc, scale, loading, batch.rows, rows);
+        loading = added?;
+        (rows, batch) = next;
+    }
+    add_rows(&mut loading, batch.rows)?;
+    batch.more?;
+    Ok(loading)
+}
+
+// How many rows a file is likely to have that a layer can take, judged by its first lines. A wrong
+// guess costs time or memory alone.
+fn likely_rows(bytes: &[u8]) -> usize
+    ensures { result ≤ most_features }
+{
+    let sample = &bytes[..bytes.len().min(SAMPLE)];
+    let lines = sample.iter().filter(|byte| **byte == b'\n').count();
+    let samples = bytes.len() / SAMPLE + 1;
+    lines.saturating_mul(samples).min(MAX_FEATURES)
+}

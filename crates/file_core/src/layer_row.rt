@@ -1,0 +1,44 @@
+//! What a row of a layer's file says by itself.
+ghost use Rattle.std.specs.Prelude.{◌≡◌, ◌≢◌, Ok, Err, IfOk, IfErr};
+ghost use Rattle.csv.specs.Records.{fields_of};
+ghost use Rattle.file_core.specs.LayerRows.{RowSays, content_of};
+ghost use Rattle.file_core.specs.Batches.{HasId};
+
+use crate::fields::{id_in, two_fields};
+use crate::read_fault::ReadFault;
+use csv::ByteRecord;
+use geom_core::Shape;
+use layer_core::LayerFault;
+use std::alloc::Global;
+use wkt_core::Scale;
+
+/// A row that was read well: its number, and the id and the shape of its feature.
+#[derive(Drop)]
+pub(crate) struct ReadRow {
+    pub(crate) number: u32,
+    pub(crate) id: String,
+    pub(crate) shape: Shape,
+}
+
+/// What the row of this number says, or its own fault: that its fields aren't two, else that the
+/// id isn't one, else that of the geometry.
+pub(crate) fn read_row(
+    alloc: Global,
+    number: u32,
+    row: &ByteRecord,
+    scale: Scale,
+) -> Result<ReadRow, ReadFault>
+    ensures number { IfOk result (λ read. read.number ≡ number) }
+    ensures says { IfOk result
+        (λ read. RowSays scale number (fields_of row.now) (Ok (content_of read))) }
+    ensures id { IfOk result HasId }
+    ensures fault { IfErr result (λ fault. fault ≢ ReadFault.Memory
+        → RowSays scale number (fields_of row.now) (Err fault)) }
+    ensures no_io { result ≢ Err ReadFault.Io }
+{
+    let (id, wkt) = two_fields(row).ok_or(ReadFault::Row(number))?;
+    let id = id_in(id).ok_or(ReadFault::Layer(number, LayerFault::BadId))?;
+    let shape = wkt_core::read(wkt, scale).map_err(|fault| ReadFault::Wkt(number, fault))?;
+    let id = String::from_str(alloc, id)?;
+    Ok(ReadRow { number, id, shape })
+}

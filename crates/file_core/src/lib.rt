@@ -1,0 +1,17 @@
+//! CSV files of layers and of edits, and the sources that they are read from.
+#![tactic(auto)]
+
+mod batch;
+mod edit_file;
+mod fields;
+mod insertion;
+mod layer_file;
+mod layer_row;
+mod read_fault;
+mod rows;
+mod source;
+
+pub use edit_file::{edits_of_bytes, read_edits};
+pub use layer_file::{layer_of_bytes, read_layer};
+pub use read_fault::ReadFault;
+pub use source::{Failed, FromRead, MAX_FILE_BYTES, Source, read_all};

@@ -1,0 +1,96 @@
+//! Why a file can't be read.
+
+use layer_core::LayerFault;
+use std::alloc::AllocError;
+use std::error::Error;
+use std::fmt;
+use wkt_core::WktFault;
+
+/// Why a file can't be read. Rows are counted from 1, the header aside.
+#[derive(Clone, Copy, Debug, PartialEq, Eq)]
+pub enum ReadFault {
+    /// A read failed.
+    Io,
+    /// The file has more than [`crate::MAX_FILE_BYTES`] bytes.
+    TooLong,
+    /// The file doesn't begin with the names of its columns.
+    Header,
+    /// The fields of this row aren't those of its kind of file.
+    Row(u32),
+    /// The geometry of this row can't be read.
+    Wkt(u32, WktFault),
+    /// The layer refuses this row.
+    Layer(u32, LayerFault),
+    /// Memory was refused.
+    Memory,
+}
+
+impl ReadFault {
+    ghost use Rattle.std.specs.Prelude.{◌≡◌, ◌≢◌, ◌≤◌, length};
+    ghost use Rattle.file_core.specs.FaultTexts.{cause_text, row_of};
+    ghost use Rattle.file_core.specs.LayerFiles.{fault_of_row};
+
+    /// The layer's refusal of a row. Want of memory is no fault of the row.
+    pub(crate) fn of_row(number: u32, fault: LayerFault) -> ReadFault
+        ensures fault { result ≡ fault_of_row number fault }
+        ensures no_io { result ≢ ReadFault.Io }
+    {
+        match fault {
+            LayerFault::Memory => ReadFault::Memory,
+            _ => ReadFault::Layer(number, fault),
+        }
+    }
+
+    /// The row that is at fault, if one is.
+    pub fn row(&self) -> Option<u32>
+        ensures { result ≡ row_of self.now }
+    {
+        match self {
+            ReadFault::Row(row) | ReadFault::Wkt(row, _) | ReadFault::Layer(row, _) => Some(*row),
+            ReadFault::Io | ReadFault::TooLong | ReadFault::Header | ReadFault::Memory => None,
+        }
+    }
+
+    /// What is wrong, with the row where one is at fault, in a few words of at most 50 bytes.
+    pub fn text(&self) -> &'static str
+        ensures text { result.now ≡ cause_text self.now }
+        ensures short { length result.now ≤ 50 }
+    {
+        match self {
+            ReadFault::Io => "read failed",
+            ReadFault::TooLong => "file is too long",
+            ReadFault::Header => "wrong header",
+            ReadFault::Row(_) => "wrong fields",
+            ReadFault::Wkt(_, fault) => fault.text(),
+            ReadFault::Layer(_, fault) => fault.text(),
+            ReadFault::Memory => "no memory",
+        }
+    }
+}
+
+impl fmt::Display for ReadFault {
+    ghost use Rattle.std.specs.Prelude.{Some};
+    ghost use Rattle.file_core.specs.FaultTexts.{read_text};
+
+    ghost output = { λ fault. Some (read_text fault) };
+
+    fn fmt<W: fmt::Write>(&self, f: &mut fmt::Formatter<W>) -> fmt::Result {
+        if let Some(row) = self.row() {
+            write!(f, "row {row}: ")?;
+        }
+        f.write_str(self.text())
+    }
+}
+
+impl Error for ReadFault {}
+
+impl From<AllocError> for ReadFault {
+    ghost use Rattle.std.specs.Prelude.{◌≡◌};
+    ghost use Rattle.file_core.specs.declared.read_fault.ReadFault.TheVariants.{Memory};
+
+    ghost from_gives = { λ _ fault. fault ≡ Memory };
+
+    fn from(_error: AllocError) -> ReadFault {
+        ReadFault::Memory
+    }
+}

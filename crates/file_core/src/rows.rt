@@ -1,0 +1,122 @@
+//! The rows of a CSV file, one after another.
+ghost use Rattle.std.specs.Prelude.{◌≡◌, ◌≢◌, ◌↔◌, [], Err, map, IsTrue, IfOk, IfErr, MatchOption};
+ghost use Rattle.std.specs.Bool.{MatchBool};
+ghost use Rattle.csv.specs.Reading.{error_kind};
+ghost use Rattle.csv.specs.Records.{fields_of};
+ghost use Rattle.file_core.specs.Rows.{IsHeader};
+ghost use Rattle.file_core.specs.Records.{records_of, records_left, IsBetweenRecords};
+ghost use Rattle.file_core.specs.Records.{IsRefusedOrUnread, TakesRecord};
+
+use crate::read_fault::ReadFault;
+use crate::source::MAX_FILE_BYTES;
+use csv::{ByteRecord, Error, Reader, ReaderBuilder};
+use std::alloc::{AllocError, Global};
+
+/// The rows of a file, in turn.
+#[derive(Drop)]
+pub(crate) struct Rows<'a> {
+    reader: Reader<&'a [u8]>,
+    // The row that was read last.
+    row: ByteRecord,
+    // How many rows were read.
+    count: u32,
+}
+
+impl<'a> Rows<'a> {
+    ghost use Rattle.file_core.specs.Rows.{last_row, rows_left, AreRows, IsOpened, IsReading};
+    ghost use Rattle.file_core.specs.Rows.{ReadsRow};
+
+    /// The rows of a file, behind its header, which names these columns in any ASCII case.
+    pub(crate) fn open(
+        alloc: Global,
+        file: &'a [u8],
+        columns: &[&str],
+    ) -> Result<Rows<'a>, ReadFault>
+        ensures ok { IfOk result (λ rows. IsOpened (map (λ c. c.now) columns.now) file.now rows) }
+        ensures err { IfErr result (λ fault. fault ≢ ReadFault.Memory
+            → AreRows (map (λ c. c.now) columns.now) file.now (Err fault)) }
+        ensures no_io { result ≢ Err ReadFault.Io }
+    {
+        if file.len() > MAX_FILE_BYTES {
+            return Err(ReadFault::TooLong);
+        }
+        let mut reader = records(alloc, file);
+        let mut row = ByteRecord::new(alloc);
+        if !next_record(&mut reader, &mut row)? || !is_header(&row, columns) {
+            return Err(ReadFault::Header);
+        }
+        Ok(Rows {
+            reader,
+            row,
+            count: 0,
+        })
+    }
+
+    /// Reads the next row, and answers its number. The first is 1.
+    pub(crate) fn next(&mut self) -> Result<Option<u32>, AllocError>
+        requires { IsReading self.old }
+        ensures { IfOk result
+            (λ row. MatchOption row (rows_left self.old ≡ []) (λ n. ReadsRow self.old n self.new)) }
+    {
+        if !next_record(&mut self.reader, &mut self.row)? {
+            return Ok(None);
+        }
+        self.count += 1;
+        Ok(Some(self.count))
+    }
+
+    /// The row that was read last.
+    pub(crate) fn row(&self) -> &ByteRecord
+        ensures { fields_of result.now ≡ last_row self.now }
+    {
+        &self.row
+    }
+}
+
+// A reader of all records of the text. They may differ in length, and the first is like any other.
+fn records(alloc: Global, text: &[u8]) -> Reader<&[u8]>
+    ensures reading { IsBetweenRecords result }
+    ensures records { records_left result ≡ records_of text.now }
+{
+    ReaderBuilder::new()
+        .has_headers(false)
+        .flexible(true)
+        .from_reader(alloc, text)
+}
+
+// Reads the next record and answers true, or false where there is none left.
+fn next_record(reader: &mut Reader<&[u8]>, row: &mut ByteRecord) -> Result<bool, AllocError>
+    requires { IsBetweenRecords reader.old }
+    ensures { IfOk result (λ found. MatchBool found
+        (TakesRecord reader.old (fields_of row.new) reader.new) (records_left reader.old ≡ [])) }
+{
+    match reader.read_byte_record(row) {
+        Ok(found) => Ok(found),
+        Err(error) => Err(want_of_memory(error)),
+    }
+}
+
+// Bytes in memory are always read, so an error that is no record's is want of memory.
+fn want_of_memory(error: Error) -> AllocError
+    requires { IsRefusedOrUnread (error_kind error) }
+{
+    AllocError
+}
+
+// Whether a record names these columns, in any ASCII case.
+fn is_header(row: &ByteRecord, columns: &[&str]) -> bool
+    ensures { IsTrue result ↔ IsHeader (map (λ c. c.now) columns.now) (fields_of row.now) }
+{
+    if row.len() != columns.len() {
+        return false;
+    }
+    for (i, column) in columns.iter().enumerate() {
+        let Some(field) = row.get(i) else {
+            return false;
+        };
+        if !field.eq_ignore_ascii_case(column.as_bytes()) {
+            return false;
+        }
+    }
+    true
+}

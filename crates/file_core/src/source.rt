@@ -1,0 +1,114 @@
+//! Where bytes are read from, and reading all of them.
+ghost use Rattle.std.specs.Prelude.{◌≡◌, ◌≤◌, ◌<◌, ◌↔◌, ℕ, List, Option, None, Bool, true, false};
+ghost use Rattle.std.specs.Prelude.{length, is_err, IfOk, IfErr, IfSome, IsErrOf, IsTrue};
+ghost use Rattle.std.specs.Io.KnownBytes.{ReadConsumes};
+ghost use Rattle.file_core.specs.Limits.{most_file_bytes};
+ghost use Rattle.file_core.specs.Sources.{IsReadingFault};
+
+use crate::read_fault::ReadFault;
+use std::alloc::Global;
+use std::io::{ErrorKind, Read};
+
+/// How many bytes a file may have.
+pub const MAX_FILE_BYTES: usize = 134_217_728;
+
+// How many bytes one read may give.
+const CHUNK: usize = 16_384;
+
+/// A read that failed.
+#[derive(Clone, Copy, Debug, PartialEq, Eq)]
+pub struct Failed;
+
+/// What bytes are read from, and what remembers that a read failed.
+pub trait Source {
+    // The bytes that reads will give from here on, where they are known.
+    ghost remaining: { Self → Option (List ℕ) } = { λ _. None };
+
+    // Whether a read has failed.
+    ghost has_failed: { Self → Bool };
+
+    /// Reads some bytes into the buffer, and answers how many: none only at the end, or where the
+    /// buffer is empty. Where it fails, no byte is taken.
+    fn read(&mut self, buffer: &mut [u8]) -> Result<usize, Failed>
+        requires { has_failed self.old ≡ false }
+        ensures bound { IfOk result (λ n. n ≤ length buffer.new) }
+        ensures bytes { ReadConsumes (remaining self.old) (remaining self.new) result buffer.new }
+        ensures failed { has_failed self.new ≡ is_err result };
+
+    /// Whether a read has failed.
+    fn failed(&self) -> bool
+        ensures { result ≡ has_failed self.now };
+}
+
+/// The source of a reader's bytes. A read that a signal interrupts is tried again.
+#[derive(Drop)]
+pub struct FromRead<R> {
+    reader: R,
+    failed: bool,
+}
+
+impl<R: Read> FromRead<R> {
+    /// A source that hasn't failed.
+    pub fn new(reader: R) -> FromRead<R>
+        ensures remaining { ⟦<FromRead<R> as Source>⟧.remaining result ≡ R.remaining reader }
+        ensures fresh { ⟦<FromRead<R> as Source>⟧.has_failed result ≡ false }
+    {
+        FromRead {
+            reader,
+            failed: false,
+        }
+    }
+}
+
+impl<R: Read> Source for FromRead<R> {
+    ghost remaining = { λ source. R.remaining source.reader };
+
+    ghost has_failed = { λ source. source.failed };
+
+    fn read(&mut self, buffer: &mut [u8]) -> Result<usize, Failed> {
+        'tries: for _ in 0..u64::MAX {
+            match self.reader.read(buffer) {
+                Ok(count) => return Ok(count),
+                Err(e) if e.kind() == ErrorKind::Interrupted => {}
+                Err(_) => break 'tries,
+            }
+        }
+        self.failed = true;
+        Err(Failed)
+    }
+
+    fn failed(&self) -> bool {
+        self.failed
+    }
+}
+
+/// All bytes of a source that hasn't failed.
+///
+/// # Errors
+/// [`ReadFault::Io`] where a read fails, [`ReadFault::TooLong`] where more than
+/// [`MAX_FILE_BYTES`] come, and [`ReadFault::Memory`].
+pub fn read_all<S: Source>(alloc: Global, source: &mut S) -> Result<Vec<u8>, ReadFault>
+    requires { S.has_failed source.old ≡ false }
+    ensures bytes { IfOk result
+        (λ all. IfSome (S.remaining source.old) (λ left. all.items ≡ left)) }
+    ensures few { IfOk result (λ all. length all.items ≤ most_file_bytes) }
+    ensures too_long { IsErrOf result ReadFault.TooLong
+        → IfSome (S.remaining source.old) (λ left. most_file_bytes < length left) }
+    ensures io { IsErrOf result ReadFault.Io ↔ IsTrue (S.has_failed source.new) }
+    ensures others { IfErr result IsReadingFault }
+{
+    let mut all = Vec::new(alloc);
+    let mut chunk = [0; CHUNK];
+    loop {
+        let Ok(count) = source.read(&mut chunk) else {
+            return Err(ReadFault::Io);
+        };
+        if count == 0 {
+            return Ok(all);
+        }
+        if count > MAX_FILE_BYTES - all.len() {
+            return Err(ReadFault::TooLong);
+        }
+        all.extend_from_slice(&chunk[..count])?;
+    }
+}

@@ -1,5 +1,0 @@
-use Rattle.std.proofs.Common.{Err}
-use Rattle.rjoin.proofs.program.run_program.Goals as goal
-
-pub returns-in-Err : goal.returns-in-Err
-returns-in-Err g c = record { read = Err c.in-Err.fault; done = c.show_word_fault.ensures }

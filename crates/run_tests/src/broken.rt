@@ -1,0 +1,87 @@
+//! Joins whose readers or writers fail or move one byte at a time, and of an id that has to be
+//! quoted.
+
+use crate::device::{has_front, make_device};
+use crate::example::{EDITED, RIGHT};
+use crate::running::{Files, at_once, edited_example, ends, run};
+use file_core::ReadFault;
+use geom_core::Relation;
+use join_core::{Input, Options, RunFault};
+use std::random::RandomSource;
+use std::sync::Wait;
+use std::thread::Threads;
+
+#[test]
+fn broken_9(rt: HostRuntime) {
+    let files = Files {
+        left: at_once("id,wkt\n\"a,\"\"b\",POINT (4 4)\n"),
+        right: at_once(RIGHT),
+        edits: Some(at_once("op,layer,id,wkt\n")),
+    };
+    let report = "left,right,matrix\n\"a,\"\"b\",x,F0FFFF212\n";
+    assert!(rt; ends(&rt, &files, Ok(()), report) == Some(true));
+}
+
+/// The files of the example with its edits, one of which fails after so many reads.
+fn failing(input: Input, reads: usize) -> Files<'static> {
+    let mut files = edited_example();
+    match input {
+        Input::Left => files.left = files.left.failing_after(reads),
+        Input::Right => files.right = files.right.failing_after(reads),
+        _ => files.edits = files.edits.map(|edits| edits.failing_after(reads)),
+    }
+    files
+}
+
+/// The files of the example with its edits, each read one byte at a time.
+fn bytewise() -> Files<'static> {
+    let mut files = edited_example();
+    files.left = files.left.by(1);
+    files.right = files.right.by(1);
+    files.edits = files.edits.map(|edits| edits.by(1));
+    files
+}
+
+#[test]
+fn broken_10(rt: HostRuntime) {
+    for input in [Input::Left, Input::Right, Input::Edits] {
+        let fault = RunFault::Read(input, ReadFault::Io);
+        for reads in [0, 1] {
+            assert!(rt; ends(&rt, &failing(input, reads), Err(fault), "") == Some(true));
+        }
+    }
+    assert!(rt; ends(&rt, &bytewise(), Ok(()), EDITED) == Some(true));
+}
+
+/// Whether a device with this room that takes so many bytes a call is given the front of the report
+/// that it has room for.
+fn writes_front<R: Threads + Wait + Sync + RandomSource + AllocGlobal>(
+    rt: &R,
+    room: usize,
+    step: usize,
+) -> Option<bool> {
+    let mut sink = make_device(rt.alloc(), room, step);
+    let options = Options::new(4, 256, 2).ok()?;
+    let outcome = run(
+        rt,
+        &edited_example(),
+        Relation::Touches,
+        &options,
+        &mut sink,
+    )?;
+    Some(has_front(
+        outcome,
+        sink.into_inner().taken.as_slice(),
+        EDITED.as_bytes(),
+        room,
+    ))
+}
+
+#[test]
+fn broken_11(rt: HostRuntime) {
+    for step in [1, 7] {
+        for room in 0..EDITED.len() + 2 {
+            assert!(rt; writes_front(&rt, room, step) == Some(true));
+        }
+    }
+}

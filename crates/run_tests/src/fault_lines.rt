@@ -1,0 +1,166 @@
+//! The lines of faults.
+
+use deliver_core::Refusal;
+use file_core::ReadFault;
+use join_core::{Input, JoinFault, RunFault, ToWrite, fault_line};
+use layer_core::LayerFault;
+use std::alloc::Global;
+use wkt_core::WktFault;
+
+/// Whether the line of a fault says this text.
+fn has_line(alloc: Global, fault: &RunFault, text: &str) -> Option<bool> {
+    let mut sink = ToWrite::new(Vec::new(alloc));
+    fault_line(fault, &mut sink).ok()?;
+    let written: Vec<u8> = sink.into_inner();
+    let line = format!(in alloc; "rjoin: {text}\n").ok()?;
+    Some(written.as_slice() == line.as_bytes())
+}
+
+/// Whether a fault shows as this text.
+fn shows(alloc: Global, fault: &RunFault, text: &str) -> Option<bool> {
+    Some(format!(in alloc; "{fault}").ok()?.as_str() == text)
+}
+
+/// Whether the line of a fault says this text, and the fault shows as it.
+fn says(alloc: Global, fault: &RunFault, text: &str) -> bool {
+    has_line(alloc, fault, text) == Some(true) && shows(alloc, fault, text) == Some(true)
+}
+
+/// Whether each of these faults says its text.
+fn all_say(alloc: Global, lines: &[(RunFault, &str)]) -> bool {
+    for (fault, text) in lines {
+        if !says(alloc, fault, text) {
+            return false;
+        }
+    }
+    true
+}
+
+const OF_FILES_AND_TEXTS: &[(RunFault, &str)] = &[
+    (RunFault::NoFile(Input::Left), "left: cannot be opened"),
+    (RunFault::NoFile(Input::Right), "right: cannot be opened"),
+    (RunFault::NoFile(Input::Edits), "edits: cannot be opened"),
+    (RunFault::NoFile(Input::Layer), "layer: cannot be opened"),
+    (
+        RunFault::Wkt(Input::Window, WktFault::Text),
+        "window: not a geometry text",
+    ),
+    (
+        RunFault::Wkt(Input::First, WktFault::Text),
+        "first: not a geometry text",
+    ),
+    (
+        RunFault::Wkt(Input::Second, WktFault::Number),
+        "second: number not whole or out of range",
+    ),
+    (
+        RunFault::Wkt(Input::First, WktFault::Form),
+        "first: not a point, axis-parallel segment or rectangle",
+    ),
+];
+
+#[test]
+fn files_and_texts(rt: HostRuntime) {
+    assert!(rt; all_say(rt.alloc(), OF_FILES_AND_TEXTS));
+}
+
+const OF_READING: &[(RunFault, &str)] = &[
+    (
+        RunFault::Read(Input::Left, ReadFault::Io),
+        "left: read failed",
+    ),
+    (
+        RunFault::Read(Input::Left, ReadFault::TooLong),
+        "left: file is too long",
+    ),
+    (
+        RunFault::Read(Input::Left, ReadFault::Header),
+        "left: wrong header",
+    ),
+    (
+        RunFault::Read(Input::Left, ReadFault::Row(7)),
+        "left: row 7: wrong fields",
+    ),
+    (
+        RunFault::Read(Input::Left, ReadFault::Wkt(4_000_000_000, WktFault::Text)),
+        "left: row 4000000000: not a geometry text",
+    ),
+    (
+        RunFault::Read(Input::Left, ReadFault::Layer(1, LayerFault::DoubleId)),
+        "left: row 1: id is already there",
+    ),
+    (
+        RunFault::Read(Input::Left, ReadFault::Memory),
+        "left: no memory",
+    ),
+];
+
+#[test]
+fn reading(rt: HostRuntime) {
+    assert!(rt; all_say(rt.alloc(), OF_READING));
+}
+
+const OF_EDITS: &[(RunFault, &str)] = &[
+    (
+        RunFault::Edit(2, LayerFault::BadId),
+        "edits: row 2: id must have 1 to 64 bytes of UTF-8",
+    ),
+    (
+        RunFault::Edit(2, LayerFault::DoubleId),
+        "edits: row 2: id is already there",
+    ),
+    (
+        RunFault::Edit(2, LayerFault::LayerFull),
+        "edits: row 2: layer is full",
+    ),
+    (
+        RunFault::Edit(2, LayerFault::NoSuchId),
+        "edits: row 2: no such id",
+    ),
+    (
+        RunFault::Edit(2, LayerFault::Memory),
+        "edits: row 2: no memory",
+    ),
+];
+
+#[test]
+fn edits(rt: HostRuntime) {
+    assert!(rt; all_say(rt.alloc(), OF_EDITS));
+}
+
+const OF_JOINS: &[(RunFault, &str)] = &[
+    (RunFault::Join(JoinFault::Memory), "no memory"),
+    (
+        RunFault::Join(JoinFault::NoThread),
+        "a worker could not be started",
+    ),
+    (
+        RunFault::Join(JoinFault::Refused(Refusal::Gap)),
+        "a message was refused",
+    ),
+    (
+        RunFault::Join(JoinFault::Refused(Refusal::Stranger)),
+        "a message was refused",
+    ),
+    (
+        RunFault::Join(JoinFault::Open(65_535)),
+        "task 65535 was not ended",
+    ),
+];
+
+#[test]
+fn joins(rt: HostRuntime) {
+    assert!(rt; all_say(rt.alloc(), OF_JOINS));
+}
+
+const OF_THE_MACHINE: &[(RunFault, &str)] = &[
+    (RunFault::TooManyToDraw, "more than 100000 features to draw"),
+    (RunFault::Write, "write failed"),
+    (RunFault::Memory, "no memory"),
+    (RunFault::NoKeys, "no random keys for hashing"),
+];
+
+#[test]
+fn the_machine(rt: HostRuntime) {
+    assert!(rt; all_say(rt.alloc(), OF_THE_MACHINE));
+}

@@ -1,0 +1,140 @@
+//! The rows of `run_window` and `run_stats`, and devices that fail under them.
+
+ghost use Rattle.std.specs.Prelude.{◌≡◌, false};
+ghost use Rattle.output_core.specs.ToWrite.{failed_of};
+
+use crate::device::{has_front, make_device};
+use crate::example::{LEFT, RIGHT};
+use crate::running::Ended;
+use file_core::{FromRead, ReadFault};
+use join_core::{Input, RunFault, ToWrite, run_stats, run_window};
+use layer_core::LayerFault;
+use std::hash::RandomState;
+use std::io::Write;
+use wkt_core::{Scale, WktFault};
+
+const COUNTS: &str = "features 3\npoints 1\nsegments 1\nrectangles 1\nheight 1\n";
+
+/// What a window over a layer answers that writes into this sink.
+fn window<W: Write>(
+    rt: &HostRuntime,
+    layer: &str,
+    wkt: &str,
+    sink: &mut ToWrite<W>,
+) -> Option<Result<(), RunFault>>
+    requires { failed_of sink.old ≡ false }
+{
+    let (state, scale) = (RandomState::new(rt).ok()?, Scale::new(0)?);
+    let mut layer = FromRead::new(layer.as_bytes());
+    Some(run_window(rt.alloc(), state, scale, &mut layer, wkt.as_bytes(), sink))
+}
+
+/// What counting a layer answers that writes into this sink.
+fn stats<W: Write>(
+    rt: &HostRuntime,
+    layer: &str,
+    sink: &mut ToWrite<W>,
+) -> Option<Result<(), RunFault>>
+    requires { failed_of sink.old ≡ false }
+{
+    let (state, scale) = (RandomState::new(rt).ok()?, Scale::new(0)?);
+    let mut layer = FromRead::new(layer.as_bytes());
+    Some(run_stats(rt.alloc(), state, scale, &mut layer, sink))
+}
+
+/// Whether a window over a layer answers and writes this.
+fn finds(
+    rt: &HostRuntime,
+    layer: &str,
+    wkt: &str,
+    outcome: Result<(), RunFault>,
+    text: &str,
+) -> Option<bool> {
+    let mut sink = ToWrite::new(Vec::new(rt.alloc()));
+    let ended = window(rt, layer, wkt, &mut sink)?;
+    Some(Ended::new(ended, sink.into_inner()).is(outcome, text))
+}
+
+/// Whether counting a layer answers and writes this.
+fn counts(
+    rt: &HostRuntime,
+    layer: &str,
+    outcome: Result<(), RunFault>,
+    text: &str,
+) -> Option<bool> {
+    let mut sink = ToWrite::new(Vec::new(rt.alloc()));
+    let ended = stats(rt, layer, &mut sink)?;
+    Some(Ended::new(ended, sink.into_inner()).is(outcome, text))
+}
+
+#[test]
+fn join_touches(rt: HostRuntime) {
+    assert!(rt; counts(&rt, LEFT, Ok(()), COUNTS) == Some(true));
+    assert!(rt; finds(&rt, RIGHT, "POINT (4 4)", Ok(()), "id\nx\ny\n") == Some(true));
+}
+
+#[test]
+fn empty_layers(rt: HostRuntime) {
+    let zeros = "features 0\npoints 0\nsegments 0\nrectangles 0\nheight 0\n";
+    assert!(rt; counts(&rt, "id,wkt\n", Ok(()), zeros) == Some(true));
+    assert!(rt; finds(&rt, "id,wkt\n", "POINT (4 4)", Ok(()), "id\n") == Some(true));
+}
+
+#[test]
+fn quoted_ids_in_layer_order(rt: HostRuntime) {
+    let layer = "id,wkt\nz,POINT (9 9)\n\"a, b\",POINT (0 0)\n\
+         far,POINT (90 0)\n\"say \"\"a\"\"\",POINT (5 0)\n";
+    let window = "POLYGON ((0 0, 9 0, 9 9, 0 9, 0 0))";
+    let ids = "id\nz\n\"a, b\"\n\"say \"\"a\"\"\"\n";
+    assert!(rt; finds(&rt, layer, window, Ok(()), ids) == Some(true));
+}
+
+#[test]
+fn first_fault_is_answered(rt: HostRuntime) {
+    let text = RunFault::Wkt(Input::Window, WktFault::Text);
+    assert!(rt; finds(&rt, "id,geom\n", "POINT (4 4", Err(text), "") == Some(true));
+    let header = RunFault::Read(Input::Layer, ReadFault::Header);
+    assert!(rt; finds(&rt, "id,geom\n", "POINT (4 4)", Err(header), "") == Some(true));
+    let double = RunFault::Read(Input::Layer, ReadFault::Layer(2, LayerFault::DoubleId));
+    let file = "id,wkt\na,POINT (0 0)\na,POINT (1 1)\n";
+    assert!(rt; counts(&rt, file, Err(double), "") == Some(true));
+}
+
+/// Whether a device with this room is given the front of a list of ids that it has room for.
+fn lists_front(rt: &HostRuntime, ids: &str, room: usize) -> Option<bool> {
+    let mut sink = make_device(rt.alloc(), room, 3);
+    let outcome = window(rt, RIGHT, "POINT (4 4)", &mut sink)?;
+    Some(has_front(
+        outcome,
+        sink.into_inner().taken.as_slice(),
+        ids.as_bytes(),
+        room,
+    ))
+}
+
+#[test]
+fn list_to_failing_device(rt: HostRuntime) {
+    let ids = "id\nx\ny\n";
+    for room in 0..ids.len() + 2 {
+        assert!(rt; lists_front(&rt, ids, room) == Some(true));
+    }
+}
+
+/// Whether a device with this room is given the front of the counts that it has room for.
+fn counts_front(rt: &HostRuntime, room: usize) -> Option<bool> {
+    let mut sink = make_device(rt.alloc(), room, 7);
+    let outcome = stats(rt, LEFT, &mut sink)?;
+    Some(has_front(
+        outcome,
+        sink.into_inner().taken.as_slice(),
+        COUNTS.as_bytes(),
+        room,
+    ))
+}
+
+#[test]
+fn counts_to_failing_device(rt: HostRuntime) {
+    for room in [0, 1, 10, COUNTS.len() - 1, COUNTS.len()] {
+        assert!(rt; counts_front(&rt, room) == Some(true));
+    }
+}

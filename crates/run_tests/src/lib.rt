@@ -1,0 +1,25 @@
+//! Tests of runs over files, from outside: worked examples, and devices that fail.
+#![tactic(auto)]
+
+#[cfg(test)]
+mod broken;
+#[cfg(test)]
+mod device;
+#[cfg(test)]
+mod drawing;
+#[cfg(test)]
+mod example;
+#[cfg(test)]
+mod fault_lines;
+#[cfg(test)]
+mod joining;
+#[cfg(test)]
+mod layer_runs;
+#[cfg(test)]
+mod refused;
+#[cfg(test)]
+mod relating;
+#[cfg(test)]
+mod running;
+#[cfg(test)]
+mod thousand_joins;

@@ -1,0 +1,49 @@
+//! A join with each growth refused in turn.
+
+use crate::example::EDITED;
+use crate::running::{edited_example, join};
+use file_core::ReadFault;
+use geom_core::Relation;
+use join_core::{JoinFault, Options, RunFault};
+use layer_core::LayerFault;
+use std::random::RandomSource;
+use std::sync::Wait;
+use std::thread::Threads;
+
+/// Whether a fault is that memory ran out, or a thread's.
+fn is_want(fault: &RunFault) -> bool {
+    matches!(
+        fault,
+        RunFault::Memory
+            | RunFault::Join(JoinFault::Memory | JoinFault::NoThread)
+            | RunFault::Read(_, ReadFault::Memory)
+            | RunFault::Edit(_, LayerFault::Memory)
+    )
+}
+
+/// What a join answered, and whether it wrote what belongs to that; none where there was no memory
+/// to write into.
+fn attempt<R: Threads + Wait + Sync + RandomSource + AllocGlobal>(
+    rt: &R,
+) -> Option<(Result<(), RunFault>, bool)> {
+    let options = Options::new(4, 256, 2).ok()?;
+    let ended = join(rt, &edited_example(), Relation::Touches, &options)?;
+    let text = if ended.outcome.is_ok() { EDITED } else { "" };
+    Some((ended.outcome, ended.is(ended.outcome, text)))
+}
+
+// Run with each allocation failing in turn, it ends as with ample memory.
+#[test]
+fn refused_7(rt: HostRuntime) {
+    for _ in 0..10 {
+        let Some((outcome, is_written)) = attempt(&rt) else {
+            continue;
+        };
+        assert!(rt; is_written);
+        match outcome {
+            Ok(()) => return,
+            Err(fault) => assert!(rt; is_want(&fault)),
+        }
+    }
+    panic!(rt; "no memory");
+}

@@ -1,0 +1,163 @@
+//! Runs of joins over files that stand in memory.
+
+ghost use Rattle.std.specs.Prelude.{◌≡◌, false};
+ghost use Rattle.output_core.specs.ToWrite.{failed_of};
+
+use crate::example::{EDITS, LEFT, RIGHT};
+use file_core::FromRead;
+use geom_core::{JoinRelation, Relation};
+use join_core::{JoinSources, OpenGate, Options, RunFault, ToWrite, run_join};
+use std::hash::RandomState;
+use std::io;
+use std::io::{ErrorKind, Read, Write};
+use std::random::RandomSource;
+use std::sync::Wait;
+use std::thread::Threads;
+use wkt_core::Scale;
+
+/// A text, and how it is read: at most `step` bytes a read, and after so many reads a failure.
+#[derive(Drop, Clone, Copy)]
+pub struct Reading<'a> {
+    text: &'a [u8],
+    step: usize,
+    reads: usize,
+}
+
+impl Reading<'_> {
+    /// The same, read in steps of so many bytes.
+    pub fn by(self, step: usize) -> Self {
+        Reading { step, ..self }
+    }
+
+    /// The same, with a failure after so many reads.
+    pub fn failing_after(self, reads: usize) -> Self {
+        Reading { reads, ..self }
+    }
+}
+
+/// More than any text that fails has bytes.
+const MANY: usize = 10_000_000;
+
+/// A text that is read at once.
+pub fn at_once(text: &str) -> Reading<'_> {
+    Reading {
+        text: text.as_bytes(),
+        step: MANY,
+        reads: MANY,
+    }
+}
+
+impl Read for Reading<'_> {
+    fn read(&mut self, bytes: &mut [u8]) -> io::Result<usize> {
+        if self.reads == 0 {
+            return Err(io::Error::from(ErrorKind::TimedOut));
+        }
+        self.reads -= 1;
+        let count = self.step.min(self.text.len()).min(bytes.len());
+        let (now, later) = self.text.split_at(count);
+        bytes[..count].copy_from_slice(now);
+        self.text = later;
+        Ok(count)
+    }
+}
+
+/// What is joined.
+#[derive(Clone, Copy)]
+pub struct Files<'a> {
+    pub left: Reading<'a>,
+    pub right: Reading<'a>,
+    pub edits: Option<Reading<'a>>,
+}
+
+/// The files of the example.
+pub fn example() -> Files<'static> {
+    Files {
+        left: at_once(LEFT),
+        right: at_once(RIGHT),
+        edits: None,
+    }
+}
+
+/// The files of the example, with its edits.
+pub fn edited_example() -> Files<'static> {
+    Files {
+        edits: Some(at_once(EDITS)),
+        ..example()
+    }
+}
+
+/// What a join answers that writes into this sink; none where there were no keys for hashing.
+pub fn run<R: Threads + Wait + Sync + RandomSource + AllocGlobal, W: Write>(
+    rt: &R,
+    files: &Files<'_>,
+    relation: Relation,
+    options: &Options,
+    sink: &mut ToWrite<W>,
+) -> Option<Result<(), RunFault>>
+    requires { failed_of sink.old ≡ false }
+{
+    let relation = JoinRelation::new(relation).ok()?;
+    let (alloc, gate, scale) = (rt.alloc(), OpenGate, Scale::new(0)?);
+    let states = (RandomState::new(rt).ok()?, RandomState::new(rt).ok()?);
+    let mut sources = JoinSources {
+        left: FromRead::new(files.left),
+        right: FromRead::new(files.right),
+        edits: files.edits.map(|edits| FromRead::new(edits)),
+    };
+    Some(run_join(
+        rt,
+        alloc,
+        states,
+        scale,
+        &mut sources,
+        &relation,
+        options,
+        &gate,
+        sink,
+    ))
+}
+
+/// What a run answered, and what it wrote.
+#[derive(Drop)]
+pub struct Ended {
+    pub outcome: Result<(), RunFault>,
+    pub written: Vec<u8>,
+}
+
+impl Ended {
+    pub fn new(outcome: Result<(), RunFault>, written: Vec<u8>) -> Ended {
+        Ended { outcome, written }
+    }
+
+    /// Whether the answer and the text are these.
+    pub fn is(&self, outcome: Result<(), RunFault>, text: &str) -> bool {
+        self.outcome == outcome && self.written.as_slice() == text.as_bytes()
+    }
+}
+
+/// The room for a report that is there before a join, so that those of the example take no memory
+/// to write.
+const ROOM: usize = 200;
+
+/// Joins files into a list of bytes; none where there was no memory for it.
+pub fn join<R: Threads + Wait + Sync + RandomSource + AllocGlobal>(
+    rt: &R,
+    files: &Files<'_>,
+    relation: Relation,
+    options: &Options,
+) -> Option<Ended> {
+    let mut sink = ToWrite::new(Vec::with_capacity(rt.alloc(), ROOM).ok()?);
+    let outcome = run(rt, files, relation, options, &mut sink)?;
+    Some(Ended::new(outcome, sink.into_inner()))
+}
+
+/// Whether a join by touches with four workers answers and writes this.
+pub fn ends<R: Threads + Wait + Sync + RandomSource + AllocGlobal>(
+    rt: &R,
+    files: &Files<'_>,
+    outcome: Result<(), RunFault>,
+    text: &str,
+) -> Option<bool> {
+    let options = Options::new(4, 256, 2).ok()?;
+    Some(join(rt, files, Relation::Touches, &options)?.is(outcome, text))
+}

@@ -1,0 +1,92 @@
+//! A thousand joins, with few and many workers, short and long batches, and each depth of cut: all
+//! joins of the same two layers write the same bytes.
+
+use crate::running::{Files, at_once, join};
+use geom_core::Relation;
+use join_core::Options;
+use samples::{Random, shapes_text};
+use std::random::RandomSource;
+use std::sync::Wait;
+use std::thread::Threads;
+
+/// The report of a join of two files by intersects.
+fn report<R: Threads + Wait + Sync + RandomSource + AllocGlobal>(
+    rt: &R,
+    files: &Files<'_>,
+    options: &Options,
+) -> Option<Vec<u8>> {
+    let ended = join(rt, files, Relation::Intersects, options)?;
+    ended.outcome.ok()?;
+    Some(ended.written)
+}
+
+/// Whether a join, with so many workers, so long batches and this cut, writes the wanted report.
+fn writes<R: Threads + Wait + Sync + RandomSource + AllocGlobal>(
+    rt: &R,
+    files: &Files<'_>,
+    (workers, batch, cut): (u32, u32, u32),
+    wanted: &[u8],
+) -> Option<bool> {
+    let options = Options::new(workers, batch, cut).ok()?;
+    Some(report(rt, files, &options)?.as_slice() == wanted)
+}
+
+/// Whether 45 joins of two files write the wanted report.
+fn all_write<R: Threads + Wait + Sync + RandomSource + AllocGlobal>(
+    rt: &R,
+    files: &Files<'_>,
+    wanted: &[u8],
+) -> Option<bool> {
+    for workers in [1, 2, 3, 8, 16] {
+        for batch in [1, 7, 4096] {
+            for cut in [0, 2, 8] {
+                if !writes(rt, files, (workers, batch, cut), wanted)? {
+                    return Some(false);
+                }
+            }
+        }
+    }
+    Some(true)
+}
+
+/// Whether 45 joins of two files write the same report.
+fn are_same<'a, R: Threads + Wait + Sync + RandomSource + AllocGlobal>(
+    rt: &R,
+    left: &'a str,
+    right: &'a str,
+) -> Option<bool> {
+    let files = Files {
+        left: at_once(left),
+        right: at_once(right),
+        edits: None,
+    };
+    let wanted = report(rt, &files, &Options::new(1, 256, 2).ok()?)?;
+    all_write(rt, &files, wanted.as_slice())
+}
+
+/// The same of two files with so many features.
+fn are_same_of<R: Threads + Wait + Sync + RandomSource + AllocGlobal>(
+    rt: &R,
+    random: &mut Random,
+    left: u32,
+    right: u32,
+) -> Option<bool> {
+    let left = shapes_text(rt.alloc(), random, left)?;
+    let right = shapes_text(rt.alloc(), random, right)?;
+    are_same(rt, left.as_str(), right.as_str())
+}
+
+/// How many left and right features there are in the largest layers.
+const MANY: (u32, u32) = (2000, 1500);
+
+/// How many pairs of small layers there are.
+const SMALL: u32 = 22;
+
+#[test]
+fn thousand_joins(rt: HostRuntime) {
+    let mut random = Random::new(2);
+    for size in 0..SMALL {
+        assert!(rt; are_same_of(&rt, &mut random, 4 * size, 100 - 4 * size) == Some(true));
+    }
+    assert!(rt; are_same_of(&rt, &mut random, MANY.0, MANY.1) == Some(true));
+}
