@@ -12,8 +12,10 @@ ghost use Rattle.deliver_core.specs.Collectors.{IsLeastOpen, pair_cmp};
 use crate::faults::{Finish, Refusal};
 use crate::mark::Mark;
 use crate::message::{Body, Message};
+use rayon::slice::par_sort_unstable;
 use std::alloc::{AllocError, Global};
 use std::marker::Model;
+use std::thread::Threads;
 
 /// How far a task has come: how many batches of it were accepted, and whether its end was.
 #[derive(Clone, Copy)]
@@ -109,15 +111,45 @@ impl Collector {
         ensures marks { IfOk result (λ outcome. outcome.marks ≡ self.marks) }
         ensures history { IfOk result (λ outcome. IsLegalHistory self.tasks outcome.marks) }
     {
+        let mut outcome = self.ended()?;
+        outcome.pairs.sort_unstable();
+        Ok(outcome)
+    }
+
+    /// Ends as `finish` does. Threads share the sort, up to two for each processor.
+    pub fn finish_by_threads<R: Threads + Sync>(self, rt: &R) -> Result<Outcome, Finish>
+        ensures closed { IsOk result ↔ IsClosed self.tasks self.marks }
+        ensures least_open { IfErr result (IsLeastOpen self) }
+
+        // The pairs are those that were accepted, as often, and ascend.
+        ensures as_often { IfOk result (λ outcome. IsPermutation self.pairs outcome.pairs) }
+        ensures ascending { IfOk result (λ outcome. IsSorted pair_cmp outcome.pairs) }
+
+        ensures marks { IfOk result (λ outcome. outcome.marks ≡ self.marks) }
+        ensures history { IfOk result (λ outcome. IsLegalHistory self.tasks outcome.marks) }
+    {
+        let mut outcome = self.ended()?;
+        par_sort_unstable(rt, outcome.pairs.as_mut_slice());
+        Ok(outcome)
+    }
+
+    /// All pairs and marks, still in the order in which they were accepted, or the least task that
+    /// has no end.
+    fn ended(self) -> Result<Outcome, Finish>
+        ensures closed { IsOk result ↔ IsClosed self.tasks self.marks }
+        ensures least_open { IfErr result (IsLeastOpen self) }
+        ensures pairs { IfOk result (λ outcome. outcome.pairs ≡ self.pairs) }
+        ensures marks { IfOk result (λ outcome. outcome.marks ≡ self.marks) }
+        ensures history { IfOk result (λ outcome. IsLegalHistory self.tasks outcome.marks) }
+    {
         let Collector {
             progress,
             marks,
-            mut pairs,
+            pairs,
         } = self;
         if let Some(task) = first_open(progress.as_slice()) {
             return Err(Finish::Open(task as u32));
         }
-        pairs.sort_unstable();
         Ok(Outcome { marks, pairs })
     }
 

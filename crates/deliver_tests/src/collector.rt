@@ -1,5 +1,7 @@
 //! The collector: whole histories, refusals and their texts, numbers that no worker sends, and
 //! growths that are refused.
+ghost use Rattle.std.specs.Prelude.{◌≤◌};
+
 use Said::{Batch, Bye, End};
 use deliver_core::{Body, Collector, Finish, Mark, Message, Outcome, Refusal};
 use std::alloc::{AllocError, Global};
@@ -137,6 +139,65 @@ const TURNED_MARKS: &[Mark] = &[
 fn collector_order(rt: HostRuntime) -> Result<(), Fail> {
     let pairs = [(0, 1), (4, 2), (4, 7), (5, 0), (9, 9)];
     assert!(rt; collects(rt.alloc(), 2, TURNED, &pairs, TURNED_MARKS)?);
+    Ok(())
+}
+
+// More pairs than a sort takes for one thread alone. It is a prime number, so steps of any length
+// below it come to each place once.
+const MANY: u32 = 10_007;
+
+// A step that takes far pairs one after another.
+const STRIDE: u32 = 7_919;
+
+/// Many pairs, each once. By steps of 1 they ascend.
+fn pairs_by_steps(alloc: Global, step: u32) -> Result<Vec<(u32, u32)>, AllocError>
+    requires { step ≤ STRIDE }
+{
+    let mut pairs = Vec::with_capacity(alloc, MANY as usize)?;
+    for count in 0..MANY {
+        let place = count * step % MANY;
+        pairs.push((place / 100, place % 100))?;
+    }
+    Ok(pairs)
+}
+
+/// A collector that has accepted these pairs, and the end of their task.
+fn collector_of(alloc: Global, pairs: &[(u32, u32)]) -> Result<Collector, AllocError> {
+    let mut collector = Collector::new(alloc, 1)?;
+    let offers = [(Batch(0, 0, pairs), Ok(())), (End(0, 1), Ok(()))];
+    answers_all(alloc, &mut collector, &offers)?;
+    Ok(collector)
+}
+
+/// Whether these pairs were delivered.
+fn delivers(answer: Result<Outcome, Finish>, pairs: &[(u32, u32)]) -> bool {
+    answer.is_ok_and(|outcome| outcome.pairs() == pairs)
+}
+
+// Threads sort as one does.
+#[test]
+fn many_pairs(rt: HostRuntime) -> Result<(), Fail> {
+    let sorted = pairs_by_steps(rt.alloc(), 1)?;
+    let scrambled = pairs_by_steps(rt.alloc(), STRIDE)?;
+    let alone = collector_of(rt.alloc(), scrambled.as_slice())?;
+    let shared = collector_of(rt.alloc(), scrambled.as_slice())?;
+    assert!(rt; delivers(alone.finish(), sorted.as_slice()));
+    assert!(rt; delivers(shared.finish_by_threads(&rt), sorted.as_slice()));
+    Ok(())
+}
+
+/// A collector of two tasks, of which the first has ended.
+fn half_ended(alloc: Global) -> Result<Collector, AllocError> {
+    let mut collector = Collector::new(alloc, 2)?;
+    answers(alloc, &mut collector, End(0, 0), Ok(()))?;
+    Ok(collector)
+}
+
+#[test]
+fn open_task(rt: HostRuntime) -> Result<(), Fail> {
+    let open = Some(Finish::Open(1));
+    assert!(rt; half_ended(rt.alloc())?.finish().err() == open);
+    assert!(rt; half_ended(rt.alloc())?.finish_by_threads(&rt).err() == open);
     Ok(())
 }
 

@@ -65,5 +65,5 @@ pub fn run_workers<'a, R: Threads + Wait + Sync, P: Rows + Sync, G: Gate + Sync>
     owners_law();
     board.close(seats);
     let intake = gathering.intake;
-    intake.finish(all_ok)
+    intake.finish(rt, workers, all_ok)
 }

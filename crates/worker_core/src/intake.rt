@@ -10,6 +10,7 @@ ghost use Rattle.worker_core.specs.Intakes.{HasTakenIn};
 use crate::fault::JoinFault;
 use deliver_core::{Collector, Message, Outcome, Refusal};
 use std::alloc::{AllocError, Global};
+use std::thread::Threads;
 
 /// A collector, and the first refusal of it.
 #[derive(Drop)]
@@ -44,8 +45,13 @@ impl Intake {
     }
 
     /// The outcome, or why there is none: the first refusal, want of memory in a worker, or a task
-    /// without an end.
-    pub(crate) fn finish(self, ok: bool) -> Result<Outcome, JoinFault>
+    /// without an end. Threads share the sort of the pairs where there is more than one worker.
+    pub(crate) fn finish<R: Threads + Sync>(
+        self,
+        rt: &R,
+        workers: u32,
+        ok: bool,
+    ) -> Result<Outcome, JoinFault>
         ensures refused { IfErr self.accepted (λ r. result ≡ Err (fault_of r)) }
         ensures want { IsOk self.accepted → ok ≡ false → result ≡ Err JoinFault.Memory }
         ensures closed { IsOk self.accepted → ok ≡ true
@@ -60,6 +66,11 @@ impl Intake {
         if !ok {
             return Err(JoinFault::Memory);
         }
-        Ok(self.collector.finish()?)
+        let outcome = if workers > 1 {
+            self.collector.finish_by_threads(rt)?
+        } else {
+            self.collector.finish()?
+        };
+        Ok(outcome)
     }
 }

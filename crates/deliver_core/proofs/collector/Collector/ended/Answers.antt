@@ -1,8 +1,8 @@
 -- the first task whose counter has not ended is the least open one, and where there is none the history is closed
 use Rattle.std.proofs.Common.{refl, sym, ◌∙◌}
 use Rattle.deliver_core.proofs.Histories.{Tells-history, IsClosed-tells, IsLeastOpen-tells}
-use Rattle.deliver_core.proofs.collector.Collector.finish.Goals as goal
-use Rattle.deliver_core.proofs.collector.Collector.finish.Goals.{After-drop-progress}
+use Rattle.deliver_core.proofs.collector.Collector.ended.Goals as goal
+use Rattle.deliver_core.proofs.collector.Collector.ended.Goals.{After-drop-progress}
 use Rattle.deliver_core.specs.Collectors.{IsLeastOpen}
 use Rattle.deliver_core.specs.declared.faults.Finish.TheVariants.{Open}
 
