@@ -149,6 +149,14 @@ impl Features {
         Some((id.as_str(), slot.shape))
     }
 
+    /// The shape of the feature with this number, which is found without its id.
+    pub(crate) fn shape(&self, number: u32) -> Option<Shape>
+        ensures { result ≡ option_map (λ f. f.shape) (with_number number self.now.list) }
+    {
+        let slot = (*self.slots.get(number as usize)?)?;
+        Some(slot.shape)
+    }
+
     /// The features in the order of their numbers.
     pub(crate) fn iter(&self) -> Iter<'_>
         ensures features { result ≡ self.now.list.features }

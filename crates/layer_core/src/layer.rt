@@ -167,6 +167,13 @@ impl Layer {
         self.features.at(number)
     }
 
+    /// The shape of the feature with this number, for which only its slot is looked at.
+    pub fn shape(&self, number: u32) -> Option<Shape>
+        ensures { result ≡ option_map (λ f. f.shape) (with_number number self.now.list) }
+    {
+        self.features.shape(number)
+    }
+
     /// Inserts a feature at the end of the layer.
     ///
     /// It is refused, in this order, as `BadId`, `DoubleId`, `LayerFull`, and as `Memory` where

@@ -81,7 +81,9 @@ fn layer_edits_when_full(rt: HostRuntime) -> Result<(), Fail> {
 
 // Deletes a of a layer that has three points, and inserts it again.
 fn inserts_again(layer: &mut Layer) -> Result<bool, Fail> {
-    Ok(removes(layer, "a", point(0, 0)?) && layer.at(0).is_none() && inserts(layer, AGAIN)?)
+    let removed = removes(layer, "a", point(0, 0)?);
+    let is_gone = layer.at(0).is_none() && layer.shape(0).is_none();
+    Ok(removed && is_gone && inserts(layer, AGAIN)?)
 }
 
 // Whether an empty layer takes three points, and the first of them again behind the others.
@@ -90,11 +92,15 @@ fn takes_again(layer: &mut Layer) -> Result<bool, Fail> {
     Ok(inserted && finds(layer, "a", 3, point(9, 9)?) && layer.len() == 3)
 }
 
-// Whether this is the feature of the id and the number, and the layer finds it by its number.
+// Whether this is the feature of the id and the number, and the layer finds it and its shape by
+// its number.
 fn is_listed(layer: &Layer, feature: &FeatureRef<'_>, id: &str, number: u32) -> bool {
     match layer.at(number) {
         Some(found) => {
-            feature.id == id && feature.number == number && found == (feature.id, feature.shape)
+            feature.id == id
+                && feature.number == number
+                && found == (feature.id, feature.shape)
+                && layer.shape(number) == Some(feature.shape)
         }
         None => false,
     }
