@@ -15,6 +15,7 @@ ghost use Rattle.join_core.specs.DrawRuns.{features_of};
 ghost use Rattle.join_core.specs.SourceStates.{AreFresh, TellsFailures};
 
 use super::edited::edited_layers;
+use super::layers::free_layers;
 use super::pairs::join;
 use super::sources::JoinSources;
 use crate::fault::RunFault;
@@ -83,8 +84,11 @@ fn draw_text<R: Threads + Wait + Sync, A: Source, B: Source, E: Source, G: Gate 
     ensures faults { IfErr result IsDrawFault }
     ensures io { TellsFailures A.has_failed B.has_failed E.has_failed sources.new result }
 {
-    let (left, right) = edited_layers(rt, alloc, states, scale, sources, options.workers())?;
-    drawing_of(rt, alloc, &left, &right, relation, options, gate)
+    let workers = options.workers();
+    let (left, right) = edited_layers(rt, alloc, states, scale, sources, workers)?;
+    let text = drawing_of(rt, alloc, &left, &right, relation, options, gate);
+    free_layers(rt, left, right, workers);
+    text
 }
 
 /// The picture of two layers.

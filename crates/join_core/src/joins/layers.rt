@@ -92,3 +92,10 @@ fn build_layers<R: Threads + Sync>(
         (build_left(), build_right())
     }
 }
+
+/// Frees both layers: side by side where there is more than one worker.
+pub(crate) fn free_layers<R: Threads>(rt: &R, left: Layer, right: Layer, workers: u32) {
+    if workers > 1 {
+        thread::join(rt, move || drop(left), move || drop(right));
+    }
+}

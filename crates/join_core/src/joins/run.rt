@@ -11,6 +11,7 @@ ghost use Rattle.join_core.specs.JoinRuns.{IsJoinFault, IsLateFault};
 ghost use Rattle.join_core.specs.SourceStates.{AreFresh, TellsFailures};
 
 use super::edited::edited_layers;
+use super::layers::free_layers;
 use super::pairs::join;
 use super::sources::JoinSources;
 use crate::fault::RunFault;
@@ -80,8 +81,11 @@ fn join_text<R: Threads + Wait + Sync, A: Source, B: Source, E: Source, G: Gate 
     ensures faults { IfErr result IsJoinFault }
     ensures io { TellsFailures A.has_failed B.has_failed E.has_failed sources.new result }
 {
-    let (left, right) = edited_layers(rt, alloc, states, scale, sources, options.workers())?;
-    report_of(rt, alloc, &left, &right, relation, options, gate)
+    let workers = options.workers();
+    let (left, right) = edited_layers(rt, alloc, states, scale, sources, workers)?;
+    let text = report_of(rt, alloc, &left, &right, relation, options, gate);
+    free_layers(rt, left, right, workers);
+    text
 }
 
 /// The report of two layers.
