@@ -1,5 +1,5 @@
 -- What reading two layers answers, by what was read of each and what was built of it.
-use Rattle.std.proofs.Common.{◌≡◌, ◌≢◌, ◌<◌, ℕ, List, Option, Some, None, Result, Ok, Err, IsErrAnd, IsErrOf, IfSome, IfErr, IfOk, Vec, Global, length, ap}
+use Rattle.std.proofs.Common.{◌≡◌, ◌≢◌, ◌<◌, ℕ, List, Option, Some, None, Result, Ok, Err, IsErrAnd, IfSome, IfErr, length}
 use Rattle.std.proofs.Common.{refl, sym, subst}
 use Rattle.wkt_core.specs.declared.scale.Scale.{Scale}
 use Rattle.file_core.specs.declared.read_fault.ReadFault.{ReadFault}
@@ -13,7 +13,7 @@ use Rattle.file_core.proofs.FileLemmas.{file-unread}
 use Rattle.join_core.specs.declared.fault.Input.TheVariants.{First, Second, Left, Right, Edits, Layer, Window}
 use Rattle.join_core.specs.declared.fault.RunFault.{RunFault}
 use Rattle.join_core.specs.declared.fault.RunFault.TheVariants.{NoFile, Read, Wkt, Edit, Join, TooManyToDraw, Write, Memory, NoKeys}
-use Rattle.join_core.specs.Inputs.{LayerFile, Builds, BlamesBytes, BlamesInput}
+use Rattle.join_core.specs.Inputs.{LayerFile, Builds, Reads, BlamesBytes, BlamesInput}
 use Rattle.join_core.specs.JoinRuns.{JoinFiles, LayersGive, left_fault, right_fault, IsLayersFault, IsJoinFault}
 use Rattle.join_core.proofs.JoinRunLemmas.{handed_on}
 
@@ -41,16 +41,19 @@ module _ (scale : Scale) where
       let gives = subst (λ (r : Result LayerState ReadFault). IsLayerFile scale items (list_read r)) is (built.gives no_memory) in
       subst (λ (b : List ℕ). IsLayerFile scale b (Ok layer.list)) same gives
 
-  -- the same of what was read of a source, all of it or not
-  pub read_blamed : (known : Option (List ℕ)) (read : Result (Vec ℕ Global) ReadFault) (out : Result LayerState ReadFault) (f : ReadFault)
-      → IfOk read (λ all. IfSome known (λ bytes. all.items ≡ bytes))
-      → (IsErrOf read read_faults.TooLong → IfSome known (λ bytes. most_file_bytes < length bytes)) → IfErr read IsReadingFault
-      → IfOk read (λ all. Builds scale all.items out) → IfErr read (λ fault. out ≡ Err fault) → out ≡ Err f → BlamesBytes f → LayerFile scale known (Err f)
-  read_blamed known (Ok all) out f same long reading built unread is blame = built_blamed known all.items out f same built is blame
-  read_blamed known (Err g) out f same long reading built unread is blame =
-      let whole : g ≡ f = cc in
-      subst (λ (x : ReadFault). LayerFile scale known (Err x)) whole
-      (unread_blamed scale known g reading (λ e. long (ap Err e)) (subst BlamesBytes (sym whole) blame))
+  -- a source that isn't read to its end is read as a fault
+  pub unread : (known : Option (List ℕ)) (out : Result LayerState ReadFault) (f : ReadFault) → IsErrAnd out (λ x. x ≡ f) → IsReadingFault f
+      → (f ≡ read_faults.TooLong → IfSome known (λ bytes. most_file_bytes < length bytes)) → Reads scale known out
+  unread known (Ok layer) f is reading long = absurd is
+  unread known (Err g) f is reading long = record {
+    ok = tt;
+    fault = λ blame. subst (λ (x : ReadFault). LayerFile scale known (Err x)) (sym is) (unread_blamed scale known f reading long (subst BlamesBytes is blame));
+  }
+
+  -- what a source is read as blames it
+  pub read_blamed : (known : Option (List ℕ)) (out : Result LayerState ReadFault) (f : ReadFault)
+      → Reads scale known out → out ≡ Err f → BlamesBytes f → LayerFile scale known (Err f)
+  read_blamed known out f reads is = subst (λ (r : Result LayerState ReadFault). IfErr r (λ x. BlamesBytes x → LayerFile scale known (Err x))) is reads.fault
 
 -- a fault of the two layers is what the files give
 layers_give : (files : JoinFiles) (e : RunFault) → IsLayersFault files.scale files.left files.right e → BlamesInput e

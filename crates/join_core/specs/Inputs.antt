@@ -1,5 +1,5 @@
 -- What the inputs of a run give, and which faults blame one.
-use Rattle.std.specs.Prelude.{◌≢◌, ⊤, ℕ, List, Option, Result, Err, IfSome}
+use Rattle.std.specs.Prelude.{◌≢◌, ⊤, ℕ, List, Option, Result, Ok, Err, IfSome, IfOk, IfErr}
 use Rattle.wkt_core.specs.declared.scale.Scale.{Scale}
 use Rattle.layer_core.specs.declared.fault.LayerFault.{LayerFault}
 use Rattle.layer_core.specs.declared.fault.LayerFault.TheVariants as layer_faults
@@ -26,6 +26,12 @@ abbrev pub BlamesBytes : ReadFault → Type 0
 BlamesBytes read_faults.Io = ⊥
 BlamesBytes read_faults.Memory = ⊥
 BlamesBytes _ = ⊤
+
+-- the answer is what a layer's file gives at a scale, or a fault of a device or a want of memory
+pub record Reads (scale : Scale) (known : Option (List ℕ)) (answer : Result LayerState ReadFault)
+    : Type 0 where
+  pub ok : IfOk answer (λ layer. LayerFile scale known (Ok layer.list))
+  pub fault : IfErr answer (λ f. BlamesBytes f → LayerFile scale known (Err f))
 
 abbrev pub BlamesEdit : LayerFault → Type 0
 BlamesEdit layer_faults.Memory = ⊥

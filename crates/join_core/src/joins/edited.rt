@@ -23,9 +23,10 @@ use wkt_core::Scale;
 
 /// The layers that are read, after the edits of both. `states` hash their ids.
 ///
-/// The left source is read first, then the right one; then both layers are built, side by side
-/// where there is more than one worker. Then the edits are read, and made in order. The first fault
-/// is answered, but that a right source which fails comes before a fault in the bytes of the left.
+/// The left source is read first, then its layer is built and the right source is read and built,
+/// side by side where there is more than one worker. Then the edits are read, and made in order.
+/// The first fault is answered, but that a right source which fails comes before a fault in the
+/// bytes of the left.
 pub(crate) fn edited_layers<R: Threads + Sync, A: Source, B: Source, E: Source>(
     rt: &R,
     alloc: Global,

@@ -3,7 +3,7 @@
 ghost use Rattle.std.specs.Prelude.{◌≡◌, ◌↔◌, Ok, Err, false, IsTrue, IfOk, IfErr, IsErrOf};
 ghost use Rattle.file_core.specs.declared.read_fault.ReadFault.{ReadFault};
 ghost use Rattle.join_core.specs.declared.fault.Input.{Input};
-ghost use Rattle.join_core.specs.Inputs.{LayerFile, Builds};
+ghost use Rattle.join_core.specs.Inputs.{LayerFile, Builds, Reads};
 ghost use Rattle.join_core.specs.JoinRuns.{IsLayersFault};
 
 use crate::fault::{Input, RunFault};
@@ -11,15 +11,16 @@ use file_core::{ReadFault, Source, layer_of_bytes, read_all};
 use layer_core::Layer;
 use std::alloc::Global;
 use std::hash::RandomState;
-use std::thread;
 use std::thread::Threads;
+use std::{mem, thread};
 use wkt_core::Scale;
 
 /// The layers that the left and the right source are read as. `states` hash their ids.
 ///
-/// The left source is read first, then the right one, and then the layers are built: side by side
-/// where there is more than one worker, and each by half of the workers. A source that fails is
-/// answered at once; a fault in what was read of the left source comes before one of the right.
+/// The left source is read first. Then its layer is built, and the right source is read and its
+/// layer built: side by side where there is more than one worker, and each by half of the workers.
+/// A left source that fails is answered at once, and the right one isn't read; a right source that
+/// fails is answered before a fault in what was read of the left one.
 pub(crate) fn read_layers<R: Threads + Sync, A: Source, B: Source>(
     rt: &R,
     alloc: Global,
@@ -46,13 +47,12 @@ pub(crate) fn read_layers<R: Threads + Sync, A: Source, B: Source>(
         Ok(bytes) => bytes,
         Err(fault) => return Err(RunFault::Read(Input::Left, fault)),
     };
-    let right_read = read_all(alloc, right);
-    if let Err(ReadFault::Io) = right_read {
+    let (left_built, right_built) = build_and_read(
+        rt, alloc, states, scale, left_bytes, right, workers,
+    );
+    if let Err(ReadFault::Io) = right_built {
         return Err(RunFault::Read(Input::Right, ReadFault::Io));
     }
-    let (left_built, right_built) = build_layers(
-        rt, alloc, states, scale, left_bytes, right_read, workers,
-    );
     let left_layer = match left_built {
         Ok(layer) => layer,
         Err(fault) => return Err(RunFault::Read(Input::Left, fault)),
@@ -63,34 +63,57 @@ pub(crate) fn read_layers<R: Threads + Sync, A: Source, B: Source>(
     }
 }
 
-/// The layer of the left file's bytes, and that of what was read of the right one.
-fn build_layers<R: Threads + Sync>(
+/// The layer of the left file's bytes, and that which the right source is read as.
+fn build_and_read<R: Threads + Sync, B: Source>(
     rt: &R,
     alloc: Global,
     states: (RandomState, RandomState),
     scale: Scale,
-    left: Vec<u8>,
-    right: Result<Vec<u8>, ReadFault>,
+    mut left: Vec<u8>,
+    right: &mut B,
     workers: u32,
 ) -> (Result<Layer, ReadFault>, Result<Layer, ReadFault>)
+    requires { B.has_failed right.old ≡ false }
     ensures left { Builds scale left.items result.0 }
-    ensures right { IfOk right (λ bytes. Builds scale bytes.items result.1) }
-    ensures unread { IfErr right (λ fault. result.1 ≡ Err fault) }
+    ensures right { Reads scale (B.remaining right.old) result.1 }
+    ensures right_io { IsErrOf result.1 ReadFault.Io ↔ IsTrue (B.has_failed right.new) }
 {
     let (left_state, right_state) = states;
     let threads = (workers / 2).max(1);
-    let build_left = move || -> Result<Layer, ReadFault>
-        ensures { Builds scale left.items result }
-    { layer_of_bytes(alloc, left_state, left, scale, threads, rt) };
-    let build_right = move || -> Result<Layer, ReadFault>
-        ensures built { IfOk right (λ bytes. Builds scale bytes.items result) }
-        ensures unread { IfErr right (λ fault. result ≡ Err fault) }
-    { layer_of_bytes(alloc, right_state, right?, scale, threads, rt) };
+    // `join_mut` borrows them, so that the bytes are taken out of the first.
+    let mut build_left = || -> Result<Layer, ReadFault>
+        ensures { Builds scale left.entry.items result }
+    {
+        let bytes = mem::replace(&mut left, Vec::new(alloc));
+        layer_of_bytes(alloc, left_state, bytes, scale, threads, rt)
+    };
+    let mut read_right = || -> Result<Layer, ReadFault>
+        requires { B.has_failed right.now ≡ false }
+        ensures reads { Reads scale (B.remaining right.entry.now) result }
+        ensures io { IsErrOf result ReadFault.Io ↔ IsTrue (B.has_failed right.exit.now) }
+    { read_by_threads(rt, alloc, right_state, scale, right, threads) };
     if workers > 1 {
-        thread::join(rt, build_left, build_right)
+        thread::join_mut(rt, &mut build_left, &mut read_right)
     } else {
-        (build_left(), build_right())
+        (build_left(), read_right())
     }
+}
+
+/// The layer that a source is read as, which so many threads build.
+fn read_by_threads<R: Threads + Sync, S: Source>(
+    rt: &R,
+    alloc: Global,
+    state: RandomState,
+    scale: Scale,
+    source: &mut S,
+    threads: u32,
+) -> Result<Layer, ReadFault>
+    requires { S.has_failed source.old ≡ false }
+    ensures reads { Reads scale (S.remaining source.old) result }
+    ensures io { IsErrOf result ReadFault.Io ↔ IsTrue (S.has_failed source.new) }
+{
+    let bytes = read_all(alloc, source)?;
+    layer_of_bytes(alloc, state, bytes, scale, threads, rt)
 }
 
 /// Frees both layers: side by side where there is more than one worker.

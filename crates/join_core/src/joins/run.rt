@@ -30,12 +30,12 @@ use worker_core::Gate;
 /// Writes the report of two layers, after the edits of both: the pairs of a left and a right
 /// feature that stand in the relation, in layer order, with the letters of their matrix.
 ///
-/// The left file is read first, then the right one; then both layers are built, side by side where
-/// there is more than one worker. Then the file of the edits is read, the edits are made in order,
-/// and the layers joined. The first fault is answered, and then nothing is written: of the left
-/// file, the right one, that of the edits and the edits, in this order, but that a right source
-/// which fails comes before a fault in the bytes of the left one. `states` hash the ids of the two
-/// layers.
+/// The left file is read first; then its layer is built and the right file is read and built, side
+/// by side where there is more than one worker. Then the file of the edits is read, the edits are
+/// made in order, and the layers joined. The first fault is answered, and then nothing is written:
+/// of the left file, the right one, that of the edits and the edits, in this order, but that a
+/// right source which fails comes before a fault in the bytes of the left one. `states` hash the
+/// ids of the two layers.
 pub fn run_join<R: Threads + Wait + Sync, A: Source, B: Source, E: Source, G: Gate + Sync, S: Sink>(
     rt: &R,
     alloc: Global,

@@ -7,13 +7,11 @@ returns-in-Err-clause-fault g c = unread_blamed c.args.scale _ _ c.in-Err.ensure
 
 pub returns-in-Err-left_built-clause-fault : goal.returns-in-Err-left_built-clause-fault
 returns-in-Err-left_built-clause-fault g c =
-    built_blamed _ _ _ _ _ c.in-Ok.ensures.bytes c.build_layers-left_built.ensures.left c.in-Err-left_built.is
+    built_blamed _ _ _ _ _ c.in-Ok.ensures.bytes c.build_and_read-left_built.ensures.left c.in-Err-left_built.is
 
 pub returns-in-Err-right_built-clause-fault : goal.returns-in-Err-right_built-clause-fault
 returns-in-Err-right_built-clause-fault g c = λ blame. (
   c.in-Ok-left_built.layer.list,
-  built_well _ _ _ _ c.in-Ok-left_built.layer c.in-Ok.ensures.bytes c.build_layers-left_built.ensures.left c.in-Ok-left_built.is,
-  read_blamed _ _ c.read_all-right_read.result _ _ c.read_all-right_read.ensures.bytes c.read_all-right_read.ensures.too_long
-      c.read_all-right_read.ensures.others
-      c.build_layers-left_built.ensures.right c.build_layers-left_built.ensures.unread c.in-Err-right_built.is blame,
+  built_well _ _ _ _ c.in-Ok-left_built.layer c.in-Ok.ensures.bytes c.build_and_read-left_built.ensures.left c.in-Ok-left_built.is,
+  read_blamed _ _ _ _ c.build_and_read-left_built.ensures.right c.in-Err-right_built.is blame,
 )
