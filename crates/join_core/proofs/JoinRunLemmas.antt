@@ -18,6 +18,7 @@ use Rattle.join_core.specs.JoinRuns.{IsJoinFault}
 use Rattle.join_core.specs.SourceStates.{FailedAt}
 use Rattle.join_core.specs.Joins.{IsJoinList}
 use Rattle.output_core.specs.Reports.{IsHeld, IsReport}
+use Rattle.output_core.specs.Written.{joined}
 use Rattle.join_core.proofs.JoinLemmas.{contains_at}
 
 pub is_some_of : (o : Option Feature) (f : Feature) → o ≡ Some f → IsSome o
@@ -84,10 +85,11 @@ pub no_report : {T : Type 0} (relation : Relation) (files : JoinFiles) (out : Re
 no_report relation files out e h fault = handed_on (JoinGives relation files) out e e h refl (λ blame. no_layers e (fault blame))
 
 -- the last step of a join, which lists the pairs and makes the report
-pub last_ok : (relation : Relation) (files : JoinFiles) (left right : Contents) (out : Result (Vec ℕ Global) RunFault) → LayersGive files (Ok (both left right))
-    → IfOk out (λ text. (pairs : List (ℕ × ℕ)) × IsJoinList relation left right pairs × IsReport left right pairs text.items)
-    → IfOk out (λ text. JoinGives relation files (Ok text.items))
-last_ok relation files left right (Ok text) given report = reported (both left right) report.0 text.items given report.1 report.2
+pub last_ok : (relation : Relation) (files : JoinFiles) (left right : Contents) (out : Result (Vec (Vec ℕ Global) Global) RunFault)
+    → LayersGive files (Ok (both left right))
+    → IfOk out (λ texts. (pairs : List (ℕ × ℕ)) × IsJoinList relation left right pairs × IsReport left right pairs (joined texts.items))
+    → IfOk out (λ texts. JoinGives relation files (Ok (joined texts.items)))
+last_ok relation files left right (Ok texts) given report = reported (both left right) report.0 (joined texts.items) given report.1 report.2
 last_ok relation files left right (Err e) given report = tt
 
 pub last_fault : {T : Type 0} (relation : Relation) (files : JoinFiles) (out : Result T RunFault)

@@ -17,7 +17,9 @@ pub use fault::{Input, RunFault};
 pub use fault_text::fault_line;
 pub use joins::{JoinSources, apply_edits, join, run_draw, run_join};
 pub use options::{MAX_CUT, OptionFault, Options};
-pub use output_core::{Line, ROOM, Sink, ToWrite, WriteFailed, report_text, write_text};
+pub use output_core::{
+    Line, ROOM, Sink, ToWrite, WriteFailed, report_texts, write_text, write_texts,
+};
 pub use relate::run_relate;
 pub use stats::run_stats;
 pub use window::run_window;

@@ -1,6 +1,6 @@
 -- The records of all pairs are those of their chunks, one after another.
 use Rattle.std.proofs.Common.{◌≡◌, ℕ, zero, suc, ◌+◌, ◌*◌, ◌/◌, ◌%◌, ◌<◌, ◌≤◌, min, List, [], ◌∷◌, ◌++◌, Result, Ok, Err}
-use Rattle.std.proofs.Common.{IsOk, IfOk, refl, sym, ap, subst, ◌∙◌, arith}
+use Rattle.std.proofs.Common.{IsOk, IfOk, OnOk, refl, sym, ap, subst, ◌∙◌, arith}
 use Rattle.std.proofs.Common.{length, get_or, take, suc-mul, add-one, zero-mul, add-mul, one-mul, div-add-mod', ⊎_elim, All}
 use Rattle.std.specs.Global.{Global}
 use Rattle.std.specs.Fork.{slice_chunk, IsChunk}
@@ -15,8 +15,9 @@ use Rattle.layer_core.specs.Layers.{Contents}
 use Rattle.csv.specs.Writing.{row_text, default_writer}
 use Rattle.output_core.specs.declared.columns.Columns.{Columns}
 use Rattle.output_core.specs.Columns.{AreColumnsFor}
-use Rattle.output_core.specs.ReportRows.{AreRows, AreRowsOf, text_or_none}
+use Rattle.output_core.specs.ReportRows.{AreRows, AddsRows, text_or_none}
 use Rattle.output_core.specs.Reports.{IsHeld, IsRow}
+use Rattle.output_core.specs.Written.{joined}
 
 zip_append : {A B : Type 0} (R : A → B → Type 0) (xs : List A) (ys : List B) (vs : List A) (ws : List B)
     → AllZip R xs ys → AllZip R vs ws → AllZip R (xs ++ vs) (ys ++ ws)
@@ -83,19 +84,38 @@ pub chunk_told : (columns : Columns) (left right : Contents) (pairs chunk : List
 chunk_told columns left right pairs chunk size start is tell = record {
   left_column = tell.left_column;
   right_column = tell.right_column;
-  left_within = all_of_chunk (λ (pair : ℕ × ℕ). pair.0 < length columns.left.cells.items) pairs chunk size start is tell.left_within;
-  right_within = all_of_chunk (λ (pair : ℕ × ℕ). pair.1 < length columns.right.cells.items) pairs chunk size start is tell.right_within;
+  left_within = all_of_chunk (λ (pair : ℕ × ℕ). pair.0 + 1 < length columns.left.starts.items) pairs chunk size start is tell.left_within;
+  right_within = all_of_chunk (λ (pair : ℕ × ℕ). pair.1 + 1 < length columns.right.starts.items) pairs chunk size start is tell.right_within;
   held = all_of_chunk (IsHeld left right) pairs chunk size start is tell.held;
 }
 
 -- what a thread gave for a chunk
-pub chunk_written : (columns : Columns) (left right : Contents) (pairs chunk : List (ℕ × ℕ)) (size n : ℕ) (part : Result (Vec ℕ Global) AllocError)
-    → IsChunk pairs size (n * size) chunk → AreColumnsFor left right pairs columns → IsOk part
-    → IfOk part (λ text. AreRowsOf columns chunk text.items)
+pub chunk_written : (left right : Contents) (pairs chunk : List (ℕ × ℕ)) (size n : ℕ) (part : Result (Vec ℕ Global) AllocError)
+    → IsChunk pairs size (n * size) chunk → IsOk part
+    → IfOk part (λ text. AreRows left right chunk text.items)
     → AreRows left right (slice_chunk pairs size n) (text_or_none part)
-chunk_written columns left right pairs chunk size n (Ok text) is tell ok rows =
-    subst (λ ps. AreRows left right ps text.items) is.value (rows left right (chunk_told columns left right pairs chunk size (n * size) is tell))
-chunk_written columns left right pairs chunk size n (Err e) is tell ok rows = absurd cc
+chunk_written left right pairs chunk size n (Ok text) is ok rows =
+    subst (λ ps. AreRows left right ps text.items) is.value rows
+chunk_written left right pairs chunk size n (Err e) is ok rows = absurd cc
+
+-- one text more
+pub text_added : (old mid new : List (Vec ℕ Global)) (parts : List (Result (Vec ℕ Global) AllocError)) (part : Result (Vec ℕ Global) AllocError)
+    (text : Vec ℕ Global) → joined mid ≡ joined old ++ flat_map text_or_none parts → new ≡ mid ++ text ∷ [] → part ≡ Ok text
+    → joined new ≡ joined old ++ flat_map text_or_none (parts ++ part ∷ [])
+text_added old mid new parts part text so_far grown is =
+    ap joined grown ∙ sym (flat_map_more (λ t. t.items) [] mid text) ∙ ap (λ ts. ts ++ text.items) so_far
+    ∙ ap (λ ts. (joined old ++ flat_map text_or_none parts) ++ ts) (sym (ap text_or_none is)) ∙ flat_map_more text_or_none (joined old) parts part
+
+-- the header, and then the records of all chunks
+pub chunks_added : (left right : Contents) (pairs : List (ℕ × ℕ)) (old mid new : List (Vec ℕ Global)) (header : Vec ℕ Global) (line : List ℕ)
+    (parts : List (Result (Vec ℕ Global) AllocError)) → mid ≡ old ++ header ∷ [] → header.items ≡ line → AreRows left right pairs (flat_map text_or_none parts)
+    → joined new ≡ joined mid ++ flat_map text_or_none parts → AddsRows left right pairs (joined old ++ line) (joined new)
+chunks_added left right pairs old mid new header line parts grown is rows all = record {
+  text = flat_map text_or_none parts;
+  are_rows = rows;
+  added = all ∙ ap (λ ts. ts ++ flat_map text_or_none parts)
+      (ap joined grown ∙ sym (flat_map_more (λ t. t.items) [] old header) ∙ ap (λ l. joined old ++ l) is);
+}
 
 -- what stands for the texts past the last one
 pub no_text : Result (Vec ℕ Global) AllocError
@@ -105,3 +125,7 @@ no_text = Err (record {})
 pub from_both : {T E : Type 0} (r : Result T E) (P Q S : T → Type 0) → IfOk r P → IfOk r Q → ((t : T) → P t → Q t → S t) → IfOk r S
 from_both (Ok t) P Q S p q s = s t p q
 from_both (Err e) P Q S p q s = tt
+
+pub on_both : {T E : Type 0} (r : Result T E) (P Q S : Type 0) → OnOk r P → OnOk r Q → (P → Q → S) → OnOk r S
+on_both (Ok t) P Q S p q s = s p q
+on_both (Err e) P Q S p q s = tt

@@ -1,6 +1,6 @@
 -- The rows of a report.
-use Rattle.std.proofs.Common.{◌≡◌, ℕ, List, [], ◌∷◌, ◌++◌, Bool, false, ◌||◌, Option, Some, None, IsSome, sym, ap, subst, ◌∙◌, refl, ◌+◌, ◌<◌, length, get_or}
-use Rattle.std.proofs.Common.{take, append_assoc, codes}
+use Rattle.std.proofs.Common.{◌≡◌, ℕ, List, [], ◌∷◌, ◌++◌, Bool, true, false, ◌||◌, Option, Some, None, IsSome, IsSomeAnd, option_map, sym}
+use Rattle.std.proofs.Common.{ap, subst, ◌∙◌, refl, ◌+◌, ◌<◌, length, get_or, take, append_assoc}
 use Rattle.std.specs.Borrow.{Bor}
 use Rattle.geom_core.specs.declared.shape.Shape.{Shape}
 use Rattle.geom_core.specs.declared.extent.Extent.{Extent}
@@ -10,10 +10,13 @@ use Rattle.geom_core.specs.Matrices.{IsMatrix, letter_of, letters_of}
 use Rattle.layer_core.specs.Layers.{Feature, Contents, with_number}
 use Rattle.csv.specs.Machine.{line_feed}
 use Rattle.csv.specs.Writing.{comma, field_text, fields_text, is_blank, row_text, needs_byte, needs_quotes, default_writer}
-use Rattle.output_core.specs.Columns.{FieldAndShapeAre}
+use Rattle.output_core.specs.Columns.{field_for}
 use Rattle.output_core.specs.CsvTexts.{leading_field}
-use Rattle.output_core.specs.ReportRows.{AreRows, AddsRows, line_of}
+use Rattle.output_core.specs.ReportRows.{AreRows, AddsRows, header_line, line_of}
 use Rattle.output_core.specs.Reports.{IsRow, IsReport}
+use Rattle.output_core.specs.Written.{joined}
+use Rattle.std.specs.Global.{Global}
+use Rattle.std.specs.declared.vec.Vec.{Vec}
 use Rattle.std.specs.List.{AllZip}
 use Rattle.std.proofs.lemmas.List.{append-nil, take_more, flat_map_more}
 use Rattle.std.proofs.lemmas.Slice.Zip.{all_zipped_more}
@@ -50,35 +53,37 @@ row_line first second m =
     appended (field_text default_writer first) (field_text default_writer second) (field_text default_writer (letters_of m)) (line_feed ∷ [])
     ∙ ap (λ c. line_of (leading_field first) (leading_field second) c) (letters_field m)
 
--- the feature that a look-up found
-pub record Found (o : Option Feature) (p : Bor (List ℕ) × Shape) : Type 0 where
+-- the feature whose shape and field were found
+pub record Found (o : Option Feature) (shape : Shape) (field : List ℕ) : Type 0 where
   pub feature : Feature
   pub held : o ≡ Some feature
-  pub field : p.0.now ≡ leading_field feature.id
-  pub shape : p.1 ≡ feature.shape
+  pub its_shape : shape ≡ feature.shape
+  pub its_field : field ≡ leading_field feature.id
 
--- two pairs are one where their parts are
-parts_same : (a b : List ℕ) (s t : Shape) → ◌≡◌ {A = List ℕ × Shape} (a, s) (b, t) → (a ≡ b) × (s ≡ t)
-parts_same a b s t h = (ap (λ (z : List ℕ × Shape). z.0) h, ap (λ (z : List ℕ × Shape). z.1) h)
+pub found : (o : Option Feature) (answer : Option Shape) (shape : Shape) (field : List ℕ) → answer ≡ option_map (λ f. f.shape) o → answer ≡ Some shape
+    → field ≡ field_for o → Found o shape field
+found None answer shape field is e f = absurd (let none : answer ≡ None = is in let bad : None ≡ Some shape = sym none ∙ e in cc)
+found (Some feature) answer shape field is e f = record {
+  feature = feature;
+  held = refl;
+  its_shape = let some : answer ≡ Some feature.shape = is in cc;
+  its_field = f;
+}
 
-pub found : (answer : Option (Bor (List ℕ) × Shape)) (o : Option Feature) (p : Bor (List ℕ) × Shape) → FieldAndShapeAre answer o → answer ≡ Some p → Found o p
-found None o p h e = absurd (let bad : None ≡ Some p = e in cc)
-found (Some q) None p h e = absurd cc
-found (Some q) (Some f) p h e =
-    let same : q ≡ p = cc in
-    let both : (q.0.now ≡ leading_field f.id) × (q.1 ≡ f.shape) = parts_same q.0.now (leading_field f.id) q.1 f.shape cc in
-    record {
-      feature = f;
-      held = refl;
-      field = subst (λ (z : Bor (List ℕ) × Shape). z.0.now ≡ leading_field f.id) same both.0;
-      shape = subst (λ (z : Bor (List ℕ) × Shape). z.1 ≡ f.shape) same both.1;
-    }
+-- a feature that is there has a shape
+pub has_shape : (o : Option Feature) (answer : Option Shape) → answer ≡ option_map (λ f. f.shape) o → IsSome o → IsSome answer
+has_shape None answer is some = absurd (let bad : false ≡ true = some in cc)
+has_shape (Some feature) answer is some = rw is refl
 
--- a feature that is there is found
-pub answered : (answer : Option (Bor (List ℕ) × Shape)) (o : Option Feature) → FieldAndShapeAre answer o → IsSome o → IsSome answer
-answered None None h some = some
-answered None (Some f) h some = absurd cc
-answered (Some q) o h some = refl
+-- what an answer says of the field in it
+pub field_in : (answer : Option (Bor (List ℕ))) (field : Bor (List ℕ)) (wanted : List ℕ) → IsSomeAnd answer (λ f. f.now ≡ wanted) → answer ≡ Some field
+    → field.now ≡ wanted
+field_in None field wanted is e = absurd (let bad : None ≡ Some field = e in cc)
+field_in (Some f) field wanted is e = let same : f ≡ field = cc in subst (λ (g : Bor (List ℕ)). g.now ≡ wanted) same is
+
+pub has_field : (answer : Option (Bor (List ℕ))) (P : Bor (List ℕ) → Type 0) → IsSomeAnd answer P → IsSome answer
+has_field None P is = absurd is
+has_field (Some f) P is = refl
 
 -- what is below a bound is below a number that equals it
 pub below_len : (n a b : ℕ) → n < b → a ≡ b → n < a
@@ -93,12 +98,12 @@ none_added old new left right same = record {
 }
 
 -- the record of one pair more is added
-pub pair_added : (old mid new : List ℕ) (left right : Contents) (pairs : List (ℕ × ℕ)) (i : ℕ) (pair : ℕ × ℕ) (x y : Bor (List ℕ) × Shape)
+pub pair_added : (old mid new : List ℕ) (left right : Contents) (pairs : List (ℕ × ℕ)) (i : ℕ) (pair : ℕ × ℕ) (s t : Shape) (x y : List ℕ)
     → i < length pairs → pair ≡ get_or pairs i (0, 0)
-    → AddsRows left right (take i pairs) old mid → Found (with_number pair.0 left) x → Found (with_number pair.1 right) y
-    → (m : Matrix) (letters : List ℕ) → IsMatrix x.1 y.1 m → letters ≡ letters_of m → new ≡ mid ++ line_of x.0.now y.0.now letters
+    → AddsRows left right (take i pairs) old mid → Found (with_number pair.0 left) s x → Found (with_number pair.1 right) t y
+    → (m : Matrix) (letters : List ℕ) → IsMatrix s t m → letters ≡ letters_of m → new ≡ mid ++ line_of x y letters
     → AddsRows left right (take (i + 1) pairs) old new
-pair_added old mid new left right pairs i pair x y within at so_far f g m letters related are_letters grown = record {
+pair_added old mid new left right pairs i pair s t x y within at so_far f g m letters related are_letters grown = record {
   text = so_far.text ++ row_text default_writer row;
   are_rows = record {
     rows = so_far.are_rows.rows ++ row ∷ [];
@@ -120,13 +125,13 @@ pair_added old mid new left right pairs i pair x y within at so_far f g m letter
       matrix = m;
       first_held = f.held;
       second_held = g.held;
-      related = subst (λ (s : Shape). IsMatrix s g.feature.shape m) f.shape (subst (λ (s : Shape). IsMatrix x.1 s m) g.shape related);
+      related = subst (λ (a : Shape). IsMatrix a g.feature.shape m) f.its_shape (subst (λ (b : Shape). IsMatrix s b m) g.its_shape related);
       fields = refl;
     }
 
-    line : mid ++ line_of x.0.now y.0.now letters ≡ mid ++ row_text default_writer row
-    line = ap (λ l. mid ++ l) (ap (λ l. line_of x.0.now y.0.now l) are_letters ∙ ap (λ a. line_of a y.0.now (letters_of m)) f.field
-        ∙ ap (λ b. line_of (leading_field f.feature.id) b (letters_of m)) g.field
+    line : mid ++ line_of x y letters ≡ mid ++ row_text default_writer row
+    line = ap (λ l. mid ++ l) (ap (λ l. line_of x y l) are_letters ∙ ap (λ a. line_of a y (letters_of m)) f.its_field
+        ∙ ap (λ b. line_of (leading_field f.feature.id) b (letters_of m)) g.its_field
         ∙ sym (row_line f.feature.id g.feature.id m))
 
 -- records that were added to nothing
@@ -137,10 +142,16 @@ rows_alone old text left right pairs none adds =
 
 -- the header, and the records that were added to it
 pub report_written : (old new text : List ℕ) (left right : Contents) (pairs : List (ℕ × ℕ))
-    → old ≡ codes "left,right,matrix\n" → AddsRows left right pairs old new → text ≡ new → IsReport left right pairs text
+    → old ≡ header_line → AddsRows left right pairs old new → text ≡ new → IsReport left right pairs text
 unfolding fields_text is_blank
 report_written old new text left right pairs same adds is = record {
   rows = adds.are_rows.rows;
   are_rows = adds.are_rows.are_rows;
-  written = is ∙ adds.added ∙ ap (λ t. t ++ adds.text) same ∙ ap (λ t. codes "left,right,matrix\n" ++ t) adds.are_rows.written;
+  written = is ∙ adds.added ∙ ap (λ t. t ++ adds.text) same ∙ ap (λ t. header_line ++ t) adds.are_rows.written;
 }
+
+-- a report that is the only text
+pub report_alone : (old new : List (Vec ℕ Global)) (text : Vec ℕ Global) (left right : Contents) (pairs : List (ℕ × ℕ)) → old ≡ [] → new ≡ old ++ text ∷ []
+    → IsReport left right pairs text.items → IsReport left right pairs (joined new)
+report_alone old new text left right pairs none grown is =
+    subst (IsReport left right pairs) (sym (ap joined (grown ∙ ap (λ ts. ts ++ text ∷ []) none) ∙ append-nil text.items)) is

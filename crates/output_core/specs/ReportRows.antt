@@ -1,13 +1,11 @@
 -- The records of a report, as they are written.
-use Rattle.std.specs.Prelude.{◌≡◌, ℕ, List, [], ◌∷◌, ◌++◌, Result, Ok, Err}
+use Rattle.std.specs.Prelude.{◌≡◌, ℕ, List, [], ◌∷◌, ◌++◌, Result, Ok, Err, codes}
 use Rattle.std.specs.Global.{Global}
 use Rattle.std.specs.List.{AllZip}
 use Rattle.std.specs.declared.alloc.AllocError.{AllocError}
 use Rattle.std.specs.declared.vec.Vec.{Vec}
 use Rattle.layer_core.specs.Layers.{Contents}
 use Rattle.csv.specs.Machine.{line_feed}
-use Rattle.output_core.specs.declared.columns.Columns.{Columns}
-use Rattle.output_core.specs.Columns.{AreColumnsFor}
 use Rattle.output_core.specs.CsvTexts.{csv_text}
 use Rattle.output_core.specs.Reports.{IsRow}
 
@@ -17,17 +15,16 @@ pub record AreRows (left right : Contents) (pairs : List (ℕ × ℕ)) (text : L
   pub are_rows : AllZip (IsRow left right) pairs rows
   pub written : text ≡ csv_text rows
 
--- it has the records of these pairs in any two layers that these are columns for
-abbrev pub AreRowsOf : Columns → List (ℕ × ℕ) → List ℕ → Type 0
-AreRowsOf columns pairs text =
-    (left right : Contents) → AreColumnsFor left right pairs columns → AreRows left right pairs text
-
 -- such a text was added
 pub record AddsRows (left right : Contents) (pairs : List (ℕ × ℕ)) (old new : List ℕ)
     : Type 0 where
   pub text : List ℕ
   pub are_rows : AreRows left right pairs text
   pub added : new ≡ old ++ text
+
+-- the header, as it stands
+abbrev pub header_line : List ℕ
+header_line = codes "left,right,matrix\n"
 
 -- a record of two fields with their commas, and a third one that is written as it stands
 abbrev pub line_of : List ℕ → List ℕ → List ℕ → List ℕ

@@ -1,7 +1,14 @@
--- What was written where a device failed midway.
+-- Texts that are written in turn, and what was written where a device failed midway.
 use Rattle.std.specs.Prelude.{ℕ, List, Option}
+use Rattle.std.specs.Global.{Global}
+use Rattle.std.specs.List.{flat_map}
+use Rattle.std.specs.declared.vec.Vec.{Vec}
 use Rattle.std.specs.Io.KnownBytes.{Appends}
 use mathlib.Core.List.{IsPrefix}
+
+-- these texts, one behind the other
+abbrev pub joined : List (Vec ℕ Global) → List ℕ
+joined texts = flat_map (λ text. text.items) texts
 
 -- known bytes grow by a prefix of the text
 abbrev pub AppendsPrefix : Option (List ℕ) → Option (List ℕ) → List ℕ → Type 0

@@ -1,33 +1,26 @@
-//! What a report tells of the features of two layers, found by number.
+//! The ids of the features of two layers, as CSV fields, found by number.
 
-ghost use Rattle.std.specs.Prelude.{◌≡◌, ◌≤◌, ◌<◌, ◌++◌, ◌^◌, All, List, ℕ, length, IfOk, OnOk};
+ghost use Rattle.std.specs.Prelude.{◌≡◌, ◌≤◌, ◌<◌, ◌+◌, ◌++◌, ◌^◌, All, length};
+ghost use Rattle.std.specs.Prelude.{IfOk, OnOk, IsSomeAnd};
 ghost use Rattle.layer_core.specs.Layers.{Contents, with_number};
-ghost use Rattle.output_core.specs.Columns.{IsCell, IsColumn, FieldAndShapeAre, AreColumnsFor};
+ghost use Rattle.output_core.specs.Columns.{field_for, IsColumn, AreColumnsFor};
 ghost use Rattle.output_core.specs.Reports.{IsHeld};
 
 use crate::csv_fields::push_leading_field;
-use geom_core::Shape;
 use layer_core::Layer;
 use std::alloc::{AllocError, Global};
 use std::thread;
 use std::thread::Threads;
 
-/// The shape of a feature, and where its id stands in the text of its column.
-#[derive(Clone, Copy)]
-struct Cell {
-    shape: Shape,
-    start: usize,
-    end: usize,
-}
-
-/// The ids of a layer's features, as CSV fields with their commas, and their shapes, by number.
+/// The ids of a layer's features, as CSV fields with their commas, by number.
 ///
-/// A report asks for right features in no order. Here what it needs of one stands together, where
-/// a layer would look at a slot, a place in its map of ids and the id.
+/// A report asks for right features in no order. Here their ids stand together, where a layer
+/// would look at a slot, a place in its map of ids and the id.
 #[derive(Drop)]
 pub(crate) struct Column {
-    // By number: a number without a feature has no cell.
-    cells: Vec<Option<Cell>>,
+    // Where the field of each number starts, and at last where the fields end. The field of a
+    // number without a feature is empty.
+    starts: Vec<usize>,
     // The fields, one after another.
     text: Vec<u8>,
 }
@@ -43,28 +36,30 @@ impl Column {
     /// The column of the features of a layer whose numbers are below a bound.
     fn new(alloc: Global, layer: &Layer, bound: usize) -> Result<Column, AllocError>
         requires { bound ≤ 2 ^ 32 }
-        ensures cells { IfOk result
-            (λ column. IsColumn layer.now.list column.cells.items column.text.items) }
-        ensures len { IfOk result (λ column. length column.cells.items ≡ bound) }
+        ensures fields { IfOk result
+            (λ column. IsColumn layer.now.list column.starts.items column.text.items) }
+        ensures len { IfOk result (λ column. length column.starts.items ≡ bound + 1) }
     {
-        let mut cells = Vec::with_capacity(alloc, bound)?;
+        let mut starts = Vec::with_capacity(alloc, bound + 1)?;
         let mut text = Vec::new(alloc);
+        starts.push(0)?;
         for number in 0..bound {
-            let cell = push_cell(alloc, &mut text, layer, number as u32)?;
-            cells.push(cell)?;
+            push_field(alloc, &mut text, layer, number as u32)?;
+            starts.push(text.len())?;
         }
-        Ok(Column { cells, text })
+        Ok(Column { starts, text })
     }
 
-    /// The id of the feature with this number, as a CSV field with its comma, and its shape.
-    pub(crate) fn at(&self, number: u32) -> Option<(&[u8], Shape)>
-        ensures { (layer : Contents) → IsColumn layer self.now.cells.items self.now.text.items
-            → number < length self.now.cells.items
-            → FieldAndShapeAre result (with_number number layer) }
+    /// The id of the feature with this number, as a CSV field with its comma.
+    pub(crate) fn at(&self, number: u32) -> Option<&[u8]>
+        ensures { (layer : Contents) → IsColumn layer self.now.starts.items self.now.text.items
+            → number + 1 < length self.now.starts.items
+            → IsSomeAnd result (λ field. field.now ≡ field_for (with_number number layer)) }
     {
-        let cell = (*self.cells.get(number as usize)?)?;
-        let field = self.text.get(cell.start..cell.end)?;
-        Some((field, cell.shape))
+        let number = number as usize;
+        let start = *self.starts.get(number)?;
+        let end = *self.starts.get(number + 1)?;
+        self.text.get(start..end)
     }
 }
 
@@ -123,22 +118,18 @@ fn bounds(pairs: &[(u32, u32)]) -> (usize, usize)
     (left, right)
 }
 
-/// Adds the id of the feature with this number to a text, if there is one, and gives its cell.
-fn push_cell(
+/// Adds the field of the feature with this number to a text, if there is one.
+fn push_field(
     alloc: Global,
     text: &mut Vec<u8>,
     layer: &Layer,
     number: u32,
-) -> Result<Option<Cell>, AllocError>
-    ensures grown { OnOk result ((field : List ℕ) × (text.new.items ≡ text.old.items ++ field)) }
-    ensures cell { IfOk result
-        (λ cell. IsCell text.new.items cell (with_number number layer.now.list)) }
+) -> Result<(), AllocError>
+    ensures { OnOk result
+        (text.new.items ≡ text.old.items ++ field_for (with_number number layer.now.list)) }
 {
-    let Some((id, shape)) = layer.at(number) else {
-        return Ok(None);
-    };
-    let start = text.len();
-    push_leading_field(alloc, text, id.as_bytes())?;
-    let end = text.len();
-    Ok(Some(Cell { shape, start, end }))
+    match layer.at(number) {
+        Some((id, _)) => push_leading_field(alloc, text, id.as_bytes()),
+        None => Ok(()),
+    }
 }

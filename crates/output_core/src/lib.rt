@@ -12,6 +12,6 @@ mod to_write;
 
 pub use csv_rows::{new_rows, push_row, rows_text};
 pub use line::{Line, ROOM};
-pub use report::report_text;
-pub use sink::{Sink, WriteFailed, write_text};
+pub use report::report_texts;
+pub use sink::{Sink, WriteFailed, write_text, write_texts};
 pub use to_write::ToWrite;

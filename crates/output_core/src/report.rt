@@ -2,10 +2,11 @@
 
 ghost use Rattle.std.specs.Prelude.{◌≡◌, ◌<◌, ◌++◌, All, IfOk, IsOk, OnOk};
 ghost use Rattle.std.specs.List.{flat_map};
-ghost use Rattle.layer_core.specs.Layers.{Contents};
-ghost use Rattle.output_core.specs.Columns.{AreColumnsFor, AreColumnsForSome};
-ghost use Rattle.output_core.specs.ReportRows.{AddsRows, AreRowsOf, line_of, text_or_none};
+ghost use Rattle.output_core.specs.Columns.{AreColumnsFor};
+ghost use Rattle.output_core.specs.ReportRows.{AddsRows, AreRows, header_line, line_of};
+ghost use Rattle.output_core.specs.ReportRows.{text_or_none};
 ghost use Rattle.output_core.specs.Reports.{IsHeld, IsReport};
+ghost use Rattle.output_core.specs.Written.{joined};
 
 use crate::columns::Columns;
 use geom_core::relate;
@@ -17,51 +18,52 @@ use std::thread::Threads;
 /// How many bytes a pair's record has at least: two ids of one, nine letters, two commas, an end.
 const LEAST_RECORD: usize = 14;
 
-/// The report of these pairs: a CSV record `left,right,matrix`, and for each pair one with the ids
-/// of its features and the letters of their matrix. It is written by as many threads as there are
-/// workers.
-pub fn report_text<R: Threads + Sync>(
+/// The report of these pairs, as texts one behind the other: a CSV record `left,right,matrix`, and
+/// for each pair one with the ids of its features and the letters of their matrix. It is written
+/// by as many threads as there are workers, each to a text of its own.
+pub fn report_texts<R: Threads + Sync>(
     alloc: Global,
     left: &Layer,
     right: &Layer,
     pairs: &[(u32, u32)],
     workers: u32,
     rt: &R,
+) -> Result<Vec<Vec<u8>>, AllocError>
+    requires { All (IsHeld left.now.list right.now.list) pairs.now }
+    ensures { IfOk result
+        (λ texts. IsReport left.now.list right.now.list pairs.now (joined texts.items)) }
+{
+    let mut texts = Vec::new(alloc);
+    if workers > 1 {
+        push_texts(alloc, &mut texts, left, right, pairs, workers, rt)?;
+    } else {
+        let text = whole_text(alloc, left, right, pairs)?;
+        texts.push(text)?;
+    }
+    Ok(texts)
+}
+
+/// The report in one text.
+fn whole_text(
+    alloc: Global,
+    left: &Layer,
+    right: &Layer,
+    pairs: &[(u32, u32)],
 ) -> Result<Vec<u8>, AllocError>
     requires { All (IsHeld left.now.list right.now.list) pairs.now }
     ensures { IfOk result (λ text. IsReport left.now.list right.now.list pairs.now text.items) }
 {
-    let mut text = Vec::new(alloc);
-    text.extend_from_slice(b"left,right,matrix\n")?;
-    if workers > 1 {
-        push_by_chunks(alloc, &mut text, left, right, pairs, workers, rt)?;
-    } else {
-        push_in_turn(alloc, &mut text, left, right, pairs)?;
-    }
+    let columns = Columns::new(alloc, left, right, pairs)?;
+    let mut text = header_text(alloc)?;
+    push_rows(&mut text, left, right, &columns, pairs)?;
     Ok(text)
 }
 
-/// Adds the records of all pairs, one after another.
-fn push_in_turn(
+/// Adds the texts of the report: the header, and those of the chunks of the pairs, each written
+/// by a thread of its own.
+fn push_texts<R: Threads + Sync>(
     alloc: Global,
-    text: &mut Vec<u8>,
-    left: &Layer,
-    right: &Layer,
-    pairs: &[(u32, u32)],
-) -> Result<(), AllocError>
-    requires { All (IsHeld left.now.list right.now.list) pairs.now }
-    ensures { OnOk result
-        (AddsRows left.now.list right.now.list pairs.now text.old.items text.new.items) }
-{
-    let columns = Columns::new(alloc, left, right, pairs)?;
-    push_rows(text, &columns, pairs)
-}
-
-/// Adds the records of all pairs: those of one chunk of the pairs after those of another, where
-/// each chunk's are written by a thread of its own.
-fn push_by_chunks<R: Threads + Sync>(
-    alloc: Global,
-    text: &mut Vec<u8>,
+    texts: &mut Vec<Vec<u8>>,
     left: &Layer,
     right: &Layer,
     pairs: &[(u32, u32)],
@@ -70,55 +72,81 @@ fn push_by_chunks<R: Threads + Sync>(
 ) -> Result<(), AllocError>
     requires held { All (IsHeld left.now.list right.now.list) pairs.now }
     requires workers { 0 < workers }
-    ensures { OnOk result
-        (AddsRows left.now.list right.now.list pairs.now text.old.items text.new.items) }
+    ensures { OnOk result (AddsRows left.now.list right.now.list pairs.now
+        (joined texts.old.items ++ header_line) (joined texts.new.items)) }
 {
     let size = pairs.len().div_ceil(workers as usize).max(1);
-    let chunks = {
-        let columns = Columns::side_by_side(alloc, left, right, pairs, rt)?;
-        chunk_rows(alloc, &columns, pairs, size, rt)?
-    };
-    push_texts(text, &chunks)
+    let columns = Columns::side_by_side(alloc, left, right, pairs, rt)?;
+    let chunks = chunk_rows(alloc, left, right, &columns, pairs, size, rt)?;
+    texts.push(header_text(alloc)?)?;
+    push_all(texts, chunks)
+}
+
+/// The header.
+fn header_text(alloc: Global) -> Result<Vec<u8>, AllocError>
+    ensures { IfOk result (λ text. text.items ≡ header_line) }
+{
+    let mut text = Vec::new(alloc);
+    text.extend_from_slice(b"left,right,matrix\n")?;
+    Ok(text)
 }
 
 /// The records of each chunk of so many pairs, the last of which may be shorter.
 fn chunk_rows<R: Threads + Sync>(
     alloc: Global,
+    left: &Layer,
+    right: &Layer,
     columns: &Columns,
     pairs: &[(u32, u32)],
     size: usize,
     rt: &R,
 ) -> Result<Vec<Result<Vec<u8>, AllocError>>, AllocError>
-    requires columns { AreColumnsForSome columns.now pairs.now }
+    requires columns { AreColumnsFor left.now.list right.now.list pairs.now columns.now }
     requires size { 0 < size }
-    ensures { IfOk result (λ chunks. All IsOk chunks.items
-        → AreRowsOf columns.now pairs.now (flat_map text_or_none chunks.items)) }
+    ensures { IfOk result (λ chunks. All IsOk chunks.items → AreRows left.now.list right.now.list
+        pairs.now (flat_map text_or_none chunks.items)) }
 {
-    let rows = move |_start: usize, chunk: &[(u32, u32)]| rows_text(alloc, columns, chunk);
+    let rows = move |_start: usize, chunk: &[(u32, u32)]| {
+        rows_text(alloc, left, right, columns, chunk)
+    };
     thread::map_chunks(rt, alloc, pairs, size, &rows)
 }
 
 /// The records of these pairs.
-fn rows_text(alloc: Global, columns: &Columns, pairs: &[(u32, u32)]) -> Result<Vec<u8>, AllocError>
-    requires { AreColumnsForSome columns.now pairs.now }
-    ensures { IfOk result (λ text. AreRowsOf columns.now pairs.now text.items) }
+fn rows_text(
+    alloc: Global,
+    left: &Layer,
+    right: &Layer,
+    columns: &Columns,
+    pairs: &[(u32, u32)],
+) -> Result<Vec<u8>, AllocError>
+    requires { AreColumnsFor left.now.list right.now.list pairs.now columns.now }
+    ensures { IfOk result (λ text. AreRows left.now.list right.now.list pairs.now text.items) }
 {
     let mut text = Vec::new(alloc);
-    push_rows(&mut text, columns, pairs)?;
+    push_rows(&mut text, left, right, columns, pairs)?;
     Ok(text)
 }
 
 /// Adds the records of these pairs.
-fn push_rows(text: &mut Vec<u8>, columns: &Columns, pairs: &[(u32, u32)]) -> Result<(), AllocError>
-    requires { AreColumnsForSome columns.now pairs.now }
-    ensures { OnOk result ((left right : Contents) → AreColumnsFor left right pairs.now columns.now
-        → AddsRows left right pairs.now text.old.items text.new.items) }
+fn push_rows(
+    text: &mut Vec<u8>,
+    left: &Layer,
+    right: &Layer,
+    columns: &Columns,
+    pairs: &[(u32, u32)],
+) -> Result<(), AllocError>
+    requires { AreColumnsFor left.now.list right.now.list pairs.now columns.now }
+    ensures { OnOk result
+        (AddsRows left.now.list right.now.list pairs.now text.old.items text.new.items) }
 {
     text.reserve(pairs.len().saturating_mul(LEAST_RECORD))?;
     for pair in pairs {
-        let (left_id, left_shape) = columns.left.at(pair.0).unwrap();
-        let (right_id, right_shape) = columns.right.at(pair.1).unwrap();
+        let left_shape = left.shape(pair.0).unwrap();
+        let right_shape = right.shape(pair.1).unwrap();
         let letters = relate(&left_shape, &right_shape).text();
+        let left_id = columns.left.at(pair.0).unwrap();
+        let right_id = columns.right.at(pair.1).unwrap();
         push_row(text, left_id, right_id, &letters)?;
     }
     Ok(())
@@ -141,17 +169,17 @@ fn push_row(
     Ok(())
 }
 
-/// Adds these texts one after another, unless memory was refused to one of them.
-fn push_texts(text: &mut Vec<u8>, parts: &[Result<Vec<u8>, AllocError>]) -> Result<(), AllocError>
-    ensures all { OnOk result (All IsOk parts.now) }
-    ensures text { OnOk result
-        (text.new.items ≡ text.old.items ++ flat_map text_or_none parts.now) }
+/// Adds these texts, unless memory was refused to one of them.
+fn push_all(
+    texts: &mut Vec<Vec<u8>>,
+    parts: Vec<Result<Vec<u8>, AllocError>>,
+) -> Result<(), AllocError>
+    ensures all { OnOk result (All IsOk parts.items) }
+    ensures texts { OnOk result
+        (joined texts.new.items ≡ joined texts.old.items ++ flat_map text_or_none parts.items) }
 {
     for part in parts {
-        match part {
-            Ok(rows) => text.extend_from_slice(rows.as_slice())?,
-            Err(_) => return Err(AllocError),
-        }
+        texts.push(part?)?;
     }
     Ok(())
 }

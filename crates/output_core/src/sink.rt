@@ -1,9 +1,9 @@
-//! Devices that text is written to, and writing a whole text to one.
+//! Devices that text is written to, and writing whole texts to one.
 
 ghost use Rattle.std.specs.Prelude.{◌≡◌, ℕ, ◌<◌, ◌≤◌, ◌↔◌, List, Option, Bool, false, length};
 ghost use Rattle.std.specs.Prelude.{IsTrue, IsErr, IfOk, OnOk, OnErr};
 ghost use Rattle.std.specs.Io.KnownBytes.{Appends, Keeps, WriteAppends};
-ghost use Rattle.output_core.specs.Written.{AppendsPrefix};
+ghost use Rattle.output_core.specs.Written.{AppendsPrefix, joined};
 
 /// The device has failed.
 #[derive(Clone, Copy, Debug, PartialEq, Eq)]
@@ -51,10 +51,38 @@ pub fn write_text<S: Sink>(sink: &mut S, text: &[u8]) -> Result<(), WriteFailed>
     ensures err { OnErr result (AppendsPrefix (S.written sink.old) (S.written sink.new) text.now) }
     ensures failed { IsErr result ↔ IsTrue (S.has_failed sink.new) }
 {
+    write_all(sink, text)?;
+    sink.flush()
+}
+
+/// Writes these texts, one behind the other, and hands them on. Where the device fails, a prefix of
+/// them was written.
+pub fn write_texts<S: Sink>(sink: &mut S, texts: &[Vec<u8>]) -> Result<(), WriteFailed>
+    requires { S.has_failed sink.old ≡ false }
+    ensures ok { OnOk result (Appends (S.written sink.old) (S.written sink.new)
+        (joined texts.now)) }
+    ensures flushed { OnOk result (IsTrue (S.is_flushed sink.new)) }
+    ensures err { OnErr result (AppendsPrefix (S.written sink.old) (S.written sink.new)
+        (joined texts.now)) }
+    ensures failed { IsErr result ↔ IsTrue (S.has_failed sink.new) }
+{
+    for text in texts {
+        write_all(sink, text.as_slice())?;
+    }
+    sink.flush()
+}
+
+/// Writes the whole text.
+fn write_all<S: Sink>(sink: &mut S, text: &[u8]) -> Result<(), WriteFailed>
+    requires { S.has_failed sink.old ≡ false }
+    ensures ok { OnOk result (Appends (S.written sink.old) (S.written sink.new) text.now) }
+    ensures err { OnErr result (AppendsPrefix (S.written sink.old) (S.written sink.new) text.now) }
+    ensures failed { IsErr result ↔ IsTrue (S.has_failed sink.new) }
+{
     let mut rest = text;
     while !rest.is_empty() {
         let taken = sink.write(rest)?;
         rest = &rest[taken..];
     }
-    sink.flush()
+    Ok(())
 }

@@ -5,6 +5,7 @@ ghost use Rattle.geom_core.specs.JoinRelations.{relation_of};
 ghost use Rattle.join_core.specs.Runs.{Ends};
 ghost use Rattle.join_core.specs.Joins.{IsJoinList};
 ghost use Rattle.output_core.specs.Reports.{IsReport};
+ghost use Rattle.output_core.specs.Written.{joined};
 ghost use Rattle.join_core.specs.Inputs.{BlamesInput};
 ghost use Rattle.join_core.specs.JoinRuns.{files_of, JoinGives, IsJoinText};
 ghost use Rattle.join_core.specs.JoinRuns.{IsJoinFault, IsLateFault};
@@ -19,7 +20,7 @@ use crate::options::Options;
 use file_core::Source;
 use geom_core::JoinRelation;
 use layer_core::Layer;
-use output_core::{Sink, report_text, write_text};
+use output_core::{Sink, report_texts, write_texts};
 use std::alloc::Global;
 use std::hash::RandomState;
 use std::sync::Wait;
@@ -57,13 +58,14 @@ pub fn run_join<R: Threads + Wait + Sync, A: Source, B: Source, E: Source, G: Ga
     ensures faults { IfErr result (λ f. f ≢ RunFault.Write → IsJoinFault f) }
     ensures io { TellsFailures A.has_failed B.has_failed E.has_failed sources.new result }
 {
-    let text = join_text(rt, alloc, states, scale, sources, relation, options, gate)?;
-    write_text(sink, text.as_slice())?;
+    let texts = join_texts(rt, alloc, states, scale, sources, relation, options, gate)?;
+    write_texts(sink, texts.as_slice())?;
     Ok(())
 }
 
-/// The report of two layers that are read, and edited as a third file says.
-fn join_text<R: Threads + Wait + Sync, A: Source, B: Source, E: Source, G: Gate + Sync>(
+/// The report of two layers that are read, and edited as a third file says, as texts one behind the
+/// other.
+fn join_texts<R: Threads + Wait + Sync, A: Source, B: Source, E: Source, G: Gate + Sync>(
     rt: &R,
     alloc: Global,
     states: (RandomState, RandomState),
@@ -72,10 +74,10 @@ fn join_text<R: Threads + Wait + Sync, A: Source, B: Source, E: Source, G: Gate 
     relation: &JoinRelation,
     options: &Options,
     gate: &G,
-) -> Result<Vec<u8>, RunFault>
+) -> Result<Vec<Vec<u8>>, RunFault>
     requires { AreFresh A.has_failed B.has_failed E.has_failed sources.old }
     ensures ok { let files = files_of scale A.remaining B.remaining E.remaining sources.old in
-        IfOk result (λ text. IsJoinText (relation_of relation.now) files text.items) }
+        IfOk result (λ texts. IsJoinText (relation_of relation.now) files (joined texts.items)) }
     ensures fault { let files = files_of scale A.remaining B.remaining E.remaining sources.old in
         IfErr result (λ f. BlamesInput f → JoinGives (relation_of relation.now) files (Err f)) }
     ensures faults { IfErr result IsJoinFault }
@@ -83,12 +85,12 @@ fn join_text<R: Threads + Wait + Sync, A: Source, B: Source, E: Source, G: Gate 
 {
     let workers = options.workers();
     let (left, right) = edited_layers(rt, alloc, states, scale, sources, workers)?;
-    let text = report_of(rt, alloc, &left, &right, relation, options, gate);
+    let texts = report_of(rt, alloc, &left, &right, relation, options, gate);
     free_layers(rt, left, right, workers);
-    text
+    texts
 }
 
-/// The report of two layers.
+/// The report of two layers, as texts one behind the other.
 fn report_of<R: Threads + Wait + Sync, G: Gate + Sync>(
     rt: &R,
     alloc: Global,
@@ -97,13 +99,13 @@ fn report_of<R: Threads + Wait + Sync, G: Gate + Sync>(
     relation: &JoinRelation,
     options: &Options,
     gate: &G,
-) -> Result<Vec<u8>, RunFault>
-    ensures ok { IfOk result (λ text. (pairs : List (ℕ × ℕ))
+) -> Result<Vec<Vec<u8>>, RunFault>
+    ensures ok { IfOk result (λ texts. (pairs : List (ℕ × ℕ))
         × IsJoinList (relation_of relation.now) left.now.list right.now.list pairs
-        × IsReport left.now.list right.now.list pairs text.items) }
+        × IsReport left.now.list right.now.list pairs (joined texts.items)) }
     ensures err { IfErr result IsLateFault }
 {
     let outcome = join(rt, alloc, left, right, relation, options, gate)?;
     let workers = options.workers();
-    Ok(report_text(alloc, left, right, outcome.pairs(), workers, rt)?)
+    Ok(report_texts(alloc, left, right, outcome.pairs(), workers, rt)?)
 }

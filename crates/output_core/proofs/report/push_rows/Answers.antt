@@ -1,33 +1,31 @@
 use Rattle.std.proofs.Common.{refl, subst, arith}
 use Rattle.std.proofs.lemmas.List.{take_all}
-use Rattle.output_core.proofs.ReportLemmas.{found, answered, none_added, pair_added}
-use Rattle.output_core.proofs.report.push_rows.Goals as goal
 use Rattle.output_core.specs.ReportRows.{AddsRows}
+use Rattle.output_core.proofs.ReportLemmas.{found, field_in, has_field, none_added, pair_added}
+use Rattle.output_core.proofs.report.push_rows.Goals as goal
 
 pub loop-pair-init : goal.loop-pair-init
-loop-pair-init c = λ left right tell. none_added _ _ left right c.in_ok-reserve.ensures.items
+loop-pair-init c = none_added _ _ c.args.left.now.list c.args.right.now.list c.in_ok-reserve.ensures.items
 
-pub unwrap-requires : goal.unwrap-requires
-unwrap-requires c =
-    let tell = c.requires.2 in
-    answered _ _ (c.at.ensures _ tell.left_column (tell.left_within c.loop-pair.pair-index (0, 0) c.loop-pair-test.true))
-    (tell.held c.loop-pair.pair-index (0, 0) c.loop-pair-test.true).0
+pub unwrap-left_id-requires : goal.unwrap-left_id-requires
+unwrap-left_id-requires c =
+    has_field _ _ (c.at.ensures _ c.requires.left_column (c.requires.left_within c.loop-pair.pair-index (0, 0) c.loop-pair-test.true))
 
-pub unwrap-requires-in-loop-pair : goal.unwrap-requires-in-loop-pair
-unwrap-requires-in-loop-pair c =
-    let tell = c.requires.2 in
-    answered _ _ (c.at-in-loop-pair.ensures _ tell.right_column (tell.right_within c.loop-pair.pair-index (0, 0) c.loop-pair-test.true))
-    (tell.held c.loop-pair.pair-index (0, 0) c.loop-pair-test.true).1
+pub unwrap-right_id-requires : goal.unwrap-right_id-requires
+unwrap-right_id-requires c =
+    has_field _ _ (c.at-in-loop-pair.ensures _ c.requires.right_column (c.requires.right_within c.loop-pair.pair-index (0, 0) c.loop-pair-test.true))
 
 pub loop-pair-preserved : goal.loop-pair-preserved
-loop-pair-preserved c = λ left right tell.
-    pair_added _ _ _ _ _ _ _ _ _ _ c.loop-pair-test.true refl (c.loop-pair.invariant left right tell)
-    (found _ _ _ (c.at.ensures _ tell.left_column (tell.left_within c.loop-pair.pair-index (0, 0) c.loop-pair-test.true)) c.unwrap.ensures)
-    (found _ _ _ (c.at-in-loop-pair.ensures _ tell.right_column (tell.right_within c.loop-pair.pair-index (0, 0) c.loop-pair-test.true))
-    c.unwrap-in-loop-pair.ensures)
+loop-pair-preserved c =
+    let i = c.loop-pair.pair-index in
+    let left_field = c.at.ensures _ c.requires.left_column (c.requires.left_within i (0, 0) c.loop-pair-test.true) in
+    let right_field = c.at-in-loop-pair.ensures _ c.requires.right_column (c.requires.right_within i (0, 0) c.loop-pair-test.true) in
+    pair_added _ _ _ _ _ _ i _ _ _ _ _ c.loop-pair-test.true refl c.loop-pair.invariant
+    (found _ _ _ _ c.shape.ensures c.unwrap-left_shape.ensures (field_in _ _ _ left_field c.unwrap-left_id.ensures))
+    (found _ _ _ _ c.shape-in-loop-pair.ensures c.unwrap-right_shape.ensures (field_in _ _ _ right_field c.unwrap-right_id.ensures))
     _ _ c.relate.ensures c.text-letters.ensures c.in_ok-push_row.ensures
 
 pub returns : goal.returns
-returns c = λ left right tell.
-    subst (λ pairs. AddsRows left right pairs c.args.text.now.items c.loop-pair.text.items)
-    (take_all c.loop-pair.pair-index c.args.pairs.now (omega arith)) (c.loop-pair.invariant left right tell)
+returns c =
+    subst (λ pairs. AddsRows c.args.left.now.list c.args.right.now.list pairs c.args.text.now.items c.loop-pair.text.items)
+    (take_all c.loop-pair.pair-index c.args.pairs.now (omega arith)) c.loop-pair.invariant

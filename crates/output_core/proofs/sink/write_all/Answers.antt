@@ -1,5 +1,5 @@
 use Rattle.output_core.proofs.WrittenLemmas.{appends_up_to_more, not_failed}
-use Rattle.output_core.proofs.sink.write_text.Goals as goal
+use Rattle.output_core.proofs.sink.write_all.Goals as goal
 
 pub loop-rest-preserved : goal.loop-rest-preserved
 loop-rest-preserved g c = (

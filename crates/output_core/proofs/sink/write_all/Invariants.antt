@@ -1,6 +1,6 @@
 use Rattle.std.proofs.Common.{◌≡◌, length, false}
 use Rattle.output_core.proofs.WrittenLemmas.{AppendsUpTo}
-use Rattle.output_core.proofs.sink.write_text.Given as goal
+use Rattle.output_core.proofs.sink.write_all.Given as goal
 
 abbrev pub invariant-loop-rest : goal.invariant-loop-rest
 invariant-loop-rest g l =
