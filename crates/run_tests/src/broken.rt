@@ -53,6 +53,14 @@ fn broken_10(rt: HostRuntime) {
     assert!(rt; ends(&rt, &bytewise(), Ok(()), EDITED) == Some(true));
 }
 
+#[test]
+fn right_that_fails_before_left_at_fault(rt: HostRuntime) {
+    let mut files = failing(Input::Right, 1);
+    files.left = at_once("id\n");
+    let fault = RunFault::Read(Input::Right, ReadFault::Io);
+    assert!(rt; ends(&rt, &files, Err(fault), "") == Some(true));
+}
+
 /// Whether a device with this room that takes so many bytes a call is given the front of the report
 /// that it has room for.
 fn writes_front<R: Threads + Wait + Sync + RandomSource + AllocGlobal>(
