@@ -142,11 +142,12 @@ fn push_rows(
 {
     text.reserve(pairs.len().saturating_mul(LEAST_RECORD))?;
     for pair in pairs {
+        // Looked up first, so that the processor fetches ids and shapes at the same time.
+        let left_id = columns.left.at(pair.0).unwrap();
+        let right_id = columns.right.at(pair.1).unwrap();
         let left_shape = left.shape(pair.0).unwrap();
         let right_shape = right.shape(pair.1).unwrap();
         let letters = relate(&left_shape, &right_shape).text();
-        let left_id = columns.left.at(pair.0).unwrap();
-        let right_id = columns.right.at(pair.1).unwrap();
         push_row(text, left_id, right_id, &letters)?;
     }
     Ok(())
