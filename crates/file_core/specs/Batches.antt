@@ -1,7 +1,6 @@
 -- Rows that are read together, and the layer with all of them.
 use Rattle.std.specs.Prelude.{◌≡◌, ◌≢◌, ◌+◌, ◌<◌, ℕ, Bool, true, false, List, [], ◌∷◌, length, All}
 use Rattle.std.specs.Prelude.{IsTrue, Result, Ok, Err}
-use Rattle.std.specs.String.{string_bytes}
 use Rattle.wkt_core.specs.declared.scale.Scale.{Scale}
 use Rattle.file_core.specs.declared.layer_row.ReadRow.{ReadRow}
 use Rattle.file_core.specs.declared.read_fault.ReadFault.{ReadFault}
@@ -9,6 +8,7 @@ use Rattle.file_core.specs.declared.read_fault.ReadFault.TheVariants.{Io, Memory
 use Rattle.file_core.specs.declared.rows.Rows.{Rows}
 use Rattle.file_core.specs.LayerFiles.{with_row}
 use Rattle.file_core.specs.LayerRows.{RowSays, content_of}
+use Rattle.layer_core.specs.Ids.{id_bytes}
 use Rattle.layer_core.specs.Layers.{Contents}
 use Rattle.file_core.specs.Records.{Record}
 use Rattle.layer_core.specs.Refusals.{is_id}
@@ -16,7 +16,7 @@ use Rattle.file_core.specs.Rows.{rows_left, IsReading}
 
 -- the row's id has as many bytes as an id may have
 abbrev pub HasId : ReadRow → Type 0
-HasId row = IsTrue (is_id (string_bytes row.id))
+HasId row = IsTrue (is_id (id_bytes row.id))
 
 -- what follows where a layer was given, or the fault
 abbrev pub if_given : Result Contents ReadFault → (Contents → Result Contents ReadFault)

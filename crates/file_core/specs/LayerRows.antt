@@ -1,7 +1,7 @@
 -- What a row of a layer's file says by itself: a feature's id and shape, or the row's own fault.
 use Rattle.std.specs.Prelude.{◌≡◌, ℕ, List, [], ◌∷◌, Result, Ok, Err}
-use Rattle.std.specs.String.{string_bytes}
 use Rattle.geom_core.specs.declared.shape.Shape.{Shape}
+use Rattle.layer_core.specs.Ids.{id_bytes}
 use Rattle.wkt_core.specs.Readings.{Reads}
 use Rattle.wkt_core.specs.declared.fault.WktFault.{WktFault}
 use Rattle.wkt_core.specs.declared.scale.Scale.{Scale}
@@ -17,7 +17,7 @@ pub record RowContent : Type 0 where
   pub shape : Shape
 
 abbrev pub content_of : ReadRow → RowContent
-content_of row = record { id = string_bytes row.id; shape = row.shape }
+content_of row = record { id = id_bytes row.id; shape = row.shape }
 
 -- the content of the row of this number, where its geometry was read
 abbrev pub content_with : ℕ → List ℕ → Result Shape WktFault → Result RowContent ReadFault

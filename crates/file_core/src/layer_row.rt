@@ -8,7 +8,7 @@ use crate::fields::{id_in, two_fields};
 use crate::read_fault::ReadFault;
 use csv::ByteRecord;
 use geom_core::Shape;
-use layer_core::LayerFault;
+use layer_core::{Id, LayerFault};
 use std::alloc::Global;
 use wkt_core::Scale;
 
@@ -16,7 +16,7 @@ use wkt_core::Scale;
 #[derive(Drop)]
 pub(crate) struct ReadRow {
     pub(crate) number: u32,
-    pub(crate) id: String,
+    pub(crate) id: Id,
     pub(crate) shape: Shape,
 }
 
@@ -39,6 +39,6 @@ pub(crate) fn read_row(
     let (id, wkt) = two_fields(row).ok_or(ReadFault::Row(number))?;
     let id = id_in(id).ok_or(ReadFault::Layer(number, LayerFault::BadId))?;
     let shape = wkt_core::read(wkt, scale).map_err(|fault| ReadFault::Wkt(number, fault))?;
-    let id = String::from_str(alloc, id)?;
+    let id = Id::from_str(alloc, id)?;
     Ok(ReadRow { number, id, shape })
 }

@@ -5,9 +5,6 @@ use Rattle.std.specs.List.{IsDistinct}
 use Rattle.std.specs.Map.{keys_of, values_of, lookup, lookup_key}
 use Rattle.std.specs.Option.{option_map, option_flatten}
 use Rattle.std.specs.Str.{bytes_eq}
-use Rattle.std.specs.String.{string_bytes, string_eq}
-use Rattle.std.specs.declared.string.String.{String}
-use Rattle.std.specs.declared.alloc.Global.{Global}
 use Rattle.std.proofs.lemmas.List.{length-map, length-append, length-set, map-append, map-set, append-nil}
 use Rattle.std.proofs.Math.Seq.{get_or-append_seam}
 use Rattle.std.proofs.lemmas.Map.Keys.{apart_from_distinct}
@@ -20,6 +17,8 @@ use Rattle.indexmap.specs.IndexMap.{set_value_at, insert_entry}
 use Rattle.indexmap.proofs.MapLemmas.{Found-position, Missing-position, insert_entry-absent, insert_entry-first}
 use Rattle.geom_core.specs.declared.shape.Shape.{Shape}
 use Rattle.layer_core.specs.declared.features.Slot.{Slot}
+use Rattle.layer_core.specs.declared.id.Id.{Id}
+use Rattle.layer_core.specs.Ids.{id_bytes, id_eq}
 use Rattle.layer_core.specs.Limits.{most_features}
 use Rattle.layer_core.specs.Layers.{IsLayer, with_id, with_number, inserted, deleted}
 use Rattle.layer_core.specs.MapAndSlots.{AreInverse, StandForLayer, IsWalk, ids_of, places, id_of, feature_of, features_from, contents_of, IsAbsent, IsOnly}
@@ -117,22 +116,22 @@ module _ (numbers numbers' : List (Option ℕ)) (slots : List (Option Slot)) (p 
       ]
 
 -- the test by which a look-up finds an id
-abbrev pub is_id : List ℕ → String Global → Bool
-is_id id key = bytes_eq id (string_bytes key)
+abbrev pub is_id : List ℕ → Id → Bool
+is_id id key = bytes_eq id (id_bytes key)
 
-module _ (es : List (String Global × Option ℕ)) (slots : List (Option Slot)) (table : AreInverse (values_of es) slots) where
+module _ (es : List (Id × Option ℕ)) (slots : List (Option Slot)) (table : AreInverse (values_of es) slots) where
   -- the entry of the map that a slot's feature names
   pub entry_of : (k : ℕ) (s : Slot) → slice_get slots k ≡ Some (Some s)
-      → (e : String Global × Option ℕ) × (slice_get es s.place ≡ Some e) × (id_of (ids_of (keys_of es)) s ≡ string_bytes e.0)
+      → (e : Id × Option ℕ) × (slice_get es s.place ≡ Some e) × (id_of (ids_of (keys_of es)) s ≡ id_bytes e.0)
   entry_of k s h =
       let number = table.numbered s.place k (place_of slots k s h) in
       let entry = get-within es s.place (omega (arith, slice_get_within (values_of es) s.place (Some k) number, length-values_of es)) in
       let key = slice_get-map (λ e. e.0) es s.place ∙ ap (option_map (λ e. e.0)) entry.1 in
-      let bytes = slice_get-map string_bytes (keys_of es) s.place ∙ ap (option_map string_bytes) key in
-      (entry.0, entry.1, get_or_from_slice_get (ids_of (keys_of es)) s.place (string_bytes entry.0.0) [] bytes)
+      let bytes = slice_get-map id_bytes (keys_of es) s.place ∙ ap (option_map id_bytes) key in
+      (entry.0, entry.1, get_or_from_slice_get (ids_of (keys_of es)) s.place (id_bytes entry.0.0) [] bytes)
 
   key_of : (k : ℕ) (s : Slot) → slice_get slots k ≡ Some (Some s)
-      → (key : String Global) × (slice_get (keys_of es) s.place ≡ Some key) × (id_of (ids_of (keys_of es)) s ≡ string_bytes key)
+      → (key : Id) × (slice_get (keys_of es) s.place ≡ Some key) × (id_of (ids_of (keys_of es)) s ≡ id_bytes key)
   key_of k s h =
       let entry = entry_of k s h in
       (entry.0.0, slice_get-map (λ e. e.0) es s.place ∙ ap (option_map (λ e. e.0)) entry.1, entry.2)
@@ -145,7 +144,7 @@ module _ (es : List (String Global × Option ℕ)) (slots : List (Option Slot)) 
           ap (bytes_eq id) key.2 ∙ get-all (λ x. is_id id x ≡ false) (keys_of es) s.place key.0 (Missing-position (is_id id) es none).absent key.1;
     }
 
-    passes : (es : List (String Global × Option ℕ)) (key : String Global) → lookup_key (is_id id) es ≡ Some key → is_id id key ≡ true
+    passes : (es : List (Id × Option ℕ)) (key : Id) → lookup_key (is_id id) es ≡ Some key → is_id id key ≡ true
     passes [] key h = cc
     passes (e ∷ es) key h = by (is_id id e.0) refl (λ later. passes es key later)
       where
@@ -154,14 +153,14 @@ module _ (es : List (String Global × Option ℕ)) (slots : List (Option Slot)) 
         by false t later = later (rw t at h)
 
     -- a found id's key
-    first_key : (i : ℕ) → position (is_id id) (keys_of es) ≡ Some i → (key : String Global) × (slice_get (keys_of es) i ≡ Some key) × (is_id id key ≡ true)
+    first_key : (i : ℕ) → position (is_id id) (keys_of es) ≡ Some i → (key : Id) × (slice_get (keys_of es) i ≡ Some key) × (is_id id key ≡ true)
     first_key i at =
         let found = Found-position (is_id id) es i at in
         let key = get-within (keys_of es) i (let within = found.within in omega (arith, length-keys_of es)) in
         (key.0, key.1, passes es key.0 (found.key ∙ key.1))
 
     -- two keys with one id stand at one place
-    one_place : IsDistinct string_eq (keys_of es) → (i j : ℕ) (a b : String Global) → slice_get (keys_of es) i ≡ Some a → slice_get (keys_of es) j ≡ Some b
+    one_place : IsDistinct id_eq (keys_of es) → (i j : ℕ) (a b : Id) → slice_get (keys_of es) i ≡ Some a → slice_get (keys_of es) j ≡ Some b
         → is_id id a ≡ true → is_id id b ≡ true → i ≡ j
     one_place distinct i j a b at_i at_j is_a is_b = elim (dec_lt i j) [
       | yes below ↦ absurd (apart i j a b at_i at_j below same)
@@ -171,27 +170,27 @@ module _ (es : List (String Global × Option ℕ)) (slots : List (Option Slot)) 
       ]
     ]
       where
-        same : string_bytes a ≡ string_bytes b
-        same = sym ((bytes_eq-Decides id (string_bytes a)).0 is_a) ∙ (bytes_eq-Decides id (string_bytes b)).0 is_b
+        same : id_bytes a ≡ id_bytes b
+        same = sym ((bytes_eq-Decides id (id_bytes a)).0 is_a) ∙ (bytes_eq-Decides id (id_bytes b)).0 is_b
 
-        apart : (i j : ℕ) (a b : String Global) → slice_get (keys_of es) i ≡ Some a → slice_get (keys_of es) j ≡ Some b → i < j
-            → string_bytes a ≡ string_bytes b → ⊥
+        apart : (i j : ℕ) (a b : Id) → slice_get (keys_of es) i ≡ Some a → slice_get (keys_of es) j ≡ Some b → i < j
+            → id_bytes a ≡ id_bytes b → ⊥
         apart i j a b at_i at_j below same =
-            let differ = apart_from_distinct string_eq (keys_of es) i j a distinct below (slice_get_within (keys_of es) j b at_j) in
-            let keys_differ : bytes_eq (string_bytes a) (string_bytes b) ≡ false = rw
+            let differ = apart_from_distinct id_eq (keys_of es) i j a distinct below (slice_get_within (keys_of es) j b at_j) in
+            let keys_differ : bytes_eq (id_bytes a) (id_bytes b) ≡ false = rw
             (get_or_from_slice_get (keys_of es) i a a at_i, get_or_from_slice_get (keys_of es) j b a at_j) at differ in
-            let keys_agree : bytes_eq (string_bytes a) (string_bytes b) ≡ true = (bytes_eq-Decides (string_bytes a) (string_bytes b)).1 same in
+            let keys_agree : bytes_eq (id_bytes a) (id_bytes b) ≡ true = (bytes_eq-Decides (id_bytes a) (id_bytes b)).1 same in
             cc
 
     -- a slot's feature that has the found id stands at its place
-    found_place : IsDistinct string_eq (keys_of es) → (i : ℕ) → position (is_id id) (keys_of es) ≡ Some i → (j : ℕ) (s : Slot)
+    found_place : IsDistinct id_eq (keys_of es) → (i : ℕ) → position (is_id id) (keys_of es) ≡ Some i → (j : ℕ) (s : Slot)
         → slice_get slots j ≡ Some (Some s) → bytes_eq id (id_of (ids_of (keys_of es)) s) ≡ true → s.place ≡ i
     found_place distinct i at j s h e =
         let key = key_of j s h in
         let first = first_key i at in
         one_place distinct s.place i key.0 first.0 key.1 first.1 (rw key.2 at e) first.2
 
-    pub absent_from_deleted : IsDistinct string_eq (keys_of es) → (i : ℕ) → position (is_id id) (keys_of es) ≡ Some i
+    pub absent_from_deleted : IsDistinct id_eq (keys_of es) → (i : ℕ) → position (is_id id) (keys_of es) ≡ Some i
         → slice_get (values_of es) i ≡ Some None → IsAbsent (ids_of (keys_of es)) id slots
     absent_from_deleted distinct i at gone = record { differs = λ k s h. by k s h (bytes_eq id (id_of (ids_of (keys_of es)) s)) refl }
       where
@@ -203,7 +202,7 @@ module _ (es : List (String Global × Option ℕ)) (slots : List (Option Slot)) 
             cc
         by k s h false e = refl
 
-    pub only_from_found : IsDistinct string_eq (keys_of es) → (i n : ℕ) (slot : Slot) → position (is_id id) (keys_of es) ≡ Some i
+    pub only_from_found : IsDistinct id_eq (keys_of es) → (i n : ℕ) (slot : Slot) → position (is_id id) (keys_of es) ≡ Some i
         → slice_get (values_of es) i ≡ Some (Some n) → slice_get slots n ≡ Some (Some slot) → IsOnly (ids_of (keys_of es)) id slots n slot
     only_from_found distinct i n slot at held here = record {
       here = here;
@@ -233,7 +232,7 @@ module _ (es : List (String Global × Option ℕ)) (slots : List (Option Slot)) 
         by (Some (Some slot)) e h = let at_n : Some (Some slot.place) ≡ Some (Some i) = sym (place_of slots n slot e) ∙ h in (slot, e, cc)
 
 -- what stands in the map and the slots is a layer
-pub IsLayer-contents : (es : List (String Global × Option ℕ)) (slots : List (Option Slot)) (count : ℕ) → StandForLayer es slots count
+pub IsLayer-contents : (es : List (Id × Option ℕ)) (slots : List (Option Slot)) (count : ℕ) → StandForLayer es slots count
     → IsLayer (contents_of (keys_of es) slots)
 IsLayer-contents es slots count kept = record {
   distinct = features-distinct (ids_of (keys_of es)) 0 slots (λ j k s t a b e. apart j k s t a b e);
@@ -247,37 +246,37 @@ IsLayer-contents es slots count kept = record {
     apart j k s t a b e =
         let first = key_of es slots kept.table j s a in
         let second = key_of es slots kept.table k t b in
-        let id = string_bytes first.0 in
-        let same : string_bytes first.0 ≡ string_bytes second.0 = sym first.2 ∙ e ∙ second.2 in
+        let id = id_bytes first.0 in
+        let same : id_bytes first.0 ≡ id_bytes second.0 = sym first.2 ∙ e ∙ second.2 in
         let place = one_place es slots kept.table id kept.distinct s.place t.place first.0 second.0 first.1 second.1
-        ((bytes_eq-Decides id (string_bytes first.0)).1 refl) ((bytes_eq-Decides id (string_bytes second.0)).1 same) in
+        ((bytes_eq-Decides id (id_bytes first.0)).1 refl) ((bytes_eq-Decides id (id_bytes second.0)).1 same) in
         let number = kept.table.numbered s.place j (place_of slots j s a) in
         let other = kept.table.numbered t.place k (place_of slots k t b) in
         let at_s : slice_get (values_of es) t.place ≡ Some (Some j) = sym (ap (slice_get (values_of es)) place) ∙ number in
         cc
 
 -- a look-up by number
-pub with_number-contents : (keys : List (String Global)) (slots : List (Option Slot)) (k : ℕ)
+pub with_number-contents : (keys : List Id) (slots : List (Option Slot)) (k : ℕ)
     → with_number k (contents_of keys slots) ≡ feature_in (ids_of keys) k (slice_get slots k)
 with_number-contents keys slots k =
     let e : k ≡ 0 + k = omega arith in
     ap (λ n. with_number n (contents_of keys slots)) e ∙ find-number (ids_of keys) 0 slots k ∙ ap (λ n. feature_in (ids_of keys) n (slice_get slots k)) (sym e)
 
 -- a look-up by id
-pub with_id-absent : (keys : List (String Global)) (slots : List (Option Slot)) (id : List ℕ) → IsAbsent (ids_of keys) id slots
+pub with_id-absent : (keys : List Id) (slots : List (Option Slot)) (id : List ℕ) → IsAbsent (ids_of keys) id slots
     → with_id id (contents_of keys slots) ≡ None
 with_id-absent keys slots id absent = find-absent (ids_of keys) id 0 slots absent
 
-pub with_id-only : (keys : List (String Global)) (slots : List (Option Slot)) (id : List ℕ) (k : ℕ) (slot : Slot) → IsOnly (ids_of keys) id slots k slot
+pub with_id-only : (keys : List Id) (slots : List (Option Slot)) (id : List ℕ) (k : ℕ) (slot : Slot) → IsOnly (ids_of keys) id slots k slot
     → with_id id (contents_of keys slots) ≡ Some (feature_of (ids_of keys) k slot)
 with_id-only keys slots id k slot only = find-only (ids_of keys) id 0 slots k slot only ∙ ap (λ n. Some (feature_of (ids_of keys) n slot)) (zero-add k)
 
 -- a deletion by id
-pub deleted-absent : (keys : List (String Global)) (slots : List (Option Slot)) (id : List ℕ) → IsAbsent (ids_of keys) id slots
+pub deleted-absent : (keys : List Id) (slots : List (Option Slot)) (id : List ℕ) → IsAbsent (ids_of keys) id slots
     → deleted (contents_of keys slots) id ≡ contents_of keys slots
 deleted-absent keys slots id absent = ap (λ fs. record { features = fs; next = length slots }) (filter-absent (ids_of keys) id 0 slots absent)
 
-pub deleted-only : (keys : List (String Global)) (slots : List (Option Slot)) (id : List ℕ) (k : ℕ) (slot : Slot) → IsOnly (ids_of keys) id slots k slot
+pub deleted-only : (keys : List Id) (slots : List (Option Slot)) (id : List ℕ) (k : ℕ) (slot : Slot) → IsOnly (ids_of keys) id slots k slot
     → deleted (contents_of keys slots) id ≡ contents_of keys (set slots k None)
 deleted-only keys slots id k slot only = (λ i. record { features = filter-only (ids_of keys) id 0 slots k slot only i; next = sym (length-set slots k None) i })
 
@@ -292,7 +291,7 @@ set-back [] i v w h = refl
 set-back (e ∷ es) zero v w h = let same : e.1 ≡ w = cc in ap (λ x. (e.0, x) ∷ es) (sym same)
 set-back (e ∷ es) (suc i) v w h = ap (λ l. e ∷ l) (set-back es i v w h)
 
-pub AreInverse-deleted : (es : List (String Global × Option ℕ)) (slots : List (Option Slot)) (k : ℕ) (slot : Slot) → AreInverse (values_of es) slots
+pub AreInverse-deleted : (es : List (Id × Option ℕ)) (slots : List (Option Slot)) (k : ℕ) (slot : Slot) → AreInverse (values_of es) slots
     → slice_get slots k ≡ Some (Some slot) → slice_get (values_of es) slot.place ≡ Some (Some k)
     → AreInverse (values_of (set_value_at es slot.place None)) (set slots k None)
 AreInverse-deleted es slots k slot table here held =
@@ -303,7 +302,7 @@ AreInverse-deleted es slots k slot table here held =
     k (place_of slots k slot here) (rw written (get-set_at (values_of es) slot.place None within))
 
 -- the map and the slots after a deletion, of which there was something to delete
-pub StandForLayer-deleted : (es : List (String Global × Option ℕ)) (slots : List (Option Slot)) (count k : ℕ) (slot : Slot) → StandForLayer es slots count
+pub StandForLayer-deleted : (es : List (Id × Option ℕ)) (slots : List (Option Slot)) (count k : ℕ) (slot : Slot) → StandForLayer es slots count
     → slice_get slots k ≡ Some (Some slot) → slice_get (values_of es) slot.place ≡ Some (Some k)
     → (0 < count) × StandForLayer (set_value_at es slot.place None) (set slots k None) (count - 1)
 StandForLayer-deleted es slots count k slot kept here held = (
@@ -318,83 +317,83 @@ StandForLayer-deleted es slots count k slot kept here held = (
     less : length (features_from (ids_of (keys_of es)) 0 (set slots k None)) + 1 ≡ length (features_from (ids_of (keys_of es)) 0 slots)
     less = length-features_without (ids_of (keys_of es)) 0 slots k slot here
 
-pub count-le : (es : List (String Global × Option ℕ)) (slots : List (Option Slot)) (count : ℕ) → StandForLayer es slots count → count ≤ length slots
+pub count-le : (es : List (Id × Option ℕ)) (slots : List (Option Slot)) (count : ℕ) → StandForLayer es slots count → count ≤ length slots
 count-le es slots count kept = omega (arith, kept.counted, length-features-le (ids_of (keys_of es)) 0 slots)
 
 -- the map after an insertion, where the id was new or its feature was deleted
-record IsGiven (es es' : List (String Global × Option ℕ)) (k : String Global) (v : Option ℕ) (p : ℕ) : Type 0 where
+record IsGiven (es es' : List (Id × Option ℕ)) (k : Id) (v : Option ℕ) (p : ℕ) : Type 0 where
   pub numbered : slice_get (values_of es') p ≡ Some v
   pub others : (q : ℕ) → q ≢ p → slice_get (values_of es') q ≡ slice_get (values_of es) q
   pub free : (n : ℕ) → slice_get (values_of es) p ≢ Some (Some n)
-  pub id : get_or (ids_of (keys_of es')) p [] ≡ string_bytes k
+  pub id : get_or (ids_of (keys_of es')) p [] ≡ id_bytes k
   pub more : (more : List (List ℕ)) × (ids_of (keys_of es') ≡ ids_of (keys_of es) ++ more)
 
 -- what becomes of the layer then
-pub record InsertsNew (es es' : List (String Global × Option ℕ)) (slots : List (Option Slot)) (count : ℕ) (id : List ℕ) (slot : Slot) : Type 0 where
+pub record InsertsNew (es es' : List (Id × Option ℕ)) (slots : List (Option Slot)) (count : ℕ) (id : List ℕ) (slot : Slot) : Type 0 where
   pub kept : StandForLayer es' (slots ++ Some slot ∷ []) (count + 1)
   pub absent : with_id id (contents_of (keys_of es) slots) ≡ None
   pub grows : contents_of (keys_of es') (slots ++ Some slot ∷ []) ≡ inserted (contents_of (keys_of es) slots) id slot.shape
 
-module _ (es : List (String Global × Option ℕ)) (slots : List (Option Slot)) (count : ℕ) (kept : StandForLayer es slots count) (k : String Global)
+module _ (es : List (Id × Option ℕ)) (slots : List (Option Slot)) (count : ℕ) (kept : StandForLayer es slots count) (k : Id)
     (slot : Slot) where
-  given_new : (v : Option ℕ) → position (string_eq k) (keys_of es) ≡ None → slot.place ≡ position_or_len (string_eq k) (keys_of es)
-      → IsGiven es (insert_entry string_eq es k v) k v slot.place
+  given_new : (v : Option ℕ) → position (id_eq k) (keys_of es) ≡ None → slot.place ≡ position_or_len (id_eq k) (keys_of es)
+      → IsGiven es (insert_entry id_eq es k v) k v slot.place
   given_new v none at = record {
     numbered = rw (values, last) (get-push_at (values_of es) v);
     others = λ q d. rw values (get-push_other (values_of es) v q (λ e. d (e ∙ sym last)));
     free = λ n h. let past = slice_get_past (values_of es) slot.place (omega (arith, last)) in cc;
-    id = rw (ids, last_id) (get_or-append_seam (ids_of (keys_of es)) (string_bytes k) [] []);
-    more = (string_bytes k ∷ [], ids);
+    id = rw (ids, last_id) (get_or-append_seam (ids_of (keys_of es)) (id_bytes k) [] []);
+    more = (id_bytes k ∷ [], ids);
   }
     where
-      pushed : insert_entry string_eq es k v ≡ es ++ (k, v) ∷ []
-      pushed = insert_entry-absent string_eq k v es (Missing-position (string_eq k) es none).absent
+      pushed : insert_entry id_eq es k v ≡ es ++ (k, v) ∷ []
+      pushed = insert_entry-absent id_eq k v es (Missing-position (id_eq k) es none).absent
 
-      values : values_of (insert_entry string_eq es k v) ≡ values_of es ++ v ∷ []
+      values : values_of (insert_entry id_eq es k v) ≡ values_of es ++ v ∷ []
       values = ap values_of pushed ∙ map-append (λ e. e.1) es ((k, v) ∷ [])
 
-      ids : ids_of (keys_of (insert_entry string_eq es k v)) ≡ ids_of (keys_of es) ++ string_bytes k ∷ []
-      ids = ap (λ l. ids_of (keys_of l)) pushed ∙ ap ids_of (map-append (λ e. e.0) es ((k, v) ∷ [])) ∙ map-append string_bytes (keys_of es) (k ∷ [])
+      ids : ids_of (keys_of (insert_entry id_eq es k v)) ≡ ids_of (keys_of es) ++ id_bytes k ∷ []
+      ids = ap (λ l. ids_of (keys_of l)) pushed ∙ ap ids_of (map-append (λ e. e.0) es ((k, v) ∷ [])) ∙ map-append id_bytes (keys_of es) (k ∷ [])
 
       last : slot.place ≡ length (values_of es)
-      last = at ∙ (Missing-position (string_eq k) es none).or_len ∙ sym (length-values_of es)
+      last = at ∙ (Missing-position (id_eq k) es none).or_len ∙ sym (length-values_of es)
 
       last_id : slot.place ≡ length (ids_of (keys_of es))
-      last_id = at ∙ (Missing-position (string_eq k) es none).or_len ∙ sym (length-keys_of es) ∙ sym (length-map (keys_of es) string_bytes)
+      last_id = at ∙ (Missing-position (id_eq k) es none).or_len ∙ sym (length-keys_of es) ∙ sym (length-map (keys_of es) id_bytes)
 
-  given_deleted : (v : Option ℕ) → (i : ℕ) → position (string_eq k) (keys_of es) ≡ Some i → slot.place ≡ i → slice_get (values_of es) i ≡ Some None
-      → IsGiven es (insert_entry string_eq es k v) k v slot.place
+  given_deleted : (v : Option ℕ) → (i : ℕ) → position (id_eq k) (keys_of es) ≡ Some i → slot.place ≡ i → slice_get (values_of es) i ≡ Some None
+      → IsGiven es (insert_entry id_eq es k v) k v slot.place
   given_deleted v i found at gone = rw at (record {
     numbered = rw values (get-set_at (values_of es) i v (slice_get_within (values_of es) i None gone));
     others = λ q d. rw values (get-set_other (values_of es) i q v d);
     free = λ n h. cc;
     id =
-        rw keys (get_or_from_slice_get (ids_of (keys_of es)) i (string_bytes k) []
-        (slice_get-map string_bytes (keys_of es) i ∙ ap (option_map string_bytes) key.1 ∙ ap Some (sym same)));
+        rw keys (get_or_from_slice_get (ids_of (keys_of es)) i (id_bytes k) []
+        (slice_get-map id_bytes (keys_of es) i ∙ ap (option_map id_bytes) key.1 ∙ ap Some (sym same)));
     more = ([], ap ids_of keys ∙ sym (append-nil (ids_of (keys_of es))));
   })
     where
-      written : insert_entry string_eq es k v ≡ set_value_at es i v
-      written = insert_entry-first string_eq k v es i (Found-position (string_eq k) es i found).first
+      written : insert_entry id_eq es k v ≡ set_value_at es i v
+      written = insert_entry-first id_eq k v es i (Found-position (id_eq k) es i found).first
 
-      values : values_of (insert_entry string_eq es k v) ≡ set (values_of es) i v
+      values : values_of (insert_entry id_eq es k v) ≡ set (values_of es) i v
       values = ap values_of written ∙ values-set es i v
 
-      keys : keys_of (insert_entry string_eq es k v) ≡ keys_of es
+      keys : keys_of (insert_entry id_eq es k v) ≡ keys_of es
       keys = ap keys_of written ∙ keys-set es i v
 
-      key : (key : String Global) × (slice_get (keys_of es) i ≡ Some key) × (is_id (string_bytes k) key ≡ true)
-      key = first_key es slots kept.table (string_bytes k) i found
+      key : (key : Id) × (slice_get (keys_of es) i ≡ Some key) × (is_id (id_bytes k) key ≡ true)
+      key = first_key es slots kept.table (id_bytes k) i found
 
-      same : string_bytes k ≡ string_bytes key.0
-      same = (bytes_eq-Decides (string_bytes k) (string_bytes key.0)).0 key.2
+      same : id_bytes k ≡ id_bytes key.0
+      same = (bytes_eq-Decides (id_bytes k) (id_bytes key.0)).0 key.2
 
-  inserts_given : (es' : List (String Global × Option ℕ)) → IsGiven es es' k (Some (length slots)) slot.place
-      → IsAbsent (ids_of (keys_of es)) (string_bytes k) slots → IsDistinct string_eq (keys_of es') → length slots < most_features
-      → InsertsNew es es' slots count (string_bytes k) slot
+  inserts_given : (es' : List (Id × Option ℕ)) → IsGiven es es' k (Some (length slots)) slot.place
+      → IsAbsent (ids_of (keys_of es)) (id_bytes k) slots → IsDistinct id_eq (keys_of es') → length slots < most_features
+      → InsertsNew es es' slots count (id_bytes k) slot
   inserts_given es' given absent distinct room = record {
     kept = record { table = table; distinct = distinct; counted = counted };
-    absent = with_id-absent (keys_of es) slots (string_bytes k) absent;
+    absent = with_id-absent (keys_of es) slots (id_bytes k) absent;
     grows = grows;
   }
     where
@@ -409,74 +408,73 @@ module _ (es : List (String Global × Option ℕ)) (slots : List (Option Slot)) 
             slice_get_within (values_of es) s.place (Some n) number,
             length-keys_of es,
             length-values_of es,
-            length-map (keys_of es)
-                (string_bytes {Z = Global}),
+            length-map (keys_of es) id_bytes,
           )
 
       others : features_from (ids_of (keys_of es')) 0 slots ≡ features_from (ids_of (keys_of es)) 0 slots
       others = ap (λ l. features_from l 0 slots) given.more.1 ∙ features-more_ids (ids_of (keys_of es)) given.more.0 0 slots within
 
       features : features_from (ids_of (keys_of es')) 0 (slots ++ Some slot ∷ []) ≡ features_from
-          (ids_of (keys_of es)) 0 slots ++ record { id = string_bytes k; number = length slots; shape = slot.shape } ∷ []
+          (ids_of (keys_of es)) 0 slots ++ record { id = id_bytes k; number = length slots; shape = slot.shape } ∷ []
       features =
           features-push (ids_of (keys_of es')) 0 slots slot
           ∙ (λ i. others i ++ record { id = given.id i; number = zero-add (length slots) i; shape = slot.shape } ∷ [])
 
-      grows : contents_of (keys_of es') (slots ++ Some slot ∷ []) ≡ inserted (contents_of (keys_of es) slots) (string_bytes k) slot.shape
+      grows : contents_of (keys_of es') (slots ++ Some slot ∷ []) ≡ inserted (contents_of (keys_of es) slots) (id_bytes k) slot.shape
       grows = λ i. record { features = features i; next = length-append slots (Some slot ∷ []) i }
 
       counted : count + 1 ≡ length (features_from (ids_of (keys_of es')) 0 (slots ++ Some slot ∷ []))
       counted =
           ap (λ n. n + 1) kept.counted ∙ sym (ap length features
-          ∙ length-append (features_from (ids_of (keys_of es)) 0 slots) (record { id = string_bytes k; number = length slots; shape = slot.shape } ∷ []))
+          ∙ length-append (features_from (ids_of (keys_of es)) 0 slots) (record { id = id_bytes k; number = length slots; shape = slot.shape } ∷ []))
 
-  overwritten : (v : Option ℕ) (i : ℕ) → position (string_eq k) (keys_of es) ≡ Some i → insert_entry string_eq es k v ≡ set_value_at es i v
-  overwritten v i found = insert_entry-first string_eq k v es i (Found-position (string_eq k) es i found).first
+  overwritten : (v : Option ℕ) (i : ℕ) → position (id_eq k) (keys_of es) ≡ Some i → insert_entry id_eq es k v ≡ set_value_at es i v
+  overwritten v i found = insert_entry-first id_eq k v es i (Found-position (id_eq k) es i found).first
 
   -- an insertion under an id that has no feature
-  pub inserts_new : (v : Option ℕ) → v ≡ Some (length slots) → slot.place ≡ position_or_len (string_eq k) (keys_of es)
-      → IsDistinct string_eq (keys_of (insert_entry string_eq es k v)) → option_flatten (lookup (string_eq k) es) ≡ None → length slots < most_features
-      → InsertsNew es (insert_entry string_eq es k v) slots count (string_bytes k) slot
-  inserts_new v number at distinct free room = by (position (string_eq k) (keys_of es)) refl
+  pub inserts_new : (v : Option ℕ) → v ≡ Some (length slots) → slot.place ≡ position_or_len (id_eq k) (keys_of es)
+      → IsDistinct id_eq (keys_of (insert_entry id_eq es k v)) → option_flatten (lookup (id_eq k) es) ≡ None → length slots < most_features
+      → InsertsNew es (insert_entry id_eq es k v) slots count (id_bytes k) slot
+  inserts_new v number at distinct free room = by (position (id_eq k) (keys_of es)) refl
     where
-      by : (r : Option ℕ) → position (string_eq k) (keys_of es) ≡ r → InsertsNew es (insert_entry string_eq es k v) slots count (string_bytes k) slot
+      by : (r : Option ℕ) → position (id_eq k) (keys_of es) ≡ r → InsertsNew es (insert_entry id_eq es k v) slots count (id_bytes k) slot
       by None none =
           let given = rw number at (given_new v none at) in
-          rw number (inserts_given (insert_entry string_eq es k (Some (length slots))) given (absent_from_missing es slots kept.table (string_bytes k) none)
+          rw number (inserts_given (insert_entry id_eq es k (Some (length slots))) given (absent_from_missing es slots kept.table (id_bytes k) none)
           (rw number at distinct) room)
       by (Some i) found =
-          let place = Found-position (string_eq k) es i found in
+          let place = Found-position (id_eq k) es i found in
           let old = get-within (values_of es) i (let within = place.within in omega (arith, length-values_of es)) in
-          let held : lookup (string_eq k) es ≡ Some old.0 = place.value ∙ old.1 in
+          let held : lookup (id_eq k) es ≡ Some old.0 = place.value ∙ old.1 in
           let none : old.0 ≡ None = sym (ap option_flatten held) ∙ free in
           let gone : slice_get (values_of es) i ≡ Some None = old.1 ∙ ap Some none in
           let given = rw number at (given_deleted v i found (at ∙ place.or_len) gone) in
-          rw number (inserts_given (insert_entry string_eq es k (Some (length slots))) given
-          (absent_from_deleted es slots kept.table (string_bytes k) kept.distinct i found gone) (rw number at distinct) room)
+          rw number (inserts_given (insert_entry id_eq es k (Some (length slots))) given
+          (absent_from_deleted es slots kept.table (id_bytes k) kept.distinct i found gone) (rw number at distinct) room)
 
   -- and under one that has one: what was overwritten is written back
-  pub inserts_double : (v : Option ℕ) (live : ℕ) → slot.place ≡ position_or_len (string_eq k) (keys_of es) → Some live ≡ option_flatten
-      (lookup (string_eq k) es) → (set_value_at (insert_entry string_eq es k v) slot.place (Some live) ≡ es) ×
-      (is_some (with_id (string_bytes k) (contents_of (keys_of es) slots)) ≡ true)
-  inserts_double v live at held = by (position (string_eq k) (keys_of es)) refl
+  pub inserts_double : (v : Option ℕ) (live : ℕ) → slot.place ≡ position_or_len (id_eq k) (keys_of es) → Some live ≡ option_flatten
+      (lookup (id_eq k) es) → (set_value_at (insert_entry id_eq es k v) slot.place (Some live) ≡ es) ×
+      (is_some (with_id (id_bytes k) (contents_of (keys_of es) slots)) ≡ true)
+  inserts_double v live at held = by (position (id_eq k) (keys_of es)) refl
     where
-      by : (r : Option ℕ) → position (string_eq k) (keys_of es) ≡ r → (set_value_at (insert_entry string_eq es k v) slot.place (Some live) ≡ es) ×
-          (is_some (with_id (string_bytes k) (contents_of (keys_of es) slots)) ≡ true)
-      by None none = let gone : Some live ≡ None = held ∙ ap option_flatten (Missing-position (string_eq k) es none).value in cc
+      by : (r : Option ℕ) → position (id_eq k) (keys_of es) ≡ r → (set_value_at (insert_entry id_eq es k v) slot.place (Some live) ≡ es) ×
+          (is_some (with_id (id_bytes k) (contents_of (keys_of es) slots)) ≡ true)
+      by None none = let gone : Some live ≡ None = held ∙ ap option_flatten (Missing-position (id_eq k) es none).value in cc
       by (Some i) found =
-          let place = Found-position (string_eq k) es i found in
+          let place = Found-position (id_eq k) es i found in
           let old = get-within (values_of es) i (let within = place.within in omega (arith, length-values_of es)) in
           let is : old.0 ≡ Some live = sym (held ∙ ap option_flatten (place.value ∙ old.1)) in
           let here : slice_get (values_of es) i ≡ Some (Some live) = old.1 ∙ ap Some is in
-          let filled = slot_from_number es slots kept.table (string_bytes k) i live here in
-          let only = only_from_found es slots kept.table (string_bytes k) kept.distinct i live filled.0 found here filled.1 in
+          let filled = slot_from_number es slots kept.table (id_bytes k) i live here in
+          let only = only_from_found es slots kept.table (id_bytes k) kept.distinct i live filled.0 found here filled.1 in
           let same : slot.place ≡ i = at ∙ place.or_len in (
             (λ j. set_value_at (overwritten v i found j) (same j) (Some live)) ∙ set-back es i v (Some live) here,
-            ap is_some (with_id-only (keys_of es) slots (string_bytes k) live filled.0 only),
+            ap is_some (with_id-only (keys_of es) slots (id_bytes k) live filled.0 only),
           )
 
 -- a layer's slots can be walked
-pub IsWalk-contents : (es : List (String Global × Option ℕ)) (slots : List (Option Slot)) (count : ℕ) → StandForLayer es slots count → IsWalk es 0 slots
+pub IsWalk-contents : (es : List (Id × Option ℕ)) (slots : List (Option Slot)) (count : ℕ) → StandForLayer es slots count → IsWalk es 0 slots
 IsWalk-contents es slots count kept = record {
   placed = λ k slot h.
       let number = kept.table.numbered slot.place k (place_of slots k slot h) in
@@ -484,7 +482,7 @@ IsWalk-contents es slots count kept = record {
   few = omega (arith, kept.table.few);
 }
 
-module _ (es : List (String Global × Option ℕ)) (number : ℕ) (x : Option Slot) (slots : List (Option Slot)) (walk : IsWalk es number (x ∷ slots)) where
+module _ (es : List (Id × Option ℕ)) (number : ℕ) (x : Option Slot) (slots : List (Option Slot)) (walk : IsWalk es number (x ∷ slots)) where
   pub IsWalk-later : IsWalk es (number + 1) slots
   IsWalk-later = record { placed = λ k slot h. walk.placed (suc k) slot h; few = omega (arith, walk.few) }
 
@@ -499,13 +497,13 @@ pub features-first : (ids : List (List ℕ)) (n : ℕ) (s : Slot) (slots : List 
 features-first ids n s slots = ap (λ m. feature_of ids n s ∷ features_from ids m slots) (sym (add-one n))
 
 -- the id at a place of the map
-pub id-placed : (es : List (String Global × Option ℕ)) (p : ℕ) (key : String Global) (number : Option ℕ) → Some (key, number) ≡ slice_get es p
-    → get_or (ids_of (keys_of es)) p [] ≡ string_bytes key
+pub id-placed : (es : List (Id × Option ℕ)) (p : ℕ) (key : Id) (number : Option ℕ) → Some (key, number) ≡ slice_get es p
+    → get_or (ids_of (keys_of es)) p [] ≡ id_bytes key
 id-placed es p key number h =
     let at_key = slice_get-map (λ e. e.0) es p ∙ ap (option_map (λ e. e.0)) (sym h) in
-    get_or_from_slice_get (ids_of (keys_of es)) p (string_bytes key) [] (slice_get-map string_bytes (keys_of es) p ∙ ap (option_map string_bytes) at_key)
+    get_or_from_slice_get (ids_of (keys_of es)) p (id_bytes key) [] (slice_get-map id_bytes (keys_of es) p ∙ ap (option_map id_bytes) at_key)
 
-pub id-and-shape : (keys : List (String Global)) (slots : List (Option Slot)) (k : ℕ) (slot : Slot) (id : List ℕ) → slice_get slots k ≡ Some (Some slot)
+pub id-and-shape : (keys : List Id) (slots : List (Option Slot)) (k : ℕ) (slot : Slot) (id : List ℕ) → slice_get slots k ≡ Some (Some slot)
     → id ≡ id_of (ids_of keys) slot
     → ◌≡◌ {A = Option (List ℕ × Shape)} (Some (id, slot.shape)) (option_map (λ f. (f.id, f.shape)) (with_number k (contents_of keys slots)))
 id-and-shape keys slots k slot id filled is =

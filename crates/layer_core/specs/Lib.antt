@@ -1,5 +1,6 @@
 pub mod Edits
 pub mod FaultTexts
+pub mod Ids
 pub mod LayerCodes
 pub mod LayerTrees
 pub mod Layers

@@ -4,10 +4,9 @@ use Rattle.std.specs.Prelude.{None, map, get_or, length, slice_get, option_map}
 use Rattle.std.specs.Str.{bytes_eq}
 use Rattle.std.specs.List.{IsDistinct}
 use Rattle.std.specs.Map.{keys_of, values_of}
-use Rattle.std.specs.String.{string_bytes, string_eq}
-use Rattle.std.specs.declared.string.String.{String}
-use Rattle.std.specs.declared.alloc.Global.{Global}
 use Rattle.layer_core.specs.declared.features.Slot.{Slot}
+use Rattle.layer_core.specs.declared.id.Id.{Id}
+use Rattle.layer_core.specs.Ids.{id_bytes, id_eq}
 use Rattle.layer_core.specs.Limits.{most_features}
 use Rattle.layer_core.specs.Layers.{Feature, Contents}
 
@@ -26,10 +25,10 @@ features_from ids number (None ∷ slots) = features_from ids (suc number) slots
 features_from ids number (Some slot ∷ slots) =
     feature_of ids number slot ∷ features_from ids (suc number) slots
 
-abbrev pub ids_of : List (String Global) → List (List ℕ)
-ids_of keys = map string_bytes keys
+abbrev pub ids_of : List Id → List (List ℕ)
+ids_of keys = map id_bytes keys
 
-abbrev pub contents_of : List (String Global) → List (Option Slot) → Contents
+abbrev pub contents_of : List Id → List (Option Slot) → Contents
 contents_of keys slots =
     record { features = features_from (ids_of keys) 0 slots; next = length slots }
 
@@ -52,10 +51,10 @@ pub record AreInverse (numbers : List (Option ℕ)) (slots : List (Option Slot))
 
 -- the map and the slots belong together, the ids differ, and so many features are there
 pub record StandForLayer
-    (entries : List (String Global × Option ℕ)) (slots : List (Option Slot)) (count : ℕ)
+    (entries : List (Id × Option ℕ)) (slots : List (Option Slot)) (count : ℕ)
     : Type 0 where
   pub table : AreInverse (values_of entries) slots
-  pub distinct : IsDistinct string_eq (keys_of entries)
+  pub distinct : IsDistinct id_eq (keys_of entries)
   pub counted : count ≡ length (contents_of (keys_of entries) slots).features
 
 -- no slot's feature has this id
@@ -75,7 +74,7 @@ pub record IsOnly
 
 -- each slot names an id of the map, and the numbers of the slots are those of a layer
 pub record IsWalk
-    (entries : List (String Global × Option ℕ)) (number : ℕ) (slots : List (Option Slot))
+    (entries : List (Id × Option ℕ)) (number : ℕ) (slots : List (Option Slot))
     : Type 0 where
   pub placed : (k : ℕ) (slot : Slot) → slice_get slots k ≡ Some (Some slot)
       → slot.place < length entries

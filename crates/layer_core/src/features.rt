@@ -3,6 +3,7 @@ ghost use Rattle.std.specs.Prelude.{◌≡◌, Some, slice_get, IfSome, MatchOpt
 ghost use Rattle.std.specs.HashMap.{keys, values};
 ghost use Rattle.layer_core.specs.MapAndSlots.{ids_of, IsAbsent, IsOnly, AreInverse};
 
+use crate::id::Id;
 use crate::iter::Iter;
 use geom_core::Shape;
 use indexmap::IndexMap;
@@ -14,7 +15,7 @@ use std::marker::Model;
 pub const MAX_FEATURES: usize = 1_000_000;
 
 /// Each id that was ever inserted, with the number of its feature, if it has one now.
-pub(crate) type Ids = IndexMap<String, Option<u32>, RandomState>;
+pub(crate) type Ids = IndexMap<Id, Option<u32>, RandomState>;
 
 /// A feature, as its number finds it.
 #[derive(Clone, Copy)]
@@ -74,10 +75,11 @@ fn locate(ids: &Ids, slots: &[Option<Slot>], id: &str) -> Option<(u32, Slot)>
 
 impl Features {
     ghost use Rattle.std.specs.Prelude.{◌≡◌, ◌<◌, ◌≤◌, length, not, is_some, if◌then◌else◌, IfNone};
-    ghost use Rattle.std.specs.Prelude.{IfOk, IsOk, OnOk, OnErr, string_bytes};
+    ghost use Rattle.std.specs.Prelude.{IfOk, IsOk, OnOk, OnErr};
     ghost use Rattle.std.specs.Option.{option_map};
     ghost use Rattle.layer_core.specs.Layers.{empty, IsLayer, IdAndShapeAre, NumberAndShapeAre};
     ghost use Rattle.layer_core.specs.Layers.{with_id, with_number, inserted, deleted};
+    ghost use Rattle.layer_core.specs.Ids.{id_bytes};
     ghost use Rattle.layer_core.specs.Limits.{most_features};
 
     /// No features. `state` hashes the ids.
@@ -117,10 +119,10 @@ impl Features {
     }
 
     /// An id as the map will own it, by the allocator of the map.
-    pub(crate) fn owned(&self, id: &str) -> Result<String, AllocError>
-        ensures { IfOk result (λ own. string_bytes own ≡ id.now) }
+    pub(crate) fn owned(&self, id: &str) -> Result<Id, AllocError>
+        ensures { IfOk result (λ own. id_bytes own ≡ id.now) }
     {
-        String::from_str(*self.ids.allocator(), id)
+        Id::from_str(*self.ids.allocator(), id)
     }
 
     /// The number that the next feature gets: how many were ever inserted.
@@ -189,12 +191,12 @@ impl Features {
     }
 
     /// Inserts a feature, or answers false where the id has one.
-    pub(crate) fn insert(&mut self, id: String, shape: Shape) -> Result<bool, AllocError>
+    pub(crate) fn insert(&mut self, id: Id, shape: Shape) -> Result<bool, AllocError>
         requires { self.old.list.next < most_features }
         ensures absent { IfOk result
-            (λ added. added ≡ not (is_some (with_id (string_bytes id) self.old.list))) }
+            (λ added. added ≡ not (is_some (with_id (id_bytes id) self.old.list))) }
         ensures inserted { IfOk result (λ added. self.new.list
-            ≡ (if added then inserted self.old.list (string_bytes id) shape else self.old.list)) }
+            ≡ (if added then inserted self.old.list (id_bytes id) shape else self.old.list)) }
         ensures err { OnErr result (self.new.list ≡ self.old.list) }
         ensures succeeds { 0 < self.old.room → IsOk result }
     {

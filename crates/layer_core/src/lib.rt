@@ -4,6 +4,7 @@
 mod edit;
 mod fault;
 mod features;
+mod id;
 mod iter;
 mod layer;
 mod loading;
@@ -12,6 +13,7 @@ mod stats;
 pub use edit::{Edit, Side};
 pub use fault::LayerFault;
 pub use features::MAX_FEATURES;
+pub use id::Id;
 pub use iter::{FeatureRef, Iter};
 pub use layer::{Layer, MAX_ID_BYTES, is_id};
 pub use loading::Loading;

@@ -4,6 +4,7 @@ ghost use Rattle.layer_core.specs.LayerTrees.{entries_for};
 
 use crate::fault::LayerFault;
 use crate::features::{Features, MAX_FEATURES};
+use crate::id::Id;
 use crate::layer::Layer;
 use geom_core::Shape;
 use rtree_core::Entry;
@@ -30,7 +31,8 @@ impl Model for Loading {
 }
 
 impl Loading {
-    ghost use Rattle.std.specs.Prelude.{◌≡◌, ◌≢◌, Err, IsTrue, OnOk, OnErr, IfOk, string_bytes};
+    ghost use Rattle.std.specs.Prelude.{◌≡◌, ◌≢◌, Err, IsTrue, OnOk, OnErr, IfOk};
+    ghost use Rattle.layer_core.specs.Ids.{id_bytes};
     ghost use Rattle.layer_core.specs.Layers.{empty, inserted};
     ghost use Rattle.layer_core.specs.Refusals.{is_id, AnswersWith, insert_refusal};
 
@@ -47,13 +49,13 @@ impl Loading {
     ///
     /// It is refused, in this order, as `DoubleId` and `LayerFull`, and `Memory` may come in place
     /// of any other answer. A refusal changes nothing.
-    pub fn add(&mut self, id: String, shape: Shape) -> Result<(), LayerFault>
-        requires { IsTrue (is_id (string_bytes id)) }
-        ensures ok { OnOk result (self.new ≡ inserted self.old (string_bytes id) shape) }
+    pub fn add(&mut self, id: Id, shape: Shape) -> Result<(), LayerFault>
+        requires { IsTrue (is_id (id_bytes id)) }
+        ensures ok { OnOk result (self.new ≡ inserted self.old (id_bytes id) shape) }
         ensures err { OnErr result (self.new ≡ self.old) }
         // Memory may be refused before another reason is found.
         ensures refused { result ≢ Err LayerFault.Memory
-            → AnswersWith (insert_refusal self.old (string_bytes id)) result }
+            → AnswersWith (insert_refusal self.old (id_bytes id)) result }
     {
         if self.features.next() >= MAX_FEATURES {
             return match self.features.find(id.as_str()) {

@@ -7,6 +7,11 @@ const LONG: &str = "0123456789abcdef0123456789abcdef0123456789abcdef0123456789ab
 
 const TOO_LONG: &str = "0123456789abcdef0123456789abcdef0123456789abcdef0123456789abcdef0";
 
+// Ids of 16 and of 17 bytes.
+const SHORT: &str = "0123456789abcdef";
+
+const LONGER: &str = "0123456789abcdefg";
+
 /// An insertion of a point under an id and at a place on the diagonal, and its answer.
 type Insertion = (&'static str, i64, Result<(), LayerFault>);
 
@@ -16,6 +21,15 @@ const ROW: &[Insertion] = &[
     ("", 0, Err(LayerFault::BadId)),
     (TOO_LONG, 0, Err(LayerFault::BadId)),
     (LONG, 0, Ok(())),
+];
+
+const OF_MANY_LENGTHS: &[Insertion] = &[
+    ("0123456789abcde", 0, Ok(())),
+    (SHORT, 1, Ok(())),
+    (LONGER, 2, Ok(())),
+    (LONG, 3, Ok(())),
+    (SHORT, 4, Err(LayerFault::DoubleId)),
+    (LONGER, 5, Err(LayerFault::DoubleId)),
 ];
 
 const INTO_FULL: &[Insertion] = &[("new", 0, Err(LayerFault::LayerFull))];
@@ -53,6 +67,28 @@ fn takes_row(layer: &mut Layer) -> Result<bool, Fail> {
 #[test]
 fn layer_edits(rt: HostRuntime) -> Result<(), Fail> {
     assert!(rt; on_empty(&rt, takes_row)?);
+    Ok(())
+}
+
+#[test]
+fn id_texts(rt: HostRuntime) -> Result<(), Fail> {
+    for text in ["a", SHORT, LONGER, LONG] {
+        assert!(rt; Id::from_str(rt.alloc(), text)?.as_str() == text);
+    }
+    Ok(())
+}
+
+// Whether an empty layer takes ids of many lengths, finds them, and loses but the one removed.
+fn takes_many_lengths(layer: &mut Layer) -> Result<bool, Fail> {
+    let (short, longer) = (point(1, 1)?, point(2, 2)?);
+    let inserted = inserts(layer, OF_MANY_LENGTHS)? && finds(layer, SHORT, 1, short);
+    let removed = finds(layer, LONGER, 2, longer) && removes(layer, LONGER, longer);
+    Ok(inserted && removed && layer.find(LONGER).is_none() && finds(layer, SHORT, 1, short))
+}
+
+#[test]
+fn ids_of_many_lengths(rt: HostRuntime) -> Result<(), Fail> {
+    assert!(rt; on_empty(&rt, takes_many_lengths)?);
     Ok(())
 }
 

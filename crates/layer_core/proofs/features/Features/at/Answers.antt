@@ -1,8 +1,8 @@
-use Rattle.std.proofs.Common.{◌≡◌, ◌∙◌, ℕ, sym, ap, Option, Some, None, slice_get, string_bytes}
-use Rattle.std.specs.declared.string.String.{String}
-use Rattle.std.specs.declared.alloc.Global.{Global}
+use Rattle.std.proofs.Common.{◌≡◌, ◌∙◌, ℕ, sym, ap, Option, Some, None, slice_get}
 use Rattle.std.specs.HashMap.{keys}
 use Rattle.std.specs.Option.{option_map}
+use Rattle.layer_core.specs.declared.id.Id.{Id}
+use Rattle.layer_core.specs.Ids.{id_bytes}
 use Rattle.layer_core.specs.MapAndSlots.{ids_of, id_of}
 use Rattle.layer_core.proofs.Lists.{copied-get}
 use Rattle.layer_core.proofs.SlotLemmas.{feature_in}
@@ -46,9 +46,9 @@ returns-clause-found c =
     let entry = entry_of c.self.inside.ids.entries slots c.self.invariant.table c.args.number c.in_ok-slot.slot filled in
     let e = entry.0 in
     let given : e ≡ (c.in_ok-id.id.now, c.in_ok-id.field-0-1.now) = let here = entry.1 in let there = c.in_ok-id.ensures.entry in cc in
-    let stands : id_of (ids_of (keys c.self.inside.ids)) c.in_ok-slot.slot ≡ string_bytes c.in_ok-id.id.now = entry.2
-    ∙ ap (λ (x : String Global × Option ℕ). string_bytes x.0) given in
-    let id : c.as_str.result.now ≡ id_of (ids_of (keys c.self.inside.ids)) c.in_ok-slot.slot = c.as_str.ensures.value ∙ sym stands in
+    let stands : id_of (ids_of (keys c.self.inside.ids)) c.in_ok-slot.slot ≡ id_bytes c.in_ok-id.id.now = entry.2
+    ∙ ap (λ (x : Id × Option ℕ). id_bytes x.0) given in
+    let id : c.as_str.result.now ≡ id_of (ids_of (keys c.self.inside.ids)) c.in_ok-slot.slot = c.as_str.ensures ∙ sym stands in
     rw (← c.self.view_is) (id-and-shape (keys c.self.inside.ids) slots c.args.number c.in_ok-slot.slot c.as_str.result.now filled id)
 
 pub returns-in_err-get-clause-layer : goal.returns-in_err-get-clause-layer

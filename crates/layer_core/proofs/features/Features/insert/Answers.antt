@@ -1,4 +1,5 @@
-use Rattle.std.proofs.Common.{◌≡◌, ◌∙◌, ◌<◌, not, sym, ap, Some, None, length, is_some, string_bytes, arith, rules}
+use Rattle.std.proofs.Common.{◌≡◌, ◌∙◌, ◌<◌, not, sym, ap, Some, None, length, is_some, arith, rules}
+use Rattle.layer_core.specs.Ids.{id_bytes}
 use Rattle.layer_core.specs.Limits.{most_features}
 use Rattle.std.specs.Option.{option_flatten}
 use Rattle.layer_core.specs.declared.features.Slot.{Slot}
@@ -35,7 +36,7 @@ returns-in-Some-clause-inserted c =
 -- what the insertion does, where the id had no feature
 new_feature :
     (c : goal.After-self-in-None-1) → InsertsNew c.self.inside.ids.entries c.insert_full.new.self.entries c.self.inside.slots.items c.self.inside.count
-    (string_bytes c.args.id) (record { place = c.in_ok-place.place; shape = c.args.shape })
+    (id_bytes c.args.id) (record { place = c.in_ok-place.place; shape = c.args.shape })
 new_feature c =
     let done = c.in_ok-place.ensures in
     let slot : Slot = record { place = c.in_ok-place.place; shape = c.args.shape } in
