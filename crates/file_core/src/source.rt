@@ -13,7 +13,7 @@ use std::io::{ErrorKind, Read};
 pub const MAX_FILE_BYTES: usize = 134_217_728;
 
 // How many bytes one read may give.
-const CHUNK: usize = 16_384;
+const CHUNK: usize = 65_536;
 
 /// A read that failed.
 #[derive(Clone, Copy, Debug, PartialEq, Eq)]
@@ -38,6 +38,9 @@ pub trait Source {
     /// Whether a read has failed.
     fn failed(&self) -> bool
         ensures { result ≡ has_failed self.now };
+
+    /// How many bytes it is thought to give in all. Where this is wrong, it costs time or memory.
+    fn likely_len(&self) -> usize;
 }
 
 /// The source of a reader's bytes. A read that a signal interrupts is tried again.
@@ -45,6 +48,7 @@ pub trait Source {
 pub struct FromRead<R> {
     reader: R,
     failed: bool,
+    likely_len: usize,
 }
 
 impl<R: Read> FromRead<R> {
@@ -53,9 +57,18 @@ impl<R: Read> FromRead<R> {
         ensures remaining { ⟦<FromRead<R> as Source>⟧.remaining result ≡ R.remaining reader }
         ensures fresh { ⟦<FromRead<R> as Source>⟧.has_failed result ≡ false }
     {
+        FromRead::with_likely_len(reader, 0)
+    }
+
+    /// The same, of which is thought that it gives so many bytes.
+    pub fn with_likely_len(reader: R, likely_len: usize) -> FromRead<R>
+        ensures remaining { ⟦<FromRead<R> as Source>⟧.remaining result ≡ R.remaining reader }
+        ensures fresh { ⟦<FromRead<R> as Source>⟧.has_failed result ≡ false }
+    {
         FromRead {
             reader,
             failed: false,
+            likely_len,
         }
     }
 }
@@ -80,6 +93,10 @@ impl<R: Read> Source for FromRead<R> {
     fn failed(&self) -> bool {
         self.failed
     }
+
+    fn likely_len(&self) -> usize {
+        self.likely_len
+    }
 }
 
 /// All bytes of a source that hasn't failed.
@@ -97,7 +114,7 @@ pub fn read_all<S: Source>(alloc: Global, source: &mut S) -> Result<Vec<u8>, Rea
     ensures io { IsErrOf result ReadFault.Io ↔ IsTrue (S.has_failed source.new) }
     ensures others { IfErr result IsReadingFault }
 {
-    let mut all = Vec::new(alloc);
+    let mut all = Vec::with_capacity(alloc, source.likely_len().min(MAX_FILE_BYTES))?;
     let mut chunk = [0; CHUNK];
     loop {
         let Ok(count) = source.read(&mut chunk) else {

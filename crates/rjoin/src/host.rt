@@ -2,6 +2,7 @@
 
 use command_core::{Inputs, NotOpened, STANDARD_INPUT};
 use file_core::FromRead;
+use std::fs::OpenFile;
 use std::io::{Input, Read};
 use std::rt::Files;
 use std::{fs, io};
@@ -36,8 +37,19 @@ impl<'a, R: Files + Input> Inputs for HostFiles<'a, R> {
             return Ok(FromRead::new(HostFile::StandardInput(self.rt.reader())));
         }
         match fs::open(self.rt, path) {
-            Ok(file) => Ok(FromRead::new(HostFile::Named(file))),
+            Ok(file) => {
+                let len = likely_len(&file);
+                Ok(FromRead::with_likely_len(HostFile::Named(file), len))
+            }
             Err(_) => Err(NotOpened),
         }
+    }
+}
+
+// How many bytes a file is said to have, or 0 where nothing is said.
+fn likely_len<F: OpenFile>(file: &F) -> usize {
+    match file.metadata() {
+        Ok(metadata) => metadata.len() as usize,
+        Err(_) => 0,
     }
 }

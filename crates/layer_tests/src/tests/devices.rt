@@ -79,6 +79,17 @@ fn one_byte_at_a_time(rt: HostRuntime) -> Result<(), Fail> {
     Ok(())
 }
 
+#[test]
+fn lengths_that_are_wrong(rt: HostRuntime) -> Result<(), Fail> {
+    for likely_len in [0, 1, ONE_POINT.len() - 1, ONE_POINT.len(), 1_000] {
+        let device = Device::new(ONE_POINT, 4, 1_000);
+        let mut source = FromRead::with_likely_len(device, likely_len);
+        let bytes = read_all(rt.alloc(), &mut source)?;
+        assert!(rt; bytes.as_slice() == ONE_POINT);
+    }
+    Ok(())
+}
+
 // Whether a layer that is read one byte at a time has exactly these features, in this order.
 fn reads_bytewise(rt: &HostRuntime, text: &[u8], features: &[(&str, Shape)]) -> Result<bool, Fail> {
     let mut source = FromRead::new(Device::new(text, 1, 1_000));
