@@ -18,8 +18,8 @@ const REMOVED: &[&str] = &[
 
 const FIRST_EIGHT: &[&str] = &["a", "b", "c", "d", "e", "f", "g", "h"];
 
-const TEN: &[u8] =
-    b"id,wkt\na,POINT (0 0)\n0123456789abcdefg,POINT (1 0)\nc,POINT (2 0)\nd,POINT (3 0)\ne,POINT (4 0)\n\
+const TEN: &[u8] = b"id,wkt\na,POINT (0 0)\n0123456789abcdefg,POINT (1 0)\n\
+    c,POINT (2 0)\nd,POINT (3 0)\ne,POINT (4 0)\n\
     f,POINT (5 0)\ng,POINT (6 0)\nh,POINT (7 0)\ni,POINT (8 0)\nj,POINT (9 0)\n";
 
 /// What is seen of a layer without taking memory: the counts, and the cover and the length of the
