@@ -112,7 +112,7 @@ impl Collector {
         ensures history { IfOk result (λ outcome. IsLegalHistory self.tasks outcome.marks) }
     {
         let mut outcome = self.ended()?;
-        outcome.pairs.sort_unstable();
+        outcome.sort();
         Ok(outcome)
     }
 
@@ -129,7 +129,7 @@ impl Collector {
         ensures history { IfOk result (λ outcome. IsLegalHistory self.tasks outcome.marks) }
     {
         let mut outcome = self.ended()?;
-        par_sort_unstable(rt, outcome.pairs.as_mut_slice());
+        outcome.sort_by_threads(rt);
         Ok(outcome)
     }
 
@@ -243,6 +243,24 @@ impl Model for Outcome {
 }
 
 impl Outcome {
+    /// Puts the pairs into ascending order.
+    fn sort(&mut self)
+        ensures as_often { IsPermutation self.old.pairs self.new.pairs }
+        ensures ascending { IsSorted pair_cmp self.new.pairs }
+        ensures marks { self.new.marks ≡ self.old.marks }
+    {
+        self.pairs.sort_unstable();
+    }
+
+    /// Puts the pairs into ascending order. Threads share the work, up to two for each processor.
+    fn sort_by_threads<R: Threads + Sync>(&mut self, rt: &R)
+        ensures as_often { IsPermutation self.old.pairs self.new.pairs }
+        ensures ascending { IsSorted pair_cmp self.new.pairs }
+        ensures marks { self.new.marks ≡ self.old.marks }
+    {
+        par_sort_unstable(rt, self.pairs.as_mut_slice());
+    }
+
     /// The accepted pairs, each as often as it was accepted, in ascending order.
     pub fn pairs(&self) -> &[(u32, u32)]
         ensures { result.now ≡ self.now.pairs }
