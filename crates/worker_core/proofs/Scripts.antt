@@ -1,14 +1,17 @@
 -- a script, as it is sent piece by piece
-use Rattle.std.proofs.Common.{◌≡◌, ℕ, ◌+◌, ◌-◌, ◌*◌, ◌/◌, ◌<◌, ◌≤◌, min, List, [], ◌∷◌, ◌++◌, length, take, drop, refl, sym, ap, ◌∙◌, arith, inl, inr}
+use Rattle.std.proofs.Common.{◌≡◌, ℕ, ◌+◌, ◌-◌, ◌*◌, ◌/◌, ◌<◌, ◌≤◌, min, List, [], ◌∷◌, ◌++◌, length, map, take, drop, refl, sym, ap, ◌∙◌, arith, inl, inr}
 use Rattle.std.proofs.Common.{append_assoc, length-drop}
 use Rattle.std.proofs.lemmas.Bool.{cases_lt}
 use Rattle.std.proofs.lemmas.List.{take_min, take_at, drop_at, drop_min, drop-drop, take-append-le, take-append-drop}
 use Rattle.std.proofs.lemmas.List.FromFn.{map-range_with_len_more, take-map-range_with_len, length-map-range_with_len}
 use Rattle.std.proofs.lemmas.Nat.{div-add-mod', div_below, le-div}
 use Rattle.std.proofs.Math.Nat.{mod-lt}
+use Rattle.std.proofs.lemmas.List.{map-append}
 use mathlib.Core.List.{IsPrefix}
+use Rattle.deliver_core.specs.declared.message.Message.{Message}
 use Rattle.deliver_core.specs.declared.port.Port.{Port}
-use Rattle.deliver_core.specs.Scripts.{Content, batch_of, end_of, batches_for, piece_of, script_batches, script}
+use Rattle.deliver_core.specs.Ports.{sent_by}
+use Rattle.deliver_core.specs.Scripts.{Content, content_of, batch_of, end_of, batches_for, piece_of, script_batches, script}
 use Rattle.worker_core.specs.Sending.{said_by, Says, SaysPart}
 
 quotient : (n k m : ℕ) → 0 < k → m * k ≤ n → n < (m + 1) * k → n / k ≡ m
@@ -75,6 +78,10 @@ pub script_batches-more : (task size : ℕ) (row : List (ℕ × ℕ)) (count : �
     → script_batches task size row count ++ batch_of task count (piece_of size row count) ∷ [] ≡ script_batches task size row (count + 1)
 script_batches-more task size row count =
     sym (map-range_with_len_more (λ number. batch_of task number (piece_of size row number)) 0 count count (omega arith))
+
+-- a port that has sent one message more has said it
+pub says_one : (old new : Port) (message : Message) → sent_by new ≡ sent_by old ++ message ∷ [] → Says old new (content_of message ∷ [])
+says_one old new message sent = ap (map content_of) sent ∙ map-append content_of (sent_by old) (message ∷ [])
 
 pub says_batch : (a b c : Port) (task size : ℕ) (row : List (ℕ × ℕ)) (number : ℕ) (piece : List (ℕ × ℕ)) → piece ≡ piece_of size row number
     → Says a b (script_batches task size row number) → Says b c (batch_of task number piece ∷ [])

@@ -1,0 +1,11 @@
+use Rattle.worker_core.proofs.Gatherings.{continues_here, continues_on}
+use Rattle.worker_core.proofs.gathering.Gathering.take_until_bye.Goals as goal
+
+pub loop-init : goal.loop-init
+loop-init g c = continues_here _ _ c.requires.gathers
+
+pub loop-preserved : goal.loop-preserved
+loop-preserved g c = continues_on _ _ _ _ c.loop.invariant c.take_in.ensures
+
+pub loop-preserved-then-take_in : goal.loop-preserved-then-take_in
+loop-preserved-then-take_in g c = continues_on _ _ _ _ c.loop.invariant c.take_in.ensures
