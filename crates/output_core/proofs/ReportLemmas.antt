@@ -140,6 +140,12 @@ pub rows_alone : (old text : List ℕ) (left right : Contents) (pairs : List (�
 rows_alone old text left right pairs none adds =
     subst (AreRows left right pairs) (sym (adds.added ∙ ap (λ t. t ++ adds.text) none)) adds.are_rows
 
+-- the parts of a record that were added in turn
+pub line_added : (old a b c new first second third : List ℕ) → a ≡ old ++ first → b ≡ a ++ second → c ≡ b ++ third → new ≡ c ++ line_feed ∷ []
+    → new ≡ old ++ line_of first second third
+line_added old a b c new first second third p q r s =
+    s ∙ ap (λ x. x ++ line_feed ∷ []) (r ∙ ap (λ x. x ++ third) (q ∙ ap (λ x. x ++ second) p)) ∙ simp append_assoc refl
+
 -- the header, and the records that were added to it
 pub report_written : (old new text : List ℕ) (left right : Contents) (pairs : List (ℕ × ℕ))
     → old ≡ header_line → AddsRows left right pairs old new → text ≡ new → IsReport left right pairs text

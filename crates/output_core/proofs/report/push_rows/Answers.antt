@@ -1,7 +1,7 @@
 use Rattle.std.proofs.Common.{refl, subst, arith}
 use Rattle.std.proofs.lemmas.List.{take_all}
 use Rattle.output_core.specs.ReportRows.{AddsRows}
-use Rattle.output_core.proofs.ReportLemmas.{found, field_in, has_field, none_added, pair_added}
+use Rattle.output_core.proofs.ReportLemmas.{found, field_in, has_field, has_shape, none_added, pair_added}
 use Rattle.output_core.proofs.report.push_rows.Goals as goal
 
 pub loop-pair-init : goal.loop-pair-init
@@ -29,3 +29,10 @@ pub returns : goal.returns
 returns c =
     subst (λ pairs. AddsRows c.args.left.now.list c.args.right.now.list pairs c.args.text.now.items c.loop-pair.text.items)
     (take_all c.loop-pair.pair-index c.args.pairs.now (omega arith)) c.loop-pair.invariant
+
+pub unwrap-left_shape-requires : goal.unwrap-left_shape-requires
+unwrap-left_shape-requires c = has_shape _ _ c.shape.ensures (c.requires.held c.loop-pair.pair-index (0, 0) c.loop-pair-test.true).0
+
+pub unwrap-right_shape-requires : goal.unwrap-right_shape-requires
+unwrap-right_shape-requires c =
+    has_shape _ _ c.shape-in-loop-pair.ensures (c.requires.held c.loop-pair.pair-index (0, 0) c.loop-pair-test.true).1
