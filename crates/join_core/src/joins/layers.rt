@@ -80,13 +80,9 @@ fn build_and_read<R: Threads + Sync, B: Source>(
 {
     let (left_state, right_state) = states;
     let threads = (workers / 2).max(1);
-    // `join_mut` borrows them, so that the bytes are taken out of the first.
     let mut build_left = || -> Result<Layer, ReadFault>
         ensures { Builds scale left.entry.items result }
-    {
-        let bytes = mem::replace(&mut left, Vec::new(alloc));
-        layer_of_bytes(alloc, left_state, bytes, scale, threads, rt)
-    };
+    { build_by_threads(rt, alloc, left_state, scale, &mut left, threads) };
     let mut read_right = || -> Result<Layer, ReadFault>
         requires { B.has_failed right.now ≡ false }
         ensures reads { Reads scale (B.remaining right.entry.now) result }
@@ -97,6 +93,22 @@ fn build_and_read<R: Threads + Sync, B: Source>(
     } else {
         (build_left(), read_right())
     }
+}
+
+/// The layer of a file's bytes, which are taken out of `bytes`: a closure that threads share borrows
+/// what it captures. So many threads build it.
+fn build_by_threads<R: Threads + Sync>(
+    rt: &R,
+    alloc: Global,
+    state: RandomState,
+    scale: Scale,
+    bytes: &mut Vec<u8>,
+    threads: u32,
+) -> Result<Layer, ReadFault>
+    ensures { Builds scale bytes.old.items result }
+{
+    let taken = mem::replace(bytes, Vec::new(alloc));
+    layer_of_bytes(alloc, state, taken, scale, threads, rt)
 }
 
 /// The layer that a source is read as, which so many threads build.
