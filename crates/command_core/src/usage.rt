@@ -140,6 +140,16 @@ fn draw_usage<'a>(alloc: Global) -> Result<Command<'a>, AllocError> {
 
 /// The command with the arguments of a join.
 fn with_join_arguments<'a>(alloc: Global, command: Command<'a>) -> Result<Command<'a>, AllocError> {
+    with_options(alloc, with_edits(alloc, with_layers(alloc, command)?)?)
+}
+
+fn with_layers<'a>(alloc: Global, command: Command<'a>) -> Result<Command<'a>, AllocError> {
+    command
+        .arg(positional(alloc, "LEFT", "CSV file of the left layer"))?
+        .arg(positional(alloc, "RIGHT", "CSV file of the right layer"))
+}
+
+fn with_edits<'a>(alloc: Global, command: Command<'a>) -> Result<Command<'a>, AllocError> {
     let relation = Arg::new(alloc, "relation")
         .long("relation")
         .help("Name of a relation, or mask of nine letters")
@@ -147,11 +157,11 @@ fn with_join_arguments<'a>(alloc: Global, command: Command<'a>) -> Result<Comman
     let edits = Arg::new(alloc, "edits")
         .long("edits")
         .help("CSV file of edits, which are made before the join");
+    command.arg(relation)?.arg(edits)
+}
+
+fn with_options<'a>(alloc: Global, command: Command<'a>) -> Result<Command<'a>, AllocError> {
     command
-        .arg(positional(alloc, "LEFT", "CSV file of the left layer"))?
-        .arg(positional(alloc, "RIGHT", "CSV file of the right layer"))?
-        .arg(relation)?
-        .arg(edits)?
         .arg(numeric(alloc, "workers", "Threads that join, 1 to 16", "4"))?
         .arg(numeric(alloc, "batch", "Pairs a batch, 1 to 4096", "256"))?
         .arg(numeric(alloc, "cut", "Rounds of cutting into tasks, 0 to 8", "2"))?
