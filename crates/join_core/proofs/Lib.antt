@@ -1,3 +1,4 @@
+pub mod BoundsLemmas
 pub mod DrawRunLemmas
 pub mod JoinLemmas
 pub mod JoinRunLemmas

@@ -1,3 +1,5 @@
+pub mod Bounds
+pub mod BoundsRuns
 pub mod DrawRuns
 pub mod FaultTexts
 pub mod Inputs

@@ -2,6 +2,7 @@
 //! the files to the bytes that are written.
 #![tactic(auto)]
 
+mod bounds;
 mod fault;
 mod fault_text;
 mod joins;
@@ -11,6 +12,7 @@ mod relate;
 mod stats;
 mod window;
 
+pub use bounds::run_bounds;
 pub use deliver_core::Outcome;
 pub use draw_core::MAX_DRAWN;
 pub use fault::{Input, RunFault};

@@ -2,6 +2,8 @@
 #![tactic(auto)]
 
 #[cfg(test)]
+mod bounds_runs;
+#[cfg(test)]
 mod broken;
 #[cfg(test)]
 mod device;

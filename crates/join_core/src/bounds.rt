@@ -1,0 +1,99 @@
+//! The corners of the features of a layer.
+
+ghost use Rattle.std.specs.Prelude.{◌≡◌, ◌≢◌, ◌↔◌, Err, false, IsTrue, IfOk, IfErr, IsErrOf, OnOk};
+ghost use Rattle.file_core.specs.declared.read_fault.ReadFault.{ReadFault};
+ghost use Rattle.layer_core.specs.Walks.{feature_read};
+ghost use Rattle.output_core.specs.CsvWriting.{AddsRow};
+ghost use Rattle.join_core.specs.declared.fault.Input.{Input};
+ghost use Rattle.join_core.specs.Bounds.{bounds_row, bounds_text};
+ghost use Rattle.join_core.specs.BoundsRuns.{BoundsGives, IsBoundsText, IsBoundsFault};
+ghost use Rattle.join_core.specs.Inputs.{BlamesInput};
+ghost use Rattle.join_core.specs.Runs.{Ends};
+
+use crate::fault::{Input, RunFault};
+use crate::layer_input::read_input;
+use csv::Writer;
+use file_core::{ReadFault, Source};
+use itoa::Buffer;
+use layer_core::{FeatureRef, Layer};
+use output_core::{Sink, new_rows, push_row, rows_text, write_text};
+use std::alloc::{AllocError, Global};
+use std::hash::RandomState;
+use wkt_core::Scale;
+
+/// Writes the corners of the features of a layer: a CSV record `id,x1,y1,x2,y2`, and then one for
+/// each feature, in layer order.
+///
+/// Each coordinate is a whole number of units of the last decimal that the scale allows. `state`
+/// hashes the ids. A fault of the layer is answered, and then nothing is written.
+pub fn run_bounds<L: Source, S: Sink>(
+    alloc: Global,
+    state: RandomState,
+    scale: Scale,
+    layer: &mut L,
+    sink: &mut S,
+) -> Result<(), RunFault>
+    requires layer { L.has_failed layer.old ≡ false }
+    requires sink { S.has_failed sink.old ≡ false }
+    ensures writes { Ends (IsBoundsText scale (L.remaining layer.old))
+        S.written S.is_flushed S.has_failed sink.old sink.new result }
+    ensures fault { IfErr result (λ f.
+        BlamesInput f → BoundsGives scale (L.remaining layer.old) (Err f)) }
+    ensures faults { IfErr result (λ f. f ≢ RunFault.Write → IsBoundsFault f) }
+    ensures io { IsErrOf result (RunFault.Read Input.Layer ReadFault.Io)
+        ↔ IsTrue (L.has_failed layer.new) }
+{
+    let text = bounds_run_text(alloc, state, scale, layer)?;
+    write_text(sink, text.as_slice())?;
+    Ok(())
+}
+
+/// What `run_bounds` writes.
+fn bounds_run_text<L: Source>(
+    alloc: Global,
+    state: RandomState,
+    scale: Scale,
+    layer: &mut L,
+) -> Result<Vec<u8>, RunFault>
+    requires { L.has_failed layer.old ≡ false }
+    ensures ok { IfOk result (λ text. IsBoundsText scale (L.remaining layer.old) text.items) }
+    ensures fault { IfErr result (λ f.
+        BlamesInput f → BoundsGives scale (L.remaining layer.old) (Err f)) }
+    ensures faults { IfErr result IsBoundsFault }
+    ensures io { IsErrOf result (RunFault.Read Input.Layer ReadFault.Io)
+        ↔ IsTrue (L.has_failed layer.new) }
+{
+    let layer = read_input(alloc, Input::Layer, state, scale, layer)?;
+    Ok(bounds_text(alloc, &layer)?)
+}
+
+/// The corners of the features, as CSV.
+fn bounds_text(alloc: Global, layer: &Layer) -> Result<Vec<u8>, AllocError>
+    ensures { IfOk result (λ text. text.items ≡ bounds_text layer.now.list.features) }
+{
+    let mut writer = new_rows(alloc);
+    push_row(&mut writer, &[b"id", b"x1", b"y1", b"x2", b"y2"])?;
+    for feature in layer.iter() {
+        push_bounds(&mut writer, &feature)?;
+    }
+    rows_text(writer)
+}
+
+/// Writes the id of a feature and the corners of its shape.
+fn push_bounds(writer: &mut Writer<Vec<u8>>, feature: &FeatureRef) -> Result<(), AllocError>
+    ensures { OnOk result (AddsRow writer.old writer.new (bounds_row (feature_read feature.now))) }
+{
+    let shape = &feature.shape;
+    let mut x1 = Buffer::new();
+    let mut y1 = Buffer::new();
+    let mut x2 = Buffer::new();
+    let mut y2 = Buffer::new();
+    let row = [
+        feature.id.as_bytes(),
+        x1.format(shape.x1()).as_bytes(),
+        y1.format(shape.y1()).as_bytes(),
+        x2.format(shape.x2()).as_bytes(),
+        y2.format(shape.y2()).as_bytes(),
+    ];
+    push_row(writer, &row)
+}
