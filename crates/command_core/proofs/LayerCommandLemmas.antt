@@ -10,10 +10,11 @@ use Rattle.join_core.specs.declared.fault.RunFault.{RunFault}
 use Rattle.join_core.specs.declared.fault.RunFault.TheVariants as run
 use Rattle.join_core.specs.Inputs.{BlamesInput}
 use Rattle.join_core.specs.Runs.{Ends}
+use Rattle.join_core.specs.BoundsRuns.{BoundsGives, layer_fault as bounds_fault, listed as bounds_listed, IsBoundsFault}
 use Rattle.join_core.specs.StatsRuns.{StatsGives, layer_fault as stats_fault, counted, IsStatsFault}
 use Rattle.join_core.specs.WindowRuns.{WindowGives, text_fault, layer_fault as window_layer_fault, listed, IsWindowFault, HasWindowFault}
 use Rattle.command_core.specs.declared.words.Command.{Command}
-use Rattle.command_core.specs.declared.words.Command.TheVariants.{Window, Stats}
+use Rattle.command_core.specs.declared.words.Command.TheVariants.{Window, Stats, Bounds}
 use Rattle.command_core.specs.Commands.{AfterOpening, CommandGives, IsCommandText, BlamesCommand, IsFoundFirst, IsFoundNext, IsFaultOf, CommandEnds}
 use Rattle.command_core.specs.Opening.{Files, IsAt, IsMissing}
 use Rattle.command_core.proofs.CommandLemmas.{ends_as, refused_ends, input_opened, err_is}
@@ -257,3 +258,60 @@ pub stats_ran : {T S : Type 0} (known : Option Files) (written : S → Option (L
 stats_ran known written is_flushed has_failed scale path l old new result is ends fault faults =
     layer_ran known written is_flushed has_failed (Stats path scale) path.now (StatsGives scale) (stats_reads_one scale path) l old new result is ends
     (stats_fault_of scale l result fault faults) (stats_none_first scale path l) (λ g nothing. absurd nothing) (stats_allowed scale path result faults)
+
+-- ---- corners
+
+pub bounds_reads_one : (scale : Scale) (path : Bor (List ℕ)) → ReadsOne (Bounds path scale) path.now (BoundsGives scale)
+bounds_reads_one scale path = record { gives = λ at answer. ((λ h. h), (λ h. h)); may_miss = tt; may_lack_keys = tt }
+
+pub bounds_none_first : (scale : Scale) (path : Bor (List ℕ)) (l : Option (List ℕ)) (g : RunFault) → IsFoundFirst (Bounds path scale) g
+    → BoundsGives scale l (Err g) → ⊥
+bounds_none_first scale path l g found gives = by (Err g) gives refl
+  where
+    by : (answer : Result (List ℕ) RunFault) → BoundsGives scale l answer → answer ≡ Err g → ⊥
+    by answer (bounds_fault f a) is = subst (IsFoundFirst (Bounds path scale)) (let same : g ≡ run.Read input.Layer f = cc in same) found
+    by answer (bounds_listed layer a) is = cc
+
+bounds_blamed : (scale : Scale) (l : Option (List ℕ)) (f : RunFault) → IsBoundsFault f → (BlamesInput f → BoundsGives scale l (Err f)) → BlamesCommand f
+    → BoundsGives scale l (Err f)
+bounds_blamed scale l (run.Wkt i w) is given blame = absurd is
+bounds_blamed scale l (run.NoFile i) is given blame = absurd is
+bounds_blamed scale l (run.Read i r) is given blame = given blame
+bounds_blamed scale l (run.Edit n e) is given blame = absurd is
+bounds_blamed scale l (run.Join j) is given blame = absurd is
+bounds_blamed scale l run.TooManyToDraw is given blame = absurd is
+bounds_blamed scale l run.Write is given blame = absurd is
+bounds_blamed scale l run.Memory is given blame = absurd blame
+bounds_blamed scale l run.NoKeys is given blame = absurd is
+
+bounds_fault_of : {T : Type 0} (scale : Scale) (l : Option (List ℕ)) (result : Result T RunFault)
+    → IfErr result (λ f. BlamesInput f → BoundsGives scale l (Err f))
+    → IfErr result (λ f. f ≢ run.Write → IsBoundsFault f) → IfErr result (λ f. BlamesCommand f → BoundsGives scale l (Err f))
+bounds_fault_of scale l (Ok x) fault faults = tt
+bounds_fault_of scale l (Err f) fault faults = λ blame. bounds_blamed scale l f (faults (λ w. subst BlamesCommand w blame)) fault blame
+
+bounds_allows : (scale : Scale) (path : Bor (List ℕ)) (f : RunFault) → IsBoundsFault f → IsFaultOf (Bounds path scale) f
+bounds_allows scale path (run.NoFile i) is = absurd is
+bounds_allows scale path (run.Wkt i w) is = is
+bounds_allows scale path (run.Read i r) is = is
+bounds_allows scale path (run.Edit n e) is = is
+bounds_allows scale path (run.Join j) is = is
+bounds_allows scale path run.TooManyToDraw is = is
+bounds_allows scale path run.Write is = is
+bounds_allows scale path run.Memory is = is
+bounds_allows scale path run.NoKeys is = tt
+
+bounds_allowed : {T : Type 0} (scale : Scale) (path : Bor (List ℕ)) (result : Result T RunFault) → IfErr result (λ f. f ≢ run.Write → IsBoundsFault f)
+    → IfErr result (λ f. f ≢ run.Write → IsFaultOf (Bounds path scale) f)
+bounds_allowed scale path (Ok x) faults = tt
+bounds_allowed scale path (Err f) faults = λ w. bounds_allows scale path f (faults w)
+
+-- the corners of the opened file were listed
+pub bounds_ran : {T S : Type 0} (known : Option Files) (written : S → Option (List ℕ)) (is_flushed has_failed : S → Bool)
+    (scale : Scale) (path : Bor (List ℕ)) (l : Option (List ℕ)) (old new : S) (result : Result T RunFault) → IsAt known path.now l
+    → Ends (λ t. BoundsGives scale l (Ok t)) written is_flushed has_failed old new result
+    → IfErr result (λ f. BlamesInput f → BoundsGives scale l (Err f))
+    → IfErr result (λ f. f ≢ run.Write → IsBoundsFault f) → CommandEnds known written is_flushed has_failed (Bounds path scale) old new result
+bounds_ran known written is_flushed has_failed scale path l old new result is ends fault faults =
+    layer_ran known written is_flushed has_failed (Bounds path scale) path.now (BoundsGives scale) (bounds_reads_one scale path) l old new result is ends
+    (bounds_fault_of scale l result fault faults) (bounds_none_first scale path l) (λ g nothing. absurd nothing) (bounds_allowed scale path result faults)

@@ -8,6 +8,7 @@ use Rattle.join_core.specs.declared.fault.Input.{Input}
 use Rattle.join_core.specs.declared.fault.Input.TheVariants as input
 use Rattle.join_core.specs.declared.fault.RunFault.{RunFault}
 use Rattle.join_core.specs.declared.fault.RunFault.TheVariants as run
+use Rattle.join_core.specs.BoundsRuns.{BoundsGives, IsBoundsFault}
 use Rattle.join_core.specs.DrawRuns.{DrawGives, IsDrawFault}
 use Rattle.join_core.specs.JoinRuns.{JoinFiles, JoinGives, IsJoinFault}
 use Rattle.join_core.specs.Inputs.{BlamesInput}
@@ -20,6 +21,7 @@ use Rattle.command_core.specs.declared.command.Product.{Product}
 use Rattle.command_core.specs.declared.command.Product.TheVariants.{Report, Picture}
 use Rattle.command_core.specs.declared.words.Command.{Command}
 use Rattle.command_core.specs.declared.words.Command.TheVariants.{Relate, Join, Draw, Window, Stats}
+use Rattle.command_core.specs.declared.words.Command.TheVariants.{Bounds}
 use Rattle.command_core.specs.declared.words.JoinRequest.{JoinRequest}
 
 -- an input that has to be opened, and what follows where it is
@@ -60,6 +62,8 @@ CommandGives at (Window path wkt scale) answer =
     AfterOpening input.Layer (at path.now) answer (λ l. WindowGives scale wkt.now (Some l) answer)
 CommandGives at (Stats path scale) answer =
     AfterOpening input.Layer (at path.now) answer (λ l. StatsGives scale (Some l) answer)
+CommandGives at (Bounds path scale) answer =
+    AfterOpening input.Layer (at path.now) answer (λ l. BoundsGives scale (Some l) answer)
 
 -- the command that asks for this of a join
 abbrev pub command_of : Product → JoinRequest → Command
@@ -102,6 +106,9 @@ IsFaultOf (Window path wkt scale) fault = IsWindowFault fault
 IsFaultOf (Stats path scale) (run.NoFile input.Layer) = ⊤
 IsFaultOf (Stats path scale) run.NoKeys = ⊤
 IsFaultOf (Stats path scale) fault = IsStatsFault fault
+IsFaultOf (Bounds path scale) (run.NoFile input.Layer) = ⊤
+IsFaultOf (Bounds path scale) run.NoKeys = ⊤
+IsFaultOf (Bounds path scale) fault = IsBoundsFault fault
 
 -- how a command ends: what it writes, which fault it names, exactly those that are found first and
 -- next, and no others

@@ -10,8 +10,8 @@ ghost use Rattle.command_core.specs.Endings.{CommandIsDone};
 use crate::inputs::Inputs;
 use crate::words::{Command, JoinRequest};
 use join_core::{
-    Input, JoinSources, OpenGate, RunFault, Sink, fault_line, run_draw, run_join, run_relate,
-    run_stats, run_window,
+    Input, JoinSources, OpenGate, RunFault, Sink, fault_line, run_bounds, run_draw, run_join,
+    run_relate, run_stats, run_window,
 };
 use std::hash::RandomState;
 use std::random::RandomSource;
@@ -78,6 +78,10 @@ fn execute<R: RandomSource + AllocGlobal + Threads + Wait + Sync, I: Inputs, O: 
         Command::Stats { path, scale } => {
             let mut layer = open_input(inputs, Input::Layer, path)?;
             run_stats(rt.alloc(), hash_state(rt)?, *scale, &mut layer, output)
+        }
+        Command::Bounds { path, scale } => {
+            let mut layer = open_input(inputs, Input::Layer, path)?;
+            run_bounds(rt.alloc(), hash_state(rt)?, *scale, &mut layer, output)
         }
     }
 }

@@ -101,18 +101,32 @@ The answer has five lines: features, points, segments, rectangles and height, ea
 Exit status: 0 for success, 1 for a fault of the file, output, memory or hashing keys, 2 for wrong
 words";
 
+const BOUNDS_HELP: &str = "\
+A layer is a CSV file, as
+  id,wkt
+  mill lane,\"LINESTRING (10 0, 10 10)\"
+The path - stands for standard input.
+
+The answer is CSV: id,x1,y1,x2,y2, and for each feature, in the order of the file, its id and its
+least and greatest coordinates. They are whole numbers of units of the last decimal: with
+--scale 2, 12.5 is written as 1250.
+
+Exit status: 0 for success, 1 for a fault of the file, output, memory or hashing keys, 2 for wrong
+words";
+
 /// What `clap` is told of the program.
 pub fn usage<'a>(alloc: Global) -> Result<Command<'a>, AllocError> {
     Command::new(alloc, "rjoin")
         .about("Joins two layers of geometries by a spatial relation")
         .after_help(PROGRAM_HELP)
-        .version("0.1.0")
+        .version("0.2.0")
         .subcommand_required(true)
         .subcommand(relate_usage(alloc)?)?
         .subcommand(join_usage(alloc)?)?
         .subcommand(draw_usage(alloc)?)?
         .subcommand(window_usage(alloc)?)?
-        .subcommand(stats_usage(alloc)?)
+        .subcommand(stats_usage(alloc)?)?
+        .subcommand(bounds_usage(alloc)?)
 }
 
 fn relate_usage<'a>(alloc: Global) -> Result<Command<'a>, AllocError> {
@@ -181,6 +195,14 @@ fn stats_usage<'a>(alloc: Global) -> Result<Command<'a>, AllocError> {
     Command::new(alloc, "stats")
         .about("Counts the features of a layer by kind, and the levels of its tree")
         .after_help(STATS_HELP)
+        .arg(positional(alloc, "LAYER", "CSV file of the layer"))?
+        .arg(scale(alloc))
+}
+
+fn bounds_usage<'a>(alloc: Global) -> Result<Command<'a>, AllocError> {
+    Command::new(alloc, "bounds")
+        .about("Writes the corners of the features of a layer")
+        .after_help(BOUNDS_HELP)
         .arg(positional(alloc, "LAYER", "CSV file of the layer"))?
         .arg(scale(alloc))
 }

@@ -48,6 +48,11 @@ pub enum Command<'a> {
         path: &'a str,
         scale: Scale,
     },
+    /// Write the corners of a layer's features.
+    Bounds {
+        path: &'a str,
+        scale: Scale,
+    },
 }
 
 /// Why the words are no command.
@@ -111,6 +116,7 @@ pub fn read_words<'a>(alloc: Global, words: &'a [&'a str]) -> Result<Command<'a>
         Some(("draw", given)) => Ok(Command::Draw(read_join(alloc, given)?)),
         Some(("window", given)) => read_window(alloc, given),
         Some(("stats", given)) => read_stats(alloc, given),
+        Some(("bounds", given)) => read_bounds(alloc, given),
         _ => Err(missing(alloc, "COMMAND")),
     }
 }
@@ -186,6 +192,12 @@ fn read_stats<'a>(alloc: Global, given: &ArgMatches<'a>) -> Result<Command<'a>, 
     let path = required(alloc, given, "LAYER")?;
     let scale = read_scale(alloc, given)?;
     Ok(Command::Stats { path, scale })
+}
+
+fn read_bounds<'a>(alloc: Global, given: &ArgMatches<'a>) -> Result<Command<'a>, WordFault> {
+    let path = required(alloc, given, "LAYER")?;
+    let scale = read_scale(alloc, given)?;
+    Ok(Command::Bounds { path, scale })
 }
 
 fn read_options(alloc: Global, given: &ArgMatches<'_>) -> Result<Options, WordFault> {

@@ -51,6 +51,45 @@ const FIELDS_THAT_MEET_A_WINDOW: [Run; 2] = [
     ),
 ];
 
+const CORNERS_OF_A_LAYER: [Run; 3] = [
+    (
+        "bounds|data/roads.csv",
+        0,
+        "id,x1,y1,x2,y2\nmill lane,10,0,10,10\nhigh street,0,11,20,11\n\
+         church path,15,-5,15,10\nnorth road,20,10,20,25\n",
+        "",
+    ),
+    (
+        "bounds|data/parcels.csv|--scale|1",
+        0,
+        "id,x1,y1,x2,y2\nmill field,0,0,100,100\nchurch field,100,0,200,100\n\
+         \"meadow, upper\",0,120,200,200\n",
+        "",
+    ),
+    ("bounds|-", 1, "", "rjoin: layer: cannot be opened\n"),
+];
+
+/// Layers at paths that another word would lead to, if words were trimmed, lowered or cut.
+const PATHS: [(&str, &str); 5] = [
+    ("-", "id,wkt\ninput,POINT (0 0)\n"),
+    ("-l.csv", "id,wkt\ndash,POINT (1 1)\n"),
+    ("", "id,wkt\nnone,POINT (2 2)\n"),
+    (" Übersicht der Felder.CSV ", "id,wkt\nspaces,POINT (3 3)\n"),
+    ("übersicht der felder.csv", "id,wkt\nlowered,POINT (4 4)\n"),
+];
+
+const PATHS_AS_THEY_STAND: [Run; 4] = [
+    ("bounds|-", 0, "id,x1,y1,x2,y2\ninput,0,0,0,0\n", ""),
+    ("bounds|--|-l.csv", 0, "id,x1,y1,x2,y2\ndash,1,1,1,1\n", ""),
+    ("window||POINT (2 2)", 0, "id\nnone\n", ""),
+    (
+        "bounds| Übersicht der Felder.CSV ",
+        0,
+        "id,x1,y1,x2,y2\nspaces,3,3,3,3\n",
+        "",
+    ),
+];
+
 const EDITS_ARE_MADE: [Run; 3] = [
     (
         "join|left.csv|right.csv|--relation|intersects",
@@ -128,6 +167,16 @@ fn parcels_that_touch_a_road(rt: HostRuntime) -> Result<(), Fail> {
 #[test]
 fn fields_that_meet_a_window(rt: HostRuntime) -> Result<(), Fail> {
     check(&rt, &MAPS, &FIELDS_THAT_MEET_A_WINDOW)
+}
+
+#[test]
+fn corners_of_a_layer(rt: HostRuntime) -> Result<(), Fail> {
+    check(&rt, &MAPS, &CORNERS_OF_A_LAYER)
+}
+
+#[test]
+fn paths_as_they_stand(rt: HostRuntime) -> Result<(), Fail> {
+    check(&rt, &PATHS, &PATHS_AS_THEY_STAND)
 }
 
 #[test]

@@ -103,7 +103,7 @@ const COMMAND_WORDS: [Run; 3] = [
     ),
 ];
 
-const SCALE_12: [Run; 2] = [
+const SCALE_12: [Run; 3] = [
     (
         "stats|l.csv|--scale|7",
         2,
@@ -116,9 +116,15 @@ const SCALE_12: [Run; 2] = [
         "",
         "rjoin: --workers must be 1 to 16\n",
     ),
+    (
+        "bounds|l.csv|--scale|7",
+        2,
+        "",
+        "rjoin: --scale must be 0 to 6\n",
+    ),
 ];
 
-const LAYER_FAULTS: [Run; 5] = [
+const LAYER_FAULTS: [Run; 8] = [
     ("window|l.csv|x", 1, "", "rjoin: layer: cannot be opened\n"),
     (
         "window|bad.csv|x",
@@ -134,6 +140,14 @@ const LAYER_FAULTS: [Run; 5] = [
     ),
     ("stats|l.csv", 1, "", "rjoin: layer: cannot be opened\n"),
     ("stats|edits.csv", 1, "", "rjoin: layer: wrong header\n"),
+    ("bounds|l.csv", 1, "", "rjoin: layer: cannot be opened\n"),
+    ("bounds|-", 1, "", "rjoin: layer: wrong header\n"),
+    (
+        "bounds|bad.csv",
+        1,
+        "",
+        "rjoin: layer: row 2: id is already there\n",
+    ),
 ];
 
 #[test]

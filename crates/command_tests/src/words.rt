@@ -8,7 +8,7 @@ use std::test::Fail;
 use wkt_core::Scale;
 
 /// Words, of which each follows a `|`, that don't fit the usage.
-const USAGE_FAULTS: [&str; 20] = [
+const USAGE_FAULTS: [&str; 25] = [
     "rjoin",
     "rjoin|relate|x",
     "rjoin|relate|x|y|z",
@@ -16,8 +16,13 @@ const USAGE_FAULTS: [&str; 20] = [
     "rjoin|window|q.csv",
     "rjoin|stats",
     "rjoin|stats|l.csv|q.csv",
+    "rjoin|stats||l.csv",
+    "rjoin|stats|-l.csv",
     "rjoin|stats|l.csv|--scale|x",
     "rjoin|stats|l.csv|--cut|2",
+    "rjoin|bounds",
+    "rjoin|bounds|l.csv|POINT (0 0)",
+    "rjoin|bounds|l.csv|--workers|2",
     "rjoin|join|l.csv|q.csv",
     "rjoin|join|l.csv|--relation|touches",
     "rjoin|join|l.csv|q.csv|--relation|disjoint|--workers|x",
@@ -114,19 +119,34 @@ const JOINS: [(&str, Option<&str>, (u32, u32, u32), u32); 7] = [
 ];
 
 /// Words that ask for help, and what is among it.
-const HELP: [(&str, &str); 12] = [
+const HELP: [(&str, &str); 18] = [
     ("rjoin|--help", "id,wkt"),
     ("rjoin|help", "Exit status"),
-    ("rjoin|--version", "rjoin "),
+    ("rjoin|--version", "rjoin 0.2.0"),
     ("rjoin|relate|--help", "interior, boundary and exterior"),
     ("rjoin|join|--help", "op,layer,id,wkt"),
+    (
+        "rjoin|join|--help",
+        "Writes the pairs of features of two layers",
+    ),
+    (
+        "rjoin|join|--help",
+        "  within      the left one lies in the right one",
+    ),
+    (
+        "rjoin|join|--help",
+        "  contains    the right one lies in the left one",
+    ),
     ("rjoin|join|--help", "  overlaps "),
     ("rjoin|join|--help", "1 to 16 [default: 4]"),
     ("rjoin|help|join", "0 to 6 [default: 0]"),
+    ("rjoin|draw|--help", "Writes a picture of two layers"),
     ("rjoin|draw|--help", "SVG 1.1"),
     ("rjoin|help|draw", "100000 features"),
     ("rjoin|window|--help", "Exit status"),
     ("rjoin|stats|--help", "Exit status"),
+    ("rjoin|bounds|--help", "12.5 is written as 1250"),
+    ("rjoin|help|bounds", "0 to 6 [default: 0]"),
 ];
 
 /// The words that stand between `|`.
@@ -177,6 +197,16 @@ fn layer_words(rt: HostRuntime) -> Result<(), Fail> {
         scale,
     };
     assert!(rt; reads(rt.alloc(), "rjoin|stats|l.csv|--scale|02", wanted)?);
+    let wanted = Command::Bounds {
+        path: "l.csv",
+        scale,
+    };
+    assert!(rt; reads(rt.alloc(), "rjoin|bounds|--scale|2|l.csv", wanted)?);
+    let wanted = Command::Bounds {
+        path: "-l.csv",
+        scale,
+    };
+    assert!(rt; reads(rt.alloc(), "rjoin|bounds|--scale|2|--|-l.csv", wanted)?);
     Ok(())
 }
 
