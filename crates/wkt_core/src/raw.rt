@@ -16,7 +16,7 @@ pub(crate) struct RawText {
 }
 
 impl RawText {
-    ghost use Rattle.std.specs.Prelude.{◌≡◌, [], List, ℕ, IsTrue, IfSome, IfNone};
+    ghost use Rattle.std.specs.Prelude.{◌≡◌, ◌↔◌, [], List, ℕ, IsTrue, IfSome, IfNone};
     ghost use Rattle.std.specs.List.{list_all};
     ghost use Rattle.geom_core.specs.declared.shape.Shape.{Shape};
     ghost use Rattle.wkt_core.specs.declared.keyword.Keyword.{Keyword};
@@ -73,7 +73,7 @@ impl RawText {
 
     /// Whether each number is a whole number of units.
     #[inline(always)]
-    pub(crate) fn is_whole(&self) -> bool
+    fn is_whole(&self) -> bool
         ensures { result ≡ self.now.lists.whole }
     {
         self.lists.is_whole()
@@ -85,6 +85,14 @@ impl RawText {
         ensures { result ≡ self.now.lists.in_range }
     {
         self.lists.is_in_range()
+    }
+
+    /// Whether each number is a whole number of units and in range.
+    #[inline(always)]
+    pub(crate) fn has_good_numbers(&self) -> bool
+        ensures { IsTrue result ↔ (IsTrue self.now.lists.whole × IsTrue self.now.lists.in_range) }
+    {
+        self.is_whole() && self.is_in_range()
     }
 
     /// The shape that the points draw, where each of their numbers is in range.

@@ -41,7 +41,7 @@ pub fn read(text: &[u8], scale: Scale) -> Result<Shape, WktFault>
     let Some(raw) = RawText::read(text, scale) else {
         return Err(WktFault::Text);
     };
-    if !raw.is_whole() || !raw.is_in_range() {
+    if !raw.has_good_numbers() {
         return Err(WktFault::Number);
     }
     match raw.shape() {
