@@ -3,9 +3,11 @@ pub mod FractionLemmas
 pub mod ItemLemmas
 pub mod FrontLemmas
 pub mod PointLemmas
+pub mod ReadListLemmas
 pub mod ListGrammar
 pub mod TextLemmas
 pub mod HeadingLemmas
+pub mod HeldLemmas
 pub mod RunLemmas
 pub mod WayLemmas
 pub mod FormLemmas
@@ -16,4 +18,5 @@ pub mod RawLemmas
 pub mod GoodLemmas
 pub mod AnswerLemmas
 pub mod CanonicalLemmas
+pub mod PrintLemmas
 pub mod MigrationLemmas

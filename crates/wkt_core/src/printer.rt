@@ -104,11 +104,27 @@ fn push_geometry(
     text.push_str(closing)
 }
 
+/// Adds the canonical spelling of a shape.
+fn push_shape(text: &mut String, shape: &Shape, scale: Scale) -> Result<(), AllocError>
+    ensures { OnOk result (string_bytes text.new
+        ≡ string_bytes text.old ++ canonical scale shape.now) }
+{
+    let (x1, y1, x2, y2) = (shape.x1(), shape.y1(), shape.x2(), shape.y2());
+    let a = Position::new(x1, y1);
+    let b = Position::new(x2, y1);
+    let c = Position::new(x2, y2);
+    let d = Position::new(x1, y2);
+    match shape.dim() {
+        0 => push_geometry(text, "POINT (", &[a], ")", scale),
+        1 => push_geometry(text, "LINESTRING (", &[a, c], ")", scale),
+        _ => push_geometry(text, "POLYGON ((", &[a, b, c, d, a], "))", scale),
+    }
+}
+
 /// The canonical spelling of the shape: plain decimal numbers, one space between the two numbers of
 /// a point, a comma and a space between points, and the ring of a rectangle from its lowest corner
 /// along the first axis. A number has no zero before its whole part nor at its fraction's end, and
-/// a dot only where its fraction isn't 0: at scale 2, 125 units are `1.25` and -5 are `-0.05`. The
-/// text has room for the longest spelling, 165 bytes.
+/// a dot only where its fraction isn't 0: at scale 2, 125 units are `1.25` and -5 are `-0.05`.
 ///
 /// # Errors
 /// Where memory is refused.
@@ -117,16 +133,7 @@ pub fn print(alloc: Global, shape: &Shape, scale: Scale) -> Result<String, Alloc
     // The spelling is read again as the shape.
     ensures spells { Spells scale (canonical scale shape.now) shape.now }
 {
-    let (x1, y1, x2, y2) = (shape.x1(), shape.y1(), shape.x2(), shape.y2());
-    let a = Position::new(x1, y1);
-    let b = Position::new(x2, y1);
-    let c = Position::new(x2, y2);
-    let d = Position::new(x1, y2);
     let mut text = String::with_capacity(alloc, LONGEST)?;
-    match shape.dim() {
-        0 => push_geometry(&mut text, "POINT (", &[a], ")", scale)?,
-        1 => push_geometry(&mut text, "LINESTRING (", &[a, c], ")", scale)?,
-        _ => push_geometry(&mut text, "POLYGON ((", &[a, b, c, d, a], "))", scale)?,
-    }
+    push_shape(&mut text, shape, scale)?;
     Ok(text)
 }
