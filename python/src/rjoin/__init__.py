@@ -1,0 +1,13 @@
+"""Exact spatial joins of points, axis-parallel segments and rectangles, by the program rjoin.
+
+`sjoin` joins GeoPandas frames, `pairs` layers of any kind, `window` and `stats` look at one layer,
+`relate` at two geometries, and `draw` shows two layers. rjoin.calls says what they have in common.
+"""
+from rjoin.calls import Stats, draw, pairs, relate, sjoin, stats, window
+from rjoin.errors import ArgumentError, InputError, LeftOutWarning, Notice, RjoinError
+from rjoin.picture import Picture
+
+__all__ = [
+    "ArgumentError", "InputError", "LeftOutWarning", "Notice", "Picture", "RjoinError", "Stats",
+    "draw", "pairs", "relate", "sjoin", "stats", "window",
+]

@@ -1,0 +1,175 @@
+"""The calls of this package.
+
+A layer is a GeoDataFrame, a GeoSeries, a series or sequence of Shapely geometries or of well-known
+text, or the path of a file: CSV with the header id,wkt, or FILE or FILE:LAYER for all that GDAL
+reads. Features are told by their index labels, in sequences by their places from 0, and in CSV
+files by their ids.
+
+What all calls have in common:
+
+scale: how many decimals coordinates may have, 0 to 6; by default as many as they need. A coordinate
+with more is an InputError: nothing is rounded.
+other: what happens to geometries that are no point, axis-parallel segment or rectangle: `"error"`
+raises an InputError, `"envelope"` takes their envelopes, `"skip"` leaves them out.
+missing: what happens where a geometry is empty or not there: `"error"` or `"skip"`.
+What was left out is in no result; a LeftOutWarning tells of it, and `left_out` names each feature
+as a Notice, as `enveloped` does those that were replaced by their envelope. Both are tuples, in
+`attrs` of frames and series, and fields of Stats and Picture.
+
+Raises InputError for a fault of an input, ArgumentError for a wrong argument, and RjoinError for
+all else, such as a missing program.
+"""
+from __future__ import annotations
+
+from typing import TYPE_CHECKING, Any, NamedTuple, Optional, Tuple
+
+from rjoin import program, relations
+from rjoin.errors import ArgumentError, Notice
+from rjoin.picture import Picture
+
+if TYPE_CHECKING:
+    import geopandas
+    import pandas
+
+MOST_DECIMALS = 6
+MOST_WORKERS = 16
+
+
+class Stats(NamedTuple):
+    """How many features a layer has, of each form, and the height of its R-tree."""
+
+    features: int
+    points: int
+    segments: int
+    rectangles: int
+    height: int
+    left_out: Tuple[Notice, ...] = ()
+    enveloped: Tuple[Notice, ...] = ()
+
+
+def sjoin(left: "geopandas.GeoDataFrame", right: "geopandas.GeoDataFrame",
+          predicate: str = "intersects", how: str = "inner", *, scale: Optional[int] = None,
+          workers: Optional[int] = None, lsuffix: str = "left", rsuffix: str = "right",
+          matrix: bool = False, other: str = "error",
+          missing: str = "error") -> "geopandas.GeoDataFrame":
+    """The left rows beside the fields of each right row that they stand in the relation to.
+
+    The columns and the index are those of geopandas.sjoin: the left columns, `index_right`, and the
+    right columns but for the geometry, with suffixes where both frames have a name. With `how`
+    as `"left"`, a left row without a partner is kept, with missing values. Rows come in the order
+    of the left frame and then of the right one. As there, a warning tells of two reference systems.
+
+    predicate: intersects, touches, crosses, within, contains, overlaps, equals, or a DE-9IM mask.
+    workers: the program's threads, 1 to 16; 4 by default.
+    matrix: adds the column `matrix` with the nine letters of each pair.
+    """
+    from rjoin import frames, joining
+    from rjoin.sources import Rules
+
+    check_arguments(predicate, scale, workers)
+    suffixes = frames.Suffixes(lsuffix, rsuffix)
+    frames.check(left, right, how, suffixes)
+    job = joining.job_of((("left", left), ("right", right)), scale, Rules(other, missing))
+    frames.warn_of_crs(left, right, depth=1)
+    found = joining.joined(job, predicate, workers, matrix)
+    lefts, rights = job.positions(found)
+    are_pairs = None
+    if how == "left":
+        lefts, rights, are_pairs = frames.with_unmatched(lefts, rights, job.kept(0))
+    result = frames.joined(left, right, (lefts, rights), suffixes)
+    if matrix:
+        frames.add_matrix(result, found["matrix"].to_numpy(), are_pairs)
+    job.finish(result.attrs, depth=1)
+    return result
+
+
+def pairs(left: Any, right: Any, relation: str = "intersects", *, scale: Optional[int] = None,
+          workers: Optional[int] = None, ids: str = "label", other: str = "error",
+          missing: str = "error") -> "pandas.DataFrame":
+    """The pairs that stand in a relation, as a frame with the columns left, right and matrix.
+
+    relation and workers are as for `sjoin`; matrix has the nine letters of DE-9IM. Pairs come in
+    the order of the left layer and then of the right one.
+    ids: `"label"` tells features by their labels, `"position"` by their places from 0.
+    """
+    from rjoin import frames, joining
+    from rjoin.sources import Rules
+
+    check_arguments(relation, scale, workers, ids)
+    job = joining.job_of((("left", left), ("right", right)), scale, Rules(other, missing))
+    frames.warn_of_crs(left, right, depth=1)
+    found = joining.joined(job, relation, workers, matrix=True)
+    result = job.identified(found, ids)
+    job.finish(result.attrs, depth=1)
+    return result
+
+
+def window(layer: Any, geometry: Any, *, scale: Optional[int] = None, ids: str = "label",
+           other: str = "error", missing: str = "error") -> "pandas.Series":
+    """The features of a layer that share a point with a geometry, as a series with the name id.
+
+    geometry: a point, axis-parallel segment or rectangle, by Shapely or as well-known text.
+    ids: as for `pairs`; `frame.iloc[window(frame, geometry, ids="position")]` has the rows.
+    """
+    from rjoin import joining
+    from rjoin.sources import Rules
+
+    check_arguments("intersects", scale, None, ids)
+    place = joining.single(geometry, "window")
+    job = joining.job_of((("layer", layer),), scale, Rules(other, missing), place)
+    found = joining.met(job, place)
+    result = job.identified(found.to_frame(), ids)["id"]
+    job.finish(result.attrs, depth=1)
+    return result
+
+
+def stats(layer: Any, *, scale: Optional[int] = None, other: str = "error",
+          missing: str = "error") -> Stats:
+    """The counts of a layer."""
+    from rjoin import joining
+    from rjoin.sources import Rules
+
+    check_arguments("intersects", scale, None)
+    job = joining.job_of((("layer", layer),), scale, Rules(other, missing))
+    counts = joining.counted(job)
+    job.finish({}, depth=1)
+    return Stats(**counts, left_out=job.left_out, enveloped=job.enveloped)
+
+
+def relate(first: Any, second: Any, *, scale: Optional[int] = None) -> str:
+    """The nine letters of DE-9IM of two geometries, by Shapely or as well-known text."""
+    from rjoin import joining
+
+    check_arguments("intersects", scale, None)
+    geometries = joining.single(first, "first"), joining.single(second, "second")
+    return joining.related(*geometries, scale)
+
+
+def draw(left: Any, right: Any, relation: str = "intersects", *, scale: Optional[int] = None,
+         other: str = "error", missing: str = "error") -> Picture:
+    """A picture of two layers in which the features that occur in a pair are set off.
+
+    Both layers together have at most 100,000 features.
+    """
+    from rjoin import frames, joining
+    from rjoin.sources import Rules
+
+    check_arguments(relation, scale, None)
+    job = joining.job_of((("left", left), ("right", right)), scale, Rules(other, missing))
+    frames.warn_of_crs(left, right, depth=1)
+    svg = joining.drawn(job, relation)
+    job.finish({}, depth=1)
+    return Picture(svg, job.left_out, job.enveloped)
+
+
+def check_arguments(relation: str, scale: Optional[int], workers: Optional[int],
+                    ids: str = "label") -> None:
+    """Refuses wrong arguments, and a missing program, before a layer is looked at."""
+    relations.check(relation)
+    if scale is not None and not 0 <= scale <= MOST_DECIMALS:
+        raise ArgumentError(f"scale must be 0 to {MOST_DECIMALS} or None, not {scale!r}")
+    if workers is not None and not 1 <= workers <= MOST_WORKERS:
+        raise ArgumentError(f"workers must be 1 to {MOST_WORKERS}, not {workers!r}")
+    if ids not in ("label", "position"):
+        raise ArgumentError(f"ids must be 'label' or 'position', not {ids!r}")
+    program.find()

@@ -1,0 +1,215 @@
+"""The command `python3 -m rjoin`, which joins layers of files that GDAL reads."""
+from __future__ import annotations
+
+import argparse
+import csv
+import os
+import sys
+import tempfile
+import warnings
+from pathlib import Path
+from typing import Any, Iterator, List, NamedTuple, Optional, Sequence, TextIO, Tuple
+
+from rjoin.errors import ArgumentError, Notice, RjoinError
+
+SHOWN = 10
+COLUMNS = ("left", "right", "matrix", "geometry")
+HELP = """\
+LEFT and RIGHT are FILE or FILE:LAYER, of any kind that GDAL reads, or CSV with the header id,wkt.
+OUT gets a row for each pair: what identifies the two features, and the nine letters of DE-9IM. Its
+kind is that of its extension: .csv, .gpkg, .shp, .geojson and what else GDAL writes.
+
+Exit status: 0 for success, 1 for a fault of a file or a feature, 2 for wrong words"""
+
+
+def main(words: Optional[Sequence[str]] = None) -> int:
+    """Runs the command, and gives its status."""
+    arguments = parser().parse_args(words)
+    try:
+        with warnings.catch_warnings(record=True) as caught:
+            warnings.simplefilter("ignore")
+            warnings.filterwarnings("always", "CRS mismatch")
+            notices = run(arguments)
+        tell(notices, [str(warning.message) for warning in caught], sys.stderr)
+        return 0
+    except ArgumentError as fault:
+        print(f"rjoin: {fault}", file=sys.stderr)
+        return 2
+    except RjoinError as fault:
+        print(f"rjoin: {fault}", file=sys.stderr)
+        return 1
+
+
+def parser() -> argparse.ArgumentParser:
+    known = argparse.ArgumentParser(
+        "python3 -m rjoin", description="Joins two layers by a spatial relation, exactly.",
+        epilog=HELP, formatter_class=argparse.RawDescriptionHelpFormatter)
+    known.add_argument("left", metavar="LEFT")
+    known.add_argument("right", metavar="RIGHT")
+    known.add_argument("--relation", metavar="R", required=True,
+                       help="intersects, touches, crosses, within, contains, overlaps, equals, or "
+                            "a mask of nine letters")
+    known.add_argument("-o", "--output", metavar="OUT", required=True, type=Path)
+    known.add_argument("--overwrite", action="store_true", help="replace OUT if it is there")
+    known.add_argument("--geometry", action="store_true", help="add the left feature's geometry")
+    known.add_argument("--attributes", action="store_true",
+                       help="add the fields of both sides, with _left and _right behind the names "
+                            "that both have")
+    for side in ("left", "right"):
+        known.add_argument(f"--{side}-id", metavar="FIELD",
+                           help=f"the field that identifies a {side} feature; by default the id of "
+                                "a CSV file with the header id,wkt, and else the row from 0")
+    known.add_argument("--scale", metavar="K", type=int,
+                       help="decimals of a coordinate, 0 to 6; by default as many as are needed")
+    known.add_argument("--workers", metavar="N", type=int, help="threads, 1 to 16")
+    known.add_argument("--other", choices=("error", "envelope", "skip"), default="error",
+                       help="what to do with geometries that are no point, axis-parallel segment "
+                            "or rectangle")
+    known.add_argument("--missing", choices=("error", "skip"), default="error",
+                       help="what to do where a geometry is empty or not there")
+    known.add_argument("--notices", metavar="FILE", type=Path,
+                       help="write what was left out or replaced by its envelope to a CSV file")
+    return known
+
+
+class Notices(NamedTuple):
+    """What the options --other and --missing did to features."""
+
+    left_out: Tuple[Notice, ...]
+    enveloped: Tuple[Notice, ...]
+
+    def rows(self) -> Iterator[Tuple[Any, ...]]:
+        for name, notices in zip(("left out", "envelope"), self):
+            for notice in notices:
+                yield (name, *notice)
+
+
+def run(arguments: argparse.Namespace) -> Notices:
+    """Joins, and writes all files or none."""
+    from rjoin import calls
+
+    for path in (arguments.output, arguments.notices):
+        check_output(path, arguments.overwrite)
+    calls.check_arguments(arguments.relation, arguments.scale, arguments.workers)
+    left = layer(arguments.left, "left", arguments.left_id)
+    right = layer(arguments.right, "right", arguments.right_id)
+    pairs = calls.pairs(left, right, arguments.relation, scale=arguments.scale,
+                        workers=arguments.workers, ids="position", other=arguments.other,
+                        missing=arguments.missing)
+    notices = Notices(pairs.attrs["left_out"], pairs.attrs["enveloped"])
+    if arguments.notices:
+        write_notices(notices, arguments.notices)
+    write(table(left, right, pairs, arguments), arguments.output)
+    return notices
+
+
+def check_output(path: Optional[Path], overwrite: bool) -> None:
+    if path and path.exists() and not overwrite:
+        raise ArgumentError(f"{path} is there already; --overwrite replaces it")
+    if path and not path.parent.is_dir():
+        raise ArgumentError(f"{path.parent} is no folder")
+
+
+def layer(text: str, side: str, field: Optional[str]) -> Any:
+    """The layer, its index what identifies the features."""
+    from rjoin import files
+
+    frame = files.read(text, side)
+    if field is None and files.is_plain(files.place_of(text)):
+        field = "id"
+    if field is None:
+        return frame
+    if field not in frame.columns:
+        names = ", ".join(str(name) for name in frame.columns if name != frame.geometry.name)
+        raise ArgumentError(f"{side} has no field {field!r}; it has {names}")
+    return frame.set_index(field, drop=False)
+
+
+def table(left: Any, right: Any, pairs: Any, arguments: argparse.Namespace) -> Any:
+    """The rows to be written; a GeoDataFrame where geometries are asked for."""
+    import geopandas
+    import pandas
+
+    from rjoin.frames import Suffixes, named_apart
+
+    lefts, rights = pairs["left"].to_numpy(), pairs["right"].to_numpy()
+    rows = pandas.DataFrame({"left": left.index.take(lefts), "right": right.index.take(rights),
+                             "matrix": pairs["matrix"].astype(str)})
+    if arguments.attributes:
+        ours, theirs = (fields.drop(columns=fields.geometry.name) for fields in (left, right))
+        ours, theirs = pandas.DataFrame(ours.take(lefts)), pandas.DataFrame(theirs.take(rights))
+        ours.columns, theirs.columns = named_apart(
+            list(ours.columns), list(theirs.columns), Suffixes("left", "right"), COLUMNS)
+        parts = [rows, ours.reset_index(drop=True), theirs.reset_index(drop=True)]
+        rows = pandas.concat(parts, axis=1)
+    if not arguments.geometry:
+        return rows
+    return geopandas.GeoDataFrame(rows, geometry=left.geometry.take(lefts).array, crs=left.crs)
+
+
+def write(rows: Any, output: Path) -> None:
+    """Writes the file, and the files that belong to it, whole or not at all."""
+    try:
+        with tempfile.TemporaryDirectory(prefix=".rjoin-", dir=output.parent) as folder:
+            write_as(rows, Path(folder, output.name))
+            for path in sorted(Path(folder).iterdir()):
+                os.replace(path, output.parent / path.name)
+    except OSError as fault:
+        raise RjoinError(f"{output} cannot be written: {fault.strerror or fault}") from fault
+
+
+def write_as(rows: Any, path: Path) -> None:
+    """Writes the file of the kind of its extension."""
+    if path.suffix.lower() == ".csv":
+        rows.to_csv(path, index=False, lineterminator="\n")
+        return
+    from fiona.drvsupport import driver_from_extension
+    from fiona.errors import FionaError
+
+    try:
+        driver = driver_from_extension(path)
+    except ValueError as fault:
+        raise ArgumentError(f"GDAL writes no files with the extension {path.suffix!r}") from fault
+    try:
+        if "geometry" in rows.columns:
+            rows.to_file(path, driver=driver)
+        else:
+            write_table(rows, path, driver)
+    except (FionaError, ValueError, TypeError) as fault:
+        raise RjoinError(f"{path.name} cannot be written: {fault}") from fault
+
+
+def write_table(rows: Any, path: Path, driver: str) -> None:
+    """Writes rows without geometries."""
+    import fiona
+
+    fields = {str(name): field_type(rows[name].dtype.kind) for name in rows.columns}
+    schema = {"geometry": "None", "properties": fields}
+    values = rows.astype(object).where(rows.notna(), None)
+    with fiona.open(path, "w", driver=driver, schema=schema) as output:
+        output.writerecords({"type": "Feature", "geometry": None, "properties": record}
+                            for record in values.to_dict("records"))
+
+
+def field_type(kind: str) -> str:
+    """The type of field for a kind of NumPy's types."""
+    return {"i": "int", "u": "int", "f": "float", "b": "bool", "M": "datetime"}.get(kind, "str")
+
+
+def write_notices(notices: Notices, path: Path) -> None:
+    with open(path, "w", newline="", encoding="utf-8") as file:
+        rows = csv.writer(file, lineterminator="\n")
+        rows.writerow(("what", *Notice._fields))
+        rows.writerows(notices.rows())
+
+
+def tell(notices: Notices, warned: List[str], file: TextIO) -> None:
+    """Says what differs from a plain join; of many features, only the first."""
+    for text in warned:
+        print(f"rjoin: warning: {text.splitlines()[0]}", file=file)
+    for name, some in (("left out", notices.left_out), ("replaced by envelope", notices.enveloped)):
+        for notice in some[:SHOWN]:
+            print(f"rjoin: {name}: {notice.side}: row {notice.row} (feature {notice.feature!r}): "
+                  f"{notice.reason}", file=file)
+        if len(some) > SHOWN:
+            print(f"rjoin: {name}: {len(some) - SHOWN} more; --notices lists all", file=file)

@@ -1,0 +1,167 @@
+"""Writes boxes as a layer file, in lines of equal length that are made by columns.
+
+Numbers are padded with zeros, which the program allows; ids are the rows' numbers from 0.
+"""
+from __future__ import annotations
+
+import csv
+from functools import lru_cache
+from typing import IO, List, NamedTuple, Sequence, Tuple, Union
+
+import numpy as np
+from numpy.lib.stride_tricks import sliding_window_view
+from numpy.typing import NDArray
+
+Units = NDArray[np.int64]
+Bytes = NDArray[np.uint8]
+
+HEADER = b"id,wkt\n"
+MOST_BYTES = 134_217_728
+CHUNK = 1 << 14
+GROUP = 4
+
+
+class Column(NamedTuple):
+    """How the numbers of a column are written."""
+
+    digits: int
+    signed: bool = False
+    decimals: int = 0
+
+    @property
+    def width(self) -> int:
+        return self.digits + self.signed + (self.decimals > 0)
+
+
+class Columns(NamedTuple):
+    """The columns of a layer: ids, first and second coordinates."""
+
+    id: Column
+    x: Column
+    y: Column
+
+
+ID, X1, Y1, X2, Y2 = range(5)
+Part = Union[bytes, int]
+
+POINT: Tuple[Part, ...] = (ID, b",POINT(", X1, b" ", Y1, b")\n")
+SEGMENT: Tuple[Part, ...] = (ID, b',"LINESTRING(', X1, b" ", Y1, b",", X2, b" ", Y2, b')"\n')
+RECTANGLE: Tuple[Part, ...] = (
+    ID, b',"POLYGON((', X1, b" ", Y1, b",", X2, b" ", Y1, b",", X2, b" ", Y2, b",",
+    X1, b" ", Y2, b",", X1, b" ", Y1, b'))"\n')
+FORMS = (POINT, SEGMENT, RECTANGLE)
+
+
+def columns_of(units: Units, decimals: int) -> Columns:
+    """Columns that are wide enough; with decimals, numbers are written with a dot before them."""
+    last_id = np.array([max(len(units) - 1, 0)])
+    return Columns(column_of(last_id, 0), column_of(units[:, 0::2], decimals),
+                   column_of(units[:, 1::2], decimals))
+
+
+def column_of(numbers: Units, decimals: int) -> Column:
+    least, greatest = int(numbers.min(initial=0)), int(numbers.max(initial=0))
+    digits = max(len(str(max(-least, greatest))), decimals + 1)
+    return Column(digits, least < 0, decimals)
+
+
+def forms_of(units: Units) -> Units:
+    """The place in FORMS of each box."""
+    wide, high = units[:, 0] != units[:, 2], units[:, 1] != units[:, 3]
+    forms: Units = wide.astype(np.int64) + high
+    return forms
+
+
+def width_of(form: Sequence[Part], columns: Columns) -> int:
+    return sum(part_width(part, columns) for part in form)
+
+
+def part_width(part: Part, columns: Columns) -> int:
+    return len(part) if isinstance(part, bytes) else column_at(part, columns).width
+
+
+def column_at(part: int, columns: Columns) -> Column:
+    if part == ID:
+        return columns.id
+    return columns.x if part in (X1, X2) else columns.y
+
+
+def size_of(units: Units, columns: Columns) -> int:
+    """The bytes of the layer's file."""
+    counts = np.bincount(forms_of(units), minlength=len(FORMS))
+    widths = [width_of(form, columns) for form in FORMS]
+    return len(HEADER) + int(np.dot(counts, widths))
+
+
+def write(file: IO[bytes], units: Units, columns: Columns) -> None:
+    """Writes the header and a line for each box."""
+    file.write(HEADER)
+    for first in range(0, len(units), CHUNK):
+        part = units[first:first + CHUNK]
+        ids = np.arange(first, first + len(part), dtype=np.int64)
+        file.write(lines(ids, part, columns).tobytes())
+
+
+def lines(ids: Units, units: Units, columns: Columns) -> Bytes:
+    """The bytes of the lines of some boxes, one behind the other."""
+    forms = forms_of(units)
+    widths = np.array([width_of(form, columns) for form in FORMS])[forms]
+    ends = np.cumsum(widths)
+    text = np.empty(ends[-1], np.uint8)
+    numbers = fields(ids, units, columns)
+    for number, form in enumerate(FORMS):
+        rows = np.flatnonzero(forms == number)
+        if rows.size:
+            width = width_of(form, columns)
+            places = sliding_window_view(text, width, writeable=True)
+            places[ends[rows] - width] = filled(form, [field[rows] for field in numbers])
+    return text
+
+
+def geometry_text(units: Units, columns: Columns) -> str:
+    """The well-known text of the only row."""
+    line = lines(np.zeros(1, np.int64), units, columns).tobytes().decode()
+    _, text = next(csv.reader([line]))
+    return text
+
+
+def fields(ids: Units, units: Units, columns: Columns) -> List[Bytes]:
+    """The written numbers: ids and the four coordinates."""
+    return [written(ids, columns.id), *(written(units[:, corner - X1], column_at(corner, columns))
+                                        for corner in (X1, Y1, X2, Y2))]
+
+
+def filled(form: Sequence[Part], numbers: Sequence[Bytes]) -> Bytes:
+    """The lines of boxes of one form."""
+    count = len(numbers[ID])
+    parts = [np.broadcast_to(np.frombuffer(part, np.uint8), (count, len(part)))
+             if isinstance(part, bytes) else numbers[part] for part in form]
+    return np.hstack(parts)
+
+
+def written(numbers: Units, column: Column) -> Bytes:
+    """The numbers of a column, a row of bytes each."""
+    digits = digits_of(np.abs(numbers), column.digits)
+    parts = [digits]
+    if column.decimals:
+        dot = np.full((len(numbers), 1), ord("."), np.uint8)
+        parts = [digits[:, :-column.decimals], dot, digits[:, -column.decimals:]]
+    if column.signed:
+        parts.insert(0, np.where(numbers < 0, ord("-"), ord("0")).astype(np.uint8)[:, np.newaxis])
+    return np.hstack(parts) if len(parts) > 1 else digits
+
+
+def digits_of(numbers: Units, count: int) -> Bytes:
+    """The last digits of numbers that are not negative, taken from a table by four."""
+    groups = -(-count // GROUP)
+    text = np.empty((len(numbers), groups), f"S{GROUP}")
+    for group in reversed(range(groups)):
+        numbers, low = np.divmod(numbers, 10 ** GROUP)
+        text[:, group] = digit_groups()[low]
+    return text.view(np.uint8).reshape(len(numbers), groups * GROUP)[:, -count:]
+
+
+@lru_cache(maxsize=None)
+def digit_groups() -> NDArray[np.bytes_]:
+    """The numbers of up to four digits, padded with zeros."""
+    return np.array([b"%0*d" % (GROUP, number) for number in range(10 ** GROUP)])

@@ -1,0 +1,294 @@
+"""The inputs of a call, whatever they are given as, in the form that the program reads."""
+from __future__ import annotations
+
+import csv
+import os
+from abc import ABC, abstractmethod
+from itertools import repeat
+from pathlib import Path
+from typing import Any, NamedTuple, Sequence, Tuple
+
+import numpy as np
+import pandas
+from numpy.typing import NDArray
+
+from rjoin import decimals, files, sheet, texts
+from rjoin.errors import ArgumentError, InputError, Notice
+from rjoin.shapes import Boxes, Objects, Status, boxes_of
+
+Rows = NDArray[np.int64]
+Units = NDArray[np.int64]
+
+NO_BOX = "not a point, axis-parallel segment or rectangle"
+REASONS = {
+    Status.OTHER: NO_BOX,
+    Status.EMPTY: "the geometry is empty",
+    Status.MISSING: "there is no geometry",
+    Status.NOT_FINITE: "a coordinate is not finite",
+}
+
+
+class Rules(NamedTuple):
+    """What happens to geometries that the program cannot read.
+
+    other: those that are no box raise an `error`, are replaced by their `envelope`, or are left out
+    (`skip`). missing: those that are empty or not there raise an `error` or are left out (`skip`).
+    """
+
+    other: str = "error"
+    missing: str = "error"
+
+    def checked(self) -> "Rules":
+        if self.other not in ("error", "envelope", "skip"):
+            raise ArgumentError(f"other must be 'error', 'envelope' or 'skip', not {self.other!r}")
+        if self.missing not in ("error", "skip"):
+            raise ArgumentError(f"missing must be 'error' or 'skip', not {self.missing!r}")
+        return self
+
+
+class Scale(NamedTuple):
+    """How coordinates are written: in units of 10^-decimals, and with a dot or as whole numbers."""
+
+    decimals: int
+    dots: bool
+
+    @property
+    def dots_before(self) -> int:
+        """How many decimals are written behind a dot."""
+        return self.decimals if self.dots else 0
+
+    @property
+    def option(self) -> str:
+        """The value of the program's option --scale."""
+        return str(self.dots_before)
+
+
+class Source(ABC):
+    """An input. `side` is its parameter's name; ids in reports are row numbers unless `has_ids`."""
+
+    has_ids = False
+    may_count_units = False
+
+    def __init__(self, side: str) -> None:
+        self.side = side
+        self.left_out: Tuple[Notice, ...] = ()
+        self.enveloped: Tuple[Notice, ...] = ()
+
+    @abstractmethod
+    def needed_decimals(self) -> int:
+        """The fewest decimals that write all coordinates; InputError where 6 don't."""
+
+    @abstractmethod
+    def write(self, folder: Path, scale: Scale) -> Path:
+        """The path of the layer's file, which is written to the folder if need be."""
+
+    @abstractmethod
+    def positions(self, ids: Any) -> Rows:
+        """The rows, counted from 0, of features by their ids in a report."""
+
+    @abstractmethod
+    def labels(self, ids: Any) -> Any:
+        """The labels of features by their ids in a report: a column of them or an index."""
+
+    @abstractmethod
+    def error(self, row: int, reason: str) -> InputError:
+        """The fault of a row, counted from 1, of the file that was written."""
+
+
+class GeometrySource(Source):
+    """Shapely geometries with labels."""
+
+    may_count_units = True
+
+    def __init__(self, side: str, geometries: Objects, index: pandas.Index, rules: Rules) -> None:
+        super().__init__(side)
+        self.index = index
+        boxes = boxes_of(geometries, all_envelopes=rules.other == "envelope")
+        kept = self.kept(boxes, rules)
+        self.rows: Rows = np.flatnonzero(kept)
+        self.corners = boxes.corners if kept.all() else boxes.corners[kept]
+
+    def kept(self, boxes: Boxes, rules: Rules) -> NDArray[np.bool_]:
+        """The rows that the program is given; the others and the envelopes are noticed."""
+        status = boxes.status
+        absent = (status == Status.EMPTY) | (status == Status.MISSING)
+        kept = status == Status.BOX
+        enveloped = np.zeros_like(kept)
+        skipped = absent if rules.missing == "skip" else np.zeros_like(kept)
+        if rules.other == "envelope":
+            enveloped = status == Status.OTHER
+        if rules.other == "skip":
+            skipped = skipped | (~kept & ~absent)
+        wrong = np.flatnonzero(~kept & ~enveloped & ~skipped)
+        if wrong.size:
+            raise self.fault(int(wrong[0]), REASONS[Status(status[wrong[0]])])
+        self.left_out = self.notices(np.flatnonzero(skipped), status)
+        self.enveloped = self.notices(np.flatnonzero(enveloped), status)
+        given: NDArray[np.bool_] = kept | enveloped
+        return given
+
+    def notices(self, rows: Rows, status: NDArray[np.uint8]) -> Tuple[Notice, ...]:
+        reasons = [REASONS[Status(value)] for value in status[rows]]
+        numbers = (rows + 1).tolist()
+        return tuple(Notice(self.side, *rest)
+                     for rest in zip(numbers, self.index.take(rows), reasons))
+
+    def fault(self, place: int, reason: str) -> InputError:
+        return InputError(self.side, reason, place + 1, self.index[place])
+
+    def error(self, row: int, reason: str) -> InputError:
+        return self.fault(int(self.rows[row - 1]), reason)
+
+    def needed_decimals(self) -> int:
+        try:
+            return decimals.fewest(self.corners)
+        except decimals.Unwritable as number:
+            raise self.error(number.row + 1, number.reason) from number
+
+    def units(self, scale: Scale) -> Units:
+        try:
+            return decimals.units(self.corners, scale.decimals)
+        except decimals.Unwritable as number:
+            raise self.error(number.row + 1, number.reason) from number
+
+    def text(self, scale: Scale) -> str:
+        """The text of the only geometry."""
+        units = self.units(scale)
+        return sheet.geometry_text(units, sheet.columns_of(units, scale.dots_before))
+
+    def write(self, folder: Path, scale: Scale) -> Path:
+        units = self.units(scale)
+        columns = sheet.columns_of(units, scale.dots_before)
+        size = sheet.size_of(units, columns)
+        if size > sheet.MOST_BYTES:
+            raise InputError(self.side, f"{len(units)} features with coordinates of this length "
+                             f"take {size} bytes, and the program reads {sheet.MOST_BYTES}: take "
+                             "fewer decimals or join the layer in parts")
+        path = folder / f"{self.side}.csv"
+        with open(path, "wb") as file:
+            sheet.write(file, units, columns)
+        return path
+
+    def positions(self, ids: Any) -> Rows:
+        positions: Rows = self.rows[np.asarray(ids, np.int64)]
+        return positions
+
+    def labels(self, ids: Any) -> Any:
+        return self.index.take(self.positions(ids))
+
+
+class TextSource(Source):
+    """Geometries as well-known text, which the program reads itself, with labels."""
+
+    def __init__(self, side: str, values: Objects, index: pandas.Index) -> None:
+        super().__init__(side)
+        self.values = values
+        self.index = index
+        there = np.fromiter(map(isinstance, values, repeat(str)), np.bool_, len(values))
+        if not there.all():
+            raise self.error(int(there.argmin()) + 1, REASONS[Status.MISSING])
+
+    def error(self, row: int, reason: str) -> InputError:
+        return InputError(self.side, reason, row, self.index[row - 1])
+
+    def needed_decimals(self) -> int:
+        return decimals_of_texts(self, self.values.tolist())
+
+    def write(self, folder: Path, scale: Scale) -> Path:
+        path = folder / f"{self.side}.csv"
+        with open(path, "w", newline="", encoding="utf-8") as file:
+            rows = csv.writer(file, lineterminator="\n")
+            rows.writerow(("id", "wkt"))
+            rows.writerows(enumerate(self.values))
+        return path
+
+    def text(self, scale: Scale) -> str:
+        """The text of the only geometry."""
+        return str(self.values[0])
+
+    def positions(self, ids: Any) -> Rows:
+        positions: Rows = np.asarray(ids, np.int64)
+        return positions
+
+    def labels(self, ids: Any) -> Any:
+        return self.index.take(self.positions(ids))
+
+
+def decimals_of_texts(source: Source, values: Sequence[str]) -> int:
+    """The fewest decimals for all numbers of some texts, or the fault of the first row."""
+    needed = decimals.fewest_of_text("\n".join(values))
+    if needed <= decimals.MOST:
+        return needed
+    row = next(row for row, text in enumerate(values, start=1)
+               if decimals.fewest_of_text(text) > decimals.MOST)
+    raise source.error(row, f"a coordinate has more than {decimals.MOST} decimals")
+
+
+class FileSource(Source):
+    """A file of the program's own form, which is read as it stands; the labels are its ids."""
+
+    has_ids = True
+
+    def __init__(self, side: str, place: files.Place) -> None:
+        super().__init__(side)
+        self.place = place
+
+    def needed_decimals(self) -> int:
+        return decimals_of_texts(self, files.texts_of(self.place))
+
+    def write(self, folder: Path, scale: Scale) -> Path:
+        return self.place.path.absolute()
+
+    def positions(self, ids: Any) -> Rows:
+        rows = pandas.Index(files.ids_of(self.place))
+        positions: Rows = rows.get_indexer(ids)
+        return positions
+
+    def labels(self, ids: Any) -> Any:
+        return ids
+
+    def error(self, row: int, reason: str) -> InputError:
+        return InputError(self.side, reason, row, files.id_of(self.place, row))
+
+
+def source_of(layer: Any, side: str, rules: Rules) -> Source:
+    """The input for a frame, a series, a sequence or a path."""
+    if isinstance(layer, (str, os.PathLike)):
+        return file_source(layer, side, rules)
+    if isinstance(layer, pandas.DataFrame):
+        if not hasattr(layer, "geometry"):
+            raise ArgumentError(f"{side} is a frame without geometries: give a GeoDataFrame, or "
+                                "the column of geometries or well-known text")
+        layer = layer.geometry
+    if isinstance(layer, pandas.Series):
+        return values_source(np.asarray(layer, dtype=object), layer.index, side, rules)
+    values = np.fromiter(layer, object)
+    return values_source(values, pandas.RangeIndex(len(values)), side, rules)
+
+
+def file_source(path: "str | os.PathLike[str]", side: str, rules: Rules) -> Source:
+    place = files.place_of(path)
+    plain = place.layer is None and files.is_plain(place)
+    if plain and rules == Rules():
+        return FileSource(side, place)
+    frame = files.read(path, side)
+    return source_of(frame.set_index("id") if plain else frame, side, rules)
+
+
+def single_source(geometry: Any, side: str) -> "GeometrySource | TextSource":
+    """The input for one geometry, by Shapely or as a text."""
+    return values_source(np.fromiter([geometry], object), pandas.RangeIndex(1), side, Rules())
+
+
+def values_source(values: Objects, index: pandas.Index, side: str,
+                  rules: Rules) -> "GeometrySource | TextSource":
+    """The input for geometries or texts, which the first value that is there tells."""
+    there = ~pandas.isna(values)
+    first = values[int(there.argmax())] if there.any() else None
+    if isinstance(first, str):
+        if rules == Rules():
+            return TextSource(side, values, index)
+        values = texts.geometries_of(values, index, side)
+    elif first is not None and not hasattr(first, "geom_type"):
+        raise ArgumentError(f"{side} has no geometries but values of type {type(first).__name__}")
+    return GeometrySource(side, values, index, rules)
