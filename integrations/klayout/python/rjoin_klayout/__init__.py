@@ -1,0 +1,1 @@
+"""Joins two layers of a layout by the program rjoin, into a report database of KLayout."""

@@ -1,0 +1,72 @@
+"""The dialog of the macro, and what it does with the open layout."""
+from __future__ import annotations
+
+from typing import Sequence
+
+import pya
+
+from .join import ENVELOPE, ERROR, RELATIONS, SKIP, JoinError, Request, join_layers, layer_names
+from .program import ProgramError
+
+TITLE = "Join layers by relation"
+CHOICES = {
+    "Stop with an error": ERROR,
+    "Take their bounding boxes": ENVELOPE,
+    "Leave them out and list them": SKIP,
+}
+
+
+class JoinDialog(pya.QDialog):
+    """Asks for two layers, a relation, and what to do with other shapes."""
+
+    def __init__(self, parent: pya.QWidget, layers: Sequence[str]) -> None:
+        super().__init__(parent)
+        self.windowTitle = TITLE
+        self.form = pya.QFormLayout(self)
+        self.left = self._choice("Left layer", layers)
+        self.right = self._choice("Right layer", layers)
+        self.right.currentIndex = min(1, len(layers) - 1)
+        self.relation = self._choice("Relation, or a mask of nine letters", RELATIONS)
+        self.relation.editable = True
+        self.others = self._choice("Shapes that aren't boxes", list(CHOICES))
+        self.buttons = pya.QDialogButtonBox(
+            pya.QDialogButtonBox.Ok | pya.QDialogButtonBox.Cancel, pya.Qt.Horizontal, self)
+        self.buttons.accepted(self.accept)
+        self.buttons.rejected(self.reject)
+        self.form.addRow(self.buttons)
+
+    def request(self) -> Request:
+        """What the user has chosen."""
+        return Request(self.left.currentText, self.right.currentText, self.relation.currentText,
+                       CHOICES[self.others.currentText])
+
+    def _choice(self, label: str, texts: Sequence[str]) -> pya.QComboBox:
+        box = pya.QComboBox(self)
+        for text in texts:
+            box.addItem(text)
+        self.form.addRow(label, box)
+        return box
+
+
+def run() -> None:
+    """Asks, joins the layers of the current cell, and opens the marker browser."""
+    view = pya.LayoutView.current()
+    if view is None or not view.active_cellview().is_valid():
+        pya.MessageBox.warning(TITLE, "Open a layout first", pya.MessageBox.Ok)
+        return
+    dialog = JoinDialog(pya.MainWindow.instance(), layer_names(view.active_cellview().layout()))
+    if dialog.exec_() == 0:
+        return
+    try:
+        show(view, dialog.request())
+    except (JoinError, ProgramError) as fault:
+        pya.MessageBox.critical(TITLE, str(fault), pya.MessageBox.Ok)
+
+
+def show(view: pya.LayoutView, request: Request) -> int:
+    """Joins, puts the pairs into the view and opens the marker browser; answers their number."""
+    cellview = view.active_cellview()
+    database = join_layers(cellview.layout(), cellview.cell, request)
+    index = view.add_rdb(database)
+    view.show_rdb(index, view.active_cellview_index)
+    return int(database.num_items())

@@ -1,0 +1,224 @@
+"""Joins two layers below a cell and puts the pairs into a report database."""
+from __future__ import annotations
+
+import csv
+import tempfile
+from dataclasses import dataclass, field
+from pathlib import Path
+from typing import Dict, Iterator, List, NamedTuple
+
+import pya
+
+from . import program
+from .boxes import NotABox, box_of, envelope_of
+
+RELATIONS = ("intersects", "touches", "crosses", "within", "contains", "overlaps", "equals")
+ERROR, ENVELOPE, SKIP = OTHERS = ("error", "envelope", "skip")
+
+
+class JoinError(Exception):
+    """The join can't be done as it was asked for."""
+
+
+class Request(NamedTuple):
+    """What is to be joined.
+
+    A layer is named as KLayout names it: `1/0`, `METAL`, `METAL (1/0)`. The relation is a name
+    or a mask of nine letters. `others` says what to do with shapes that aren't boxes.
+    """
+
+    left: str
+    right: str
+    relation: str
+    others: str = ERROR
+
+
+class Placed(NamedTuple):
+    """A shape as it lies in the top cell, and where it comes from."""
+
+    box: pya.Box
+    cell: str
+    trans: pya.ICplxTrans
+
+    def origin(self) -> str:
+        """The cell that the shape is drawn in, and how that lies in the top cell."""
+        return f"{self.cell} {self.trans}"
+
+
+class LeftOut(NamedTuple):
+    """A shape that doesn't take part."""
+
+    placed: Placed
+    reason: str
+
+
+class Pair(NamedTuple):
+    """Two shapes, by their numbers, with the letters of their DE-9IM matrix."""
+
+    left: int
+    right: int
+    matrix: str
+
+
+@dataclass
+class BoxLayer:
+    """The flattened shapes of a layer; the number of one is its place in `shapes`."""
+
+    name: str
+    shapes: List[Placed] = field(default_factory=list)
+    left_out: List[LeftOut] = field(default_factory=list)
+    envelopes: int = 0
+
+
+def join_layers(layout: pya.Layout, cell: pya.Cell, request: Request) -> pya.ReportDatabase:
+    """A report database of the pairs, and of the shapes that were left out.
+
+    Raises JoinError or ProgramError before a database is made.
+    """
+    if request.others not in OTHERS:
+        raise JoinError(f"others must be one of {', '.join(OTHERS)}")
+    program.check_relation(request.relation)
+    left = read_layer(layout, cell, request.left, request.others)
+    right = read_layer(layout, cell, request.right, request.others)
+    with tempfile.TemporaryDirectory(prefix="rjoin-") as name:
+        folder = Path(name)
+        paths = folder / "left.csv", folder / "right.csv"
+        for path, layer in zip(paths, (left, right)):
+            write_layer(path, layer)
+        report = folder / "report.csv"
+        program.run(["join", *map(str, paths), "--relation", request.relation], report)
+        return _Report(layout, cell, request, left, right).of(_pairs(report))
+
+
+def read_layer(layout: pya.Layout, cell: pya.Cell, name: str, others: str) -> BoxLayer:
+    """The shapes of a layer below a cell, through all instances and arrays of them."""
+    layer = BoxLayer(name)
+    iterator = cell.begin_shapes_rec(layer_index(layout, name))
+    while not iterator.at_end():
+        _add(layer, iterator.shape(), iterator.cell().name, iterator.trans(), others)
+        iterator.next()
+    return layer
+
+
+def _add(layer: BoxLayer, shape: pya.Shape, cell: str, trans: pya.ICplxTrans, others: str) -> None:
+    try:
+        layer.shapes.append(Placed(box_of(shape, trans), cell, trans))
+    except NotABox as reason:
+        placed = Placed(envelope_of(shape, trans), cell, trans)
+        if others == ERROR:
+            raise JoinError(f"layer {layer.name}, cell {cell}: not a box, edge or point, but "
+                            f"{reason}: {shape}. Choose to take bounding boxes, or to leave such "
+                            "shapes out.") from reason
+        if others == ENVELOPE and not placed.box.empty():
+            layer.envelopes += 1
+            layer.shapes.append(placed)
+        else:
+            layer.left_out.append(LeftOut(placed, str(reason)))
+
+
+def layer_index(layout: pya.Layout, name: str) -> int:
+    """The index of a named layer of the layout."""
+    wanted = pya.LayerInfo.from_string(name)
+    for index in layout.layer_indexes():
+        if layout.get_info(index).is_equivalent(wanted):
+            return int(index)
+    raise JoinError(f"the layout has no layer {name}")
+
+
+def layer_names(layout: pya.Layout) -> List[str]:
+    """The layers of a layout, by number."""
+    infos = [layout.get_info(index) for index in layout.layer_indexes()]
+    return [str(info) for info in sorted(infos, key=lambda i: (i.layer, i.datatype, i.name))]
+
+
+def write_layer(path: Path, layer: BoxLayer) -> None:
+    """Writes the boxes in database units, with their numbers as ids."""
+    with open(path, "w", encoding="ascii", newline="\n") as file:
+        file.write("id,wkt\n")
+        for number, placed in enumerate(layer.shapes):
+            file.write(f'{number},"{wkt(placed.box)}"\n')
+
+
+def wkt(box: pya.Box) -> str:
+    """The well-known text of a box."""
+    x1, y1, x2, y2 = box.left, box.bottom, box.right, box.top
+    if x1 != x2 and y1 != y2:
+        return f"POLYGON(({x1} {y1},{x2} {y1},{x2} {y2},{x1} {y2},{x1} {y1}))"
+    if x1 != x2 or y1 != y2:
+        return f"LINESTRING({x1} {y1},{x2} {y2})"
+    return f"POINT({x1} {y1})"
+
+
+def _pairs(report: Path) -> Iterator[Pair]:
+    with open(report, encoding="ascii", newline="") as file:
+        rows = csv.reader(file)
+        next(rows)
+        for left, right, matrix in rows:
+            yield Pair(int(left), int(right), matrix)
+
+
+class _Report:
+    """Makes the report database of a join."""
+
+    def __init__(self, layout: pya.Layout, cell: pya.Cell, request: Request, left: BoxLayer,
+                 right: BoxLayer) -> None:
+        self.dbu = layout.dbu
+        self.left = left
+        self.right = right
+        title = f"{left.name} {request.relation} {right.name}"
+        self.database = pya.ReportDatabase(title)
+        self.database.description = self._description(request)
+        self.database.generator = "rjoin"
+        self.database.top_cell_name = cell.name
+        self.cell_id = self.database.create_cell(cell.name).rdb_id()
+        self.pairs = self.database.create_category(title)
+        self.letters: Dict[str, int] = {}
+
+    def of(self, pairs: Iterator[Pair]) -> pya.ReportDatabase:
+        """The database with all pairs, and what was left out."""
+        for pair in pairs:
+            self._add_pair(pair)
+        for layer in (self.left, self.right):
+            self._add_left_out(layer)
+        return self.database
+
+    def _description(self, request: Request) -> str:
+        text = f"Pairs of shapes, layer {request.left} {request.relation} layer {request.right}"
+        for layer in (self.left, self.right):
+            if layer.envelopes:
+                text += f"; layer {layer.name}: {layer.envelopes} shapes by their bounding boxes"
+            if layer.left_out:
+                text += f"; layer {layer.name}: {len(layer.left_out)} shapes left out"
+        return text
+
+    def _add_pair(self, pair: Pair) -> None:
+        category = self.letters.get(pair.matrix)
+        if category is None:
+            category = self.database.create_category(self.pairs, pair.matrix).rdb_id()
+            self.letters[pair.matrix] = category
+        item = self.database.create_item(self.cell_id, category)
+        left, right = self.left.shapes[pair.left], self.right.shapes[pair.right]
+        item.add_value(self._marker(left.box))
+        item.add_value(self._marker(right.box))
+        item.add_value(f"left: {left.origin()}")
+        item.add_value(f"right: {right.origin()}")
+
+    def _add_left_out(self, layer: BoxLayer) -> None:
+        if not layer.left_out:
+            return
+        parent = self.database.create_category(f"left out of layer {layer.name}")
+        reasons: Dict[str, int] = {}
+        for gone in layer.left_out:
+            if gone.reason not in reasons:
+                category = self.database.create_category(parent, gone.reason)
+                reasons[gone.reason] = category.rdb_id()
+            item = self.database.create_item(self.cell_id, reasons[gone.reason])
+            item.add_value(self._marker(gone.placed.box))
+            item.add_value(gone.placed.origin())
+
+    def _marker(self, box: pya.Box) -> object:
+        """What the marker browser draws: a line for a segment, in micrometres."""
+        scaled = box.to_dtype(self.dbu)
+        if (box.width() == 0) != (box.height() == 0):
+            return pya.DEdge(scaled.p1, scaled.p2)
+        return scaled

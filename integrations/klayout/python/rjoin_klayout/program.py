@@ -1,0 +1,48 @@
+"""Runs the program rjoin: that of the variable RJOIN, else the one on the PATH."""
+from __future__ import annotations
+
+import os
+import shutil
+import subprocess
+from pathlib import Path
+from typing import Sequence
+
+WRONG_WORDS = 2
+
+
+class ProgramError(Exception):
+    """The program isn't there or ended with a fault; the text is the line to show."""
+
+
+def find_program() -> str:
+    """The path of the program."""
+    named = os.environ.get("RJOIN")
+    found = shutil.which(named or "rjoin")
+    if found:
+        return found
+    if named:
+        raise ProgramError(f"RJOIN is set to {named}, which isn't a program")
+    raise ProgramError("the program rjoin isn't on the PATH; install it, or set the environment "
+                       "variable RJOIN to its path")
+
+
+def check_relation(relation: str) -> None:
+    """Raises ProgramError where the program refuses the relation.
+
+    Wrong words end with a status of their own before a file is opened, so empty files do for it.
+    """
+    words = [find_program(), "join", os.devnull, os.devnull, "--relation", relation]
+    ended = subprocess.run(words, stdin=subprocess.DEVNULL, capture_output=True, text=True,
+                           check=False)
+    if ended.returncode == WRONG_WORDS:
+        raise ProgramError(ended.stderr.strip())
+
+
+def run(words: Sequence[str], output: Path) -> None:
+    """Runs the program with its standard output into a file."""
+    with open(output, "wb") as out:
+        ended = subprocess.run([find_program(), *words], stdin=subprocess.DEVNULL, stdout=out,
+                               stderr=subprocess.PIPE, check=False)
+    if ended.returncode != 0:
+        line = ended.stderr.decode("utf-8", "replace").strip()
+        raise ProgramError(line or f"rjoin ended with status {ended.returncode}")

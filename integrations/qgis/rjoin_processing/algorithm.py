@@ -1,0 +1,193 @@
+"""What the three algorithms share: common parameters, the output of features left out, a run."""
+from __future__ import annotations
+
+import tempfile
+from contextlib import contextmanager
+from pathlib import Path
+from typing import Any, Dict, Iterator, List
+
+from qgis.core import (
+    QgsFeature,
+    QgsFeatureSink,
+    QgsField,
+    QgsFields,
+    QgsProcessingAlgorithm,
+    QgsProcessingContext,
+    QgsProcessingException,
+    QgsProcessingFeatureSource,
+    QgsProcessingFeedback,
+    QgsProcessingMultiStepFeedback,
+    QgsProcessingParameterDefinition,
+    QgsProcessingParameterEnum,
+    QgsProcessingParameterFeatureSink,
+    QgsProcessingParameterNumber,
+    QgsProcessingUtils,
+)
+from qgis.PyQt.QtCore import QVariant
+
+from . import decimals as units
+from . import program
+from .layers import BoxLayer, LeftOut
+
+OTHERS = "OTHERS"
+DECIMALS = "DECIMALS"
+WORKERS = "WORKERS"
+MOST_WORKERS = 16
+
+COMMON_HELP = """
+<p>rjoin reads points, segments parallel to an axis, and rectangles with sides parallel to the \
+axes. Points may stand along a side; a geometry of several parts counts where it has one part; \
+heights and measures are ignored.</p>
+<h3>Other geometries</h3>
+<p>Stop with an error that names the feature; or take their envelopes (bounding boxes); or leave \
+them out. What is left out goes to an output of its own with the reason; so do features without a \
+geometry, unless they stop the run.</p>
+<h3>Decimals</h3>
+<p>rjoin computes with decimal numbers. Unless the number of decimals is given, it is the \
+fewest, 0 to 6, that write every coordinate exactly; where 6 don't, the run stops at that feature. \
+If it is given, coordinates are rounded to it, and the log says how many features changed.</p>
+"""
+
+
+class RjoinAlgorithm(QgsProcessingAlgorithm):
+    """An algorithm that runs rjoin on vector layers."""
+
+    def createInstance(self) -> "RjoinAlgorithm":  # noqa: N802 - the name is QGIS's
+        return type(self)()
+
+    def group(self) -> str:
+        return ""
+
+    def groupId(self) -> str:  # noqa: N802 - the name is QGIS's
+        return ""
+
+    def add_common_parameters(self) -> None:
+        """Adds what to do with other geometries, and the number of decimals."""
+        self.addParameter(QgsProcessingParameterEnum(
+            OTHERS, "Geometries that aren't points, axis-parallel segments or rectangles",
+            ["Stop with an error", "Take their envelopes", "Leave them out and list them"],
+            defaultValue=0))
+        self.addParameter(QgsProcessingParameterNumber(
+            DECIMALS, "Decimals of the coordinates (found from the data unless given)",
+            QgsProcessingParameterNumber.Integer, None, True, 0, units.MOST_DECIMALS))
+
+    def add_workers(self) -> None:
+        """Adds the number of threads that join."""
+        workers = QgsProcessingParameterNumber(
+            WORKERS, "Threads", QgsProcessingParameterNumber.Integer, 4, False, 1, MOST_WORKERS)
+        workers.setFlags(workers.flags() | QgsProcessingParameterDefinition.FlagAdvanced)
+        self.addParameter(workers)
+
+    def add_left_out(self, name: str, title: str) -> None:
+        """Adds an output of features left out."""
+        self.addParameter(QgsProcessingParameterFeatureSink(name, title, optional=True,
+                                                            createByDefault=True))
+
+    def source_of(self, parameters: Dict[str, Any], name: str, context: QgsProcessingContext
+                  ) -> QgsProcessingFeatureSource:
+        """An input layer."""
+        source = self.parameterAsSource(parameters, name, context)
+        if source is None:
+            raise QgsProcessingException(self.invalidSourceError(parameters, name))
+        return source
+
+    def given_decimals(self, parameters: Dict[str, Any], context: QgsProcessingContext
+                       ) -> int | None:
+        """The number of decimals, or None where it is to be found."""
+        if parameters.get(DECIMALS) is None:
+            return None
+        return int(self.parameterAsInt(parameters, DECIMALS, context))
+
+    def sink_of(self, parameters: Dict[str, Any], name: str, context: QgsProcessingContext,
+                fields: QgsFields, like: QgsProcessingFeatureSource, kind: int | None = None
+                ) -> "Output":
+        """A sink with the reference system of a layer and, unless a type is given, its type."""
+        wanted = like.wkbType() if kind is None else kind
+        sink, identifier = self.parameterAsSink(parameters, name, context, fields, wanted,
+                                                like.sourceCrs())
+        if sink is None and parameters.get(name):
+            raise QgsProcessingException(self.invalidSinkError(parameters, name))
+        return Output(name, sink, identifier)
+
+    def write_left_out(self, parameters: Dict[str, Any], name: str, context: QgsProcessingContext,
+                       source: QgsProcessingFeatureSource, layer: BoxLayer) -> Dict[str, Any]:
+        """Writes the features that were left out, with their fields and the reason."""
+        fields = with_fields(source.fields(), [QgsField("reason", QVariant.String)])
+        output = self.sink_of(parameters, name, context, fields, source)
+        output.add(map(_with_reason, layer.left_out))
+        return output.result()
+
+
+def _with_reason(gone: LeftOut) -> QgsFeature:
+    feature = QgsFeature(gone.feature)
+    feature.setAttributes(gone.feature.attributes() + [gone.reason])
+    return feature
+
+
+def with_fields(fields: QgsFields, more: List[QgsField]) -> QgsFields:
+    """Fields with more behind them; a name that is taken gets a number, as elsewhere in QGIS."""
+    added = QgsFields()
+    for definition in more:
+        added.append(definition)
+    return QgsProcessingUtils.combineFields(fields, added)
+
+
+class Output:
+    """A sink of an algorithm, which may be absent."""
+
+    def __init__(self, name: str, sink: QgsFeatureSink | None, identifier: str) -> None:
+        self.name = name
+        self.sink = sink
+        self.identifier = identifier
+
+    def add(self, features: Iterator[QgsFeature]) -> None:
+        """Writes features; a refused one is an error."""
+        if self.sink is None:
+            return
+        for feature in features:
+            if not self.sink.addFeature(feature, QgsFeatureSink.FastInsert):
+                raise QgsProcessingException(
+                    f"the output {self.name} could not be written: {self.sink.lastError()}")
+
+    def result(self) -> Dict[str, Any]:
+        """What the algorithm answers for this output; it closes the sink."""
+        if self.sink is None:
+            return {}
+        self.sink.flushBuffer()
+        self.sink = None
+        return {self.name: self.identifier}
+
+
+@contextmanager
+def faults_shown() -> Iterator[Path]:
+    """A folder for the files of a run; faults of the program become those of Processing."""
+    with tempfile.TemporaryDirectory(prefix="rjoin-") as folder:
+        try:
+            yield Path(folder)
+        except program.ProgramError as fault:
+            raise QgsProcessingException(str(fault)) from fault
+        except program.Cancelled as fault:
+            raise QgsProcessingException("cancelled") from fault
+        except OSError as fault:
+            raise QgsProcessingException(f"rjoin could not be run: {fault}") from fault
+
+
+class Steps:
+    """The steps of a run, each with its share of the progress."""
+
+    def __init__(self, count: int, feedback: QgsProcessingFeedback) -> None:
+        self.feedback = QgsProcessingMultiStepFeedback(count, feedback)
+        self.done = 0
+
+    def begin(self, text: str) -> QgsProcessingMultiStepFeedback:
+        """Begins the next step, unless the user has cancelled."""
+        self.check_cancelled()
+        self.feedback.setCurrentStep(self.done)
+        self.feedback.setProgressText(text)
+        self.done += 1
+        return self.feedback
+
+    def check_cancelled(self) -> None:
+        """Ends the run where the user has cancelled."""
+        if self.feedback.isCanceled():
+            raise program.Cancelled

@@ -1,0 +1,70 @@
+"""Runs the program rjoin, which can be cancelled."""
+from __future__ import annotations
+
+import os
+import shutil
+import subprocess
+import tempfile
+from pathlib import Path
+from typing import Callable, Sequence
+
+POLL_SECONDS = 0.05
+WRONG_WORDS = 2
+
+
+class ProgramError(Exception):
+    """The program isn't there or ended with a fault; the text is the line to show."""
+
+
+class Cancelled(Exception):
+    """The user has cancelled while the program ran."""
+
+
+def find_program() -> str:
+    """The path of the program: that of the variable RJOIN, else the one on the PATH."""
+    named = os.environ.get("RJOIN")
+    found = shutil.which(named or "rjoin")
+    if found:
+        return found
+    if named:
+        raise ProgramError(f"RJOIN is set to {named}, which isn't a program")
+    raise ProgramError("the program rjoin isn't on the PATH; install it, or set the environment "
+                       "variable RJOIN to its path before QGIS starts")
+
+
+def check_relation(relation: str) -> None:
+    """Raises ProgramError where the program refuses the relation.
+
+    Wrong words end with a status of their own before a file is opened, so empty files do for it.
+    """
+    words = [find_program(), "join", os.devnull, os.devnull, "--relation", relation]
+    ended = subprocess.run(words, stdin=subprocess.DEVNULL, capture_output=True, text=True,
+                           check=False)
+    if ended.returncode == WRONG_WORDS:
+        raise ProgramError(ended.stderr.strip())
+
+
+def run(words: Sequence[str], output: Path, is_cancelled: Callable[[], bool]) -> None:
+    """Runs the program with its standard output into a file."""
+    with open(output, "wb") as out, tempfile.TemporaryFile() as errors:
+        process = subprocess.Popen([find_program(), *words], stdin=subprocess.DEVNULL, stdout=out,
+                                   stderr=errors)
+        try:
+            status = _wait(process, is_cancelled)
+        finally:
+            if process.poll() is None:
+                process.kill()
+                process.wait()
+        if status != 0:
+            errors.seek(0)
+            line = errors.read().decode("utf-8", "replace").strip()
+            raise ProgramError(line or f"rjoin ended with status {status}")
+
+
+def _wait(process: subprocess.Popen[bytes], is_cancelled: Callable[[], bool]) -> int:
+    while not is_cancelled():
+        try:
+            return process.wait(POLL_SECONDS)
+        except subprocess.TimeoutExpired:
+            continue
+    raise Cancelled

@@ -1,0 +1,25 @@
+"""The Processing provider with its three algorithms."""
+from __future__ import annotations
+
+from qgis.core import QgsProcessingProvider
+
+from .join_algorithm import JoinByRelation
+from .statistics_algorithm import LayerStatistics
+from .window_algorithm import FeaturesInWindow
+
+
+class RjoinProvider(QgsProcessingProvider):
+    """What the toolbox shows under the name rjoin."""
+
+    def id(self) -> str:
+        return "rjoin"
+
+    def name(self) -> str:
+        return "rjoin"
+
+    def longName(self) -> str:  # noqa: N802 - the name is QGIS's
+        return "rjoin: exact spatial joins"
+
+    def loadAlgorithms(self) -> None:  # noqa: N802 - the name is QGIS's
+        for algorithm in (JoinByRelation, FeaturesInWindow, LayerStatistics):
+            self.addAlgorithm(algorithm())

@@ -1,0 +1,148 @@
+"""The algorithm Features in window."""
+from __future__ import annotations
+
+from pathlib import Path
+from typing import Any, Dict, Iterator, List, NamedTuple, Set
+
+from qgis.core import (
+    QgsFeature,
+    QgsProcessing,
+    QgsProcessingContext,
+    QgsProcessingException,
+    QgsProcessingFeatureSource,
+    QgsProcessingFeedback,
+    QgsProcessingOutputNumber,
+    QgsProcessingParameterExtent,
+    QgsProcessingParameterFeatureSink,
+    QgsProcessingParameterFeatureSource,
+    QgsRectangle,
+)
+
+from . import decimals as units
+from . import program
+from .algorithm import COMMON_HELP, OTHERS, RjoinAlgorithm, Steps, faults_shown
+from .layers import BoxLayer, Others, common_decimals, read_layer, tell, write_layer, wkt
+
+
+class Window(NamedTuple):
+    """A closed rectangle in units of the last decimal."""
+
+    west: int
+    south: int
+    east: int
+    north: int
+
+
+class FeaturesInWindow(RjoinAlgorithm):
+    """Extracts the features that meet a rectangle."""
+
+    def name(self) -> str:
+        return "featuresinwindow"
+
+    def displayName(self) -> str:  # noqa: N802 - the name is QGIS's
+        return "Features in window"
+
+    def tags(self) -> List[str]:
+        return ["extract", "extent", "window", "filter", "intersects"]
+
+    def shortHelpString(self) -> str:  # noqa: N802 - the name is QGIS's
+        return """<p>Extracts the features that share a point with a rectangle, its sides \
+included, as rjoin does, whose answer is proved.</p>
+<p>The window is in the reference system of the layer. A window that was drawn on the map has \
+more decimals than the layer has: it is then narrowed to the layer's decimals, which leaves the \
+same features in it.</p>""" + COMMON_HELP
+
+    def initAlgorithm(self, _configuration: Any = None) -> None:  # noqa: N802
+        self.addParameter(QgsProcessingParameterFeatureSource(
+            "INPUT", "Layer", [QgsProcessing.TypeVectorAnyGeometry]))
+        self.addParameter(QgsProcessingParameterExtent("WINDOW", "Window"))
+        self.add_common_parameters()
+        self.addParameter(QgsProcessingParameterFeatureSink("OUTPUT", "Features in the window"))
+        self.add_left_out("LEFT_OUT", "Features left out, with the reason")
+        self.addOutput(QgsProcessingOutputNumber("COUNT", "Number of features in the window"))
+
+    def processAlgorithm(self, parameters: Dict[str, Any],  # noqa: N802 - the name is QGIS's
+                         context: QgsProcessingContext, feedback: QgsProcessingFeedback
+                         ) -> Dict[str, Any]:
+        with faults_shown() as folder:
+            return self._run(parameters, context, Steps(3, feedback), folder)
+
+    def _run(self, parameters: Dict[str, Any], context: QgsProcessingContext, steps: Steps,
+             folder: Path) -> Dict[str, Any]:
+        program.find_program()
+        source = self.source_of(parameters, "INPUT", context)
+        extent = self._extent(parameters, context, source)
+        feedback = steps.begin(f"Reading {source.sourceName()}")
+        layer = read_layer(source, Others(self.parameterAsEnum(parameters, OTHERS, context)),
+                           feedback)
+        steps.check_cancelled()
+        tell(layer, bool(parameters.get("LEFT_OUT")), feedback)
+        feedback = steps.begin("Searching the window")
+        decimals = common_decimals([layer], self.given_decimals(parameters, context), feedback)
+        found = _search(folder, layer, extent, decimals, feedback)
+        steps.begin("Writing the output")
+        output = self.sink_of(parameters, "OUTPUT", context, source.fields(), source)
+        output.add(_chosen(layer.features, found))
+        steps.check_cancelled()
+        return {**output.result(), "COUNT": len(found),
+                **self.write_left_out(parameters, "LEFT_OUT", context, source, layer)}
+
+    def _extent(self, parameters: Dict[str, Any], context: QgsProcessingContext,
+                source: QgsProcessingFeatureSource) -> QgsRectangle:
+        system = self.parameterAsExtentCrs(parameters, "WINDOW", context)
+        if system.isValid() and source.sourceCrs().isValid() and system != source.sourceCrs():
+            raise QgsProcessingException(
+                f"The window has the reference system {system.authid()} and the layer "
+                f"{source.sourceCrs().authid()}. Give the window in that of the layer.")
+        extent = self.parameterAsExtent(parameters, "WINDOW", context)
+        if extent.isNull():
+            raise QgsProcessingException("The window has no extent")
+        return extent
+
+
+def _search(folder: Path, layer: BoxLayer, extent: QgsRectangle, decimals: int,
+            feedback: QgsProcessingFeedback) -> Set[int]:
+    """The numbers of the features that meet the window."""
+    window = _narrowed(extent, decimals)
+    path, answer = folder / "layer.csv", folder / "window.csv"
+    write_layer(path, layer, decimals)
+    feedback.setProgress(50)
+    program.run(["window", str(path), wkt(*window)], answer, feedback.isCanceled)
+    with open(answer, encoding="ascii") as file:
+        next(file)
+        return set(map(int, file))
+
+
+def _narrowed(extent: QgsRectangle, decimals: int) -> Window:
+    """The largest window of whole units within the extent.
+
+    A box of whole units meets the extent exactly where it meets this window, unless no whole unit
+    lies within.
+    """
+    bounds = extent.xMinimum(), extent.yMinimum(), extent.xMaximum(), extent.yMaximum()
+    try:
+        units.check_limit(bounds, decimals)
+    except units.CoordinateError as fault:
+        raise QgsProcessingException(f"Window: coordinate {fault}") from fault
+    west, south, east, north = bounds
+    window = Window(_up(west, decimals), _up(south, decimals),
+                    _down(east, decimals), _down(north, decimals))
+    if window.west > window.east or window.south > window.north:
+        raise QgsProcessingException(f"The window is too narrow for {decimals} decimals; give "
+                                     "more decimals")
+    return window
+
+
+def _up(value: float, decimals: int) -> int:
+    """The least whole number of units that isn't below the value."""
+    nearest = round(value * 10**decimals)
+    return nearest if nearest / 10**decimals >= value else nearest + 1
+
+
+def _down(value: float, decimals: int) -> int:
+    """The greatest whole number of units that isn't above the value."""
+    return -_up(-value, decimals)
+
+
+def _chosen(features: List[QgsFeature], numbers: Set[int]) -> Iterator[QgsFeature]:
+    return (feature for number, feature in enumerate(features) if number in numbers)
