@@ -1,0 +1,1 @@
+"""Joins of layers that are larger than one run of rjoin takes, by tiles on a dask cluster."""

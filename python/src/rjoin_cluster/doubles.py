@@ -1,0 +1,71 @@
+"""Ids that stand twice in a layer, in whichever blocks their rows lie.
+
+Ids are dealt by the range that their hash lies in. Equal ids have equal hashes; where hashes are
+equal, the ids themselves are compared.
+"""
+from __future__ import annotations
+
+from dataclasses import dataclass
+from typing import Optional
+
+import numpy as np
+
+from rjoin_cluster.ids import Hashes
+from rjoin_cluster.layout import Layout, mapped
+from rjoin_cluster.records import Places
+from rjoin_cluster.sides import Side
+
+HASHES = 2**64
+
+
+@dataclass(frozen=True)
+class DoublesJob:
+    """A range of hashes of the ids of a layer's first blocks."""
+
+    layout: Layout
+    side: Side
+    firsts: Places  # the number of each block's first feature
+    part: int
+    parts: int
+
+    def __str__(self) -> str:
+        return f"{self.side.value} ids, part {self.part} of {self.parts}"
+
+    @property
+    def range(self) -> tuple[int, int]:
+        """The first hash of the range and the last one."""
+        return HASHES * self.part // self.parts, HASHES * (self.part + 1) // self.parts - 1
+
+
+def first_double(job: DoublesJob) -> Optional[int]:
+    """The number of the first feature whose id a feature before it has."""
+    hashes, numbers = hashed(job)
+    order = np.lexsort((numbers, hashes))
+    hashes, numbers = hashes[order], numbers[order]
+    again = np.flatnonzero(hashes[1:] == hashes[:-1]) + 1
+    for place in again[np.argsort(numbers[again])].tolist():
+        begin = int(np.searchsorted(hashes, hashes[place]))
+        name = id_of(job, int(numbers[place]))
+        if any(id_of(job, earlier) == name for earlier in numbers[begin:place].tolist()):
+            return int(numbers[place])
+    return None
+
+
+def hashed(job: DoublesJob) -> tuple[Hashes, Places]:
+    """The hashes in the range, with the numbers of their features."""
+    low, high = (np.uint64(end) for end in job.range)
+    hashes = [np.zeros(0, dtype=np.uint64)]
+    numbers = [np.zeros(0, dtype=np.int64)]
+    for block, first in enumerate(job.firsts.tolist()):
+        all_hashes = mapped(job.layout.hashes(job.side, block))
+        begin = int(np.searchsorted(all_hashes, low, side="left"))
+        end = int(np.searchsorted(all_hashes, high, side="right"))
+        hashes.append(np.array(all_hashes[begin:end]))
+        numbers.append(mapped(job.layout.hashed_rows(job.side, block))[begin:end] + np.int64(first))
+    return np.concatenate(hashes), np.concatenate(numbers)
+
+
+def id_of(job: DoublesJob, number: int) -> bytes:
+    block = int(np.searchsorted(job.firsts, number, side="right")) - 1
+    row = mapped(job.layout.ids(job.side, block))[number - job.firsts[block]]
+    return bytes(row[1 : 1 + int(row[0])])

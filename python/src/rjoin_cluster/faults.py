@@ -1,0 +1,28 @@
+"""Why a join ends without a report."""
+from __future__ import annotations
+
+
+class JoinFault(Exception):
+    """Ends a join with one line on standard error."""
+
+    status = 1
+
+    @property
+    def line(self) -> str:
+        return f"rjoin-cluster: {self}"
+
+
+class ProgramFault(JoinFault):
+    """A fault that rjoin itself would tell, in its words and with its status."""
+
+    def __init__(self, text: str, status: int = 1) -> None:
+        super().__init__(text)
+        self.status = status
+
+    @property
+    def line(self) -> str:
+        return str(self)
+
+
+class RunFailed(Exception):
+    """A run of rjoin that ended for a cause that may be gone at another try, as want of memory."""

@@ -1,0 +1,81 @@
+"""What lies in the folder that all workers share, and how it is put there."""
+from __future__ import annotations
+
+import os
+import uuid
+from dataclasses import dataclass
+from pathlib import Path
+from typing import Any
+
+import numpy as np
+from numpy.typing import NDArray
+
+from rjoin_cluster.sides import Side
+
+
+@dataclass(frozen=True)
+class Layout:
+    """The files of one join. Each is written once, as a whole: it gets its name when it is
+    complete.
+
+    A task that runs twice, because its worker was taken for dead, writes the same file twice.
+    """
+
+    folder: str
+
+    def boxes(self, side: Side, block: int) -> Path:
+        return self.file(f"boxes-{side.value}-{block}.npy")
+
+    def ids(self, side: Side, block: int) -> Path:
+        return self.file(f"ids-{side.value}-{block}.npy")
+
+    def hashes(self, side: Side, block: int) -> Path:
+        return self.file(f"hashes-{side.value}-{block}.npy")
+
+    def hashed_rows(self, side: Side, block: int) -> Path:
+        return self.file(f"hashed-rows-{side.value}-{block}.npy")
+
+    def pieces(self, side: Side, block: int) -> Path:
+        return self.file(f"pieces-{side.value}-{block}.npy")
+
+    def piece_ends(self, side: Side) -> Path:
+        return self.file(f"piece-ends-{side.value}.npy")
+
+    def tiles(self) -> Path:
+        return self.file("tiles.npy")
+
+    def pairs(self, run: int) -> Path:
+        return self.file(f"pairs-{run}.npy")
+
+    def report_part(self, part: int) -> Path:
+        return self.file(f"report-{part}.csv")
+
+    def token(self) -> Path:
+        return self.file("token")
+
+    def file(self, name: str) -> Path:
+        return Path(self.folder, name)
+
+
+def save_array(path: Path, array: NDArray[Any]) -> None:
+    part = unfinished(path)
+    with open(part, "wb") as file:
+        np.save(file, array, allow_pickle=False)
+    os.replace(part, path)
+
+
+def save_bytes(path: Path, parts: list[bytes]) -> None:
+    part = unfinished(path)
+    with open(part, "wb") as file:
+        file.writelines(parts)
+    os.replace(part, path)
+
+
+def mapped(path: Path) -> NDArray[Any]:
+    """An array that is read where it is looked at."""
+    array: NDArray[Any] = np.load(path, mmap_mode="r", allow_pickle=False)
+    return array
+
+
+def unfinished(path: Path) -> Path:
+    return path.with_name(f"{path.name}.{uuid.uuid4().hex}.part")

@@ -1,0 +1,148 @@
+"""Runs of the proved program rjoin."""
+from __future__ import annotations
+
+import os
+import re
+import shutil
+import subprocess
+import tempfile
+from dataclasses import dataclass
+from typing import IO, Optional, Sequence, Union
+
+import numpy as np
+
+from rjoin_cluster.faults import JoinFault, ProgramFault, RunFailed
+from rjoin_cluster.records import Bytes
+
+MOST_FEATURES = 1_000_000
+MOST_BYTES = 134_217_728
+HEADER = b"id,wkt\n"
+ROW_FAULT = re.compile(r"rjoin: layer: row (\d+): (.*)\n")
+HEADER_FAULT = "rjoin: layer: wrong header\n"
+
+# What the launcher of rjoin asks of the C library: to take memory in large pieces.
+TUNABLES = ":".join(
+    f"glibc.malloc.{tunable}"
+    for tunable in (
+        "hugetlb=1",
+        "arena_max=2",
+        "top_pad=16777216",
+        "mmap_threshold=8388608",
+        "trim_threshold=4294967296",
+    )
+)
+
+Text = Union[bytes, memoryview]
+
+
+@dataclass(frozen=True)
+class RowFault:
+    """A fault of a layer: its row, from 1, or 0 for the header, what is said of it, and by which
+    program.
+    """
+
+    row: int
+    text: str
+    teller: str = "rjoin"
+
+
+@dataclass(frozen=True)
+class Ended:
+    """How a run ended, and what it wrote."""
+
+    status: int
+    output: Bytes
+    errors: str
+
+
+def find_program(path: Optional[str]) -> str:
+    """The program at this path, else that of the environment's RJOIN, else that on the PATH."""
+    wanted = path or os.environ.get("RJOIN") or "rjoin"
+    found = shutil.which(wanted)
+    if found is None:
+        raise JoinFault(
+            f"{wanted}: no such program; name one by --program or RJOIN, or put rjoin on the PATH"
+        )
+    return os.path.abspath(found)
+
+
+@dataclass(frozen=True)
+class Program:
+    """The program rjoin at a path, with the decimals of all coordinates that it is to read."""
+
+    path: str
+    scale: str
+
+    def version(self) -> str:
+        return bytes(self.run(["--version"], []).output).decode().strip()
+
+    def check_words(self, relation: str) -> None:
+        """Joins two empty layers, so that rjoin itself judges relation and scale."""
+        words = ["--relation", relation, "--scale", self.scale]
+        ended = self.run(["join", *words], [[HEADER], [HEADER]])
+        if ended.status != 0:
+            raise ProgramFault(ended.errors.rstrip("\n"), ended.status)
+
+    def bounds(self, layer: Sequence[Text]) -> Union[Bytes, RowFault]:
+        """The CSV text of the ids and corners of a layer, in units, or its first fault."""
+        ended = self.run(["bounds", "--scale", self.scale], [layer])
+        if ended.status == 0:
+            return ended.output
+        if ended.errors == HEADER_FAULT:
+            return RowFault(0, "wrong header")
+        told = ROW_FAULT.fullmatch(ended.errors)
+        if told is None:
+            raise RunFailed(f"rjoin bounds: status {ended.status}: {ended.errors.strip()}")
+        return RowFault(int(told.group(1)), told.group(2))
+
+    def join(self, left: Sequence[Text], right: Sequence[Text], relation: str) -> Bytes:
+        """The report of two layers in whole units."""
+        ended = self.run(["join", "--relation", relation, "--workers", "1"], [left, right])
+        if ended.status != 0:
+            raise RunFailed(f"rjoin join: status {ended.status}: {ended.errors.strip()}")
+        return ended.output
+
+    def run(self, words: Sequence[str], layers: Sequence[Sequence[Text]]) -> Ended:
+        """Runs a command with layers as its first arguments; each lies in a file without a name."""
+        files = [nameless_file(layer) for layer in layers]
+        try:
+            return self.run_on(words, files)
+        finally:
+            for file in files:
+                file.close()
+
+    def run_on(self, words: Sequence[str], files: Sequence[IO[bytes]]) -> Ended:
+        numbers = [file.fileno() for file in files]
+        command = [self.path, words[0], *(f"/dev/fd/{number}" for number in numbers), *words[1:]]
+        with tempfile.TemporaryFile() as output, tempfile.TemporaryFile() as errors:
+            status = subprocess.run(
+                command,
+                stdin=subprocess.DEVNULL,
+                stdout=output,
+                stderr=errors,
+                check=False,
+                pass_fds=numbers,
+                env=environment(),
+            ).returncode
+            output.seek(0)
+            errors.seek(0)
+            return Ended(
+                status, np.fromfile(output, dtype=np.uint8), errors.read().decode(errors="replace")
+            )
+
+
+def nameless_file(parts: Sequence[Text]) -> IO[bytes]:
+    """A file that vanishes with the process, so that one which is killed leaves nothing."""
+    file = tempfile.TemporaryFile()
+    try:
+        for part in parts:
+            file.write(part)
+        file.flush()
+    except BaseException:
+        file.close()
+        raise
+    return file
+
+
+def environment() -> dict[str, str]:
+    return {"GLIBC_TUNABLES": TUNABLES, **os.environ}
