@@ -9,3 +9,4 @@ pub mod SetLaws
 pub mod ShapeLemmas
 pub mod SpanLemmas
 pub mod Zones
+pub mod HeldLemmas

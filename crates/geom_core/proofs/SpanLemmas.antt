@@ -27,3 +27,11 @@ within_joined_least a b s u p q r t h = (omega (arith, ints, clamps), omega (ari
 -- no interval is longer than the whole range
 pub length_bound : (a : Span) → nat_abs (a.hi -ℤ a.lo) ≤ 2 * greatest_coordinate
 length_bound a = omega (arith, ints)
+
+-- where a number is in two intervals, each begins no later than the other ends
+pub common_order : (a b : Span) (u : ℤ) → IsWithin a u → IsWithin b u → a.lo ≤ℤ b.hi
+common_order a b u h k = omega (arith, ints)
+
+-- an interval that ends no further out is in the other
+pub within_ends : (a b : Span) → b.lo ≤ℤ a.lo → a.hi ≤ℤ b.hi → (u : ℤ) → IsWithin a u → IsWithin b u
+within_ends a b p q u h = (omega (arith, ints), omega (arith, ints))

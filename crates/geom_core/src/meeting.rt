@@ -158,22 +158,19 @@ impl Meeting {
         ensures { result ≡ interior_of self }
     {
         match self {
-            Meeting::Disjoint => row(Nothing, Nothing, Interval),
-            Meeting::Meet => row(Nothing, Nothing, Interval),
-            Meeting::Overlap => row(Interval, Point, Interval),
-            Meeting::Inside => row(Interval, Nothing, Nothing),
-            Meeting::CoveredBy => row(Interval, Nothing, Nothing),
-            Meeting::Contains => row(Interval, Point, Interval),
-            Meeting::Covers => row(Interval, Point, Interval),
-            Meeting::Equal => row(Interval, Nothing, Nothing),
-            Meeting::PointDisjoint => row(Nothing, Nothing, Point),
+            Meeting::Disjoint | Meeting::Meet | Meeting::DisjointPoint | Meeting::EndAtPoint => row(
+                Nothing, Nothing, Interval,
+            ),
+            Meeting::Overlap | Meeting::Contains | Meeting::Covers => row(
+                Interval, Point, Interval,
+            ),
+            Meeting::Inside | Meeting::CoveredBy | Meeting::Equal => row(
+                Interval, Nothing, Nothing,
+            ),
+            Meeting::PointDisjoint | Meeting::PointsDisjoint => row(Nothing, Nothing, Point),
             Meeting::PointAtEnd => row(Nothing, Point, Nothing),
-            Meeting::PointInside => row(Point, Nothing, Nothing),
-            Meeting::DisjointPoint => row(Nothing, Nothing, Interval),
-            Meeting::EndAtPoint => row(Nothing, Nothing, Interval),
+            Meeting::PointInside | Meeting::PointsEqual => row(Point, Nothing, Nothing),
             Meeting::ContainsPoint => row(Point, Nothing, Interval),
-            Meeting::PointsDisjoint => row(Nothing, Nothing, Point),
-            Meeting::PointsEqual => row(Point, Nothing, Nothing),
         }
     }
 
@@ -183,22 +180,20 @@ impl Meeting {
         ensures { result ≡ boundary_of self }
     {
         match self {
-            Meeting::Disjoint => row(Nothing, Nothing, Point),
-            Meeting::Meet => row(Nothing, Point, Point),
-            Meeting::Overlap => row(Point, Nothing, Point),
+            Meeting::Disjoint
+            | Meeting::Contains
+            | Meeting::DisjointPoint
+            | Meeting::ContainsPoint => row(Nothing, Nothing, Point),
+            Meeting::Meet | Meeting::Covers => row(Nothing, Point, Point),
+            Meeting::Overlap | Meeting::EndAtPoint => row(Point, Nothing, Point),
             Meeting::Inside => row(Point, Nothing, Nothing),
             Meeting::CoveredBy => row(Point, Point, Nothing),
-            Meeting::Contains => row(Nothing, Nothing, Point),
-            Meeting::Covers => row(Nothing, Point, Point),
             Meeting::Equal => row(Nothing, Point, Nothing),
-            Meeting::PointDisjoint => row(Nothing, Nothing, Nothing),
-            Meeting::PointAtEnd => row(Nothing, Nothing, Nothing),
-            Meeting::PointInside => row(Nothing, Nothing, Nothing),
-            Meeting::DisjointPoint => row(Nothing, Nothing, Point),
-            Meeting::EndAtPoint => row(Point, Nothing, Point),
-            Meeting::ContainsPoint => row(Nothing, Nothing, Point),
-            Meeting::PointsDisjoint => row(Nothing, Nothing, Nothing),
-            Meeting::PointsEqual => row(Nothing, Nothing, Nothing),
+            Meeting::PointDisjoint
+            | Meeting::PointAtEnd
+            | Meeting::PointInside
+            | Meeting::PointsDisjoint
+            | Meeting::PointsEqual => row(Nothing, Nothing, Nothing),
         }
     }
 
@@ -208,22 +203,21 @@ impl Meeting {
         ensures { result ≡ exterior_of self }
     {
         match self {
-            Meeting::Disjoint => row(Interval, Point, Interval),
-            Meeting::Meet => row(Interval, Point, Interval),
-            Meeting::Overlap => row(Interval, Point, Interval),
-            Meeting::Inside => row(Interval, Point, Interval),
-            Meeting::CoveredBy => row(Interval, Point, Interval),
-            Meeting::Contains => row(Nothing, Nothing, Interval),
-            Meeting::Covers => row(Nothing, Nothing, Interval),
-            Meeting::Equal => row(Nothing, Nothing, Interval),
-            Meeting::PointDisjoint => row(Interval, Point, Interval),
-            Meeting::PointAtEnd => row(Interval, Point, Interval),
-            Meeting::PointInside => row(Interval, Point, Interval),
-            Meeting::DisjointPoint => row(Point, Nothing, Interval),
-            Meeting::EndAtPoint => row(Nothing, Nothing, Interval),
-            Meeting::ContainsPoint => row(Nothing, Nothing, Interval),
-            Meeting::PointsDisjoint => row(Point, Nothing, Interval),
-            Meeting::PointsEqual => row(Nothing, Nothing, Interval),
+            Meeting::Disjoint
+            | Meeting::Meet
+            | Meeting::Overlap
+            | Meeting::Inside
+            | Meeting::CoveredBy
+            | Meeting::PointDisjoint
+            | Meeting::PointAtEnd
+            | Meeting::PointInside => row(Interval, Point, Interval),
+            Meeting::Contains
+            | Meeting::Covers
+            | Meeting::Equal
+            | Meeting::EndAtPoint
+            | Meeting::ContainsPoint
+            | Meeting::PointsEqual => row(Nothing, Nothing, Interval),
+            Meeting::DisjointPoint | Meeting::PointsDisjoint => row(Point, Nothing, Interval),
         }
     }
 }
