@@ -21,9 +21,26 @@ fn corners_in_order_and_in_range(rt: HostRuntime) {
 fn dimensions_and_areas(rt: HostRuntime) {
     let point = shape(&rt, 4, 4, 4, 4);
     let segment = shape(&rt, 1, 0, 3, 0);
-    let whole = shape(&rt, -LIMIT, -LIMIT, LIMIT, LIMIT);
+    let rectangle = shape(&rt, 1, 0, 3, 7);
     assert!(rt; (point.dim(), point.area()) == (0, 0));
     assert!(rt; (segment.dim(), segment.area()) == (1, 0));
+    assert!(rt; (rectangle.dim(), rectangle.area()) == (2, 14));
+}
+
+#[test]
+fn dimensions_and_areas_at_the_limits(rt: HostRuntime) {
+    let corner = shape(&rt, LIMIT, -LIMIT, LIMIT, -LIMIT);
+    let across = shape(&rt, -LIMIT, LIMIT, LIMIT, LIMIT);
+    let upright = shape(&rt, -LIMIT, -LIMIT, -LIMIT, LIMIT);
+    let square = shape(&rt, LIMIT - 1, LIMIT - 1, LIMIT, LIMIT);
+    let strip = shape(&rt, -LIMIT, -LIMIT, LIMIT, 1 - LIMIT);
+    let whole = shape(&rt, -LIMIT, -LIMIT, LIMIT, LIMIT);
+    assert!(rt; LIMIT == 1_000_000_000_000);
+    assert!(rt; (corner.dim(), corner.area()) == (0, 0));
+    assert!(rt; (across.dim(), across.area()) == (1, 0));
+    assert!(rt; (upright.dim(), upright.area()) == (1, 0));
+    assert!(rt; (square.dim(), square.area()) == (2, 1));
+    assert!(rt; (strip.dim(), strip.area()) == (2, 2_000_000_000_000));
     assert!(rt; (whole.dim(), whole.area()) == (2, 4_000_000_000_000_000_000_000_000));
 }
 
