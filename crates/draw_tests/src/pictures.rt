@@ -38,6 +38,38 @@ fn says(text: &str, expected: &Expected) -> bool {
         && drawing(text) == Some(expected.drawing)
 }
 
+/// A picture of a left and a right point that match: SVG 1.1, with what its classes look like. The
+/// colours are the blue and the vermillion of Okabe and Ito.
+const WHOLE: &str = "<svg xmlns=\"http://www.w3.org/2000/svg\" version=\"1.1\" \
+    width=\"1000\" height=\"1040\" viewBox=\"0 0 1000 1040\">\n\
+    <style>text{font:16px sans-serif}\
+    path{stroke-width:.1%;stroke-linecap:round;stroke-linejoin:round;fill-opacity:.06}\
+    .point{stroke-width:.5%}\
+    .match{stroke-width:.25%;fill-opacity:.24}\
+    .point.match{stroke-width:.9%}\
+    .left{fill:#0072B2;stroke:#0072B2}\
+    .right{fill:#D55E00;stroke:#D55E00}</style>\n\
+    <rect width=\"1000\" height=\"1040\" fill=\"#fff\"/>\n\
+    <path class=\"left\" d=\"M20 12h16v16h-16z\"/>\
+    <text x=\"46\" y=\"26\">left features: 1</text>\n\
+    <path class=\"right\" d=\"M320 12h16v16h-16z\"/>\
+    <text x=\"346\" y=\"26\">right features: 1</text>\n\
+    <path class=\"left match\" d=\"M620 12h16v16h-16z\"/>\
+    <path class=\"right match\" d=\"M642 12h16v16h-16z\"/>\
+    <text x=\"668\" y=\"26\">matching pairs: 1</text>\n\
+    <svg y=\"40\" width=\"1000\" height=\"1000\" \
+    preserveAspectRatio=\"xMidYMin\" viewBox=\"0 0 2 2\">\n\
+    <g class=\"left\">\n<path class=\"point match\" d=\"M1 1h0v0\"><title>a</title></path>\n</g>\n\
+    <g class=\"right\">\n<path class=\"point match\" d=\"M1 1h0v0\"><title>b</title></path>\n</g>\n\
+    </svg>\n</svg>\n";
+
+#[test]
+fn whole_picture(rt: HostRuntime) {
+    let point = (4, 4, 4, 4);
+    let text = picture_of(&rt, &[("a", point)], &[("b", point)], &[(0, 0)]);
+    assert!(rt; text.is_some_and(|text| text.as_str() == WHOLE));
+}
+
 /// Whether the picture of these features and pairs says this.
 fn draws(
     rt: &HostRuntime,

@@ -4,6 +4,6 @@ use Rattle.draw_core.proofs.marks.Marks.new.Goals as goal
 
 pub loop-pair-preserved : goal.loop-pair-preserved
 loop-pair-preserved c = record {
-  left = held_more (λ p. p.0) _ _ c.args.pairs.now c.loop-pair.pair-index (search rules) c.in_ok-insert.ensures.updates c.loop-pair.invariant.left;
-  right = held_more (λ p. p.1) _ _ c.args.pairs.now c.loop-pair.pair-index (search rules) c.in_ok-insert-2.ensures.updates c.loop-pair.invariant.right;
+  left = held_more (λ p. p.0) _ _ c.args.pairs.now c.loop-pair.pair-index (search rules) (search rules) c.loop-pair.invariant.left;
+  right = held_more (λ p. p.1) _ _ c.args.pairs.now c.loop-pair.pair-index (search rules) (search rules) c.loop-pair.invariant.right;
 }
