@@ -127,10 +127,16 @@ fn draw_points<R: Threads + Wait + Sync + RandomSource + AllocGlobal>(
 }
 
 #[test]
-fn most_features_drawn(rt: HostRuntime) -> Result<(), Fail> {
+fn one_more_than_drawn(rt: HostRuntime) -> Result<(), Fail> {
     let points = points_text(rt.alloc(), MAX_DRAWN as u32)?;
     let many = draw_points(&rt, points.as_str(), "op,layer,id,wkt\n");
     assert!(rt; many.is_some_and(|ended| ended.is(Err(RunFault::TooManyToDraw), "")));
+    Ok(())
+}
+
+#[test]
+fn most_features_drawn(rt: HostRuntime) -> Result<(), Fail> {
+    let points = points_text(rt.alloc(), MAX_DRAWN as u32)?;
     let most = draw_points(&rt, points.as_str(), ONE_LESS);
     let end = "<g class=\"right\">\n</g>\n</svg>\n</svg>\n";
     assert!(rt; most.is_some_and(|ended| ends_drawn(&ended, end)));
