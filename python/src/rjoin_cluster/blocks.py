@@ -125,8 +125,8 @@ def keep(layout: Layout, block: Extent, features: Features) -> None:
     save_array(layout.boxes(block.side, block.number), features.boxes)
     save_array(layout.ids(block.side, block.number), features.ids)
     hashes = hashes_of(features.ids)
-    order = np.argsort(hashes)
-    save_array(layout.hashes(block.side, block.number), hashes[order])
+    order = np.argsort(hashes, kind="stable")
+    save_array(layout.hashes(block.side, block.number), hashes.take(order))
     save_array(layout.hashed_rows(block.side, block.number), order.astype(np.uint32))
 
 

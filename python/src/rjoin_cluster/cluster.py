@@ -5,7 +5,6 @@ import logging
 import os
 from contextlib import contextmanager
 from dataclasses import dataclass
-from importlib.util import find_spec
 from typing import Any, Iterator, Optional
 
 import dask
@@ -65,12 +64,11 @@ def client_of(cluster: Any, place: Place) -> Any:
 
 def local_cluster(place: Place, layout: Layout) -> Any:
     """Workers of one thread each, whose own files lie in the folder of the join and go with it."""
-    dashboard = ":0" if find_spec("bokeh") else None
     return LocalCluster(  # type: ignore[no-untyped-call]
         n_workers=place.workers,
         threads_per_worker=1,
         processes=True,
-        dashboard_address=dashboard,
+        dashboard_address=":0",
         silence_logs=logging.CRITICAL,
         local_directory=str(layout.file("workers")),
     )

@@ -39,5 +39,6 @@ def read_back(rows: Bytes) -> Places:
     """The numbers whose digits are these rows."""
     numbers: NDArray[np.int64] = np.zeros(len(rows), dtype=np.int64)
     for column in range(rows.shape[1]):
-        numbers = numbers * 10 + (rows[:, column] - np.uint8(ZERO))
+        numbers *= 10
+        numbers += rows[:, column] - np.uint8(ZERO)
     return numbers

@@ -40,8 +40,8 @@ class DoublesJob:
 def first_double(job: DoublesJob) -> Optional[int]:
     """The number of the first feature whose id a feature before it has."""
     hashes, numbers = hashed(job)
-    order = np.lexsort((numbers, hashes))
-    hashes, numbers = hashes[order], numbers[order]
+    order = np.argsort(hashes, kind="stable")  # so that numbers of one hash ascend
+    hashes, numbers = hashes.take(order), numbers.take(order)
     again = np.flatnonzero(hashes[1:] == hashes[:-1]) + 1
     for place in again[np.argsort(numbers[again])].tolist():
         begin = int(np.searchsorted(hashes, hashes[place]))

@@ -8,6 +8,7 @@ import tempfile
 import time
 from contextlib import contextmanager
 from dataclasses import dataclass
+from importlib.util import find_spec
 from pathlib import Path
 from typing import Any, BinaryIO, Iterator, Optional, Sequence
 
@@ -123,7 +124,7 @@ def join(request: Request, progress: Progress) -> dict[str, Any]:
         with connected(request.place, layout) as client:
             files = ((request.left, sizes[0]), (request.right, sizes[1]))
             check_workers(client, Needs(layout, request.program, version, files))
-            progress.say(f"dashboard: {client.dashboard_link}" if has_dashboard(client) else "")
+            progress.say(f"dashboard: {client.dashboard_link}" if has_dashboard() else "")
             engine = Engine(client, Path(layout.folder).name, progress, request.place.patience)
             figures = Steps(request, layout, engine).report_into(report)
             figures["workers"] = len(client.scheduler_info()["workers"])
@@ -131,8 +132,9 @@ def join(request: Request, progress: Progress) -> dict[str, Any]:
     return figures
 
 
-def has_dashboard(client: Any) -> bool:
-    return "dashboard" in client.scheduler_info().get("services", {})
+def has_dashboard() -> bool:
+    """The scheduler's dashboard is drawn by bokeh."""
+    return find_spec("bokeh") is not None
 
 
 def opened_sides(request: Request) -> list[Side]:

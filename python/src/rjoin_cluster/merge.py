@@ -88,7 +88,7 @@ def slices_of(runs: Sequence[RunDone], borders: Places) -> list[list[Slice]]:
 def write_part(job: PartJob) -> int:
     """Writes a part of the report, and answers how many bytes it has."""
     pairs = pairs_of(job)
-    pairs = pairs[np.argsort(pairs["rank"], kind="stable")]
+    pairs = pairs.take(np.argsort(pairs["rank"], kind="stable"))
     text = [
         part_text(job, pairs[begin : begin + ROWS_AT_ONCE])
         for begin in range(0, len(pairs), ROWS_AT_ONCE)
@@ -133,7 +133,7 @@ def left_ids(job: PartJob, numbers: Places) -> IdTable:
         rows = slice(borders[block], borders[block + 1])
         table = mapped(job.layout.ids(Side.LEFT, block))
         ids = widened(ids, table.shape[1])
-        ids[rows, : table.shape[1]] = table[numbers[rows] - job.left_firsts[block]]
+        ids[rows, : table.shape[1]] = table.take(numbers[rows] - job.left_firsts[block], axis=0)
     return ids
 
 

@@ -52,6 +52,9 @@ class Piece:
     boxes: Boxes
     ids: IdTable
 
+    def column(self, corner: int) -> Places:
+        return np.ascontiguousarray(self.boxes[:, corner])
+
 
 def piece_type(id_width: int) -> np.dtype[Any]:
     return np.dtype([("number", "<i8"), ("box", "<i8", (4,)), ("id", "u1", (id_width,))])
@@ -84,8 +87,8 @@ def piece_rows(job: DealJob, boxes: Boxes, order: Places) -> NDArray[np.void]:
         ids = ids[:, :0]
     rows = np.empty(order.size, dtype=piece_type(ids.shape[1]))
     rows["number"] = order + job.first
-    rows["box"] = boxes[order]
-    rows["id"] = ids[order]
+    rows["box"] = boxes.take(order, axis=0)
+    rows["id"] = ids.take(order, axis=0)
     return rows
 
 

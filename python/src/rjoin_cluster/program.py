@@ -78,14 +78,14 @@ class Program:
 
     def check_words(self, relation: str) -> None:
         """Joins two empty layers, so that rjoin itself judges relation and scale."""
-        words = ["--relation", relation, "--scale", self.scale]
+        words = [f"--relation={relation}", f"--scale={self.scale}"]
         ended = self.run(["join", *words], [[HEADER], [HEADER]])
         if ended.status != 0:
             raise ProgramFault(ended.errors.rstrip("\n"), ended.status)
 
     def bounds(self, layer: Sequence[Text]) -> Union[Bytes, RowFault]:
         """The CSV text of the ids and corners of a layer, in units, or its first fault."""
-        ended = self.run(["bounds", "--scale", self.scale], [layer])
+        ended = self.run(["bounds", f"--scale={self.scale}"], [layer])
         if ended.status == 0:
             return ended.output
         if ended.errors == HEADER_FAULT:
@@ -97,7 +97,7 @@ class Program:
 
     def join(self, left: Sequence[Text], right: Sequence[Text], relation: str) -> Bytes:
         """The report of two layers in whole units."""
-        ended = self.run(["join", "--relation", relation, "--workers", "1"], [left, right])
+        ended = self.run(["join", f"--relation={relation}", "--workers=1"], [left, right])
         if ended.status != 0:
             raise RunFailed(f"rjoin join: status {ended.status}: {ended.errors.strip()}")
         return ended.output

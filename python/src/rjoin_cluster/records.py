@@ -117,8 +117,10 @@ def quoted_by_state(runs: QuoteRuns) -> tuple[Flags, ...]:
 
 
 def state_after(part: Bytes, runs: QuoteRuns, quoted: Flags, start: State) -> State:
-    """The state behind a part that isn't empty."""
+    """The state behind a part."""
     inside = bool(quoted[-1]) if quoted.size else start is State.QUOTED
+    if not part.size:
+        return start
     if inside:
         return State.QUOTED
     if part[-1] != QUOTE:
@@ -150,7 +152,7 @@ def passage(part: Bytes, runs: QuoteRuns, quoted: Flags, start: State) -> Passag
 
 
 def scan(part: Bytes) -> Segment:
-    """What a part that isn't empty does to each state."""
+    """What a part does to each state."""
     runs = quote_runs(part)
     passages = (
         passage(part, runs, quoted, start) for start, quoted in zip(State, quoted_by_state(runs))

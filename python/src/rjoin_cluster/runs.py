@@ -179,15 +179,21 @@ def own_pairs(job: RunJob, left: Piece, right: Piece, report: Bytes) -> NDArray[
     rows = rows_of(report, widths[0] + widths[1] + MATRIX + 3)
     ones = read_back(rows[:, : widths[0]])
     others = read_back(rows[:, widths[0] + 1 : widths[0] + 1 + widths[1]])
-    x = np.maximum(left.boxes[ones, 0], right.boxes[others, 0])
-    y = np.maximum(left.boxes[ones, 1], right.boxes[others, 1])
-    own = job.region.holds(x, y)
-    ones, others = ones[own], others[own]
-    pairs = np.empty(ones.size, dtype=pair_type(right.ids.shape[1]))
-    pairs["rank"] = left.numbers[ones] * job.right_features + right.numbers[others]
-    pairs["matrix"] = np.ascontiguousarray(rows[own, -MATRIX - 1 : -1]).view(f"S{MATRIX}")[:, 0]
-    pairs["right"] = right.ids[others]
+    x, y = (
+        np.maximum(left.column(axis).take(ones), right.column(axis).take(others)) for axis in (0, 1)
+    )
+    own = np.flatnonzero(job.region.holds(x, y))
+    ones, others = ones.take(own), others.take(own)
+    pairs = np.empty(own.size, dtype=pair_type(right.ids.shape[1]))
+    pairs["rank"] = left.numbers.take(ones) * job.right_features + right.numbers.take(others)
+    pairs["matrix"] = matrices_of(rows).take(own)
+    pairs["right"] = right.ids.take(others, axis=0)
     return pairs
+
+
+def matrices_of(rows: Bytes) -> NDArray[np.bytes_]:
+    matrices = np.ascontiguousarray(rows[:, -MATRIX - 1 : -1])
+    return matrices.reshape(-1).view(f"S{MATRIX}")
 
 
 def rows_of(report: Bytes, width: int) -> Bytes:

@@ -92,8 +92,8 @@ class Tiles:
             if axis == LEAF:
                 yield low, rows
             else:
-                waiting.append((low, rows[ends[axis][rows] < cut]))
-                waiting.append((high, rows[ends[axis + 2][rows] >= cut]))
+                waiting.append((low, rows[ends[axis].take(rows) < cut]))
+                waiting.append((high, rows[ends[axis + 2].take(rows) >= cut]))
 
 
 class Sample(NamedTuple):

@@ -1,0 +1,136 @@
+"""Workers that die, machines that vanish and disks that are full."""
+from __future__ import annotations
+
+import os
+import signal
+import subprocess
+import sys
+import time
+from contextlib import contextmanager
+from pathlib import Path
+from typing import Any, Iterator
+
+import pytest
+from conftest import Tools
+
+import layers
+
+WAIT = 60
+
+
+@pytest.fixture
+def pair(tools: Tools) -> tuple[Path, Path]:
+    left, right = layers.write_pair(tools.folder, "rectangles", 20_000)
+    return left, right
+
+
+@contextmanager
+def own_cluster(**options: Any) -> Iterator[Any]:
+    from distributed import Client, LocalCluster
+
+    more = {"threads_per_worker": 1, "dashboard_address": ":0", **options}
+    with LocalCluster(**more) as cluster, Client(cluster) as client:
+        yield client
+
+
+def started(tools: Tools, address: str, left: Path, right: Path, *more: str) -> Any:
+    """The command, in a process of its own."""
+    words = tools.command(left, right, "intersects", "--tiles", "24", "--block", "200000", *more)
+    words[words.index("--scheduler") + 1] = address
+    command = [sys.executable, "-m", "rjoin_cluster", *words]
+    return subprocess.Popen(command, stderr=subprocess.PIPE, text=True)
+
+
+def wait_for(tools: Tools, name: str, process: Any) -> None:
+    """Waits until a step of the join has left some file."""
+    end = time.monotonic() + WAIT
+    while not list(tools.folder.glob(f"rjoin-cluster-*/{name}")):
+        assert process.poll() is None and time.monotonic() < end, process.stderr.read()
+        time.sleep(0.01)
+
+
+def check_left_nothing(tools: Tools) -> None:
+    assert list(tools.folder.glob(".*report*")) + list(tools.folder.glob("rjoin-cluster-*")) == []
+
+
+@pytest.mark.parametrize("step", ["boxes-*.npy", "pairs-*.npy"])
+def test_a_worker_that_is_killed_changes_nothing(
+    tools: Tools, pair: tuple[Path, Path], step: str
+) -> None:
+    with own_cluster(n_workers=2) as client:
+        numbers = client.run(os.getpid)
+        process = started(tools, client.scheduler.address, *pair)
+        wait_for(tools, step, process)
+        os.kill(next(iter(numbers.values())), signal.SIGKILL)
+        assert process.wait(WAIT) == 0, process.stderr.read()
+    assert tools.report().read_bytes() == tools.one_run(*pair, "intersects").output
+    check_left_nothing(tools)
+
+
+def test_the_only_worker_vanishes(tools: Tools, pair: tuple[Path, Path]) -> None:
+    """A worker without a nanny, so that nothing starts it again."""
+    with own_cluster(n_workers=0) as client:
+        address = client.scheduler.address
+        command = [sys.executable, "-m", "distributed.cli.dask_worker", address, "--no-nanny"]
+        with subprocess.Popen([*command, "--no-dashboard"], stderr=subprocess.DEVNULL) as worker:
+            process = started(tools, address, *pair, "--patience", "9")
+            wait_for(tools, "boxes-*.npy", process)
+            worker.kill()
+        errors = process.communicate(timeout=WAIT)[1]
+    assert (process.returncode, errors) == (1, "rjoin-cluster: no worker for 9 seconds\n")
+    assert not tools.report().exists()
+    check_left_nothing(tools)
+
+
+@pytest.mark.parametrize("number", [signal.SIGINT, signal.SIGTERM])
+def test_the_command_is_interrupted(
+    tools: Tools, pair: tuple[Path, Path], number: signal.Signals
+) -> None:
+    process = started(tools, tools.scheduler, *pair)
+    wait_for(tools, "pairs-*.npy", process)
+    process.send_signal(number)
+    errors = process.communicate(timeout=WAIT)[1]
+    assert (process.returncode, "Traceback" in errors) == (128 + number, False), errors
+    assert not tools.report().exists()
+    check_left_nothing(tools)
+
+
+@contextmanager
+def small_disk(folder: Path) -> Iterator[Path]:
+    """A disk of 2 MB, for which one has to be root."""
+    folder.mkdir()
+    mounted = subprocess.run(
+        ["mount", "-t", "tmpfs", "-o", "size=2m", "tmpfs", str(folder)], capture_output=True
+    )
+    if mounted.returncode != 0:
+        pytest.skip("no disk can be mounted here")
+    try:
+        yield folder
+    finally:
+        subprocess.run(["umount", "-l", str(folder)], check=True)
+
+
+def test_the_disk_of_the_workers_is_full(
+    tools: Tools, pair: tuple[Path, Path], monkeypatch: pytest.MonkeyPatch
+) -> None:
+    with small_disk(tools.folder / "disk") as disk:
+        monkeypatch.setenv("TMPDIR", str(disk))
+        with own_cluster(n_workers=1) as client:
+            monkeypatch.delenv("TMPDIR")
+            (disk / "filler").write_bytes(bytes(2**21 - 2**17))
+            process = started(tools, client.scheduler.address, *pair)
+            errors = process.communicate(timeout=WAIT)[1]
+    assert process.returncode == 1
+    assert errors.startswith("rjoin-cluster: reading left block ")
+    assert errors.endswith(": OSError: [Errno 28] No space left on device\n")
+    check_left_nothing(tools)
+
+
+def test_the_shared_disk_is_full(tools: Tools, pair: tuple[Path, Path]) -> None:
+    with small_disk(tools.folder / "disk") as disk:
+        process = started(tools, tools.scheduler, *pair, "--folder", str(disk))
+        errors = process.communicate(timeout=WAIT)[1]
+        assert process.returncode == 1
+        assert "No space left on device" in errors and errors.count("\n") == 1
+        assert list(disk.iterdir()) == []
+    check_left_nothing(tools)

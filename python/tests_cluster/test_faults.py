@@ -1,0 +1,102 @@
+"""Faults of the input are told as one run tells them, and then there is no report."""
+from __future__ import annotations
+
+from pathlib import Path
+
+import pytest
+from conftest import Tools, write_layer
+
+GOOD = [(f"n{number}", f"POINT ({number} {number})") for number in range(60)]
+
+
+def check_fault(
+    tools: Tools, left: Path, right: Path, capfd: pytest.CaptureFixture[str], *more: str
+) -> None:
+    from rjoin_cluster.command import main
+
+    relation, *others = more or ("intersects",)
+    one = tools.one_run(left, right, relation, *others)
+    assert one.status != 0
+    capfd.readouterr()
+    assert main(tools.command(left, right, relation, "--block", "400", *others)) == one.status
+    assert capfd.readouterr().err == one.errors
+    assert list(tools.folder.glob("*report*")) + list(tools.folder.glob("*rjoin-cluster*")) == []
+
+
+BAD_ROWS = {
+    "geometry": ("bad", "POINT (1"),
+    "number": ("bad", "POINT (0.5 0)"),
+    "form": ("bad", '"LINESTRING (0 0, 1 1)"'),
+    "fields": ("bad", "POINT (1 1),more"),
+    "few": ("bad\nworse", "POINT (1 1)"),
+    "no id": ("", "POINT (1 1)"),
+    "long id": ("i" * 65, "POINT (1 1)"),
+    "double id": ("n3", "POINT (1 1)"),
+    "open quote": ("bad", '"POINT (1 1)'),
+}
+
+
+@pytest.mark.parametrize("name", BAD_ROWS)
+def test_a_bad_row(tools: Tools, name: str, capfd: pytest.CaptureFixture[str]) -> None:
+    bad = write_layer(tools.folder / "bad.csv", [*GOOD[:41], BAD_ROWS[name], *GOOD[41:]])
+    check_fault(tools, bad, bad, capfd)
+
+
+def test_a_bad_row_of_the_right_side(tools: Tools, capfd: pytest.CaptureFixture[str]) -> None:
+    good = write_layer(tools.folder / "good.csv", GOOD)
+    for place in (0, 60):
+        rows = [*GOOD[:place], BAD_ROWS["number"], *GOOD[place:]]
+        check_fault(tools, good, write_layer(tools.folder / "bad.csv", rows), capfd)
+
+
+def test_the_first_fault_is_told(tools: Tools, capfd: pytest.CaptureFixture[str]) -> None:
+    """An id of the first block stands again in the fourth one, before a row that can't be read."""
+    rows = [*GOOD[:50], ("n2", "POINT (1 1)"), BAD_ROWS["form"], *GOOD[50:], BAD_ROWS["number"]]
+    bad = write_layer(tools.folder / "bad.csv", rows)
+    later = write_layer(tools.folder / "later.csv", [rows[51], *rows])
+    for left, right in ((bad, later), (later, bad)):
+        check_fault(tools, left, right, capfd)
+
+
+def test_an_id_that_is_not_utf8(tools: Tools, capfd: pytest.CaptureFixture[str]) -> None:
+    bad = tools.folder / "bad.csv"
+    bad.write_bytes(write_layer(bad, GOOD).read_bytes() + b"\xff\xfe,POINT (1 1)\n")
+    check_fault(tools, bad, bad, capfd)
+
+
+def test_headers_files_and_words(tools: Tools, capfd: pytest.CaptureFixture[str]) -> None:
+    good = write_layer(tools.folder / "good.csv", GOOD)
+    headless = tools.folder / "headless.csv"
+    headless.write_text("name,wkt\na,POINT (1 1)\n")
+    missing = tools.folder / "missing.csv"
+    for left, right in ((missing, missing), (good, missing), (tools.folder, missing)):
+        check_fault(tools, left, right, capfd)
+    for left, right in ((tools.folder, good), (headless, tools.folder), (good, headless)):
+        check_fault(tools, left, right, capfd)
+    for relation in ("disjoint", "within.", "T*F**F**x", "FF*FF****"):
+        check_fault(tools, missing, missing, capfd, relation)
+    for scale in ("7", "-1", "two"):
+        check_fault(tools, missing, missing, capfd, "within", f"--scale={scale}")
+
+
+def test_what_rjoin_has_no_words_for(tools: Tools, capfd: pytest.CaptureFixture[str]) -> None:
+    from rjoin_cluster.command import main
+
+    good = write_layer(tools.folder / "good.csv", GOOD)
+    nowhere = tools.folder / "nowhere" / "report.csv"
+    for words, line in (
+        (["--out", str(nowhere)], f"{nowhere}: cannot be written: No such file or directory"),
+        (["--folder", str(nowhere)], f"{nowhere}: cannot be written: No such file or directory"),
+        (
+            ["--scheduler", "tcp://127.0.0.1:9", "--patience", "1"],
+            "tcp://127.0.0.1:9: no scheduler answers",
+        ),
+        (
+            ["--program", "nothing-of-this-name"],
+            "nothing-of-this-name: no such program; name one by"
+            " --program or RJOIN, or put rjoin on the PATH",
+        ),
+    ):
+        capfd.readouterr()
+        assert main([*tools.command(good, good, "within"), *words]) == 1
+        assert capfd.readouterr().err == f"rjoin-cluster: {line}\n"

@@ -1,0 +1,79 @@
+"""Where records end: beside a reader that goes byte by byte, as csv-core does."""
+from __future__ import annotations
+
+import itertools
+import random
+
+import numpy as np
+import pytest
+
+from rjoin_cluster.records import Bytes, State, block_begins, record_ends, scan
+
+ENDS = "\r\n"
+STATES = {
+    "start of record": State.FREE,
+    "start of field": State.FREE,
+    "behind quote": State.FREE,
+    "bare": State.BARE,
+    "quoted": State.QUOTED,
+}
+
+
+def step(state: str, letter: str) -> str:
+    if state == "quoted":
+        return "behind quote" if letter == '"' else "quoted"
+    if letter == '"' and state != "bare":
+        return "quoted"
+    if letter in ENDS:
+        return "start of record"
+    return "start of field" if letter == "," else "bare"
+
+
+def states_of(text: str, state: str) -> list[str]:
+    """The state before each letter, and that behind the last one."""
+    return list(itertools.accumulate(text, step, initial=state))
+
+
+def ends_of(text: str) -> list[int]:
+    """The place behind each record."""
+    states = states_of(text, "start of record")
+    ends = [
+        place + 1
+        for place, letter in enumerate(text)
+        if letter in ENDS and states[place] not in ("quoted", "start of record")
+    ]
+    return ends + [len(text)] * (states[-1] != "start of record")
+
+
+def first_line_end(text: str, state: str) -> int | None:
+    states = states_of(text, state)
+    places = (p + 1 for p, letter in enumerate(text) if letter in ENDS and states[p] != "quoted")
+    return next(places, None)
+
+
+def array_of(text: str) -> Bytes:
+    return np.frombuffer(text.encode(), dtype=np.uint8)
+
+
+@pytest.mark.parametrize("length", [1, 2, 3, 4])
+def test_every_short_text_from_every_state(length: int) -> None:
+    for letters in itertools.product('a",\n', repeat=length):
+        text = "".join(letters)
+        passages = scan(array_of(text)).passages
+        for name, state in STATES.items():
+            assert passages[state].after is STATES[states_of(text, name)[-1]], (text, name)
+            assert passages[state].first_end == first_line_end(text, name), (text, name)
+        assert record_ends(array_of(text)).tolist() == ends_of(text), text
+
+
+def test_blocks_hold_whole_records() -> None:
+    random.seed(4180)
+    for _ in range(800):
+        text = "".join(random.choices('a",\n\r"', k=random.randint(1, 60)))
+        size = random.randint(1, 12)
+        segments = [scan(array_of(text[at : at + size])) for at in range(0, len(text), size)]
+        begins = block_begins(segments, size)
+        found = []
+        for begin, end in zip(begins, [*begins[1:], len(text)]):
+            found += [begin + place for place in record_ends(array_of(text[begin:end])).tolist()]
+        assert found == ends_of(text), (text, size)
