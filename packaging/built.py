@@ -13,6 +13,7 @@ sys.path.append(str(ROOT / "tools"))
 from crates import below, uses_by_crate  # noqa: E402
 from toolchain import toolchain  # noqa: E402
 
+DIRTY = "-dirty"
 CRATE = ROOT / "crates/rjoin"
 PROGRAM = CRATE / "out/rjoin"
 
@@ -25,12 +26,13 @@ program:    libexec/rjoin/rjoin, {size} bytes
 SHA-256:    {sum}
 crates:     {crates}
 
-Every crate above was proved in full, with its sources of this commit, and the program is what the toolchain then built
-of them, byte for byte. {evidence}
+Every crate above was proved in full, with its sources of this commit{changes}, and the program is what the toolchain
+then built of them, byte for byte. {evidence}
 
 What the proofs say, what is only tested, and what is trusted stands in README.md, under "What is proved", "What is only
 tested" and "What is trusted". To prove it again, run .ci/run in a checkout of this commit.
 """
+CHANGES = " and the changes that the checkout had"
 BY_STAMP = "The toolchain's stamp of the proved build named these sources, this toolchain and these bytes."
 BY_CI = "They were proved from nothing by `rt ci`."
 
@@ -85,22 +87,23 @@ def built(program: Path, is_by_ci: bool) -> Built:
     if not is_by_ci:
         check_stamp(program)
     is_changed = output_of("git", "status", "--porcelain") != ""
-    commit = output_of("git", "rev-parse", "HEAD") + "-dirty" * is_changed
+    commit = output_of("git", "rev-parse", "HEAD") + DIRTY * is_changed
     time = int(os.environ.get("SOURCE_DATE_EPOCH") or output_of("git", "log", "-1", "--format=%ct"))
     return Built(program, output_of(program, "--version").split()[1], commit, version, time, is_by_ci)
 
 
 def short_commit(commit: str) -> str:
     """The first twelve digits of a commit, with its mark of changes."""
-    return commit[:12] + "-dirty" * commit.endswith("-dirty")
+    return commit[:12] + DIRTY * commit.endswith(DIRTY)
 
 
 def statement(it: Built) -> str:
     """The text of the file PROVED."""
     crates = " ".join([*sorted(below("rjoin", uses_by_crate())), "rjoin"])
     evidence = BY_CI if it.is_by_ci else BY_STAMP
+    changes = CHANGES if it.commit.endswith(DIRTY) else ""
     return PROVED.format(built=it, size=it.program.stat().st_size, sum=sum_of(it.program), crates=crates,
-                         evidence=evidence)
+                         evidence=evidence, changes=changes)
 
 
 def options(description: str | None) -> Namespace:
