@@ -328,6 +328,19 @@ record IsGiven (es es' : List (Id × Option ℕ)) (k : Id) (v : Option ℕ) (p :
   pub id : get_or (ids_of (keys_of es')) p [] ≡ id_bytes k
   pub more : (more : List (List ℕ)) × (ids_of (keys_of es') ≡ ids_of (keys_of es) ++ more)
 
+-- an id that the map doesn't have has no feature
+pub with_id-missing : (es : List (Id × Option ℕ)) (slots : List (Option Slot)) → AreInverse (values_of es) slots → (k : Id)
+    → lookup (id_eq k) es ≡ None → with_id (id_bytes k) (contents_of (keys_of es) slots) ≡ None
+with_id-missing es slots table k missing = by (position (id_eq k) (keys_of es)) refl
+  where
+    by : (r : Option ℕ) → position (id_eq k) (keys_of es) ≡ r → with_id (id_bytes k) (contents_of (keys_of es) slots) ≡ None
+    by None none = with_id-absent (keys_of es) slots (id_bytes k) (absent_from_missing es slots table (id_bytes k) none)
+    by (Some i) found =
+        let place = Found-position (id_eq k) es i found in
+        let old = get-within (values_of es) i (let within = place.within in omega (arith, length-values_of es)) in
+        let held : lookup (id_eq k) es ≡ Some old.0 = place.value ∙ old.1 in
+        cc
+
 -- what becomes of the layer then
 pub record InsertsNew (es es' : List (Id × Option ℕ)) (slots : List (Option Slot)) (count : ℕ) (id : List ℕ) (slot : Slot) : Type 0 where
   pub kept : StandForLayer es' (slots ++ Some slot ∷ []) (count + 1)

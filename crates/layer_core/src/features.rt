@@ -75,6 +75,7 @@ fn locate(ids: &Ids, slots: &[Option<Slot>], id: &str) -> Option<(u32, Slot)>
 
 impl Features {
     ghost use Rattle.std.specs.Prelude.{◌≡◌, ◌<◌, ◌≤◌, length, not, is_some, if◌then◌else◌, IfNone};
+    ghost use Rattle.std.specs.Prelude.{None, true, false};
     ghost use Rattle.std.specs.Prelude.{IfOk, IsOk, OnOk, OnErr};
     ghost use Rattle.std.specs.Option.{option_map};
     ghost use Rattle.layer_core.specs.Layers.{empty, IsLayer, IdAndShapeAre, NumberAndShapeAre};
@@ -190,7 +191,20 @@ impl Features {
         Ok(())
     }
 
-    /// Inserts a feature, or answers false where the id has one.
+    // What `insert` answers where a slot was refused: false where the id has a feature.
+    fn double_or_refused(&self, id: &str) -> Result<bool, AllocError>
+        ensures double { IfOk result
+            (λ added. (added ≡ false) × (is_some (with_id id.now self.now.list) ≡ true)) }
+        ensures refused { OnErr result (with_id id.now self.now.list ≡ None) }
+    {
+        match self.find(id) {
+            Some(_) => Ok(false),
+            None => Err(AllocError),
+        }
+    }
+
+    /// Inserts a feature, or answers false where the id has one. Memory is refused to a new id
+    /// alone.
     pub(crate) fn insert(&mut self, id: Id, shape: Shape) -> Result<bool, AllocError>
         requires { self.old.list.next < most_features }
         ensures absent { IfOk result
@@ -198,11 +212,14 @@ impl Features {
         ensures inserted { IfOk result (λ added. self.new.list
             ≡ (if added then inserted self.old.list (id_bytes id) shape else self.old.list)) }
         ensures err { OnErr result (self.new.list ≡ self.old.list) }
+        ensures refused { OnErr result (with_id (id_bytes id) self.old.list ≡ None) }
         ensures succeeds { 0 < self.old.room → IsOk result }
     {
         let number = self.slots.len() as u32;
         // From here to the map's insertion nothing changes that a refusal would have to undo.
-        self.slots.reserve(1)?;
+        if self.slots.reserve(1).is_err() {
+            return self.double_or_refused(id.as_str());
+        }
         let (place, before) = self.ids.insert_full(id, Some(number))?;
         match before.flatten() {
             Some(live) => {

@@ -31,7 +31,7 @@ impl Model for Loading {
 }
 
 impl Loading {
-    ghost use Rattle.std.specs.Prelude.{◌≡◌, ◌≢◌, Err, IsTrue, OnOk, OnErr, IfOk};
+    ghost use Rattle.std.specs.Prelude.{◌≡◌, IsTrue, OnOk, OnErr, IfOk};
     ghost use Rattle.layer_core.specs.Ids.{id_bytes};
     ghost use Rattle.layer_core.specs.Layers.{empty, inserted};
     ghost use Rattle.layer_core.specs.Refusals.{is_id, AnswersWith, insert_refusal};
@@ -47,15 +47,13 @@ impl Loading {
 
     /// Inserts a feature at the end, under an id that [`crate::is_id`] allows.
     ///
-    /// It is refused, in this order, as `DoubleId` and `LayerFull`, and `Memory` may come in place
-    /// of any other answer. A refusal changes nothing.
+    /// It is refused, in this order, as `DoubleId` and `LayerFull`, and as `Memory` where neither
+    /// holds. A refusal changes nothing.
     pub fn add(&mut self, id: Id, shape: Shape) -> Result<(), LayerFault>
         requires { IsTrue (is_id (id_bytes id)) }
         ensures ok { OnOk result (self.new ≡ inserted self.old (id_bytes id) shape) }
         ensures err { OnErr result (self.new ≡ self.old) }
-        // Memory may be refused before another reason is found.
-        ensures refused { result ≢ Err LayerFault.Memory
-            → AnswersWith (insert_refusal self.old (id_bytes id)) result }
+        ensures refused { AnswersWith (insert_refusal self.old (id_bytes id)) result }
     {
         if self.features.next() >= MAX_FEATURES {
             return match self.features.find(id.as_str()) {

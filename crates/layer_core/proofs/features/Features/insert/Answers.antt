@@ -1,9 +1,10 @@
 use Rattle.std.proofs.Common.{◌≡◌, ◌∙◌, ◌<◌, not, sym, ap, Some, None, length, is_some, arith, rules}
 use Rattle.layer_core.specs.Ids.{id_bytes}
+use Rattle.layer_core.specs.Layers.{with_id}
 use Rattle.layer_core.specs.Limits.{most_features}
 use Rattle.std.specs.Option.{option_flatten}
 use Rattle.layer_core.specs.declared.features.Slot.{Slot}
-use Rattle.layer_core.proofs.MapLemmas.{InsertsNew, count-le, inserts_new, inserts_double}
+use Rattle.layer_core.proofs.MapLemmas.{InsertsNew, count-le, inserts_new, inserts_double, with_id-missing}
 use Rattle.layer_core.proofs.features.Features.insert.Goals as goal
 
 pub invariant_of-self-in-Some : goal.invariant_of-self-in-Some
@@ -32,6 +33,13 @@ returns-in-Some-clause-inserted c =
     let back = (inserts_double c.self.inside.ids.entries c.self.inside.slots.items c.self.inside.count c.self.invariant c.args.id slot
     (Some c.len-number.result) c.in-Some.live done.index held).0 in
     rw (done.entries, back, c.reserve.ensures.items) (ap (λ f. f.list) c.self.view_is)
+
+pub returns-in_err-place-clause-refused : goal.returns-in_err-place-clause-refused
+returns-in_err-place-clause-refused c =
+    let missing = c.in_err-place.ensures.absent in
+    let none = with_id-missing c.self.inside.ids.entries c.self.inside.slots.items c.self.invariant.table c.args.id missing in
+    let absent = ap (λ f. with_id (id_bytes c.args.id) f.list) (sym c.self.view_is) ∙ none in
+    search rules
 
 -- what the insertion does, where the id had no feature
 new_feature :
