@@ -16,6 +16,7 @@ ghost use Rattle.rtree_core.specs.Packed.{AreNodesOf, FitsPacked, IsNextPage, Is
 ghost use Rattle.rtree_core.specs.Packed.{IsShare};
 ghost use Rattle.rtree_core.specs.Trees.{has_number};
 ghost use Rattle.split_core.specs.Limits.{most};
+ghost use Rattle.split_core.specs.Tiles.{items_before};
 
 use crate::item::Item;
 use crate::node::{Entry, Node};
@@ -109,7 +110,8 @@ impl Packable for Placed {
 /// How many of some items go into the first of some pages.
 fn page_size(items: usize, pages: usize) -> usize
     requires { 0 < pages }
-    ensures { IsShare result items pages }
+    ensures value { result ≡ items_before 1 pages items }
+    ensures share { IsShare result items pages }
 {
     items_in(1, pages, items)
 }

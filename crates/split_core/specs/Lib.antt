@@ -7,3 +7,4 @@ pub mod Limits
 pub mod Orders
 pub mod Seeds
 pub mod Splits
+pub mod Tiles

@@ -12,7 +12,7 @@ use Rattle.rtree_core.proofs.pack.level_above.Goals as goal
 pub returns : goal.returns
 returns c =
     let node : Placed → Node = λ p. p.node in
-    let sorted = rw c.deref_mut.ensures.value at (through_slice c.args.nodes.len _ _ (omega (arith, c.deref_mut.ensures.len)) c.tile.ensures) in
+    let sorted = rw c.deref_mut.ensures.value at (through_slice c.args.nodes.len _ _ (omega (arith, c.deref_mut.ensures.len)) c.tile.ensures.items) in
     IfOk-weaker c.nodes_of.result _ _
     (λ above made. nodes_of_sorted entries_of FitsInner FitsPacked (λ _. Unit {0}) _ _ _ (IsPermutation-map node _ _ sorted) made)
     c.nodes_of.ensures.nodes

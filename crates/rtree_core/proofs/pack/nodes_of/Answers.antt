@@ -13,7 +13,7 @@ share : (g : _) (c : After-page_size-size g) →
 share g c =
     let len : length (map g.T.Packable.held (into_iter_items c.loop-place.rest)) ≡ c.len-in-loop-place.result = omega
     (arith, c.len-in-loop-place.ensures, c.loop-place.rest.rest.ok.0, length-map (into_iter_items c.loop-place.rest) g.T.Packable.held) in
-    rw len c.page_size-size.ensures
+    rw len c.page_size-size.ensures.share
 
 pub next_page-requires-clause-few : goal.next_page-requires-clause-few
 next_page-requires-clause-few g c =

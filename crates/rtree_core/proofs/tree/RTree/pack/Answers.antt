@@ -7,10 +7,10 @@ use Rattle.rtree_core.proofs.tree.RTree.pack.Goals as goal
 
 pub from_pages-requires : goal.from_pages-requires
 from_pages-requires c =
-    let sorted = rw c.deref_mut.ensures.value at (through_slice c.args.entries.len _ _ (omega (arith, c.deref_mut.ensures.len)) c.tile.ensures) in
+    let sorted = rw c.deref_mut.ensures.value at (through_slice c.args.entries.len _ _ (omega (arith, c.deref_mut.ensures.len)) c.tile.ensures.items) in
     record { distinct = distinct_permuted _ _ sorted c.requires.distinct }
 
 pub returns-clause-entries : goal.returns-clause-entries
 returns-clause-entries c =
-    let sorted = rw c.deref_mut.ensures.value at (through_slice c.args.entries.len _ _ (omega (arith, c.deref_mut.ensures.len)) c.tile.ensures) in
+    let sorted = rw c.deref_mut.ensures.value at (through_slice c.args.entries.len _ _ (omega (arith, c.deref_mut.ensures.len)) c.tile.ensures.items) in
     IfOk-weaker c.from_pages.result _ _ (λ t same. same_permuted _ _ (entries_in t) sorted same) c.from_pages.ensures.entries

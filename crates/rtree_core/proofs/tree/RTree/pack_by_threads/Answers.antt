@@ -7,10 +7,10 @@ use Rattle.rtree_core.proofs.tree.RTree.pack_by_threads.Goals as goal
 
 pub from_pages-requires : goal.from_pages-requires
 from_pages-requires g c =
-    let sorted = rw c.deref_mut.ensures.value at (through_slice c.args.entries.len _ _ (omega (arith, c.deref_mut.ensures.len)) c.tile_by_threads.ensures) in
+    let sorted = rw c.deref_mut.ensures.value at (through_slice c.args.entries.len _ _ (omega (arith, c.deref_mut.ensures.len)) c.tile_by_threads.ensures.items) in
     record { distinct = distinct_permuted _ _ sorted c.requires.distinct }
 
 pub returns-clause-entries : goal.returns-clause-entries
 returns-clause-entries g c =
-    let sorted = rw c.deref_mut.ensures.value at (through_slice c.args.entries.len _ _ (omega (arith, c.deref_mut.ensures.len)) c.tile_by_threads.ensures) in
+    let sorted = rw c.deref_mut.ensures.value at (through_slice c.args.entries.len _ _ (omega (arith, c.deref_mut.ensures.len)) c.tile_by_threads.ensures.items) in
     IfOk-weaker c.from_pages.result _ _ (λ t same. same_permuted _ _ (entries_in t) sorted same) c.from_pages.ensures.entries
