@@ -8,6 +8,8 @@ mod refused;
 #[cfg(test)]
 mod rows;
 #[cfg(test)]
+mod sorted;
+#[cfg(test)]
 mod threads;
 #[cfg(test)]
 mod trees;

@@ -27,6 +27,12 @@ const PACKED_TWENTY: Leaves = &[
     &[14, 15, 16, 17, 18, 19],
 ];
 
+const PACKED_EIGHTEEN_LEFT: Leaves = &[
+    &[1, 2, 3, 4, 5, 6],
+    &[7, 9, 10, 11, 12, 13],
+    &[14, 15, 16, 17, 18, 19],
+];
+
 const PACKED_NINE: Leaves = &[&[0, 1, 2, 3, 4], &[5, 6, 7, 8]];
 
 const PACKED_EIGHT_LEFT: Leaves = &[&[0, 1, 2, 3, 4], &[6, 7, 8]];
@@ -185,6 +191,17 @@ fn packed_loses_two(tree: &mut RTree) -> Result<bool, AllocError> {
 #[test]
 fn packed_removals(rt: HostRuntime) -> Result<(), Fail> {
     assert!(rt; Squares::Row.on_packed(rt.alloc(), 9, packed_loses_two)?);
+    Ok(())
+}
+
+/// Whether leaves keep the order of what is left in them.
+fn keeps_order(tree: &mut RTree) -> Result<bool, AllocError> {
+    Ok(Squares::Row.removed(tree, &[0, 8])? && has_leaves(tree, PACKED_EIGHTEEN_LEFT))
+}
+
+#[test]
+fn packed_removal_order(rt: HostRuntime) -> Result<(), Fail> {
+    assert!(rt; Squares::Row.on_packed(rt.alloc(), 20, keeps_order)?);
     Ok(())
 }
 

@@ -12,7 +12,7 @@ use std::test::Fail;
 use std::thread::Threads;
 
 /// What stands behind the numbers below a node.
-const END: u32 = u32::MAX;
+pub(crate) const END: u32 = u32::MAX;
 
 /// An entry near one of nine centres.
 fn entry(random: &mut Random, number: u32) -> Entry
@@ -23,7 +23,7 @@ fn entry(random: &mut Random, number: u32) -> Entry
 }
 
 /// So many entries, always the same ones.
-fn listed(alloc: Global, count: u32) -> Result<Vec<Entry>, AllocError>
+pub(crate) fn listed(alloc: Global, count: u32) -> Result<Vec<Entry>, AllocError>
     ensures { IfOk result (λ v. (k : ℕ) → count_by (has_number k) v.items ≤ 1) }
 {
     let mut random = Random::new(1);
@@ -52,7 +52,7 @@ fn outline(node: &Node, numbers: &mut Vec<u32>) -> Result<(), AllocError>
 }
 
 /// The outline of a tree.
-fn outline_of(alloc: Global, tree: &RTree) -> Result<Vec<u32>, AllocError> {
+pub(crate) fn outline_of(alloc: Global, tree: &RTree) -> Result<Vec<u32>, AllocError> {
     let mut numbers = Vec::new(alloc);
     if let Some(root) = tree.root() {
         outline(root, &mut numbers)?;
@@ -61,7 +61,7 @@ fn outline_of(alloc: Global, tree: &RTree) -> Result<Vec<u32>, AllocError> {
 }
 
 /// The outline of the tree that so many threads pack.
-fn packed_by<R: Threads + Sync>(
+pub(crate) fn packed_by<R: Threads + Sync>(
     rt: &R,
     alloc: Global,
     count: u32,
