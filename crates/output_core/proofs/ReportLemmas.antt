@@ -156,6 +156,12 @@ report_written old new text left right pairs same adds is = record {
   written = is ∙ adds.added ∙ ap (λ t. t ++ adds.text) same ∙ ap (λ t. header_line ++ t) adds.are_rows.written;
 }
 
+-- a report that was added to no text
+pub report_pushed : (old new : List (Vec ℕ Global)) (left right : Contents) (pairs : List (ℕ × ℕ)) → old ≡ []
+    → AddsRows left right pairs (joined old ++ header_line) (joined new) → IsReport left right pairs (joined new)
+report_pushed old new left right pairs none adds =
+    report_written (joined old ++ header_line) (joined new) (joined new) left right pairs (ap (λ ts. joined ts ++ header_line) none) adds refl
+
 -- a report that is the only text
 pub report_alone : (old new : List (Vec ℕ Global)) (text : Vec ℕ Global) (left right : Contents) (pairs : List (ℕ × ℕ)) → old ≡ [] → new ≡ old ++ text ∷ []
     → IsReport left right pairs text.items → IsReport left right pairs (joined new)

@@ -33,13 +33,47 @@ pub fn report_texts<R: Threads + Sync>(
     ensures { IfOk result
         (λ texts. IsReport left.now.list right.now.list pairs.now (joined texts.items)) }
 {
-    let mut texts = Vec::new(alloc);
     if workers > 1 {
-        push_texts(alloc, &mut texts, left, right, pairs, workers, rt)?;
+        chunked_report(alloc, left, right, pairs, workers, rt)
     } else {
-        let text = whole_text(alloc, left, right, pairs)?;
-        texts.push(text)?;
+        whole_report(alloc, left, right, pairs)
     }
+}
+
+/// The report as a text for each chunk of the pairs, behind one for the header.
+#[tactic(auto, using(crate::proofs::ReportLemmas::report_pushed))]
+fn chunked_report<R: Threads + Sync>(
+    alloc: Global,
+    left: &Layer,
+    right: &Layer,
+    pairs: &[(u32, u32)],
+    workers: u32,
+    rt: &R,
+) -> Result<Vec<Vec<u8>>, AllocError>
+    requires held { All (IsHeld left.now.list right.now.list) pairs.now }
+    requires workers { 0 < workers }
+    ensures { IfOk result
+        (λ texts. IsReport left.now.list right.now.list pairs.now (joined texts.items)) }
+{
+    let mut texts = Vec::new(alloc);
+    push_texts(alloc, &mut texts, left, right, pairs, workers, rt)?;
+    Ok(texts)
+}
+
+/// The report as a single text.
+#[tactic(auto, using(crate::proofs::ReportLemmas::report_alone))]
+fn whole_report(
+    alloc: Global,
+    left: &Layer,
+    right: &Layer,
+    pairs: &[(u32, u32)],
+) -> Result<Vec<Vec<u8>>, AllocError>
+    requires { All (IsHeld left.now.list right.now.list) pairs.now }
+    ensures { IfOk result
+        (λ texts. IsReport left.now.list right.now.list pairs.now (joined texts.items)) }
+{
+    let mut texts = Vec::new(alloc);
+    texts.push(whole_text(alloc, left, right, pairs)?)?;
     Ok(texts)
 }
 
