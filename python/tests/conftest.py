@@ -1,0 +1,50 @@
+"""What tests of the package share: the program, and the town's layers as frames."""
+from __future__ import annotations
+
+import csv
+import os
+import shutil
+import warnings
+from pathlib import Path
+from typing import Any, Dict, Iterator
+
+import pytest
+
+TOP = Path(__file__).resolve().parents[2]
+TOWN = TOP / "data/town"
+BUILT = TOP / "crates/rjoin/out/rjoin"
+NAMES = ("parcels", "roads", "stations", "zones")
+
+
+@pytest.fixture(autouse=True, scope="session")
+def program() -> None:
+    """The program: RJOIN, or what was built here, or the PATH's."""
+    if "RJOIN" not in os.environ and BUILT.exists():
+        os.environ["RJOIN"] = str(BUILT)
+    if not shutil.which(os.environ.get("RJOIN", "rjoin")):
+        pytest.skip("the program rjoin is not built")
+
+
+@pytest.fixture(autouse=True)
+def quiet() -> Iterator[None]:
+    """Without the warnings of GeoPandas and Shapely about their own future."""
+    with warnings.catch_warnings():
+        warnings.simplefilter("ignore", DeprecationWarning)
+        warnings.simplefilter("ignore", FutureWarning)
+        yield
+
+
+@pytest.fixture(scope="session")
+def town() -> Dict[str, Any]:
+    """The town's layers, read without the package; the index is a number, and `id` a column."""
+    geopandas = pytest.importorskip("geopandas")
+    return {name: geopandas.GeoDataFrame(
+        {"id": ids}, geometry=geopandas.GeoSeries.from_wkt(texts), crs="EPSG:25832")
+        for name in NAMES for ids, texts in [rows_of(name)]}
+
+
+def rows_of(name: str) -> Any:
+    """The ids and the texts of a layer of the town."""
+    with open(TOWN / f"{name}.csv", newline="", encoding="utf-8") as file:
+        rows = list(csv.reader(file))[1:]
+    return [row[0] for row in rows], [row[1] for row in rows]

@@ -1,0 +1,118 @@
+"""The command python3 -m rjoin, with files that GDAL reads and writes."""
+from __future__ import annotations
+
+import csv
+from pathlib import Path
+from typing import Any, List, Tuple
+
+import pytest
+from conftest import TOWN
+
+from rjoin.command import main
+
+geopandas = pytest.importorskip("geopandas")
+shapely_geometry = pytest.importorskip("shapely.geometry")
+
+
+def touching(town: Any) -> List[Tuple[str, str, str]]:
+    """The pairs of the town by Shapely."""
+    return [(one.id, other.id, one.geometry.relate(other.geometry))
+            for one in town["parcels"].itertuples() for other in town["roads"].itertuples()
+            if one.geometry.touches(other.geometry)]
+
+
+@pytest.fixture()
+def files(town: Any, tmp_path: Path) -> Tuple[str, str]:
+    """The parcels in a GeoPackage of two layers, and the roads in a Shapefile."""
+    town["zones"].to_file(tmp_path / "town.gpkg", layer="zones", driver="GPKG")
+    town["parcels"].to_file(tmp_path / "town.gpkg", layer="parcels", driver="GPKG")
+    town["roads"].assign(lanes=2).to_file(tmp_path / "roads.shp")
+    return f"{tmp_path}/town.gpkg:parcels", f"{tmp_path}/roads.shp"
+
+
+def ends(words: List[Any]) -> int:
+    return main([str(word) for word in words])
+
+
+def test_pairs_are_written_as_csv(town: Any, files: Any, tmp_path: Path) -> None:
+    output = tmp_path / "pairs.csv"
+    assert ends([*files, "--relation", "touches", "-o", output, "--left-id", "id",
+                 "--right-id", "id"]) == 0
+    rows = list(csv.reader(output.open(newline="")))
+    assert rows[0] == ["left", "right", "matrix"]
+    assert [tuple(row) for row in rows[1:]] == touching(town)
+
+
+def test_pairs_are_written_as_a_table(town: Any, files: Any, tmp_path: Path) -> None:
+    output = tmp_path / "pairs.gpkg"
+    assert ends([*files, "--relation", "touches", "-o", output, "--attributes"]) == 0
+    fiona = pytest.importorskip("fiona")
+    with fiona.open(output) as rows:
+        assert rows.schema["geometry"] == "None"
+        values = [row.properties for row in rows]
+    named = [(row["id_left"], row["id_right"], row["matrix"]) for row in values]
+    assert named == touching(town) and {row["lanes"] for row in values} == {2}
+    assert [row["left"] for row in values][:3] == [0, 0, 0]
+
+
+def test_features_are_written_with_fields_of_both_sides(town: Any, files: Any,
+                                                        tmp_path: Path) -> None:
+    output = tmp_path / "out.gpkg"
+    assert ends([*files, "--relation", "touches", "-o", output, "--geometry", "--attributes",
+                 "--left-id", "id"]) == 0
+    written = geopandas.read_file(output)
+    by_id = town["parcels"].set_index("id").geometry
+    assert [(row.left, row.id_right, row.matrix) for row in written.itertuples()] == touching(town)
+    assert all(by_id[row.left].equals(row.geometry) for row in written.itertuples())
+    assert written.crs == town["parcels"].crs
+
+
+def test_layers_of_the_town_are_read_as_they_stand(town: Any, tmp_path: Path) -> None:
+    output = tmp_path / "pairs.csv"
+    assert ends([TOWN / "parcels.csv", TOWN / "roads.csv", "--relation", "touches", "-o",
+                 output]) == 0
+    assert [tuple(row) for row in csv.reader(output.open(newline=""))][1:] == touching(town)
+
+
+def test_a_file_that_is_there_is_kept(files: Any, tmp_path: Path, capsys: Any) -> None:
+    output = tmp_path / "town.gpkg"
+    before = output.read_bytes()
+    words = [*files, "--relation", "touches", "-o", output]
+    assert ends(words) == 2 and output.read_bytes() == before
+    assert "--overwrite" in capsys.readouterr().err
+    assert ends([*words, "--overwrite"]) == 0 and output.read_bytes() != before
+
+
+def test_faults_leave_nothing_and_are_told_in_a_line(files: Any, tmp_path: Path,
+                                                     capsys: Any) -> None:
+    slanted = geopandas.GeoDataFrame(geometry=[shapely_geometry.LineString([(0, 0), (9, 7)])])
+    slanted.to_file(tmp_path / "slanted.gpkg", driver="GPKG")
+    left, output = files[0], tmp_path / "out.csv"
+    for right, relation, status, told in (
+            (tmp_path / "slanted.gpkg", "touches", 1, "right: row 1 (feature 0): not a point"),
+            (tmp_path / "none.gpkg", "touches", 1, "is not there"),
+            (f"{tmp_path}/town.gpkg:none", "touches", 1, "none"),
+            (files[1], "covers", 2, "covers")):
+        before = sorted(tmp_path.iterdir())
+        assert ends([left, right, "--relation", relation, "-o", output]) == status
+        lines = capsys.readouterr().err.splitlines()
+        assert len(lines) == 1 and lines[0].startswith("rjoin: ") and told in lines[0]
+        assert sorted(tmp_path.iterdir()) == before
+    for name, told in (("out.none", ".none"), ("none/out.csv", "no folder")):
+        assert ends([left, files[1], "--relation", "touches", "-o", tmp_path / name]) == 2
+        assert told in capsys.readouterr().err
+
+
+def test_what_is_left_out_is_listed(files: Any, tmp_path: Path, capsys: Any) -> None:
+    mixed = geopandas.GeoDataFrame(geometry=[
+        shapely_geometry.LineString([(0, 0), (9, 7)]), shapely_geometry.Point(5, 5)])
+    mixed.to_file(tmp_path / "mixed.geojson", driver="GeoJSON")
+    for other, what, count in (("skip", "left out", 1), ("envelope", "envelope", 2)):
+        output, notices = tmp_path / f"{other}.csv", tmp_path / f"{other}-notices.csv"
+        assert ends([tmp_path / "mixed.geojson", TOWN / "parcels.csv", "--relation", "intersects",
+                     "--other", other, "-o", output, "--notices", notices]) == 0
+        assert "row 1" in capsys.readouterr().err
+        rows = list(csv.reader(notices.open(newline="")))
+        assert [row[:3] for row in rows[1:]] == [[what, "left", "1"]]
+        lefts = {row[0] for row in csv.reader(output.open(newline=""))} - {"left"}
+        assert len(lefts) == count

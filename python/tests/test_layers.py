@@ -1,0 +1,208 @@
+"""Layers of each kind, geometries of each form, and what happens to those that are no box."""
+from __future__ import annotations
+
+import math
+import random
+from decimal import Decimal
+from pathlib import Path
+from typing import Any, List
+
+import pytest
+from conftest import TOWN, rows_of
+
+import rjoin
+
+geopandas = pytest.importorskip("geopandas")
+wkt = pytest.importorskip("shapely.wkt")
+
+BOXES = (
+    "POINT (1 2)", "POINT Z (1 2 3)", "MULTIPOINT (1 2)", "GEOMETRYCOLLECTION (POINT (1 2))",
+    "LINESTRING (0 0, 2 0)", "LINESTRING (2 0, 1 0, 1 0, 0 0)", "MULTILINESTRING ((0 0, 0 3))",
+    "POLYGON ((0 0, 2 0, 2 2, 0 2, 0 0))", "POLYGON ((0 2, 2 2, 2 0, 0 0, 0 2))",
+    "POLYGON ((1 0, 2 0, 2 0, 2 1, 2 2, 0 2, 0 0, 0 0, 1 0))",
+    "POLYGON ((0 0, 0 0, 2 0, 2 2, 0 2, 0 1, 0 0))",
+    "MULTIPOLYGON (((0 0, 2 0, 2 2, 0 2, 0 0)))",
+)
+OTHERS = (
+    "LINESTRING (0 0, 1 1)", "LINESTRING (0 0, 2 0, 1 0)", "LINESTRING (1 1, 1 1)",
+    "LINESTRING (0 0, 1 0, 1 1)", "LINESTRING (0 0, 2 0, 2 2, 0 2, 0 0)",
+    "POLYGON ((0 0, 2 0, 2 2, 0 0))", "POLYGON ((0 0, 2 0, 0 0, 0 0))",
+    "POLYGON ((0 0, 3 0, 2 0, 2 2, 0 2, 0 0))", "POLYGON ((0 0, 4 0, 4 2, 2 2, 2 4, 0 4, 0 0))",
+    "POLYGON ((0 0, 2 0, 2 2, 0 2, 0 0, 2 0, 2 2, 0 2, 0 0))",
+    "POLYGON ((0 0, 9 0, 9 9, 0 9, 0 0), (1 1, 2 1, 2 2, 1 2, 1 1))",
+    "MULTIPOINT (1 1, 2 2)", "MULTIPOLYGON (((0 0, 1 0, 1 1, 0 1, 0 0)), ((4 4, 6 4, 6 6, 4 4)))",
+)
+EMPTY = ("POINT EMPTY", "LINESTRING EMPTY", "POLYGON EMPTY", "MULTIPOLYGON EMPTY",
+         "GEOMETRYCOLLECTION EMPTY")
+AREA = "POLYGON ((-9 -9, 19 -9, 19 19, -9 19, -9 -9))"
+
+
+def series(texts: Any) -> Any:
+    """Geometries with letters as labels."""
+    labels = [chr(ord("a") + place) for place in range(len(texts))]
+    return geopandas.GeoSeries([text and wkt.loads(text) for text in texts], index=labels)
+
+
+def test_boxes_are_found_in_each_of_their_forms() -> None:
+    layer = series(BOXES)
+    assert list(rjoin.window(layer, AREA)) == list(layer.index)
+    for one, other in zip(layer, BOXES):
+        plain = wkt.loads(other)
+        assert rjoin.relate(one, AREA) == plain.relate(wkt.loads(AREA))
+
+
+@pytest.mark.parametrize("text", OTHERS)
+def test_a_geometry_that_is_no_box_is_refused_with_its_feature(text: str) -> None:
+    with pytest.raises(rjoin.InputError, match="not a point, axis-parallel") as caught:
+        rjoin.pairs([AREA], series(["POINT (1 2)", text]))
+    fault = caught.value
+    assert (fault.side, fault.row, fault.feature) == ("right", 2, "b")
+
+
+def test_what_is_left_out_is_listed_and_told() -> None:
+    layer = series([*OTHERS, BOXES[0], None, *EMPTY])
+    with pytest.warns(rjoin.LeftOutWarning, match="19 features are left out.*row 1") as caught:
+        pairs = rjoin.pairs(layer, [AREA], other="skip", missing="skip")
+    assert caught[0].filename == __file__
+    assert pairs["left"].tolist() == [layer.index[len(OTHERS)]]
+    left_out = pairs.attrs["left_out"]
+    rows = [row for row in range(1, len(layer) + 1) if row != len(OTHERS) + 1]
+    assert [notice.row for notice in left_out] == rows
+    assert [notice.feature for notice in left_out] == [layer.index[row - 1] for row in rows]
+    assert {notice.side for notice in left_out} == {"left"}
+    assert left_out[-1].reason == "the geometry is empty"
+
+
+def test_features_that_are_left_out_are_in_no_row_of_a_left_join() -> None:
+    layer = geopandas.GeoDataFrame(geometry=series([OTHERS[0], "POINT (50 50)", None]))
+    areas = geopandas.GeoDataFrame(geometry=series([AREA]))
+    with pytest.warns(rjoin.LeftOutWarning):
+        joined = rjoin.sjoin(layer, areas, how="left", other="skip", missing="skip")
+    assert joined.index.tolist() == ["b"] and len(joined.attrs["left_out"]) == 2
+
+
+def test_envelopes_are_those_of_shapely_and_are_listed() -> None:
+    layer = series([*OTHERS, BOXES[0]])
+    boxes = layer.envelope
+    for window in ("POINT (0 0)", "POINT (2 2)", "POINT (5 5)", "LINESTRING (3 -1, 3 9)"):
+        met = rjoin.window(layer, window, other="envelope")
+        assert met.tolist() == boxes.index[boxes.intersects(wkt.loads(window))].tolist()
+    assert [notice.row for notice in met.attrs["enveloped"]] == list(range(1, len(OTHERS) + 1))
+    assert met.attrs["left_out"] == ()
+
+
+@pytest.mark.parametrize("text", (None, *EMPTY))
+def test_missing_and_empty_geometries_are_refused_unless_skipped(text: Any) -> None:
+    layer = series([BOXES[0], text])
+    for other in ("error", "envelope", "skip"):
+        with pytest.raises(rjoin.InputError, match="empty|no geometry") as caught:
+            rjoin.stats(layer, other=other)
+        assert (caught.value.row, caught.value.feature) == (2, "b")
+    with pytest.warns(rjoin.LeftOutWarning):
+        counts = rjoin.stats(layer, missing="skip")
+    assert (counts.features, counts.points, len(counts.left_out)) == (1, 1, 1)
+
+
+def test_numbers_that_are_not_finite_are_refused() -> None:
+    from shapely.geometry import LineString
+
+    layer = geopandas.GeoSeries([LineString([(0, 0), (math.inf, 0)])])
+    with pytest.raises(rjoin.InputError, match="finite"):
+        rjoin.stats(layer, other="envelope")
+
+
+def decimals_of(number: float) -> int:
+    """The decimals of the shortest text of a float."""
+    exponent = Decimal(repr(number)).normalize().as_tuple().exponent
+    return max(0, -int(exponent))
+
+
+def test_the_scale_is_the_fewest_decimals_that_write_each_number() -> None:
+    chance = random.Random(3)
+    for needed in range(7):
+        numbers = [chance.randrange(-10 ** 6, 10 ** 6) / 10 ** chance.randint(0, needed)
+                   for _ in range(500)]
+        points = [f"POINT ({number:.{needed}f} 0)" for number in numbers]
+        for layer in (points, series(points[:20])):
+            most = max(map(decimals_of, numbers[:len(layer)]))
+            assert rjoin.stats(layer, scale=most).points == len(layer)
+            assert rjoin.stats(layer).points == len(layer)
+            if most:
+                with pytest.raises(rjoin.InputError):
+                    rjoin.stats(layer, scale=most - 1)
+
+
+@pytest.mark.parametrize("number", ("0.1234567", "0.30000000000000004", "1e-7"))
+def test_a_number_with_too_many_decimals_names_its_feature(number: str) -> None:
+    layer = series(["POINT (1 2)", "POINT (1.5 2)", f"POINT ({float(number)!r} 2)"])
+    with pytest.raises(rjoin.InputError, match=r"row 3 \(feature 'c'\).*decimals"):
+        rjoin.stats(layer)
+
+
+def test_texts_with_too_many_decimals_name_their_row() -> None:
+    assert rjoin.stats(["POINT (1.5000000000 2.)", "POINT (3 4)"], scale=1).points == 2
+    assert rjoin.stats(["POINT (1.5000000000 2.)", "POINT (3 4)"]).points == 2
+    with pytest.raises(rjoin.InputError, match="row 2 .*decimals"):
+        rjoin.stats(["POINT (1.5 2)", "POINT (3.1234567 4)"])
+
+
+def test_numbers_out_of_range_name_their_feature() -> None:
+    layer = series(["POINT (0.123456 2)", "POINT (1000000.5 2)"])
+    with pytest.raises(rjoin.InputError, match=r"row 2 \(feature 'b'\).*above"):
+        rjoin.stats(layer)
+    assert rjoin.stats(series(["POINT (-1000000000000 1000000000000)"])).points == 1
+    with pytest.raises(rjoin.InputError, match="above"):
+        rjoin.stats(series(["POINT (1000000000001 0)"]))
+
+
+def test_both_sides_have_one_scale() -> None:
+    fine, coarse = series(["POINT (0.25 1)"]), ["POLYGON ((0 0, 2 0, 2 2, 0 2, 0 0))"]
+    for left, right in ((fine, coarse), (list(fine), series(coarse)), (["POINT (0.25 1)"], coarse)):
+        assert rjoin.pairs(left, right)["matrix"].tolist() == ["0FFFFF212"]
+    with pytest.raises(rjoin.InputError, match="left: row 1 .*not a geometry text"):
+        rjoin.pairs(["POINT (.25 1)"], coarse)
+
+
+def layers_of_each_kind(name: str, folder: Path) -> List[Any]:
+    """The same layer as a path, a list, a series of texts, geometries, a frame and two files."""
+    ids, texts = rows_of(name)
+    geometries = [wkt.loads(text) for text in texts]
+    frame = geopandas.GeoDataFrame({"name": ids}, geometry=geometries, crs="EPSG:25832")
+    frame.to_file(folder / f"{name}.gpkg", layer="features", driver="GPKG")
+    return [TOWN / f"{name}.csv", str(TOWN / f"{name}.csv"), texts, tuple(texts), geometries,
+            frame.geometry.to_wkt(), frame.geometry, frame, folder / f"{name}.gpkg",
+            f"{folder / name}.gpkg:features"]
+
+
+@pytest.mark.filterwarnings("ignore:CRS mismatch")
+def test_layers_of_each_kind_have_the_same_pairs(tmp_path: Path) -> None:
+    lefts, rights = (layers_of_each_kind(name, tmp_path) for name in ("parcels", "stations"))
+    places = [(one, other) for one, a in enumerate(lefts[4]) for other, b in enumerate(rights[4])
+              if a.contains(b)]
+    for left in lefts:
+        for right in (rights[0], rights[2], rights[7]):
+            pairs = rjoin.pairs(left, right, "contains", ids="position")
+            assert list(zip(pairs["left"], pairs["right"])) == places
+    ids = rows_of("parcels")[0], rows_of("stations")[0]
+    by_label = rjoin.pairs(lefts[0], rights[7].set_index("name"), "contains")
+    named = [(ids[0][one], ids[1][other]) for one, other in places]
+    assert list(zip(by_label["left"], by_label["right"])) == named
+
+
+def test_window_and_stats_count_what_shapely_counts(town: Any) -> None:
+    for name in ("parcels", "roads", "stations"):
+        layer = town[name]
+        place = wkt.loads("POLYGON ((10 10, 40 10, 40 70, 10 70, 10 10))")
+        met = rjoin.window(layer, place, ids="position")
+        assert met.tolist() == [row for row, one in enumerate(layer.geometry)
+                                if one.intersects(place)]
+        counts = rjoin.stats(TOWN / f"{name}.csv")
+        kinds = layer.geometry.geom_type.tolist()
+        assert counts[:4] == (len(layer), kinds.count("Point"), kinds.count("LineString"),
+                              kinds.count("Polygon"))
+
+
+def test_a_million_features_are_the_most() -> None:
+    with pytest.raises(rjoin.InputError, match="layer is full") as caught:
+        rjoin.stats(["POINT (1 1)"] * 1_000_001)
+    assert caught.value.row == 1_000_001
