@@ -97,9 +97,13 @@ impl Gathering {
 fn note_bye(ended: &mut Vec<bool>, message: &Message)
     requires { message.now.port < length ended.old.items }
     ensures ports { length ended.new.items ≡ length ended.old.items }
-    ensures noted { (port : ℕ) → slice_get ended.new.items port ≡ Some true
+    ensures only { (port : ℕ) → slice_get ended.new.items port ≡ Some true
         → (slice_get ended.old.items port ≡ Some true)
         ⊎ ((message.now.port ≡ port) × (is_bye message.now ≡ true)) }
+    ensures noted { is_bye message.now ≡ true
+        → slice_get ended.new.items message.now.port ≡ Some true }
+    ensures kept { (port : ℕ) → slice_get ended.old.items port ≡ Some true
+        → slice_get ended.new.items port ≡ Some true }
 {
     if matches!(message.body, Body::Bye(_)) {
         ended[message.port as usize] = true;
