@@ -29,8 +29,8 @@ crates:     {crates}
 Every crate above was proved in full, with its sources of this commit{changes}, and the program is what the toolchain
 then built of them, byte for byte. {evidence}
 
-What the proofs say, what is only tested, and what is trusted stands in README.md, under "What is proved", "What is only
-tested" and "What is trusted". To prove it again, run .ci/run in a checkout of this commit.
+What the proofs say and what is trusted stands in README.md, under "What is proved", and call by call, with what is only
+tested, in docs/GUARANTEES.md. To prove it again, run .ci/run in a checkout of this commit.
 """
 CHANGES = " and the changes that the checkout had"
 BY_STAMP = "The toolchain's stamp of the proved build named these sources, this toolchain and these bytes."
