@@ -76,17 +76,25 @@ fn are_same_of<R: Threads + Wait + Sync + RandomSource + AllocGlobal>(
     are_same(rt, left.as_str(), right.as_str())
 }
 
-/// How many left and right features there are in the largest layers.
-const MANY: (u32, u32) = (2000, 1500);
-
-/// How many pairs of small layers there are.
-const SMALL: u32 = 22;
-
+// The joins of small layers are two tests, so that each has time on a busy machine.
 #[test]
-fn thousand_joins(rt: HostRuntime) {
+fn thousand_joins_few_on_the_left(rt: HostRuntime) {
     let mut random = Random::new(2);
-    for size in 0..SMALL {
+    for size in 0..11 {
         assert!(rt; are_same_of(&rt, &mut random, 4 * size, 100 - 4 * size) == Some(true));
     }
-    assert!(rt; are_same_of(&rt, &mut random, MANY.0, MANY.1) == Some(true));
+}
+
+#[test]
+fn thousand_joins_more_on_the_left(rt: HostRuntime) {
+    let mut random = Random::new(3);
+    for size in 11..22 {
+        assert!(rt; are_same_of(&rt, &mut random, 4 * size, 100 - 4 * size) == Some(true));
+    }
+}
+
+#[test]
+fn joins_of_many_features(rt: HostRuntime) {
+    let mut random = Random::new(4);
+    assert!(rt; are_same_of(&rt, &mut random, 2000, 1500) == Some(true));
 }
