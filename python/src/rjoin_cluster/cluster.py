@@ -5,7 +5,7 @@ import logging
 import os
 from contextlib import contextmanager
 from dataclasses import dataclass
-from typing import Any, Iterator, Optional
+from typing import Any, Iterator
 
 import dask
 from distributed import Client, LocalCluster
@@ -13,19 +13,9 @@ from distributed import Client, LocalCluster
 from rjoin_cluster.faults import JoinFault
 from rjoin_cluster.layout import Layout
 from rjoin_cluster.program import Program
+from rjoin_cluster.request import Place
 
 TOKEN = b"seen\n"
-
-
-@dataclass(frozen=True)
-class Place:
-    """Where the tasks run: at the scheduler of this address, or in so many processes of this
-    machine.
-    """
-
-    scheduler: Optional[str]
-    workers: int
-    patience: float  # seconds to wait for a scheduler, and for a first worker
 
 
 @dataclass(frozen=True)

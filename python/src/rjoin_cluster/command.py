@@ -10,11 +10,11 @@ import sys
 from types import FrameType
 from typing import Optional, Sequence
 
-from rjoin_cluster.cluster import Place
 from rjoin_cluster.faults import JoinFault
-from rjoin_cluster.join import BLOCK_BYTES, Request, join
+from rjoin_cluster.join import join
 from rjoin_cluster.program import Program, find_program
 from rjoin_cluster.progress import Progress
+from rjoin_cluster.request import BLOCK_BYTES, Place, Request
 
 EPILOG = """\
 The report is that of one run of rjoin join over both files, which may have any number of features
@@ -114,16 +114,14 @@ def at_least_one(text: str) -> int:
 
 
 def request_of(words: argparse.Namespace) -> Request:
-    program = Program(find_program(words.program), words.scale)
-    place = Place(words.scheduler, words.workers, words.patience)
     return Request(
         os.path.abspath(words.left),
         os.path.abspath(words.right),
         words.relation,
         words.out,
-        program,
-        place,
-        words.folder,
+        Program(find_program(words.program), words.scale),
+        Place(words.scheduler, words.workers, words.patience),
+        words.folder or os.path.dirname(os.path.abspath(words.out)),
         words.tiles,
         words.block,
     )
@@ -145,6 +143,9 @@ def main(arguments: Optional[Sequence[str]] = None) -> int:
     except JoinFault as fault:
         print(fault.line, file=sys.stderr)
         return fault.status
+    except OSError as fault:
+        print(f"rjoin-cluster: {fault}", file=sys.stderr)
+        return 1
     except KeyboardInterrupt:
         print("rjoin-cluster: interrupted", file=sys.stderr)
         return 128 + signal.SIGINT

@@ -24,7 +24,7 @@ class DoublesJob:
 
     layout: Layout
     side: Side
-    firsts: Places  # the number of each block's first feature
+    blocks: int
     part: int
     parts: int
 
@@ -56,7 +56,7 @@ def hashed(job: DoublesJob) -> tuple[Hashes, Places]:
     low, high = (np.uint64(end) for end in job.range)
     hashes = [np.zeros(0, dtype=np.uint64)]
     numbers = [np.zeros(0, dtype=np.int64)]
-    for block, first in enumerate(job.firsts.tolist()):
+    for block, first in enumerate(mapped(job.layout.firsts(job.side))[: job.blocks].tolist()):
         all_hashes = mapped(job.layout.hashes(job.side, block))
         begin = int(np.searchsorted(all_hashes, low, side="left"))
         end = int(np.searchsorted(all_hashes, high, side="right"))
@@ -66,6 +66,7 @@ def hashed(job: DoublesJob) -> tuple[Hashes, Places]:
 
 
 def id_of(job: DoublesJob, number: int) -> bytes:
-    block = int(np.searchsorted(job.firsts, number, side="right")) - 1
-    row = mapped(job.layout.ids(job.side, block))[number - job.firsts[block]]
+    firsts = mapped(job.layout.firsts(job.side))
+    block = int(np.searchsorted(firsts, number, side="right")) - 1
+    row = mapped(job.layout.ids(job.side, block))[number - firsts[block]]
     return bytes(row[1 : 1 + int(row[0])])

@@ -34,6 +34,9 @@ class Engine:
         self.seconds: dict[str, float] = {}
         self.started = 0
 
+    def workers(self) -> int:
+        return len(self.client.scheduler_info()["workers"])
+
     @contextmanager
     def phase(self, name: str) -> Iterator[None]:
         """Takes the time of a phase."""

@@ -41,11 +41,24 @@ class Layout:
     def piece_ends(self, side: Side) -> Path:
         return self.file(f"piece-ends-{side.value}.npy")
 
+    def firsts(self, side: Side) -> Path:
+        """The number of each block's first feature."""
+        return self.file(f"firsts-{side.value}.npy")
+
     def tiles(self) -> Path:
         return self.file("tiles.npy")
 
     def pairs(self, run: int) -> Path:
         return self.file(f"pairs-{run}.npy")
+
+    def part_borders(self) -> Path:
+        return self.file("part-borders.npy")
+
+    def part_places(self) -> Path:
+        return self.file("part-places.npy")
+
+    def run_sizes(self) -> Path:
+        return self.file("run-sizes.npy")
 
     def report_part(self, part: int) -> Path:
         return self.file(f"report-{part}.csv")

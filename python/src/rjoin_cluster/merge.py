@@ -12,7 +12,7 @@ import numpy as np
 from numpy.typing import NDArray
 
 from rjoin_cluster.ids import IdTable, widened
-from rjoin_cluster.layout import Layout, mapped, save_bytes
+from rjoin_cluster.layout import Layout, mapped, save_array, save_bytes
 from rjoin_cluster.records import Bytes, Places
 from rjoin_cluster.runs import KEY_STEP, MATRIX, RunDone, pair_type
 from rjoin_cluster.sides import Side
@@ -22,67 +22,39 @@ ROWS_AT_ONCE = 262_144
 
 
 @dataclass(frozen=True)
-class Slice:
-    """Where a run's file holds the pairs of a range, with some others before and behind them."""
-
-    run: int
-    begin: int
-    end: int
-
-
-@dataclass(frozen=True)
 class PartJob:
-    """A part of the report: the pairs from one rank on up to another."""
+    """A part of the report, by its number."""
 
     layout: Layout
     number: int
-    first_rank: int
-    end_rank: int
-    slices: tuple[Slice, ...]
-    left_firsts: Places  # the number of each left block's first feature
     right_features: int
 
     def __str__(self) -> str:
         return f"part {self.number}"
 
 
-def part_jobs(
-    layout: Layout, runs: Sequence[RunDone], left_firsts: Places, right_features: int
-) -> list[PartJob]:
-    """The parts that make up the report, in order."""
+def plan_parts(layout: Layout, runs: Sequence[RunDone]) -> int:
+    """Keeps which pairs make up each part of the report, and answers how many parts there are.
+
+    For each border between parts and each run, the place of the border among the keys of the run
+    tells which pairs have to be looked at.
+    """
     borders = range_borders(runs)
-    held = slices_of(runs, borders)
-    return [
-        PartJob(
-            layout,
-            part,
-            int(borders[part]),
-            int(borders[part + 1]),
-            tuple(held[part]),
-            left_firsts,
-            right_features,
-        )
-        for part in range(len(borders) - 1)
-    ]
+    places = np.empty((borders.size, len(runs)), dtype=np.int32)
+    for number, run in enumerate(runs):
+        places[:, number] = np.searchsorted(run.keys, borders)
+    save_array(layout.part_borders(), borders)
+    save_array(layout.part_places(), places)
+    save_array(layout.run_sizes(), np.array([run.pairs for run in runs], dtype=np.int64))
+    return borders.size - 1
 
 
 def range_borders(runs: Sequence[RunDone]) -> Places:
     """The first rank of each range, and one behind all ranks."""
     keys = np.sort(np.concatenate([np.zeros(0, dtype=np.int64), *(run.keys for run in runs)]))
     inner = np.unique(keys[:: max(1, RANGE_PAIRS // KEY_STEP)])[1:]
-    ends = np.iinfo(np.int64)
-    return np.concatenate([[0], inner, [ends.max]]) if keys.size else np.zeros(1, dtype=np.int64)
-
-
-def slices_of(runs: Sequence[RunDone], borders: Places) -> list[list[Slice]]:
-    """For each range, the slices of the runs that have pairs of it."""
-    held: list[list[Slice]] = [[] for _ in borders[1:]]
-    for number, run in enumerate(runs):
-        firsts = np.maximum(np.searchsorted(run.keys, borders[:-1], side="left") - 1, 0) * KEY_STEP
-        ends = np.minimum(np.searchsorted(run.keys, borders[1:], side="left") * KEY_STEP, run.pairs)
-        for part in np.flatnonzero(firsts < ends).tolist():
-            held[part].append(Slice(number, int(firsts[part]), int(ends[part])))
-    return held
+    behind = np.iinfo(np.int64).max
+    return np.concatenate([[0], inner, [behind]]) if keys.size else np.zeros(1, dtype=np.int64)
 
 
 def write_part(job: PartJob) -> int:
@@ -113,9 +85,15 @@ def pairs_of(job: PartJob) -> NDArray[np.void]:
 
 
 def parts_of(job: PartJob) -> Iterator[NDArray[np.void]]:
-    for piece in job.slices:
-        rows = np.array(mapped(job.layout.pairs(piece.run))[piece.begin : piece.end])
-        begin, end = np.searchsorted(rows["rank"], [job.first_rank, job.end_rank])
+    """The pairs of the range in each run that has some."""
+    layout = job.layout
+    borders = mapped(layout.part_borders())[job.number : job.number + 2]
+    before, behind = mapped(layout.part_places())[job.number : job.number + 2].astype(np.int64)
+    begins = np.maximum(before - 1, 0) * KEY_STEP
+    ends = np.minimum(behind * KEY_STEP, mapped(layout.run_sizes()))
+    for run in np.flatnonzero(begins < ends).tolist():
+        rows = np.array(mapped(layout.pairs(run))[begins[run] : ends[run]])
+        begin, end = np.searchsorted(rows["rank"], borders)
         yield rows[begin:end]
 
 
@@ -128,12 +106,13 @@ def part_text(job: PartJob, pairs: NDArray[np.void]) -> bytes:
 def left_ids(job: PartJob, numbers: Places) -> IdTable:
     """The ids of left features, whose numbers ascend."""
     ids = np.zeros((numbers.size, 1), dtype=np.uint8)
-    borders = np.append(np.searchsorted(numbers, job.left_firsts), numbers.size)
+    firsts = mapped(job.layout.firsts(Side.LEFT))
+    borders = np.append(np.searchsorted(numbers, firsts), numbers.size)
     for block in np.flatnonzero(np.diff(borders)).tolist():
         rows = slice(borders[block], borders[block + 1])
         table = mapped(job.layout.ids(Side.LEFT, block))
         ids = widened(ids, table.shape[1])
-        ids[rows, : table.shape[1]] = table.take(numbers[rows] - job.left_firsts[block], axis=0)
+        ids[rows, : table.shape[1]] = table.take(numbers[rows] - firsts[block], axis=0)
     return ids
 
 

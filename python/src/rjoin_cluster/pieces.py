@@ -18,7 +18,7 @@ from rjoin_cluster.records import Places
 from rjoin_cluster.sides import Side
 from rjoin_cluster.tiles import Tiles
 
-Counts = NDArray[np.int64]
+Counts = NDArray[np.int32]
 
 
 @dataclass(frozen=True)
@@ -66,7 +66,7 @@ def deal_block(job: DealJob) -> Counts:
     boxes: Boxes = np.array(mapped(layout.boxes(job.side, job.block)))
     tiles = Tiles(mapped(layout.tiles()))
     dealt = dict(tiles.deal(boxes))
-    counts = np.zeros(tiles.count, dtype=np.int64)
+    counts = np.zeros(tiles.count, dtype=np.int32)
     for tile, rows in dealt.items():
         counts[tile] = rows.size
     order = (
@@ -92,13 +92,14 @@ def piece_rows(job: DealJob, boxes: Boxes, order: Places) -> NDArray[np.void]:
     return rows
 
 
-def save_ends(layout: Layout, side: Side, counts: list[Counts]) -> Counts:
-    """Keeps, for each tile and block, where the tile's part ends in the block's file; answers the
-    sizes of tiles.
+def save_ends(layout: Layout, side: Side, counts: list[Counts]) -> Places:
+    """Keeps, for each tile and block, where the tile's part ends in the block's file; answers how
+    many features each tile got.
     """
     by_block = np.array(counts)
-    save_array(layout.piece_ends(side), np.ascontiguousarray(by_block.cumsum(axis=1).T))
-    sizes: Counts = by_block.sum(axis=0)
+    ends = by_block.cumsum(axis=1, dtype=np.int32)
+    save_array(layout.piece_ends(side), np.ascontiguousarray(ends.T))
+    sizes: Places = by_block.sum(axis=0, dtype=np.int64)
     return sizes
 
 
@@ -116,7 +117,7 @@ def parts_of(layout: Layout, side: Side, tile: int, wanted: Range) -> Iterator[N
     """The rows of the range, block by block; nothing is read of blocks that have none of them."""
     ends = mapped(layout.piece_ends(side))
     begins = ends[tile - 1] if tile else np.zeros_like(ends[0])
-    counts = ends[tile] - begins
+    counts = (ends[tile] - begins).astype(np.int64)
     places = np.cumsum(counts) - counts
     low = np.maximum(wanted.begin - places, 0)
     high = np.minimum(wanted.end - places, counts)

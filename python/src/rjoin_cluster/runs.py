@@ -30,7 +30,7 @@ from rjoin_cluster.tiles import Region
 
 REPORT_HEADER = b"left,right,matrix\n"
 MATRIX = 9
-KEY_STEP = 1024
+KEY_STEP = 256
 
 log = logging.getLogger("rjoin_cluster")
 
@@ -94,7 +94,7 @@ class RunJob:
 
 @dataclass(frozen=True)
 class RunDone:
-    """What a run came to: its pairs, and the rank of each 1024th of them from the first on."""
+    """What a run came to: its pairs, and the rank of each 256th of them from the first on."""
 
     pairs: int
     keys: Places

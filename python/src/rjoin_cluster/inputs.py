@@ -1,0 +1,55 @@
+"""The files of the two layers: that they can be read, and that nobody writes them meanwhile."""
+from __future__ import annotations
+
+import os
+import stat
+from dataclasses import dataclass
+
+from rjoin_cluster.faults import JoinFault, ProgramFault
+from rjoin_cluster.sides import Side
+
+
+@dataclass(frozen=True)
+class Input:
+    """A layer's file as it is found at the start of a join."""
+
+    side: Side
+    path: str
+    bytes: int
+    changed: int  # when it was written last, in nanoseconds
+
+    def check_unchanged(self) -> None:
+        now = os.stat(self.path)
+        if (now.st_size, now.st_mtime_ns) != (self.bytes, self.changed):
+            raise JoinFault(f"{self.side.value}: the file was changed during the join")
+
+
+def find_inputs(left: str, right: str) -> tuple[Input, Input]:
+    """Both files, once it is known that they can be opened, and then that they can be read."""
+    opened: list[int] = []
+    try:
+        for side, path in ((Side.LEFT, left), (Side.RIGHT, right)):
+            opened.append(open_file(side, path))
+        return found(Side.LEFT, left, opened[0]), found(Side.RIGHT, right, opened[1])
+    finally:
+        for number in opened:
+            os.close(number)
+
+
+def open_file(side: Side, path: str) -> int:
+    """Opens a file or a folder; what would wait for a writer is opened without waiting."""
+    try:
+        return os.open(path, os.O_RDONLY | os.O_NONBLOCK)
+    except OSError as cause:
+        raise ProgramFault(f"rjoin: {side.value}: cannot be opened") from cause
+
+
+def found(side: Side, path: str, number: int) -> Input:
+    status = os.fstat(number)
+    if stat.S_ISREG(status.st_mode) or stat.S_ISDIR(status.st_mode):
+        try:
+            os.read(number, 1)
+        except OSError as cause:
+            raise ProgramFault(f"rjoin: {side.value}: read failed") from cause
+        return Input(side, path, status.st_size, status.st_mtime_ns)
+    raise JoinFault(f"{side.value}: not a regular file, which alone can be read in blocks")

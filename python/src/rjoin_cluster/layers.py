@@ -1,0 +1,69 @@
+"""What is known of the two layers once their files have been read."""
+from __future__ import annotations
+
+from dataclasses import dataclass
+from typing import Optional, Sequence
+
+import numpy as np
+
+from rjoin_cluster.blocks import BlockRead
+from rjoin_cluster.digits import digits_in
+from rjoin_cluster.program import RowFault
+from rjoin_cluster.records import Places
+from rjoin_cluster.runs import Numerals
+from rjoin_cluster.sides import Side
+from rjoin_cluster.tiles import Sample
+
+
+@dataclass(frozen=True)
+class Layer:
+    """The blocks of a file; where it has a fault, those up to the one with the fault."""
+
+    side: Side
+    blocks: Sequence[BlockRead]
+
+    @property
+    def rows_of_blocks(self) -> Places:
+        return np.array([block.rows for block in self.blocks], dtype=np.int64)
+
+    @property
+    def firsts(self) -> Places:
+        """The number of each block's first feature."""
+        rows = self.rows_of_blocks
+        return np.cumsum(rows) - rows
+
+    @property
+    def rows(self) -> int:
+        return int(self.rows_of_blocks.sum())
+
+    @property
+    def sample(self) -> Sample:
+        boxes = np.concatenate([block.sample for block in self.blocks])
+        return Sample(boxes, self.rows / max(len(boxes), 1))
+
+    @property
+    def fault(self) -> Optional[RowFault]:
+        """The fault that ended the reading, with its row in the file."""
+        last = self.blocks[-1].fault
+        if last is None or last.row == 0:
+            return last
+        return RowFault(last.row + self.rows - self.blocks[-1].rows, last.text, last.teller)
+
+
+@dataclass(frozen=True)
+class Layers:
+    """Both layers. Of a left file with a fault the right one has no blocks."""
+
+    left: Layer
+    right: Layer
+
+    def __getitem__(self, side: Side) -> Layer:
+        return self.left if side is Side.LEFT else self.right
+
+    @property
+    def numerals(self) -> Numerals:
+        blocks = [*self.left.blocks, *self.right.blocks]
+        return Numerals(
+            digits_in(max(block.greatest for block in blocks)),
+            any(block.below_zero for block in blocks),
+        )
