@@ -5,6 +5,7 @@ import os
 import subprocess
 import sys
 from dataclasses import dataclass
+from importlib import import_module
 from pathlib import Path
 from typing import Any, Iterator, Sequence
 
@@ -17,8 +18,10 @@ os.environ["PYTHONPATH"] = os.pathsep.join(
     [str(SOURCES), *filter(None, [os.environ.get("PYTHONPATH")])]
 )
 
-for module in ("numpy", "pandas", "dask", "distributed"):
+for module in ("numpy", "pandas", "dask"):
     pytest.importorskip(module)
+distributed: Any = pytest.importorskip("distributed")
+layers: Any = import_module("layers")  # of the benchmarks
 
 
 @dataclass(frozen=True)
@@ -49,10 +52,8 @@ def program() -> str:
 @pytest.fixture(scope="session")
 def scheduler() -> Iterator[str]:
     """The address of a scheduler with two workers."""
-    from distributed import LocalCluster
-
     options = {"n_workers": 2, "threads_per_worker": 1, "dashboard_address": ":0"}
-    with LocalCluster(**options) as cluster:
+    with distributed.LocalCluster(**options) as cluster:
         yield cluster.scheduler_address
 
 

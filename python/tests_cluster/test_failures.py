@@ -11,9 +11,7 @@ from pathlib import Path
 from typing import Any, Iterator
 
 import pytest
-from conftest import Tools
-
-import layers
+from conftest import Tools, distributed, layers
 
 WAIT = 60
 
@@ -26,10 +24,8 @@ def pair(tools: Tools) -> tuple[Path, Path]:
 
 @contextmanager
 def own_cluster(**options: Any) -> Iterator[Any]:
-    from distributed import Client, LocalCluster
-
     more = {"threads_per_worker": 1, "dashboard_address": ":0", **options}
-    with LocalCluster(**more) as cluster, Client(cluster) as client:
+    with distributed.LocalCluster(**more) as cluster, distributed.Client(cluster) as client:
         yield client
 
 

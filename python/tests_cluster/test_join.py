@@ -6,9 +6,7 @@ import random
 from pathlib import Path
 
 import pytest
-from conftest import Tools, ended, quoted, write_layer
-
-import layers
+from conftest import Tools, ended, layers, quoted, write_layer
 
 RELATIONS = ("intersects", "touches", "crosses", "within", "contains", "overlaps", "equals")
 MASKS = ("T********", "FT*******", "****1****", "T*F**F***", "2FFF1FFF2")

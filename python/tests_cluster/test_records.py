@@ -71,7 +71,7 @@ def test_blocks_hold_whole_records() -> None:
     for _ in range(800):
         text = "".join(random.choices('a",\n\r"', k=random.randint(1, 60)))
         size = random.randint(1, 12)
-        segments = [scan(array_of(text[at : at + size])) for at in range(0, len(text), size)]
+        segments = [scan(array_of(text[at:at + size])) for at in range(0, len(text), size)]
         begins = block_begins(segments, size)
         found = []
         for begin, end in zip(begins, [*begins[1:], len(text)]):

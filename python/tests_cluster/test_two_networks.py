@@ -11,9 +11,7 @@ from pathlib import Path
 from typing import Any, Iterator
 
 import pytest
-from conftest import Tools, ended
-
-import layers
+from conftest import Tools, distributed, ended, layers
 
 NETWORK = "10.213.77"
 GROUPS = ("a", "b")
@@ -74,8 +72,6 @@ def running(command: list[str], log: Path) -> Iterator[None]:
 @contextmanager
 def grouped_cluster(folder: Path) -> Iterator[str]:
     """The address of a scheduler with two workers in each group."""
-    from distributed import Client
-
     python, file = [sys.executable, "-m"], str(folder / "scheduler.json")
     address = [*python, "distributed.cli.dask_scheduler", "--host", f"{NETWORK}.1", "--port", "0"]
     worker = [*python, "distributed.cli.dask_worker", "--nworkers", "2", "--nthreads", "1"]
@@ -86,7 +82,7 @@ def grouped_cluster(folder: Path) -> Iterator[str]:
         for group in GROUPS:
             inside = ["ip", "netns", "exec", name_of(group)]
             stack.enter_context(running([*inside, *worker, *files, *own], folder / f"{group}.log"))
-        with Client(scheduler_of(file), timeout=WAIT) as client:
+        with distributed.Client(scheduler_of(file), timeout=WAIT) as client:
             client.wait_for_workers(2 * len(GROUPS), timeout=WAIT)
         yield scheduler_of(file)
 
@@ -100,13 +96,12 @@ def scheduler_of(file: str) -> str:
 
 def done_by_group(address: str) -> dict[str, int]:
     """How many tasks the workers of each address have done."""
-    from distributed import Client
 
     def done(dask_worker: Any) -> int:
         return int(dask_worker.state.executed_count)
 
     sums: dict[str, int] = {}
-    with Client(address) as client:
+    with distributed.Client(address) as client:
         for worker, count in client.run(done).items():
             host = worker.split("//")[1].rsplit(":", 1)[0]
             sums[host] = sums.get(host, 0) + count

@@ -166,7 +166,7 @@ def parts_of_runs(text: Bytes) -> Iterator[Bytes]:
     while done < ends.size:
         within = int(np.searchsorted(ends, begins[done] + MOST_PART, side="right"))
         behind = max(done + 1, min(within, done + MOST_FEATURES))
-        yield text[begins[done] : begins[behind]]
+        yield text[begins[done]:begins[behind]]
         done = behind
 
 

@@ -24,7 +24,7 @@ def written(numbers: Places, width: int) -> Bytes:
         above = rest // 10**GROUP
         rows[:, group] = GROUPS[rest - above * 10**GROUP]
         rest = above
-    return rows.view(np.uint8)[:, groups * GROUP - width :]
+    return rows.view(np.uint8)[:, groups * GROUP - width:]
 
 
 def written_signed(numbers: Places, width: int) -> Bytes:

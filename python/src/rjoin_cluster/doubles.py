@@ -69,4 +69,4 @@ def id_of(job: DoublesJob, number: int) -> bytes:
     firsts = mapped(job.layout.firsts(job.side))
     block = int(np.searchsorted(firsts, number, side="right")) - 1
     row = mapped(job.layout.ids(job.side, block))[number - firsts[block]]
-    return bytes(row[1 : 1 + int(row[0])])
+    return bytes(row[1:1 + int(row[0])])

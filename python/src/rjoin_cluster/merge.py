@@ -62,7 +62,7 @@ def write_part(job: PartJob) -> int:
     pairs = pairs_of(job)
     pairs = pairs.take(np.argsort(pairs["rank"], kind="stable"))
     text = [
-        part_text(job, pairs[begin : begin + ROWS_AT_ONCE])
+        part_text(job, pairs[begin:begin + ROWS_AT_ONCE])
         for begin in range(0, len(pairs), ROWS_AT_ONCE)
     ]
     save_bytes(job.layout.report_part(job.number), text)
@@ -76,7 +76,7 @@ def pairs_of(job: PartJob) -> NDArray[np.void]:
     pairs = np.zeros(sum(map(len, parts)), dtype=pair_type(width))
     begin = 0
     for part in parts:
-        rows = pairs[begin : begin + len(part)]
+        rows = pairs[begin:begin + len(part)]
         rows["rank"] = part["rank"]
         rows["matrix"] = part["matrix"]
         rows["right"][:, : part.dtype["right"].shape[0]] = part["right"]
@@ -87,12 +87,12 @@ def pairs_of(job: PartJob) -> NDArray[np.void]:
 def parts_of(job: PartJob) -> Iterator[NDArray[np.void]]:
     """The pairs of the range in each run that has some."""
     layout = job.layout
-    borders = mapped(layout.part_borders())[job.number : job.number + 2]
-    before, behind = mapped(layout.part_places())[job.number : job.number + 2].astype(np.int64)
+    borders = mapped(layout.part_borders())[job.number:job.number + 2]
+    before, behind = mapped(layout.part_places())[job.number:job.number + 2].astype(np.int64)
     begins = np.maximum(before - 1, 0) * KEY_STEP
     ends = np.minimum(behind * KEY_STEP, mapped(layout.run_sizes()))
     for run in np.flatnonzero(begins < ends).tolist():
-        rows = np.array(mapped(layout.pairs(run))[begins[run] : ends[run]])
+        rows = np.array(mapped(layout.pairs(run))[begins[run]:ends[run]])
         begin, end = np.searchsorted(rows["rank"], borders)
         yield rows[begin:end]
 

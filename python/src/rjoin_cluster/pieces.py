@@ -123,4 +123,4 @@ def parts_of(layout: Layout, side: Side, tile: int, wanted: Range) -> Iterator[N
     high = np.minimum(wanted.end - places, counts)
     for block in np.flatnonzero(low < high).tolist():
         rows = mapped(layout.pieces(side, block))
-        yield rows[begins[block] + low[block] : begins[block] + high[block]]
+        yield rows[begins[block] + low[block]:begins[block] + high[block]]

@@ -139,7 +139,7 @@ def is_outside(places: Places, runs: QuoteRuns, quoted: Flags, start: State) -> 
 def first_record_end(part: Bytes, runs: QuoteRuns, quoted: Flags, start: State) -> Optional[int]:
     """The place behind the first line end outside quotes."""
     for begin in range(0, part.size, WINDOW):
-        places = begin + line_ends(part[begin : begin + WINDOW])
+        places = begin + line_ends(part[begin:begin + WINDOW])
         ends = places[is_outside(places, runs, quoted, start)]
         if ends.size:
             return int(ends[0]) + 1

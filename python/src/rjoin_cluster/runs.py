@@ -169,7 +169,7 @@ def fill(text: Bytes, form: Form, id_digits: Bytes, boxes: Boxes, numerals: Nume
     at = ids + len(f',"{form.begin}')
     for point in form.points:
         for corner in point:
-            text[:, at : at + numerals.width] = corners[corner]
+            text[:, at:at + numerals.width] = corners[corner]
             at += numerals.width + 1
 
 
@@ -178,7 +178,7 @@ def own_pairs(job: RunJob, left: Piece, right: Piece, report: Bytes) -> NDArray[
     widths = digits_in(len(left.boxes)), digits_in(len(right.boxes))
     rows = rows_of(report, widths[0] + widths[1] + MATRIX + 3)
     ones = read_back(rows[:, : widths[0]])
-    others = read_back(rows[:, widths[0] + 1 : widths[0] + 1 + widths[1]])
+    others = read_back(rows[:, widths[0] + 1:widths[0] + 1 + widths[1]])
     x, y = (
         np.maximum(left.column(axis).take(ones), right.column(axis).take(others)) for axis in (0, 1)
     )
@@ -192,13 +192,13 @@ def own_pairs(job: RunJob, left: Piece, right: Piece, report: Bytes) -> NDArray[
 
 
 def matrices_of(rows: Bytes) -> NDArray[np.bytes_]:
-    matrices = np.ascontiguousarray(rows[:, -MATRIX - 1 : -1])
+    matrices = np.ascontiguousarray(rows[:, -MATRIX - 1:-1])
     return matrices.reshape(-1).view(f"S{MATRIX}")
 
 
 def rows_of(report: Bytes, width: int) -> Bytes:
     """The rows of a report below its header, all of which are this wide."""
-    body = report[len(REPORT_HEADER) :]
+    body = report[len(REPORT_HEADER):]
     if bytes(report[: len(REPORT_HEADER)]) != REPORT_HEADER or body.size % width:
         raise RunFailed("rjoin join: a report of another form than expected")
     return body.reshape(-1, width)
