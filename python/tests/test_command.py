@@ -8,7 +8,7 @@ from typing import Any, List, Tuple
 import pytest
 from conftest import TOWN
 
-from rjoin.command import main
+from rjoin.command import main as run
 
 geopandas = pytest.importorskip("geopandas")
 shapely_geometry = pytest.importorskip("shapely.geometry")
@@ -31,7 +31,8 @@ def files(town: Any, tmp_path: Path) -> Tuple[str, str]:
 
 
 def ends(words: List[Any]) -> int:
-    return main([str(word) for word in words])
+    status: int = run([str(word) for word in words])
+    return status
 
 
 def test_pairs_are_written_as_csv(town: Any, files: Any, tmp_path: Path) -> None:

@@ -7,10 +7,11 @@ import os
 import sys
 import tempfile
 import warnings
+from contextlib import contextmanager
 from pathlib import Path
 from typing import Any, Iterator, List, NamedTuple, Optional, Sequence, TextIO, Tuple
 
-from rjoin.errors import ArgumentError, Notice, RjoinError
+from rjoin.errors import ArgumentError, LeftOutWarning, Notice, RjoinError
 
 SHOWN = 10
 COLUMNS = ("left", "right", "matrix", "geometry")
@@ -27,8 +28,9 @@ def main(words: Optional[Sequence[str]] = None) -> int:
     arguments = parser().parse_args(words)
     try:
         with warnings.catch_warnings(record=True) as caught:
-            warnings.simplefilter("ignore")
-            warnings.filterwarnings("always", "CRS mismatch")
+            warnings.simplefilter("always")
+            for kind in (DeprecationWarning, FutureWarning, LeftOutWarning):
+                warnings.simplefilter("ignore", kind)
             notices = run(arguments)
         tell(notices, [str(warning.message) for warning in caught], sys.stderr)
         return 0
@@ -85,11 +87,13 @@ class Notices(NamedTuple):
 
 
 def run(arguments: argparse.Namespace) -> Notices:
-    """Joins, and writes all files or none."""
+    """Joins, and writes each file whole or not at all."""
     from rjoin import calls
 
     for path in (arguments.output, arguments.notices):
         check_output(path, arguments.overwrite)
+    if arguments.output.suffix.lower() != ".csv":
+        driver_of(arguments.output)
     calls.check_arguments(arguments.relation, arguments.scale, arguments.workers)
     left = layer(arguments.left, "left", arguments.left_id)
     right = layer(arguments.right, "right", arguments.right_id)
@@ -147,36 +151,43 @@ def table(left: Any, right: Any, pairs: Any, arguments: argparse.Namespace) -> A
     return geopandas.GeoDataFrame(rows, geometry=left.geometry.take(lefts).array, crs=left.crs)
 
 
-def write(rows: Any, output: Path) -> None:
-    """Writes the file, and the files that belong to it, whole or not at all."""
+@contextmanager
+def placed(output: Path) -> Iterator[Path]:
+    """A path to write to; what was written there takes the output's place when all is written."""
     try:
         with tempfile.TemporaryDirectory(prefix=".rjoin-", dir=output.parent) as folder:
-            write_as(rows, Path(folder, output.name))
+            yield Path(folder, output.name)
             for path in sorted(Path(folder).iterdir()):
                 os.replace(path, output.parent / path.name)
     except OSError as fault:
         raise RjoinError(f"{output} cannot be written: {fault.strerror or fault}") from fault
 
 
-def write_as(rows: Any, path: Path) -> None:
-    """Writes the file of the kind of its extension."""
-    if path.suffix.lower() == ".csv":
-        rows.to_csv(path, index=False, lineterminator="\n")
+def write(rows: Any, output: Path) -> None:
+    """Writes a file of the kind of its extension, and the files that belong to it."""
+    if output.suffix.lower() == ".csv":
+        with placed(output) as path:
+            rows.to_csv(path, index=False, lineterminator="\n")
         return
+    driver = driver_of(output)
+    with placed(output) as path:
+        try:
+            if "geometry" in rows.columns:
+                rows.to_file(path, driver=driver)
+            else:
+                write_table(rows, path, driver)
+        except Exception as fault:  # GDAL's faults have no common class
+            raise RjoinError(f"{output} cannot be written: {fault}") from fault
+
+
+def driver_of(output: Path) -> str:
+    """GDAL's name for the kind of file."""
     from fiona.drvsupport import driver_from_extension
-    from fiona.errors import FionaError
 
     try:
-        driver = driver_from_extension(path)
+        return str(driver_from_extension(output))
     except ValueError as fault:
-        raise ArgumentError(f"GDAL writes no files with the extension {path.suffix!r}") from fault
-    try:
-        if "geometry" in rows.columns:
-            rows.to_file(path, driver=driver)
-        else:
-            write_table(rows, path, driver)
-    except (FionaError, ValueError, TypeError) as fault:
-        raise RjoinError(f"{path.name} cannot be written: {fault}") from fault
+        raise ArgumentError(f"GDAL writes no files with the extension {output.suffix!r}") from fault
 
 
 def write_table(rows: Any, path: Path, driver: str) -> None:
@@ -197,7 +208,7 @@ def field_type(kind: str) -> str:
 
 
 def write_notices(notices: Notices, path: Path) -> None:
-    with open(path, "w", newline="", encoding="utf-8") as file:
+    with placed(path) as part, open(part, "w", newline="", encoding="utf-8") as file:
         rows = csv.writer(file, lineterminator="\n")
         rows.writerow(("what", *Notice._fields))
         rows.writerows(notices.rows())
