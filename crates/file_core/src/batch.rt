@@ -55,33 +55,75 @@ fn fill(
     Ok(true)
 }
 
-/// Inserts some rows while the next batch is read.
-pub(crate) fn add_and_read<'a, R: Threads + Sync>(
-    rt: &R,
-    alloc: Global,
-    scale: Scale,
-    mut loading: Loading,
-    read: Vec<ReadRow>,
-    mut rows: Rows<'a>,
-) -> (Result<Loading, ReadFault>, (Rows<'a>, Batch))
-    requires ids { All HasId read.items }
-    requires reading { IsReading rows }
-    ensures added { AnswersRows loading read.items result.0 }
-    ensures read { IsBatch scale rows.entry result.1.1.rows.items result.1.1.more result.1.0 }
-{
-    let add = move || -> Result<Loading, ReadFault>
-        requires { All HasId read.items }
-        ensures { AnswersRows loading read.items result }
-    {
-        add_rows(&mut loading, read)?;
-        Ok(loading)
-    };
-    let read_on = move || -> (Rows, Batch)
-        requires { IsReading rows }
-        ensures { IsBatch scale rows.entry result.1.rows.items result.1.more result.0 }
-    {
+/// How rows are inserted and the next batch is read.
+pub(crate) trait Order {
+    /// Inserts some rows, and reads the next batch whether or not they are all inserted.
+    fn add_and_read<'a>(
+        &self,
+        alloc: Global,
+        scale: Scale,
+        loading: Loading,
+        read: Vec<ReadRow>,
+        rows: Rows<'a>,
+    ) -> (Result<Loading, ReadFault>, (Rows<'a>, Batch))
+        requires ids { All HasId read.items }
+        requires reading { IsReading rows }
+        ensures added { AnswersRows loading read.items result.0 }
+        ensures read { IsBatch scale rows.entry result.1.1.rows.items result.1.1.more result.1.0 };
+}
+
+/// One after the other.
+#[derive(Drop)]
+pub(crate) struct InTurn;
+
+impl Order for InTurn {
+    fn add_and_read<'a>(
+        &self,
+        alloc: Global,
+        scale: Scale,
+        loading: Loading,
+        read: Vec<ReadRow>,
+        mut rows: Rows<'a>,
+    ) -> (Result<Loading, ReadFault>, (Rows<'a>, Batch)) {
+        let added = with_rows(loading, read);
         let batch = read_batch(alloc, &mut rows, scale);
-        (rows, batch)
-    };
-    thread::join(rt, add, read_on)
+        (added, (rows, batch))
+    }
+}
+
+/// At the same time, by two threads.
+#[derive(Drop)]
+pub(crate) struct SideBySide<'r, R>(pub(crate) &'r R);
+
+impl<R: Threads + Sync> Order for SideBySide<'_, R> {
+    fn add_and_read<'a>(
+        &self,
+        alloc: Global,
+        scale: Scale,
+        loading: Loading,
+        read: Vec<ReadRow>,
+        mut rows: Rows<'a>,
+    ) -> (Result<Loading, ReadFault>, (Rows<'a>, Batch)) {
+        let add = move || -> Result<Loading, ReadFault>
+            requires { All HasId read.items }
+            ensures { AnswersRows loading read.items result }
+        { with_rows(loading, read) };
+        let read_on = move || -> (Rows, Batch)
+            requires { IsReading rows }
+            ensures { IsBatch scale rows.entry result.1.rows.items result.1.more result.0 }
+        {
+            let batch = read_batch(alloc, &mut rows, scale);
+            (rows, batch)
+        };
+        thread::join(self.0, add, read_on)
+    }
+}
+
+// The layer with these rows.
+fn with_rows(mut loading: Loading, read: Vec<ReadRow>) -> Result<Loading, ReadFault>
+    requires { All HasId read.items }
+    ensures { AnswersRows loading read.items result }
+{
+    add_rows(&mut loading, read)?;
+    Ok(loading)
 }

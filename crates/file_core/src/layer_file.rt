@@ -3,9 +3,8 @@ ghost use Rattle.std.specs.Prelude.{◌≡◌, ◌≢◌, ◌≤◌, ◌↔◌, 
 ghost use Rattle.file_core.specs.LayerFiles.{IsLayerFile, list_read};
 ghost use Rattle.layer_core.specs.Limits.{most_features};
 
-use crate::batch::{add_and_read, read_batch};
-use crate::insertion::{add_row, add_rows};
-use crate::layer_row::read_row;
+use crate::batch::{InTurn, Order, SideBySide, read_batch};
+use crate::insertion::add_rows;
 use crate::read_fault::ReadFault;
 use crate::rows::Rows;
 use crate::source::{Source, read_all};
@@ -69,7 +68,7 @@ pub fn read_layer<S: Source>(
         → IfSome (S.remaining source.old) (λ bytes. IsLayerFile scale bytes (list_read result)) }
 {
     let bytes = read_all(alloc, source)?;
-    let loading = load(alloc, state, bytes.as_slice(), scale)?;
+    let loading = load(alloc, state, bytes.as_slice(), scale, &InTurn)?;
     // The tree is packed when the file's memory is free again.
     drop(bytes);
     Ok(loading.finish(alloc)?)
@@ -88,32 +87,19 @@ fn load_by<R: Threads + Sync>(
     ensures no_io { result ≢ Err ReadFault.Io }
 {
     if threads > 1 {
-        load_ahead(alloc, state, bytes, scale, rt)
+        load(alloc, state, bytes, scale, &SideBySide(rt))
     } else {
-        load(alloc, state, bytes, scale)
+        load(alloc, state, bytes, scale, &InTurn)
     }
 }
 
-// The features of a file, row by row.
-fn load(alloc: Global, state: RandomState, bytes: &[u8], scale: Scale) -> Result<Loading, ReadFault>
-    ensures file { result ≢ Err ReadFault.Memory → IsLayerFile scale bytes.now result }
-    ensures no_io { result ≢ Err ReadFault.Io }
-{
-    let mut rows = Rows::open(alloc, bytes, &COLUMNS)?;
-    let mut loading = Loading::new(alloc, state, likely_rows(bytes))?;
-    while let Some(number) = rows.next()? {
-        add_row(&mut loading, read_row(alloc, number, rows.row(), scale)?)?;
-    }
-    Ok(loading)
-}
-
-// The same, by two threads: while one inserts a batch of rows, the other reads the next one.
-fn load_ahead<R: Threads + Sync>(
+// The features of a file, batch by batch of its rows.
+fn load<O: Order>(
     alloc: Global,
     state: RandomState,
     bytes: &[u8],
     scale: Scale,
-    rt: &R,
+    order: &O,
 ) -> Result<Loading, ReadFault>
     ensures file { result ≢ Err ReadFault.Memory → IsLayerFile scale bytes.now result }
     ensures no_io { result ≢ Err ReadFault.Io }
@@ -122,7 +108,7 @@ fn load_ahead<R: Threads + Sync>(
     let mut loading = Loading::new(alloc, state, likely_rows(bytes))?;
     let mut batch = read_batch(alloc, &mut rows, scale);
     while let Ok(true) = batch.more {
-        let (added, next) = add_and_read(rt, alloc, scale, loading, batch.rows, rows);
+        let (added, next) = order.add_and_read(alloc, scale, loading, batch.rows, rows);
         loading = added?;
         (rows, batch) = next;
     }
@@ -136,8 +122,15 @@ fn load_ahead<R: Threads + Sync>(
 fn likely_rows(bytes: &[u8]) -> usize
     ensures { result ≤ most_features }
 {
-    let sample = &bytes[..bytes.len().min(SAMPLE)];
-    let lines = sample.iter().filter(|byte| **byte == b'\n').count();
+    let lines = line_feeds(&bytes[..bytes.len().min(SAMPLE)]);
     let samples = bytes.len() / SAMPLE + 1;
     lines.saturating_mul(samples).min(MAX_FEATURES)
+}
+
+fn line_feeds(sample: &[u8]) -> usize {
+    let mut count: usize = 0;
+    for byte in sample {
+        count = count.saturating_add((*byte == b'\n').into());
+    }
+    count
 }

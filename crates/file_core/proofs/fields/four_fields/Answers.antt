@@ -1,4 +1,4 @@
-use Rattle.std.proofs.Common.{◌∙◌, sym, lit<}
+use Rattle.std.proofs.Common.{◌≡◌, length, lit<, rules}
 use Rattle.csv.specs.Records.{fields_of}
 use Rattle.file_core.proofs.FieldLemmas.{field-missing, four-fields}
 use Rattle.file_core.proofs.fields.four_fields.Goals as goal
@@ -21,6 +21,6 @@ returns-in_err-get-4-clause-none c =
 
 pub returns-clause-some : goal.returns-clause-some
 returns-clause-some c =
+    let four : length (fields_of c.args.row.now) ≡ 4 = search rules in
     four-fields (fields_of c.args.row.now) c.in_ok-get.field-0.now c.in_ok-get-2.field-0.now c.in_ok-get-3.field-0.now c.in_ok-get-4.field-0.now
-    (sym c.len.ensures ∙ c.if-len-ne4.false) c.in_ok-get.ensures.value c.in_ok-get-2.ensures.value c.in_ok-get-3.ensures.value
-    c.in_ok-get-4.ensures.value
+    four c.in_ok-get.ensures.value c.in_ok-get-2.ensures.value c.in_ok-get-3.ensures.value c.in_ok-get-4.ensures.value

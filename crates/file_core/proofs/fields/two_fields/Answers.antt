@@ -1,4 +1,4 @@
-use Rattle.std.proofs.Common.{◌∙◌, sym, lit<}
+use Rattle.std.proofs.Common.{◌≡◌, length, lit<, rules}
 use Rattle.csv.specs.Records.{fields_of}
 use Rattle.file_core.proofs.FieldLemmas.{field-missing, two-fields}
 use Rattle.file_core.proofs.fields.two_fields.Goals as goal
@@ -13,5 +13,6 @@ returns-in_err-get-2-clause-none c =
 
 pub returns-clause-some : goal.returns-clause-some
 returns-clause-some c =
-    two-fields (fields_of c.args.row.now) c.in_ok-get.field-0.now c.in_ok-get-2.field-0.now
-    (sym c.len.ensures ∙ c.if-len-ne2.false) c.in_ok-get.ensures.value c.in_ok-get-2.ensures.value
+    let two : length (fields_of c.args.row.now) ≡ 2 = search rules in
+    two-fields (fields_of c.args.row.now) c.in_ok-get.field-0.now c.in_ok-get-2.field-0.now two c.in_ok-get.ensures.value
+    c.in_ok-get-2.ensures.value

@@ -1,38 +1,88 @@
-use Rattle.std.proofs.Common.{ap, refl, sym, Ok, Err}
+use Rattle.std.proofs.Common.{◌≡◌, ◌≤◌, suc, Bool, true, false, Result, Ok, Err, ap, subst, sym}
 use Rattle.std.proofs.lemmas.Result.{err_from_is_err_and}
-use Rattle.file_core.specs.LayerRows.{content_of}
+use Rattle.file_core.specs.declared.read_fault.ReadFault.{ReadFault}
+use Rattle.file_core.specs.Rows.{rows_left}
+use Rattle.file_core.proofs.BatchLemmas.{most_rounds, batch-ends, batch-fails, batch-goes-on, batch-refuses, batch-smaller}
 use Rattle.file_core.proofs.layer_file.load.Goals as goal
+use Rattle.file_core.proofs.layer_file.load.Goals.{in_default, in_default-2}
 
-pub returns-in_err-read_row-clause-file : goal.returns-in_err-read_row-clause-file
-returns-in_err-read_row-clause-file c =
-    let reads = rw c.in-Some.is at c.in_ok-number.ensures in
-    let fault = c.in_err-read_row.field-0.0 in
-    let p = err_from_is_err_and c.from_residual-in_err-read_row.result c.from_residual-in_err-read_row.ensures.1 in
-    rw (p.1, p.2)
-    (λ known.
-    let says = rw (reads.numbered, c.row.ensures) at (c.in_err-read_row.ensures.fault (λ e. known (ap Err e))) in
-    c.loop-loading.invariant.1 (Err fault) (rw reads.row (Err fault, (Err fault, says, refl), refl)))
-
-pub returns-in_err-add_row-clause-file : goal.returns-in_err-add_row-clause-file
-returns-in_err-add_row-clause-file c =
-    let reads = rw c.in-Some.is at c.in_ok-number.ensures in
-    let fault = c.in_err-add_row.field-0.0 in
-    let row = c.in_ok-read_row.field-0 in
-    let p = err_from_is_err_and c.from_residual-in_err-add_row.result c.from_residual-in_err-add_row.ensures.1 in
-    rw (p.1, p.2)
-    (λ known.
-    let says = rw (reads.numbered, c.row.ensures) at c.in_ok-read_row.ensures.says in
-    let refused = rw (c.in_ok-read_row.ensures.number, reads.numbered) at (c.in_err-add_row.ensures.err (λ e. known (ap Err e))) in
-    c.loop-loading.invariant.1 (Err fault) (rw reads.row (Err fault, (Ok (content_of row), says, sym refused), refl)))
-
-pub loop-loading-preserved : goal.loop-loading-preserved
-loop-loading-preserved c =
-    let reads = rw c.in-Some.is at c.in_ok-number.ensures in
-    let row = c.in_ok-read_row.field-0 in
-    let says = rw (reads.numbered, c.row.ensures) at c.in_ok-read_row.ensures.says in
-    let given = rw (c.in_ok-read_row.ensures.number, reads.numbered) at c.in_ok-add_row.ensures.ok in (
-      reads.reading,
-      λ answer gives.
-          let later = rw (reads.counted, reads.numbered) at gives in
-          c.loop-loading.invariant.1 answer (rw reads.row (Ok c.add_row.new.loading, (Ok (content_of row), says, sym given), later)),
+pub loop-batch-init : goal.loop-batch-init
+loop-batch-init g c =
+    let opened = c.in_ok-rows.ensures.ok in (
+      c.in_ok-rows.rows,
+      c.read_batch-batch.ensures,
+      λ answer gives. (Ok (rows_left c.in_ok-rows.rows), opened.behind_header, rw (opened.none_read, c.in_ok-loading.ensures) at gives),
     )
+
+pub loop-batch-preserved : goal.loop-batch-preserved
+loop-batch-preserved g c =
+    let inv = c.loop-batch.invariant in
+    let is = c.in-Ok-true.is in
+    let test = c.in-Ok-true.field-0-is in
+    let more : c.loop-batch.batch.more ≡ Ok true = cc in
+    let batch = rw more at inv.1 in
+    let added = rw c.in_ok-loading-2.was at c.add_and_read-added.ensures.added in (
+      c.loop-batch.rows,
+      c.add_and_read-added.ensures.read,
+      λ answer gives.
+          inv.2 answer
+          (batch-goes-on c.args.scale inv.0 c.loop-batch.rows c.loop-batch.batch.rows.items c.loop-batch.loading c.in_ok-loading-2.loading answer
+          batch (added.0 (λ e. cc)) gives),
+    )
+
+pub loop-batch-smaller : goal.loop-batch-smaller
+loop-batch-smaller g c =
+    let is = c.in-Ok-true.is in
+    let test = c.in-Ok-true.field-0-is in
+    let more : c.loop-batch.batch.more ≡ Ok true = cc in
+    let next = c.add_and_read-added.result.1 in
+    let P : Result Bool ReadFault → Type 0 = λ m. suc (most_rounds next.0 next.1.more) ≤ most_rounds c.loop-batch.rows m in
+    subst P (sym more) (batch-smaller c.args.scale c.loop-batch.rows next.0 next.1.rows.items next.1.more c.add_and_read-added.ensures.read)
+
+pub returns-in_err-loading-2-clause-file : goal.returns-in_err-loading-2-clause-file
+returns-in_err-loading-2-clause-file g c =
+    let inv = c.loop-batch.invariant in
+    let fault = c.in_err-loading-2.field-0.0 in
+    let added = rw c.in_err-loading-2.was at c.add_and_read-added.ensures.added in
+    let p = err_from_is_err_and c.from_residual-in_err-loading-2.result c.from_residual-in_err-loading-2.ensures.1 in
+    rw (p.1, p.2)
+    (λ known.
+    inv.2 (Err fault)
+    (batch-refuses c.args.scale inv.0 c.loop-batch.rows c.loop-batch.batch.rows.items c.loop-batch.loading c.loop-batch.batch.more fault inv.1
+    (added.0 known)))
+
+pub returns-in_err-add_rows-clause-file : goal.returns-in_err-add_rows-clause-file
+returns-in_err-add_rows-clause-file g c =
+    let inv = c.loop-batch.invariant in
+    let fault = c.in_err-add_rows.field-0.0 in
+    let p = err_from_is_err_and c.from_residual-in_err-add_rows.result c.from_residual-in_err-add_rows.ensures.1 in
+    rw (p.1, p.2)
+    (λ known.
+    inv.2 (Err fault)
+    (batch-refuses c.args.scale inv.0 c.loop-batch.rows c.loop-batch.batch.rows.items c.loop-batch.loading c.loop-batch.batch.more fault inv.1
+    (c.in_err-add_rows.ensures.err (λ e. known (ap Err e)))))
+
+pub returns-in_err-batch-clause-file : goal.returns-in_err-batch-clause-file
+returns-in_err-batch-clause-file g c =
+    let inv = c.loop-batch.invariant in
+    let fault = c.in_err-batch.field-0.0 in
+    let batch = rw c.in_err-batch.was at inv.1 in
+    let p = err_from_is_err_and c.from_residual-in_err-batch.result c.from_residual-in_err-batch.ensures.1 in
+    rw (p.1, p.2)
+    (λ known.
+    inv.2 (Err fault)
+    (batch-fails c.args.scale inv.0 c.loop-batch.rows c.loop-batch.batch.rows.items c.loop-batch.loading c.add_rows.new.loading fault batch
+    (λ e. known (ap Err e)) c.in_ok-add_rows.ensures.ok))
+
+pub returns-clause-file : goal.returns-clause-file
+returns-clause-file g c known =
+    let inv = c.loop-batch.invariant in
+    let was = c.in_ok-batch.was in
+    let last : c.loop-batch.batch.more ≡ Ok false =
+    elim c.match-batch.branch [
+      | in_default w ↦ let is = w.in_default.is in let test = w.in_default.field-0-test in cc
+      | in_default-2 w ↦ let is = w.in_default.is in absurd cc
+    ] in
+    inv.2 (Ok c.add_rows.new.loading)
+    (batch-ends c.args.scale inv.0 c.loop-batch.rows c.loop-batch.batch.rows.items c.loop-batch.loading c.add_rows.new.loading (rw last at inv.1)
+    c.in_ok-add_rows.ensures.ok)

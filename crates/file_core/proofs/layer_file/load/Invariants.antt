@@ -1,16 +1,17 @@
-use Rattle.std.proofs.Common.{◌+◌, Result, length}
+use Rattle.std.proofs.Common.{Result}
 use Rattle.file_core.specs.declared.read_fault.ReadFault.{ReadFault}
-use Rattle.file_core.specs.LayerFiles.{IsLayerFile, LayerRowGives}
+use Rattle.file_core.specs.declared.rows.Rows.{Rows}
+use Rattle.file_core.specs.Batches.{IsBatch}
+use Rattle.file_core.specs.LayerFiles.{IsLayerFile}
 use Rattle.layer_core.specs.Layers.{Contents}
-use Rattle.file_core.specs.Rows.{IsReading, RowsGive, rows_left}
+use Rattle.file_core.proofs.BatchLemmas.{Gives, most_rounds}
 use Rattle.file_core.proofs.layer_file.load.Given as goal
 
--- what the rows that are left give from here, the file gives
-abbrev pub invariant-loop-loading : goal.invariant-loop-loading
-invariant-loop-loading l =
-    IsReading l.rows
-    × ((answer : Result Contents ReadFault) → RowsGive (LayerRowGives l.scale) (l.rows.count + 1) l.loading (rows_left l.rows) answer
-    → IsLayerFile l.scale l.bytes answer)
+-- what the rows of the batch and those behind it give from here, the file gives
+abbrev pub invariant-loop-batch : goal.invariant-loop-batch
+invariant-loop-batch g l =
+    (old : Rows) × IsBatch l.scale old l.batch.rows.items l.batch.more l.rows
+    × ((answer : Result Contents ReadFault) → Gives l.scale old l.loading answer → IsLayerFile l.scale l.bytes answer)
 
-abbrev pub decreases-loop-loading : goal.decreases-loop-loading
-decreases-loop-loading l = length (rows_left l.rows)
+abbrev pub decreases-loop-batch : goal.decreases-loop-batch
+decreases-loop-batch g l = most_rounds l.rows l.batch.more
