@@ -9,7 +9,8 @@ pub(super) struct Device<'a> {
     text: &'a [u8],
     chunk: usize,
     good_reads: u32,
-    interrupted: bool,
+    // How often the next read was interrupted.
+    interruptions: u32,
 }
 
 impl<'a> Device<'a> {
@@ -18,18 +19,19 @@ impl<'a> Device<'a> {
             text,
             chunk,
             good_reads,
-            interrupted: false,
+            interruptions: 0,
         }
     }
 }
 
 impl Read for Device<'_> {
     fn read(&mut self, buf: &mut [u8]) -> IoResult<usize> {
-        // Each read is interrupted once.
-        self.interrupted = !self.interrupted;
-        if self.interrupted {
+        // Each read is interrupted three times.
+        if self.interruptions < 3 {
+            self.interruptions += 1;
             return Err(Error::from(ErrorKind::Interrupted));
         }
+        self.interruptions = 0;
         if self.good_reads == 0 {
             return Err(Error::from(ErrorKind::TimedOut));
         }
@@ -67,6 +69,15 @@ fn failing_reads(rt: HostRuntime) -> Result<(), Fail> {
         assert!(rt; answer.err() == Some(ReadFault::Io));
         assert!(rt; source.failed());
     }
+    Ok(())
+}
+
+#[test]
+fn interrupted_reads_are_tried_again(rt: HostRuntime) -> Result<(), Fail> {
+    let mut source = FromRead::new(Device::new(ONE_EDIT, ONE_EDIT.len(), 2));
+    let edits = read_edits(rt.alloc(), &mut source, whole()?)?;
+    assert_eq!(rt; edits.len(), 1);
+    assert!(rt; !source.failed());
     Ok(())
 }
 

@@ -34,6 +34,14 @@ const BROKEN_LAYERS: &[(&[u8], ReadFault)] = &[
     (b"\xef\xbb\xbf\xef\xbb\xbfid,wkt\n", ReadFault::Header),
 ];
 
+const ID_OF_64: &str = "0123456789abcdef0123456789abcdef0123456789abcdef0123456789abcdef";
+
+const LONGEST_ID: &[u8] = b"id,wkt\n0123456789abcdef0123456789abcdef\
+    0123456789abcdef0123456789abcdef,POINT (0 0)\n";
+
+const TOO_LONG_ID: &[u8] = b"id,wkt\n0123456789abcdef0123456789abcdef\
+    0123456789abcdef0123456789abcdef0,POINT (0 0)\n";
+
 const BROKEN_EDITS: &[(&[u8], ReadFault)] = &[
     (b"id,wkt\n", ReadFault::Header),
     (
@@ -141,22 +149,79 @@ fn fault_behind<R: Threads + Sync + RandomSource + AllocGlobal>(
     fault_of(rt, file.as_bytes())
 }
 
+// The fault of the file of a million points with this row behind them, as so many threads load it.
+fn fault_behind_million<R: Threads + Sync + RandomSource + AllocGlobal>(
+    rt: &R,
+    row: &str,
+    threads: u32,
+) -> Result<Option<ReadFault>, Fail> {
+    let mut file = points_file(rt.alloc(), 1_000_000)?;
+    file.push_str(row)?;
+    Ok(layer_by(rt, file.as_bytes(), threads)?.err())
+}
+
 #[test]
-fn full_file(rt: HostRuntime) -> Result<(), Fail> {
-    let double = fault_behind(&rt, 1_000_000, "p0,POINT (0 0)\n")?;
+fn full_file_double_id(rt: HostRuntime) -> Result<(), Fail> {
+    let double = fault_behind_million(&rt, "p0,POINT (0 0)\n", 1)?;
     assert!(rt; double == Some(ReadFault::Layer(1_000_001, LayerFault::DoubleId)));
-    let full = fault_behind(&rt, 1_000_000, "q,POINT (0 0)\n")?;
+    Ok(())
+}
+
+#[test]
+fn full_file_double_id_by_two(rt: HostRuntime) -> Result<(), Fail> {
+    let double = fault_behind_million(&rt, "p0,POINT (0 0)\n", 2)?;
+    assert!(rt; double == Some(ReadFault::Layer(1_000_001, LayerFault::DoubleId)));
+    Ok(())
+}
+
+#[test]
+fn full_file_new_id(rt: HostRuntime) -> Result<(), Fail> {
+    let full = fault_behind_million(&rt, "q,POINT (0 0)\n", 1)?;
     assert!(rt; full == Some(ReadFault::Layer(1_000_001, LayerFault::LayerFull)));
+    Ok(())
+}
+
+#[test]
+fn full_file_new_id_by_two(rt: HostRuntime) -> Result<(), Fail> {
+    let full = fault_behind_million(&rt, "q,POINT (0 0)\n", 2)?;
+    assert!(rt; full == Some(ReadFault::Layer(1_000_001, LayerFault::LayerFull)));
+    Ok(())
+}
+
+// A row that is at fault is told by its number and as what it is, and not as a lack of memory.
+#[test]
+fn faults_behind_a_thousand_rows(rt: HostRuntime) -> Result<(), Fail> {
+    let ragged = fault_behind(&rt, 1_000, "a\n")?;
+    assert!(rt; ragged == Some(ReadFault::Row(1_001)));
+    let double = fault_behind(&rt, 1_000, "p999,POINT (0 0)\n")?;
+    assert!(rt; double == Some(ReadFault::Layer(1_001, LayerFault::DoubleId)));
+    Ok(())
+}
+
+// An id of 64 bytes is one, and an id of 65 bytes is told as none.
+#[test]
+fn longest_ids_in_files(rt: HostRuntime) -> Result<(), Fail> {
+    let origin = point(0, 0)?;
+    assert!(rt; reads_as(&rt, LONGEST_ID, &[(ID_OF_64, origin)])?);
+    let fault = Some(ReadFault::Layer(1, LayerFault::BadId));
+    assert!(rt; fault_of(&rt, TOO_LONG_ID)? == fault);
     Ok(())
 }
 
 // The first fault of two rows is answered, wherever they stand among the batches that are read
 // ahead, each of which has 16,384 rows.
 #[test]
-fn batched_file(rt: HostRuntime) -> Result<(), Fail> {
+fn batched_file_double_id(rt: HostRuntime) -> Result<(), Fail> {
     for count in [16_383, 16_384, 40_000] {
         let double = fault_behind(&rt, count, "p0,POINT (0 0)\nq,POINT (0\n")?;
         assert!(rt; double == Some(ReadFault::Layer(count + 1, LayerFault::DoubleId)));
+    }
+    Ok(())
+}
+
+#[test]
+fn batched_file_broken_row(rt: HostRuntime) -> Result<(), Fail> {
+    for count in [16_383, 16_384, 40_000] {
         let unread = fault_behind(&rt, count, "q,POINT (0\np0,POINT (0 0)\n")?;
         assert!(rt; unread == Some(ReadFault::Wkt(count + 1, WktFault::Text)));
     }
