@@ -101,10 +101,14 @@ class RjoinAlgorithm(QgsProcessingAlgorithm):
     def sink_of(self, parameters: Dict[str, Any], name: str, context: QgsProcessingContext,
                 fields: QgsFields, like: QgsProcessingFeatureSource, kind: int | None = None
                 ) -> "Output":
-        """A sink with the reference system of a layer and, unless a type is given, its type."""
+        """A sink with the reference system of a layer and, unless a type is given, its type.
+
+        A key such as a GeoPackage's `fid` is made anew, since a feature may be written twice.
+        """
         wanted = like.wkbType() if kind is None else kind
         sink, identifier = self.parameterAsSink(parameters, name, context, fields, wanted,
-                                                like.sourceCrs())
+                                                like.sourceCrs(),
+                                                QgsFeatureSink.RegeneratePrimaryKey)
         if sink is None and parameters.get(name):
             raise QgsProcessingException(self.invalidSinkError(parameters, name))
         return Output(name, sink, identifier)

@@ -30,7 +30,6 @@ from qgis.PyQt.QtCore import QVariant
 from . import program
 from .algorithm import (
     COMMON_HELP,
-    DECIMALS,
     OTHERS,
     WORKERS,
     Output,
@@ -209,16 +208,16 @@ class _Join:
 
     def _pairs_alone(self, left: BoxLayer, right: BoxLayer, partners: Dict[int, List[Partner]]
                      ) -> tuple[Output, Iterator[QgsFeature]]:
-        fields, columns = QgsFields(), []
-        for title, source, layer, parameter in (("left", self.left, left, "INPUT_ID"),
-                                                ("right", self.right, right, "JOIN_ID")):
-            name = self.algorithm.parameterAsString(self.parameters, parameter, self.context)
-            fields.append(_id_field(source.fields(), name, title))
-            columns.append(_ids(layer, source.fields(), name))
+        left_id = self.algorithm.parameterAsString(self.parameters, "INPUT_ID", self.context)
+        right_id = self.algorithm.parameterAsString(self.parameters, "JOIN_ID", self.context)
+        fields = QgsFields()
+        fields.append(_id_field(self.left.fields(), left_id, "left"))
+        fields.append(_id_field(self.right.fields(), right_id, "right"))
         fields.append(QgsField("matrix", QVariant.String, len=9))
         output = self.algorithm.sink_of(self.parameters, "OUTPUT", self.context, fields, self.left,
                                         QgsWkbTypes.NoGeometry)
-        return output, _pair_features(*columns, partners)
+        return output, _pair_features(_ids(left, self.left.fields(), left_id),
+                                      _ids(right, self.right.fields(), right_id), partners)
 
 
 def _check_same_system(left: QgsProcessingFeatureSource, right: QgsProcessingFeatureSource,

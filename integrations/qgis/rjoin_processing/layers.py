@@ -128,24 +128,27 @@ def common_decimals(layers: List[BoxLayer], given: int | None,
             else:
                 _tell_rounded(layer, given, feedback)
         except units.CoordinateError as fault:
-            raise _exception(layer, fault, "; give the number of decimals to round to") from fault
+            raise QgsProcessingException(_text(
+                layer, fault, "; give the number of decimals to round to")) from fault
     for layer in layers:
         try:
             units.check_limit(layer.coordinates, decimals)
         except units.CoordinateError as fault:
-            raise _exception(layer, fault, f" ({decimals} decimals)") from fault
+            raise QgsProcessingException(_text(
+                layer, fault, f" ({decimals} decimals)")) from fault
     feedback.pushInfo(f"Coordinates have {decimals} decimals")
     return decimals
 
 
-def _exception(layer: BoxLayer, fault: units.CoordinateError, more: str) -> Exception:
+def _text(layer: BoxLayer, fault: units.CoordinateError, more: str) -> str:
     feature = layer.features[fault.place // NUMBERS_A_BOX]
-    return QgsProcessingException(f"{layer.label(feature)}: coordinate {fault}{more}")
+    return f"{layer.label(feature)}: coordinate {fault}{more}"
 
 
 def _tell_rounded(layer: BoxLayer, decimals: int, feedback: QgsProcessingFeedback) -> None:
     units.check_limit(layer.coordinates, decimals)
-    rounded = {place // NUMBERS_A_BOX for place in units.rounded_places(layer.coordinates, decimals)}
+    places = units.rounded_places(layer.coordinates, decimals)
+    rounded = {place // NUMBERS_A_BOX for place in places}
     if rounded:
         feedback.pushWarning(f"{layer.name}: the coordinates of {len(rounded)} features were "
                              f"rounded to {decimals} decimals")

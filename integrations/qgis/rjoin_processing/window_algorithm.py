@@ -135,8 +135,9 @@ def _narrowed(extent: QgsRectangle, decimals: int) -> Window:
 
 def _up(value: float, decimals: int) -> int:
     """The least whole number of units that isn't below the value."""
-    nearest = round(value * 10**decimals)
-    return nearest if nearest / 10**decimals >= value else nearest + 1
+    power: int = 10**decimals
+    nearest = round(value * power)
+    return nearest if nearest / power >= value else nearest + 1
 
 
 def _down(value: float, decimals: int) -> int:

@@ -29,8 +29,8 @@ class JoinDialog(pya.QDialog):
         self.relation = self._choice("Relation, or a mask of nine letters", RELATIONS)
         self.relation.editable = True
         self.others = self._choice("Shapes that aren't boxes", list(CHOICES))
-        self.buttons = pya.QDialogButtonBox(
-            pya.QDialogButtonBox.Ok | pya.QDialogButtonBox.Cancel, pya.Qt.Horizontal, self)
+        self.buttons = pya.QDialogButtonBox(self)
+        self.buttons.standardButtons = pya.QDialogButtonBox.Ok | pya.QDialogButtonBox.Cancel
         self.buttons.accepted(self.accept)
         self.buttons.rejected(self.reject)
         self.form.addRow(self.buttons)
@@ -68,5 +68,5 @@ def show(view: pya.LayoutView, request: Request) -> int:
     cellview = view.active_cellview()
     database = join_layers(cellview.layout(), cellview.cell, request)
     index = view.add_rdb(database)
-    view.show_rdb(index, view.active_cellview_index)
+    view.show_rdb(index, view.active_cellview_index())
     return int(database.num_items())

@@ -120,7 +120,8 @@ def layer_index(layout: pya.Layout, name: str) -> int:
     """The index of a named layer of the layout."""
     wanted = pya.LayerInfo.from_string(name)
     for index in layout.layer_indexes():
-        if layout.get_info(index).is_equivalent(wanted):
+        info = layout.get_info(index)
+        if info.name == name or info.is_equivalent(wanted):
             return int(index)
     raise JoinError(f"the layout has no layer {name}")
 

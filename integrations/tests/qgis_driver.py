@@ -1,0 +1,104 @@
+"""Runs Processing algorithms inside one QGIS without a display; the tests call it by QGIS's Python.
+
+Each line of standard input is a JSON list of runs, each with `algorithm`, `parameters` and perhaps
+`cancel_at`, a progress at which to cancel, and `program`, the value of RJOIN. Standard output gets
+a line for it, a list of the same length: `results`, the text of an `error`, `progress`, `log`, and
+in `rows` the attributes and the well-known text of each feature of every output layer.
+"""
+from __future__ import annotations
+
+import json
+import os
+import sys
+from typing import Any, Dict, List
+
+from qgis.core import (
+    NULL,
+    QgsApplication,
+    QgsFeature,
+    QgsProcessingContext,
+    QgsProcessingException,
+    QgsProcessingFeedback,
+    QgsVectorLayer,
+)
+
+
+class Recorder(QgsProcessingFeedback):
+    """Keeps what an algorithm says, and cancels it where that is asked for."""
+
+    def __init__(self, cancel_at: float | None) -> None:
+        super().__init__(False)
+        self.cancel_at = cancel_at
+        self.log: List[str] = []
+        self.values: List[float] = []
+        self.progressChanged.connect(self.moved)
+
+    def moved(self, value: float) -> None:
+        self.values.append(value)
+        if self.cancel_at is not None and value >= self.cancel_at:
+            self.cancel()
+
+    def pushInfo(self, info: str) -> None:  # noqa: N802 - the name is QGIS's
+        self.log.append(info)
+
+    def pushWarning(self, warning: str) -> None:  # noqa: N802 - the name is QGIS's
+        self.log.append(warning)
+
+
+def row(names: List[str], feature: QgsFeature) -> Dict[str, Any]:
+    """The attributes and geometry of a feature."""
+    values = [None if value == NULL else value for value in feature.attributes()]
+    geometry = feature.geometry()
+    return {**dict(zip(names, values)), "geometry": None if geometry.isNull() else geometry.asWkt()}
+
+
+def rows_of(result: Any, context: QgsProcessingContext) -> List[Dict[str, Any]] | None:
+    """The features of an output layer."""
+    layer = result if isinstance(result, QgsVectorLayer) else context.getMapLayer(str(result))
+    if layer is None and isinstance(result, str) and os.path.exists(result):
+        layer = QgsVectorLayer(result, "output", "ogr")
+    if layer is None or not layer.isValid():
+        return None
+    names = [field.name() for field in layer.fields()]
+    return [row(names, feature) for feature in layer.getFeatures()]
+
+
+def run(request: Dict[str, Any]) -> Dict[str, Any]:
+    """One run."""
+    import processing
+
+    context, feedback = QgsProcessingContext(), Recorder(request.get("cancel_at"))
+    answer: Dict[str, Any] = {"error": None, "results": {}, "rows": {}}
+    program = os.environ["RJOIN"]
+    try:
+        os.environ["RJOIN"] = request.get("program", program)
+        results = processing.run(request["algorithm"], request["parameters"], context=context,
+                                 feedback=feedback)
+        answer["rows"] = {name: rows_of(value, context) for name, value in results.items()}
+        answer["results"] = {name: value for name, value in results.items()
+                             if isinstance(value, (int, float, str))}
+    except QgsProcessingException as fault:
+        answer["error"] = str(fault)
+    finally:
+        os.environ["RJOIN"] = program
+    return {**answer, "progress": feedback.values, "log": feedback.log}
+
+
+def main() -> None:
+    """Starts QGIS with the plugin and works the lists off; what QGIS prints goes elsewhere."""
+    answers = os.fdopen(os.dup(sys.stdout.fileno()), "w", encoding="utf-8")
+    os.dup2(sys.stderr.fileno(), sys.stdout.fileno())
+    sys.path[:0] = [os.environ["QGIS_PLUGINPATH"], "/usr/share/qgis/python/plugins"]
+    application = QgsApplication([], False)
+    application.initQgis()
+    from processing.core.Processing import Processing
+    from rjoin_processing.provider import RjoinProvider
+
+    Processing.initialize()
+    provider = RjoinProvider()
+    QgsApplication.processingRegistry().addProvider(provider)
+    for line in sys.stdin:
+        print(json.dumps([run(request) for request in json.loads(line)]), file=answers, flush=True)
+
+
+main()

@@ -1,0 +1,110 @@
+"""The plugin's reading of well-known binary and of decimals, which needs no QGIS."""
+from __future__ import annotations
+
+import importlib
+import struct
+import sys
+from pathlib import Path
+from types import ModuleType
+from typing import Sequence, Tuple
+
+import pytest
+
+PLUGIN = Path(__file__).resolve().parents[1] / "qgis"
+Ring = Sequence[Tuple[float, float]]
+
+SQUARE: Ring = [(0, 0), (4, 0), (4, 4), (0, 4), (0, 0)]
+
+
+def module(name: str) -> ModuleType:
+    """A module of the plugin that doesn't import QGIS."""
+    if str(PLUGIN) not in sys.path:
+        sys.path.insert(0, str(PLUGIN))
+    return importlib.import_module(f"rjoin_processing.{name}")
+
+
+def points(ring: Ring) -> bytes:
+    return struct.pack("<I", len(ring)) + b"".join(struct.pack("<2d", *point) for point in ring)
+
+
+def line(*ring: Tuple[float, float]) -> bytes:
+    return struct.pack("<BI", 1, 2) + points(ring)
+
+
+def polygon(*rings: Ring) -> bytes:
+    return struct.pack("<BII", 1, 3, len(rings)) + b"".join(map(points, rings))
+
+
+def multi(kind: int, *parts: bytes) -> bytes:
+    return struct.pack("<BII", 1, kind, len(parts)) + b"".join(parts)
+
+
+@pytest.mark.parametrize("wkb, bounds", [
+    (struct.pack("<BI2d", 1, 1, 1.5, -2), (1.5, -2, 1.5, -2)),
+    (struct.pack(">BI2d", 0, 1, 1.5, -2), (1.5, -2, 1.5, -2)),
+    (struct.pack("<BI3d", 1, 1001, 1, 2, 9), (1, 2, 1, 2)),
+    (struct.pack("<BI3d", 1, 0x80000001, 1, 2, 9), (1, 2, 1, 2)),
+    (struct.pack("<BI4d", 1, 3001, 1, 2, 9, 9), (1, 2, 1, 2)),
+    (line((3, 0), (1, 0)), (1, 0, 3, 0)),
+    (line((3, 0), (2, 0), (2, 0), (1, 0)), (1, 0, 3, 0)),
+    (polygon(SQUARE), (0, 0, 4, 4)),
+    (polygon(SQUARE[::-1]), (0, 0, 4, 4)),
+    (polygon([(2, 0), (4, 0), (4, 4), (0, 4), (0, 0), (2, 0)]), (0, 0, 4, 4)),
+    (polygon([(0, 0), (4, 0), (4, 0), (4, 3), (4, 4), (0, 4), (0, 0)]), (0, 0, 4, 4)),
+    (multi(6, polygon(SQUARE)), (0, 0, 4, 4)),
+    (multi(7, multi(5, line((0, 0), (0, 1)))), (0, 0, 0, 1)),
+])
+def test_boxes(wkb: bytes, bounds: Tuple[float, ...]) -> None:
+    assert tuple(module("boxes").box_of(wkb)) == bounds
+
+
+@pytest.mark.parametrize("wkb, reason", [
+    (struct.pack("<BI2d", 1, 1, float("nan"), float("nan")), "empty"),
+    (struct.pack("<BI2d", 1, 1, float("inf"), 0), "finite"),
+    (line(), "empty"),
+    (line((1, 1), (1, 1)), "without a length"),
+    (line((0, 0), (1, 1)), "slanted"),
+    (line((0, 0), (2, 0), (1, 0)), "turns"),
+    (line((0, 0), (2, 0), (2, 1)), "turns"),
+    (polygon(), "empty"),
+    (polygon(SQUARE, [(1, 1), (2, 1), (2, 2), (1, 1)]), "hole"),
+    (polygon([(0, 0), (4, 0), (0, 4), (0, 0)]), "rectangle"),
+    (polygon([(0, 0), (4, 0), (4, 4), (0, 4)]), "rectangle"),
+    (polygon([(0, 0), (4, 0), (0, 0), (4, 0), (0, 0)]), "rectangle"),
+    (polygon([(0, 0), (5, 0), (4, 0), (4, 4), (0, 4), (0, 0)]), "rectangle"),
+    (polygon([(0, 0), (4, 0), (4, 2), (2, 2), (2, 4), (0, 4), (0, 0)]), "rectangle"),
+    (multi(6, polygon(SQUARE), polygon(SQUARE)), "several parts"),
+    (multi(4), "empty"),
+    (struct.pack("<BII6d", 1, 8, 3, 0, 0, 1, 1, 2, 0), "curve"),
+])
+def test_others(wkb: bytes, reason: str) -> None:
+    boxes = module("boxes")
+    with pytest.raises(boxes.NotABox, match=reason):
+        boxes.box_of(wkb)
+
+
+@pytest.mark.parametrize("numbers, decimals", [
+    ([], 0), ([1.0, -3.0], 0), ([0.5], 1), ([0.1, 2.25, 7.0], 2), ([0.29], 2), ([1e6 - 1e-6], 6),
+    ([1e12], 0), ([0.000001], 6),
+])
+def test_fewest_decimals(numbers: Sequence[float], decimals: int) -> None:
+    assert module("decimals").fewest_decimals(numbers) == decimals
+
+
+@pytest.mark.parametrize("numbers, place", [
+    ([1.0, 0.1 + 0.2], 1), ([0.0000001], 0), ([1.0, 2.0, 1e12 + 1], 2), ([float("nan")], 0),
+])
+def test_no_decimals(numbers: Sequence[float], place: int) -> None:
+    decimals = module("decimals")
+    with pytest.raises(decimals.CoordinateError) as caught:
+        decimals.fewest_decimals(numbers)
+    assert caught.value.place == place
+
+
+def test_limit_depends_on_decimals() -> None:
+    decimals = module("decimals")
+    decimals.check_limit([1e6], 6)
+    with pytest.raises(decimals.CoordinateError):
+        decimals.check_limit([1e6 + 0.5], 6)
+    assert list(decimals.in_units([0.29, -1.005], 2)) == [29, -100]
+    assert list(decimals.rounded_places([0.29, -1.005], 2)) == [1]

@@ -1,0 +1,196 @@
+"""The KLayout package without a display, beside KLayout's own questions of each pair of boxes."""
+from __future__ import annotations
+
+import json
+import os
+import re
+import shutil
+import subprocess
+import xml.etree.ElementTree as ElementTree
+from collections import Counter
+from pathlib import Path
+from typing import Any, Dict, List, Tuple
+
+import pytest
+
+from town import ROOT
+
+PACKAGE = ROOT / "integrations/klayout"
+DRIVER = Path(__file__).with_name("klayout_driver.py")
+ENVIRONMENT = {"QT_QPA_PLATFORM": "offscreen", "PYTHONDONTWRITEBYTECODE": "1"}
+Bounds = Tuple[float, ...]
+
+COMPARED = [("chip", "1/0", "2/0", relation)
+            for relation in ("intersects", "touches", "overlaps", "within")] + [
+    ("town", "1/0", "4/0", "overlaps"), ("town", "1/0", "1/0", "touches"),
+    ("town", "1/0", "1/0", "equals"), ("town", "3/0", "1/0", "intersects")]
+
+FAULTS = {
+    "7/0 overlaps 2/0": "the layout has no layer 7/0",
+    "1/0 disjoint 2/0": "disjoint features may fit",
+    "1/0 TTT 2/0": "not a name or a mask",
+    "1/0 overlaps 2/0 drop": "others must be one of error, envelope, skip",
+}
+
+
+def klayout_run(*words: str, **variables: str) -> subprocess.CompletedProcess[str]:
+    """Runs KLayout without a display."""
+    given = [word for name, value in variables.items() for word in ("-rd", f"{name}={value}")]
+    return subprocess.run(["klayout", *words, *given], capture_output=True, text=True, check=False,
+                          env={**os.environ, **ENVIRONMENT}, stdin=subprocess.DEVNULL, timeout=150)
+
+
+@pytest.fixture(scope="session")
+def klayout() -> Any:
+    """Runs a script in batch mode."""
+    if shutil.which("klayout") is None:
+        pytest.skip("klayout isn't installed")
+
+    def run(script: Path, **variables: str) -> subprocess.CompletedProcess[str]:
+        return klayout_run("-b", "-r", str(script), **variables)
+    return run
+
+
+@pytest.fixture(scope="session")
+def town(klayout: Any, tmp_path_factory: pytest.TempPathFactory) -> Path:
+    """The town as a layout."""
+    path = tmp_path_factory.mktemp("town") / "town.oas"
+    ended = klayout(PACKAGE / "town.py", output=str(path))
+    assert ended.returncode == 0, ended.stderr
+    return Path(path)
+
+
+@pytest.fixture(scope="session")
+def joined(klayout: Any, town: Path, tmp_path_factory: pytest.TempPathFactory) -> Dict[str, Any]:
+    """What one KLayout answers to all joins of the tests, by the words of each."""
+    folder = tmp_path_factory.mktemp("joined")
+    requests = [{"layout": layout, "left": left, "right": right, "relation": relation,
+                 "asked": True} for layout, left, right, relation in COMPARED]
+    requests += [{"layout": "others", "left": "1/0", "right": "2/0", "relation": "contains",
+                  "others": others} for others in ("error", "skip", "envelope")]
+    for words in FAULTS:
+        left, relation, right, *others = words.split()
+        requests.append({"layout": "chip", "left": left, "right": right, "relation": relation,
+                         "others": others[0] if others else "error"})
+    (folder / "requests").write_text(json.dumps(requests), encoding="utf-8")
+    ended = klayout(DRIVER, folder=str(folder), town_file=str(town),
+                    package=str(PACKAGE / "python"))
+    assert ended.returncode == 0, ended.stderr
+    answers = json.loads((folder / "answers").read_text(encoding="utf-8"))
+    return {key_of(request): answer for request, answer in zip(requests, answers)}
+
+
+def key_of(request: Dict[str, Any]) -> str:
+    return " ".join(str(request[name]) for name in ("layout", "left", "relation", "right")
+                    ) + f" {request.get('others', 'error')}"
+
+
+def bounds(text: str) -> Bounds:
+    """The corners of a box or of an edge as KLayout writes them, in order."""
+    numbers = [float(number) for number in re.findall(r"-?\d+(?:\.\d+)?", text)]
+    xs, ys = sorted(numbers[::2]), sorted(numbers[1::2])
+    return xs[0], ys[0], xs[-1], ys[-1]
+
+
+def items(path: Path) -> Dict[str, List[Tuple[Bounds, ...]]]:
+    """The shapes of each item of a report database, by category."""
+    found: Dict[str, List[Tuple[Bounds, ...]]] = {}
+    for item in ElementTree.parse(path).getroot().iter("item"):
+        values = [value.text or "" for value in item.iter("value")]
+        shapes = tuple(bounds(text.split(":", 1)[1]) for text in values
+                       if text.startswith(("box:", "edge:")))
+        found.setdefault(item.findtext("category", ""), []).append(shapes)
+    return found
+
+
+def pairs_of(answer: Dict[str, Any]) -> Counter[Tuple[Bounds, ...]]:
+    """The pairs of boxes of a report database."""
+    assert answer["error"] is None, answer["error"]
+    return Counter(pair for name, pairs in items(Path(answer["database"])).items()
+                   if not name.startswith("'left out") for pair in pairs)
+
+
+@pytest.mark.parametrize("layout, left, right, relation", COMPARED)
+def test_joins(joined: Dict[str, Any], layout: str, left: str, right: str, relation: str) -> None:
+    """Beside KLayout's own answer for each pair of boxes, through arrays and turned cells."""
+    answer = joined[f"{layout} {left} {relation} {right} error"]
+    asked = Counter((bounds(one), bounds(other)) for one, other in answer["asked"])
+    assert pairs_of(answer) == asked
+    assert asked or relation == "within"
+    for name in items(Path(answer["database"])):
+        assert re.fullmatch(rf"'{left} {relation} {right}'\.'?[F012]{{9}}'?", name)
+
+
+def test_other_shapes(joined: Dict[str, Any]) -> None:
+    words = "others 1/0 contains 2/0"
+    stopped = joined[f"{words} error"]["error"]
+    assert "layer 2/0, cell TOP: not a box, edge or point, but" in stopped
+    listed = joined[f"{words} skip"]
+    reasons = {name.split(".")[1].strip("'"): len(gone)
+               for name, gone in items(Path(listed["database"])).items() if "left out" in name}
+    assert reasons == {"not a rectangle": 1, "a slanted line": 1, "a line that turns": 1,
+                       "a text": 1, "a polygon with a hole": 1, "a turned box": 1}
+    path_with_a_width, path_without = (0.01, 0.04, 0.09, 0.06), (0.01, 0.05, 0.09, 0.05)
+    assert Counter(pair[1] for pair in pairs_of(listed)) == Counter(
+        [path_with_a_width, path_without])
+    assert pairs_of(joined[f"{words} envelope"]).total() == 8
+
+
+@pytest.mark.parametrize("words, text", FAULTS.items())
+def test_faults(joined: Dict[str, Any], words: str, text: str) -> None:
+    left, relation, right, *others = words.split()
+    answer = joined[f"chip {left} {relation} {right} {others[0] if others else 'error'}"]
+    assert text in answer["error"]
+
+
+def test_batch_mode(klayout: Any, town: Path, tmp_path: Path) -> None:
+    """The documented step; every station lies at its own place, as another layer of points."""
+    output = tmp_path / "pairs.lyrdb"
+    ended = klayout(PACKAGE / "join.py", file=str(town), left="stations (3/0)", right="stations",
+                    relation="equals", output=str(output))
+    assert ended.returncode == 0, ended.stderr
+    assert ended.stdout.strip() == "'stations (3/0) equals stations'.'0FFFFFFF2': 16"
+    assert sum(map(len, items(output).values())) == 16
+
+
+def test_batch_mode_fails_with_a_status(klayout: Any, town: Path, tmp_path: Path) -> None:
+    output = tmp_path / "nowhere" / "pairs.lyrdb"
+    ended = klayout(PACKAGE / "join.py", file=str(town), left="1/0", right="2/0",
+                    relation="touches", output=str(output))
+    assert ended.returncode == 1 and "can't be written" in ended.stderr
+
+
+MACRO = """
+import sys
+import pya
+sys.path.insert(0, package)
+from rjoin_klayout import dialog
+try:
+    window = pya.MainWindow.instance()
+    window.load_layout(file, 1)
+    view = pya.LayoutView.current()
+    asked = dialog.JoinDialog(window, ["1/0", "4/0"])
+    asked.relation.setCurrentText("overlaps")
+    print(asked.request())
+    print(dialog.show(view, asked.request()), view.num_rdbs())
+finally:
+    sys.stdout.flush()
+    pya.Application.instance().exit(0)
+"""
+
+
+def test_dialog(klayout: Any, town: Path, tmp_path: Path) -> None:
+    """The macro's dialog offers the layers, and its join puts a database into the view."""
+    script = tmp_path / "macro.py"
+    script.write_text(MACRO, encoding="utf-8")
+    ended = klayout_run("-z", "-nc", "-rx", "-rm", str(script), file=str(town),
+                        package=str(PACKAGE / "python"))
+    assert ended.stdout.splitlines() == [
+        "Request(left='1/0', right='4/0', relation='overlaps', others='error')", "20 1"
+    ], ended.stderr
+
+
+def test_macro_is_a_macro() -> None:
+    root = ElementTree.parse(PACKAGE / "pymacros/join_layers.lym").getroot()
+    assert root.findtext("interpreter") == "python"
+    compile(root.findtext("text", ""), "join_layers.lym", "exec")

@@ -1,0 +1,210 @@
+"""The PostGIS command, on a server of its own, beside PostGIS's own predicates."""
+from __future__ import annotations
+
+import csv
+import io
+import os
+import subprocess
+import sys
+from pathlib import Path
+from typing import Dict, Iterator, List
+
+import pytest
+
+from town import JOINS, ROOT, TOWN, Join
+
+sys.path.insert(0, str(ROOT / "bench"))
+import layers as made_layers  # noqa: E402
+
+COMMAND = ROOT / "integrations/postgis/rjoin-postgis"
+SERVER = ROOT / "recipes/with-postgres"
+ANNOUNCE = 'echo "$PGHOST $PGUSER $PGDATABASE"; exec cat'
+
+
+@pytest.fixture(scope="session")
+def server() -> Iterator[Dict[str, str]]:
+    """The environment of a server with PostGIS, which ends with the tests."""
+    words = [str(SERVER), "sh", "-c", ANNOUNCE]
+    with subprocess.Popen(words, stdin=subprocess.PIPE, stdout=subprocess.PIPE,
+                          stderr=subprocess.PIPE, text=True) as process:
+        assert process.stdout is not None
+        settings = process.stdout.readline().split()
+        if len(settings) != 3:
+            pytest.skip("a PostgreSQL server can't be started")
+        environment = {**os.environ, **dict(zip(("PGHOST", "PGUSER", "PGDATABASE"), settings))}
+        made = subprocess.run(["psql", "-qX", "-c", "create extension postgis"], env=environment,
+                              capture_output=True, text=True, check=False)
+        if made.returncode != 0:
+            process.communicate()
+            pytest.skip("PostGIS isn't installed")
+        load(environment)
+        yield environment
+        process.communicate()
+
+
+def load(server: Dict[str, str]) -> None:
+    """The town at a quarter of its size, so that coordinates have up to two decimals."""
+    for path in sorted(TOWN.glob("*.csv")):
+        psql(server, f"create table {path.stem} (id text primary key, geom geometry)",
+             f"\\copy {path.stem} from '{path}' csv header",
+             f"update {path.stem} set geom = ST_Scale(geom, 0.25, 0.25)")
+
+
+def psql(server: Dict[str, str], *commands: str) -> List[List[str]]:
+    """The rows of the last command."""
+    words = [word for command in commands for word in ("-c", command)]
+    ended = subprocess.run(["psql", "-qtX", "--csv", "-v", "ON_ERROR_STOP=1", *words], env=server,
+                           capture_output=True, text=True, check=False)
+    assert ended.returncode == 0, ended.stderr
+    return list(csv.reader(io.StringIO(ended.stdout)))
+
+
+def command(server: Dict[str, str], *words: str, **variables: str
+            ) -> subprocess.CompletedProcess[str]:
+    return subprocess.run([str(COMMAND), *words], env={**server, **variables}, text=True,
+                          capture_output=True, check=False)
+
+
+def done(server: Dict[str, str], *words: str) -> str:
+    ended = command(server, *words)
+    assert ended.returncode == 0, ended.stderr
+    return ended.stdout + ended.stderr
+
+
+def refused(server: Dict[str, str], *words: str, **variables: str) -> str:
+    ended = command(server, *words, **variables)
+    assert ended.returncode == 1 and ended.stderr.startswith("rjoin-postgis: ")
+    assert ended.stderr.count("\n") == 1, ended.stderr
+    return ended.stderr
+
+
+def tables(server: Dict[str, str]) -> List[List[str]]:
+    return psql(server, "select table_schema, table_name from information_schema.tables"
+                " order by 1, 2")
+
+
+OWN = ("select l.id, r.id, ST_Relate(l.geom, r.geom) from {left} l join {right} r"
+       " on ST_{relation}(l.geom, r.geom) order by 1, 2")
+
+
+@pytest.mark.parametrize("join", [*JOINS, Join("parcels", "zones", "overlaps"),
+                                  Join("stations", "zones", "within")], ids="-".join)
+def test_joins_of_the_town(server: Dict[str, str], join: Join) -> None:
+    name = "pairs_" + "_".join(join)
+    done(server, join.left, join.right, "--relation", join.relation, "--into", name)
+    own = psql(server, OWN.format(**join._asdict()))
+    assert psql(server, f"select * from {name} order by 1, 2") == own
+    assert own or join.relation == "overlaps"
+
+
+def test_made_layers(server: Dict[str, str], tmp_path: Path) -> None:
+    for kind, made in made_layers.KINDS.items():
+        for side, path in zip("lr", made_layers.write_pair(tmp_path, kind, 4000)):
+            psql(server, f"create table {kind}_{side} (id text primary key, geom geometry)",
+                 f"\\copy {kind}_{side} from '{path}' csv header",
+                 f"create index on {kind}_{side} using gist (geom)", f"analyze {kind}_{side}")
+        done(server, f"{kind}_l", f"{kind}_r", "--relation", made.relation, "--into", f"{kind}_p")
+        own = psql(server, OWN.format(left=f"{kind}_l", right=f"{kind}_r", relation=made.relation))
+        assert psql(server, f"select * from {kind}_p order by 1, 2") == own and own
+
+
+SHAPES = {
+    "LINESTRING (0 0, 1 0, 1 0, 2 0)": None,
+    "POINT Z (0 0 1)": None,
+    "POLYGON ((0.5 0, 1 0, 1 0, 1 1, 0 1, 0 0, 0.5 0))": None,
+    "MULTIPOLYGON (((0 0, 1 0, 1 1, 0 1, 0 0)))": None,
+    "GEOMETRYCOLLECTION (LINESTRING (0 0, 3 0))": None,
+    "LINESTRING (0 0, 2 0, 1 0)": "a line that turns",
+    "LINESTRING (0 0, 1 1)": "a slanted line, or one that turns",
+    "LINESTRING (1 1, 1 1)": "a line without a length",
+    "POINT EMPTY": "an empty geometry",
+    "POLYGON ((0 0, 2 0, 1 0, 1 1, 0 1, 0 0))": "not a rectangle",
+    "POLYGON ((0 0, 0 1, 1 0, 1 1, 0 0))": "not a rectangle",
+    "POLYGON ((0 0, 9 0, 9 9, 0 9, 0 0), (1 1, 2 1, 2 2, 1 2, 1 1))": "a polygon with a hole",
+    "MULTIPOINT ((0 0), (1 1))": "a geometry of several parts",
+    "CIRCULARSTRING (0 0, 1 1, 2 0)": "a curve or surface",
+}
+
+
+def test_other_geometries_and_ids_of_any_type(server: Dict[str, str]) -> None:
+    """A quoted table in a schema, with a uuid as its key; then envelopes beside ST_Envelope."""
+    psql(server, "create schema odd", 'create table odd."Shapes" ("Key" uuid primary key default'
+         ' gen_random_uuid(), text text, "The Shape" geometry)',
+         'insert into odd."Shapes" (text, "The Shape") values '
+         + ", ".join(f"('{text}', '{text}')" for text in SHAPES) + ", ('null', null)")
+    words = ['odd."Shapes"', "zones", "--relation", "intersects", "--into"]
+    before = tables(server)
+    assert "not a point, axis-parallel segment or rectangle, but" in refused(
+        server, *words, 'odd."Pairs"')
+    assert tables(server) == before
+    assert '10 rows listed in odd."Pairs_skipped"' in done(
+        server, *words, 'odd."Pairs"', "--others", "skip")
+    skipped = psql(server, 'select text, reason from odd."Pairs_skipped" join odd."Shapes"'
+                   ' on "Key"::text = id where side = \'left\'')
+    assert {text: reason for text, reason in skipped} == {
+        **{text: reason for text, reason in SHAPES.items() if reason}, "null": "no geometry"}
+    own = ('select "Key", z.id from odd."Shapes" join zones z on ST_Intersects({}, z.geom)'
+           ' {} order by 1, 2')
+    kept = 'where "Key"::text not in (select id from odd."Pairs_skipped")'
+    assert psql(server, 'select left_id, right_id from odd."Pairs" order by 1, 2') == psql(
+        server, own.format('"The Shape"', kept))
+    assert psql(server, 'select pg_typeof(left_id), pg_typeof(right_id) from odd."Pairs" limit 1'
+                ) == [["uuid", "text"]]
+    done(server, *words, "odd.boxes", "--others", "envelope", "--skipped", "odd.gone")
+    assert psql(server, "select left_id, right_id from odd.boxes order by 1, 2") == psql(
+        server, own.format('ST_Envelope("The Shape")', ""))
+    assert len(psql(server, "select * from odd.gone")) == 2
+
+
+def test_decimals(server: Dict[str, str]) -> None:
+    psql(server, "create table fine (number int primary key, a geometry, b geometry)",
+         "insert into fine values (7, 'POINT (0.2500001 0.5)', 'POINT (0.25 0.5)')",
+         "create table far (number int primary key, a geometry)",
+         "insert into far values (9, 'POINT (2000000 0.000001)')")
+    words = ["fine", "zones", "--relation", "within", "--into"]
+    assert "fine has 2 columns of type geometry" in refused(server, *words, "fine_pairs")
+    words += ["fine_pairs", "--left-geometry", "a"]
+    assert "fine, id 7: a coordinate isn't written exactly" in refused(server, *words)
+    assert "1 rows are rounded to 2 decimals" in done(server, *words, "--decimals", "2")
+    own = psql(server, "select number, id from fine join zones on ST_Within(b, geom) order by 2")
+    assert psql(server, "select left_id, right_id from fine_pairs order by 2") == own and own
+    assert "far, id 9: a coordinate is out of range" in refused(
+        server, "far", "zones", "--relation", "within", "--into", "far_pairs")
+
+
+@pytest.mark.parametrize("words, text", [
+    (["nowhere", "zones", "--relation", "within"], 'relation "nowhere" does not exist'),
+    (["parcels", "zones", "--relation", "disjoint"], "disjoint features may fit"),
+    (["parcels", "zones", "--relation", "overlap"], "did you mean overlaps?"),
+    (["parcels", "zones", "--relation", "within", "--left-id", "key"], "has no column key"),
+    (["unkeyed", "zones", "--relation", "within"], "has no primary key of one column"),
+    (["parcels", "zones", "--relation", "within", "--into", "zones"], "already exists"),
+    (["other_system", "zones", "--relation", "within"], "the reference systems 0 and 4326"),
+])
+def test_faults_leave_nothing(server: Dict[str, str], words: List[str], text: str) -> None:
+    psql(server, "create table if not exists unkeyed (id int, geom geometry)",
+         "create table if not exists other_system (id int primary key, geom geometry)",
+         "insert into other_system values (1, 'SRID=4326;POINT (1 1)') on conflict do nothing")
+    before = tables(server)
+    assert text in refused(server, *(words if "--into" in words else [*words, "--into", "never"]))
+    assert tables(server) == before
+
+
+def test_a_failing_program_leaves_nothing(server: Dict[str, str], tmp_path: Path) -> None:
+    """A program that dies after a part of its answer."""
+    program = tmp_path / "rjoin"
+    program.write_text('#!/bin/sh\n[ "$2" = /dev/null ] && exit 1\necho left,right,matrix\n'
+                       "echo 1,1,2FFF1FFF2\nexit 1\n", encoding="utf-8")
+    program.chmod(0o755)
+    before = tables(server)
+    assert "rjoin: child process exited with exit code 1" in refused(
+        server, "parcels", "zones", "--relation", "within", "--into", "never", RJOIN=str(program))
+    assert tables(server) == before
+    assert "RJOIN is set to /nowhere" in refused(
+        server, "parcels", "zones", "--relation", "within", "--into", "never", RJOIN="/nowhere")
+
+
+def test_empty_tables(server: Dict[str, str]) -> None:
+    psql(server, "create table empty (id int primary key, geom geometry)")
+    assert "0 pairs in lone" in done(server, "empty", "zones", "--relation", "within",
+                                     "--into", "lone")

@@ -1,0 +1,309 @@
+"""The QGIS plugin without a display, beside native:joinattributesbylocation and others."""
+from __future__ import annotations
+
+import csv
+import json
+import os
+import shutil
+import subprocess
+import sys
+from pathlib import Path
+from typing import Any, Dict, Iterator, List, Tuple
+
+import pytest
+
+from town import JOINS, ROOT, TOWN
+
+sys.path.insert(0, str(ROOT / "bench"))
+import layers as made_layers  # noqa: E402
+
+PLUGINS = ROOT / "integrations/qgis"
+DRIVER = Path(__file__).with_name("qgis_driver.py")
+RELATIONS = ["intersects", "touches", "crosses", "within", "contains", "overlaps", "equals"]
+NATIVE = {name: number for number, name in enumerate(
+    ["intersects", "contains", "equals", "touches", "overlaps", "within", "crosses"])}
+STOP, ENVELOPE, LEAVE_OUT = 0, 1, 2
+Run = Dict[str, Any]
+Pairs = List[Tuple[str, str]]
+
+
+@pytest.fixture(scope="session")
+def profile(tmp_path_factory: pytest.TempPathFactory) -> Dict[str, str]:
+    """The environment of a QGIS with a profile of its own and no display."""
+    folder = tmp_path_factory.mktemp("qgis")
+    return {**os.environ, "QT_QPA_PLATFORM": "offscreen", "QGIS_CUSTOM_CONFIG_PATH": str(folder),
+            "XDG_RUNTIME_DIR": str(folder), "QGIS_PLUGINPATH": str(PLUGINS),
+            "PYTHONDONTWRITEBYTECODE": "1"}
+
+
+@pytest.fixture(scope="session")
+def python_of_qgis() -> str:
+    for python in (sys.executable, "/usr/bin/python3"):
+        if subprocess.run([python, "-c", "import qgis.core"], capture_output=True,
+                          check=False).returncode == 0:
+            return python
+    pytest.skip("QGIS's Python modules aren't installed")
+
+
+@pytest.fixture(scope="session")
+def runs(profile: Dict[str, str], python_of_qgis: str, tmp_path_factory: pytest.TempPathFactory
+         ) -> Iterator[Any]:
+    """Works lists of runs off, in one QGIS for all tests."""
+    log = tmp_path_factory.mktemp("driver") / "log"
+    with open(log, "w", encoding="utf-8") as errors, subprocess.Popen(
+            [python_of_qgis, str(DRIVER)], stdin=subprocess.PIPE, stdout=subprocess.PIPE,
+            stderr=errors, text=True, env=profile) as driver:
+        def work(requests: List[Run]) -> List[Dict[str, Any]]:
+            assert driver.stdin is not None and driver.stdout is not None
+            driver.stdin.write(json.dumps(requests) + "\n")
+            driver.stdin.flush()
+            answer = driver.stdout.readline()
+            assert answer, log.read_text(encoding="utf-8")
+            return list(json.loads(answer))
+        yield work
+        driver.kill()
+
+
+@pytest.fixture(scope="session")
+def qgis_process(profile: Dict[str, str]) -> Any:
+    """Calls qgis_process; Debian's wrapper of 3.22 adds a word that it doesn't know."""
+    command = shutil.which("qgis_process.bin") or shutil.which("qgis_process")
+    if command is None:
+        pytest.skip("qgis_process isn't installed")
+
+    def call(*words: str) -> subprocess.CompletedProcess[str]:
+        return subprocess.run([str(command), *words], capture_output=True, text=True, env=profile,
+                              check=False)
+    call("plugins", "enable", "rjoin_processing")
+    return call
+
+
+def town(name: str) -> str:
+    return str(TOWN / f"{name}.csv")
+
+
+def ours(left: str, right: str, relation: str, **more: Any) -> Run:
+    parameters = {"INPUT": left, "JOIN": right, "RELATION": RELATIONS.index(relation),
+                  "DISCARD_NONMATCHING": True, "OUTPUT": "memory:", **more}
+    return {"algorithm": "rjoin:joinbyrelation", "parameters": parameters}
+
+
+def natives(left: str, right: str, relation: str) -> Run:
+    return {"algorithm": "native:joinattributesbylocation", "parameters": {
+        "INPUT": left, "JOIN": right, "PREDICATE": [NATIVE[relation]], "METHOD": 0,
+        "DISCARD_NONMATCHING": True, "OUTPUT": "memory:"}}
+
+
+def pairs(answer: Dict[str, Any]) -> Pairs:
+    assert answer["error"] is None, answer["error"]
+    return sorted((row["id"], row["id_2"]) for row in answer["rows"]["OUTPUT"])
+
+
+def layer(path: Path, texts: Dict[str, str]) -> str:
+    """A CSV layer of well-known texts by their ids."""
+    with open(path, "w", encoding="utf-8", newline="") as file:
+        csv.writer(file).writerows([("id", "wkt"), *texts.items()])
+    return str(path)
+
+
+def test_qgis_process_on_the_town(qgis_process: Any, tmp_path: Path) -> None:
+    outputs = [str(tmp_path / name) for name in ("ours.csv", "natives.csv")]
+    layers = [f"INPUT={town('parcels')}", f"JOIN={town('roads')}", "DISCARD_NONMATCHING=1"]
+    one = qgis_process("run", "rjoin:joinbyrelation", "--", *layers, "RELATION=1",
+                       f"OUTPUT={outputs[0]}")
+    other = qgis_process("run", "native:joinattributesbylocation", "--", *layers, "PREDICATE=3",
+                         f"OUTPUT={outputs[1]}")
+    assert one.returncode == 0 and other.returncode == 0, one.stderr + other.stderr
+    rows = []
+    for path in outputs:
+        with open(path, encoding="utf-8", newline="") as file:
+            rows.append(sorted((row["id"], row["id_2"]) for row in csv.DictReader(file)))
+    assert rows[0] == rows[1] and rows[0]
+
+
+def test_qgis_process_fails_with_a_status(qgis_process: Any, tmp_path: Path) -> None:
+    ended = qgis_process("run", "rjoin:joinbyrelation", "--", f"INPUT={town('parcels')}",
+                         f"JOIN={town('roads')}", "MASK=FF*FF****", f"OUTPUT={tmp_path}/o.gpkg")
+    assert ended.returncode != 0
+    assert "disjoint features may fit" in ended.stderr + ended.stdout
+    assert not (tmp_path / "o.gpkg").exists()
+
+
+def test_joins_of_the_town(runs: Any) -> None:
+    requests = [request for join in JOINS for request in (
+        ours(town(join.left), town(join.right), join.relation),
+        natives(town(join.left), town(join.right), join.relation))]
+    answers = runs(requests)
+    for place, join in enumerate(JOINS):
+        assert pairs(answers[2 * place]) == pairs(answers[2 * place + 1]), join
+
+
+MADE = {"points": ("Point", "Polygon"), "rectangles": ("Polygon", "Polygon"),
+        "mixture": ("LineString", "Polygon"), "cadastre": ("Polygon", "Polygon"),
+        "chip": ("Polygon", "LineString")}
+
+
+def test_made_layers(runs: Any, tmp_path: Path) -> None:
+    """Layers of each kind, as GeoPackages, which have a key that a pair repeats."""
+    requests = []
+    for kind, types in MADE.items():
+        relation = made_layers.KINDS[kind].relation
+        packages = []
+        for path, geometry in zip(made_layers.write_pair(tmp_path, kind, 2000), types):
+            packages.append(str(path.with_suffix(".gpkg")))
+            requests.append({"algorithm": "native:savefeatures", "parameters": {
+                "INPUT": f"{path}|geometrytype={geometry}", "OUTPUT": packages[-1]}})
+        left, right = packages
+        requests += [ours(left, right, relation, OUTPUT=str(tmp_path / f"{kind}.gpkg")),
+                     natives(left, right, relation)]
+    answers = runs(requests)
+    for place, kind in enumerate(MADE):
+        joined = pairs(answers[4 * place + 2])
+        assert joined == pairs(answers[4 * place + 3]) and joined, kind
+    cadastre = answers[4 * list(MADE).index("cadastre") + 2]
+    assert cadastre["results"]["PAIRS"] == made_layers.expected("cadastre", "touches", 2000)
+
+
+def test_fields_and_forms_of_output(runs: Any) -> None:
+    stations, parcels = town("stations"), town("parcels")
+    all_fields, alone, some, mask = runs([
+        ours(stations, parcels, "within", DISCARD_NONMATCHING=False, PREFIX="in_"),
+        ours(stations, parcels, "within", METHOD=1, INPUT_ID="id"),
+        ours(stations, parcels, "within", JOIN_FIELDS=["id"]),
+        ours(stations, parcels, "crosses", MASK="T*F**F***")])
+    rows = all_fields["rows"]["OUTPUT"]
+    assert set(rows[0]) == {"id", "wkt", "in_id", "in_wkt", "matrix", "geometry"}
+    inside = [row for row in rows if row["in_id"] is not None]
+    assert {row["id"] for row in rows} == set(station_ids())
+    assert all(row["geometry"] == row["wkt"].replace("POINT", "Point") for row in rows)
+    assert {row["matrix"] for row in inside} == {"0FFFFF212"}
+    table = alone["rows"]["OUTPUT"]
+    assert [set(row) for row in table] == [{"left", "right", "matrix", "geometry"}] * len(inside)
+    assert sorted(row["left"] for row in table) == sorted(row["id"] for row in inside)
+    assert all(isinstance(row["right"], int) and row["geometry"] is None for row in table)
+    assert set(some["rows"]["OUTPUT"][0]) == {"id", "wkt", "id_2", "matrix", "geometry"}
+    assert pairs(mask) == pairs(some)
+
+
+def station_ids() -> List[str]:
+    with open(TOWN / "stations.csv", encoding="utf-8", newline="") as file:
+        return [row["id"] for row in csv.DictReader(file)]
+
+
+OTHERS = {
+    "box": "POLYGON ((0 0, 4 0, 4 4, 0 4, 0 0))",
+    "part": "MULTIPOLYGON (((0 0, 0 2, 2 2, 2 0, 0 0)))",
+    "triangle": "POLYGON ((0 0, 9 0, 0 9, 0 0))",
+    "parts": "MULTIPOLYGON (((20 0, 22 0, 22 2, 20 2, 20 0)), ((0 5, 2 5, 2 9, 0 9, 0 5)))",
+    "holed": "POLYGON ((0 0, 9 0, 9 9, 0 9, 0 0), (1 1, 2 1, 2 2, 1 2, 1 1))",
+    "none": "",
+}
+
+
+def test_other_geometries(runs: Any, tmp_path: Path) -> None:
+    others = layer(tmp_path / "others.csv", OTHERS)
+    parcels = town("parcels")
+    bounds = str(tmp_path / "bounds.gpkg")
+    stop, envelopes, bounded, natives_own, left_out = runs([
+        ours(others, parcels, "intersects"),
+        ours(others, parcels, "intersects", OTHERS=ENVELOPE, INPUT_LEFT_OUT="memory:"),
+        {"algorithm": "native:boundingboxes",
+         "parameters": {"INPUT": others, "OUTPUT": bounds}},
+        natives(bounds, parcels, "intersects"),
+        ours(others, parcels, "intersects", OTHERS=LEAVE_OUT, INPUT_LEFT_OUT="memory:",
+             DISCARD_NONMATCHING=False)])
+    assert "others, feature 3: not a point" in stop["error"]
+    assert "not a rectangle" in stop["error"]
+    assert bounded["error"] is None
+    assert pairs(envelopes) == pairs(natives_own)
+    assert [row["id"] for row in envelopes["rows"]["INPUT_LEFT_OUT"]] == ["none"]
+    assert "others: 3 features were replaced by their envelopes" in envelopes["log"]
+    gone = {row["id"]: row["reason"] for row in left_out["rows"]["INPUT_LEFT_OUT"]}
+    assert gone == {"triangle": "not a rectangle", "parts": "a geometry of several parts",
+                    "holed": "a polygon with a hole", "none": "no geometry"}
+    kept = {row["id"] for row in left_out["rows"]["OUTPUT"]}
+    assert kept == {"box", "part"}
+
+
+def test_left_out_is_told_without_an_output(runs: Any, tmp_path: Path) -> None:
+    others = layer(tmp_path / "others.csv", OTHERS)
+    (answer,) = runs([ours(others, town("parcels"), "intersects", OTHERS=LEAVE_OUT)])
+    assert any("4 features were left out: feature 3 (not a rectangle)" in line
+               for line in answer["log"])
+
+
+def test_decimals(runs: Any, tmp_path: Path) -> None:
+    quarter = layer(tmp_path / "quarter.csv", {"a": "POINT (0.25 0.5)", "b": "POINT (0.3 3)"})
+    zone = layer(tmp_path / "zone.csv", {"z": "POLYGON ((0.25 0, 1 0, 1 1, 0.25 1, 0.25 0))"})
+    fine = layer(tmp_path / "fine.csv", {"a": "POINT (1 1)", "f": "POINT (0.2500001 0.5)"})
+    far = layer(tmp_path / "far.csv", {"a": "POINT (1 1)", "far": "POINT (2000000 0.000001)"})
+    exact, inexact, rounded, out_of_range = runs([
+        ours(quarter, zone, "touches"), ours(fine, zone, "touches"),
+        ours(fine, zone, "touches", DECIMALS=2), ours(far, zone, "touches")])
+    assert pairs(exact) == [("a", "z")] and "Coordinates have 2 decimals" in exact["log"]
+    assert "fine, feature 2: coordinate 0.2500001 isn't written exactly" in inexact["error"]
+    assert pairs(rounded) == [("a", "z"), ("f", "z")]
+    assert "fine: the coordinates of 1 features were rounded to 2 decimals" in rounded["log"]
+    assert "far, feature 2: coordinate 2000000.0 is out of range" in out_of_range["error"]
+
+
+def test_reference_systems_must_agree(runs: Any, tmp_path: Path) -> None:
+    packages = []
+    for system in ("EPSG:32632", "EPSG:32633"):
+        packages.append(str(tmp_path / f"{system[5:]}.gpkg"))
+    requests: List[Run] = [
+        {"algorithm": "native:assignprojection", "parameters": {
+            "INPUT": town("stations"), "CRS": f"EPSG:{Path(path).stem}", "OUTPUT": path}}
+        for path in packages]
+    one, other = packages
+    answers = runs([*requests, ours(one, other, "equals"), ours(one, one, "equals")])
+    assert "EPSG:32632 and EPSG:32633" in answers[2]["error"]
+    assert len(pairs(answers[3])) == len(station_ids())
+
+
+@pytest.mark.parametrize("window", ["0,60,0,60", "10,10.5,14.999999,15.25", "20.1,41.7,-3,0"])
+def test_window(runs: Any, window: str) -> None:
+    requests = [request for name in ("parcels", "roads", "stations") for request in (
+        {"algorithm": "rjoin:featuresinwindow", "parameters": {
+            "INPUT": town(name), "WINDOW": window, "OUTPUT": "memory:"}},
+        {"algorithm": "native:extractbyextent", "parameters": {
+            "INPUT": town(name), "EXTENT": window, "CLIP": False, "OUTPUT": "memory:"}})]
+    answers = runs(requests)
+    for one, other in zip(answers[::2], answers[1::2]):
+        assert one["error"] is None and one["rows"]["OUTPUT"] == other["rows"]["OUTPUT"]
+        assert one["results"]["COUNT"] == len(one["rows"]["OUTPUT"])
+
+
+def test_statistics(runs: Any, tmp_path: Path) -> None:
+    others = layer(tmp_path / "others.csv", OTHERS)
+    answers = runs([{"algorithm": "rjoin:layerstatistics", "parameters": {
+        "INPUT": source, "OTHERS": LEAVE_OUT}}
+        for source in (town("parcels"), town("roads"), town("stations"), others)])
+    counted = [tuple(answer["results"][name] for name in (
+        "FEATURES", "POINTS", "SEGMENTS", "RECTANGLES", "LEFT_OUT_COUNT")) for answer in answers]
+    assert counted == [(57, 0, 0, 57, 0), (16, 0, 16, 0, 0), (16, 16, 0, 0, 0), (2, 0, 0, 2, 4)]
+
+
+def test_progress_and_cancel(runs: Any, tmp_path: Path) -> None:
+    left, right = (str(path) for path in made_layers.write_pair(tmp_path, "rectangles", 5000))
+    output = tmp_path / "never.gpkg"
+    request = ours(left, right, "overlaps", OUTPUT=str(output))
+    whole, *cancelled = runs([ours(left, right, "overlaps"), {**request, "cancel_at": 10},
+                              {**request, "cancel_at": 40}, {**request, "cancel_at": 60}])
+    assert len(set(whole["progress"])) > 10
+    assert whole["progress"] == sorted(whole["progress"]) and max(whole["progress"]) <= 100
+    assert [answer["error"] for answer in cancelled] == ["cancelled"] * 3
+    assert not output.exists()
+
+
+def test_the_program_is_named_where_it_is_missing(runs: Any) -> None:
+    request = {**ours(town("parcels"), town("roads"), "touches"), "program": "/nowhere/rjoin"}
+    (answer,) = runs([request])
+    assert "RJOIN is set to /nowhere/rjoin" in answer["error"]
+
+
+def test_wrong_masks_are_refused(runs: Any) -> None:
+    answers = runs([ours(town("parcels"), town("roads"), "touches", MASK=mask)
+                    for mask in ("TTT", "T*F**F**x")])
+    assert "not a name or a mask" in answers[0]["error"]
+    assert "bad letter at place 8" in answers[1]["error"]

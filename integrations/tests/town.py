@@ -1,0 +1,30 @@
+"""The town's layers, and the joins of them that the tests compare."""
+from __future__ import annotations
+
+from pathlib import Path
+from typing import NamedTuple
+
+ROOT = Path(__file__).resolve().parents[2]
+TOWN = ROOT / "data/town"
+PROGRAM = ROOT / "crates/rjoin/out/rjoin"
+
+
+class Join(NamedTuple):
+    """Two layers of the town and a relation."""
+
+    left: str
+    right: str
+    relation: str
+
+
+JOINS = (
+    Join("parcels", "roads", "touches"),
+    Join("parcels", "roads", "crosses"),
+    Join("parcels", "parcels", "touches"),
+    Join("parcels", "parcels", "equals"),
+    Join("stations", "parcels", "intersects"),
+    Join("parcels", "stations", "contains"),
+    Join("roads", "roads", "crosses"),
+    Join("parcels", "parcels", "within"),
+    Join("parcels", "parcels", "overlaps"),
+)
