@@ -124,11 +124,15 @@ class Program:
                 pass_fds=numbers,
                 env=environment(),
             ).returncode
-            output.seek(0)
             errors.seek(0)
-            return Ended(
-                status, np.fromfile(output, dtype=np.uint8), errors.read().decode(errors="replace")
-            )
+            return Ended(status, contents(output), errors.read().decode(errors="replace"))
+
+
+def contents(file: IO[bytes]) -> Bytes:
+    """The bytes of a file, which are read where they are looked at, also when it is closed."""
+    if os.fstat(file.fileno()).st_size == 0:
+        return np.zeros(0, dtype=np.uint8)
+    return np.asarray(np.memmap(file, dtype=np.uint8, mode="r"))
 
 
 def nameless_file(parts: Sequence[Text]) -> IO[bytes]:

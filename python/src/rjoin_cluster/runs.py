@@ -31,6 +31,7 @@ from rjoin_cluster.tiles import Region
 REPORT_HEADER = b"left,right,matrix\n"
 MATRIX = 9
 KEY_STEP = 256
+ROWS_AT_ONCE = 2**20
 
 log = logging.getLogger("rjoin_cluster")
 
@@ -176,17 +177,27 @@ def fill(text: Bytes, form: Form, id_digits: Bytes, boxes: Boxes, numerals: Nume
 def own_pairs(job: RunJob, left: Piece, right: Piece, report: Bytes) -> NDArray[np.void]:
     """The pairs of a report whose reference point lies in the tile."""
     widths = digits_in(len(left.boxes)), digits_in(len(right.boxes))
-    rows = rows_of(report, widths[0] + widths[1] + MATRIX + 3)
-    ones = read_back(rows[:, : widths[0]])
-    others = read_back(rows[:, widths[0] + 1:widths[0] + 1 + widths[1]])
-    x, y = (
-        np.maximum(left.column(axis).take(ones), right.column(axis).take(others)) for axis in (0, 1)
-    )
-    own = np.flatnonzero(job.region.holds(x, y))
-    ones, others = ones.take(own), others.take(own)
-    pairs = np.empty(own.size, dtype=pair_type(right.ids.shape[1]))
+    rows = rows_of(report, sum(widths) + MATRIX + 3)
+    lows = [(left.column(axis), right.column(axis)) for axis in (0, 1)]
+    parts = [np.empty(0, dtype=pair_type(right.ids.shape[1]))]
+    for begin in range(0, len(rows), ROWS_AT_ONCE):
+        part = rows[begin:begin + ROWS_AT_ONCE]
+        ones = read_back(part[:, : widths[0]])
+        others = read_back(part[:, widths[0] + 1:widths[0] + 1 + widths[1]])
+        x, y = (np.maximum(one.take(ones), other.take(others)) for one, other in lows)
+        own = np.flatnonzero(job.region.holds(x, y))
+        pairs = pairs_of(job, left, right, ones.take(own), others.take(own))
+        pairs["matrix"] = matrices_of(part).take(own)
+        parts.append(pairs)
+    return np.concatenate(parts)
+
+
+def pairs_of(
+    job: RunJob, left: Piece, right: Piece, ones: Places, others: Places
+) -> NDArray[np.void]:
+    """The pairs of features that have these places in the run, without their matrices."""
+    pairs = np.empty(ones.size, dtype=pair_type(right.ids.shape[1]))
     pairs["rank"] = left.numbers.take(ones) * job.right_features + right.numbers.take(others)
-    pairs["matrix"] = matrices_of(rows).take(own)
     pairs["right"] = right.ids.take(others, axis=0)
     return pairs
 
