@@ -1,4 +1,4 @@
-"""What all tests share: the program, and the tools that a host needs or else is skipped for."""
+"""The program that the tests of every host run."""
 from __future__ import annotations
 
 import os
@@ -10,11 +10,12 @@ import pytest
 from town import PROGRAM
 
 
-@pytest.fixture(scope="session", autouse=True)
+@pytest.fixture(scope="session")
 def program() -> Path:
     """The program: RJOIN, then the PATH, then the one of this checkout."""
-    found = os.environ.get("RJOIN") or shutil.which("rjoin") or str(PROGRAM)
-    if shutil.which(found) is None:
-        pytest.skip(f"the program rjoin isn't there: {found}")
+    named = os.environ.get("RJOIN") or shutil.which("rjoin") or str(PROGRAM)
+    found = shutil.which(named)
+    if found is None:
+        pytest.skip(f"the program rjoin isn't there: {named}")
     os.environ["RJOIN"] = os.path.abspath(found)
     return Path(os.environ["RJOIN"])

@@ -41,7 +41,7 @@ def klayout_run(*words: str, **variables: str) -> subprocess.CompletedProcess[st
 
 
 @pytest.fixture(scope="session")
-def klayout() -> Any:
+def klayout(program: Path) -> Any:
     """Runs a script in batch mode."""
     if shutil.which("klayout") is None:
         pytest.skip("klayout isn't installed")

@@ -4,6 +4,7 @@ from __future__ import annotations
 import csv
 import io
 import os
+import shutil
 import subprocess
 import sys
 from pathlib import Path
@@ -22,8 +23,10 @@ ANNOUNCE = 'echo "$PGHOST $PGUSER $PGDATABASE"; exec cat'
 
 
 @pytest.fixture(scope="session")
-def server() -> Iterator[Dict[str, str]]:
+def server(program: Path) -> Iterator[Dict[str, str]]:
     """The environment of a server with PostGIS, which ends with the tests."""
+    if shutil.which("psql") is None:
+        pytest.skip("psql isn't installed")
     words = [str(SERVER), "sh", "-c", ANNOUNCE]
     with subprocess.Popen(words, stdin=subprocess.PIPE, stdout=subprocess.PIPE,
                           stderr=subprocess.PIPE, text=True) as process:

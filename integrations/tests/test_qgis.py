@@ -28,7 +28,7 @@ Pairs = List[Tuple[str, str]]
 
 
 @pytest.fixture(scope="session")
-def profile(tmp_path_factory: pytest.TempPathFactory) -> Dict[str, str]:
+def profile(program: Path, tmp_path_factory: pytest.TempPathFactory) -> Dict[str, str]:
     """The environment of a QGIS with a profile of its own and no display."""
     folder = tmp_path_factory.mktemp("qgis")
     return {**os.environ, "QT_QPA_PLATFORM": "offscreen", "QGIS_CUSTOM_CONFIG_PATH": str(folder),

@@ -43,27 +43,41 @@ class Kind(IntEnum):
 COLLECTIONS = (Kind.MULTI_POINT, Kind.MULTI_LINE, Kind.MULTI_POLYGON, Kind.COLLECTION)
 HEIGHT_FLAG = 0x80000000
 
-# One ring of five points in two dimensions, little-endian: what nearly every rectangle is.
-PLAIN_RECTANGLE = struct.Struct("<13x10d")
-PLAIN_RECTANGLE_HEAD = struct.pack("<BIII", 1, Kind.POLYGON, 1, 5)
+# Nearly every box is a point, a line of two points or a ring of five, little-endian and with two
+# dimensions. These are read without a walk.
+POINT_HEAD = struct.pack("<BI", 1, Kind.POINT)
+LINE_HEAD = struct.pack("<BII", 1, Kind.LINE, 2)
+RING_HEAD = struct.pack("<BIII", 1, Kind.POLYGON, 1, 5)
+POINT_BODY = struct.Struct("<5x2d")
+LINE_BODY = struct.Struct("<9x4d")
+RING_BODY = struct.Struct("<13x10d")
 
 
 def box_of(wkb: bytes) -> Box:
     """The box that the geometry is; raises NotABox where it is none."""
-    if len(wkb) == PLAIN_RECTANGLE.size and wkb.startswith(PLAIN_RECTANGLE_HEAD):
-        west, south, x1, y1, east, north, x3, y3, x4, y4 = PLAIN_RECTANGLE.unpack(wkb)
+    if wkb.startswith(RING_HEAD) and len(wkb) == RING_BODY.size:
+        west, south, x1, y1, east, north, x3, y3, x4, y4 = RING_BODY.unpack(wkb)
         along_x = y1 == south and x1 == east and y3 == north and x3 == west
         along_y = x1 == west and y1 == north and x3 == east and y3 == south
         if (along_x or along_y) and x4 == west and y4 == south and west != east and south != north:
             return _box_between(west, south, east, north)
+    elif wkb.startswith(POINT_HEAD) and len(wkb) == POINT_BODY.size:
+        x, y = POINT_BODY.unpack(wkb)
+        if x == x and y == y:
+            return _box_between(x, y, x, y)
+    elif wkb.startswith(LINE_HEAD) and len(wkb) == LINE_BODY.size:
+        x1, y1, x2, y2 = LINE_BODY.unpack(wkb)
+        if (x1 == x2) != (y1 == y2):
+            return _box_between(x1, y1, x2, y2)
     return _read(_Reader(wkb))
 
 
 def _box_between(x1: float, y1: float, x2: float, y2: float) -> Box:
-    box = Box(min(x1, x2), min(y1, y2), max(x1, x2), max(y1, y2))
-    if not all(map(isfinite, box)):
+    if not isfinite(x1 + y1 + x2 + y2):
         raise NotABox("a coordinate isn't finite")
-    return box
+    west, east = (x1, x2) if x1 < x2 else (x2, x1)
+    south, north = (y1, y2) if y1 < y2 else (y2, y1)
+    return Box(west, south, east, north)
 
 
 class _Reader:
