@@ -1,19 +1,15 @@
 """What tests of the package share: the program, and the town's layers as frames."""
 from __future__ import annotations
 
-import csv
 import os
 import shutil
 import warnings
-from pathlib import Path
 from typing import Any, Dict, Iterator
 
 import pytest
+from town import NAMES, TOP, rows_of
 
-TOP = Path(__file__).resolve().parents[2]
-TOWN = TOP / "data/town"
 BUILT = TOP / "crates/rjoin/out/rjoin"
-NAMES = ("parcels", "roads", "stations", "zones")
 
 
 @pytest.fixture(autouse=True, scope="session")
@@ -41,10 +37,3 @@ def town() -> Dict[str, Any]:
     return {name: geopandas.GeoDataFrame(
         {"id": ids}, geometry=geopandas.GeoSeries.from_wkt(texts), crs="EPSG:25832")
         for name in NAMES for ids, texts in [rows_of(name)]}
-
-
-def rows_of(name: str) -> Any:
-    """The ids and the texts of a layer of the town."""
-    with open(TOWN / f"{name}.csv", newline="", encoding="utf-8") as file:
-        rows = list(csv.reader(file))[1:]
-    return [row[0] for row in rows], [row[1] for row in rows]

@@ -6,7 +6,7 @@ from pathlib import Path
 from typing import Any, List, Tuple
 
 import pytest
-from conftest import TOWN
+from town import TOWN
 
 from rjoin.command import main as run
 

@@ -8,7 +8,7 @@ from pathlib import Path
 from typing import Any, List
 
 import pytest
-from conftest import TOWN, rows_of
+from town import TOWN, rows_of
 
 import rjoin
 

@@ -3,13 +3,14 @@ from __future__ import annotations
 
 import os
 import pickle
+import re
 import subprocess
 import sys
 from pathlib import Path
 from typing import Any
 
 import pytest
-from conftest import TOP, TOWN
+from town import TOP, TOWN
 
 import rjoin
 from rjoin import program
@@ -95,6 +96,6 @@ def test_nothing_is_left_in_the_temporary_folder(monkeypatch: Any, tmp_path: Pat
 
 
 def test_memory_is_taken_as_the_launcher_says() -> None:
-    lines = (TOP / "rjoin").read_text().splitlines()
-    settings = next(line for line in lines if line.startswith("tunables=")).partition("=")[2]
-    assert program.TUNABLES.split(":") == [f"glibc.malloc.{one}" for one in settings.split(":")]
+    text = (TOP / "packaging/launch.sh").read_text()
+    settings = re.findall(r"glibc\.malloc\.\w+=\d+", text)
+    assert settings and program.TUNABLES == ":".join(settings)
