@@ -5,7 +5,7 @@ import math
 import random
 from decimal import Decimal
 from pathlib import Path
-from typing import Any, List
+from typing import Any, Callable, List, Tuple
 
 import pytest
 from town import TOWN, rows_of
@@ -174,7 +174,7 @@ def layers_of_each_kind(name: str, folder: Path) -> List[Any]:
             f"{folder / name}.gpkg:features"]
 
 
-@pytest.mark.filterwarnings("ignore:CRS mismatch")
+@pytest.mark.filterwarnings("error:CRS mismatch")
 def test_layers_of_each_kind_have_the_same_pairs(tmp_path: Path) -> None:
     lefts, rights = (layers_of_each_kind(name, tmp_path) for name in ("parcels", "stations"))
     places = [(one, other) for one, a in enumerate(lefts[4]) for other, b in enumerate(rights[4])
@@ -187,6 +187,17 @@ def test_layers_of_each_kind_have_the_same_pairs(tmp_path: Path) -> None:
     by_label = rjoin.pairs(lefts[0], rights[7].set_index("name"), "contains")
     named = [(ids[0][one], ids[1][other]) for one, other in places]
     assert list(zip(by_label["left"], by_label["right"])) == named
+
+
+def test_two_known_reference_systems_are_warned_of(tmp_path: Path) -> None:
+    layers = layers_of_each_kind("parcels", tmp_path)
+    other = layers[7].set_crs("EPSG:3857", allow_override=True)
+    calls: Tuple[Callable[..., Any], ...] = (rjoin.pairs, rjoin.draw)
+    for layer in (layers[6], layers[8]):
+        for call in calls:
+            with pytest.warns(UserWarning, match="CRS mismatch") as caught:
+                call(layer, other)
+            assert caught[0].filename == __file__
 
 
 def test_window_and_stats_count_what_shapely_counts(town: Any) -> None:

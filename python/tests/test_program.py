@@ -81,6 +81,10 @@ def test_faults_have_side_row_and_feature(tmp_path: Path) -> None:
         rjoin.stats(wrong)
     with pytest.raises(rjoin.InputError, match="window: not a geometry text"):
         rjoin.window(TOWN / "parcels.csv", "POINT 1 2")
+    for place in ("POINT (0.1234567 2)", "LINESTRING (0 0, 1 1)"):
+        with pytest.raises(rjoin.InputError, match="^window: [^(]*$") as caught:
+            rjoin.window(TOWN / "parcels.csv", place)
+        assert (caught.value.row, caught.value.feature) == (None, None)
     with pytest.raises(rjoin.InputError, match="first: .*decimals"):
         rjoin.relate("POINT (0.1234567 2)", "POINT (0 0)")
 

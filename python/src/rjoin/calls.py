@@ -70,7 +70,7 @@ def sjoin(left: "geopandas.GeoDataFrame", right: "geopandas.GeoDataFrame",
     suffixes = frames.Suffixes(lsuffix, rsuffix)
     frames.check(left, right, how, suffixes)
     job = joining.job_of((("left", left), ("right", right)), scale, Rules(other, missing))
-    frames.warn_of_crs(left, right, depth=1)
+    job.warn_of_crs(depth=1, unknown=True)
     found = joining.joined(job, predicate, workers, matrix)
     lefts, rights = job.positions(found)
     are_pairs = None
@@ -92,12 +92,12 @@ def pairs(left: Any, right: Any, relation: str = "intersects", *, scale: Optiona
     the order of the left layer and then of the right one.
     ids: `"label"` tells features by their labels, `"position"` by their places from 0.
     """
-    from rjoin import frames, joining
+    from rjoin import joining
     from rjoin.sources import Rules
 
     check_arguments(relation, scale, workers, ids)
     job = joining.job_of((("left", left), ("right", right)), scale, Rules(other, missing))
-    frames.warn_of_crs(left, right, depth=1)
+    job.warn_of_crs(depth=1)
     found = joining.joined(job, relation, workers, matrix=True)
     result = job.identified(found, ids)
     job.finish(result.attrs, depth=1)
@@ -151,12 +151,12 @@ def draw(left: Any, right: Any, relation: str = "intersects", *, scale: Optional
 
     Both layers together have at most 100,000 features.
     """
-    from rjoin import frames, joining
+    from rjoin import joining
     from rjoin.sources import Rules
 
     check_arguments(relation, scale, None)
     job = joining.job_of((("left", left), ("right", right)), scale, Rules(other, missing))
-    frames.warn_of_crs(left, right, depth=1)
+    job.warn_of_crs(depth=1)
     svg = joining.drawn(job, relation)
     job.finish({}, depth=1)
     return Picture(svg, job.left_out, job.enveloped)

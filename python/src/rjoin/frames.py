@@ -1,7 +1,6 @@
 """Spatial joins of GeoPandas frames, with the columns and the index that geopandas.sjoin gives."""
 from __future__ import annotations
 
-import warnings
 from collections import Counter
 from typing import Any, Collection, List, NamedTuple, Optional, Tuple
 
@@ -41,20 +40,6 @@ def check(left: Any, right: Any, how: str, suffixes: Suffixes) -> None:
                                 f"names of columns; {name} has one")
     if how not in HOW:
         raise ArgumentError(f"how was {how!r} and has to be one of {', '.join(HOW)}")
-
-
-def warn_of_crs(left: Any, right: Any, depth: int) -> None:
-    """Warns, as geopandas does, where two layers with reference systems have different ones."""
-    ours, theirs = crs_of(left), crs_of(right)
-    if ours != theirs:
-        warnings.warn(
-            "CRS mismatch between the CRS of left geometries and the CRS of right geometries.\n"
-            "Use `to_crs()` to reproject one of the input geometries to match the CRS of the other."
-            f"\n\nLeft CRS: {ours}\nRight CRS: {theirs}", UserWarning, stacklevel=depth + 2)
-
-
-def crs_of(layer: Any) -> Any:
-    return getattr(layer, "crs", None)
 
 
 def with_unmatched(left: Rows, right: Rows, kept: Rows) -> Tuple[Rows, Rows, NDArray[np.bool_]]:

@@ -22,7 +22,6 @@ from rjoin.sources import single_source, source_of
 TITLE = re.compile(r"<title>(\d+)</title>")
 RIGHT_HALF = '<g class="right">'
 
-
 Single = Union[GeometrySource, TextSource]
 
 
@@ -51,6 +50,19 @@ class Job:
         """The rows, counted from 0, of the ids in the first columns of a report."""
         return [source.positions(found[column])
                 for source, column in zip(self.sources, found.columns)]
+
+    def warn_of_crs(self, depth: int, unknown: bool = False) -> None:
+        """Warns, as geopandas.sjoin does, where the reference systems of two layers differ.
+
+        An `unknown` one differs from a known one too, as there.
+        """
+        left, right = (source.crs for source in self.sources)
+        if left != right and (unknown or (left is not None and right is not None)):
+            warnings.warn(
+                "CRS mismatch between the CRS of left geometries and the CRS of right geometries.\n"
+                "Use `to_crs()` to reproject one of the input geometries to match the CRS of the "
+                f"other.\n\nLeft CRS: {left}\nRight CRS: {right}", UserWarning,
+                stacklevel=depth + 2)
 
     def kept(self, place: int) -> Rows:
         """The rows, counted from 0, of an input's geometries that the program was given."""
@@ -87,9 +99,11 @@ def job_of(layers: Sequence[Tuple[str, Any]], scale: Optional[int], rules: Rules
 
 
 def single(geometry: Any, side: str) -> Single:
-    """A geometry that stands alone, by Shapely or as a text."""
+    """A geometry that stands alone, by Shapely or as a text, if 6 decimals write it."""
     with faults_without_rows():
-        return single_source(geometry, side)
+        source = single_source(geometry, side)
+        source.needed_decimals()
+        return source
 
 
 def scale_of(sources: Sequence[Source], scale: Optional[int]) -> Scale:

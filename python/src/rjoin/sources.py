@@ -64,13 +64,18 @@ class Scale(NamedTuple):
 
 
 class Source(ABC):
-    """An input. `side` is its parameter's name; ids in reports are row numbers unless `has_ids`."""
+    """An input.
+
+    side: its parameter's name. crs: its reference system, if it is known. Ids in reports are row
+    numbers unless `has_ids`.
+    """
 
     has_ids = False
     may_count_units = False
 
     def __init__(self, side: str) -> None:
         self.side = side
+        self.crs: Any = None
         self.left_out: Tuple[Notice, ...] = ()
         self.enveloped: Tuple[Notice, ...] = ()
 
@@ -261,7 +266,9 @@ def source_of(layer: Any, side: str, rules: Rules) -> Source:
                                 "the column of geometries or well-known text")
         layer = layer.geometry
     if isinstance(layer, pandas.Series):
-        return values_source(np.asarray(layer, dtype=object), layer.index, side, rules)
+        source = values_source(np.asarray(layer, dtype=object), layer.index, side, rules)
+        source.crs = getattr(layer, "crs", None)
+        return source
     values = np.fromiter(layer, object)
     return values_source(values, pandas.RangeIndex(len(values)), side, rules)
 
