@@ -7,6 +7,7 @@ import subprocess
 import sys
 import time
 from contextlib import contextmanager
+from dataclasses import replace
 from pathlib import Path
 from typing import Any, Iterator
 
@@ -76,6 +77,40 @@ def test_the_only_worker_vanishes(tools: Tools, pair: tuple[Path, Path]) -> None
     assert (process.returncode, errors) == (1, "rjoin-cluster: no worker for 9 seconds\n")
     assert not tools.report().exists()
     check_left_nothing(tools)
+
+
+def test_a_scheduler_without_workers(tools: Tools, pair: tuple[Path, Path]) -> None:
+    with own_cluster(n_workers=0) as client:
+        address = client.scheduler.address
+        errors = started(tools, address, *pair, "--patience", "2").communicate(timeout=WAIT)[1]
+    assert errors == f"rjoin-cluster: {address}: the scheduler has no workers\n"
+    check_left_nothing(tools)
+
+
+def test_the_scheduler_vanishes(tools: Tools, pair: tuple[Path, Path]) -> None:
+    with own_cluster(n_workers=1) as client:
+        process = started(tools, client.scheduler.address, *pair, "--patience", "9")
+        wait_for(tools, "boxes-*.npy", process)
+    errors = process.communicate(timeout=WAIT)[1]
+    assert process.returncode == 1
+    assert errors == "rjoin-cluster: the scheduler was lost\n"
+    assert not tools.report().exists()
+    check_left_nothing(tools)
+
+
+def test_what_a_worker_lacks(tools: Tools) -> None:
+    from rjoin_cluster.cluster import TOKEN, Needs, lack_of
+    from rjoin_cluster.layout import Layout
+    from rjoin_cluster.program import Program
+
+    layout, program = Layout(str(tools.folder)), Program(tools.program, "0")
+    needs = Needs(layout, program, program.version(), ((__file__, os.stat(__file__).st_size),))
+    assert "No such file" in lack_of(needs)
+    layout.token().write_bytes(TOKEN)
+    assert lack_of(needs) == ""
+    assert lack_of(replace(needs, version="rjoin 0")).endswith("and not rjoin 0")
+    assert lack_of(replace(needs, files=((__file__, 1),))) == f"{__file__} is another file"
+    assert "No such file" in lack_of(replace(needs, program=Program("/nowhere/rjoin", "0")))
 
 
 @pytest.mark.parametrize("number", [signal.SIGINT, signal.SIGTERM])

@@ -1,6 +1,7 @@
 """The dask cluster that a join runs on: one that is there, or one of this machine's cores."""
 from __future__ import annotations
 
+import asyncio
 import logging
 import os
 from contextlib import contextmanager
@@ -9,6 +10,7 @@ from typing import Any, Iterator
 
 import dask
 from distributed import Client, LocalCluster
+from distributed.utils import silence_logging
 
 from rjoin_cluster.faults import JoinFault
 from rjoin_cluster.layout import Layout
@@ -16,6 +18,7 @@ from rjoin_cluster.program import Program
 from rjoin_cluster.request import Place
 
 TOKEN = b"seen\n"
+TIMEOUTS = (TimeoutError, asyncio.TimeoutError)  # one class from Python 3.11 on
 
 
 @dataclass(frozen=True)
@@ -31,6 +34,7 @@ class Needs:
 @contextmanager
 def connected(place: Place, layout: Layout) -> Iterator[Any]:
     """A client of the cluster, which has a worker at least."""
+    silence_engine()
     dask.config.set({"distributed.comm.timeouts.connect": f"{place.patience:g}s"})
     if place.scheduler is None:
         with local_cluster(place, layout) as cluster, client_of(cluster, place) as client:
@@ -38,14 +42,20 @@ def connected(place: Place, layout: Layout) -> Iterator[Any]:
         return
     try:
         client = client_of(place.scheduler, place)
-    except (OSError, ValueError) as cause:
+    except (OSError, ValueError, *TIMEOUTS) as cause:
         raise JoinFault(f"{place.scheduler}: no scheduler answers") from cause
     with client:
         try:
             client.wait_for_workers(1, timeout=place.patience)
-        except TimeoutError as cause:
+        except TIMEOUTS as cause:
             raise JoinFault(f"{place.scheduler}: the scheduler has no workers") from cause
         yield client
+
+
+def silence_engine() -> None:
+    """What goes wrong in the engine is told in one line, by the fault of the join."""
+    silence_logging(logging.CRITICAL)  # type: ignore[no-untyped-call]
+    logging.getLogger("asyncio").setLevel(logging.CRITICAL)
 
 
 def client_of(cluster: Any, place: Place) -> Any:

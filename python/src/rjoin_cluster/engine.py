@@ -6,10 +6,11 @@ from __future__ import annotations
 import logging
 import threading
 import time
-from contextlib import contextmanager
+from contextlib import contextmanager, suppress
 from typing import Any, Callable, Generic, Iterator, Sequence, TypeVar
 
 from distributed import CancelledError, as_completed
+from distributed.comm.core import CommClosedError
 
 from rjoin_cluster.faults import JoinFault
 from rjoin_cluster.progress import Progress
@@ -35,7 +36,15 @@ class Engine:
         self.started = 0
 
     def workers(self) -> int:
-        return len(self.client.scheduler_info()["workers"])
+        """How many workers there are; 0 too where the scheduler doesn't answer."""
+        with suppress(OSError):
+            return len(self.client.scheduler_info()["workers"])
+        return 0
+
+    def cancel(self, futures: Sequence[Any], force: bool = False) -> None:
+        """Cancels tasks, unless they have gone with the scheduler."""
+        with suppress(OSError):
+            self.client.cancel(list(futures), force=force)
 
     @contextmanager
     def phase(self, name: str) -> Iterator[None]:
@@ -76,7 +85,7 @@ class Tasks(Generic[Result]):
         """Cancels tasks whose results are not wanted any more."""
         new = [number for number in numbers if number not in self.dropped]
         self.dropped.update(new)
-        self.engine.client.cancel([self.futures[number] for number in new])
+        self.engine.cancel([self.futures[number] for number in new])
 
     def __iter__(self) -> Iterator[tuple[int, Result]]:
         """The number of each task that ended, with its result."""
@@ -93,14 +102,14 @@ class Tasks(Generic[Result]):
                         yield number, result
                         future.release()
         finally:
-            self.engine.client.cancel([future for future in self.futures if not future.done()])
+            self.engine.cancel([future for future in self.futures if not future.done()])
 
     def result_of(self, number: int, future: Any, watch: WorkerWatch) -> Any:
         try:
             return future.result()
         except JoinFault:
             raise
-        except CancelledError as cause:
+        except (CancelledError, CommClosedError) as cause:
             raise JoinFault(watch.lost or "the scheduler was lost") from cause
         except (
             Exception
@@ -128,14 +137,14 @@ class WorkerWatch:
         self.thread.join()
 
     def look(self) -> None:
-        client = self.tasks.engine.client
+        engine = self.tasks.engine
         since = time.monotonic()
         while not self.ended.wait(LOOK_EVERY):
-            if client.status == "running" and client.scheduler_info()["workers"]:
+            if engine.client.status == "running" and engine.workers():
                 since = time.monotonic()
-            elif time.monotonic() - since > self.tasks.engine.patience:
-                self.lost = f"no worker for {self.tasks.engine.patience:g} seconds"
-                client.cancel(list(self.tasks.futures), force=True)
+            elif time.monotonic() - since > engine.patience:
+                self.lost = f"no worker for {engine.patience:g} seconds"
+                engine.cancel(self.tasks.futures, force=True)
                 return
 
 
