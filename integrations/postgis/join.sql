@@ -131,8 +131,8 @@ begin
     if others = 'error' then
         execute format('select id::text, fault from %I where fault is not null order by n limit 1', target) into bad;
         if bad.fault is not null then
-            raise exception '%, id %: not a point, axis-parallel segment or rectangle, but %; choose --others envelope or --others skip',
-                source, bad.id, bad.fault;
+            raise exception '%, id %: not a point, axis-parallel segment or rectangle, but %; %',
+                source, bad.id, bad.fault, 'choose --others envelope or --others skip';
         end if;
         return;
     end if;
@@ -195,7 +195,7 @@ begin
     end if;
     execute format('select count(*) from %I where fault is null and decimals > $1', target) into rounded using scale;
     if rounded > 0 then
-        raise warning '%: the coordinates of % rows are rounded to % decimals', source, rounded, scale;
+        raise warning '%: rows with coordinates rounded to % decimals: %', source, scale, rounded;
     end if;
     execute format('create temporary view %1$I as
         select n as id, pg_temp.rjoin_wkt(round(x1 * %2$s)::bigint, round(y1 * %2$s)::bigint,
@@ -245,7 +245,7 @@ insert into :into (left_id, right_id, matrix)
     order by p.left_n, p.right_n;
 commit;
 
-select count(*) || ' pairs in ' || :'into' from :into;
+select 'pairs in ' || :'into' || ': ' || count(*) from :into;
 \if :lists
-    select count(*) || ' rows listed in ' || :'skipped' from :skipped;
+    select 'rows listed in ' || :'skipped' || ': ' || count(*) from :skipped;
 \endif

@@ -33,11 +33,13 @@ FAULTS = {
 }
 
 
-def klayout_run(*words: str, **variables: str) -> subprocess.CompletedProcess[str]:
+def klayout_run(words: List[str], variables: Dict[str, str], **environment: str
+                ) -> subprocess.CompletedProcess[str]:
     """Runs KLayout without a display."""
     given = [word for name, value in variables.items() for word in ("-rd", f"{name}={value}")]
     return subprocess.run(["klayout", *words, *given], capture_output=True, text=True, check=False,
-                          env={**os.environ, **ENVIRONMENT}, stdin=subprocess.DEVNULL, timeout=150)
+                          env={**os.environ, **ENVIRONMENT, **environment},
+                          stdin=subprocess.DEVNULL, timeout=150)
 
 
 @pytest.fixture(scope="session")
@@ -47,7 +49,7 @@ def klayout(program: Path) -> Any:
         pytest.skip("klayout isn't installed")
 
     def run(script: Path, **variables: str) -> subprocess.CompletedProcess[str]:
-        return klayout_run("-b", "-r", str(script), **variables)
+        return klayout_run(["-b", "-r", str(script)], variables)
     return run
 
 
@@ -162,30 +164,38 @@ def test_batch_mode_fails_with_a_status(klayout: Any, town: Path, tmp_path: Path
 
 MACRO = """
 import sys
+import traceback
 import pya
-sys.path.insert(0, package)
-from rjoin_klayout import dialog
+application = pya.Application.instance()
 try:
+    from rjoin_klayout import dialog
     window = pya.MainWindow.instance()
+    for _ in range(20):  # the menu gets its macros once events are processed
+        application.process_events()
+    print(window.menu().action("tools_menu.macro_in_menu_join_layers").title)
     window.load_layout(file, 1)
     view = pya.LayoutView.current()
     asked = dialog.JoinDialog(window, ["1/0", "4/0"])
     asked.relation.setCurrentText("overlaps")
     print(asked.request())
     print(dialog.show(view, asked.request()), view.num_rdbs())
-finally:
-    sys.stdout.flush()
-    pya.Application.instance().exit(0)
+except Exception:
+    traceback.print_exc()
+sys.stdout.flush()
+application.exit(0)
 """
 
 
-def test_dialog(klayout: Any, town: Path, tmp_path: Path) -> None:
-    """The macro's dialog offers the layers, and its join puts a database into the view."""
+def test_package_with_its_dialog(klayout: Any, town: Path, tmp_path: Path) -> None:
+    """Installed as documented: the macro is in the menu, and its join fills the view's database."""
+    (tmp_path / "home/salt").mkdir(parents=True)
+    (tmp_path / "home/salt/rjoin").symlink_to(PACKAGE)
     script = tmp_path / "macro.py"
     script.write_text(MACRO, encoding="utf-8")
-    ended = klayout_run("-z", "-nc", "-rx", "-rm", str(script), file=str(town),
-                        package=str(PACKAGE / "python"))
+    ended = klayout_run(["-z", "-nc", "-r", str(script)], {"file": str(town)},
+                        KLAYOUT_HOME=str(tmp_path / "home"))
     assert ended.stdout.splitlines() == [
+        "Join layers by relation",
         "Request(left='1/0', right='4/0', relation='overlaps', others='error')", "20 1"
     ], ended.stderr
 

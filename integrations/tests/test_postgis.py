@@ -140,7 +140,7 @@ def test_other_geometries_and_ids_of_any_type(server: Dict[str, str]) -> None:
     assert "not a point, axis-parallel segment or rectangle, but" in refused(
         server, *words, 'odd."Pairs"')
     assert tables(server) == before
-    assert '10 rows listed in odd."Pairs_skipped"' in done(
+    assert 'rows listed in odd."Pairs_skipped": 10' in done(
         server, *words, 'odd."Pairs"', "--others", "skip")
     skipped = psql(server, 'select text, reason from odd."Pairs_skipped" join odd."Shapes"'
                    ' on "Key"::text = id where side = \'left\'')
@@ -168,7 +168,8 @@ def test_decimals(server: Dict[str, str]) -> None:
     assert "fine has 2 columns of type geometry" in refused(server, *words, "fine_pairs")
     words += ["fine_pairs", "--left-geometry", "a"]
     assert "fine, id 7: a coordinate isn't written exactly" in refused(server, *words)
-    assert "1 rows are rounded to 2 decimals" in done(server, *words, "--decimals", "2")
+    told = done(server, *words, "--decimals", "2")
+    assert "fine: rows with coordinates rounded to 2 decimals: 1" in told
     own = psql(server, "select number, id from fine join zones on ST_Within(b, geom) order by 2")
     assert psql(server, "select left_id, right_id from fine_pairs order by 2") == own and own
     assert "far, id 9: a coordinate is out of range" in refused(
@@ -209,5 +210,5 @@ def test_a_failing_program_leaves_nothing(server: Dict[str, str], tmp_path: Path
 
 def test_empty_tables(server: Dict[str, str]) -> None:
     psql(server, "create table empty (id int primary key, geom geometry)")
-    assert "0 pairs in lone" in done(server, "empty", "zones", "--relation", "within",
-                                     "--into", "lone")
+    told = done(server, "empty", "zones", "--relation", "within", "--into", "lone")
+    assert "pairs in lone: 0" in told

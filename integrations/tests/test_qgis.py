@@ -217,7 +217,7 @@ def test_other_geometries(runs: Any, tmp_path: Path) -> None:
     assert bounded["error"] is None
     assert pairs(envelopes) == pairs(natives_own)
     assert [row["id"] for row in envelopes["rows"]["INPUT_LEFT_OUT"]] == ["none"]
-    assert "others: 3 features were replaced by their envelopes" in envelopes["log"]
+    assert "others: features replaced by their envelopes: 3" in envelopes["log"]
     gone = {row["id"]: row["reason"] for row in left_out["rows"]["INPUT_LEFT_OUT"]}
     assert gone == {"triangle": "not a rectangle", "parts": "a geometry of several parts",
                     "holed": "a polygon with a hole", "none": "no geometry"}
@@ -228,7 +228,7 @@ def test_other_geometries(runs: Any, tmp_path: Path) -> None:
 def test_left_out_is_told_without_an_output(runs: Any, tmp_path: Path) -> None:
     others = layer(tmp_path / "others.csv", OTHERS)
     (answer,) = runs([ours(others, town("parcels"), "intersects", OTHERS=LEAVE_OUT)])
-    assert any("4 features were left out: feature 3 (not a rectangle)" in line
+    assert any("features left out: 4, namely feature 3 (not a rectangle)" in line
                for line in answer["log"])
 
 
@@ -240,10 +240,10 @@ def test_decimals(runs: Any, tmp_path: Path) -> None:
     exact, inexact, rounded, out_of_range = runs([
         ours(quarter, zone, "touches"), ours(fine, zone, "touches"),
         ours(fine, zone, "touches", DECIMALS=2), ours(far, zone, "touches")])
-    assert pairs(exact) == [("a", "z")] and "Coordinates have 2 decimals" in exact["log"]
+    assert pairs(exact) == [("a", "z")] and "Decimals of the coordinates: 2" in exact["log"]
     assert "fine, feature 2: coordinate 0.2500001 isn't written exactly" in inexact["error"]
     assert pairs(rounded) == [("a", "z"), ("f", "z")]
-    assert "fine: the coordinates of 1 features were rounded to 2 decimals" in rounded["log"]
+    assert "fine: features with coordinates rounded to 2 decimals: 1" in rounded["log"]
     assert "far, feature 2: coordinate 2000000.0 is out of range" in out_of_range["error"]
 
 
@@ -259,6 +259,18 @@ def test_reference_systems_must_agree(runs: Any, tmp_path: Path) -> None:
     answers = runs([*requests, ours(one, other, "equals"), ours(one, one, "equals")])
     assert "EPSG:32632 and EPSG:32633" in answers[2]["error"]
     assert len(pairs(answers[3])) == len(station_ids())
+
+
+def test_windows_of_a_point_or_of_no_unit(runs: Any) -> None:
+    """The corner of four parcels of the town; a window between two units."""
+    requests = [{"algorithm": "rjoin:featuresinwindow", "parameters": {
+        "INPUT": town("parcels"), "WINDOW": window, "DECIMALS": decimals, "OUTPUT": "memory:"}}
+        for window, decimals in (("10,10,15,15", 0), ("10.2,10.4,15,16", 0),
+                                 ("10.2,10.4,15,16", 1))]
+    corner, narrow, finer = runs(requests)
+    assert corner["results"]["COUNT"] == 4
+    assert "narrower than a unit of the last decimal" in narrow["error"]
+    assert [row["id"] for row in finer["rows"]["OUTPUT"]] == ["Bridge South 2", "Bridge South 6"]
 
 
 @pytest.mark.parametrize("window", ["0,60,0,60", "10,10.5,14.999999,15.25", "20.1,41.7,-3,0"])

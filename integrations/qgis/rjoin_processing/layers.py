@@ -105,15 +105,16 @@ def read_layer(source: QgsProcessingFeatureSource, others: Others,
 def tell(layer: BoxLayer, has_list: bool, feedback: QgsProcessingFeedback) -> None:
     """Says how many features were replaced or left out; without a list of them it names some."""
     if layer.envelopes:
-        feedback.pushInfo(f"{layer.name}: {layer.envelopes} features were replaced by their "
-                          "envelopes")
+        feedback.pushInfo(f"{layer.name}: features replaced by their envelopes: "
+                          f"{layer.envelopes}")
     if not layer.left_out:
         return
-    text = f"{layer.name}: {len(layer.left_out)} features were left out"
+    text = f"{layer.name}: features left out: {len(layer.left_out)}"
     if not has_list:
         named = [f"feature {gone.feature.id()} ({gone.reason})"
                  for gone in layer.left_out[:MOST_NAMED]]
-        text += ": " + ", ".join(named) + (", .." if len(layer.left_out) > MOST_NAMED else "")
+        more = ", .." if len(layer.left_out) > MOST_NAMED else ""
+        text += f", namely {', '.join(named)}{more}"
     feedback.pushWarning(text)
 
 
@@ -135,8 +136,8 @@ def common_decimals(layers: List[BoxLayer], given: int | None,
             units.check_limit(layer.coordinates, decimals)
         except units.CoordinateError as fault:
             raise QgsProcessingException(_text(
-                layer, fault, f" ({decimals} decimals)")) from fault
-    feedback.pushInfo(f"Coordinates have {decimals} decimals")
+                layer, fault, f" (decimals: {decimals})")) from fault
+    feedback.pushInfo(f"Decimals of the coordinates: {decimals}")
     return decimals
 
 
@@ -150,8 +151,8 @@ def _tell_rounded(layer: BoxLayer, decimals: int, feedback: QgsProcessingFeedbac
     places = units.rounded_places(layer.coordinates, decimals)
     rounded = {place // NUMBERS_A_BOX for place in places}
     if rounded:
-        feedback.pushWarning(f"{layer.name}: the coordinates of {len(rounded)} features were "
-                             f"rounded to {decimals} decimals")
+        feedback.pushWarning(f"{layer.name}: features with coordinates rounded to {decimals} "
+                             f"decimals: {len(rounded)}")
 
 
 def write_layer(path: Path, layer: BoxLayer, decimals: int) -> None:

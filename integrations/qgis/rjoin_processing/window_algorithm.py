@@ -128,8 +128,8 @@ def _narrowed(extent: QgsRectangle, decimals: int) -> Window:
     window = Window(_up(west, decimals), _up(south, decimals),
                     _down(east, decimals), _down(north, decimals))
     if window.west > window.east or window.south > window.north:
-        raise QgsProcessingException(f"The window is too narrow for {decimals} decimals; give "
-                                     "more decimals")
+        raise QgsProcessingException("The window is narrower than a unit of the last decimal "
+                                     f"(decimals: {decimals}); give more decimals")
     return window
 
 
