@@ -1,0 +1,61 @@
+"""The public calls of the crates with their contracts, as the sources have them, for the pages under docs/."""
+import re
+from collections.abc import Iterator
+from pathlib import Path
+from typing import NamedTuple
+
+from crates import ROOT, uses_by_crate
+
+EXPORTS = re.compile(r"^pub use [\w:]*?(?:\{([^}]*)\}|(\w+));", re.MULTILINE)
+MODULES = re.compile(r"^pub mod (\w+);", re.MULTILINE)
+BLOCK = re.compile(r"^(pub trait|impl)(?:<.*?>)? ?(?:.* for )?(\w+)")
+CALL = re.compile(r"^ *(pub )?fn (\w+)")
+CLAUSE = re.compile(r"\bensures (\w*) ?\{")
+
+
+class Call(NamedTuple):
+    """A public call: its crate, its name as in `Layer::insert`, its contract, and the text of its file."""
+    crate: str
+    name: str
+    contract: str
+    source: str
+
+    def clauses(self) -> list[str]:
+        """The names of what it promises, and an empty one for a clause without a name."""
+        return CLAUSE.findall(self.contract)
+
+
+def specified_crates() -> list[str]:
+    """The crates that have definitions, bottom up."""
+    return [name for name in uses_by_crate() if (ROOT / "crates" / name / "specs").is_dir()]
+
+
+def public_calls(crate: str) -> Iterator[Call]:
+    """The public calls of a crate, those of its public traits among them."""
+    source = ROOT / "crates" / crate / "src"
+    root = (source / "lib.rt").read_text(encoding="utf-8")
+    exported = {name.strip() for many, one in EXPORTS.findall(root) for name in (many or one).split(",")}
+    modules = set(MODULES.findall(root))
+    for path in sorted(source.rglob("*.rt")):
+        for call in calls_of_file(crate, path):
+            if path.stem in modules or call.name.split("::")[0] in exported:
+                yield call
+
+
+def calls_of_file(crate: str, path: Path) -> Iterator[Call]:
+    """The calls of a file that are marked as public, and those of its public traits."""
+    text = path.read_text(encoding="utf-8")
+    owner, in_trait = "", False
+    lines = iter(text.split("\n"))
+    for line in lines:
+        block = BLOCK.match(line)
+        if block and not line.endswith("{}"):
+            in_trait, owner = block.group(1) == "pub trait", f"{block.group(2)}::"
+        elif line == "}":
+            owner, in_trait = "", False
+        call = CALL.match(line)
+        if call and (call.group(1) or in_trait):
+            contract = [line]
+            while not re.search(r"(^ *\{\}?|;| \{|\{\})$", contract[-1]):
+                contract.append(next(lines))
+            yield Call(crate, owner + call.group(2), "\n".join(contract), text)
