@@ -1,5 +1,6 @@
 -- Texts that grow by pieces, groups of the same features, and sets that grow by a number.
 use Rattle.std.proofs.Common.{◌≡◌, ℕ, ℤ, pos, ◌-ℤ◌, ◌+ℤ◌, ◌≤ℤ◌, ◌<◌, ◌+◌, ◌==◌, Bool, true, List, [], ◌∷◌, ◌++◌, refl, ap, ◌∙◌, take, codes, length, get_or}
+use Rattle.std.proofs.Common.{Result, Ok, Err, is_ok, OnOk, if◌then◌else◌}
 use Rattle.std.proofs.Common.{append_assoc, flat_map, neg_ℤ, ◌≤◌, ◌*◌, unsigned_abs, to_z, of_z, w64, arith}
 use Rattle.std.proofs.lemmas.Grind.{common_steps}
 use Rattle.std.proofs.lemmas.List.Folds.{list_any_more}
@@ -8,10 +9,9 @@ use Rattle.std.specs.List.{list_any}
 use Rattle.std.specs.Ordering.{nat_cmp}
 use Rattle.std.specs.BTreeSet.{BTreeSet, contains, Updates}
 use Rattle.layer_core.specs.Layers.{Feature, Contents}
-use Rattle.draw_core.specs.declared.drawing.TheConstants.{OPENING, CLOSING}
 use Rattle.draw_core.specs.Marks.{has_left, has_right}
-use Rattle.draw_core.specs.Pictures.{element, group, legend, canvas, picture_of}
-use Rattle.draw_core.specs.Views.{View, margin_of, view_around, view_of}
+use Rattle.draw_core.specs.Pictures.{closing, element, group, legend, canvas, opening, picture_of}
+use Rattle.draw_core.specs.Views.{View, drawn_height, margin_of, view_around, view_of}
 
 -- a piece, and what comes after it
 pub chain : (s t u a b : List ℕ) → t ≡ s ++ a → u ≡ t ++ b → u ≡ s ++ (a ++ b)
@@ -71,20 +71,38 @@ pub group_is : (side : List ℕ) (v w : View) (f g : ℕ → Bool) (layer : Cont
 group_is side v w f g layer t u view same more =
     more ∙ ap (λ l. t ++ l) (group_same side v f g layer same ∙ ap (λ x. group side x g layer) view)
 
+-- what a push says that it did, where it succeeded
+pub on_push : {T E : Type 0} (r : Result T E) (t u s : List ℕ) → u ≡ (if is_ok r then t ++ s else t) → OnOk r (u ≡ t ++ s)
+on_push (Ok x) t u s e = e
+on_push (Err e) t u s h = tt
+
+-- a text to which three pieces were added, and four
+pub three_pieces : (a b c t0 t1 t2 t3 : List ℕ) → t1 ≡ t0 ++ a → t2 ≡ t1 ++ b → t3 ≡ t2 ++ c → t3 ≡ t0 ++ (a ++ (b ++ c))
+three_pieces a b c t0 t1 t2 t3 e1 e2 e3 = chain t0 t1 t3 a (b ++ c) e1 (chain t1 t2 t3 b c e2 e3)
+
+pub four_pieces : (a b c d t0 t1 t2 t3 t4 : List ℕ) → t1 ≡ t0 ++ a → t2 ≡ t1 ++ b → t3 ≡ t2 ++ c → t4 ≡ t3 ++ d
+    → t4 ≡ t0 ++ (a ++ (b ++ (c ++ d)))
+four_pieces a b c d t0 t1 t2 t3 t4 e1 e2 e3 e4 =
+    chain t0 t1 t4 a (b ++ (c ++ d)) e1 (three_pieces b c d t1 t2 t3 t4 e2 e3 e4)
+
+-- a text of six pieces
+pub six_pieces : (a b c d e f t0 t1 t2 t3 t4 t5 t6 : List ℕ) → t0 ≡ [] → t1 ≡ t0 ++ a → t2 ≡ t1 ++ b → t3 ≡ t2 ++ c
+    → t4 ≡ t3 ++ d → t5 ≡ t4 ++ e → t6 ≡ t5 ++ f → t6 ≡ a ++ (b ++ (c ++ (d ++ (e ++ f))))
+six_pieces a b c d e f t0 t1 t2 t3 t4 t5 t6 e0 e1 e2 e3 e4 e5 e6 =
+    let last = four_pieces c d e f t2 t3 t4 t5 t6 e3 e4 e5 e6 in
+    let rest = c ++ (d ++ (e ++ f)) in
+    chain t0 t1 t6 a (b ++ rest) e1 (chain t1 t2 t6 b rest e2 last) ∙ ap (λ l. l ++ (a ++ (b ++ rest))) e0
+
 -- the picture from its pieces
-pub assembled : (left right : Contents) (pairs : List (ℕ × ℕ)) (v : View) (t0 t1 t2 t3 t4 t5 t6 : List ℕ) → v ≡ view_of left right
-    → t0 ≡ [] → t1 ≡ t0 ++ OPENING.now → t2 ≡ t1 ++ legend (length left.features) (length right.features) (length pairs) → t3 ≡ t2 ++ canvas v
+pub assembled : (left right : Contents) (pairs : List (ℕ × ℕ)) (v : View) (h : ℕ) (t0 t1 t2 t3 t4 t5 t6 : List ℕ)
+    → v ≡ view_of left right → h ≡ drawn_height (view_of left right) → t0 ≡ [] → t1 ≡ t0 ++ opening (h + 40)
+    → t2 ≡ t1 ++ legend (length left.features) (length right.features) (length pairs) → t3 ≡ t2 ++ canvas h v
     → t4 ≡ t3 ++ group (codes "left") (view_of left right) (has_left pairs) left
-    → t5 ≡ t4 ++ group (codes "right") (view_of left right) (has_right pairs) right → t6 ≡ t5 ++ CLOSING.now → t6 ≡ picture_of left right pairs
-assembled left right pairs v t0 t1 t2 t3 t4 t5 t6 view e0 e1 e2 e3 e4 e5 e6 =
+    → t5 ≡ t4 ++ group (codes "right") (view_of left right) (has_right pairs) right → t6 ≡ t5 ++ closing → t6 ≡ picture_of left right pairs
+assembled left right pairs v h t0 t1 t2 t3 t4 t5 t6 view height e0 e1 e2 e3 e4 e5 e6 =
     let w = view_of left right in
-    let keys = legend (length left.features) (length right.features) (length pairs) in
-    let first = group (codes "left") w (has_left pairs) left in
-    let second = group (codes "right") w (has_right pairs) right in
-    let e3w = e3 ∙ ap (λ x. t2 ++ canvas x) view in
-    let after4 = chain t4 t5 t6 second CLOSING.now e5 e6 in
-    let after3 = chain t3 t4 t6 first (second ++ CLOSING.now) e4 after4 in
-    let after2 = chain t2 t3 t6 (canvas w) (first ++ (second ++ CLOSING.now)) e3w after3 in
-    let after1 = chain t1 t2 t6 keys (canvas w ++ (first ++ (second ++ CLOSING.now))) e2 after2 in
-    let all = chain t0 t1 t6 OPENING.now (keys ++ (canvas w ++ (first ++ (second ++ CLOSING.now)))) e1 after1 in
-    all ∙ ap (λ l. l ++ (OPENING.now ++ (keys ++ (canvas w ++ (first ++ (second ++ CLOSING.now)))))) e0
+    let k = drawn_height w in
+    six_pieces (opening (k + 40)) (legend (length left.features) (length right.features) (length pairs)) (canvas k w)
+    (group (codes "left") w (has_left pairs) left) (group (codes "right") w (has_right pairs) right) closing
+    t0 t1 t2 t3 t4 t5 t6 e0 (e1 ∙ ap (λ x. t0 ++ opening (x + 40)) height) e2
+    (e3 ∙ ap (λ x. t2 ++ canvas h x) view ∙ ap (λ x. t2 ++ canvas x w) height) e4 e5 e6

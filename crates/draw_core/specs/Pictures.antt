@@ -1,16 +1,14 @@
 -- The picture of two layers.
-use Rattle.std.specs.Prelude.{◌==◌, ℕ, ℤ, ◌-ℤ◌, Bool, List, [], ◌++◌, length, decimal, codes}
+use Rattle.std.specs.Prelude.{◌==◌, ℕ, ◌+◌, ℤ, ◌-ℤ◌, Bool, List, [], ◌++◌, length, decimal, codes}
 use Rattle.std.specs.Prelude.{if◌then◌else◌}
 use Rattle.std.specs.Fmt.{signed_decimal}
 use Rattle.std.specs.List.{flat_map}
 use Rattle.geom_core.specs.declared.shape.Shape.{Shape}
 use Rattle.geom_core.specs.Shapes.{x1, y1, x2, y2, dim_of}
 use Rattle.layer_core.specs.Layers.{Feature, Contents}
-use Rattle.draw_core.specs.declared.drawing.TheConstants.{OPENING, LEFT_KEY, RIGHT_KEY, MATCH_KEY}
-use Rattle.draw_core.specs.declared.drawing.TheConstants.{LEGEND_END, CANVAS, CLOSING}
 use Rattle.draw_core.specs.Labels.{label}
 use Rattle.draw_core.specs.Marks.{has_left, has_right}
-use Rattle.draw_core.specs.Views.{View, view_of}
+use Rattle.draw_core.specs.Views.{View, view_of, drawn_height}
 
 -- a command of a path, and its number
 abbrev pub numbered : List ℕ → ℤ → List ℕ
@@ -31,7 +29,7 @@ outline view s =
     corner view s ++ (numbered (codes "h") (x2 s -ℤ x1 s)
     ++ (numbered (codes "v") (y2 s -ℤ y1 s) ++ way_back s))
 
--- the start of a path's element: points and matches are set off by their class
+-- the start of a path's element: points and matches are told by their class
 abbrev pub start_of : ℕ → Bool → List ℕ
 start_of dim is_match =
     if dim == 0
@@ -59,25 +57,67 @@ group side view is_match layer =
 abbrev pub counted : List ℕ → ℕ → List ℕ
 counted before count = before ++ decimal count
 
+-- what the classes look like: the left layer is blue, the right one vermillion, and matches are
+-- filled more strongly
+abbrev pub style : List ℕ
+style =
+    codes "<style>text{font:16px sans-serif}"
+    ++ (codes "path{stroke-width:.1%;stroke-linecap:round;stroke-linejoin:round;fill-opacity:.06}"
+    ++ (codes ".point{stroke-width:.5%}.match{stroke-width:.25%;fill-opacity:.24}"
+    ++ (codes ".point.match{stroke-width:.9%}.left{fill:#0072B2;stroke:#0072B2}"
+    ++ codes ".right{fill:#D55E00;stroke:#D55E00}</style>\n")))
+
+-- the start of a picture that is so high: its size, its style and its ground
+abbrev pub opening : ℕ → List ℕ
+opening height =
+    codes "<svg xmlns=\"http://www.w3.org/2000/svg\" version=\"1.1\""
+    ++ (counted (codes " width=\"1000\" height=\"") height
+    ++ (counted (codes "\" viewBox=\"0 0 1000 ") height ++ (codes "\">\n"
+    ++ (style ++ codes "<rect width=\"100%\" height=\"100%\" fill=\"#fff\"/>\n"))))
+
+-- what stands in the legend before each number: a square of the colour, and what is counted
+abbrev pub left_key : List ℕ
+left_key =
+    codes "<path class=\"left\" d=\"M20 12h16v16h-16z\"/>"
+    ++ codes "<text x=\"46\" y=\"26\">left features: "
+
+abbrev pub right_key : List ℕ
+right_key =
+    codes "</text>\n<path class=\"right\" d=\"M320 12h16v16h-16z\"/>"
+    ++ codes "<text x=\"346\" y=\"26\">right features: "
+
+abbrev pub match_key : List ℕ
+match_key =
+    codes "</text>\n<path class=\"left match\" d=\"M620 12h16v16h-16z\"/>"
+    ++ (codes "<path class=\"right match\" d=\"M642 12h16v16h-16z\"/>"
+    ++ codes "<text x=\"668\" y=\"26\">matching pairs: ")
+
 -- how many left features, right features and pairs there are
 abbrev pub legend : ℕ → ℕ → ℕ → List ℕ
 legend left right pairs =
-    counted LEFT_KEY.now left ++ (counted RIGHT_KEY.now right
-    ++ (counted MATCH_KEY.now pairs ++ LEGEND_END.now))
+    counted left_key left ++ (counted right_key right ++ (counted match_key pairs
+    ++ codes "</text>\n"))
 
--- the start of the element whose inside has the view's width and height
-abbrev pub canvas : View → List ℕ
-canvas view =
-    counted CANVAS.now view.width ++ (counted (codes " ") view.height ++ codes "\">\n")
+-- the start of the element that shows the view and is so high, below the legend
+abbrev pub canvas : ℕ → View → List ℕ
+canvas height view =
+    counted (codes "<svg y=\"40\" width=\"1000\" height=\"") height
+    ++ (counted (codes "\" preserveAspectRatio=\"xMidYMin\" viewBox=\"0 0 ") view.width
+    ++ (counted (codes " ") view.height ++ codes "\">\n"))
+
+-- the ends of the view's element and of the picture
+abbrev pub closing : List ℕ
+closing = codes "</svg>\n</svg>\n"
 
 -- the legend, and each feature of the left layer and then of the right one, in order, where those
--- that occur in a pair are set off
+-- that occur in a pair are highlighted
 abbrev pub picture_of : Contents → Contents → List (ℕ × ℕ) → List ℕ
 picture_of left right pairs =
     let view = view_of left right in
-    OPENING.now
+    let height = drawn_height view in
+    opening (height + 40)
     ++ (legend (length left.features) (length right.features) (length pairs)
-    ++ (canvas view
+    ++ (canvas height view
     ++ (group (codes "left") view (has_left pairs) left
     ++ (group (codes "right") view (has_right pairs) right
-    ++ CLOSING.now))))
+    ++ closing))))

@@ -1,6 +1,7 @@
 -- The part of the plane that a picture shows.
-use Rattle.std.specs.Prelude.{ℕ, ◌+◌, ◌*◌, ◌/◌, max, ℤ, pos, neg_ℤ, ◌+ℤ◌, ◌-ℤ◌, ◌≤ℤ◌, unsigned_abs}
+use Rattle.std.specs.Prelude.{ℕ, ◌+◌, ◌*◌, ◌/◌, ◌<◌, ◌≤◌, max, min, ℤ, pos, neg_ℤ, ◌+ℤ◌, ◌-ℤ◌, ◌≤ℤ◌, unsigned_abs}
 use Rattle.std.specs.Prelude.{List, [], ◌∷◌, Option, None, Some}
+use Rattle.std.specs.Int.{div_ceil}
 use Rattle.geom_core.specs.declared.shape.Shape.{Shape}
 use Rattle.geom_core.specs.Shapes.{x1, y1, x2, y2, cover_of}
 use Rattle.layer_core.specs.Layers.{Feature, Contents}
@@ -15,6 +16,16 @@ pub record View : Type 0 where
 -- at most twice as far out as a coordinate
 abbrev pub IsNear : ℤ → Type 0
 IsNear c = (neg_ℤ (pos 2000000000000) ≤ℤ c) × (c ≤ℤ pos 2000000000000)
+
+-- both lengths of a frame are positive, and a tenth more than the plane's at most
+pub record HasSize (width height : ℕ) : Type 0 where
+  pub wide : 0 < width
+  pub width_few : width ≤ 2200000000002
+  pub height_few : height ≤ 2200000000002
+
+-- how high a view is drawn at a width of 1,000: in its proportion, and at most twice that
+abbrev pub drawn_height : View → ℕ
+drawn_height view = min (div_ceil (1000 * view.height) view.width) 2000
 
 -- the smallest shape that contains the cover, if there is one, and the shape
 abbrev pub widened : Option Shape → Shape → Shape

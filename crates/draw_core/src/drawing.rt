@@ -5,7 +5,8 @@ ghost use Rattle.std.specs.String.{string_bytes};
 ghost use Rattle.std.specs.Ordering.{nat_cmp};
 ghost use Rattle.std.specs.BTreeSet.{contains};
 ghost use Rattle.draw_core.specs.Limits.{most_drawn};
-ghost use Rattle.draw_core.specs.Pictures.{counted, legend, canvas, group, picture_of};
+ghost use Rattle.draw_core.specs.Pictures.{counted, opening, legend, canvas, group};
+ghost use Rattle.draw_core.specs.Pictures.{picture_of};
 
 use crate::frame::Frame;
 use crate::marks::Marks;
@@ -19,12 +20,18 @@ use std::collections::BTreeSet;
 /// nothing but strokes.
 pub const MAX_DRAWN: usize = 100_000;
 
-/// The root element's start, and what the classes look like.
+/// The root element's start, up to its height.
+const OPENING: &str = "<svg xmlns=\"http://www.w3.org/2000/svg\" version=\"1.1\" \
+width=\"1000\" height=\"";
+
+/// From there to the height of the part that it shows.
+const SHOWN: &str = "\" viewBox=\"0 0 1000 ";
+
+/// From there to the legend: what the classes look like.
 ///
 /// Widths of strokes are parts of the picture's size, so a point is seen at any extent. The two
 /// colours are blue and vermillion of Okabe and Ito, which colour-blind readers tell apart.
-const OPENING: &str = "<svg xmlns=\"http://www.w3.org/2000/svg\" version=\"1.1\" \
-width=\"1000\" height=\"1040\" viewBox=\"0 0 1000 1040\">\n\
+const STYLE: &str = "\">\n\
 <style>\
 text{font:16px sans-serif}\
 path{stroke-width:.1%;stroke-linecap:round;stroke-linejoin:round;fill-opacity:.06}\
@@ -34,7 +41,10 @@ path{stroke-width:.1%;stroke-linecap:round;stroke-linejoin:round;fill-opacity:.0
 .left{fill:#0072B2;stroke:#0072B2}\
 .right{fill:#D55E00;stroke:#D55E00}\
 </style>\n\
-<rect width=\"1000\" height=\"1040\" fill=\"#fff\"/>\n";
+<rect width=\"100%\" height=\"100%\" fill=\"#fff\"/>\n";
+
+/// How high the legend is.
+const LEGEND_HEIGHT: u64 = 40;
 
 /// The legend up to the number of left features.
 const LEFT_KEY: &str = "<path class=\"left\" d=\"M20 12h16v16h-16z\"/>\
@@ -52,9 +62,11 @@ const MATCH_KEY: &str = "</text>\n<path class=\"left match\" d=\"M620 12h16v16h-
 /// The end of the legend.
 const LEGEND_END: &str = "</text>\n";
 
-/// The start of the element that shows the frame, up to its width.
-const CANVAS: &str = "<svg y=\"40\" width=\"1000\" height=\"1000\" \
-preserveAspectRatio=\"xMidYMin\" viewBox=\"0 0 ";
+/// The start of the element that shows the frame, up to its height.
+const CANVAS: &str = "<svg y=\"40\" width=\"1000\" height=\"";
+
+/// From there to the frame's width.
+const FRAME: &str = "\" preserveAspectRatio=\"xMidYMin\" viewBox=\"0 0 ";
 
 /// The ends of the frame's element and of the root.
 const CLOSING: &str = "</svg>\n</svg>\n";
@@ -77,6 +89,15 @@ fn push_counted(text: &mut String, before: &str, count: u64) -> Result<(), Alloc
     text.push_str(digits.format(count))
 }
 
+/// Adds what stands before the legend of a picture that is so high: its size and its style.
+fn push_opening(text: &mut String, height: u64) -> Result<(), AllocError>
+    ensures { OnOk result (string_bytes text.new ≡ string_bytes text.old ++ opening height) }
+{
+    push_counted(text, OPENING, height)?;
+    push_counted(text, SHOWN, height)?;
+    text.push_str(STYLE)
+}
+
 /// Adds the legend: each colour, and how many features or pairs have it.
 fn push_legend(text: &mut String, left: usize, right: usize, pairs: usize) -> Result<(), AllocError>
     ensures { OnOk result
@@ -88,16 +109,18 @@ fn push_legend(text: &mut String, left: usize, right: usize, pairs: usize) -> Re
     text.push_str(LEGEND_END)
 }
 
-/// Adds the start of the element that shows the frame.
-fn push_canvas(text: &mut String, frame: &Frame) -> Result<(), AllocError>
-    ensures { OnOk result (string_bytes text.new ≡ string_bytes text.old ++ canvas frame.now) }
+/// Adds the start of the element that shows the frame and is so high.
+fn push_canvas(text: &mut String, height: u64, frame: &Frame) -> Result<(), AllocError>
+    ensures { OnOk result
+        (string_bytes text.new ≡ string_bytes text.old ++ canvas height frame.now) }
 {
-    push_counted(text, CANVAS, frame.width())?;
+    push_counted(text, CANVAS, height)?;
+    push_counted(text, FRAME, frame.width())?;
     push_counted(text, " ", frame.height())?;
     text.push_str("\">\n")
 }
 
-/// Adds the features of a layer, where those with these numbers are set off.
+/// Adds the features of a layer, where those with these numbers are highlighted.
 fn push_group(
     text: &mut String,
     side: &str,
@@ -119,7 +142,10 @@ fn push_group(
 
 /// The picture of two layers, as SVG 1.1: a legend with three counts, and below it each feature of
 /// the left layer and then each of the right one, in layer order, with its id as its title. Those
-/// that occur in a pair of numbers are set off.
+/// that occur in a pair of numbers are highlighted.
+///
+/// It is 1,000 wide, and as high as the frame of the features needs, which is 2,000 at most and the
+/// legend.
 ///
 /// Each shape stands at its place from the frame's upper left corner, with the second axis
 /// upwards, in units of the grid.
@@ -136,11 +162,12 @@ pub fn picture(
         (λ text. string_bytes text ≡ picture_of left.now.list right.now.list pairs.now) }
 {
     let frame = Frame::new(left, right);
+    let height = frame.drawn_height();
     let marks = Marks::new(alloc, pairs)?;
     let mut text = String::new(alloc);
-    text.push_str(OPENING)?;
+    push_opening(&mut text, height + LEGEND_HEIGHT)?;
     push_legend(&mut text, left.len(), right.len(), pairs.len())?;
-    push_canvas(&mut text, &frame)?;
+    push_canvas(&mut text, height, &frame)?;
     push_group(&mut text, "left", &frame, &marks.left, left)?;
     push_group(&mut text, "right", &frame, &marks.right, right)?;
     text.push_str(CLOSING)?;

@@ -8,6 +8,9 @@ use geom_core::Shape;
 use layer_core::Layer;
 use std::marker::Model;
 
+/// The most that a frame is drawn high, where it is 1,000 wide: twice as high as it is wide.
+const MAX_HEIGHT: u64 = 2000;
+
 /// The part of the plane that a picture shows: the cover of all shapes, and a margin about it.
 ///
 /// Coordinates of the picture count from its upper left corner, to the right and downwards.
@@ -21,7 +24,7 @@ pub(crate) struct Frame {
 
 impl Model for Frame {
     ghost use Rattle.std.specs.Prelude.{ℕ, ℤ};
-    ghost use Rattle.draw_core.specs.Views.{View, IsNear};
+    ghost use Rattle.draw_core.specs.Views.{View, IsNear, HasSize};
 
     ghost Value = { View };
 
@@ -32,7 +35,7 @@ impl Model for Frame {
       height = f.height;
     } };
 
-    ghost invariant = { λ f. IsNear f.left × IsNear f.top };
+    ghost invariant = { λ f. IsNear f.left × IsNear f.top × HasSize f.width f.height };
 }
 
 /// How far apart two coordinates are.
@@ -71,7 +74,7 @@ fn cover_with(cover: Option<Shape>, layer: &Layer) -> Option<Shape>
 
 impl Frame {
     ghost use Rattle.geom_core.specs.Shapes.{x1, y2, AreCorners};
-    ghost use Rattle.draw_core.specs.Views.{view_around, view_of};
+    ghost use Rattle.draw_core.specs.Views.{view_around, view_of, drawn_height};
 
     /// The frame of two layers, about the origin where they have no features.
     pub(crate) fn new(left: &Layer, right: &Layer) -> Frame
@@ -111,6 +114,14 @@ impl Frame {
         ensures { result ≡ self.now.top -ℤ y2 shape.now }
     {
         self.top - shape.y2()
+    }
+
+    /// How high the frame is drawn at a width of 1,000.
+    pub(crate) fn drawn_height(&self) -> u64
+        ensures height { result ≡ drawn_height self.now }
+        ensures bound { result ≤ 2000 }
+    {
+        (1000 * self.height).div_ceil(self.width).min(MAX_HEIGHT)
     }
 
     /// How wide the frame is.

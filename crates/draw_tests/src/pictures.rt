@@ -2,18 +2,19 @@
 
 use crate::layers::{Row, picture_of};
 
-/// What a picture has to say: the counts of the legend, and the drawing from the size of its frame
-/// to the end.
+/// What a picture has to say: its height and that of the drawing in it, the counts of the legend,
+/// and the drawing from the size of its frame to the end.
 #[derive(Clone, Copy)]
 struct Expected {
+    heights: [&'static str; 2],
     counts: [&'static str; 3],
     drawing: &'static str,
 }
 
-/// The count of the legend that stands after these words.
-fn count_after<'a>(text: &'a str, words: &str) -> Option<&'a str> {
+/// The number that stands after these words, up to this end.
+fn count_after<'a>(text: &'a str, words: &str, end: &str) -> Option<&'a str> {
     let (_, rest) = text.split_once(words)?;
-    let (count, _) = rest.split_once("</text>")?;
+    let (count, _) = rest.split_once(end)?;
     Some(count)
 }
 
@@ -24,16 +25,28 @@ fn drawing(text: &str) -> Option<&str> {
     Some(drawing)
 }
 
+/// Whether a picture has this height, and the drawing in it that one.
+fn heights(text: &str, expected: [&str; 2]) -> bool {
+    let shown = "\" viewBox=\"0 0 1000 ";
+    let rest = text.strip_prefix(
+        "<svg xmlns=\"http://www.w3.org/2000/svg\" version=\"1.1\" width=\"1000\" height=\"",
+    );
+    let rest = rest.and_then(|rest| rest.strip_prefix(expected[0]));
+    let rest = rest.and_then(|rest| rest.strip_prefix(shown));
+    rest.is_some_and(|rest| rest.starts_with(expected[0]))
+        && count_after(text, "<svg y=\"40\" width=\"1000\" height=\"", "\"") == Some(expected[1])
+}
+
 /// Whether a legend has these counts.
 fn counts(text: &str, expected: [&str; 3]) -> bool {
-    count_after(text, "left features: ") == Some(expected[0])
-        && count_after(text, "right features: ") == Some(expected[1])
-        && count_after(text, "matching pairs: ") == Some(expected[2])
+    count_after(text, "left features: ", "</text>") == Some(expected[0])
+        && count_after(text, "right features: ", "</text>") == Some(expected[1])
+        && count_after(text, "matching pairs: ", "</text>") == Some(expected[2])
 }
 
 /// Whether a picture says this, and begins as SVG.
 fn says(text: &str, expected: &Expected) -> bool {
-    text.starts_with("<svg xmlns=\"http://www.w3.org/2000/svg\" version=\"1.1\" ")
+    heights(text, expected.heights)
         && counts(text, expected.counts)
         && drawing(text) == Some(expected.drawing)
 }
@@ -49,7 +62,7 @@ const WHOLE: &str = "<svg xmlns=\"http://www.w3.org/2000/svg\" version=\"1.1\" \
     .point.match{stroke-width:.9%}\
     .left{fill:#0072B2;stroke:#0072B2}\
     .right{fill:#D55E00;stroke:#D55E00}</style>\n\
-    <rect width=\"1000\" height=\"1040\" fill=\"#fff\"/>\n\
+    <rect width=\"100%\" height=\"100%\" fill=\"#fff\"/>\n\
     <path class=\"left\" d=\"M20 12h16v16h-16z\"/>\
     <text x=\"46\" y=\"26\">left features: 1</text>\n\
     <path class=\"right\" d=\"M320 12h16v16h-16z\"/>\
@@ -85,6 +98,7 @@ fn draws(
 #[test]
 fn nothing_drawn(rt: HostRuntime) {
     let expected = Expected {
+        heights: ["1040", "1000"],
         counts: ["0", "0", "0"],
         drawing: "2 2\">\n<g class=\"left\">\n\
             </g>\n<g class=\"right\">\n\
@@ -97,6 +111,7 @@ fn nothing_drawn(rt: HostRuntime) {
 #[test]
 fn point_drawn(rt: HostRuntime) {
     let expected = Expected {
+        heights: ["1040", "1000"],
         counts: ["0", "1", "0"],
         drawing: "2 2\">\n<g class=\"left\">\n\
             </g>\n<g class=\"right\">\n\
@@ -107,7 +122,7 @@ fn point_drawn(rt: HostRuntime) {
 }
 
 // The cover goes from (0, -10) to (40, 20), so the margin is 40 / 20 + 1 = 3 and the corner of the
-// frame (-3, 23). The right layer's second feature is in two pairs, and its first one in none.
+// frame (-3, 23). It is 46 wide and 36 high, so 1,000 and 783 as drawn. The right layer's second feature is in two pairs, and its first one in none.
 #[test]
 fn matches_drawn(rt: HostRuntime) {
     let left = [
@@ -117,6 +132,7 @@ fn matches_drawn(rt: HostRuntime) {
     ];
     let right = [("wall", (5, 0, 5, 8)), ("park", (10, 0, 25, 20))];
     let expected = Expected {
+        heights: ["823", "783"],
         counts: ["3", "2", "2"],
         drawing: "46 36\">\n<g class=\"left\">\n\
             <path d=\"M3 18h40v0\"><title>road</title></path>\n\
@@ -135,6 +151,7 @@ fn matches_drawn(rt: HostRuntime) {
 fn plane_drawn(rt: HostRuntime) {
     const FAR: i64 = 1_000_000_000_000;
     let expected = Expected {
+        heights: ["1040", "1000"],
         counts: ["1", "1", "0"],
         drawing: "2200000000002 2200000000002\">\n<g class=\"left\">\n\
             <path d=\"M100000000001 100000000001\
@@ -149,6 +166,21 @@ fn plane_drawn(rt: HostRuntime) {
     assert!(rt; draws(&rt, &left, &right, &[], &expected));
 }
 
+// A segment of 100 units upwards: the margin is 6, and the frame 12 wide and 112 high. It is drawn
+// twice as high as it is wide, which is the most.
+#[test]
+fn tall_drawn(rt: HostRuntime) {
+    let expected = Expected {
+        heights: ["2040", "2000"],
+        counts: ["1", "0", "0"],
+        drawing: "12 112\">\n<g class=\"left\">\n\
+            <path d=\"M6 6h0v100\"><title>mast</title></path>\n\
+            </g>\n<g class=\"right\">\n\
+            </g>\n</svg>\n</svg>\n",
+    };
+    assert!(rt; draws(&rt, &[("mast", (0, 0, 0, 100))], &[], &[], &expected));
+}
+
 // XML 1.0, sections 2.2 and 2.4: markup by reference, and U+FFFD for what is forbidden.
 #[test]
 fn ids_escaped(rt: HostRuntime) {
@@ -159,6 +191,7 @@ fn ids_escaped(rt: HostRuntime) {
         ("\t\n\r \u{7f}é€\u{fffd}\u{1ffff}", (0, 0, 0, 0)),
     ];
     let expected = Expected {
+        heights: ["1040", "1000"],
         counts: ["0", "4", "0"],
         drawing: "2 2\">\n<g class=\"left\">\n\
             </g>\n<g class=\"right\">\n\
