@@ -14,13 +14,16 @@ use Rattle.rtree_core.specs.declared.node.Node.{Node}
 use Rattle.split_core.specs.Covers.{IsLeastCover}
 use Rattle.rtree_core.specs.Items.{entry_alone, FitsLeaf, FitsInner, IsNodeList, IsNodeOf, leaf_node, inner_node}
 use Rattle.split_core.specs.Limits.{fewest}
-use Rattle.rtree_core.specs.Nodes.{entries_of, level_of, size_of, children_of, IsPage, IsInner, IsLawfulAt, IsLawful}
+use Rattle.rtree_core.specs.Nodes.{entries_of, own_entries, level_of, size_of, children_of, IsPage, IsInner, IsLawfulAt, IsLawful}
 use Rattle.rtree_core.specs.Packed.{IsPackedAt, FitsPacked, IsPackedOf}
 use Rattle.rtree_core.proofs.NodeLemmas.{entries_leaf, level_leaf, entries_inner, level_inner}
 
 -- a leaf by its list
 pub leaf_entries : (c : Shape) (v : Vec Entry Global) → entries_of (leaf_node c v) ≡ v.items
 leaf_entries c v = entries_leaf (leaf_node c v) v (outs-Entries v)
+
+pub leaf_list : (c : Shape) (v : Vec Entry Global) → own_entries (leaf_node c v) ≡ v.items
+leaf_list c v = rw outs-Entries refl
 
 pub leaf_level : (c : Shape) (v : Vec Entry Global) → level_of (leaf_node c v) ≡ 0
 leaf_level c v = level_leaf (leaf_node c v) v (outs-Entries v)

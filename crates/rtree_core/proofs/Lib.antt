@@ -6,4 +6,5 @@ pub mod TreeLemmas
 pub mod WindowLemmas
 pub mod RemovalLemmas
 pub mod TakeLemmas
+pub mod PackingLemmas
 pub mod PackLemmas

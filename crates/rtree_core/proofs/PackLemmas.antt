@@ -8,31 +8,38 @@ use Rattle.std.specs.List.Sorted.{IsPermutation}
 use Rattle.std.proofs.Math.Nat.{mul-le-mul_left}
 use Rattle.std.proofs.lemmas.Bool.{cases_lt}
 use Rattle.std.proofs.lemmas.Bool.Decides.{nat_tests}
-use Rattle.std.proofs.lemmas.List.{flat_map_more, take_all, drop_all}
+use Rattle.std.proofs.lemmas.List.{flat_map_more}
 use Rattle.std.proofs.lemmas.List.Concat.{flat_map-append}
 use Rattle.std.proofs.lemmas.List.Elements.{All-nil, All-head, All-tail, All-push, All-append}
 use Rattle.std.proofs.lemmas.List.Sorted.{All-permutation, sum_by-IsPermutation, length_permutation}
 use Rattle.std.proofs.lemmas.List.Sums.{sum_by-append, sum_by-cons}
 use Rattle.geom_core.specs.declared.shape.Shape.{Shape}
 use Rattle.split_core.specs.Limits.{most}
+use Rattle.split_core.specs.Tiles.{IsTileOrder}
 use Rattle.rtree_core.specs.declared.node.Entry.{Entry}
 use Rattle.rtree_core.specs.declared.node.Node.{Node}
 use Rattle.split_core.specs.Collections.{HasSame}
 use Rattle.rtree_core.specs.Items.{entry_alone, FitsLeaf, FitsInner, IsNodeOf}
 use Rattle.rtree_core.specs.Nodes.{entries_of, size_of, IsLawfulAt}
 use Rattle.rtree_core.specs.Packed.{IsPackedAt, HasU32, FitsPacked, IsPackedOf, AreNodesOf, IsPackedTree, IsShare}
+use Rattle.rtree_core.specs.Packings.{AreLeavesOf, AreNodesAbove, IsPackedLevel}
 use Rattle.rtree_core.specs.Trees.{has_number}
 use Rattle.split_core.proofs.CoverLemmas.{All-front, All-back}
 use Rattle.rtree_core.proofs.NodeLemmas.{lawful_level, lawful_is}
 use Rattle.rtree_core.proofs.TreeLemmas.{all_below, count_below_n}
 use Rattle.rtree_core.proofs.ItemLemmas.{each_alone}
+use Rattle.rtree_core.proofs.PackingLemmas.{in_slice}
 
 -- a list whose items were moved through the slice of all of them
 pub through_slice : {T : Type 0} (n : ℕ) (old new : List T) → n ≡ length old → IsPermutation old new → IsPermutation old (take n (new ++ drop (length new) old))
-through_slice n old new e perm =
-    let len : length new ≡ length old = length_permutation old new perm in
-    let none : drop (length new) old ≡ [] = drop_all (length new) old (omega arith) in
-    rw (none, append-nil new, take_all n new (omega arith)) perm
+through_slice n old new e perm = rw (in_slice n old new e perm) perm
+
+pub order_in_slice : {T : Type 0} (cover : T → Shape) (rank : T → ℕ) (n : ℕ) (old new : List T) →
+    n ≡ length old →
+    IsPermutation old new →
+    IsTileOrder cover rank new →
+    IsTileOrder cover rank (take n (new ++ drop (length new) old))
+order_in_slice cover rank n old new e perm order = subst (IsTileOrder cover rank) (sym (in_slice n old new e perm)) order
 
 -- numbers that differ do so in another order
 pub distinct_permuted : (old new : List Entry) →
@@ -237,9 +244,14 @@ pub record IsRow (all : List Entry) (nodes : List Node) (height : ℕ) : Type 0 
   pub packed : All (IsPackedAt level) nodes
   pub two : 0 < level → All (λ n. 2 ≤ size_of n) nodes
   pub four : 2 ≤ length nodes → All (λ n. 4 ≤ size_of n) nodes
+  pub packing : IsPackedLevel all level nodes
 
-pub row_first : (all : List Entry) (nodes : List Node) → 0 < length all → AreNodesOf entry_alone FitsLeaf (λ _ _. Unit {0}) all nodes → IsRow all nodes 1
-row_first all nodes some made = record {
+pub row_first : (all : List Entry) (nodes : List Node) →
+    0 < length all →
+    AreNodesOf entry_alone FitsLeaf (λ _ _. Unit {0}) all nodes →
+    AreLeavesOf all nodes →
+    IsRow all nodes 1
+row_first all nodes some made leaves = record {
   level = 0;
   height_is = refl;
   some = omega (arith, made.count);
@@ -248,6 +260,7 @@ row_first all nodes some made = record {
   packed = made.packed 0 (λ k d lt. tt);
   two = λ h. absurd (omega arith);
   four = made.four;
+  packing = leaves;
 }
 
 row_fits : (all : List Entry) (nodes : List Node) (height : ℕ) (row : IsRow all nodes height) → 2 ≤ length nodes → All (FitsInner (suc row.level)) nodes
@@ -260,8 +273,9 @@ pub row_next : (all : List Entry) (nodes above : List Node) (height : ℕ) →
     2 ≤ length nodes →
     IsRow all nodes height →
     AreNodesOf entries_of FitsInner FitsPacked nodes above →
+    AreNodesAbove nodes above →
     IsRow all above (height + 1)
-row_next all nodes above height many row made = record {
+row_next all nodes above height many row made tiles = record {
   level = suc row.level;
   height_is = omega (arith, row.height_is);
   some = omega (arith, made.count);
@@ -270,6 +284,7 @@ row_next all nodes above height many row made = record {
   packed = made.packed (suc row.level) (row_fits_packed all nodes height row many);
   two = λ h. made.two many;
   four = made.four;
+  packing = (nodes, many, row.packing, tiles);
 }
 
 -- there are fewer nodes on the level above
@@ -315,5 +330,6 @@ row_root all n height distinct small row =
         in_range = λ k large. omega (arith, none_beyond k all large small, same (has_number k));
       };
       packed = subst (λ l. IsPackedAt l n) (sym level) (All-head (IsPackedAt row.level) n [] row.packed);
+      packing = subst (λ l. IsPackedLevel all l (n ∷ [])) (sym level) row.packing;
       height_is = omega (arith, row.height_is, level);
     }

@@ -7,6 +7,7 @@ pub mod Insertions
 pub mod Items
 pub mod Nodes
 pub mod Packed
+pub mod Packings
 pub mod Removals
 pub mod Spares
 pub mod TreeInvariant

@@ -51,6 +51,14 @@ children_below (Children v) = v.items
 abbrev pub children_of : Node → List Node
 children_of n = children_below (out-Below n.below)
 
+abbrev entries_below : Below-F Below Node → List Entry
+entries_below (Entries v) = v.items
+entries_below (Children v) = []
+
+-- the entries that a node holds itself, of which an inner node has none
+abbrev pub own_entries : Node → List Entry
+own_entries n = entries_below (out-Below n.below)
+
 abbrev size_below : Below-F Below Node → ℕ
 size_below (Entries v) = vec_len v
 size_below (Children v) = vec_len v

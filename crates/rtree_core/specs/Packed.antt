@@ -10,6 +10,7 @@ use Rattle.rtree_core.specs.declared.node.Entry.{Entry}
 use Rattle.rtree_core.specs.declared.node.Node.{Node}
 use Rattle.split_core.specs.Collections.{HasSame}
 use Rattle.rtree_core.specs.Nodes.{entries_of, children_of, level_of, size_of, IsLawfulAt}
+use Rattle.rtree_core.specs.Packings.{IsPackingOf}
 use Rattle.rtree_core.specs.Trees.{IsTree}
 
 -- each node below this one, of this level, has at least four entries or children
@@ -65,4 +66,5 @@ pub record IsPackedTree (entries : List Entry) (root : Node) (height : ℕ) : Ty
   pub same : HasSame entries (entries_of root)
   pub tree : IsTree (Some root)
   pub packed : IsPacked root
+  pub packing : IsPackingOf entries root
   pub height_is : height ≡ level_of root + 1

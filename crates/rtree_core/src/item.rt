@@ -5,13 +5,17 @@ use split_core::measures::{Covered, cover_all};
 
 /// What a node holds: an entry, or a node of the level below.
 pub(crate) trait Item: Covered + Drop {
-    ghost use Rattle.std.specs.Prelude.{ℕ, List};
+    ghost use Rattle.std.specs.Prelude.{◌≡◌, ℕ, List};
     ghost use Rattle.rtree_core.specs.declared.node.Entry.{Entry};
+    ghost use Rattle.rtree_core.specs.declared.node.Node.{Node};
     ghost use Rattle.rtree_core.specs.Items.{IsNodeList, IsNodeOf};
     ghost use Rattle.rtree_core.specs.Packed.{IsPackedOf};
 
     // The entries below it.
     ghost entries: { Self → List Entry };
+
+    // The list of a node that holds such.
+    ghost list_of: { Node → List Self };
 
     // A node of this level may hold it.
     ghost fits: { ℕ → Self → Type 0 };
@@ -23,14 +27,19 @@ pub(crate) trait Item: Covered + Drop {
     fn node_of(page: Vec<Self>) -> Node
         requires { IsNodeList page }
         ensures node { IsNodeOf Self.cover entries fits page.items result }
+        ensures list { list_of result ≡ page.items }
         ensures packed { IsPackedOf fits_packed page.items result };
 }
 
 impl Item for Entry {
+    ghost use Rattle.std.specs.Prelude.{◌≡◌};
     ghost use Rattle.rtree_core.specs.Items.{entry_alone, FitsLeaf, IsNodeList, IsNodeOf};
+    ghost use Rattle.rtree_core.specs.Nodes.{own_entries};
     ghost use Rattle.rtree_core.specs.Packed.{IsPackedOf};
 
     ghost entries = { entry_alone };
+
+    ghost list_of = { own_entries };
 
     ghost fits = { FitsLeaf };
 
@@ -39,6 +48,7 @@ impl Item for Entry {
     fn node_of(page: Vec<Entry>) -> Node
         requires { IsNodeList page }
         ensures node { IsNodeOf (λ e. e.shape) entry_alone FitsLeaf page.items result }
+        ensures list { own_entries result ≡ page.items }
         ensures packed { IsPackedOf (λ _ _. Unit {0}) page.items result }
     {
         Node {
@@ -49,11 +59,14 @@ impl Item for Entry {
 }
 
 impl Item for Node {
+    ghost use Rattle.std.specs.Prelude.{◌≡◌};
     ghost use Rattle.rtree_core.specs.Items.{FitsInner, IsNodeList, IsNodeOf};
-    ghost use Rattle.rtree_core.specs.Nodes.{entries_of};
+    ghost use Rattle.rtree_core.specs.Nodes.{entries_of, children_of};
     ghost use Rattle.rtree_core.specs.Packed.{FitsPacked, IsPackedOf};
 
     ghost entries = { entries_of };
+
+    ghost list_of = { children_of };
 
     ghost fits = { FitsInner };
 
@@ -62,6 +75,7 @@ impl Item for Node {
     fn node_of(page: Vec<Node>) -> Node
         requires { IsNodeList page }
         ensures node { IsNodeOf (λ n. n.cover) entries_of FitsInner page.items result }
+        ensures list { children_of result ≡ page.items }
         ensures packed { IsPackedOf FitsPacked page.items result }
     {
         Node {

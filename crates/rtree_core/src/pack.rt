@@ -9,14 +9,16 @@
 
 ghost use Rattle.std.specs.Prelude.{◌≡◌, ℕ, ◌+◌, ◌<◌, ◌≤◌, ◌++◌, map, length};
 ghost use Rattle.std.specs.Prelude.{vec_len, vec_capacity, count_by, All, IfOk, OnOk};
+ghost use Rattle.std.specs.List.{enumerate_from};
 ghost use Rattle.std.specs.Vec.Iter.{into_iter_items, into_iter_len};
 ghost use Rattle.rtree_core.specs.Items.{FitsInner};
-ghost use Rattle.rtree_core.specs.Nodes.{entries_of};
+ghost use Rattle.rtree_core.specs.Nodes.{children_of, entries_of};
 ghost use Rattle.rtree_core.specs.Packed.{AreNodesOf, FitsPacked, IsNextPage, IsPackedTree};
 ghost use Rattle.rtree_core.specs.Packed.{IsShare};
+ghost use Rattle.rtree_core.specs.Packings.{pages_of, AreTilesOf};
 ghost use Rattle.rtree_core.specs.Trees.{has_number};
 ghost use Rattle.split_core.specs.Limits.{most};
-ghost use Rattle.split_core.specs.Tiles.{items_before};
+ghost use Rattle.split_core.specs.Tiles.{items_before, IsTileOrder};
 
 use crate::item::Item;
 use crate::node::{Entry, Node};
@@ -143,6 +145,10 @@ fn nodes_of<T: Packable>(alloc: Global, items: Vec<T>) -> Result<Vec<Placed>, Al
     ensures nodes { let held = map T.held items.items in
         let AreNodes = AreNodesOf T.Held.entries T.Held.fits T.Held.fits_packed held in
         IfOk result (λ v. AreNodes (map (λ p. p.node) v.items)) }
+    ensures pages { let pages = pages_of (map T.held items.items) in
+        IfOk result (λ v. map T.Held.list_of (map (λ p. p.node) v.items) ≡ pages) }
+    ensures places { IfOk result (λ v.
+        map (λ p. (p.place, p.node)) v.items ≡ enumerate_from 0 (map (λ p. p.node) v.items)) }
     ensures in_range { OnOk result (All T.in_range (map T.held items.items)) }
 {
     let pages = items.len().div_ceil(MOST);
@@ -159,9 +165,14 @@ fn nodes_of<T: Packable>(alloc: Global, items: Vec<T>) -> Result<Vec<Placed>, Al
 
 /// The nodes of the level above some nodes.
 fn level_above(alloc: Global, mut nodes: Vec<Placed>) -> Result<Vec<Placed>, AllocError>
-    ensures { let held = map (λ p. p.node) nodes.items in
+    ensures nodes { let held = map (λ p. p.node) nodes.items in
         let AreNodes = AreNodesOf entries_of FitsInner FitsPacked held in
         IfOk result (λ v. AreNodes (map (λ p. p.node) v.items)) }
+    ensures tiles { let AreTiles = AreTilesOf (λ p. p.node.cover) (λ p. p.place) (λ p. p.node)
+        children_of nodes.items in
+        IfOk result (λ v. AreTiles (map (λ p. p.node) v.items)) }
+    ensures places { IfOk result (λ v.
+        map (λ p. (p.place, p.node)) v.items ≡ enumerate_from 0 (map (λ p. p.node) v.items)) }
 {
     tile(&mut nodes);
     nodes_of(alloc, nodes)
@@ -171,6 +182,7 @@ fn level_above(alloc: Global, mut nodes: Vec<Placed>) -> Result<Vec<Placed>, All
 pub(crate) fn pack_entries(alloc: Global, entries: Vec<Entry>) -> Result<(Node, u32), AllocError>
     requires some { 0 < vec_len entries }
     requires distinct { (k : ℕ) → count_by (has_number k) entries.items ≤ 1 }
+    requires order { IsTileOrder (λ e. e.shape) (λ e. e.number) entries.items }
     ensures { IfOk result (λ r. IsPackedTree entries.items r.0 r.1) }
 {
     let mut nodes = nodes_of(alloc, entries)?;

@@ -47,7 +47,9 @@ impl RTree {
     ghost use Rattle.std.specs.Prelude.{◌≡◌, ◌↔◌, ℕ, ◌≤◌, None, count_by, length, IsTrue, IsFalse};
     ghost use Rattle.std.specs.Prelude.{Contains, OnOk, OnErr, IfOk, IfSome, option_copied};
     ghost use Rattle.split_core.specs.Collections.{HasSame, Gains};
+    ghost use Rattle.split_core.specs.Tiles.{IsTileOrder};
     ghost use Rattle.rtree_core.specs.Packed.{IsPacked};
+    ghost use Rattle.rtree_core.specs.Packings.{IsPackingOf};
     ghost use Rattle.rtree_core.specs.Trees.{entries_in, height_of, has_number, IsTree, IsFresh};
     ghost use Rattle.rtree_core.specs.Windows.{AllMet, AllFound};
     ghost use Rattle.std.specs.List.Sorted.{IsStrictlyIncreasing};
@@ -70,6 +72,7 @@ impl RTree {
     pub fn pack(alloc: Global, mut entries: Vec<Entry>) -> Result<RTree, AllocError>
         requires distinct { (k : ℕ) → count_by (has_number k) entries.items ≤ 1 }
         ensures entries { IfOk result (λ t. HasSame entries.items (entries_in t)) }
+        ensures packing { IfOk result (λ t. IfSome t (IsPackingOf entries.items)) }
         ensures packed { IfOk result (λ t. IfSome t IsPacked) }
     {
         tile(&mut entries);
@@ -87,6 +90,7 @@ impl RTree {
     ) -> Result<RTree, AllocError>
         requires distinct { (k : ℕ) → count_by (has_number k) entries.items ≤ 1 }
         ensures entries { IfOk result (λ t. HasSame entries.items (entries_in t)) }
+        ensures packing { IfOk result (λ t. IfSome t (IsPackingOf entries.items)) }
         ensures packed { IfOk result (λ t. IfSome t IsPacked) }
     {
         tile_by_threads(rt, threads, &mut entries);
@@ -96,7 +100,9 @@ impl RTree {
     /// The packed tree of entries that are in the order of their pages.
     fn from_pages(alloc: Global, entries: Vec<Entry>) -> Result<RTree, AllocError>
         requires distinct { (k : ℕ) → count_by (has_number k) entries.items ≤ 1 }
+        requires order { IsTileOrder (λ e. e.shape) (λ e. e.number) entries.items }
         ensures entries { IfOk result (λ t. HasSame entries.items (entries_in t)) }
+        ensures packing { IfOk result (λ t. IfSome t (IsPackingOf entries.items)) }
         ensures packed { IfOk result (λ t. IfSome t IsPacked) }
     {
         if entries.is_empty() {

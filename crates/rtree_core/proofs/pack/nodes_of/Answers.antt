@@ -1,19 +1,26 @@
-use Rattle.std.proofs.Common.{arith, ◌≡◌, ◌-◌, ap, map, length}
+use Rattle.std.proofs.Common.{arith, ◌≡◌, ℕ, ◌-◌, ap, sym, refl, map, length}
 use Rattle.std.proofs.lemmas.List.{length-map, map-append}
 use Rattle.std.specs.Vec.Iter.{into_iter_items}
 use Rattle.rtree_core.specs.declared.pack.Placed.{Placed}
 use Rattle.rtree_core.specs.declared.node.Node.{Node}
 use Rattle.rtree_core.specs.Packed.{IsShare}
+use Rattle.split_core.specs.Tiles.{items_before}
+use Rattle.rtree_core.proofs.PackingLemmas.{pages_none, pages_more, pages_all, enumerate_next}
 use Rattle.rtree_core.proofs.PackLemmas.{share_some, share_fits, cut_none, cut_more, cut_all, cut_in_range}
 use Rattle.rtree_core.proofs.pack.nodes_of.Goals as goal
 use Rattle.rtree_core.proofs.pack.nodes_of.Goals.{In_ok-nodes, After-page_size-size}
 
+left : (g : _) (c : After-page_size-size g) → length (map g.T.Packable.held (into_iter_items c.loop-place.rest)) ≡ c.len-in-loop-place.result
+left g c = omega (arith, c.len-in-loop-place.ensures, c.loop-place.rest.rest.ok.0, length-map (into_iter_items c.loop-place.rest) g.T.Packable.held)
+
 share : (g : _) (c : After-page_size-size g) →
     IsShare c.page_size-size.result (length (map g.T.Packable.held (into_iter_items c.loop-place.rest))) (c.div_ceil-pages.result - c.loop-place.place)
-share g c =
-    let len : length (map g.T.Packable.held (into_iter_items c.loop-place.rest)) ≡ c.len-in-loop-place.result = omega
-    (arith, c.len-in-loop-place.ensures, c.loop-place.rest.rest.ok.0, length-map (into_iter_items c.loop-place.rest) g.T.Packable.held) in
-    rw len c.page_size-size.ensures.share
+share g c = rw (left g c) c.page_size-size.ensures.share
+
+sized : (g : _) (c : After-page_size-size g) →
+    c.page_size-size.result ≡
+    items_before 1 (c.div_ceil-pages.result - c.loop-place.place) (length (map g.T.Packable.held (into_iter_items c.loop-place.rest)))
+sized g c = rw (left g c) c.page_size-size.ensures.value
 
 pub next_page-requires-clause-few : goal.next_page-requires-clause-few
 next_page-requires-clause-few g c =
@@ -46,6 +53,8 @@ loop-place-init g c = record {
   cut =
       rw c.in_ok-nodes.ensures.items
       (cut_none _ _ _ _ _ _ (omega (arith, counted g c, c.div_ceil-pages.ensures)));
+  pages = rw c.in_ok-nodes.ensures.items (pages_none _ _ _);
+  places = rw c.in_ok-nodes.ensures.items refl;
   room = c.in_ok-nodes.ensures.exact;
 }
 
@@ -59,6 +68,16 @@ loop-place-preserved g c =
           (cut_more _ _ _ _ _ _ _ _ _ _ c.in_ok-page.page.items _ c.node_of-node.result c.loop-place-test.true c.loop-place.invariant.cut
           c.in_ok-page.ensures.page.taken (rw (← c.in_ok-page.page.ok.0, c.in_ok-page.ensures.page.len) (share g at)) c.node_of-node.ensures.node
           c.node_of-node.ensures.packed c.in_ok-page.ensures.page.in_range);
+      pages =
+          let node : Placed → Node = λ p. p.node in
+          rw (c.push_reserved.ensures.items, map-append node)
+          (pages_more _ _ _ _ _ _ c.in_ok-page.page.items _ c.node_of-node.result c.loop-place-test.true c.loop-place.invariant.pages
+          c.in_ok-page.ensures.page.taken (rw (← c.in_ok-page.page.ok.0, c.in_ok-page.ensures.page.len) (sized g at)) c.node_of-node.ensures.list);
+      places =
+          let node : Placed → Node = λ p. p.node in
+          let pair : Placed → ℕ × Node = λ p. (p.place, p.node) in
+          rw (c.push_reserved.ensures.items, map-append node, map-append pair)
+          (enumerate_next _ _ _ _ (sym c.loop-place.invariant.cut.count) c.loop-place.invariant.places);
       room = omega (arith, c.push_reserved.ensures.capacity, c.loop-place.invariant.room);
     }
 
@@ -67,6 +86,12 @@ returns-clause-nodes g c =
     let all : c.loop-place.place ≡ c.div_ceil-pages.result = omega arith in
     let pages = rw (← counted g (goal.at.returns-clause-nodes g c).In_ok-nodes) at c.div_ceil-pages.ensures in
     rw c.into_iter-rest.ensures.rest at (cut_all _ _ _ _ _ c.div_ceil-pages.result _ _ pages (rw all at c.loop-place.invariant.cut))
+
+pub returns-clause-pages : goal.returns-clause-pages
+returns-clause-pages g c =
+    let all : c.loop-place.place ≡ c.div_ceil-pages.result = omega arith in
+    let pages = rw (← counted g (goal.at.returns-clause-pages g c).In_ok-nodes) at c.div_ceil-pages.ensures in
+    rw c.into_iter-rest.ensures.rest at (pages_all _ _ c.div_ceil-pages.result _ _ pages (rw all at c.loop-place.invariant.pages))
 
 pub returns-clause-in_range : goal.returns-clause-in_range
 returns-clause-in_range g c =

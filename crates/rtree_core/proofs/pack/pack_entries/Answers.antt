@@ -1,6 +1,7 @@
 use Rattle.std.proofs.Common.{arith, ◌≡◌, ◌≤◌, [], ◌∷◌, map, length}
 use Rattle.std.proofs.lemmas.List.{length-map, map-id}
 use Rattle.rtree_core.specs.declared.pack.Placed.{Placed}
+use Rattle.rtree_core.proofs.PackingLemmas.{leaves_of, nodes_above}
 use Rattle.rtree_core.proofs.PackLemmas.{row_first, row_next, row_root, fewer_above, only_one, few_entries}
 use Rattle.rtree_core.proofs.pack.pack_entries.Goals as goal
 
@@ -9,7 +10,9 @@ loop-alloc-init c =
     let made = rw map-id at c.in_ok-nodes.ensures.nodes in
     let few = few_entries _ c.requires.distinct (rw map-id at c.in_ok-nodes.ensures.in_range) in
     record {
-      row = row_first _ _ (omega (arith, c.requires.some, c.args.entries.ok.0)) made;
+      row = row_first _ _ (omega (arith, c.requires.some, c.args.entries.ok.0)) made
+          (leaves_of _ _ c.requires.order (rw map-id at c.in_ok-nodes.ensures.pages));
+      places = c.in_ok-nodes.ensures.places;
       small = omega (arith, made.count, few, c.args.entries.ok.0, c.in_ok-nodes.nodes.ok.0, length-map c.in_ok-nodes.nodes.items (λ (p : Placed). p.node));
     }
 
@@ -17,9 +20,11 @@ pub loop-alloc-preserved : goal.loop-alloc-preserved
 loop-alloc-preserved c =
     let many : 2 ≤ length (map (λ (p : Placed). p.node) c.loop-alloc.nodes.items) = omega
     (arith, c.len.ensures, c.loop-alloc-test.true, c.loop-alloc.nodes.ok.0, length-map c.loop-alloc.nodes.items (λ (p : Placed). p.node)) in
-    let fewer = fewer_above _ _ many c.in_ok-nodes-2.ensures in
+    let fewer = fewer_above _ _ many c.in_ok-nodes-2.ensures.nodes in
     record {
-      row = row_next _ _ _ _ many c.loop-alloc.invariant.row c.in_ok-nodes-2.ensures;
+      row = row_next _ _ _ _ many c.loop-alloc.invariant.row c.in_ok-nodes-2.ensures.nodes
+          (nodes_above _ _ _ c.loop-alloc.invariant.places c.in_ok-nodes-2.ensures.tiles);
+      places = c.in_ok-nodes-2.ensures.places;
       small = omega (
         arith,
         fewer,
