@@ -185,3 +185,10 @@ lawful_children n v e h =
       levels = children_level n v e h;
       covers = children_inside n v e h;
     }
+
+-- the same of what a call gave for the list of children
+pub given_entries : (n : Node) (v : Vec Node Global) (xs : List Node) → n.below ≡ made_children v → xs ≡ v.items → entries_of n ≡ flat_map entries_of xs
+given_entries n v xs is e = rw e (entries_inner n v (ap out-Below is ∙ outs-Children v))
+
+pub given_children : (n : Node) (v : Vec Node Global) (xs : List Node) → n.below ≡ made_children v → xs ≡ v.items → IsLawful n → AreLawfulChildren n xs
+given_children n v xs is e h = rw e (lawful_children n v is h)

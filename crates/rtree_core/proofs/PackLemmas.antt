@@ -1,7 +1,7 @@
 -- How a list of items is cut into the nodes of the level above, and what that makes of the whole.
-use Rattle.std.proofs.Common.{arith, ◌≡◌, ℕ, zero, suc, ◌+◌, ◌-◌, ◌*◌, ◌/◌, ◌%◌, ◌^◌, ◌<◌, ◌≤◌, Bool, cond, inl, inr, List, [], ◌∷◌, ◌++◌, min, length, refl}
+use Rattle.std.proofs.Common.{arith, ◌≡◌, ℕ, zero, suc, ◌+◌, ◌-◌, ◌*◌, ◌/◌, ◌%◌, ◌^◌, ◌<◌, ◌≤◌, Bool, cond, inl, inr, List, [], ◌∷◌, ◌++◌, map, min, length, refl}
 use Rattle.std.proofs.Common.{sym, ◌∙◌, ap, subst, append_assoc, append-nil, length-append, take, drop}
-use Rattle.std.specs.Prelude.{All, count_by, sum_by}
+use Rattle.std.specs.Prelude.{All, Option, IfSome, count_by, sum_by}
 use Rattle.std.specs.Int.{div_ceil}
 use Rattle.std.specs.List.{flat_map}
 use Rattle.std.specs.List.Sorted.{IsPermutation}
@@ -11,45 +11,76 @@ use Rattle.std.proofs.lemmas.Bool.Decides.{nat_tests}
 use Rattle.std.proofs.lemmas.List.{flat_map_more}
 use Rattle.std.proofs.lemmas.List.Concat.{flat_map-append}
 use Rattle.std.proofs.lemmas.List.Elements.{All-nil, All-head, All-tail, All-push, All-append}
-use Rattle.std.proofs.lemmas.List.Sorted.{All-permutation, sum_by-IsPermutation, length_permutation}
+use Rattle.std.proofs.lemmas.List.Sorted.{All-permutation, sum_by-IsPermutation, length_permutation, IsPermutation-map}
 use Rattle.std.proofs.lemmas.List.Sums.{sum_by-append, sum_by-cons}
 use Rattle.geom_core.specs.declared.shape.Shape.{Shape}
 use Rattle.split_core.specs.Limits.{most}
 use Rattle.split_core.specs.Tiles.{IsTileOrder}
 use Rattle.rtree_core.specs.declared.node.Entry.{Entry}
 use Rattle.rtree_core.specs.declared.node.Node.{Node}
+use Rattle.rtree_core.specs.declared.pack.Placed.{Placed}
 use Rattle.split_core.specs.Collections.{HasSame}
 use Rattle.rtree_core.specs.Items.{entry_alone, FitsLeaf, FitsInner, IsNodeOf}
-use Rattle.rtree_core.specs.Nodes.{entries_of, size_of, IsLawfulAt}
+use Rattle.rtree_core.specs.Nodes.{entries_of, children_of, size_of, IsLawfulAt}
 use Rattle.rtree_core.specs.Packed.{IsPackedAt, HasU32, FitsPacked, IsPackedOf, AreNodesOf, IsPackedTree, IsShare}
-use Rattle.rtree_core.specs.Packings.{AreLeavesOf, AreNodesAbove, IsPackedLevel}
+use Rattle.rtree_core.specs.Packings.{AreLeavesOf, AreNodesAbove, IsPackedLevel, IsPackingOf, AreTilesOf, pages_of}
 use Rattle.rtree_core.specs.Trees.{has_number}
+use Rattle.split_core.proofs.TileLemmas.{same_permuted}
 use Rattle.split_core.proofs.CoverLemmas.{All-front, All-back}
 use Rattle.rtree_core.proofs.NodeLemmas.{lawful_level, lawful_is}
 use Rattle.rtree_core.proofs.TreeLemmas.{all_below, count_below_n}
 use Rattle.rtree_core.proofs.ItemLemmas.{each_alone}
-use Rattle.rtree_core.proofs.PackingLemmas.{in_slice}
-
--- a list whose items were moved through the slice of all of them
-pub through_slice : {T : Type 0} (n : ℕ) (old new : List T) → n ≡ length old → IsPermutation old new → IsPermutation old (take n (new ++ drop (length new) old))
-through_slice n old new e perm = rw (in_slice n old new e perm) perm
-
-pub order_in_slice : {T : Type 0} (cover : T → Shape) (rank : T → ℕ) (n : ℕ) (old new : List T) →
-    n ≡ length old →
-    IsPermutation old new →
-    IsTileOrder cover rank new →
-    IsTileOrder cover rank (take n (new ++ drop (length new) old))
-order_in_slice cover rank n old new e perm order = subst (IsTileOrder cover rank) (sym (in_slice n old new e perm)) order
+use Rattle.rtree_core.proofs.PackingLemmas.{in_slice, tree_permuted}
 
 -- numbers that differ do so in another order
-pub distinct_permuted : (old new : List Entry) →
-    IsPermutation old new →
-    ((k : ℕ) → count_by (has_number k) old ≤ 1) →
-    (k : ℕ) →
-    count_by (has_number k) new ≤ 1
+distinct_permuted : (old new : List Entry) → IsPermutation old new → ((k : ℕ) → count_by (has_number k) old ≤ 1) → (k : ℕ) → count_by (has_number k) new ≤ 1
 distinct_permuted old new perm distinct k =
     let counted : Entry → ℕ = λ x. cond (has_number k x) 1 0 in
     omega (arith, distinct k, sum_by-IsPermutation counted old new perm)
+
+-- what becomes of a list whose items were put in order in the slice of all of them
+pub list_permuted : {T : Type 0} (n : ℕ) (old slice new : List T) →
+    slice ≡ old →
+    length slice ≡ n →
+    IsPermutation slice new →
+    IsPermutation old (take n (new ++ drop (length new) old))
+list_permuted n old slice new all len perm = rw (← all, in_slice n slice new (sym len) perm) perm
+
+pub list_tiled : {T : Type 0} (cover : T → Shape) (rank : T → ℕ) (n : ℕ) (old slice new : List T) →
+    slice ≡ old →
+    length slice ≡ n →
+    IsPermutation slice new →
+    IsTileOrder cover rank new →
+    IsTileOrder cover rank (take n (new ++ drop (length new) old))
+list_tiled cover rank n old slice new all len perm order =
+    subst (λ xs. IsTileOrder cover rank (take n (new ++ drop (length new) xs))) all
+    (subst (IsTileOrder cover rank) (sym (in_slice n slice new (sym len) perm)) order)
+
+pub list_distinct : (n : ℕ) (old slice new : List Entry) →
+    slice ≡ old →
+    length slice ≡ n →
+    IsPermutation slice new →
+    ((k : ℕ) → count_by (has_number k) old ≤ 1) →
+    (k : ℕ) →
+    count_by (has_number k) (take n (new ++ drop (length new) old)) ≤ 1
+list_distinct n old slice new all len perm distinct = distinct_permuted old _ (list_permuted n old slice new all len perm) distinct
+
+-- and what a tree of it is one of
+pub list_same : (n : ℕ) (old slice new others : List Entry) →
+    slice ≡ old →
+    length slice ≡ n →
+    IsPermutation slice new →
+    HasSame (take n (new ++ drop (length new) old)) others →
+    HasSame old others
+list_same n old slice new others all len perm same = same_permuted _ _ others (list_permuted n old slice new all len perm) same
+
+pub list_packed : (n : ℕ) (old slice new : List Entry) (root : Option Node) →
+    slice ≡ old →
+    length slice ≡ n →
+    IsPermutation slice new →
+    IfSome root (IsPackingOf (take n (new ++ drop (length new) old))) →
+    IfSome root (IsPackingOf old)
+list_packed n old slice new root all len perm packed = tree_permuted _ _ root (list_permuted n old slice new all len perm) packed
 
 -- the last item of a list of one
 pub only_one : {T : Type 0} (all front : List T) (x : T) → all ≡ front ++ x ∷ [] → length all ≤ 1 → all ≡ x ∷ []
@@ -233,6 +264,31 @@ module _ {K : Type 0} (entries : K → List Entry) (fits fits_packed : ℕ → K
         lawful = λ level h. made.lawful level (All-permutation (fits level) unsorted items perm h);
         packed = λ level h. made.packed level (All-permutation (fits_packed level) unsorted items perm h);
       }
+
+-- the nodes above a list of nodes that were put in order in the slice of all of them
+pub level_nodes : (n : ℕ) (old slice new : List Placed) (above : List Node) →
+    slice ≡ old →
+    length slice ≡ n →
+    IsPermutation slice new →
+    AreNodesOf entries_of FitsInner FitsPacked (map (λ p. p.node) (take n (new ++ drop (length new) old))) above →
+    AreNodesOf entries_of FitsInner FitsPacked (map (λ p. p.node) old) above
+level_nodes n old slice new above all len perm made =
+    let node : Placed → Node = λ p. p.node in
+    nodes_of_sorted entries_of FitsInner FitsPacked (λ _. Unit {0}) _ _ above (IsPermutation-map node _ _ (list_permuted n old slice new all len perm)) made
+
+pub level_tiles : (n : ℕ) (old slice new : List Placed) (above : List Node) →
+    slice ≡ old →
+    length slice ≡ n →
+    IsPermutation slice new →
+    IsTileOrder (λ p. p.node.cover) (λ p. p.place) new →
+    map children_of above ≡ pages_of (map (λ p. p.node) (take n (new ++ drop (length new) old))) →
+    AreTilesOf (λ p. p.node.cover) (λ p. p.place) (λ p. p.node) children_of old above
+level_tiles n old slice new above all len perm order pages = record {
+  tiled = take n (new ++ drop (length new) old);
+  same = list_permuted n old slice new all len perm;
+  order = list_tiled (λ p. p.node.cover) (λ p. p.place) n old slice new all len perm order;
+  pages = pages;
+}
 
 -- all nodes of a level of the tree, with the height of the tree up to it
 pub record IsRow (all : List Entry) (nodes : List Node) (height : ℕ) : Type 0 where
