@@ -1,12 +1,12 @@
 -- What taking an entry out leaves of a node, from what it leaves of the node's list.
 use Rattle.std.proofs.Common.{arith, ◌≡◌, ℕ, suc, ◌+◌, ◌<◌, ◌≤◌, Bool, cond, List, [], ◌∷◌, ◌++◌, length, get_or, set, take, drop, sym, ◌∙◌, ap, subst}
-use Rattle.std.proofs.Common.{length-append, length-set, get_or-set_same, vec_len, vec_capacity, inl, inr}
-use Rattle.std.specs.Prelude.{count_by, sum_by, remove}
+use Rattle.std.proofs.Common.{true, false, refl, length-append, length-set, get_or-set_same, vec_len, vec_capacity, inl, inr}
+use Rattle.std.specs.Prelude.{count_by, sum_by, remove, Contains, IsTrue, ◌↔◌}
 use Rattle.std.specs.List.{flat_map}
 use Rattle.std.specs.Vec.{with_items}
 use Rattle.std.specs.declared.alloc.Global.{Global}
 use Rattle.std.specs.declared.vec.Vec.{Vec}
-use Rattle.std.proofs.lemmas.Bool.{cases_lt}
+use Rattle.std.proofs.lemmas.Bool.{cases_lt, false≢true}
 use Rattle.std.proofs.lemmas.List.{append-nil, get_or_append_left, get_or_default, get_or_push, take-set, drop-set-lt, with_items_is}
 use Rattle.std.proofs.lemmas.List.Concat.{flat_map-append}
 use Rattle.std.proofs.lemmas.List.Elements.{All-set, All-get_or}
@@ -24,7 +24,7 @@ use Rattle.rtree_core.proofs.NodeLemmas.{lawful_level}
 use Rattle.split_core.proofs.SplitLemmas.{All-remove}
 use Rattle.rtree_core.proofs.ItemLemmas.{leaf_entries, leaf_level, leaf_lawful, leaf_size, inner_entries, inner_size, count_below, Opened, child_level}
 
-pub leaf_taken : (c d : Shape) (v w : Vec Entry Global) (e : Entry) (p : ℕ) →
+leaf_taken : (c d : Shape) (v w : Vec Entry Global) (e : Entry) (p : ℕ) →
     IsPage (λ x. x.shape) c v →
     IsPlaceOf v.items e p →
     2 ≤ vec_len v →
@@ -45,6 +45,30 @@ leaf_taken c d v w e p page at two items len room tight = record {
   up_to_here = λ h. sym (leaf_level c v);
   are_aside = λ k b h. absurd (omega arith);
 }
+
+-- whether a leaf holds an entry, and what taking it out leaves, where its list was read as these
+pub leaf_holds : (c : Shape) (v : Vec Entry Global) (e : Entry) (p : ℕ) (xs : List Entry) → xs ≡ v.items → IsPlaceOf xs e p →
+    IsTrue true ↔ Contains (entries_of (leaf_node c v)) e
+leaf_holds c v e p xs read at = rw (leaf_entries c v, ← read) (λ h. (p, at.inside, at.there), λ h. refl)
+
+pub leaf_lacks : (c : Shape) (v : Vec Entry Global) (e : Entry) (xs : List Entry) → xs ≡ v.items → (Contains xs e → ⊥) →
+    IsTrue false ↔ Contains (entries_of (leaf_node c v)) e
+leaf_lacks c v e xs read none = rw (leaf_entries c v, ← read) (λ h. absurd (false≢true h), λ h. absurd (none h))
+
+pub leaf_taken_from : (c : Shape) (v : Vec Entry Global) (e : Entry) (p : ℕ) (xs : List Entry) →
+    IsPage (λ x. x.shape) c v →
+    2 ≤ vec_len v →
+    xs ≡ v.items →
+    IsPlaceOf xs e p →
+    (d : Shape) (w : Vec Entry Global) (ys : List Entry) →
+    w.items ≡ remove v.items p →
+    vec_len w + 1 ≡ vec_len v →
+    vec_capacity w ≡ vec_capacity v →
+    ys ≡ w.items →
+    IsLeastCover (λ x. x.shape) ys d →
+    IsTakenOut e (leaf_node c v) (leaf_node d w) []
+leaf_taken_from c v e p xs page two read at d w ys items len room left tight =
+    leaf_taken c d v w e p page (rw read at at) two items len (omega (arith, page.room)) (rw left at tight)
 
 -- what was written into a list of nodes from one of which the entry was taken out, told of the node that stands there
 pub record Written (e : Entry) (v w : Vec Node Global) (aside : List Node) (p : ℕ) (y : Node) : Type 0 where

@@ -5,13 +5,16 @@ use Rattle.std.proofs.lemmas.Nat.{mul-le}
 use Rattle.std.proofs.lemmas.List.Elements.{All-push, All-cons, All-nil}
 use Rattle.std.proofs.lemmas.List.Sums.{sum_by-append}
 use Rattle.geom_core.specs.declared.shape.Shape.{Shape}
+use Rattle.std.specs.declared.alloc.Global.{Global}
+use Rattle.std.specs.declared.vec.Vec.{Vec}
 use Rattle.rtree_core.specs.declared.node.Entry.{Entry}
 use Rattle.rtree_core.specs.declared.node.Node.{Node}
 use Rattle.rtree_core.specs.declared.trunk.Trunk.{Trunk}
 use Rattle.rtree_core.specs.Insertions.{StaysOne, ComesInTwo}
 use Rattle.rtree_core.specs.Items.{entry_alone, FitsLeaf, FitsInner, IsNodeOf}
 use Rattle.rtree_core.specs.Nodes.{entries_of, level_of, size_of, IsLawfulAt}
-use Rattle.rtree_core.specs.Spares.{AreSpare, IsSpent}
+use Rattle.rtree_core.specs.Spares.{AreSpare, IsSpare, IsSpent}
+use Rattle.split_core.specs.Splits.{IsRoom}
 use Rattle.rtree_core.specs.Trees.{entries_in, height_of, IsRoot}
 use Rattle.rtree_core.specs.Trunks.{IsSound, CanTake, HasTakenIn, HasGrownBy}
 use Rattle.rtree_core.proofs.NodeLemmas.{lawful_level, lawful_is}
@@ -45,7 +48,7 @@ some_of None P h = absurd h
 some_of (Some m) P h = (m, refl, h)
 
 -- an entry came into a tree that had none
-pub planted : (x : Entry) (old new : Trunk) (n : Node) →
+planted : (x : Entry) (old new : Trunk) (n : Node) →
     old.root ≡ None →
     new.root ≡ Some n →
     new.height ≡ 1 →
@@ -70,6 +73,24 @@ planted x old new n none is one node lists sound leaf inner =
       spent = λ k e. can_take_after k old new (omega arith) leaf (omega arith) e;
       rooted = λ h. rw is (record { lawful = lawful_is 0 n lawful; two = λ above. absurd (omega arith) });
     }
+
+-- the same, where the node's list was taken from the spare ones
+pub planted_from : (x : Entry) (old new : Trunk) (n : Node) (list page : Vec Entry Global) →
+    old.root ≡ None →
+    IsSound old →
+    new.root ≡ Some n →
+    new.height ≡ 1 →
+    IsRoom list →
+    page.items ≡ list.items ++ x ∷ [] →
+    IsNodeOf (λ e. e.shape) entry_alone FitsLeaf page.items n →
+    IsSpare new.spare.leaves.items →
+    vec_len new.spare.leaves + 1 ≡ vec_len old.spare.leaves →
+    new.spare.inners ≡ old.spare.inners →
+    HasTakenIn 1 (x ∷ []) old new
+planted_from x old new n list page none sound is one room pushed node leaves taken inners =
+    let items : page.items ≡ x ∷ [] = pushed ∙ ap (λ xs. xs ++ x ∷ []) room.empty in
+    planted x old new n none is one (rw items at node) (record { leaves = leaves; inners = rw inners sound.lists.inners }) sound (omega arith)
+    (rw inners (omega arith))
 
 module _ (added : List Entry) (shape : Shape) (old : Trunk) (n : Node) (is : old.root ≡ Some n) (sound : IsSound old) where
   height : old.height ≡ level_of n + 1
