@@ -1,10 +1,18 @@
-use Rattle.std.proofs.Common.{[], ◌∷◌}
+use Rattle.std.proofs.Common.{rules, ◌≡◌, Bool, [], ◌∷◌}
+use Rattle.std.specs.Prelude.{IsTrue, ◌↔◌}
+use Rattle.geom_core.specs.declared.shape.Shape.{Shape}
+use Rattle.geom_core.specs.Cells.{Meets}
+use Rattle.rtree_core.specs.declared.node.Node.{Node}
 use Rattle.std.proofs.lemmas.Bool.{false≢true}
 use Rattle.geom_core.specs.JoinRelations.{relation_of}
 use Rattle.rtree_core.specs.Nodes.{entries_of, node_cover}
 use Rattle.descent_core.proofs.FindLemmas.{adds_no_lefts, adds_more_left, adds_apart, entries_in_cover, entry_in_itself}
 use Rattle.descent_core.proofs.rows.push_entries.Goals as goal
 use Rattle.descent_core.proofs.rows.push_entries.Goals.{then-meets+in_ok-push_beside, else-meets}
+
+-- what was found of a cover that is a node's
+meets_node : (s c : Shape) (n : Node) (b : Bool) → c ≡ node_cover n → IsTrue b ↔ Meets s c → IsTrue b ↔ Meets s (node_cover n)
+meets_node s c n b is found = rw is at found
 
 pub loop-left-init : goal.loop-left-init
 loop-left-init c = adds_no_lefts (relation_of c.args.relation.now) (entries_of c.args.right.now) c.args.found.now.items
@@ -14,7 +22,7 @@ loop-left-preserved c =
     let relation = relation_of c.args.relation.now in
     let left = c.left-item.result in
     let right = c.args.right.now in
-    let meets = rw c.cover.ensures.value at c.meets.ensures in
+    let meets : IsTrue c.meets.result ↔ Meets left.shape (node_cover right) = search (rules, meets_node) in
     elim c.if-meets.branch [
       | then-meets+in_ok-push_beside w ↦
           rw w.found-is (adds_more_left relation c.args.lefts.now (entries_of right) c.loop-left.left-index left _ _ _ c.loop-left-test.true c.left-item.is
