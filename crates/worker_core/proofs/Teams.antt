@@ -49,10 +49,10 @@ all_last : {X : Type 0} (P : X → Type 0) (xs : List X) (x : X) → All P (xs +
 all_last P xs x all = subst P (get_or-append_seam xs x [] x) (all (length xs) x (omega (arith, length-append xs (x ∷ []))))
 
 -- the next worker's seat and port
-pub is_beside : (board : BoardValue) (outlet : Outlet) (old new : Team) (seat : SeatValue) (port : Port) → old.ports.items ≡ new.ports.items ++ port ∷ []
-    → old.seats.items ≡ new.seats.items ++ seat ∷ [] → new.gathering ≡ old.gathering → vec_capacity new.seats ≡ vec_capacity old.seats
-    → length old.seats.items ≤ vec_capacity old.seats → IsReady board outlet old → IsBeside board outlet new seat port
-is_beside board outlet old new seat port ports seats gathering capacity room h =
+pub is_beside : (board : BoardValue) (outlet : Outlet) (old new : Team) (seat : SeatValue) (port : Port) → IsReady board outlet old
+    → old.ports.items ≡ new.ports.items ++ port ∷ [] → old.seats.items ≡ new.seats.items ++ seat ∷ [] → new.gathering ≡ old.gathering
+    → vec_capacity new.seats ≡ vec_capacity old.seats → length old.seats.items ≤ vec_capacity old.seats → IsBeside board outlet new seat port
+is_beside board outlet old new seat port h ports seats gathering capacity room =
     let longer : length old.ports.items ≡ length new.ports.items + 1 = ap length ports ∙ length-append new.ports.items (port ∷ []) in
     let longer_seats : length old.seats.items ≡ length new.seats.items + 1 = ap length seats ∙ length-append new.seats.items (seat ∷ []) in
     let counts : port_count new.gathering.tap ≡ port_count old.gathering.tap = ap (λ g. port_count g.tap) gathering in

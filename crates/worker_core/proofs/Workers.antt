@@ -1,5 +1,5 @@
 -- scripts of tasks, one list after another
-use Rattle.std.proofs.Common.{◌≡◌, Bool, ℕ, ◌<◌, true, List, [], ◌∷◌, ◌++◌, map, Result, IfOk, IfErr, is_ok, refl, sym, ap, ap₂, ◌∙◌, append_assoc, append-nil}
+use Rattle.std.proofs.Common.{◌≡◌, Bool, ℕ, ◌<◌, true, false, List, [], ◌∷◌, ◌++◌, map, Result, IfOk, IfErr, is_ok, refl, sym, ap, ap₂, ◌∙◌, append_assoc, append-nil}
 use Rattle.std.specs.declared.alloc.AllocError.{AllocError}
 use Rattle.std.proofs.lemmas.Grind.{flat_map-append}
 use Rattle.std.proofs.lemmas.List.{map-append}
@@ -10,12 +10,14 @@ use Rattle.rtree_core.specs.declared.node.Node.{Node}
 use Rattle.deliver_core.specs.declared.port.Port.{Port}
 use Rattle.deliver_core.specs.declared.outlet.Outlet.{Outlet}
 use Rattle.deliver_core.specs.Boards.{BoardValue, SeatValue, IsSeatOf, IsAfterNumber}
-use Rattle.deliver_core.specs.OutletCalls.{bye_of}
-use Rattle.deliver_core.specs.Ports.{index_of, sent_by}
+use Rattle.deliver_core.specs.OutletCalls.{bye_of, IsEndedPort}
+use Rattle.deliver_core.specs.Ports.{index_of, is_spent, sent_by}
 use Rattle.deliver_core.specs.Scripts.{Content, script, content_of}
+use Rattle.worker_core.specs.declared.working.Worked.{Worked}
 use Rattle.worker_core.specs.Sending.{said_by, StaysOpen, Says, SaysPart}
-use Rattle.worker_core.specs.Workers.{IsRowIn, AreScripts, BeginScripts, SaysScripts, SaysBeginning, WorkerSays, IsSeatBelow}
-use Rattle.worker_core.proofs.Results.{ok_weaker, match_ok}
+use Rattle.worker_core.specs.Terms.{Terms}
+use Rattle.worker_core.specs.Workers.{IsRowIn, AreScripts, BeginScripts, SaysScripts, SaysBeginning, WorkerSays, IsSeatBelow, ComesBack}
+use Rattle.worker_core.proofs.Results.{ok_weaker, match_ok, done_where_ok}
 
 module _ (relation : Relation) (plan : List (Node × Node)) (size : ℕ) where
   pub no_scripts : AreScripts relation plan size [] []
@@ -53,37 +55,37 @@ module _ (relation : Relation) (plan : List (Node × Node)) (size : ℕ) where
 
   -- what a port says of one task
   pub says_nothing : (task : ℕ) (port : Port) → SaysBeginning relation plan size (task ∷ []) port port
-  says_nothing task port = (
-    [],
-    record { first = []; are_first = (task ∷ [], refl); whole = []; scripts = no_scripts; begins = ([], refl) },
-    sym (append-nil (said_by port)),
-  )
+  says_nothing task port = record {
+    more = [];
+    scripts = record { first = []; are_first = (task ∷ [], refl); whole = []; scripts = no_scripts; begins = ([], refl) };
+    says = sym (append-nil (said_by port));
+  }
 
-  pub says_one : (task : ℕ) (row : List (ℕ × ℕ)) (old new : Port) → IsRowIn relation plan (task, row) → Says old new (script task size row)
-      → SaysScripts relation plan size (task ∷ []) old new
-  says_one task row old new is says = (script task size row, one_script task row is, says)
+  pub says_one : (task : ℕ) (items row : List (ℕ × ℕ)) (old new : Port) → Says old new (script task size row) → row ≡ items
+      → IsRowIn relation plan (task, items) → SaysScripts relation plan size (task ∷ []) old new
+  says_one task items row old new says same is = record { more = script task size row; scripts = one_script task row (rw same is); says = says }
 
-  pub says_part_of_one : (task : ℕ) (row : List (ℕ × ℕ)) (old new : Port) → IsRowIn relation plan (task, row) → SaysPart old new (script task size row)
-      → SaysBeginning relation plan size (task ∷ []) old new
-  says_part_of_one task row old new is says = (
-    says.0,
-    record { first = task ∷ []; are_first = ([], refl); whole = script task size row; scripts = one_script task row is; begins = says.1 },
-    says.2,
-  )
+  pub says_part_of_one : (task : ℕ) (items row : List (ℕ × ℕ)) (old new : Port) → SaysPart old new (script task size row) → row ≡ items
+      → IsRowIn relation plan (task, items) → SaysBeginning relation plan size (task ∷ []) old new
+  says_part_of_one task items row old new says same is = record {
+    more = says.0;
+    scripts = record { first = task ∷ []; are_first = ([], refl); whole = script task size row; scripts = one_script task row (rw same is); begins = says.1 };
+    says = says.2;
+  }
 
   -- what a port has said, once it says more
   pub said_more : (drawn drawn' ms : List ℕ) (old new : Port) → drawn' ≡ drawn ++ ms → AreScripts relation plan size drawn (said_by old)
       → SaysScripts relation plan size ms old new → AreScripts relation plan size drawn' (said_by new)
   said_more drawn drawn' ms old new grown so_far more =
-      rw (grown, more.2) (join_scripts drawn ms (said_by old) more.0 so_far more.1)
+      rw (grown, more.says) (join_scripts drawn ms (said_by old) more.more so_far more.scripts)
 
   pub said_part : (drawn drawn' ms : List ℕ) (old new : Port) → drawn' ≡ drawn ++ ms → AreScripts relation plan size drawn (said_by old)
       → SaysBeginning relation plan size ms old new → BeginScripts relation plan size drawn' (said_by new)
   said_part drawn drawn' ms old new grown so_far more =
-      rw (grown, more.2) (join_beginning drawn ms (said_by old) more.0 so_far more.1)
+      rw (grown, more.says) (join_beginning drawn ms (said_by old) more.more so_far more.scripts)
 
   -- what it has said besides its Bye, by how its work ended
-  pub worker_says : (drawn : List ℕ) (done ok : Bool) (before after : Port) (worked : Result (Unit {0}) AllocError)
+  worker_says : (drawn : List ℕ) (done ok : Bool) (before after : Port) (worked : Result (Unit {0}) AllocError)
       → sent_by after ≡ sent_by before ++ bye_of (index_of before) ok ∷ [] → ok ≡ is_ok worked
       → IfOk worked (λ x. (done ≡ true) × AreScripts relation plan size drawn (said_by before))
       → IfErr worked (λ x. BeginScripts relation plan size drawn (said_by before))
@@ -94,6 +96,23 @@ module _ (relation : Relation) (plan : List (Node × Node)) (size : ℕ) where
     scripts = match_ok (AreScripts relation plan size drawn (said_by before)) (BeginScripts relation plan size drawn (said_by before)) worked ok is
         (ok_weaker (λ h. h.1) worked all) part;
   }
+
+-- a worker that has worked and said bye comes back
+pub comes_back : (terms : Terms) (index : ℕ) (w : Worked) (before : Port) (worked : Result (Unit {0}) AllocError) → w.ok ≡ is_ok worked
+    → IfOk worked (λ x. (w.seat.done ≡ true) × AreScripts terms.relation terms.plan terms.size w.seat.drawn (said_by before))
+    → IfErr worked (λ x. BeginScripts terms.relation terms.plan terms.size w.seat.drawn (said_by before))
+    → IsSeatBelow terms.board w.seat → index_of before ≡ index → IsEndedPort terms.outlet w.port → is_spent w.port ≡ false
+    → index_of w.port ≡ index_of before → sent_by w.port ≡ sent_by before ++ bye_of (index_of before) w.ok ∷ [] → ComesBack terms index w
+comes_back terms index w before worked is all part seat at ended unmet same sent = record {
+  says = worker_says terms.relation terms.plan terms.size w.seat.drawn w.seat.done w.ok before w.port worked sent is all part;
+  seat = seat;
+  done = λ ok. done_where_ok (w.seat.done ≡ true) (AreScripts terms.relation terms.plan terms.size w.seat.drawn (said_by before)) worked
+      (sym is ∙ ok) all;
+  port = record { ended = ended; unmet = unmet; index_is = same ∙ at };
+}
+
+-- a task's script was sent, or a beginning of it
+pub ruleset task_said = (says_nothing, says_one, says_part_of_one)
 
 pub seat_gains : (board : BoardValue) (old new : SeatValue) (number : ℕ) → IsSeatBelow board old → IsSeatOf board new → IsAfterNumber board old new number
     → IsSeatBelow board new

@@ -37,14 +37,18 @@ pub record BeginScripts (relation : Relation) (plan : List (Node × Node)) (size
   pub begins : IsPrefix said whole
 
 -- the port has said the scripts of these tasks besides
-abbrev pub SaysScripts : Relation → List (Node × Node) → ℕ → List ℕ → Port → Port → Type 0
-SaysScripts relation plan size numbers old new =
-    (more : List Content) × AreScripts relation plan size numbers more × Says old new more
+pub record SaysScripts (relation : Relation) (plan : List (Node × Node)) (size : ℕ)
+    (numbers : List ℕ) (old new : Port) : Type 0 where
+  pub more : List Content
+  pub scripts : AreScripts relation plan size numbers more
+  pub says : Says old new more
 
 -- the port has said a beginning of the scripts of these tasks besides
-abbrev pub SaysBeginning : Relation → List (Node × Node) → ℕ → List ℕ → Port → Port → Type 0
-SaysBeginning relation plan size numbers old new =
-    (more : List Content) × BeginScripts relation plan size numbers more × Says old new more
+pub record SaysBeginning (relation : Relation) (plan : List (Node × Node)) (size : ℕ)
+    (numbers : List ℕ) (old new : Port) : Type 0 where
+  pub more : List Content
+  pub scripts : BeginScripts relation plan size numbers more
+  pub says : Says old new more
 
 -- what a worker says, given which numbers its seat drew and whether it is ok: where it is, the
 -- scripts of these tasks, in that order, else a beginning of them; and then its bye

@@ -70,6 +70,7 @@ pub fn worker<'a, R: Threads + Wait + Sync>(
 }
 
 /// The same, given what has the tasks' rows.
+#[tactic(auto, using(crate::proofs::Workers::comes_back))]
 pub(crate) fn work<R: Threads + Wait + Sync, P: Rows, G: Gate>(
     rt: &R,
     alloc: Global,
@@ -120,6 +121,7 @@ fn work_off<R: Threads + Wait + Sync, P: Rows, G: Gate>(
 }
 
 /// Sends the script of one task.
+#[tactic(auto, using(crate::proofs::Workers::task_said))]
 fn send_task<R: Wait, P: Rows, G>(
     rt: &R,
     alloc: Global,
