@@ -1,5 +1,5 @@
 -- A descent's pairs, once they are sorted, are the row of a task.
-use Rattle.std.proofs.Common.{arith, ◌≡◌, ℕ, zero, suc, ◌+◌, ◌*◌, ◌<◌, ◌≤◌, false, cond, List, [], length, get_or, refl, sym, subst, add-one, inl, inr}
+use Rattle.std.proofs.Common.{arith, ◌≡◌, ℕ, zero, suc, ◌+◌, ◌*◌, ◌<◌, ◌≤◌, false, cond, List, [], length, get_or, refl, sym, ap, ◌∙◌, ◌++◌, subst, add-one, inl, inr}
 use Rattle.std.specs.Prelude.{◌⊎◌, ◌==◌, ◌&&◌, AllPairs, count_by}
 use Rattle.std.specs.Ordering.{nat_cmp, ordering_then, is_lt}
 use Rattle.std.specs.declared.cmp.Ordering.{Ordering}
@@ -13,6 +13,7 @@ use Rattle.geom_core.specs.declared.relation.Relation.{Relation}
 use Rattle.rtree_core.specs.declared.node.Node.{Node}
 use Rattle.rtree_core.specs.Nodes.{entries_of}
 use Rattle.rtree_core.specs.Trees.{has_number}
+use Rattle.descent_core.specs.Plans.{IsTask}
 use Rattle.descent_core.specs.Rows.{Precedes, IsRow}
 use Rattle.descent_core.specs.Shares.{is_pair}
 use Rattle.descent_core.specs.Finds.{Finds, Adds}
@@ -91,22 +92,17 @@ at_most_product (suc zero) b h k = omega arith
 at_most_product (suc (suc a)) b h k = absurd (omega arith)
 
 -- the pairs found from nothing, sorted
-pub sorted_row : (relation : Relation) (task : Node × Node) (found sorted : List (ℕ × ℕ)) →
-    ((k : ℕ) → count_by (has_number k) (entries_of task.0) ≤ 1) →
-    ((k : ℕ) → count_by (has_number k) (entries_of task.1) ≤ 1) →
-    Adds relation (entries_of task.0) (entries_of task.1) [] found →
-    IsPermutation found sorted →
-    IsSorted pair_cmp sorted →
-    IsRow relation task sorted
-sorted_row relation task found sorted left right adds same up =
+pub sorted_row : (relation : Relation) (task : Node × Node) (old found sorted : List (ℕ × ℕ)) → IsTask task → old ≡ []
+    → Adds relation (entries_of task.0) (entries_of task.1) old found → IsPermutation found sorted → IsSorted pair_cmp sorted → IsRow relation task sorted
+sorted_row relation task old found sorted is none adds same up =
     let finds : Finds relation (entries_of task.0) (entries_of task.1) found =
-    subst (Finds relation (entries_of task.0) (entries_of task.1)) (sym adds.items) adds.finds in
+    subst (Finds relation (entries_of task.0) (entries_of task.1)) (sym (adds.items ∙ ap (λ l. l ++ adds.found) none)) adds.finds in
     record {
       ascending = all_ascend sorted up
           (λ p. omega (
             arith,
             finds.once p,
-            at_most_product (count_by (has_number p.0) (entries_of task.0)) (count_by (has_number p.1) (entries_of task.1)) (left p.0) (right p.1),
+            at_most_product (count_by (has_number p.0) (entries_of task.0)) (count_by (has_number p.1) (entries_of task.1)) (is.left_once p.0) (is.right_once p.1),
             sum_by-IsPermutation (λ q. cond {A = ℕ} (is_pair p q) 1 0) found sorted same,
           ));
       exact = λ pair. (
