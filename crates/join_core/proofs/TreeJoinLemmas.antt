@@ -4,6 +4,8 @@ use Rattle.std.specs.List.{flat_map}
 use Rattle.std.specs.List.Sorted.{IsSorted, IsPermutation}
 use Rattle.std.proofs.lemmas.List.Sorted.{sum_by-IsPermutation, Contains-permutation, IsPermutation-sym}
 use Rattle.geom_core.specs.declared.relation.Relation.{Relation}
+use Rattle.geom_core.specs.declared.join_relation.JoinRelation.{JoinRelation}
+use Rattle.geom_core.specs.JoinRelations.{relation_of, forbids_disjoint}
 use Rattle.geom_core.specs.Relations.{Holds, ForbidsDisjoint}
 use Rattle.rtree_core.specs.declared.node.Entry.{Entry}
 use Rattle.rtree_core.specs.declared.node.Node.{Node}
@@ -15,8 +17,7 @@ use Rattle.descent_core.specs.Rows.{StandIn as EntriesStandIn}
 use Rattle.descent_core.specs.Shares.{is_pair, IsJoin, RowsJoin}
 use Rattle.descent_core.proofs.RowLemmas.{all_ascend}
 use Rattle.deliver_core.specs.Collectors.{Delivery, pair_cmp}
-use Rattle.worker_core.specs.declared.fault.JoinFault.{JoinFault}
-use Rattle.worker_core.specs.Deliveries.{AreMarks, IsDelivered}
+use Rattle.worker_core.specs.Deliveries.{IsDelivered}
 use Rattle.join_core.specs.Joins.{StandIn, IsJoinList, RowsAreJoinList, HasMarks}
 use Rattle.join_core.proofs.JoinLemmas.{held_by_number, listed_by_number}
 use Rattle.join_core.proofs.TreeWindowLemmas.{same-contains, feature_of, entry_of}
@@ -74,28 +75,30 @@ pub rows_are_list : {E : Type 0} (left right : Contents) (left_root right_root l
     → IfOk out (RowsAreJoinList left right)
 rows_are_list left right left_root right_root left_tree right_tree (Err e) left_layer right_layer left_holds right_holds left_is right_is join = tt
 rows_are_list left right left_root right_root left_tree right_tree (Ok tasks) left_layer right_layer left_holds right_holds left_is right_is join =
-    λ relation rows pairs forbids are same up.
-    sorted_join relation left right left_tree right_tree left_layer right_layer (subst (HoldsExactly left) (sym left_is) left_holds)
-    (subst (HoldsExactly right) (sym right_is) right_holds) (flat_map (λ row. row) rows) pairs (join relation forbids rows are) same up
+    record {
+      list = λ relation rows pairs forbids are same up.
+          sorted_join relation left right left_tree right_tree left_layer right_layer (subst (HoldsExactly left) (sym left_is) left_holds)
+          (subst (HoldsExactly right) (sym right_is) right_holds) (flat_map (λ row. row) rows) pairs (join relation forbids rows are) same up;
+    }
 
 -- what workers have delivered of a plan's rows
-pub delivered_list : (left right : Contents) (tasks : List (Node × Node)) (relation : Relation) (size : ℕ) (out : Result Delivery JoinFault)
-    → RowsAreJoinList left right tasks → ForbidsDisjoint relation → IfOk out (IsDelivered relation tasks size)
-    → IfOk out (λ outcome. IsJoinList relation left right outcome.pairs)
-delivered_list left right tasks relation size (Ok outcome) list forbids d = list relation d.rows outcome.pairs forbids d.are_rows d.pairs d.ascending
-delivered_list left right tasks relation size (Err f) list forbids d = tt
+pub delivered_list : (left right : Contents) (tasks : List (Node × Node)) (join : JoinRelation) (size : ℕ) (outcome : Delivery)
+    → RowsAreJoinList left right tasks → IsDelivered (relation_of join) tasks size outcome
+    → IsJoinList (relation_of join) left right outcome.pairs
+delivered_list left right tasks join size outcome rows d =
+    rows.list (relation_of join) d.rows outcome.pairs (forbids_disjoint join) d.are_rows d.pairs d.ascending
 
-pub delivered_marks : (left right : Option Node) (depth cut : ℕ) (tasks : List (Node × Node)) (relation : Relation) (size batch : ℕ)
-    (out : Result Delivery JoinFault)
-    → IsPlan left right depth tasks → depth ≡ cut → size ≡ batch → IfOk out (IsDelivered relation tasks size)
-    → IfOk out (HasMarks relation left right cut batch)
-delivered_marks left right depth cut tasks relation size batch (Ok outcome) plan is_cut is_batch d = record {
+pub delivered_marks : (left right : Option Node) (cut : ℕ) (tasks : List (Node × Node)) (relation : Relation) (size : ℕ) (outcome : Delivery)
+    → IsPlan left right cut tasks → IsDelivered relation tasks size outcome → HasMarks relation left right cut size outcome
+delivered_marks left right cut tasks relation size outcome plan d = record {
   tasks = tasks;
   rows = d.rows;
-  plan = subst (λ (n : ℕ). IsPlan left right n tasks) is_cut plan;
+  plan = plan;
   are_rows = d.are_rows;
   history = d.history;
   closed = d.closed;
-  marks = subst (λ (n : ℕ). AreMarks n d.rows outcome) is_batch d.marks;
+  marks = d.marks;
 }
-delivered_marks left right depth cut tasks relation size batch (Err f) plan is_cut is_batch d = tt
+
+-- both
+pub ruleset delivered = (delivered_list, delivered_marks)

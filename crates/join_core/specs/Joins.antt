@@ -29,11 +29,11 @@ pub record IsJoinList (relation : Relation) (left right : Contents)
   pub exact : (pair : ℕ × ℕ) → Contains pairs pair ↔ StandIn relation left right pair
 
 -- the rows of these tasks, in ascending order, are the join list of the two layers
-abbrev pub RowsAreJoinList : Contents → Contents → List (Node × Node) → Type 0
-RowsAreJoinList left right tasks = (relation : Relation) (rows : List (List (ℕ × ℕ)))
-    (pairs : List (ℕ × ℕ)) → ForbidsDisjoint relation → AreRows relation tasks rows
-    → IsPermutation (flat_map (λ row. row) rows) pairs → IsSorted pair_cmp pairs
-    → IsJoinList relation left right pairs
+pub record RowsAreJoinList (left right : Contents) (tasks : List (Node × Node)) : Type 0 where
+  pub list : (relation : Relation) (rows : List (List (ℕ × ℕ))) (pairs : List (ℕ × ℕ))
+      → ForbidsDisjoint relation → AreRows relation tasks rows
+      → IsPermutation (flat_map (λ row. row) rows) pairs → IsSorted pair_cmp pairs
+      → IsJoinList relation left right pairs
 
 -- for the plan of the trees with these roots at this cut: the marks are a closed legal history, and
 -- those of each task are the ones of its script, its row in batches of so many pairs

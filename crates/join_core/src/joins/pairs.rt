@@ -26,6 +26,7 @@ use worker_core::{Gate, JoinFault, run_workers};
 ///
 /// # Errors
 /// `Memory` where memory was refused, and `NoThread` where there was no thread for a worker.
+#[tactic(auto, using(crate::proofs::TreeJoinLemmas::delivered))]
 pub fn join<R: Threads + Wait + Sync, G: Gate + Sync>(
     rt: &R,
     alloc: Global,
