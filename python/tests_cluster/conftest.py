@@ -4,6 +4,7 @@ from __future__ import annotations
 import os
 import subprocess
 import sys
+import time
 from dataclasses import dataclass
 from importlib import import_module
 from pathlib import Path
@@ -22,6 +23,8 @@ for module in ("numpy", "pandas", "dask"):
     pytest.importorskip(module)
 distributed: Any = pytest.importorskip("distributed")
 layers: Any = import_module("layers")  # of the benchmarks
+
+WAIT = 60
 
 
 @dataclass(frozen=True)
@@ -91,6 +94,14 @@ class Tools:
 @pytest.fixture
 def tools(program: str, scheduler: str, tmp_path: Path) -> Tools:
     return Tools(program, scheduler, tmp_path)
+
+
+def wait_for(tools: Tools, name: str, process: Any) -> None:
+    """Waits until a step of the join has left some file."""
+    end = time.monotonic() + WAIT
+    while not list(tools.folder.glob(f"rjoin-cluster-*/{name}")):
+        assert process.poll() is None and time.monotonic() < end, process.stderr.read()
+        time.sleep(0.01)
 
 
 def write_layer(path: Path, rows: Sequence[tuple[str, str]]) -> Path:

@@ -5,16 +5,16 @@ import os
 import signal
 import subprocess
 import sys
-import time
 from contextlib import contextmanager
 from dataclasses import replace
 from pathlib import Path
 from typing import Any, Iterator
 
+import numpy as np
 import pytest
-from conftest import Tools, distributed, layers
+from conftest import WAIT, Tools, distributed, layers, wait_for
 
-WAIT = 60
+from rjoin_cluster.layout import save_array
 
 
 @pytest.fixture
@@ -38,19 +38,11 @@ def started(tools: Tools, address: str, left: Path, right: Path, *more: str) -> 
     return subprocess.Popen(command, stderr=subprocess.PIPE, text=True)
 
 
-def wait_for(tools: Tools, name: str, process: Any) -> None:
-    """Waits until a step of the join has left some file."""
-    end = time.monotonic() + WAIT
-    while not list(tools.folder.glob(f"rjoin-cluster-*/{name}")):
-        assert process.poll() is None and time.monotonic() < end, process.stderr.read()
-        time.sleep(0.01)
-
-
 def check_left_nothing(tools: Tools) -> None:
     assert list(tools.folder.glob(".*report*")) + list(tools.folder.glob("rjoin-cluster-*")) == []
 
 
-@pytest.mark.parametrize("step", ["boxes-*.npy", "pairs-*.npy"])
+@pytest.mark.parametrize("step", ["boxes-*.npy", "pairs-*.rows"])
 def test_a_worker_that_is_killed_changes_nothing(
     tools: Tools, pair: tuple[Path, Path], step: str
 ) -> None:
@@ -113,12 +105,12 @@ def test_what_a_worker_lacks(tools: Tools) -> None:
     assert "No such file" in lack_of(replace(needs, program=Program("/nowhere/rjoin", "0")))
 
 
-@pytest.mark.parametrize("number", [signal.SIGINT, signal.SIGTERM])
+@pytest.mark.parametrize("number", [signal.SIGINT, signal.SIGTERM, signal.SIGHUP])
 def test_the_command_is_interrupted(
     tools: Tools, pair: tuple[Path, Path], number: signal.Signals
 ) -> None:
     process = started(tools, tools.scheduler, *pair)
-    wait_for(tools, "pairs-*.npy", process)
+    wait_for(tools, "pairs-*.rows", process)
     process.send_signal(number)
     errors = process.communicate(timeout=WAIT)[1]
     assert (process.returncode, "Traceback" in errors) == (128 + number, False), errors
@@ -157,6 +149,13 @@ def test_the_disk_of_the_workers_is_full(
     check_left_nothing(tools)
 
 
+def test_what_a_disk_has_no_room_for(tools: Tools) -> None:
+    with small_disk(tools.folder / "disk") as disk:
+        with pytest.raises(OSError, match="No space left on device"):
+            save_array(disk / "boxes.npy", np.zeros(2**20))
+        assert list(disk.iterdir()) == []
+
+
 def test_the_shared_disk_is_full(tools: Tools, pair: tuple[Path, Path]) -> None:
     with small_disk(tools.folder / "disk") as disk:
         process = started(tools, tools.scheduler, *pair, "--folder", str(disk))
@@ -164,4 +163,16 @@ def test_the_shared_disk_is_full(tools: Tools, pair: tuple[Path, Path]) -> None:
         assert process.returncode == 1
         assert "No space left on device" in errors and errors.count("\n") == 1
         assert list(disk.iterdir()) == []
+    check_left_nothing(tools)
+
+
+def test_the_disk_of_the_report_is_full(tools: Tools, pair: tuple[Path, Path]) -> None:
+    with small_disk(tools.folder / "disk") as disk:
+        report, folder = disk / "report.csv", ["--folder", str(tools.folder)]
+        (disk / "filler").write_bytes(bytes(2**21 - 2**17))
+        process = started(tools, tools.scheduler, *pair, *folder, "--out", str(report))
+        errors = process.communicate(timeout=WAIT)[1]
+        assert [path.name for path in disk.iterdir()] == ["filler"]
+    line = f"rjoin-cluster: {report}: cannot be written: No space left on device\n"
+    assert (process.returncode, errors) == (1, line)
     check_left_nothing(tools)

@@ -1,6 +1,7 @@
 """Faults of the input are told as one run tells them, and then there is no report."""
 from __future__ import annotations
 
+import os
 from pathlib import Path
 
 import pytest
@@ -87,6 +88,8 @@ def test_what_rjoin_has_no_words_for(tools: Tools, capfd: pytest.CaptureFixture[
     for words, line in (
         (["--out", str(nowhere)], f"{nowhere}: cannot be written: No such file or directory"),
         (["--folder", str(nowhere)], f"{nowhere}: cannot be written: No such file or directory"),
+        (["--out", str(good)], f"{good}: is the left layer"),
+        (["--out", str(tools.folder)], f"{tools.folder}: not a regular file"),
         (
             ["--scheduler", "tcp://127.0.0.1:9", "--patience", "1"],
             "tcp://127.0.0.1:9: no scheduler answers",
@@ -100,3 +103,15 @@ def test_what_rjoin_has_no_words_for(tools: Tools, capfd: pytest.CaptureFixture[
         capfd.readouterr()
         assert main([*tools.command(good, good, "within"), *words]) == 1
         assert capfd.readouterr().err == f"rjoin-cluster: {line}\n"
+
+
+def test_layers_without_blocks(tools: Tools, capfd: pytest.CaptureFixture[str]) -> None:
+    from rjoin_cluster.command import main
+
+    good, pipe = write_layer(tools.folder / "good.csv", GOOD), tools.folder / "pipe"
+    os.mkfifo(pipe)
+    for left, right, side in ((pipe, good, "left"), (good, Path("-"), "right")):
+        capfd.readouterr()
+        assert main(tools.command(left, right, "within")) == 1
+        line = f"rjoin-cluster: {side}: not a regular file, which alone can be read in blocks\n"
+        assert capfd.readouterr().err == line

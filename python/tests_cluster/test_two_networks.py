@@ -11,11 +11,10 @@ from pathlib import Path
 from typing import Any, Iterator
 
 import pytest
-from conftest import Tools, distributed, ended, layers
+from conftest import WAIT, Tools, distributed, ended, layers, wait_for
 
 NETWORK = "10.213.77"
 GROUPS = ("a", "b")
-WAIT = 60
 
 
 def tries(*words: str) -> bool:
@@ -118,3 +117,23 @@ def test_two_groups_join_over_tcp(tools: Tools, network: None) -> None:
         counts = done_by_group(address)
     assert set(counts) == {f"{NETWORK}.{number}" for number in (2, 3)} and min(counts.values()) > 0
     assert tools.report().read_bytes() == tools.one_run(left, right, "overlaps").output
+
+
+def test_a_group_vanishes(
+    tools: Tools, network: None, monkeypatch: pytest.MonkeyPatch
+) -> None:
+    """Its link goes down in the middle of the join, so that nothing comes from it any more."""
+    monkeypatch.setenv("DASK_DISTRIBUTED__COMM__TIMEOUTS__TCP", "12s")
+    left, right = layers.write_pair(tools.folder, "rectangles", 20_000)
+    words = tools.command(left, right, "overlaps", "--tiles", "24", "--block", "200000")
+    with grouped_cluster(tools.folder) as address:
+        words[words.index("--scheduler") + 1] = address
+        command = [sys.executable, "-m", "rjoin_cluster", *words]
+        process = subprocess.Popen(command, stderr=subprocess.PIPE, text=True)
+        wait_for(tools, "pairs-*.rows", process)
+        subprocess.run(["ip", "link", "set", name_of("bo"), "down"], check=True)
+        errors = process.communicate(timeout=2 * WAIT)[1]
+        assert (process.returncode, errors) == (0, "")
+        subprocess.run(["ip", "link", "set", name_of("bo"), "up"], check=True)
+    assert tools.report().read_bytes() == tools.one_run(left, right, "overlaps").output
+    assert list(tools.folder.glob("rjoin-cluster-*")) == []

@@ -11,17 +11,19 @@ from types import FrameType
 from typing import Optional, Sequence
 
 from rjoin_cluster.faults import JoinFault
+from rjoin_cluster.inputs import not_in_blocks
 from rjoin_cluster.join import join
 from rjoin_cluster.program import Program, find_program
 from rjoin_cluster.progress import Progress
 from rjoin_cluster.request import BLOCK_BYTES, Place, Request
+from rjoin_cluster.sides import Side
 
 EPILOG = """\
 The report is that of one run of rjoin join over both files, which may have any number of features
 and bytes; the limits of a run are those of each tile. It appears whole, or not at all.
 
 Exit status: 0 for success, 1 for a fault, with a line on standard error, 2 for wrong words,
-130 and 143 where it was interrupted"""
+129, 130 and 143 where it was interrupted"""
 
 
 def parser() -> argparse.ArgumentParser:
@@ -113,10 +115,17 @@ def at_least_one(text: str) -> int:
     return number
 
 
+def layer_path(side: Side, word: str) -> str:
+    """The path by which every worker finds a layer; standard input belongs to the command alone."""
+    if word == "-":
+        raise not_in_blocks(side)
+    return os.path.abspath(word)
+
+
 def request_of(words: argparse.Namespace) -> Request:
     return Request(
-        os.path.abspath(words.left),
-        os.path.abspath(words.right),
+        layer_path(Side.LEFT, words.left),
+        layer_path(Side.RIGHT, words.right),
         words.relation,
         words.out,
         Program(find_program(words.program), words.scale),
@@ -134,7 +143,9 @@ def stop(number: int, _frame: Optional[FrameType]) -> None:
 
 def main(arguments: Optional[Sequence[str]] = None) -> int:
     words = parser().parse_args(arguments)
-    signal.signal(signal.SIGTERM, stop)
+    for number in (signal.SIGTERM, signal.SIGHUP):
+        if signal.getsignal(number) is not signal.SIG_IGN:  # as nohup has it
+            signal.signal(number, stop)
     if words.verbose:
         logging.basicConfig(format="%(message)s")
         logging.getLogger("rjoin_cluster").setLevel(logging.INFO)

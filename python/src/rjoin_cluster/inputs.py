@@ -23,6 +23,11 @@ class Input:
         if (now.st_size, now.st_mtime_ns) != (self.bytes, self.changed):
             raise JoinFault(f"{self.side.value}: the file was changed during the join")
 
+    def check_not(self, report: str) -> None:
+        """A report that has the name of a layer would take its place."""
+        if os.path.exists(report) and os.path.samefile(self.path, report):
+            raise JoinFault(f"{report}: is the {self.side.value} layer")
+
 
 def find_inputs(left: str, right: str) -> tuple[Input, Input]:
     """Both files, once it is known that they can be opened, and then that they can be read."""
@@ -52,4 +57,8 @@ def found(side: Side, path: str, number: int) -> Input:
         except OSError as cause:
             raise ProgramFault(f"rjoin: {side.value}: read failed") from cause
         return Input(side, path, status.st_size, status.st_mtime_ns)
-    raise JoinFault(f"{side.value}: not a regular file, which alone can be read in blocks")
+    raise not_in_blocks(side)
+
+
+def not_in_blocks(side: Side) -> JoinFault:
+    return JoinFault(f"{side.value}: not a regular file, which alone can be read in blocks")

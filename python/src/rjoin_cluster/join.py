@@ -20,6 +20,8 @@ def join(request: Request, progress: Progress) -> dict[str, Any]:
     started = time.perf_counter()
     request.program.check_words(request.relation)
     inputs = find_inputs(request.left, request.right)
+    for file in inputs:
+        file.check_not(request.report)
     with new_report(request.report) as report, new_folder(request.folder) as layout:
         version = request.program.version()
         with connected(request.place, layout) as client:

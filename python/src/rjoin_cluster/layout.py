@@ -3,9 +3,10 @@ from __future__ import annotations
 
 import os
 import uuid
+from contextlib import contextmanager
 from dataclasses import dataclass
 from pathlib import Path
-from typing import Any
+from typing import Any, BinaryIO, Iterator
 
 import numpy as np
 from numpy.typing import NDArray
@@ -49,7 +50,7 @@ class Layout:
         return self.file("tiles.npy")
 
     def pairs(self, run: int) -> Path:
-        return self.file(f"pairs-{run}.npy")
+        return self.file(f"pairs-{run}.rows")
 
     def part_borders(self) -> Path:
         return self.file("part-borders.npy")
@@ -70,24 +71,45 @@ class Layout:
         return Path(self.folder, name)
 
 
-def save_array(path: Path, array: NDArray[Any]) -> None:
+@contextmanager
+def new_file(path: Path) -> Iterator[BinaryIO]:
+    """A file that gets its name when it is complete, and vanishes where it cannot be."""
     part = unfinished(path)
-    with open(part, "wb") as file:
-        np.save(file, array, allow_pickle=False)
-    os.replace(part, path)
+    try:
+        with open(part, "wb") as file:
+            yield file
+        os.replace(part, path)
+    except BaseException:
+        part.unlink(missing_ok=True)
+        raise
+
+
+class Writer:
+    """A file as NumPy writes to it by way of Python, whose errors tell the cause."""
+
+    def __init__(self, file: BinaryIO) -> None:
+        self.write = file.write
+
+
+def save_array(path: Path, array: NDArray[Any]) -> None:
+    with new_file(path) as file:
+        np.save(Writer(file), array, allow_pickle=False)
 
 
 def save_bytes(path: Path, parts: list[bytes]) -> None:
-    part = unfinished(path)
-    with open(part, "wb") as file:
+    with new_file(path) as file:
         file.writelines(parts)
-    os.replace(part, path)
 
 
 def mapped(path: Path) -> NDArray[Any]:
     """An array that is read where it is looked at."""
     array: NDArray[Any] = np.load(path, mmap_mode="r", allow_pickle=False)
     return array
+
+
+def mapped_rows(path: Path, row: np.dtype[Any]) -> NDArray[Any]:
+    """The same, of a file that has rows alone."""
+    return np.memmap(path, dtype=row, mode="r")
 
 
 def unfinished(path: Path) -> Path:

@@ -12,7 +12,7 @@ import numpy as np
 from numpy.typing import NDArray
 
 from rjoin_cluster.ids import IdTable, widened
-from rjoin_cluster.layout import Layout, mapped, save_array, save_bytes
+from rjoin_cluster.layout import Layout, mapped, mapped_rows, save_array, save_bytes
 from rjoin_cluster.records import Bytes, Places
 from rjoin_cluster.runs import KEY_STEP, MATRIX, RunDone, pair_type
 from rjoin_cluster.sides import Side
@@ -45,7 +45,8 @@ def plan_parts(layout: Layout, runs: Sequence[RunDone]) -> int:
         places[:, number] = np.searchsorted(run.keys, borders)
     save_array(layout.part_borders(), borders)
     save_array(layout.part_places(), places)
-    save_array(layout.run_sizes(), np.array([run.pairs for run in runs], dtype=np.int64))
+    sizes = [(run.pairs, run.id_width) for run in runs]
+    save_array(layout.run_sizes(), np.array(sizes, dtype=np.int64).reshape(-1, 2))
     return borders.size - 1
 
 
@@ -89,10 +90,12 @@ def parts_of(job: PartJob) -> Iterator[NDArray[np.void]]:
     layout = job.layout
     borders = mapped(layout.part_borders())[job.number:job.number + 2]
     before, behind = mapped(layout.part_places())[job.number:job.number + 2].astype(np.int64)
+    counts, id_widths = mapped(layout.run_sizes()).T
     begins = np.maximum(before - 1, 0) * KEY_STEP
-    ends = np.minimum(behind * KEY_STEP, mapped(layout.run_sizes()))
+    ends = np.minimum(behind * KEY_STEP, counts)
     for run in np.flatnonzero(begins < ends).tolist():
-        rows = np.array(mapped(layout.pairs(run))[begins[run]:ends[run]])
+        pairs = mapped_rows(layout.pairs(run), pair_type(int(id_widths[run])))
+        rows = np.array(pairs[begins[run]:ends[run]])
         begin, end = np.searchsorted(rows["rank"], borders)
         yield rows[begin:end]
 

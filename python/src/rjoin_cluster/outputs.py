@@ -5,56 +5,72 @@ import os
 import shutil
 import tempfile
 import time
-from contextlib import contextmanager
+from contextlib import contextmanager, suppress
 from pathlib import Path
 from typing import BinaryIO, Iterator
 
 from rjoin_cluster.faults import JoinFault
-from rjoin_cluster.layout import Layout
+from rjoin_cluster.layout import Layout, unfinished
 
 CLEANING_TRIES = 40
 CLEANING_PAUSE = 0.25
 
 
+class Report:
+    """A file that is to become the report."""
+
+    def __init__(self, path: str, part: Path) -> None:
+        self.path = path
+        self.part = part
+        with told_of(path):
+            self.file: BinaryIO = open(part, "xb")
+
+    def write(self, text: bytes) -> None:
+        with told_of(self.path):
+            self.file.write(text)
+
+    def finish(self) -> None:
+        """Gives the file the report's name."""
+        with told_of(self.path):
+            self.file.flush()
+            os.fsync(self.file.fileno())
+            os.replace(self.part, self.path)
+
+    def remove(self) -> None:
+        """Takes away what has not got the name."""
+        with suppress(OSError):  # of bytes that could not be written before
+            self.file.close()
+        self.part.unlink(missing_ok=True)
+
+
 @contextmanager
-def new_report(path: str) -> Iterator[BinaryIO]:
-    """A file that gets the report's name in the end, and vanishes where there is a fault."""
+def new_report(path: str) -> Iterator[Report]:
+    """A report that appears where the join succeeds, and leaves nothing where it doesn't."""
     target = Path(path)
     if target.exists() and not target.is_file():
         raise JoinFault(f"{path}: not a regular file")
-    part = target.with_name(f".{target.name}.{os.getpid()}.part")
+    report = Report(path, unfinished(target.with_name(f".{target.name}")))
     try:
-        file = open(part, "xb")
-    except OSError as cause:
-        raise cannot_be_written(path, cause) from cause
-    try:
-        with file:
-            yield file
-            finish(file, part, target)
+        yield report
+        report.finish()
     finally:
-        part.unlink(missing_ok=True)
+        report.remove()
 
 
-def finish(file: BinaryIO, part: Path, target: Path) -> None:
+@contextmanager
+def told_of(path: str) -> Iterator[None]:
+    """Words what the system says when a path is written."""
     try:
-        file.flush()
-        os.fsync(file.fileno())
-        os.replace(part, target)
+        yield
     except OSError as cause:
-        raise cannot_be_written(str(target), cause) from cause
-
-
-def cannot_be_written(path: str, cause: OSError) -> JoinFault:
-    return JoinFault(f"{path}: cannot be written: {cause.strerror}")
+        raise JoinFault(f"{path}: cannot be written: {cause.strerror}") from cause
 
 
 @contextmanager
 def new_folder(shared: str) -> Iterator[Layout]:
     """A folder of this join alone in the one that all workers share."""
-    try:
+    with told_of(shared):
         folder = tempfile.mkdtemp(prefix="rjoin-cluster-", dir=shared)
-    except OSError as cause:
-        raise cannot_be_written(shared, cause) from cause
     try:
         os.chmod(folder, 0o777 & ~current_umask())
         yield Layout(os.path.abspath(folder))

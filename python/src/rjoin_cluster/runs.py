@@ -13,7 +13,7 @@ from __future__ import annotations
 import logging
 import time
 from dataclasses import dataclass
-from typing import Any
+from typing import Any, Iterator
 
 import numpy as np
 from numpy.typing import NDArray
@@ -21,7 +21,7 @@ from numpy.typing import NDArray
 from rjoin_cluster.blocks import Boxes
 from rjoin_cluster.digits import digits_in, read_back, written, written_signed
 from rjoin_cluster.faults import RunFailed
-from rjoin_cluster.layout import Layout, save_array
+from rjoin_cluster.layout import Layout, new_file
 from rjoin_cluster.pieces import Piece, Range, load_piece
 from rjoin_cluster.program import HEADER, MOST_BYTES, MOST_FEATURES, Program, Text
 from rjoin_cluster.records import Bytes, Places
@@ -95,9 +95,12 @@ class RunJob:
 
 @dataclass(frozen=True)
 class RunDone:
-    """What a run came to: its pairs, and the rank of each 256th of them from the first on."""
+    """What a run came to: its pairs, how wide the ids of their right features are, and the rank of
+    each 256th of them from the first on.
+    """
 
     pairs: int
+    id_width: int
     keys: Places
     seconds: float
 
@@ -117,18 +120,29 @@ def join_tile(job: RunJob) -> RunDone:
     report = job.program.join(
         layer_of(left, job.numerals), layer_of(right, job.numerals), job.relation
     )
-    pairs = own_pairs(job, left, right, report)
-    save_array(job.layout.pairs(job.number), pairs)
+    pairs, keys = keep_pairs(job, own_pairs(job, left, right, report))
     seconds = time.perf_counter() - started
     log.info(
         "%s: %d and %d features, %d pairs, %.2f s",
         job,
         len(left.boxes),
         len(right.boxes),
-        len(pairs),
+        pairs,
         seconds,
     )
-    return RunDone(len(pairs), np.array(pairs["rank"][::KEY_STEP]), seconds)
+    return RunDone(pairs, right.ids.shape[1], keys, seconds)
+
+
+def keep_pairs(job: RunJob, parts: Iterator[NDArray[np.void]]) -> tuple[int, Places]:
+    """Writes the pairs of a run, and answers how many there are and the ranks of each 256th."""
+    count = 0
+    keys = [np.zeros(0, dtype=np.int64)]
+    with new_file(job.layout.pairs(job.number)) as file:
+        for part in parts:
+            keys.append(part["rank"][-count % KEY_STEP::KEY_STEP].copy())
+            count += len(part)
+            file.write(part.data)
+    return count, np.concatenate(keys)
 
 
 def layer_of(piece: Piece, numerals: Numerals) -> list[Text]:
@@ -174,12 +188,13 @@ def fill(text: Bytes, form: Form, id_digits: Bytes, boxes: Boxes, numerals: Nume
             at += numerals.width + 1
 
 
-def own_pairs(job: RunJob, left: Piece, right: Piece, report: Bytes) -> NDArray[np.void]:
-    """The pairs of a report whose reference point lies in the tile."""
+def own_pairs(
+    job: RunJob, left: Piece, right: Piece, report: Bytes
+) -> Iterator[NDArray[np.void]]:
+    """The pairs of a report whose reference point lies in the tile, some at a time."""
     widths = digits_in(len(left.boxes)), digits_in(len(right.boxes))
     rows = rows_of(report, sum(widths) + MATRIX + 3)
     lows = [(left.column(axis), right.column(axis)) for axis in (0, 1)]
-    parts = [np.empty(0, dtype=pair_type(right.ids.shape[1]))]
     for begin in range(0, len(rows), ROWS_AT_ONCE):
         part = rows[begin:begin + ROWS_AT_ONCE]
         ones = read_back(part[:, : widths[0]])
@@ -188,8 +203,7 @@ def own_pairs(job: RunJob, left: Piece, right: Piece, report: Bytes) -> NDArray[
         own = np.flatnonzero(job.region.holds(x, y))
         pairs = pairs_of(job, left, right, ones.take(own), others.take(own))
         pairs["matrix"] = matrices_of(part).take(own)
-        parts.append(pairs)
-    return np.concatenate(parts)
+        yield pairs
 
 
 def pairs_of(

@@ -1,8 +1,7 @@
 """The steps of a join, each of which is a set of tasks, and what they leave to the next one."""
 from __future__ import annotations
 
-import shutil
-from typing import Any, BinaryIO, Sequence
+from typing import Any, Sequence
 
 from rjoin_cluster.blocks import BlockRead, Extent, ReadJob, header_begin, read_block, scan_segment
 from rjoin_cluster.doubles import DoublesJob, first_double
@@ -12,6 +11,7 @@ from rjoin_cluster.inputs import Input
 from rjoin_cluster.layers import Layer, Layers
 from rjoin_cluster.layout import Layout, save_array
 from rjoin_cluster.merge import PartJob, plan_parts, write_part
+from rjoin_cluster.outputs import Report
 from rjoin_cluster.pieces import DealJob, Range, deal_block, save_ends
 from rjoin_cluster.program import RowFault
 from rjoin_cluster.records import Places, block_begins
@@ -41,14 +41,14 @@ class Steps:
         self.layout = layout
         self.engine = engine
 
-    def report_into(self, file: BinaryIO) -> dict[str, Any]:
+    def report_into(self, report: Report) -> dict[str, Any]:
         """Writes the report, and answers the figures of the join."""
         layers = self.read(self.cut())
         self.check_ids(layers)
         tiles = self.make_tiles(layers)
         dealt = {side: self.deal(layers[side]) for side in Side}
         runs = self.join_tiles(layers, tiles, dealt)
-        written = self.merge(layers, runs, file)
+        written = self.merge(layers, runs, report)
         return {
             **{side.value: self.layer_figures(layers[side], dealt[side]) for side in Side},
             "tiles": tiles.count,
@@ -170,22 +170,23 @@ class Steps:
         ]
         return self.engine.all("joining", join_tile, jobs)
 
-    def merge(self, layers: Layers, runs: Sequence[RunDone], file: BinaryIO) -> int:
+    def merge(self, layers: Layers, runs: Sequence[RunDone], report: Report) -> int:
         """Writes the report, and answers how many bytes it has."""
         with self.engine.phase("merging"):
             count = plan_parts(self.layout, runs)
         jobs = [PartJob(self.layout, part, layers.right.rows) for part in range(count)]
-        self.engine.all("merging", write_part, jobs)
+        sizes = self.engine.all("merging", write_part, jobs)
         with self.engine.phase("writing"):
-            file.write(REPORT_HEADER)
+            report.write(REPORT_HEADER)
             for part in range(count):
-                self.move_part(part, file)
-        return file.tell()
+                self.move_part(part, report)
+        return len(REPORT_HEADER) + sum(sizes)
 
-    def move_part(self, number: int, file: BinaryIO) -> None:
+    def move_part(self, number: int, report: Report) -> None:
         path = self.layout.report_part(number)
         with open(path, "rb") as part:
-            shutil.copyfileobj(part, file, COPY_BYTES)
+            while text := part.read(COPY_BYTES):
+                report.write(text)
         path.unlink()
 
 
