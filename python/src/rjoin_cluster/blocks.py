@@ -141,8 +141,8 @@ def features_of(program: Program, block: Extent) -> tuple[Features, Optional[Row
     read = [NO_FEATURES]
     rows = 0
     fault = None
-    for part in parts_of_runs(np.frombuffer(block.read(), dtype=np.uint8)):
-        before = HEADER if block.number or rows else NO_MARK
+    for place, part in enumerate(parts_of_runs(np.frombuffer(block.read(), dtype=np.uint8))):
+        before = HEADER if block.number or place else NO_MARK
         features, fault = read_part(program, before, part)
         read.append(features)
         if fault is not None:

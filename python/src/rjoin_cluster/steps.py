@@ -3,7 +3,15 @@ from __future__ import annotations
 
 from typing import Any, Sequence
 
-from rjoin_cluster.blocks import BlockRead, Extent, ReadJob, header_begin, read_block, scan_segment
+from rjoin_cluster.blocks import (
+    MOST_PART,
+    BlockRead,
+    Extent,
+    ReadJob,
+    header_begin,
+    read_block,
+    scan_segment,
+)
 from rjoin_cluster.doubles import DoublesJob, first_double
 from rjoin_cluster.engine import Engine
 from rjoin_cluster.faults import JoinFault, ProgramFault
@@ -28,6 +36,11 @@ SAMPLE_PER_TILE = 500
 HASHES_PER_TASK = 1_000_000
 MOST_RANK = 2**63 - 1
 COPY_BYTES = 2**24
+
+# The last record of a block begins in the block's first segment. Where it goes on for longer than
+# this behind that segment, as behind a quote that is never closed, no run takes it, and the rest
+# of it needn't be read.
+MOST_BEHIND = MOST_PART + 1
 
 
 class Steps:
@@ -76,7 +89,8 @@ class Steps:
             first = next(segment.begin for segment in segments if segment.side is file.side)
             begins = [first + begin for begin in block_begins(scans, self.request.block_bytes)]
             for number, (begin, end) in enumerate(zip(begins, [*begins[1:], file.bytes])):
-                block = Extent(file.side, file.path, number, begin, end)
+                behind = min(end, begin + MOST_BEHIND + self.request.block_bytes)
+                block = Extent(file.side, file.path, number, begin, behind)
                 jobs.append(ReadJob(self.layout, self.request.program, block, share))
         return jobs
 

@@ -1,0 +1,54 @@
+"""Blocks whose records are longer than a run takes, or hardly shorter."""
+from __future__ import annotations
+
+from pathlib import Path
+from types import SimpleNamespace
+from typing import Any, Sequence
+
+import pytest
+from conftest import write_layer
+
+from rjoin_cluster import blocks, steps
+from rjoin_cluster.inputs import find_inputs
+from rjoin_cluster.program import Program, RowFault
+
+MOST = 60
+GOOD = [(f"n{number}", f"POINT ({number} 1)") for number in range(50)]
+
+
+@pytest.fixture
+def small_parts(monkeypatch: pytest.MonkeyPatch) -> None:
+    monkeypatch.setattr(blocks, "MOST_PART", MOST)
+    monkeypatch.setattr(steps, "MOST_BEHIND", MOST + 1)
+
+
+def jobs_of(program: str, layer: Path, block: int) -> Sequence[Any]:
+    """The blocks of a layer that is the left one and the right one."""
+    request: Any = SimpleNamespace(program=Program(program, "0"), block_bytes=block)
+    engine: Any = SimpleNamespace(all=lambda name, task, jobs: [task(job) for job in jobs])
+    layout: Any = None
+    return steps.Steps(request, find_inputs(str(layer), str(layer)), layout, engine).cut()
+
+
+def test_a_quote_that_is_never_closed(program: str, tmp_path: Path, small_parts: None) -> None:
+    """What stands behind it isn't read to its end; what stands before it is."""
+    rows = [*GOOD[:9], ('"open', "POINT (1 1)"), *GOOD[9:]]
+    jobs = jobs_of(program, write_layer(tmp_path / "open.csv", rows), 40)
+    assert max(job.block.end - job.block.begin for job in jobs) == MOST + 1 + 40
+    last = jobs[len(jobs) // 2 - 1]
+    before = [blocks.features_of(job.program, job.block) for job in jobs[: last.block.number]]
+    assert [fault for _, fault in before if fault is not None] == []
+    features, fault = blocks.features_of(last.program, last.block)
+    row = 10 - sum(len(read.boxes) for read, _ in before)
+    assert fault == RowFault(row, f"longer than {MOST} bytes", "rjoin-cluster")
+    assert len(features.boxes) == row - 1
+
+
+def test_a_header_that_is_a_part_of_its_own(
+    program: str, tmp_path: Path, small_parts: None
+) -> None:
+    """A first record that just fits in a run doesn't fit together with the header."""
+    rows = [("a" * (MOST - 14), "POINT (1 1)"), *GOOD[:2]]
+    job = jobs_of(program, write_layer(tmp_path / "long.csv", rows), 4000)[0]
+    features, fault = blocks.features_of(job.program, job.block)
+    assert (features.boxes[:, 0].tolist(), fault) == ([1, 0, 1], None)
