@@ -84,6 +84,43 @@ def test_a_file_that_is_there_is_kept(files: Any, tmp_path: Path, capsys: Any) -
     assert ends([*words, "--overwrite"]) == 0 and output.read_bytes() != before
 
 
+def test_files_beside_the_output_are_kept(files: Any, tmp_path: Path, capsys: Any) -> None:
+    beside, output = tmp_path / "out.dbf", tmp_path / "out.shp"
+    beside.write_text("another's")
+    words = [*files, "--relation", "touches", "-o", output, "--geometry"]
+    assert ends(words) == 2 and beside.read_text() == "another's" and not output.exists()
+    assert "out.dbf is there already" in capsys.readouterr().err
+    assert ends([*words, "--overwrite"]) == 0 and len(geopandas.read_file(output)) > 0
+    notices = ["--notices", f"{tmp_path}/none/../pairs.csv"]
+    (tmp_path / "none").mkdir()
+    assert ends([*files, "--relation", "touches", "-o", tmp_path / "pairs.csv", *notices]) == 2
+    assert "the same file" in capsys.readouterr().err and not (tmp_path / "pairs.csv").exists()
+
+
+@pytest.mark.parametrize("name", ("out.shp", "out.fgb", "out.gml"))
+def test_a_table_is_written_only_where_all_rows_are_kept(files: Any, tmp_path: Path, name: str,
+                                                         capsys: Any) -> None:
+    words = [*files, "--relation", "touches", "-o", tmp_path / name]
+    before = sorted(tmp_path.iterdir())
+    assert ends(words) == 2 and sorted(tmp_path.iterdir()) == before
+    assert "add --geometry" in capsys.readouterr().err
+    assert ends([*words, "--geometry"]) == 0
+
+
+@pytest.mark.parametrize("more", ((), ("--geometry",)))
+def test_a_field_with_the_name_of_the_key_is_kept(town: Any, tmp_path: Path, more: Any) -> None:
+    """Of a Shapefile that was a GeoPackage; each parcel has several roads."""
+    fiona = pytest.importorskip("fiona")
+    town["parcels"].assign(fid=range(100, 157)).to_file(tmp_path / "parcels.shp")
+    output = tmp_path / "out.gpkg"
+    assert ends([tmp_path / "parcels.shp", TOWN / "roads.csv", "--relation", "touches", "-o",
+                 output, "--attributes", *more]) == 0
+    with fiona.open(output) as rows:
+        assert [row.properties["fid"] for row in rows] == [
+            100 + town["parcels"].index[town["parcels"]["id"] == one][0]
+            for one, _, _ in touching(town)]
+
+
 def test_faults_leave_nothing_and_are_told_in_a_line(files: Any, tmp_path: Path,
                                                      capsys: Any) -> None:
     slanted = geopandas.GeoDataFrame(geometry=[shapely_geometry.LineString([(0, 0), (9, 7)])])

@@ -33,7 +33,7 @@ OTHERS = (
     "MULTIPOINT (1 1, 2 2)", "MULTIPOLYGON (((0 0, 1 0, 1 1, 0 1, 0 0)), ((4 4, 6 4, 6 6, 4 4)))",
 )
 EMPTY = ("POINT EMPTY", "LINESTRING EMPTY", "POLYGON EMPTY", "MULTIPOLYGON EMPTY",
-         "GEOMETRYCOLLECTION EMPTY")
+         "GEOMETRYCOLLECTION EMPTY", "GEOMETRYCOLLECTION (POINT EMPTY, LINESTRING EMPTY)")
 AREA = "POLYGON ((-9 -9, 19 -9, 19 19, -9 19, -9 -9))"
 
 
@@ -61,7 +61,7 @@ def test_a_geometry_that_is_no_box_is_refused_with_its_feature(text: str) -> Non
 
 def test_what_is_left_out_is_listed_and_told() -> None:
     layer = series([*OTHERS, BOXES[0], None, *EMPTY])
-    with pytest.warns(rjoin.LeftOutWarning, match="19 features are left out.*row 1") as caught:
+    with pytest.warns(rjoin.LeftOutWarning, match="20 features are left out.*row 1") as caught:
         pairs = rjoin.pairs(layer, [AREA], other="skip", missing="skip")
     assert caught[0].filename == __file__
     assert pairs["left"].tolist() == [layer.index[len(OTHERS)]]
@@ -101,6 +101,30 @@ def test_missing_and_empty_geometries_are_refused_unless_skipped(text: Any) -> N
     with pytest.warns(rjoin.LeftOutWarning):
         counts = rjoin.stats(layer, missing="skip")
     assert (counts.features, counts.points, len(counts.left_out)) == (1, 1, 1)
+
+
+def test_values_of_another_type_name_their_feature() -> None:
+    point = wkt.loads(BOXES[0])
+    for values, told in (([point, BOXES[0]], "str among geometries"),
+                         ([None, point, 5], "int among geometries"),
+                         ([BOXES[0], point], "Point among texts"),
+                         ([BOXES[0], None, 5], "int among texts")):
+        for rule in ("error", "skip"):
+            with pytest.raises(rjoin.InputError, match=told) as caught:
+                rjoin.pairs([AREA], values, other=rule, missing=rule)
+            assert (caught.value.side, caught.value.row) == ("right", len(values))
+    for layer in (None, 5, point, wkt.loads("MULTIPOINT (1 1, 2 2)")):
+        with pytest.raises(rjoin.ArgumentError, match="layer has to be a frame.*not of type"):
+            rjoin.stats(layer)
+
+
+def test_texts_that_cannot_be_written_name_their_row() -> None:
+    for text in ("POINT (1 2)\ud800", "POINT (1 2)\0"):
+        with pytest.raises(rjoin.InputError, match="row 2 .*not a geometry text"):
+            rjoin.stats(["POINT (1 2)", text])
+        with pytest.raises(rjoin.InputError, match="^window: not a geometry text"):
+            rjoin.window(["POINT (1 2)"], text)
+    assert rjoin.stats(["POINT\r(1 2)", "POINT\n(3 4)"]).points == 2
 
 
 def test_numbers_that_are_not_finite_are_refused() -> None:
@@ -151,8 +175,11 @@ def test_numbers_out_of_range_name_their_feature() -> None:
     with pytest.raises(rjoin.InputError, match=r"row 2 \(feature 'b'\).*above"):
         rjoin.stats(layer)
     assert rjoin.stats(series(["POINT (-1000000000000 1000000000000)"])).points == 1
-    with pytest.raises(rjoin.InputError, match="above"):
-        rjoin.stats(series(["POINT (1000000000001 0)"]))
+    for number in ("1000000000001", "1e18", "-1.7e308"):
+        for first in ("POINT (1 0)", "POINT (0.25 0)"):
+            with pytest.raises(rjoin.InputError, match="row 2 .*above"):
+                rjoin.stats(series([first, f"POINT ({number} 0)"]))
+    assert rjoin.stats(series(["POINT (-0.0 0)", "POINT (0.0 -0.0)"]), scale=6).points == 2
 
 
 def test_both_sides_have_one_scale() -> None:

@@ -87,6 +87,32 @@ def test_faults_have_side_row_and_feature(tmp_path: Path) -> None:
         assert (caught.value.row, caught.value.feature) == (None, None)
     with pytest.raises(rjoin.InputError, match="first: .*decimals"):
         rjoin.relate("POINT (0.1234567 2)", "POINT (0 0)")
+    for words in ("--help", "-h", "--", "-"):
+        with pytest.raises(rjoin.InputError, match="^window: not a geometry text"):
+            rjoin.window(TOWN / "parcels.csv", words)
+        with pytest.raises(rjoin.InputError, match="^first: not a geometry text"):
+            rjoin.relate(words, "POINT (0 0)")
+
+
+def test_ids_and_texts_of_files_are_read_as_the_program_does(tmp_path: Path) -> None:
+    pytest.importorskip("pandas")
+    layer = tmp_path / "layer.csv"
+    ids = ["a\rb", "c\nd", 'q"q', " lead", "NA", "x,y", "1.0", "ü", "e\r\nf"]
+    rows = [f'"{one.replace(chr(34), 2 * chr(34))}",POINT ({place} 0)\n'
+            for place, one in enumerate(ids)]
+    layer.write_bytes('"id","wkt"\n'.encode() + "".join(rows).encode())
+    pairs = rjoin.pairs(layer, layer, "equals")
+    assert pairs["left"].tolist() == pairs["right"].tolist() == ids
+    assert rjoin.pairs(layer, layer, "equals", ids="position")["left"].tolist() == list(range(9))
+    side = ", ".join(f"{place} 0" for place in range(30_000))
+    layer.write_text(f'id,wkt\nlong,"POLYGON (({side}, 29999 1, 0 1, 0 0))"\n')
+    assert rjoin.stats(layer).rectangles == 1
+    layer.write_text('id,wkt\na,"POINT (1 2)\n' + "b,POINT (1 2)\n" * 20_000)
+    with pytest.raises(rjoin.InputError, match=r"row 1 \(feature 'a'\): not a geometry text"):
+        rjoin.stats(layer)
+    layer.write_text("id,wkt\na,POINT (1 2)\nb\0c,POINT (1 2)\n")
+    with pytest.raises(rjoin.InputError, match="row 2 .*NUL"):
+        rjoin.pairs(layer, layer)
 
 
 def test_nothing_is_left_in_the_temporary_folder(monkeypatch: Any, tmp_path: Path) -> None:

@@ -141,13 +141,16 @@ def test_a_mask_that_disjoint_features_fit_is_refused(town: Any) -> None:
 def test_wrong_arguments_are_refused_before_anything_is_read(town: Any) -> None:
     left, right = town["parcels"], town["roads"]
     wrong: Tuple[Tuple[str, Any], ...] = (
-        ("scale", 7), ("scale", -1), ("workers", 0), ("workers", 17), ("how", "right"),
-        ("other", "box"), ("missing", "envelope"))
+        ("scale", 7), ("scale", -1), ("scale", 1.5), ("scale", "2"), ("workers", 0),
+        ("workers", 17), ("workers", True), ("how", "right"), ("other", "box"),
+        ("missing", "envelope"))
     for name, value in wrong:
         with pytest.raises(rjoin.ArgumentError, match=name):
             rjoin.sjoin(left, right, **{name: value})
     with pytest.raises(ValueError, match="GeoDataFrame"):
         rjoin.sjoin(left.geometry, right)
+    with pytest.raises(rjoin.ArgumentError, match="relation must be a text"):
+        rjoin.sjoin(left, right, ["intersects"])  # type: ignore[arg-type]
 
 
 def test_many_boxes_are_joined_as_geopandas_does() -> None:

@@ -21,6 +21,7 @@ all else, such as a missing program.
 """
 from __future__ import annotations
 
+from numbers import Integral
 from typing import TYPE_CHECKING, Any, NamedTuple, Optional, Tuple
 
 from rjoin import program, relations
@@ -166,10 +167,15 @@ def check_arguments(relation: str, scale: Optional[int], workers: Optional[int],
                     ids: str = "label") -> None:
     """Refuses wrong arguments, and a missing program, before a layer is looked at."""
     relations.check(relation)
-    if scale is not None and not 0 <= scale <= MOST_DECIMALS:
-        raise ArgumentError(f"scale must be 0 to {MOST_DECIMALS} or None, not {scale!r}")
-    if workers is not None and not 1 <= workers <= MOST_WORKERS:
-        raise ArgumentError(f"workers must be 1 to {MOST_WORKERS}, not {workers!r}")
+    check_number("scale", scale, 0, MOST_DECIMALS)
+    check_number("workers", workers, 1, MOST_WORKERS)
     if ids not in ("label", "position"):
         raise ArgumentError(f"ids must be 'label' or 'position', not {ids!r}")
     program.find()
+
+
+def check_number(name: str, value: Any, least: int, most: int) -> None:
+    """Refuses what is neither None nor a whole number of a range."""
+    whole = isinstance(value, Integral) and not isinstance(value, bool)
+    if value is not None and not (whole and least <= value <= most):
+        raise ArgumentError(f"{name} must be {least} to {most} or None, not {value!r}")

@@ -8,13 +8,18 @@ import sys
 import tempfile
 import warnings
 from contextlib import contextmanager
+from itertools import count
 from pathlib import Path
-from typing import Any, Iterator, List, NamedTuple, Optional, Sequence, TextIO, Tuple
+from typing import Any, Dict, Iterable, Iterator, List, Mapping, NamedTuple, Optional, Sequence
+from typing import TextIO, Tuple
 
 from rjoin.errors import ArgumentError, LeftOutWarning, Notice, RjoinError
 
 SHOWN = 10
 COLUMNS = ("left", "right", "matrix", "geometry")
+# What is known to keep rows without geometries; FlatGeobuf drops them.
+TABLES = (".csv", ".dbf", ".geojson", ".gpkg", ".json")
+PACKAGE_KEY = "fid"
 HELP = """\
 LEFT and RIGHT are FILE or FILE:LAYER, of any kind that GDAL reads, or CSV with the header id,wkt.
 OUT gets a row for each pair: what identifies the two features, and the nine letters of DE-9IM. Its
@@ -90,10 +95,7 @@ def run(arguments: argparse.Namespace) -> Notices:
     """Joins, and writes each file whole or not at all."""
     from rjoin import calls
 
-    for path in (arguments.output, arguments.notices):
-        check_output(path, arguments.overwrite)
-    if arguments.output.suffix.lower() != ".csv":
-        driver_of(arguments.output)
+    check_outputs(arguments)
     calls.check_arguments(arguments.relation, arguments.scale, arguments.workers)
     left = layer(arguments.left, "left", arguments.left_id)
     right = layer(arguments.right, "right", arguments.right_id)
@@ -102,16 +104,34 @@ def run(arguments: argparse.Namespace) -> Notices:
                         missing=arguments.missing)
     notices = Notices(pairs.attrs["left_out"], pairs.attrs["enveloped"])
     if arguments.notices:
-        write_notices(notices, arguments.notices)
-    write(table(left, right, pairs, arguments), arguments.output)
+        write_notices(notices, arguments.notices, arguments.overwrite)
+    write(table(left, right, pairs, arguments), arguments.output, arguments.overwrite)
     return notices
 
 
-def check_output(path: Optional[Path], overwrite: bool) -> None:
-    if path and path.exists() and not overwrite:
+def check_outputs(arguments: argparse.Namespace) -> None:
+    """Refuses, before anything is read, outputs that cannot be written."""
+    output, notices = arguments.output, arguments.notices
+    for path in [output, notices] if notices else [output]:
+        if not path.parent.is_dir():
+            raise ArgumentError(f"{path.parent} is no folder")
+        refuse_taken(path, arguments.overwrite)
+    if notices and notices.resolve() == output.resolve():
+        raise ArgumentError("--output and --notices are the same file")
+    if not is_csv(output):
+        driver_of(output)
+    if not arguments.geometry and output.suffix.lower() not in TABLES:
+        raise ArgumentError(f"a file {output.suffix!r} needs geometries: add --geometry, or write "
+                            f"one of {', '.join(TABLES)}")
+
+
+def refuse_taken(path: Path, overwrite: bool) -> None:
+    if path.exists() and not overwrite:
         raise ArgumentError(f"{path} is there already; --overwrite replaces it")
-    if path and not path.parent.is_dir():
-        raise ArgumentError(f"{path.parent} is no folder")
+
+
+def is_csv(path: Path) -> bool:
+    return path.suffix.lower() == ".csv"
 
 
 def layer(text: str, side: str, field: Optional[str]) -> Any:
@@ -152,30 +172,37 @@ def table(left: Any, right: Any, pairs: Any, arguments: argparse.Namespace) -> A
 
 
 @contextmanager
-def placed(output: Path) -> Iterator[Path]:
-    """A path to write to; what was written there takes the output's place when all is written."""
+def placed(output: Path, overwrite: bool) -> Iterator[Path]:
+    """A path to write to; what was written there takes the output's place when all is written.
+
+    So do files that GDAL writes beside it.
+    """
     try:
         with tempfile.TemporaryDirectory(prefix=".rjoin-", dir=output.parent) as folder:
             yield Path(folder, output.name)
-            for path in sorted(Path(folder).iterdir()):
+            written = sorted(Path(folder).iterdir())
+            for path in written:
+                refuse_taken(output.parent / path.name, overwrite)
+            for path in written:
                 os.replace(path, output.parent / path.name)
     except OSError as fault:
         raise RjoinError(f"{output} cannot be written: {fault.strerror or fault}") from fault
 
 
-def write(rows: Any, output: Path) -> None:
+def write(rows: Any, output: Path, overwrite: bool) -> None:
     """Writes a file of the kind of its extension, and the files that belong to it."""
-    if output.suffix.lower() == ".csv":
-        with placed(output) as path:
+    if is_csv(output):
+        with placed(output, overwrite) as path:
             rows.to_csv(path, index=False, lineterminator="\n")
         return
     driver = driver_of(output)
-    with placed(output) as path:
+    options = key_option(driver, rows.columns)
+    with placed(output, overwrite) as path:
         try:
             if "geometry" in rows.columns:
-                rows.to_file(path, driver=driver)
+                rows.to_file(path, driver=driver, **options)
             else:
-                write_table(rows, path, driver)
+                write_table(rows, path, driver, options)
         except Exception as fault:  # GDAL's faults have no common class
             raise RjoinError(f"{output} cannot be written: {fault}") from fault
 
@@ -190,14 +217,26 @@ def driver_of(output: Path) -> str:
         raise ArgumentError(f"GDAL writes no files with the extension {output.suffix!r}") from fault
 
 
-def write_table(rows: Any, path: Path, driver: str) -> None:
+def key_option(driver: str, names: Iterable[str]) -> Dict[str, str]:
+    """GDAL's option for a GeoPackage's key where a field has the name that the key has else.
+
+    GDAL would take the field for the key, and a feature may be in several pairs.
+    """
+    taken = {str(name).lower() for name in names}
+    if driver != "GPKG" or PACKAGE_KEY not in taken:
+        return {}
+    others = (f"{PACKAGE_KEY}_{number}" for number in count(2))
+    return {"FID": next(name for name in others if name not in taken)}
+
+
+def write_table(rows: Any, path: Path, driver: str, options: Mapping[str, str]) -> None:
     """Writes rows without geometries."""
     import fiona
 
     fields = {str(name): field_type(rows[name].dtype.kind) for name in rows.columns}
     schema = {"geometry": "None", "properties": fields}
     values = rows.astype(object).where(rows.notna(), None)
-    with fiona.open(path, "w", driver=driver, schema=schema) as output:
+    with fiona.open(path, "w", driver=driver, schema=schema, **options) as output:
         output.writerecords({"type": "Feature", "geometry": None, "properties": record}
                             for record in values.to_dict("records"))
 
@@ -207,8 +246,8 @@ def field_type(kind: str) -> str:
     return {"i": "int", "u": "int", "f": "float", "b": "bool", "M": "datetime"}.get(kind, "str")
 
 
-def write_notices(notices: Notices, path: Path) -> None:
-    with placed(path) as part, open(part, "w", newline="", encoding="utf-8") as file:
+def write_notices(notices: Notices, path: Path, overwrite: bool) -> None:
+    with placed(path, overwrite) as part, open(part, "w", newline="", encoding="utf-8") as file:
         rows = csv.writer(file, lineterminator="\n")
         rows.writerow(("what", *Notice._fields))
         rows.writerows(notices.rows())

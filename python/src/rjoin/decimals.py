@@ -50,14 +50,14 @@ def fewest(corners: Numbers) -> int:
 
 def units(corners: Numbers, decimals: int) -> Units:
     """The numbers of a matrix in units of the last decimal, or Unwritable with the first row."""
+    power = 10.0 ** decimals
+    wrong = np.flatnonzero((np.abs(corners) > LIMIT / power).any(axis=1))
+    if wrong.size:
+        raise Unwritable(int(wrong[0]), f"a coordinate is above {LIMIT} units of 10^-{decimals}")
     wrong = np.flatnonzero(~is_exact(corners, decimals).all(axis=1))
     if wrong.size:
         raise Unwritable(int(wrong[0]), f"a coordinate has more than {decimals} decimals")
-    counted = np.rint(corners * 10.0 ** decimals)
-    wrong = np.flatnonzero((np.abs(counted) > LIMIT).any(axis=1))
-    if wrong.size:
-        raise Unwritable(int(wrong[0]), f"a coordinate is above {LIMIT} units of 10^-{decimals}")
-    whole: Units = counted.astype(np.int64)
+    whole: Units = np.rint(corners * power).astype(np.int64)
     return whole
 
 

@@ -3,6 +3,7 @@ from __future__ import annotations
 
 import csv
 import os
+from contextlib import contextmanager
 from itertools import islice
 from pathlib import Path
 from typing import Any, Iterator, List, NamedTuple, Optional
@@ -13,6 +14,8 @@ from rjoin import texts
 from rjoin.errors import InputError
 
 HEADER = b"id,wkt"
+MOST_HEADER = len(b'"id","wkt"\r\n')
+MOST_BYTES = 134_217_728
 
 
 class Place(NamedTuple):
@@ -35,7 +38,7 @@ def is_plain(place: Place) -> bool:
     """Whether the file has the program's own form, which is CSV with the header id,wkt."""
     try:
         with open(place.path, "rb") as file:
-            return file.readline(len(HEADER) + 2).rstrip(b"\r\n") == HEADER
+            return file.readline(MOST_HEADER).replace(b'"', b"").rstrip(b"\r\n") == HEADER
     except OSError:
         return False
 
@@ -56,12 +59,30 @@ def id_of(place: Place, row: int) -> Optional[str]:
     return record[0] if record else None
 
 
+def first_with_nul(place: Place) -> int:
+    """The row, counted from 1, of the first record with a NUL character, or 0."""
+    if b"\0" not in place.path.read_bytes():
+        return 0
+    return next(row for row, record in enumerate(records_of(place), start=1)
+                if any("\0" in field for field in record))
+
+
 def records_of(place: Place) -> Iterator[List[str]]:
     """The records behind the header."""
-    with open(place.path, newline="", encoding="utf-8", errors="replace") as file:
+    with open(place.path, newline="", encoding="utf-8", errors="replace") as file, long_fields():
         rows = (row for row in csv.reader(file) if row)
         next(rows, None)
         yield from rows
+
+
+@contextmanager
+def long_fields() -> Iterator[None]:
+    """Has the module csv read fields as long as a file may be."""
+    before = csv.field_size_limit(MOST_BYTES)
+    try:
+        yield
+    finally:
+        csv.field_size_limit(before)
 
 
 def read(text: "str | os.PathLike[str]", side: str) -> Any:

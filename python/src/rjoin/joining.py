@@ -177,7 +177,7 @@ def met(job: Job, geometry: Single) -> Any:
     with faults_without_rows():
         text = geometry.text(job.scale)
     with job.ready() as (_, paths):
-        answer = program.run(["window", *paths, text, "--scale", job.scale.option])
+        answer = program.run(["window", "--scale", job.scale.option, "--", *paths, text])
     kind = "str" if job.sources[0].has_ids else "int64"
     return pandas.read_csv(io.BytesIO(answer), dtype={"id": kind}, keep_default_na=False)["id"]
 
@@ -187,7 +187,7 @@ def related(first: Single, second: Single, decimals: Optional[int]) -> str:
     with faults_without_rows(), named_faults(()):
         scale = scale_of((first, second), decimals)
         texts = [first.text(scale), second.text(scale)]
-        answer = program.run(["relate", *texts, "--scale", scale.option])
+        answer = program.run(["relate", "--scale", scale.option, "--", *texts])
     return answer.decode().strip()
 
 

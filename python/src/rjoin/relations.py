@@ -17,6 +17,8 @@ REFUSED = {
 
 def check(relation: str) -> None:
     """Refuses what is neither a name nor a mask of DE-9IM."""
+    if not isinstance(relation, str):
+        raise ArgumentError(f"relation must be a text, not {relation!r}")
     if relation in REFUSED:
         raise ArgumentError(f"relation {relation!r} is refused: {REFUSED[relation]}")
     if relation not in NAMES and not MASK.fullmatch(relation):

@@ -78,8 +78,11 @@ def boxes_of(geometries: Objects, all_envelopes: bool = False) -> Boxes:
     boxes = read_boxes(data, bodies, (lengths > 0) & bodies.whole & (bodies.points > 0))
     boxes.status[bodies.points == 0] = Status.EMPTY
     boxes.status[lengths == 0] = Status.MISSING
+    compound = np.flatnonzero(~bodies.whole & (boxes.status == Status.OTHER))
+    without = np.array([geometry.is_empty for geometry in geometries[compound]], np.bool_)
+    boxes.status[compound[without]] = Status.EMPTY
     if all_envelopes:
-        compound = np.flatnonzero(~bodies.whole & (boxes.status == Status.OTHER))
+        compound = compound[~without]
         bounds = [geometry.bounds or (np.nan,) * 4 for geometry in geometries[compound]]
         boxes.corners[compound] = np.reshape(np.array(bounds, np.float64), (-1, 4))
         finite = np.isfinite(boxes.corners[compound]).all(axis=1)

@@ -189,9 +189,12 @@ class TextSource(Source):
         super().__init__(side)
         self.values = values
         self.index = index
-        there = np.fromiter(map(isinstance, values, repeat(str)), np.bool_, len(values))
-        if not there.all():
-            raise self.error(int(there.argmin()) + 1, REASONS[Status.MISSING])
+        missing = pandas.isna(values)
+        if missing.any():
+            raise self.error(int(missing.argmax()) + 1, REASONS[Status.MISSING])
+        unwritable = texts.first_unwritable(values.tolist())
+        if unwritable:
+            raise self.error(unwritable, texts.NO_TEXT)
 
     def error(self, row: int, reason: str) -> InputError:
         return InputError(self.side, reason, row, self.index[row - 1])
@@ -202,13 +205,15 @@ class TextSource(Source):
     def write(self, folder: Path, scale: Scale) -> Path:
         path = folder / f"{self.side}.csv"
         with open(path, "w", newline="", encoding="utf-8") as file:
-            rows = csv.writer(file, lineterminator="\n")
+            rows = csv.writer(file, lineterminator="\n", quoting=csv.QUOTE_NONNUMERIC)
             rows.writerow(("id", "wkt"))
             rows.writerows(enumerate(self.values))
         return path
 
     def text(self, scale: Scale) -> str:
-        """The text of the only geometry."""
+        """The text of the only geometry, as a word of a command line."""
+        if "\0" in self.values[0]:
+            raise self.error(1, texts.NO_TEXT)
         return str(self.values[0])
 
     def positions(self, ids: Any) -> Rows:
@@ -242,6 +247,9 @@ class FileSource(Source):
         return decimals_of_texts(self, files.texts_of(self.place))
 
     def write(self, folder: Path, scale: Scale) -> Path:
+        row = files.first_with_nul(self.place)
+        if row:
+            raise self.error(row, "a NUL character, behind which pandas doesn't read")
         return self.place.path.absolute()
 
     def positions(self, ids: Any) -> Rows:
@@ -269,8 +277,19 @@ def source_of(layer: Any, side: str, rules: Rules) -> Source:
         source = values_source(np.asarray(layer, dtype=object), layer.index, side, rules)
         source.crs = getattr(layer, "crs", None)
         return source
-    values = np.fromiter(layer, object)
+    values = values_of(layer, side)
     return values_source(values, pandas.RangeIndex(len(values)), side, rules)
+
+
+def values_of(layer: Any, side: str) -> Objects:
+    """The values of a sequence or another iterable, but not the parts of a geometry."""
+    if not hasattr(layer, "geoms"):
+        try:
+            return np.fromiter(layer, object)
+        except TypeError:
+            pass
+    raise ArgumentError(f"{side} has to be a frame, a series, a sequence or a path, not of type "
+                        f"{type(layer).__name__}")
 
 
 def file_source(path: "str | os.PathLike[str]", side: str, rules: Rules) -> Source:
@@ -291,11 +310,29 @@ def values_source(values: Objects, index: pandas.Index, side: str,
                   rules: Rules) -> "GeometrySource | TextSource":
     """The input for geometries or texts, which the first value that is there tells."""
     there = ~pandas.isna(values)
-    first = values[int(there.argmax())] if there.any() else None
-    if isinstance(first, str):
+    if not there.any():
+        return GeometrySource(side, values, index, rules)
+    first = values[int(there.argmax())]
+    if not isinstance(first, str) and not hasattr(first, "geom_type"):
+        raise ArgumentError(f"{side} has no geometries but values of type {type(first).__name__}")
+    kind = type_of_all(first)
+    alike = np.fromiter(map(isinstance, values, repeat(kind)), np.bool_, len(values)) | ~there
+    if not alike.all():
+        row = int(alike.argmin())
+        raise InputError(side, f"a value of type {type(values[row]).__name__} among "
+                         f"{'texts' if kind is str else 'geometries'}", row + 1, index[row])
+    if kind is str:
         if rules == Rules():
             return TextSource(side, values, index)
         values = texts.geometries_of(values, index, side)
-    elif first is not None and not hasattr(first, "geom_type"):
-        raise ArgumentError(f"{side} has no geometries but values of type {type(first).__name__}")
     return GeometrySource(side, values, index, rules)
+
+
+def type_of_all(first: Any) -> type:
+    """The type that all values of a layer have whose first one is a text or a geometry."""
+    if isinstance(first, str):
+        return str
+    from shapely.geometry.base import BaseGeometry
+
+    base: type = BaseGeometry
+    return base
