@@ -26,7 +26,9 @@ COMPARED = [("chip", "1/0", "2/0", relation)
     ("town", "1/0", "1/0", "equals"), ("town", "3/0", "1/0", "intersects")]
 
 FAULTS = {
-    "7/0 overlaps 2/0": "the layout has no layer 7/0",
+    "7/0 overlaps 2/0": "the layout has no layer '7/0'",
+    "1/x overlaps 2/0": "the layout has no layer '1/x'",
+    "1/0 overlaps M(2/0)": "the layout has no layer 'M(2/0)'",
     "1/0 disjoint 2/0": "disjoint features may fit",
     "1/0 TTT 2/0": "not a name or a mask",
     "1/0 overlaps 2/0 drop": "others must be one of error, envelope, skip",

@@ -117,13 +117,16 @@ def _add(layer: BoxLayer, shape: pya.Shape, cell: str, trans: pya.ICplxTrans, ot
 
 
 def layer_index(layout: pya.Layout, name: str) -> int:
-    """The index of a named layer of the layout."""
-    wanted = pya.LayerInfo.from_string(name)
+    """The index of the layer that is named, as KLayout writes it, by its name or its numbers.
+
+    LayerInfo.from_string isn't used: it takes what it cannot read for any layer.
+    """
     for index in layout.layer_indexes():
         info = layout.get_info(index)
-        if info.name == name or info.is_equivalent(wanted):
+        numbers = f"{info.layer}/{info.datatype}"
+        if name and name in (str(info), info.name, "" if info.is_named() else numbers):
             return int(index)
-    raise JoinError(f"the layout has no layer {name}")
+    raise JoinError(f"the layout has no layer {name!r}")
 
 
 def layer_names(layout: pya.Layout) -> List[str]:
