@@ -218,6 +218,9 @@ select pg_temp.rjoin_id(:'left', :'left_id') as left_id, pg_temp.rjoin_id(:'righ
 create table :into as
     select l.:"left_id" as left_id, r.:"right_id" as right_id, ''::character(9) as matrix
     from :left l, :right r with no data;
+-- With its schema, since a temporary table of its name would go first.
+select format('%I.%I', nspname, relname) as pairs
+from pg_class join pg_namespace on pg_namespace.oid = relnamespace where pg_class.oid = :'into'::regclass \gset
 \if :lists
     create table :skipped (side text not null, id text, reason text not null);
     create temporary view rjoin_skipped as select * from :skipped;
@@ -238,14 +241,14 @@ select pg_temp.rjoin_write('rjoin_left', :'left', :decimals, 'rjoin_left_file'),
 \copy (select id, wkt from rjoin_right_file) to 'right.csv' csv header
 
 create temporary table rjoin_pairs (left_n bigint, right_n bigint, matrix character(9)) on commit drop;
-\copy rjoin_pairs from program 'exec "$RJOIN" join left.csv right.csv --relation "$RJOIN_RELATION" --workers "$RJOIN_WORKERS"' csv header
-insert into :into (left_id, right_id, matrix)
+\copy rjoin_pairs from program 'exec "$RJOIN" join left.csv right.csv --relation="$RJOIN_RELATION" --workers "$RJOIN_WORKERS"' csv header
+insert into :pairs (left_id, right_id, matrix)
     select l.id, r.id, p.matrix
     from rjoin_pairs p join rjoin_left l on l.n = p.left_n join rjoin_right r on r.n = p.right_n
     order by p.left_n, p.right_n;
 commit;
 
-select 'pairs in ' || :'into' || ': ' || count(*) from :into;
+select 'pairs in ' || :'into' || ': ' || count(*) from :pairs;
 \if :lists
     select 'rows listed in ' || :'skipped' || ': ' || count(*) from :skipped;
 \endif

@@ -159,6 +159,33 @@ def test_other_geometries_and_ids_of_any_type(server: Dict[str, str]) -> None:
     assert len(psql(server, "select * from odd.gone")) == 2
 
 
+def test_ids_and_names_are_never_read_as_sql(server: Dict[str, str]) -> None:
+    """Ids with quotes, line feeds and nulls, in a table and a column whose names are SQL."""
+    table, pairs = '"x""; drop table parcels; --"', '"pairs\'; drop table zones; --"'
+    psql(server, f'create table {table} ("an \'id\'" text, geom geometry)',
+         f"insert into {table} values (E'a\\n\"b\"', 'POINT (1 1)'), (null, 'POINT (1 1)'),"
+         " (';''\\N', 'POINT (1 1)'), ('', 'POINT (1 1)')")
+    words = ["zones", "--relation", "intersects", "--left-id", "an 'id'", "--into"]
+    assert f"pairs in {pairs}" in done(server, table, *words, pairs)
+    own = f'select "an \'id\'", z.id from {table} l join zones z on ST_Intersects(l.geom, z.geom)'
+    expected = psql(server, f"{own} order by 1, 2")
+    assert psql(server, f"select left_id, right_id from {pairs} order by 1, 2") == expected
+    assert len(expected) >= 4
+    for name in ("x; drop table zones", "zones z", "(select * from zones)", "zones; --"):
+        assert "invalid name syntax" in refused(server, name, *words, "never")
+        assert "not a valid identifier" in refused(server, table, *words, name)
+    assert psql(server, "select * from zones") and psql(server, "select * from parcels")
+
+
+@pytest.mark.parametrize("name", ["rjoin_left", "rjoin_pairs", "rjoin_skipped"])
+def test_names_that_the_script_uses_too(server: Dict[str, str], name: str) -> None:
+    for others in ("error", "skip"):
+        done(server, "parcels", "zones", "--relation", "overlaps", "--others", others,
+             "--into", name)
+        assert psql(server, f"select count(*) from {name}") == [["20"]]
+        psql(server, f"drop table {name}", f"drop table if exists {name}_skipped")
+
+
 def test_decimals(server: Dict[str, str]) -> None:
     psql(server, "create table fine (number int primary key, a geometry, b geometry)",
          "insert into fine values (7, 'POINT (0.2500001 0.5)', 'POINT (0.25 0.5)')",
@@ -180,6 +207,7 @@ def test_decimals(server: Dict[str, str]) -> None:
     (["nowhere", "zones", "--relation", "within"], 'relation "nowhere" does not exist'),
     (["parcels", "zones", "--relation", "disjoint"], "disjoint features may fit"),
     (["parcels", "zones", "--relation", "overlap"], "did you mean overlaps?"),
+    (["parcels", "zones", "--relation=--help"], "not a name or a mask"),
     (["parcels", "zones", "--relation", "within", "--left-id", "key"], "has no column key"),
     (["unkeyed", "zones", "--relation", "within"], "has no primary key of one column"),
     (["parcels", "zones", "--relation", "within", "--into", "zones"], "already exists"),

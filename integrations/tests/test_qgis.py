@@ -316,6 +316,7 @@ def test_the_program_is_named_where_it_is_missing(runs: Any) -> None:
 
 def test_wrong_masks_are_refused(runs: Any) -> None:
     answers = runs([ours(town("parcels"), town("roads"), "touches", MASK=mask)
-                    for mask in ("TTT", "T*F**F**x")])
+                    for mask in ("TTT", "T*F**F**x", "--help")])
     assert "not a name or a mask" in answers[0]["error"]
     assert "bad letter at place 8" in answers[1]["error"]
+    assert "not a name or a mask" in answers[2]["error"]

@@ -173,7 +173,7 @@ class _Join:
             feedback.setProgress(40 if layer is left else 80)
         workers = self.algorithm.parameterAsInt(self.parameters, WORKERS, self.context)
         report = folder / "report.csv"
-        program.run(["join", *map(str, paths), "--relation", self.relation,
+        program.run(["join", *map(str, paths), f"--relation={self.relation}",
                      "--workers", str(workers)], report, feedback.isCanceled)
         return _partners(report)
 

@@ -86,7 +86,7 @@ def join_layers(layout: pya.Layout, cell: pya.Cell, request: Request) -> pya.Rep
         for path, layer in zip(paths, (left, right)):
             write_layer(path, layer)
         report = folder / "report.csv"
-        program.run(["join", *map(str, paths), "--relation", request.relation], report)
+        program.run(["join", *map(str, paths), f"--relation={request.relation}"], report)
         return _Report(layout, cell, request, left, right).of(_pairs(report))
 
 

@@ -31,7 +31,7 @@ def check_relation(relation: str) -> None:
 
     Wrong words end with a status of their own before a file is opened, so empty files do for it.
     """
-    words = [find_program(), "join", os.devnull, os.devnull, "--relation", relation]
+    words = [find_program(), "join", os.devnull, os.devnull, f"--relation={relation}"]
     ended = subprocess.run(words, stdin=subprocess.DEVNULL, capture_output=True, text=True,
                            check=False)
     if ended.returncode == WRONG_WORDS:
