@@ -1,4 +1,6 @@
 pub mod CommandLemmas
 pub mod JoinCommandLemmas
 pub mod LayerCommandLemmas
+pub mod ReadingLemmas
+pub mod UsageLemmas
 pub mod WordLemmas

@@ -1,8 +1,12 @@
 -- A line that is made in pieces.
-use Rattle.std.proofs.Common.{◌≡◌, ℕ, List, [], ◌∷◌, ◌++◌, Option, Result, OnOk, OnErr, ap, subst, append_assoc, codes, ◌∙◌}
+use Rattle.std.proofs.Common.{◌≡◌, ℕ, Bool, List, [], ◌∷◌, ◌++◌, Option, Result, OnOk, OnErr, ap, subst, append_assoc, codes, ◌∙◌}
 use Rattle.std.specs.Io.KnownBytes.{Appends}
 use Rattle.output_core.specs.Written.{AppendsPrefix}
 use Rattle.join_core.specs.Lines.{line_of}
+use Rattle.clap.specs.Words.{Text}
+use Rattle.command_core.specs.Endings.{WordsAreDone}
+use Rattle.command_core.specs.Opening.{Files}
+use Rattle.command_core.specs.Readings.{ReadAs}
 
 -- a line that begins with the program's name, and one text behind it
 pub one_piece : (begun line text : List ℕ) → begun ≡ codes "rjoin: " → line ≡ begun ++ text → line ++ 10 ∷ [] ≡ line_of text
@@ -21,3 +25,10 @@ ok_as r old new a b e h = subst (λ (l : List ℕ). OnOk r (Appends old new l)) 
 pub err_as : {T E : Type 0} (r : Result T E) (old new : Option (List ℕ)) (a b : List ℕ) → a ≡ b → OnErr r (AppendsPrefix old new a)
     → OnErr r (AppendsPrefix old new b)
 err_as r old new a b e h = subst (λ (l : List ℕ). OnErr r (AppendsPrefix old new l)) e h
+
+-- words that are done, by other words that are the same
+pub words_done_as : {O E : Type 0} {known : Option Files} {written : O → Option (List ℕ)} {is_flushed has_failed : O → Bool} {output output' : O}
+    {told : E → Option (List ℕ)} {has_failed' : E → Bool} {errors errors' : E} {status : ℕ} (old new : List Text) → old ≡ new
+    → WordsAreDone old known written is_flushed has_failed output output' told has_failed' errors errors' status
+    → WordsAreDone new known written is_flushed has_failed output output' told has_failed' errors errors' status
+words_done_as old new same done = record { read = done.read; reading = subst (λ (ws : List Text). ReadAs ws done.read) same done.reading; done = done.done }

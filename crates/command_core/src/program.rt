@@ -1,14 +1,15 @@
 //! The program: from the words of the command line to the exit status.
 
-ghost use Rattle.std.specs.Prelude.{◌≡◌, false};
-ghost use Rattle.command_core.specs.Endings.{IsShownBy, WordsAreDone};
+ghost use Rattle.std.specs.Prelude.{◌≡◌, false, map, string_bytes, IfOk, IfErr};
+ghost use Rattle.command_core.specs.Endings.{IsShownBy, ProgramIsDone, WordsAreDone};
+ghost use Rattle.command_core.specs.Readings.{IsUngiven};
 
 use crate::command::{FAILED, run_command};
 use crate::inputs::Inputs;
 use crate::word_fault::{word_line, word_status};
 use crate::words::{WordFault, read_words};
 use join_core::{RunFault, Sink, WriteFailed, fault_line};
-use std::alloc::AllocError;
+use std::alloc::{AllocError, Global};
 use std::random::RandomSource;
 use std::rt::Env;
 use std::sync::Wait;
@@ -25,7 +26,7 @@ pub fn run_program<
 >(rt: &R, inputs: &I, output: &mut O, errors: &mut E) -> u8
     requires output { O.has_failed output.old ≡ false }
     requires errors { E.has_failed errors.old ≡ false }
-    ensures { WordsAreDone (I.files inputs.now)
+    ensures { ProgramIsDone (I.files inputs.now)
         O.written O.is_flushed O.has_failed output.old output.new
         E.written E.has_failed errors.old errors.new result }
 {
@@ -36,7 +37,9 @@ pub fn run_program<
 }
 
 /// The words of the command line.
-fn given_words<R: Env + AllocGlobal>(rt: &R) -> Result<Vec<String>, WordFault> {
+fn given_words<R: Env + AllocGlobal>(rt: &R) -> Result<Vec<String>, WordFault>
+    ensures { IfErr result IsUngiven }
+{
     match env::args(rt) {
         Ok(words) => Ok(words.collect(rt.alloc())?),
         Err(error) if error.kind() == io::ErrorKind::OutOfMemory => Err(WordFault::Memory),
@@ -56,18 +59,26 @@ pub fn run_words<
 >(rt: &R, words: &[String], inputs: &I, output: &mut O, errors: &mut E) -> u8
     requires output { O.has_failed output.old ≡ false }
     requires errors { E.has_failed errors.old ≡ false }
-    ensures { WordsAreDone (I.files inputs.now)
+    ensures { WordsAreDone (map string_bytes words.now) (I.files inputs.now)
         O.written O.is_flushed O.has_failed output.old output.new
         E.written E.has_failed errors.old errors.new result }
 {
-    let words: Result<Vec<&str>, AllocError> = words
-        .iter()
-        .map(|word| word.as_str())
-        .collect(rt.alloc());
-    match words {
+    match texts_of(rt.alloc(), words) {
         Ok(words) => run_read(rt, words.as_slice(), inputs, output, errors),
         Err(AllocError) => show_word_fault(&WordFault::Memory, output, errors),
     }
+}
+
+/// The words as texts.
+fn texts_of(alloc: Global, words: &[String]) -> Result<Vec<&str>, AllocError>
+    ensures { IfOk result (λ texts.
+        map (λ text. text.now) texts.items ≡ map string_bytes words.now) }
+{
+    let mut texts = Vec::new(alloc);
+    for word in words {
+        texts.push(word.as_str())?;
+    }
+    Ok(texts)
 }
 
 /// Reads words as a command, which is run, or as the fault that is shown.
@@ -80,7 +91,7 @@ fn run_read<R: RandomSource + AllocGlobal + Threads + Wait + Sync, I: Inputs, O:
 ) -> u8
     requires output { O.has_failed output.old ≡ false }
     requires errors { E.has_failed errors.old ≡ false }
-    ensures { WordsAreDone (I.files inputs.now)
+    ensures { WordsAreDone (map (λ word. word.now) words.now) (I.files inputs.now)
         O.written O.is_flushed O.has_failed output.old output.new
         E.written E.has_failed errors.old errors.new result }
 {

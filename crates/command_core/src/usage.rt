@@ -1,5 +1,15 @@
 //! What the program tells of its words: commands, options and help.
 
+ghost use Rattle.std.specs.Prelude.{codes, IfOk};
+ghost use Rattle.clap.specs.Simple.{new_shape};
+ghost use Rattle.command_core.specs.Usage.{AddsRules, HasRules, HasUsage, IsArgument, IsBegun};
+ghost use Rattle.command_core.specs.Usage.{bounds_about, draw_about, edit_rules, edits_rule};
+ghost use Rattle.command_core.specs.Usage.{join_about, join_rules, layer_only_rules, layer_rules, numeric_rule};
+ghost use Rattle.command_core.specs.Usage.{option_rules, positional_rule, program_about, relation_rule};
+ghost use Rattle.command_core.specs.Usage.{program_shape, program_usage, relate_about};
+ghost use Rattle.command_core.specs.Usage.{relate_rules, scale_rule, stats_about, window_about};
+ghost use Rattle.command_core.specs.Usage.{window_rules};
+
 use clap::{Arg, Command, value_parser};
 use std::alloc::{AllocError, Global};
 
@@ -115,12 +125,10 @@ Exit status: 0 for success, 1 for a fault of the file, output, memory or hashing
 words";
 
 /// What `clap` is told of the program.
-pub fn usage<'a>(alloc: Global) -> Result<Command<'a>, AllocError> {
-    Command::new(alloc, "rjoin")
-        .about("Joins two layers of geometries by a spatial relation")
-        .after_help(PROGRAM_HELP)
-        .version("0.2.0")
-        .subcommand_required(true)
+pub fn usage<'a>(alloc: Global) -> Result<Command<'a>, AllocError>
+    ensures { IfOk result (HasUsage program_usage) }
+{
+    program_begun(alloc)
         .subcommand(relate_usage(alloc)?)?
         .subcommand(join_usage(alloc)?)?
         .subcommand(draw_usage(alloc)?)?
@@ -129,52 +137,85 @@ pub fn usage<'a>(alloc: Global) -> Result<Command<'a>, AllocError> {
         .subcommand(bounds_usage(alloc)?)
 }
 
-fn relate_usage<'a>(alloc: Global) -> Result<Command<'a>, AllocError> {
-    Command::new(alloc, "relate")
-        .about("Writes the DE-9IM matrix of two geometries")
-        .after_help(RELATE_HELP)
+fn program_begun<'a>(alloc: Global) -> Command<'a>
+    ensures { IsBegun program_shape program_about result }
+{
+    Command::new(alloc, "rjoin")
+        .about("Joins two layers of geometries by a spatial relation")
+        .after_help(PROGRAM_HELP)
+        .version("0.2.0")
+        .subcommand_required(true)
+}
+
+fn relate_usage<'a>(alloc: Global) -> Result<Command<'a>, AllocError>
+    ensures { IfOk result (HasRules (codes "relate") relate_rules) }
+{
+    relate_begun(alloc)
         .arg(positional(alloc, "A", "First geometry, as well-known text"))?
         .arg(positional(alloc, "B", "Second geometry, as well-known text"))?
         .arg(scale(alloc))
 }
 
-fn join_usage<'a>(alloc: Global) -> Result<Command<'a>, AllocError> {
-    let command = Command::new(alloc, "join")
-        .about("Writes the pairs of features of two layers that stand in a relation")
-        .after_help(JOIN_HELP);
-    with_join_arguments(alloc, command)
+fn relate_begun<'a>(alloc: Global) -> Command<'a>
+    ensures { IsBegun (new_shape (codes "relate")) relate_about result }
+{
+    Command::new(alloc, "relate")
+        .about("Writes the DE-9IM matrix of two geometries")
+        .after_help(RELATE_HELP)
 }
 
-fn draw_usage<'a>(alloc: Global) -> Result<Command<'a>, AllocError> {
-    let command = Command::new(alloc, "draw")
+fn join_usage<'a>(alloc: Global) -> Result<Command<'a>, AllocError>
+    ensures { IfOk result (HasRules (codes "join") join_rules) }
+{
+    with_join_arguments(alloc, join_begun(alloc))
+}
+
+fn join_begun<'a>(alloc: Global) -> Command<'a>
+    ensures { IsBegun (new_shape (codes "join")) join_about result }
+{
+    Command::new(alloc, "join")
+        .about("Writes the pairs of features of two layers that stand in a relation")
+        .after_help(JOIN_HELP)
+}
+
+fn draw_usage<'a>(alloc: Global) -> Result<Command<'a>, AllocError>
+    ensures { IfOk result (HasRules (codes "draw") join_rules) }
+{
+    with_join_arguments(alloc, draw_begun(alloc))
+}
+
+fn draw_begun<'a>(alloc: Global) -> Command<'a>
+    ensures { IsBegun (new_shape (codes "draw")) draw_about result }
+{
+    Command::new(alloc, "draw")
         .about("Writes a picture of two layers and of the pairs that stand in a relation, as SVG")
-        .after_help(DRAW_HELP);
-    with_join_arguments(alloc, command)
+        .after_help(DRAW_HELP)
 }
 
 /// The command with the arguments of a join.
-fn with_join_arguments<'a>(alloc: Global, command: Command<'a>) -> Result<Command<'a>, AllocError> {
+fn with_join_arguments<'a>(alloc: Global, command: Command<'a>) -> Result<Command<'a>, AllocError>
+    ensures { IfOk result (AddsRules command.entry join_rules) }
+{
     with_options(alloc, with_edits(alloc, with_layers(alloc, command)?)?)
 }
 
-fn with_layers<'a>(alloc: Global, command: Command<'a>) -> Result<Command<'a>, AllocError> {
+fn with_layers<'a>(alloc: Global, command: Command<'a>) -> Result<Command<'a>, AllocError>
+    ensures { IfOk result (AddsRules command.entry layer_rules) }
+{
     command
         .arg(positional(alloc, "LEFT", "CSV file of the left layer"))?
         .arg(positional(alloc, "RIGHT", "CSV file of the right layer"))
 }
 
-fn with_edits<'a>(alloc: Global, command: Command<'a>) -> Result<Command<'a>, AllocError> {
-    let relation = Arg::new(alloc, "relation")
-        .long("relation")
-        .help("Name of a relation, or mask of nine letters")
-        .required(true);
-    let edits = Arg::new(alloc, "edits")
-        .long("edits")
-        .help("CSV file of edits, which are made before the join");
-    command.arg(relation)?.arg(edits)
+fn with_edits<'a>(alloc: Global, command: Command<'a>) -> Result<Command<'a>, AllocError>
+    ensures { IfOk result (AddsRules command.entry edit_rules) }
+{
+    command.arg(relation(alloc))?.arg(edits(alloc))
 }
 
-fn with_options<'a>(alloc: Global, command: Command<'a>) -> Result<Command<'a>, AllocError> {
+fn with_options<'a>(alloc: Global, command: Command<'a>) -> Result<Command<'a>, AllocError>
+    ensures { IfOk result (AddsRules command.entry option_rules) }
+{
     command
         .arg(numeric(alloc, "workers", "Threads that join, 1 to 16", "4"))?
         .arg(numeric(alloc, "batch", "Pairs a batch, 1 to 4096", "256"))?
@@ -182,38 +223,66 @@ fn with_options<'a>(alloc: Global, command: Command<'a>) -> Result<Command<'a>, 
         .arg(scale(alloc))
 }
 
-fn window_usage<'a>(alloc: Global) -> Result<Command<'a>, AllocError> {
-    Command::new(alloc, "window")
-        .about("Writes the ids of the features of a layer that meet a geometry")
-        .after_help(WINDOW_HELP)
+fn window_usage<'a>(alloc: Global) -> Result<Command<'a>, AllocError>
+    ensures { IfOk result (HasRules (codes "window") window_rules) }
+{
+    window_begun(alloc)
         .arg(positional(alloc, "LAYER", "CSV file of the layer"))?
         .arg(positional(alloc, "WKT", "Geometry of the window, as well-known text"))?
         .arg(scale(alloc))
 }
 
-fn stats_usage<'a>(alloc: Global) -> Result<Command<'a>, AllocError> {
+fn window_begun<'a>(alloc: Global) -> Command<'a>
+    ensures { IsBegun (new_shape (codes "window")) window_about result }
+{
+    Command::new(alloc, "window")
+        .about("Writes the ids of the features of a layer that meet a geometry")
+        .after_help(WINDOW_HELP)
+}
+
+fn stats_usage<'a>(alloc: Global) -> Result<Command<'a>, AllocError>
+    ensures { IfOk result (HasRules (codes "stats") layer_only_rules) }
+{
+    stats_begun(alloc)
+        .arg(positional(alloc, "LAYER", "CSV file of the layer"))?
+        .arg(scale(alloc))
+}
+
+fn stats_begun<'a>(alloc: Global) -> Command<'a>
+    ensures { IsBegun (new_shape (codes "stats")) stats_about result }
+{
     Command::new(alloc, "stats")
         .about("Counts the features of a layer by kind, and the levels of its tree")
         .after_help(STATS_HELP)
+}
+
+fn bounds_usage<'a>(alloc: Global) -> Result<Command<'a>, AllocError>
+    ensures { IfOk result (HasRules (codes "bounds") layer_only_rules) }
+{
+    bounds_begun(alloc)
         .arg(positional(alloc, "LAYER", "CSV file of the layer"))?
         .arg(scale(alloc))
 }
 
-fn bounds_usage<'a>(alloc: Global) -> Result<Command<'a>, AllocError> {
+fn bounds_begun<'a>(alloc: Global) -> Command<'a>
+    ensures { IsBegun (new_shape (codes "bounds")) bounds_about result }
+{
     Command::new(alloc, "bounds")
         .about("Writes the corners of the features of a layer")
         .after_help(BOUNDS_HELP)
-        .arg(positional(alloc, "LAYER", "CSV file of the layer"))?
-        .arg(scale(alloc))
 }
 
 /// An argument that has to be given, by its place.
-fn positional<'a>(alloc: Global, name: &'a str, help: &'a str) -> Arg<'a> {
+fn positional<'a>(alloc: Global, name: &'a str, help: &'a str) -> Arg<'a>
+    ensures { IsArgument (positional_rule name.entry.now) result }
+{
     Arg::new(alloc, name).help(help).required(true)
 }
 
 /// An option that is a whole number.
-fn numeric<'a>(alloc: Global, name: &'a str, help: &'a str, default: &'a str) -> Arg<'a> {
+fn numeric<'a>(alloc: Global, name: &'a str, help: &'a str, default: &'a str) -> Arg<'a>
+    ensures { IsArgument (numeric_rule name.entry.now default.entry.now) result }
+{
     Arg::new(alloc, name)
         .long(name)
         .help(help)
@@ -221,8 +290,27 @@ fn numeric<'a>(alloc: Global, name: &'a str, help: &'a str, default: &'a str) ->
         .default_value(default)
 }
 
+fn relation<'a>(alloc: Global) -> Arg<'a>
+    ensures { IsArgument relation_rule result }
+{
+    Arg::new(alloc, "relation")
+        .long("relation")
+        .help("Name of a relation, or mask of nine letters")
+        .required(true)
+}
+
+fn edits<'a>(alloc: Global) -> Arg<'a>
+    ensures { IsArgument edits_rule result }
+{
+    Arg::new(alloc, "edits")
+        .long("edits")
+        .help("CSV file of edits, which are made before the join")
+}
+
 /// The option of every command: decimals of all coordinates.
-fn scale<'a>(alloc: Global) -> Arg<'a> {
+fn scale<'a>(alloc: Global) -> Arg<'a>
+    ensures { IsArgument scale_rule result }
+{
     numeric(
         alloc,
         "scale",

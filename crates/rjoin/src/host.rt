@@ -1,6 +1,6 @@
 //! The files of the host.
 
-use command_core::{Inputs, NotOpened, STANDARD_INPUT};
+use command_core::{Inputs, NotOpened, is_standard_input};
 use file_core::FromRead;
 use std::fs::OpenFile;
 use std::io::{Input, Read};
@@ -33,7 +33,7 @@ impl<'a, R: Files + Input> Inputs for HostFiles<'a, R> {
     type File = FromRead<HostFile<R::File, R::Reader>>;
 
     fn open(&self, path: &str) -> Result<FromRead<HostFile<R::File, R::Reader>>, NotOpened> {
-        if path == STANDARD_INPUT {
+        if is_standard_input(path) {
             return Ok(FromRead::new(HostFile::StandardInput(self.rt.reader())));
         }
         match fs::open(self.rt, path) {

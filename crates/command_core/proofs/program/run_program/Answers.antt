@@ -1,5 +1,8 @@
-use Rattle.std.proofs.Common.{Err}
+use Rattle.std.proofs.Common.{Ok, Err, map, string_bytes}
 use Rattle.command_core.proofs.program.run_program.Goals as goal
 
+pub returns-in-Ok : goal.returns-in-Ok
+returns-in-Ok g c = record { given = Ok (map string_bytes c.as_slice.result.now); done = c.run_words.ensures }
+
 pub returns-in-Err : goal.returns-in-Err
-returns-in-Err g c = record { read = Err c.in-Err.fault; done = c.show_word_fault.ensures }
+returns-in-Err g c = record { given = Err c.in-Err.fault; done = (c.in-Err.ensures, c.show_word_fault.ensures) }

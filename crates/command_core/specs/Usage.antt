@@ -1,0 +1,139 @@
+-- What `clap` is told of the words: the commands, and of each what its arguments may be.
+use Rattle.std.specs.Prelude.{◌≡◌, ℕ, List, [], ◌∷◌, ◌++◌, Some, codes, true, false, pos, option_map}
+use Rattle.clap.specs.Words.{App, Rule, Shape, Text, app_of, new_rule, rule_of}
+use Rattle.clap.specs.declared.builder.command.Command.TheViews.{out-Command as fields_of}
+use Rattle.clap.specs.Simple.{new_shape, on_top}
+use Rattle.clap.specs.declared.builder.arg.Arg.{Arg}
+use Rattle.clap.specs.declared.builder.command.Command.{Command}
+use Rattle.clap.specs.declared.builder.value_parser.ValueParser.TheVariants.{Signed}
+
+-- ---- arguments
+
+-- an argument that has to be given, by its place
+abbrev pub positional_rule : Text → Rule
+positional_rule name = record (new_rule name) { required = true }
+
+-- `--name`, a whole number of 32 bits, and what it is where it isn't given
+abbrev pub numeric_rule : Text → Text → Rule
+numeric_rule name default = record (new_rule name) {
+  long = Some name;
+  parser = Some (Signed (pos 0) (pos 4294967295));
+  defaults = default ∷ [];
+}
+
+abbrev pub scale_rule : Rule
+scale_rule = numeric_rule (codes "scale") (codes "0")
+
+abbrev pub relation_rule : Rule
+relation_rule = record (new_rule (codes "relation")) {
+  long = Some (codes "relation");
+  required = true;
+}
+
+abbrev pub edits_rule : Rule
+edits_rule = record (new_rule (codes "edits")) { long = Some (codes "edits") }
+
+-- ---- commands
+
+abbrev pub layer_rules : List Rule
+layer_rules = positional_rule (codes "LEFT") ∷ positional_rule (codes "RIGHT") ∷ []
+
+abbrev pub edit_rules : List Rule
+edit_rules = relation_rule ∷ edits_rule ∷ []
+
+abbrev pub option_rules : List Rule
+option_rules =
+    numeric_rule (codes "workers") (codes "4") ∷ numeric_rule (codes "batch") (codes "256")
+    ∷ numeric_rule (codes "cut") (codes "2") ∷ scale_rule ∷ []
+
+abbrev pub join_rules : List Rule
+join_rules = layer_rules ++ edit_rules ++ option_rules
+
+abbrev pub relate_rules : List Rule
+relate_rules = positional_rule (codes "A") ∷ positional_rule (codes "B") ∷ scale_rule ∷ []
+
+abbrev pub window_rules : List Rule
+window_rules = positional_rule (codes "LAYER") ∷ positional_rule (codes "WKT") ∷ scale_rule ∷ []
+
+-- those of `stats` and of `bounds`
+abbrev pub layer_only_rules : List Rule
+layer_only_rules = positional_rule (codes "LAYER") ∷ scale_rule ∷ []
+
+abbrev pub subcommand_shape : Text → List Rule → Shape
+subcommand_shape name rules = record (new_shape name) { rules = rules }
+
+abbrev pub subcommand_shapes : List Shape
+subcommand_shapes =
+    subcommand_shape (codes "relate") relate_rules
+    ∷ subcommand_shape (codes "join") join_rules
+    ∷ subcommand_shape (codes "draw") join_rules
+    ∷ subcommand_shape (codes "window") window_rules
+    ∷ subcommand_shape (codes "stats") layer_only_rules
+    ∷ subcommand_shape (codes "bounds") layer_only_rules ∷ []
+
+-- the program, of which one command has to be named
+abbrev pub program_shape : Shape
+program_shape = record (new_shape (codes "rjoin")) {
+  has_version = true;
+  subcommand_required = true;
+}
+
+abbrev pub program_usage : App
+program_usage = record {
+  top = record program_shape { is_leaf = false };
+  subs = subcommand_shapes;
+}
+
+-- ---- what help says of the commands
+
+abbrev pub program_about : Text
+program_about = codes "Joins two layers of geometries by a spatial relation"
+
+abbrev pub relate_about : Text
+relate_about = codes "Writes the DE-9IM matrix of two geometries"
+
+abbrev pub join_about : Text
+join_about = codes "Writes the pairs of features of two layers that stand in a relation"
+
+abbrev pub draw_about : Text
+draw_about =
+    codes "Writes a picture of two layers and of the pairs that stand in a relation, as SVG"
+
+abbrev pub window_about : Text
+window_about = codes "Writes the ids of the features of a layer that meet a geometry"
+
+abbrev pub stats_about : Text
+stats_about = codes "Counts the features of a layer by kind, and the levels of its tree"
+
+abbrev pub bounds_about : Text
+bounds_about = codes "Writes the corners of the features of a layer"
+
+-- ---- what the code declares
+
+-- the argument is declared so, and for its own command alone
+pub record IsArgument (declared : Rule) (arg : Arg) : Type 0 where
+  pub rule : rule_of arg ≡ declared
+  pub local : arg.global ≡ false
+
+-- the command has no argument and no subcommand yet, and its help says this of it
+pub record IsBegun (begun : Shape) (text : Text) (command : Command) : Type 0 where
+  pub shape : app_of command ≡ record { top = begun; subs = [] }
+  pub about : option_map (λ about. about.now) (fields_of command).about ≡ Some text
+  pub local : (fields_of command).has_globals ≡ false
+
+-- the command has these arguments more, none of them for its subcommands
+abbrev pub with_rules : App → List Rule → App
+with_rules app rules = on_top (λ shape. record shape { rules = shape.rules ++ rules }) app
+
+pub record AddsRules (old : Command) (rules : List Rule) (new : Command) : Type 0 where
+  pub shape : app_of new ≡ with_rules (app_of old) rules
+  pub globals : (fields_of new).has_globals ≡ (fields_of old).has_globals
+
+-- the command has this usage, and no argument for all of its subcommands
+pub record HasUsage (usage : App) (command : Command) : Type 0 where
+  pub shape : app_of command ≡ usage
+  pub local : (fields_of command).has_globals ≡ false
+
+-- the same of a command without subcommands
+abbrev pub HasRules : Text → List Rule → Command → Type 0
+HasRules name rules = HasUsage (record { top = subcommand_shape name rules; subs = [] })
