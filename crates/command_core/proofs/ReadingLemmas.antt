@@ -1,11 +1,11 @@
 -- What the readings of words follow from.
-use Rattle.std.proofs.Common.{◌≡◌, ◌≢◌, ◌↔◌, ◌⊎◌, length, find, map, IfOk, IfErr, IsErrAnd, ◌<◌, ◌≤◌, ◌^◌, ◌∙◌, ℕ, Bool, true, false, List, Option, Some, None, Result, Ok, Err, inl, inr, refl, sym, ap, ap₂, subst, arith, [], ◌∷◌}
+use Rattle.std.proofs.Common.{◌≡◌, ◌≢◌, ◌↔◌, length, find, map, IfOk, IfErr, IsErrAnd, ◌<◌, ◌≤◌, ◌^◌, ◌∙◌, ℕ, Bool, true, false, List, Option, Some, None, Result, Ok, Err, inl, inr, refl, sym, ap, ap₂, subst, arith, [], ◌∷◌}
 use Rattle.std.specs.Prelude.{if◌then◌else◌, unwrap_or, nat_le, codes, option_map, option_and_then}
 use Rattle.std.proofs.lemmas.Bool.{leb-true, le-leb}
 use Rattle.std.specs.Bool.{MatchBool}
 use Rattle.std.specs.Borrow.{Bor}
 use Rattle.std.specs.Str.Parse.{ParsesUnsigned, IsNumeral, digits_value, without_leading_plus}
-use Rattle.clap.specs.Words.{Accepts, ReadsOne, App, HasKind, HasMatchesOf, Kinds, Row, Text, app_of, fault_of, first_of, first_value, found_of, is_simple}
+use Rattle.clap.specs.Words.{ReadsOne, App, HasKind, HasMatchesOf, Kinds, Row, Text, app_of, fault_of, first_of, first_value, found_of, is_simple}
 use Rattle.clap.specs.Words.{is_simple_and_free, kind_of, one_text, rows_of, subcommand_name_of, subcommand_of, subcommand_rows_of}
 use Rattle.clap.specs.declared.builder.command.Command.{Command as ClapCommand}
 use Rattle.clap.specs.declared.error.Error.{Error}

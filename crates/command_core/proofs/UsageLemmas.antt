@@ -1,5 +1,5 @@
 -- How a command comes to its usage.
-use Rattle.std.proofs.Common.{◌≡◌, ◌∙◌, ◌++◌, ◌∷◌, ◌||◌, [], List, Bool, true, false, refl, sym, ap, ap₂, append_assoc}
+use Rattle.std.proofs.Common.{◌≡◌, ◌∙◌, ◌++◌, ◌∷◌, ◌||◌, [], List, Bool, true, false, refl, ap, ap₂, append_assoc}
 use Rattle.clap.specs.Words.{AddsArg, AddsSubcommand, App, app_of, Rule, Shape, Text, with_rule, with_subcommand}
 use Rattle.clap.specs.Simple.{new_shape}
 use Rattle.clap.specs.declared.builder.arg.Arg.{Arg}

@@ -1,5 +1,5 @@
 -- What the words of the command line are read as, by what `clap` finds in them.
-use Rattle.std.specs.Prelude.{◌≡◌, ◌≢◌, ◌<◌, ◌⊎◌, ◌&&◌, ◌||◌, ⊤, ℕ, Bool, true, false, List, []}
+use Rattle.std.specs.Prelude.{◌≡◌, ◌≢◌, ◌<◌, ◌⊎◌, ◌&&◌, ◌||◌, ℕ, Bool, true, false, List, []}
 use Rattle.std.specs.Prelude.{◌∷◌, ◌++◌, length, Option, Some, None, Result, Ok, Err, codes}
 use Rattle.std.specs.Prelude.{if◌then◌else◌, find, nat_le, nat_eq, option_map, option_and_then}
 use Rattle.std.specs.Prelude.{string_bytes}
@@ -26,7 +26,6 @@ use Rattle.geom_core.specs.declared.relation.Relation.{Relation}
 use Rattle.wkt_core.specs.ScaleLimits.{most_digits}
 use Rattle.wkt_core.specs.Scales.{digits_of}
 use Rattle.wkt_core.specs.declared.scale.Scale.{Scale}
-use Rattle.join_core.specs.Lines.{line_of}
 use Rattle.join_core.specs.Options.{workers_of, batch_of, cut_of, AreWorkers, IsBatch, IsCut}
 use Rattle.join_core.specs.declared.options.Options.{Options}
 use Rattle.join_core.specs.declared.options.OptionFault.TheVariants as range
@@ -85,7 +84,8 @@ pub record IsJoinIn (rows : List Row) (join : JoinRequest) : Type 0 where
   pub left : first_of (codes "LEFT") rows ≡ Some join.left_path.now
   pub right : first_of (codes "RIGHT") rows ≡ Some join.right_path.now
   pub edits : first_of (codes "edits") rows ≡ text_in join.edits_path
-  pub one_input : share_input join.left_path.now join.right_path.now (text_in join.edits_path) ≡ false
+  pub one_input : share_input join.left_path.now join.right_path.now (text_in join.edits_path)
+      ≡ false
   pub relation : IsRelationIn rows join.relation
   pub options : AreOptionsIn rows join.options
   pub scale : IsScaleIn rows join.scale

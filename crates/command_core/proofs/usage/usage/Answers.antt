@@ -1,4 +1,4 @@
-use Rattle.std.proofs.Common.{codes, [], ◌∷◌, ◌++◌}
+use Rattle.std.proofs.Common.{[]}
 use Rattle.std.proofs.lemmas.Result.{IfOk-weaker}
 use Rattle.command_core.proofs.UsageLemmas.{adds_command}
 use Rattle.command_core.specs.Usage.{HasUsage, program_shape}

@@ -1,4 +1,4 @@
-use Rattle.std.proofs.Common.{codes, [], ◌∷◌, ◌++◌}
+use Rattle.std.proofs.Common.{codes, [], ◌∷◌}
 use Rattle.std.proofs.lemmas.Result.{IfOk-weaker}
 use Rattle.command_core.proofs.UsageLemmas.{adds_one, adds_then}
 use Rattle.command_core.specs.Usage.{numeric_rule, scale_rule}
