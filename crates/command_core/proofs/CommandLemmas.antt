@@ -7,11 +7,11 @@ use Rattle.wkt_core.specs.declared.scale.Scale.{Scale}
 use Rattle.join_core.specs.declared.fault.Input.{Input}
 use Rattle.join_core.specs.declared.fault.RunFault.{RunFault}
 use Rattle.join_core.specs.declared.fault.RunFault.TheVariants as run
-use Rattle.join_core.specs.Relating.{IsMatrixLine, HasFirstFault, IsTextFault}
+use Rattle.join_core.specs.Relating.{RelateGives, IsMatrixLine, HasFirstFault, IsTextFault}
 use Rattle.join_core.specs.Runs.{Ends, WritesAll, WritesPrefix}
 use Rattle.command_core.specs.declared.words.Command.{Command}
 use Rattle.command_core.specs.declared.words.Command.TheVariants.{Relate}
-use Rattle.command_core.specs.Commands.{AfterOpening, TextsGive, CommandGives, IsCommandText, BlamesCommand, IsFoundFirst, IsFoundNext}
+use Rattle.command_core.specs.Commands.{AfterOpening, CommandGives, IsCommandText, BlamesCommand, IsFoundFirst, IsFoundNext}
 use Rattle.command_core.specs.Commands.{IsFaultOf, CommandEnds}
 use Rattle.command_core.specs.Opening.{Files}
 
@@ -57,7 +57,7 @@ not_begun P written is_flushed has_failed sink (Err e) f fresh is other = record
 -- ---- relating
 
 text_fault_named : (scale : Scale) (a b : List ℕ) (f : RunFault) → IsTextFault f
-    → ((i : Input) (w : WktFault) → f ≡ run.Wkt i w → HasFirstFault scale a b i w) → TextsGive scale a b (Err f)
+    → ((i : Input) (w : WktFault) → f ≡ run.Wkt i w → HasFirstFault scale a b i w) → RelateGives scale a b (Err f)
 text_fault_named scale a b (run.Wkt i w) is named = named i w refl
 text_fault_named scale a b (run.NoFile i) is named = absurd is
 text_fault_named scale a b (run.Read i r) is named = absurd is

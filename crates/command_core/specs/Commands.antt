@@ -3,7 +3,6 @@ use Rattle.std.specs.Prelude.{◌≡◌, ◌≢◌, ⊤, ℕ, List, Option, Some
 use Rattle.std.specs.Prelude.{IfSome, IfErr}
 use Rattle.std.specs.Borrow.{Bor}
 use Rattle.geom_core.specs.JoinRelations.{relation_of}
-use Rattle.wkt_core.specs.declared.scale.Scale.{Scale}
 use Rattle.join_core.specs.declared.fault.Input.{Input}
 use Rattle.join_core.specs.declared.fault.Input.TheVariants as input
 use Rattle.join_core.specs.declared.fault.RunFault.{RunFault}
@@ -12,7 +11,7 @@ use Rattle.join_core.specs.BoundsRuns.{BoundsGives, IsBoundsFault}
 use Rattle.join_core.specs.DrawRuns.{DrawGives, IsDrawFault}
 use Rattle.join_core.specs.JoinRuns.{JoinFiles, JoinGives, IsJoinFault}
 use Rattle.join_core.specs.Inputs.{BlamesInput}
-use Rattle.join_core.specs.Relating.{IsMatrixLine, HasFirstFault, IsTextFault}
+use Rattle.join_core.specs.Relating.{RelateGives, IsTextFault}
 use Rattle.join_core.specs.Runs.{Ends}
 use Rattle.join_core.specs.StatsRuns.{StatsGives, IsStatsFault}
 use Rattle.join_core.specs.WindowRuns.{WindowGives, IsWindowFault}
@@ -46,14 +45,8 @@ PathsGive Gives at join answer =
     AfterEdits at join.edits_path answer (λ e.
     Gives (record { scale = join.scale; left = Some l; right = Some r; edits = e }) answer)))
 
--- the matrix of two texts, or the first that is at fault
-abbrev pub TextsGive : Scale → List ℕ → List ℕ → Result (List ℕ) RunFault → Type 0
-TextsGive scale a b (Ok line) = IsMatrixLine scale a b line
-TextsGive scale a b (Err (run.Wkt input fault)) = HasFirstFault scale a b input fault
-TextsGive scale a b (Err _) = ⊥
-
 abbrev pub CommandGives : Files → Command → Result (List ℕ) RunFault → Type 0
-CommandGives at (Relate a b scale) answer = TextsGive scale a.now b.now answer
+CommandGives at (Relate a b scale) answer = RelateGives scale a.now b.now answer
 CommandGives at (Join join) answer =
     PathsGive (JoinGives (relation_of join.relation)) at join answer
 CommandGives at (Draw join) answer =

@@ -1,8 +1,7 @@
 -- The answers of a picture of files.
-use Rattle.std.proofs.Common.{◌≡◌, ◌≤◌, ◌<◌, ℕ, List, Result, Ok, Err, IsErrAnd, IsErrOf, IfErr, IfOk, Global, String, refl, sym, subst}
-use Rattle.std.specs.String.{string_bytes}
+use Rattle.std.proofs.Common.{◌≡◌, ◌<◌, ℕ, List, Result, Ok, Err, IsErrAnd, IsErrOf, IfErr, refl, sym, subst}
 use Rattle.geom_core.specs.declared.relation.Relation.{Relation}
-use Rattle.layer_core.specs.Edits.{Layers, both}
+use Rattle.layer_core.specs.Edits.{Layers}
 use Rattle.layer_core.specs.Layers.{Contents}
 use Rattle.draw_core.specs.Limits.{most_drawn}
 use Rattle.draw_core.specs.Pictures.{picture_of}
@@ -11,7 +10,7 @@ use Rattle.join_core.specs.declared.fault.RunFault.TheVariants.{TooManyToDraw}
 use Rattle.join_core.specs.Inputs.{BlamesInput}
 use Rattle.join_core.specs.Joins.{IsJoinList}
 use Rattle.join_core.specs.JoinRuns.{JoinFiles, LayersGive, IsJoinFault}
-use Rattle.join_core.specs.DrawRuns.{features_of, DrawGives, no_layers, too_many, drawn, IsLateDrawFault, IsDrawFault}
+use Rattle.join_core.specs.DrawRuns.{features_of, DrawGives, no_layers, too_many, IsLateDrawFault, IsDrawFault}
 use Rattle.join_core.proofs.JoinRunLemmas.{handed_on, none_blamed, late_is_of_join}
 
 -- without layers there is no picture
@@ -25,16 +24,6 @@ pub pairs_drawn : (relation : Relation) (left right : Contents) (pairs list : Li
     → (ps : List (ℕ × ℕ)) × IsJoinList relation left right ps × (text ≡ picture_of left right ps)
 pairs_drawn relation left right pairs list text same joined is =
     (pairs, joined, subst (λ (l : List (ℕ × ℕ)). text ≡ picture_of left right l) same is)
-
--- the last step, which lists the pairs and draws the layers
-pub picture_given : (relation : Relation) (files : JoinFiles) (left right : Contents) (out : Result (String Global) RunFault)
-    → LayersGive files (Ok (both left right))
-    → IfOk out (λ _. features_of (both left right) ≤ most_drawn)
-    → IfOk out (λ text. (pairs : List (ℕ × ℕ)) × IsJoinList relation left right pairs × (string_bytes text ≡ picture_of left right pairs))
-    → IfOk out (λ text. DrawGives relation files (Ok (string_bytes text)))
-picture_given relation files left right (Ok text) given few picture =
-    subst (λ (t : List ℕ). DrawGives relation files (Ok t)) (sym picture.2) (drawn (both left right) picture.0 given few picture.1)
-picture_given relation files left right (Err e) given few picture = tt
 
 -- of the late faults only that of too many features blames the input
 late_blamed : (relation : Relation) (files : JoinFiles) (layers : Layers) (e : RunFault) → LayersGive files (Ok layers)

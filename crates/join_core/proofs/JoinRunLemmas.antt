@@ -1,6 +1,6 @@
 -- The answers of a join of files.
 use Rattle.std.proofs.Common.{◌≡◌, ℕ, List, Option, Some, None, Result, Ok, Err, IsSome, IsErrAnd, IsErrOf, IsSomeAnd, IfSome, IsTrue, Bool, true, false, IfErr}
-use Rattle.std.proofs.Common.{IfOk, Vec, Global, ◌↔◌, ◌≢◌, All, get_or, refl, sym, subst, ◌∙◌, map}
+use Rattle.std.proofs.Common.{◌↔◌, ◌≢◌, All, get_or, refl, sym, subst, ◌∙◌, map}
 use Rattle.geom_core.specs.declared.relation.Relation.{Relation}
 use Rattle.layer_core.specs.declared.edit.Edit.{Edit as EditType}
 use Rattle.layer_core.specs.declared.fault.LayerFault.{LayerFault}
@@ -13,11 +13,11 @@ use Rattle.join_core.specs.declared.fault.Input.TheVariants.{First, Second, Left
 use Rattle.join_core.specs.declared.fault.RunFault.{RunFault}
 use Rattle.join_core.specs.declared.fault.RunFault.TheVariants.{NoFile, Read, Wkt, Edit, Join, TooManyToDraw, Write, Memory, NoKeys}
 use Rattle.join_core.specs.Inputs.{LayerFile, BlamesBytes, BlamesEdit, BlamesInput}
-use Rattle.join_core.specs.JoinRuns.{JoinFiles, EditFile, LayersGive, edits_fault, edit_refused, edited, JoinGives, no_layers, reported, IsLateFault}
+use Rattle.join_core.specs.JoinRuns.{JoinFiles, EditFile, LayersGive, edits_fault, edit_refused, edited, JoinGives, no_layers, IsLateFault}
 use Rattle.join_core.specs.JoinRuns.{IsJoinFault}
 use Rattle.join_core.specs.SourceStates.{FailedAt}
 use Rattle.join_core.specs.Joins.{IsJoinList}
-use Rattle.output_core.specs.Reports.{IsHeld, IsReport}
+use Rattle.output_core.specs.Reports.{IsHeld}
 use Rattle.output_core.specs.Written.{joined}
 use Rattle.join_core.proofs.JoinLemmas.{contains_at}
 
@@ -85,13 +85,6 @@ pub no_report : {T : Type 0} (relation : Relation) (files : JoinFiles) (out : Re
 no_report relation files out e h fault = handed_on (JoinGives relation files) out e e h refl (λ blame. no_layers e (fault blame))
 
 -- the last step of a join, which lists the pairs and makes the report
-pub last_ok : (relation : Relation) (files : JoinFiles) (left right : Contents) (out : Result (Vec (Vec ℕ Global) Global) RunFault)
-    → LayersGive files (Ok (both left right))
-    → IfOk out (λ texts. (pairs : List (ℕ × ℕ)) × IsJoinList relation left right pairs × IsReport left right pairs (joined texts.items))
-    → IfOk out (λ texts. JoinGives relation files (Ok (joined texts.items)))
-last_ok relation files left right (Ok texts) given report = reported (both left right) report.0 (joined texts.items) given report.1 report.2
-last_ok relation files left right (Err e) given report = tt
-
 pub last_fault : {T : Type 0} (relation : Relation) (files : JoinFiles) (out : Result T RunFault)
     → IfErr out IsLateFault → IfErr out (λ f. BlamesInput f → JoinGives relation files (Err f))
 last_fault relation files (Ok x) err = tt

@@ -4,6 +4,7 @@ pub mod JoinLemmas
 pub mod JoinRunLemmas
 pub mod LayersLemmas
 pub mod LineLemmas
+pub mod ProductLemmas
 pub mod RelatingLemmas
 pub mod StatsLemmas
 pub mod TreeJoinLemmas

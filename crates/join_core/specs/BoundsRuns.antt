@@ -18,9 +18,6 @@ pub data BoundsGives (scale : Scale) (file : Option (List ℕ))
   listed : (layer : Contents) → LayerFile scale file (Ok layer)
       → BoundsGives scale file (Ok (bounds_text layer.features))
 
-abbrev pub IsBoundsText : Scale → Option (List ℕ) → List ℕ → Type 0
-IsBoundsText scale file text = BoundsGives scale file (Ok text)
-
 -- a fault that listing corners may have, that of its sink aside
 abbrev pub IsBoundsFault : RunFault → Type 0
 IsBoundsFault (Read input.Layer f) = ⊤

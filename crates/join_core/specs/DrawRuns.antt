@@ -24,10 +24,6 @@ pub data DrawGives (relation : Relation) (files : JoinFiles)
       → features_of layers ≤ most_drawn → IsJoinList relation layers.left layers.right pairs
       → DrawGives relation files (Ok (picture_of layers.left layers.right pairs))
 
--- the picture that these files give
-abbrev pub IsDrawnText : Relation → JoinFiles → List ℕ → Type 0
-IsDrawnText relation files text = DrawGives relation files (Ok text)
-
 -- a fault that may come when all is read and the edits are made, that of the sink aside
 abbrev pub IsLateDrawFault : RunFault → Type 0
 IsLateDrawFault TooManyToDraw = ⊤

@@ -78,10 +78,6 @@ pub data JoinGives (relation : Relation) (files : JoinFiles)
       → IsJoinList relation layers.left layers.right pairs
       → IsReport layers.left layers.right pairs text → JoinGives relation files (Ok text)
 
--- the report that a join of these files gives
-abbrev pub IsJoinText : Relation → JoinFiles → List ℕ → Type 0
-IsJoinText relation files text = JoinGives relation files (Ok text)
-
 -- a fault that may come when all is read and the edits are made, that of the sink aside: a want
 -- of memory or of threads
 abbrev pub IsLateFault : RunFault → Type 0

@@ -1,5 +1,5 @@
 -- What two texts relate as.
-use Rattle.std.specs.Prelude.{◌≡◌, ⊤, ℕ, List, [], ◌∷◌, ◌++◌, Ok, Err}
+use Rattle.std.specs.Prelude.{◌≡◌, ⊤, ℕ, List, [], ◌∷◌, ◌++◌, Result, Ok, Err}
 use Rattle.geom_core.specs.declared.shape.Shape.{Shape}
 use Rattle.geom_core.specs.declared.matrix.Matrix.{Matrix}
 use Rattle.geom_core.specs.Matrices.{IsMatrix, letters_of}
@@ -27,6 +27,12 @@ HasFirstFault scale a b First fault = Reads scale a (Err fault)
 HasFirstFault scale a b Second fault =
     ((s : Shape) × Reads scale a (Ok s)) × Reads scale b (Err fault)
 HasFirstFault scale a b _ fault = ⊥
+
+-- the matrix of two texts, or the first that is at fault
+abbrev pub RelateGives : Scale → List ℕ → List ℕ → Result (List ℕ) RunFault → Type 0
+RelateGives scale a b (Ok line) = IsMatrixLine scale a b line
+RelateGives scale a b (Err (Wkt input fault)) = HasFirstFault scale a b input fault
+RelateGives scale a b (Err _) = ⊥
 
 -- a fault that relating two texts may have, that of its sink aside
 abbrev pub IsTextFault : RunFault → Type 0

@@ -1,9 +1,13 @@
 -- How a run ends that writes one text.
-use Rattle.std.specs.Prelude.{◌≡◌, ◌≢◌, ◌↔◌, ℕ, List, Option, Bool, Result, IsTrue, IfErr, OnOk}
-use Rattle.std.specs.Prelude.{IsErrOf}
+use Rattle.std.specs.Prelude.{◌≡◌, ◌≢◌, ◌↔◌, ℕ, List, Option, Bool, Result, Ok, Err, IsTrue, IfErr}
+use Rattle.std.specs.Prelude.{OnOk, IsErrOf}
 use Rattle.std.specs.Io.KnownBytes.{Appends}
+use Rattle.file_core.specs.declared.read_fault.ReadFault.TheVariants.{Io}
+use Rattle.wkt_core.specs.declared.fault.WktFault.{WktFault}
+use Rattle.join_core.specs.declared.fault.Input.{Input}
 use Rattle.join_core.specs.declared.fault.RunFault.{RunFault}
-use Rattle.join_core.specs.declared.fault.RunFault.TheVariants.{Write}
+use Rattle.join_core.specs.declared.fault.RunFault.TheVariants.{Read, Wkt, Write}
+use Rattle.join_core.specs.Inputs.{BlamesInput}
 use Rattle.output_core.specs.Written.{AppendsPrefix}
 
 -- known bytes grow by a text of this kind
@@ -24,3 +28,20 @@ pub record Ends {T S : Type 0} (IsText : List ℕ → Type 0)
   pub failed : IsErrOf result Write ↔ IsTrue (has_failed new)
   pub partly : IsErrOf result Write → WritesPrefix IsText (written old) (written new)
   pub untouched : IfErr result (λ f. f ≢ Write → new ≡ old)
+
+-- how the run of a job ends that gives this: what it writes; exactly the faults of geometries; that
+-- the job gives a fault which blames an input; no other faults; exactly which source has failed
+pub record RunEnds {T S : Type 0} (Gives : Result (List ℕ) RunFault → Type 0)
+    (HasTextFault : Input → WktFault → Type 0) (IsFault : RunFault → Type 0)
+    (HasFailed : Input → Type 0)
+    (written : S → Option (List ℕ)) (is_flushed has_failed : S → Bool)
+    (old new : S) (result : Result T RunFault) : Type 0 where
+  pub writes : Ends (λ text. Gives (Ok text)) written is_flushed has_failed old new result
+  pub wkt : (i : Input) (f : WktFault) → (result ≡ Err (Wkt i f)) ↔ HasTextFault i f
+  pub fault : IfErr result (λ f. BlamesInput f → Gives (Err f))
+  pub faults : IfErr result (λ f. f ≢ Write → IsFault f)
+  pub io : (i : Input) → IsErrOf result (Read i Io) ↔ HasFailed i
+
+-- no geometry is at fault
+abbrev pub NoTextFault : Input → WktFault → Type 0
+NoTextFault input fault = ⊥

@@ -21,10 +21,16 @@ FailedAt LeftFailed RightFailed EditsFailed Right = RightFailed
 FailedAt LeftFailed RightFailed EditsFailed Edits = EditsFailed
 FailedAt LeftFailed RightFailed EditsFailed _ = ⊥
 
+-- the source of this input has failed
+abbrev pub HasFailed : {A B E : Type 0} → (A → Bool) → (B → Bool) → (E → Bool)
+    → JoinSources A B E → Input → Type 0
+HasFailed left_failed right_failed edits_failed sources =
+    FailedAt (IsTrue (left_failed sources.left)) (IsTrue (right_failed sources.right))
+    (IsSomeAnd sources.edits (λ e. IsTrue (edits_failed e)))
+
 -- the result is `Io` of an input exactly where the source of this input has failed
 abbrev pub TellsFailures : {A B E T : Type 0} → (A → Bool) → (B → Bool) → (E → Bool)
     → JoinSources A B E → Result T RunFault → Type 0
 TellsFailures left_failed right_failed edits_failed sources result =
-    (i : Input) → IsErrOf result (Read i Io) ↔ FailedAt (IsTrue (left_failed sources.left))
-    (IsTrue (right_failed sources.right))
-    (IsSomeAnd sources.edits (λ e. IsTrue (edits_failed e))) i
+    (i : Input) → IsErrOf result (Read i Io)
+    ↔ HasFailed left_failed right_failed edits_failed sources i

@@ -19,9 +19,6 @@ pub data StatsGives (scale : Scale) (file : Option (List ℕ))
       → IsTreeOf layer.list layer.root
       → StatsGives scale file (Ok (stats_text (stats_of layer)))
 
-abbrev pub IsStatsText : Scale → Option (List ℕ) → List ℕ → Type 0
-IsStatsText scale file text = StatsGives scale file (Ok text)
-
 -- a fault that counting may have, that of its sink aside
 abbrev pub IsStatsFault : RunFault → Type 0
 IsStatsFault (Read input.Layer f) = ⊤

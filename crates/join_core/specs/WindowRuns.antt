@@ -26,9 +26,6 @@ pub data WindowGives (scale : Scale) (wkt : List ℕ) (file : Option (List ℕ))
       → LayerFile scale file (Ok layer) → IsWindowList window layer text
       → WindowGives scale wkt file (Ok text)
 
-abbrev pub IsWindowText : Scale → List ℕ → Option (List ℕ) → List ℕ → Type 0
-IsWindowText scale wkt file text = WindowGives scale wkt file (Ok text)
-
 -- what is wrong with the window's text
 abbrev pub HasWindowFault : Scale → List ℕ → Input → WktFault → Type 0
 HasWindowFault scale wkt input.Window f = Reads scale wkt (Err f)

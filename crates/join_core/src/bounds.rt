@@ -1,22 +1,24 @@
 //! The corners of the features of a layer.
 
-ghost use Rattle.std.specs.Prelude.{◌≡◌, ◌≢◌, ◌↔◌, Err, false, IsTrue, IfOk, IfErr, IsErrOf, OnOk};
-ghost use Rattle.file_core.specs.declared.read_fault.ReadFault.{ReadFault};
+ghost use Rattle.std.specs.Prelude.{◌≡◌, false, IsTrue, IfOk, OnOk};
 ghost use Rattle.layer_core.specs.Walks.{feature_read};
 ghost use Rattle.output_core.specs.CsvWriting.{AddsRow};
 ghost use Rattle.join_core.specs.declared.fault.Input.{Input};
+ghost use Rattle.join_core.specs.declared.fault.Input.TheVariants as input;
 ghost use Rattle.join_core.specs.Bounds.{bounds_row, bounds_text};
-ghost use Rattle.join_core.specs.BoundsRuns.{BoundsGives, IsBoundsText, IsBoundsFault};
-ghost use Rattle.join_core.specs.Inputs.{BlamesInput};
-ghost use Rattle.join_core.specs.Runs.{Ends};
+ghost use Rattle.join_core.specs.BoundsRuns.{BoundsGives, IsBoundsFault};
+ghost use Rattle.join_core.specs.Jobs.{OnlyAt};
+ghost use Rattle.join_core.specs.Runs.{NoTextFault, RunEnds};
 
 use crate::fault::{Input, RunFault};
+use crate::job::{Job, run};
 use crate::layer_input::read_input;
+use crate::text::Text;
 use csv::Writer;
-use file_core::{ReadFault, Source};
+use file_core::Source;
 use itoa::Buffer;
 use layer_core::{FeatureRef, Layer};
-use output_core::{Sink, new_rows, push_row, rows_text, write_text};
+use output_core::{Sink, new_rows, push_row, rows_text};
 use std::alloc::{AllocError, Global};
 use std::hash::RandomState;
 use wkt_core::Scale;
@@ -35,36 +37,45 @@ pub fn run_bounds<L: Source, S: Sink>(
 ) -> Result<(), RunFault>
     requires layer { L.has_failed layer.old ≡ false }
     requires sink { S.has_failed sink.old ≡ false }
-    ensures writes { Ends (IsBoundsText scale (L.remaining layer.old))
+    ensures { RunEnds (BoundsGives scale (L.remaining layer.old)) NoTextFault IsBoundsFault
+        (OnlyAt Input.Layer (IsTrue (L.has_failed layer.new)))
         S.written S.is_flushed S.has_failed sink.old sink.new result }
-    ensures fault { IfErr result (λ f.
-        BlamesInput f → BoundsGives scale (L.remaining layer.old) (Err f)) }
-    ensures faults { IfErr result (λ f. f ≢ RunFault.Write → IsBoundsFault f) }
-    ensures io { IsErrOf result (RunFault.Read Input.Layer ReadFault.Io)
-        ↔ IsTrue (L.has_failed layer.new) }
 {
-    let text = bounds_run_text(alloc, state, scale, layer)?;
-    write_text(sink, text.as_slice())?;
-    Ok(())
+    let job = BoundsJob {
+        alloc,
+        state,
+        scale,
+    };
+    run(job, layer, sink)
 }
 
-/// What `run_bounds` writes.
-fn bounds_run_text<L: Source>(
-    alloc: Global,
-    state: RandomState,
-    scale: Scale,
-    layer: &mut L,
-) -> Result<Vec<u8>, RunFault>
-    requires { L.has_failed layer.old ≡ false }
-    ensures ok { IfOk result (λ text. IsBoundsText scale (L.remaining layer.old) text.items) }
-    ensures fault { IfErr result (λ f.
-        BlamesInput f → BoundsGives scale (L.remaining layer.old) (Err f)) }
-    ensures faults { IfErr result IsBoundsFault }
-    ensures io { IsErrOf result (RunFault.Read Input.Layer ReadFault.Io)
-        ↔ IsTrue (L.has_failed layer.new) }
-{
-    let layer = read_input(alloc, Input::Layer, state, scale, layer)?;
-    Ok(bounds_text(alloc, &layer)?)
+/// The list of the corners of a layer's features.
+pub(crate) struct BoundsJob {
+    pub(crate) alloc: Global,
+    pub(crate) state: RandomState,
+    pub(crate) scale: Scale,
+}
+
+impl<L: Source> Job<L> for BoundsJob {
+    ghost gives = { λ job layer. BoundsGives job.scale (L.remaining layer) };
+
+    ghost is_fault = { λ _. IsBoundsFault };
+
+    ghost are_fresh = { λ layer. L.has_failed layer ≡ false };
+
+    ghost has_failed = { λ layer. OnlyAt input.Layer (IsTrue (L.has_failed layer)) };
+
+    ghost is_no_write = { λ _ none. none };
+
+    fn text(self, layer: &mut L) -> Result<Text, RunFault> {
+        let BoundsJob {
+            alloc,
+            state,
+            scale,
+        } = self;
+        let layer = read_input(alloc, Input::Layer, state, scale, layer)?;
+        Ok(Text::Rows(bounds_text(alloc, &layer)?))
+    }
 }
 
 /// The corners of the features, as CSV.

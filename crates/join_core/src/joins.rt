@@ -1,6 +1,5 @@
 //! Joins of two layers: edits, pairs, picture, and the runs over files.
 
-mod drawing;
 mod edited;
 mod edits;
 mod layers;
@@ -8,8 +7,7 @@ mod pairs;
 mod run;
 mod sources;
 
-pub use drawing::run_draw;
 pub use edits::apply_edits;
 pub use pairs::join;
-pub use run::run_join;
+pub use run::{run_draw, run_join};
 pub use sources::JoinSources;

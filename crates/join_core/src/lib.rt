@@ -5,11 +5,13 @@
 mod bounds;
 mod fault;
 mod fault_text;
+mod job;
 mod joins;
 mod layer_input;
 mod options;
 mod relate;
 mod stats;
+mod text;
 mod window;
 
 pub use bounds::run_bounds;

@@ -1,19 +1,20 @@
 //! Counts of the features of a layer.
 
-ghost use Rattle.std.specs.Prelude.{◌≡◌, ◌≢◌, ◌↔◌, ◌+◌, ◌≤◌, ◌++◌, Err, false, length, IsTrue};
-ghost use Rattle.std.specs.Prelude.{IfOk, IfErr, IsErrOf};
-ghost use Rattle.file_core.specs.declared.read_fault.ReadFault.{ReadFault};
+ghost use Rattle.std.specs.Prelude.{◌≡◌, ◌+◌, ◌≤◌, ◌++◌, false, length, IsTrue};
 ghost use Rattle.join_core.specs.declared.fault.Input.{Input};
-ghost use Rattle.join_core.specs.Inputs.{BlamesInput};
-ghost use Rattle.join_core.specs.Runs.{Ends};
-ghost use Rattle.join_core.specs.StatsRuns.{StatsGives, IsStatsText, IsStatsFault};
+ghost use Rattle.join_core.specs.declared.fault.Input.TheVariants as input;
+ghost use Rattle.join_core.specs.Jobs.{OnlyAt};
+ghost use Rattle.join_core.specs.Runs.{NoTextFault, RunEnds};
+ghost use Rattle.join_core.specs.StatsRuns.{StatsGives, IsStatsFault};
 ghost use Rattle.join_core.specs.StatsTexts.{count_line, stats_text};
 
 use crate::fault::{Input, RunFault};
+use crate::job::{Job, run};
 use crate::layer_input::read_input;
-use file_core::{ReadFault, Source};
+use crate::text::Text;
+use file_core::Source;
 use layer_core::Stats;
-use output_core::{Line, ROOM, Sink, write_text};
+use output_core::{Line, ROOM, Sink};
 use std::alloc::Global;
 use std::hash::RandomState;
 use wkt_core::Scale;
@@ -31,38 +32,47 @@ pub fn run_stats<L: Source, S: Sink>(
 ) -> Result<(), RunFault>
     requires layer { L.has_failed layer.old ≡ false }
     requires sink { S.has_failed sink.old ≡ false }
-    ensures writes { Ends (IsStatsText scale (L.remaining layer.old))
+    ensures { RunEnds (StatsGives scale (L.remaining layer.old)) NoTextFault IsStatsFault
+        (OnlyAt Input.Layer (IsTrue (L.has_failed layer.new)))
         S.written S.is_flushed S.has_failed sink.old sink.new result }
-    ensures fault { IfErr result (λ f.
-        BlamesInput f → StatsGives scale (L.remaining layer.old) (Err f)) }
-    ensures faults { IfErr result (λ f. f ≢ RunFault.Write → IsStatsFault f) }
-    ensures io { IsErrOf result (RunFault.Read Input.Layer ReadFault.Io)
-        ↔ IsTrue (L.has_failed layer.new) }
 {
-    let text = stats_run_text(alloc, state, scale, layer)?;
-    write_text(sink, text.as_str().as_bytes())?;
-    Ok(())
+    let job = StatsJob {
+        alloc,
+        state,
+        scale,
+    };
+    run(job, layer, sink)
 }
 
-/// What `run_stats` writes.
-fn stats_run_text<L: Source>(
-    alloc: Global,
-    state: RandomState,
-    scale: Scale,
-    layer: &mut L,
-) -> Result<Line, RunFault>
-    requires { L.has_failed layer.old ≡ false }
-    ensures ok { IfOk result (λ text. IsStatsText scale (L.remaining layer.old) text) }
-    ensures fault { IfErr result (λ f.
-        BlamesInput f → StatsGives scale (L.remaining layer.old) (Err f)) }
-    ensures faults { IfErr result IsStatsFault }
-    ensures io { IsErrOf result (RunFault.Read Input.Layer ReadFault.Io)
-        ↔ IsTrue (L.has_failed layer.new) }
-{
-    let layer = read_input(alloc, Input::Layer, state, scale, layer)?;
-    // The tree says that it is lawful, and holds exactly the features.
-    let _tree = layer.tree();
-    Ok(stats_lines(&layer.stats()))
+/// The counts of a layer's features.
+pub(crate) struct StatsJob {
+    pub(crate) alloc: Global,
+    pub(crate) state: RandomState,
+    pub(crate) scale: Scale,
+}
+
+impl<L: Source> Job<L> for StatsJob {
+    ghost gives = { λ job layer. StatsGives job.scale (L.remaining layer) };
+
+    ghost is_fault = { λ _. IsStatsFault };
+
+    ghost are_fresh = { λ layer. L.has_failed layer ≡ false };
+
+    ghost has_failed = { λ layer. OnlyAt input.Layer (IsTrue (L.has_failed layer)) };
+
+    ghost is_no_write = { λ _ none. none };
+
+    fn text(self, layer: &mut L) -> Result<Text, RunFault> {
+        let StatsJob {
+            alloc,
+            state,
+            scale,
+        } = self;
+        let layer = read_input(alloc, Input::Layer, state, scale, layer)?;
+        // The tree says that it is lawful, and holds exactly the features.
+        let _tree = layer.tree();
+        Ok(Text::Lines(stats_lines(&layer.stats())))
+    }
 }
 
 /// The counts as lines.

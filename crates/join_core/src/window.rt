@@ -1,26 +1,26 @@
 //! The features of a layer that meet a window.
 
-ghost use Rattle.std.specs.Prelude.{◌≡◌, ◌≢◌, ◌↔◌, [], ◌∷◌, List, ℕ, Err, Some, false, Contains};
-ghost use Rattle.std.specs.Prelude.{IsSome, IsTrue, IfOk, IfErr, IsErrOf, OnOk, AllPairs, ◌<◌};
+ghost use Rattle.std.specs.Prelude.{◌≡◌, ◌↔◌, [], ◌∷◌, List, ℕ, Some, false, Contains, IsSome};
+ghost use Rattle.std.specs.Prelude.{IsTrue, IfOk, OnOk, AllPairs, ◌<◌};
 ghost use Rattle.std.specs.Option.{option_map};
-ghost use Rattle.file_core.specs.declared.read_fault.ReadFault.{ReadFault};
 ghost use Rattle.layer_core.specs.Layers.{IsLayer, with_number};
-ghost use Rattle.wkt_core.specs.declared.fault.WktFault.{WktFault};
 ghost use Rattle.join_core.specs.declared.fault.Input.{Input};
+ghost use Rattle.join_core.specs.declared.fault.Input.TheVariants as input;
 ghost use Rattle.output_core.specs.CsvWriting.{AddsRow};
-ghost use Rattle.join_core.specs.Inputs.{BlamesInput};
-ghost use Rattle.join_core.specs.Runs.{Ends};
-ghost use Rattle.join_core.specs.WindowRuns.{WindowGives, IsWindowText, HasWindowFault};
-ghost use Rattle.join_core.specs.WindowRuns.{IsWindowFault};
+ghost use Rattle.join_core.specs.Jobs.{OnlyAt};
+ghost use Rattle.join_core.specs.Runs.{RunEnds};
+ghost use Rattle.join_core.specs.WindowRuns.{WindowGives, HasWindowFault, IsWindowFault};
 ghost use Rattle.join_core.specs.Windows.{IsWindowList, MeetsAt};
 
 use crate::fault::{Input, RunFault};
+use crate::job::{Job, run};
 use crate::layer_input::read_input;
+use crate::text::Text;
 use csv::Writer;
-use file_core::{ReadFault, Source};
+use file_core::Source;
 use geom_core::Shape;
 use layer_core::Layer;
-use output_core::{Sink, new_rows, push_row, rows_text, write_text};
+use output_core::{Sink, new_rows, push_row, rows_text};
 use std::alloc::{AllocError, Global};
 use std::hash::RandomState;
 use wkt_core::Scale;
@@ -40,46 +40,55 @@ pub fn run_window<L: Source, S: Sink>(
 ) -> Result<(), RunFault>
     requires layer { L.has_failed layer.old ≡ false }
     requires sink { S.has_failed sink.old ≡ false }
-    ensures writes { Ends (IsWindowText scale wkt.now (L.remaining layer.old))
+    ensures { RunEnds (WindowGives scale wkt.now (L.remaining layer.old))
+        (HasWindowFault scale wkt.now) IsWindowFault
+        (OnlyAt Input.Layer (IsTrue (L.has_failed layer.new)))
         S.written S.is_flushed S.has_failed sink.old sink.new result }
-    ensures wkt { (i : Input) (f : WktFault) →
-        (result ≡ Err (RunFault.Wkt i f)) ↔ HasWindowFault scale wkt.now i f }
-    ensures fault { IfErr result (λ f.
-        BlamesInput f → WindowGives scale wkt.now (L.remaining layer.old) (Err f)) }
-    ensures faults { IfErr result (λ f. f ≢ RunFault.Write → IsWindowFault f) }
-    ensures io { IsErrOf result (RunFault.Read Input.Layer ReadFault.Io)
-        ↔ IsTrue (L.has_failed layer.new) }
 {
-    let text = window_run_text(alloc, state, scale, layer, wkt)?;
-    write_text(sink, text.as_slice())?;
-    Ok(())
+    let job = WindowJob {
+        alloc,
+        state,
+        scale,
+        wkt,
+    };
+    run(job, layer, sink)
 }
 
-/// What `run_window` writes.
-fn window_run_text<L: Source>(
-    alloc: Global,
-    state: RandomState,
-    scale: Scale,
-    layer: &mut L,
-    wkt: &[u8],
-) -> Result<Vec<u8>, RunFault>
-    requires { L.has_failed layer.old ≡ false }
-    ensures ok { IfOk result (λ text.
-        IsWindowText scale wkt.now (L.remaining layer.old) text.items) }
-    ensures wkt { (i : Input) (f : WktFault) →
-        (result ≡ Err (RunFault.Wkt i f)) ↔ HasWindowFault scale wkt.now i f }
-    ensures fault { IfErr result (λ f.
-        BlamesInput f → WindowGives scale wkt.now (L.remaining layer.old) (Err f)) }
-    ensures faults { IfErr result IsWindowFault }
-    ensures io { IsErrOf result (RunFault.Read Input.Layer ReadFault.Io)
-        ↔ IsTrue (L.has_failed layer.new) }
-{
-    let window = match wkt_core::read(wkt, scale) {
-        Ok(shape) => shape,
-        Err(fault) => return Err(RunFault::Wkt(Input::Window, fault)),
-    };
-    let layer = read_input(alloc, Input::Layer, state, scale, layer)?;
-    Ok(window_text(alloc, &layer, &window)?)
+/// The list of a layer's features that meet a window, which is given as a text.
+pub(crate) struct WindowJob<'a> {
+    pub(crate) alloc: Global,
+    pub(crate) state: RandomState,
+    pub(crate) scale: Scale,
+    pub(crate) wkt: &'a [u8],
+}
+
+impl<L: Source> Job<L> for WindowJob<'_> {
+    ghost gives = { λ job layer. WindowGives job.scale job.wkt.now (L.remaining layer) };
+
+    ghost has_text_fault = { λ job. HasWindowFault job.scale job.wkt.now };
+
+    ghost is_fault = { λ _. IsWindowFault };
+
+    ghost are_fresh = { λ layer. L.has_failed layer ≡ false };
+
+    ghost has_failed = { λ layer. OnlyAt input.Layer (IsTrue (L.has_failed layer)) };
+
+    ghost is_no_write = { λ _ none. none };
+
+    fn text(self, layer: &mut L) -> Result<Text, RunFault> {
+        let WindowJob {
+            alloc,
+            state,
+            scale,
+            wkt,
+        } = self;
+        let window = match wkt_core::read(wkt, scale) {
+            Ok(shape) => shape,
+            Err(fault) => return Err(RunFault::Wkt(Input::Window, fault)),
+        };
+        let layer = read_input(alloc, Input::Layer, state, scale, layer)?;
+        Ok(Text::Rows(window_text(alloc, &layer, &window)?))
+    }
 }
 
 /// The ids of the features that meet the window, as CSV.

@@ -1,0 +1,43 @@
+-- What is made of the pairs of a join: a report or a picture.
+use Rattle.std.specs.Prelude.{◌≡◌, ◌≤◌, ℕ, List, Result}
+use Rattle.geom_core.specs.declared.relation.Relation.{Relation}
+use Rattle.layer_core.specs.Edits.{Layers}
+use Rattle.draw_core.specs.Limits.{most_drawn}
+use Rattle.draw_core.specs.Pictures.{picture_of}
+use Rattle.output_core.specs.Reports.{IsReport}
+use Rattle.join_core.specs.declared.fault.RunFault.{RunFault}
+use Rattle.join_core.specs.declared.joins.run.Product.{Product}
+use Rattle.join_core.specs.declared.joins.run.Product.TheVariants.{Report, Picture}
+use Rattle.join_core.specs.DrawRuns.{DrawGives, IsDrawFault, IsLateDrawFault, features_of}
+use Rattle.join_core.specs.Joins.{IsJoinList}
+use Rattle.join_core.specs.JoinRuns.{JoinFiles, JoinGives, IsJoinFault, IsLateFault}
+
+abbrev pub ProductGives : Product → Relation → JoinFiles → Result (List ℕ) RunFault → Type 0
+ProductGives Report = JoinGives
+ProductGives Picture = DrawGives
+
+-- the report of the pairs of these layers
+abbrev pub IsReported : Relation → Layers → List ℕ → Type 0
+IsReported relation layers text = (pairs : List (ℕ × ℕ))
+    × IsJoinList relation layers.left layers.right pairs
+    × IsReport layers.left layers.right pairs text
+
+-- the picture of these layers and their pairs, where they have few enough features
+abbrev pub IsDrawn : Relation → Layers → List ℕ → Type 0
+IsDrawn relation layers text = (features_of layers ≤ most_drawn)
+    × ((pairs : List (ℕ × ℕ)) × IsJoinList relation layers.left layers.right pairs
+    × (text ≡ picture_of layers.left layers.right pairs))
+
+abbrev pub IsProduct : Product → Relation → Layers → List ℕ → Type 0
+IsProduct Report = IsReported
+IsProduct Picture = IsDrawn
+
+-- a fault that such a job may have, that of the sink aside
+abbrev pub IsProductFault : Product → RunFault → Type 0
+IsProductFault Report = IsJoinFault
+IsProductFault Picture = IsDrawFault
+
+-- one that may come when all is read and the edits are made
+abbrev pub IsLateProductFault : Product → RunFault → Type 0
+IsLateProductFault Report = IsLateFault
+IsLateProductFault Picture = IsLateDrawFault
