@@ -32,7 +32,7 @@ The path - stands for standard input, for at most one file of a command.
 Exit status:
   0  what was asked for is written
   1  a fault of input, output, memory, threads or hashing keys; a line on standard error tells it
-  2  the words are wrong
+  2  the arguments are invalid
 
 rjoin COMMAND --help tells more.";
 
@@ -45,7 +45,7 @@ The nine letters are those of DE-9IM, in three rows of three: interior, boundary
 each with interior, boundary and exterior of B. F says that the two share nothing, and 0, 1 or 2
 that they share points, lines or areas.
 
-Exit status: 0 for success, 1 for a text at fault or no output, 2 for wrong words";
+Exit status: 0 for success, 1 for a text at fault or no output, 2 for invalid arguments";
 
 const JOIN_HELP: &str = "\
 A layer is a CSV file, as                 edits are a CSV file, as
@@ -74,13 +74,13 @@ boundary and exterior of the right one. F says that the two share nothing, and 0
 share points, lines or areas. Neither --workers nor --batch nor --cut changes the report.
 
 Exit status: 0 for success, 1 for a fault of a file, output, memory, threads or hashing keys, 2 for
-wrong words";
+invalid arguments";
 
 const DRAW_HELP: &str = "\
 The layers are read, edited and joined as by rjoin join, whose --help tells files and relations.
 
 The picture is SVG 1.1, which browsers show: the second axis upwards, left features in blue and
-right ones in orange, those that occur in a pair set off by stronger lines and fillings, each with
+right ones in orange, those that occur in a pair highlighted by stronger lines and fills, each with
 its id as a title that shows under the pointer. Its head counts features and pairs:
   rjoin draw parcels.csv roads.csv --relation touches > picture.svg
 
@@ -88,7 +88,7 @@ Layers with more than 100000 features together, after the edits, are refused. Ne
 --batch nor --cut changes the picture.
 
 Exit status: 0 for success, 1 for a fault of a file, output, memory, threads or hashing keys, or too
-many features, 2 for wrong words";
+many features, 2 for invalid arguments";
 
 const WINDOW_HELP: &str = "\
 A layer is a CSV file, as
@@ -100,7 +100,7 @@ A feature meets the window where they share a point. The answer is CSV: id, and 
 order of the file.
 
 Exit status: 0 for success, 1 for a fault of the file, WKT, output, memory or hashing keys, 2 for
-wrong words";
+invalid arguments";
 
 const STATS_HELP: &str = "\
 A layer is a CSV file, as

@@ -35,7 +35,7 @@ pub enum Command<'a> {
     },
     /// Write the pairs of features of two layers that stand in a relation.
     Join(JoinRequest<'a>),
-    /// Write a picture of two layers, in which the features of those pairs are set off.
+    /// Write a picture of two layers, in which the features of those pairs are highlighted.
     Draw(JoinRequest<'a>),
     /// Write the ids of a layer's features that meet the geometry of a text.
     Window {

@@ -38,7 +38,7 @@ abbrev pub end_refusal : Result ℕ Refusal → ℕ → Option Refusal
 end_refusal (Err refusal) count = Some refusal
 end_refusal (Ok next) count = if count == next then None else Some WrongCount
 
--- why a message is refused, if it is, for want of memory aside
+-- why a message is refused, if it is, running out of memory aside
 abbrev pub refusal_of : Collection → Content → Option Refusal
 refusal_of c (batch_of task number pairs) = batch_refusal (awaited c task) number
 refusal_of c (end_of task count) = end_refusal (awaited c task) count
@@ -57,7 +57,7 @@ abbrev pub collected : ℕ → List Content → Collection
 collected tasks contents = fold accept (record { tasks = tasks; marks = []; pairs = [] }) contents
 
 -- a collector of so many tasks that is offered these messages in turn refuses none of them, for
--- want of memory aside
+-- running out of memory aside
 abbrev pub RefusesNone : ℕ → List Content → Type 0
 RefusesNone tasks contents = (before after : List Content) (next : Content)
     → before ++ next ∷ after ≡ contents → refusal_of (collected tasks before) next ≡ None

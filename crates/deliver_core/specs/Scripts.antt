@@ -72,6 +72,6 @@ script task size row =
 abbrev pub Task : Type 0
 Task = ℕ × List (ℕ × ℕ)
 
--- the scripts of tasks, one behind the other
+-- the scripts of tasks, concatenated
 abbrev pub scripts_of : ℕ → List Task → List Content
 scripts_of size tasks = flat_map (λ task. script task.0 size task.1) tasks

@@ -221,7 +221,7 @@ fn first_open(progress: &[Progress]) -> Option<usize>
     progress.iter().position(|p| !p.ended)
 }
 
-/// Law of refusals: a collector refuses a message, but for want of memory, exactly where
+/// Law of refusals: a collector refuses a message, but for lack of memory, exactly where
 /// accepting it would leave no legal history.
 pub fn refusal_law()
     ensures { RefusesIllegal }

@@ -44,7 +44,7 @@ impl Outlet {
     pub const MAX_PORTS: u32 = 16;
 
     /// An outlet, in which 64 messages may wait, its 1 to 16 ports, in the order of their indexes,
-    /// and its tap. It fails only for want of memory.
+    /// and its tap. It fails only where memory runs out.
     pub fn new(alloc: Global, ports: u32) -> Result<(Outlet, Vec<Port>, Tap), AllocError>
         requires ports { (1 ≤ ports) × (ports ≤ Self.MAX_PORTS) }
         ensures count { IfOk result (λ r. (vec_len r.1 ≡ ports) × (ports ≤ most_ports)) }

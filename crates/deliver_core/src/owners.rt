@@ -11,7 +11,7 @@ ghost use Rattle.deliver_core.specs.Scripts.{of_task};
 /// Law of owners, for any number of ports: where no task has two owners, and each port sends the
 /// scripts of its own tasks in order, or a beginning of them, then the messages of each task come
 /// as in its script, whichever way those of the ports interleave, and a new collector refuses none
-/// of them but for want of memory.
+/// of them but for lack of memory.
 ///
 /// Where besides each task has an owner and each port has sent all, the history is closed, each
 /// task's messages are its script, and the pairs are those of the rows, each as often.

@@ -65,7 +65,7 @@ pub around_is : (a b c d l t : ℤ) (w h m : ℕ) → w ≡ unsigned_abs (c -ℤ
     → the_view_record l t w h m ≡ view_around a b c d
 around_is a b c d l t w h m width height margin left top = rw (left, top, margin, width, height) refl
 
--- the group of the features that the pairs set off, at the view of the layers
+-- the group of the features that the pairs highlight, at the view of the layers
 pub group_is : (side : List ℕ) (v w : View) (f g : ℕ → Bool) (layer : Contents) (t u : List ℕ) → v ≡ w → ((n : ℕ) → f n ≡ g n)
     → u ≡ t ++ group side v f layer → u ≡ t ++ group side w g layer
 group_is side v w f g layer t u view same more =

@@ -30,7 +30,7 @@ with_rows layer [] = Ok layer
 with_rows layer (row ∷ rows) =
     if_given (with_row row.number layer (Ok (content_of row))) (λ l. with_rows l rows)
 
--- the layer with these rows or the fault is answered, want of memory aside
+-- the layer with these rows or the fault is answered, running out of memory aside
 abbrev pub AnswersRows : Contents → List ReadRow → Result Contents ReadFault → Type 0
 AnswersRows layer rows answer =
     (answer ≢ Err Memory → with_rows layer rows ≡ answer) × (answer ≢ Err Io)

@@ -16,7 +16,7 @@ use wkt_core::Scale;
 /// How many rows a batch has where more may follow.
 const BATCH_ROWS: usize = 16_384;
 
-/// Rows that stand one behind the other in a file.
+/// Consecutive rows of a file.
 #[derive(Drop)]
 pub(crate) struct Batch {
     pub(crate) rows: Vec<ReadRow>,

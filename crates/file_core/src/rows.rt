@@ -96,7 +96,7 @@ fn next_record(reader: &mut Reader<&[u8]>, row: &mut ByteRecord) -> Result<bool,
     }
 }
 
-// Bytes in memory are always read, so an error that is no record's is want of memory.
+// Bytes in memory are always read, so an error that is no record's is lack of memory.
 fn want_of_memory(error: Error) -> AllocError
     requires { IsRefusedOrUnread (error_kind error) }
 {

@@ -15,7 +15,7 @@ use Rattle.join_core.specs.declared.fault.RunFault.TheVariants.{Read, Edit, TooM
 abbrev pub LayerFile : Scale → Option (List ℕ) → Result Contents ReadFault → Type 0
 LayerFile scale known answer = IfSome known (λ bytes. IsLayerFile scale bytes answer)
 
--- the answer is what a layer's bytes give at a scale, or a want of memory
+-- the answer is what a layer's bytes give at a scale, or that memory ran out
 pub record Builds (scale : Scale) (bytes : List ℕ) (answer : Result LayerState ReadFault)
     : Type 0 where
   pub no_io : answer ≢ Err read_faults.Io
@@ -27,7 +27,7 @@ BlamesBytes read_faults.Io = ⊥
 BlamesBytes read_faults.Memory = ⊥
 BlamesBytes _ = ⊤
 
--- the answer is what a layer's file gives at a scale, or a fault of a device or a want of memory
+-- the answer is what a layer's file gives at a scale, a fault of a device, or that memory ran out
 pub record Reads (scale : Scale) (known : Option (List ℕ)) (answer : Result LayerState ReadFault)
     : Type 0 where
   pub ok : IfOk answer (λ layer. LayerFile scale known (Ok layer.list))

@@ -18,7 +18,7 @@ WritesAll IsText old new = (text : List ℕ) × IsText text × Appends old new t
 abbrev pub WritesPrefix : (List ℕ → Type 0) → Option (List ℕ) → Option (List ℕ) → Type 0
 WritesPrefix IsText old new = (text : List ℕ) × IsText text × AppendsPrefix old new text
 
--- where the run succeeds, a text of this kind was written and handed on; where the sink has failed,
+-- where the run succeeds, a text of this kind was written and flushed; where the sink has failed,
 -- which the fault says, a prefix of one was written; after any other fault the sink is as it was
 pub record Ends {T S : Type 0} (IsText : List ℕ → Type 0)
     (written : S → Option (List ℕ)) (is_flushed has_failed : S → Bool)

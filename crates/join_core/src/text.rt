@@ -18,12 +18,12 @@ pub(crate) enum Text {
     Rows(Vec<u8>),
     /// SVG.
     Picture(String),
-    /// CSV, as texts one behind the other.
+    /// CSV, as texts to be concatenated.
     Report(Vec<Vec<u8>>),
 }
 
 impl Text {
-    /// Writes it and hands it on. Where the device fails, a prefix of it was written.
+    /// Writes and flushes it. Where the device fails, a prefix of it was written.
     pub(crate) fn write<S: Sink>(&self, sink: &mut S) -> Result<(), WriteFailed>
         requires { S.has_failed sink.old ≡ false }
         ensures ok { OnOk result

@@ -26,7 +26,7 @@ abbrev pub changed : Contents → List ℕ → Option Shape → Contents
 changed layer id (Some shape) = inserted layer id shape
 changed layer id None = deleted layer id
 
--- why it can't be changed so, want of memory aside
+-- why it can't be changed so, running out of memory aside
 abbrev pub change_refusal : Contents → List ℕ → Option Shape → Option LayerFault
 change_refusal layer id (Some shape) = insert_refusal layer id
 change_refusal layer id None = delete_refusal layer id
@@ -35,7 +35,7 @@ change_refusal layer id None = delete_refusal layer id
 abbrev pub edited : Contents → EditContent → Contents
 edited layer edit = changed layer edit.id edit.shape
 
--- why it can't be edited so, want of memory aside
+-- why it can't be edited so, running out of memory aside
 abbrev pub refusal : Contents → EditContent → Option LayerFault
 refusal layer edit = change_refusal layer edit.id edit.shape
 
@@ -60,7 +60,7 @@ abbrev pub edited_layers : Layers → EditContent → Layers
 edited_layers layers edit =
     with_layer_on edit.side layers (edited (layer_on edit.side layers) edit)
 
--- why they can't be edited so, want of memory aside
+-- why they can't be edited so, running out of memory aside
 abbrev pub edit_refusal : Layers → EditContent → Option LayerFault
 edit_refusal layers edit = refusal (layer_on edit.side layers) edit
 

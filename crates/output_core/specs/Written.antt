@@ -6,7 +6,7 @@ use Rattle.std.specs.declared.vec.Vec.{Vec}
 use Rattle.std.specs.Io.KnownBytes.{Appends}
 use mathlib.Core.List.{IsPrefix}
 
--- these texts, one behind the other
+-- these texts, concatenated
 abbrev pub joined : List (Vec ℕ Global) → List ℕ
 joined texts = flat_map (λ text. text.items) texts
 

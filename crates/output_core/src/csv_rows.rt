@@ -17,7 +17,7 @@ pub fn new_rows(alloc: Global) -> Writer<Vec<u8>>
 /// Writes a row behind those that the writer has written, with quotes where a field needs them.
 ///
 /// # Errors
-/// Only want of memory: a writer over memory fails for nothing else.
+/// Only where memory runs out: a writer over memory fails for nothing else.
 pub fn push_row(writer: &mut Writer<Vec<u8>>, row: &[&[u8]]) -> Result<(), AllocError>
     ensures { OnOk result (AddsRow writer.old writer.new (map (λ field. field.now) row.now)) }
 {
@@ -30,7 +30,7 @@ pub fn push_row(writer: &mut Writer<Vec<u8>>, row: &[&[u8]]) -> Result<(), Alloc
 /// The text of the rows that the writer has written, each with a line feed.
 ///
 /// # Errors
-/// Only want of memory.
+/// Only where memory runs out.
 pub fn rows_text(writer: Writer<Vec<u8>>) -> Result<Vec<u8>, AllocError>
     ensures { IfOk result (λ text. (rows : List (List (List ℕ))) → HasRows writer rows
         → text.items ≡ csv_text rows) }

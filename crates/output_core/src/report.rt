@@ -18,7 +18,7 @@ use std::thread::Threads;
 /// How many bytes a pair's record has at least: two ids of one, nine letters, two commas, an end.
 const LEAST_RECORD: usize = 14;
 
-/// The report of these pairs, as texts one behind the other: a CSV record `left,right,matrix`, and
+/// The report of these pairs, as texts to be concatenated: a CSV record `left,right,matrix`, and
 /// for each pair one with the ids of its features and the letters of their matrix. It is written
 /// by as many threads as there are workers, each to a text of its own.
 pub fn report_texts<R: Threads + Sync>(

@@ -16,7 +16,7 @@ pub trait Sink {
     /// What was written so far, or `None` where the device doesn't tell.
     ghost written: { Self → Option (List ℕ) };
 
-    /// Whether all that was written has been handed on.
+    /// Whether all that was written has been flushed.
     ghost is_flushed: { Self → Bool };
 
     /// Whether the device has failed.
@@ -43,7 +43,7 @@ pub trait Sink {
         ensures { result ≡ has_failed self.now };
 }
 
-/// Writes the whole text and hands it on. Where the device fails, a prefix of the text was written.
+/// Writes the whole text and flushes it. Where the device fails, a prefix of the text was written.
 pub fn write_text<S: Sink>(sink: &mut S, text: &[u8]) -> Result<(), WriteFailed>
     requires { S.has_failed sink.old ≡ false }
     ensures ok { OnOk result (Appends (S.written sink.old) (S.written sink.new) text.now) }
@@ -55,7 +55,7 @@ pub fn write_text<S: Sink>(sink: &mut S, text: &[u8]) -> Result<(), WriteFailed>
     sink.flush()
 }
 
-/// Writes these texts, one behind the other, and hands them on. Where the device fails, a prefix of
+/// Writes these texts in order and flushes them. Where the device fails, a prefix of
 /// them was written.
 pub fn write_texts<S: Sink>(sink: &mut S, texts: &[Vec<u8>]) -> Result<(), WriteFailed>
     requires { S.has_failed sink.old ≡ false }

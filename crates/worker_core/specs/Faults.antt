@@ -26,7 +26,7 @@ fault_of refusal.WrongCount = Refused refusal.WrongCount
 abbrev pub open_fault : Finish → JoinFault
 open_fault (finish.Open task) = Open task
 
--- a want of memory or of threads, which only the machine can have
+-- memory or threads ran out, for which only the machine is to blame
 abbrev pub IsWant : JoinFault → Type 0
 IsWant Memory = Unit {0}
 IsWant NoThread = Unit {0}

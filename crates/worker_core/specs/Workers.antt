@@ -1,4 +1,4 @@
--- What a worker has sent, when it has worked off the tasks that it drew.
+-- What a worker has sent, when it has processed the tasks that it drew.
 use Rattle.std.specs.Prelude.{◌≡◌, ℕ, ◌<◌, Bool, true, false, List, [], ◌∷◌, ◌++◌, map, All}
 use Rattle.std.specs.Prelude.{MatchBool, IsSomeAnd, slice_get}
 use mathlib.Core.List.{IsPrefix}

@@ -1,4 +1,4 @@
-//! The workers of a join: they work off the tasks of a plan side by side.
+//! The workers of a join: they process the tasks of a plan side by side.
 ghost use Rattle.std.specs.Prelude.{◌≤◌, IfErr, IfOk};
 ghost use Rattle.geom_core.specs.JoinRelations.{relation_of};
 ghost use Rattle.worker_core.specs.Deliveries.{IsDelivered};
@@ -20,7 +20,7 @@ use std::thread::Threads;
 /// The most workers of a join.
 pub const MAX_WORKERS: u32 = 16;
 
-/// Works off the tasks of a plan by so many workers, each in a thread of its own, and gives what
+/// Processes the tasks of a plan by so many workers, each in a thread of its own, and gives what
 /// they delivered. Each of them enters the gate with each task that it draws.
 ///
 /// All of them have ended when the call returns. It answers `Memory` where memory was refused, and

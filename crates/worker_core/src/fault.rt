@@ -1,4 +1,4 @@
-//! Why workers couldn't work off a plan.
+//! Why workers couldn't process a plan.
 ghost use Rattle.std.specs.Prelude.{◌≡◌};
 ghost use Rattle.worker_core.specs.declared.fault.JoinFault.TheVariants as join_faults;
 ghost use Rattle.worker_core.specs.Faults.{fault_of, open_fault};
@@ -8,7 +8,7 @@ use std::alloc::AllocError;
 use std::error::Error;
 use std::fmt;
 
-/// Why the workers couldn't work off a plan.
+/// Why the workers couldn't process a plan.
 #[derive(Clone, Copy, Debug, PartialEq, Eq)]
 pub enum JoinFault {
     /// Memory ran out.

@@ -44,7 +44,7 @@ impl Intake {
         }
     }
 
-    /// The outcome, or why there is none: the first refusal, want of memory in a worker, or a task
+    /// The outcome, or why there is none: the first refusal, a worker out of memory, or a task
     /// without an end. Threads share the sort of the pairs where there is more than one worker.
     pub(crate) fn finish<R: Threads + Sync>(
         self,

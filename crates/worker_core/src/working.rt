@@ -1,4 +1,4 @@
-//! The worker: it works off tasks until the board has none left.
+//! The worker: it processes tasks until the board has none left.
 ghost use Rattle.std.specs.Prelude.{◌≡◌, ◌<◌, ◌≤◌, ◌∷◌, [], true, length, IfErr, IfOk};
 ghost use Rattle.geom_core.specs.JoinRelations.{relation_of};
 ghost use Rattle.deliver_core.specs.Boards.{fresh_seat};
@@ -29,7 +29,7 @@ pub const MAX_BATCH: u32 = 4096;
 pub struct Worked {
     pub seat: BoardSeat,
     pub port: Port,
-    /// Whether it has worked off tasks until none was left; false where memory was refused.
+    /// Whether it has processed tasks until none was left; false where memory was refused.
     pub ok: bool,
 }
 
@@ -90,7 +90,7 @@ pub(crate) fn work<R: Threads + Wait + Sync, P: Rows, G: Gate>(
     Worked { seat, port, ok }
 }
 
-/// Works off tasks until the seat meets the end of them.
+/// Processes tasks until the seat meets the end of them.
 fn work_off<R: Threads + Wait + Sync, P: Rows, G: Gate>(
     rt: &R,
     alloc: Global,

@@ -148,7 +148,7 @@ def relate(first: Any, second: Any, *, scale: Optional[int] = None) -> str:
 
 def draw(left: Any, right: Any, relation: str = "intersects", *, scale: Optional[int] = None,
          other: str = "error", missing: str = "error") -> Picture:
-    """A picture of two layers in which the features that occur in a pair are set off.
+    """A picture of two layers in which the features that occur in a pair are highlighted.
 
     Both layers together have at most 100,000 features.
     """

@@ -25,7 +25,7 @@ LEFT and RIGHT are FILE or FILE:LAYER, of any kind that GDAL reads, or CSV with 
 OUT gets a row for each pair: what identifies the two features, and the nine letters of DE-9IM. Its
 kind is that of its extension: .csv, .gpkg, .shp, .geojson and what else GDAL writes.
 
-Exit status: 0 for success, 1 for a fault of a file or a feature, 2 for wrong words"""
+Exit status: 0 for success, 1 for a fault of a file or a feature, 2 for invalid arguments"""
 
 
 def main(words: Optional[Sequence[str]] = None) -> int:

@@ -11,7 +11,7 @@ from rjoin.errors import Notice
 
 @dataclass(frozen=True)
 class Picture:
-    """Two layers with the features that occur in a pair set off, as SVG 1.1.
+    """Two layers with the features that occur in a pair highlighted, as SVG 1.1.
 
     A notebook shows it where it is the value of a cell. Features have their labels as titles, which
     a browser shows under the pointer.

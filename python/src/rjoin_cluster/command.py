@@ -22,7 +22,7 @@ EPILOG = """\
 The report is that of one run of rjoin join over both files, which may have any number of features
 and bytes; the limits of a run are those of each tile. It appears whole, or not at all.
 
-Exit status: 0 for success, 1 for a fault, with a line on standard error, 2 for wrong words,
+Exit status: 0 for success, 1 for a fault, with a line on standard error, 2 for invalid arguments,
 129, 130 and 143 where it was interrupted"""
 
 

@@ -75,7 +75,7 @@ pub fn run_join<R: Threads + Wait + Sync, A: Source, B: Source, E: Source, G: Ga
 }
 
 /// Writes the picture of two layers, after the edits of both, as SVG: each feature of both, where
-/// those that occur in a pair which stands in the relation are set off.
+/// those that occur in a pair which stands in the relation are highlighted.
 ///
 /// Files are read, edits made and layers joined as by `run_join`, with the same faults in the same
 /// order. `TooManyToDraw` comes after those of the files and the edits: where the edited layers
@@ -119,7 +119,7 @@ pub fn run_draw<R: Threads + Wait + Sync, A: Source, B: Source, E: Source, G: Ga
 pub(crate) enum Product {
     /// A CSV record for each pair.
     Report,
-    /// The features of both layers as SVG, those of pairs set off.
+    /// The features of both layers as SVG, those of pairs highlighted.
     Picture,
 }
 
