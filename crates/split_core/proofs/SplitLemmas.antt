@@ -12,11 +12,11 @@ use Rattle.geom_core.specs.declared.shape.Shape.{Shape}
 use Rattle.geom_core.specs.Shapes.{area_of, cover_of}
 use Rattle.split_core.proofs.CoverLemmas.{All-front, All-back, All-last}
 use Rattle.split_core.specs.declared.split.Cost.{Cost}
-use Rattle.split_core.specs.Limits.{fewest}
+use Rattle.split_core.specs.Limits.{fewest, most}
 use Rattle.split_core.specs.Choices.{enlargement}
 use Rattle.split_core.specs.Collections.{HasSame}
 use Rattle.split_core.specs.Orders.{is_less_cost}
-use Rattle.split_core.specs.Splits.{Group, group, costs_less, CanChoose, IsTaken, IsDealt, done, rest_to_one, rest_to_two, to_one, to_two, IsSplit}
+use Rattle.split_core.specs.Splits.{Group, group, costs_less, CanChoose, IsTaken, IsDealt, done, rest_to_one, rest_to_two, to_one, to_two, IsSplit, AreGroups}
 
 -- what a group needs to take in a shape
 pub record IsCost {T : Type 0} (cost : Cost) (group : Group T) (s : Shape) : Type 0 where
@@ -210,3 +210,18 @@ split_all cover P items one two h s =
 pub split_same : {T : Type 0} (cover : T → Shape) (items one two : List T) → IsSplit cover items one two → HasSame items (one ++ two)
 split_same cover items one two s p =
     omega (arith, split_sums cover (λ x. cond {A = ℕ} (p x) 1 0) items one two s, sum_by-append (λ x. cond {A = ℕ} (p x) 1 0) one two)
+
+-- the groups of a split of nine items
+pub are_groups : {T : Type 0} (cover : T → Shape) (items one two : List T) → length items ≡ most + 1 → IsSplit cover items one two
+    → AreGroups cover items one two
+are_groups cover items one two nine s =
+    let fewer = length-remove items s.j s.seeds.in_range in
+    let seven = length-remove (remove items s.j) s.i (seed_inside cover items one two s) in
+    let enough = dealt_enough cover (omega arith) (omega arith) (omega arith) s.dealt in
+    record {
+      split = s;
+      same = split_same cover items one two s;
+      one_enough = enough.0;
+      two_enough = enough.1;
+      all = omega (arith, dealt_lengths cover s.dealt);
+    }
