@@ -1,6 +1,5 @@
-use Rattle.std.proofs.Common.{◌≡◌, Some, None, [], ◌∷◌, refl, sym}
+use Rattle.std.proofs.Common.{[], refl, sym}
 use Rattle.wkt_core.specs.TokenSteps.{skip}
-use Rattle.wkt_core.specs.PointSteps.{point_at, point_answer}
 use Rattle.wkt_core.specs.ListSteps.{TakesPoint}
 use Rattle.wkt_core.proofs.FrontLemmas.{symbol_begins}
 use Rattle.wkt_core.proofs.ItemLemmas.{behind_item, no_item_follows, no_end_follows}
@@ -9,42 +8,34 @@ use Rattle.wkt_core.proofs.list.read_points.Goals as goal
 
 pub loop-point-preserved : goal.loop-point-preserved
 loop-point-preserved c =
-    let read : Some (c.in_ok-point.point, c.in_ok-point.after.now)
-    ≡ point_answer c.args.scale (point_at (skip c.loop-point.rest.now)) = rw c.skip_blanks.ensures
-    at c.in_ok-point.ensures in
-    let next : skip c.in_ok-point.after.now ≡ 44 ∷ c.in-Item.behind.now = rw c.in-Item.is at c.in_ok-behind.ensures in
+    let read = rw c.skip_blanks.ensures at c.in_ok-point.ensures in
+    let next = rw c.in-Item.is at c.in_ok-behind.ensures in
     point_more c.args.scale _ _ _ _ _ _ _ (c.push.ensures c.args.scale) read c.loop-point.invariant next
 
 pub returns-in-End-clause-some : goal.returns-in-End-clause-some
 returns-in-End-clause-some c =
-    let read : Some (c.in_ok-point.point, c.in_ok-point.after.now)
-    ≡ point_answer c.args.scale (point_at (skip c.loop-point.rest.now)) = rw c.skip_blanks.ensures
-    at c.in_ok-point.ensures in
-    let next : skip c.in_ok-point.after.now ≡ 41 ∷ c.in-End.behind.now = rw c.in-End.is at c.in_ok-behind.ensures in
+    let read = rw c.skip_blanks.ensures at c.in_ok-point.ensures in
+    let next = rw c.in-End.is at c.in_ok-behind.ensures in
     let (ps, items, firsts) = points_ended c.args.scale _ _ _ _ _ _ _ (c.push.ensures c.args.scale) read c.loop-point.invariant next in
     (ps, (c.in_ok-rest.rest.now, symbol_begins 40 _ _ (sym c.in_ok-rest.ensures), items), firsts)
 
 pub loop-point-smaller : goal.loop-point-smaller
 loop-point-smaller c =
-    let read : Some (c.in_ok-point.point, c.in_ok-point.after.now)
-    ≡ point_answer c.args.scale (point_at (skip c.loop-point.rest.now)) = rw c.skip_blanks.ensures
-    at c.in_ok-point.ensures in
-    let next : skip c.in_ok-point.after.now ≡ 44 ∷ c.in-Item.behind.now = rw c.in-Item.is at c.in_ok-behind.ensures in
+    let read = rw c.skip_blanks.ensures at c.in_ok-point.ensures in
+    let next = rw c.in-Item.is at c.in_ok-behind.ensures in
     let (p, taken, value) = point_taken c.args.scale (skip c.loop-point.rest.now) _ _ read in
     behind_item TakesPoint points_exact _ p _ _ taken next
 
 pub returns-in_err-point-clause-none : goal.returns-in_err-point-clause-none
 returns-in_err-point-clause-none c =
-    let read : None ≡ point_answer c.args.scale (point_at (skip c.loop-point.rest.now)) = rw c.skip_blanks.ensures at c.in_err-point.ensures in
+    let read = rw c.skip_blanks.ensures at c.in_err-point.ensures in
     let (done, begun, firsts) = c.loop-point.invariant in
     if_none _ (no_item_follows TakesPoint points_exact _ _ done begun _ (symbol_begins 40 _ _ (sym c.in_ok-rest.ensures))
     (no_point_taken c.args.scale (skip c.loop-point.rest.now) read))
 
 pub returns-in_err-behind-clause-none : goal.returns-in_err-behind-clause-none
 returns-in_err-behind-clause-none c =
-    let read : Some (c.in_ok-point.point, c.in_ok-point.after.now)
-    ≡ point_answer c.args.scale (point_at (skip c.loop-point.rest.now)) = rw c.skip_blanks.ensures
-    at c.in_ok-point.ensures in
+    let read = rw c.skip_blanks.ensures at c.in_ok-point.ensures in
     let (p, taken, value) = point_taken c.args.scale (skip c.loop-point.rest.now) _ _ read in
     let (done, begun, firsts) = c.loop-point.invariant in
     if_none _ (no_end_follows TakesPoint points_exact _ _ done begun _ (symbol_begins 40 _ _ (sym c.in_ok-rest.ensures)) p _ taken
