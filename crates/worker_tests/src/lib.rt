@@ -5,6 +5,8 @@
 #[cfg(test)]
 mod expected;
 #[cfg(test)]
+mod gates;
+#[cfg(test)]
 mod scripts;
 #[cfg(test)]
 mod teams;

@@ -50,7 +50,7 @@ fn are_marks(marks: &[Mark]) -> bool {
 }
 
 /// Whether these are the pairs (0, 0) to (19, 19).
-fn are_twenty(pairs: &[(u32, u32)]) -> bool {
+pub(crate) fn are_twenty(pairs: &[(u32, u32)]) -> bool {
     pairs.len() == 20 && pairs.iter().zip(0..20u32).all(|(pair, i)| *pair == (i, i))
 }
 
@@ -76,7 +76,11 @@ impl Gate for Meeting {
 
 /// What is seen of two packed trees of so many points, this far apart; false where they can't be
 /// made.
-fn sees<F: FnOnce(&RTree, &RTree) -> bool>(alloc: Global, points: (u16, u16), see: F) -> bool
+pub(crate) fn sees<F: FnOnce(&RTree, &RTree) -> bool>(
+    alloc: Global,
+    points: (u16, u16),
+    see: F,
+) -> bool
     requires { F.IsAlwaysCallable see }
 {
     on_packed(alloc, points, points, see) == Ok(true)
