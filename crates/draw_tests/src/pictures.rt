@@ -122,7 +122,8 @@ fn point_drawn(rt: HostRuntime) {
 }
 
 // The cover goes from (0, -10) to (40, 20), so the margin is 40 / 20 + 1 = 3 and the corner of the
-// frame (-3, 23). It is 46 wide and 36 high, so 1,000 and 783 as drawn. The right layer's second feature is in two pairs, and its first one in none.
+// frame (-3, 23). It is 46 wide and 36 high, so 1,000 and 783 as drawn. The right layer's second
+// feature is in two pairs, and its first one in none.
 #[test]
 fn matches_drawn(rt: HostRuntime) {
     let left = [

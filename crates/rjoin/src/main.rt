@@ -1,4 +1,4 @@
-//! The spatial join of two layers of whole-number geometries, as a program.
+//! The program: its commands over the host's files and standard streams.
 #![tactic(auto)]
 
 mod host;
