@@ -47,8 +47,8 @@ def find() -> str:
 def run(words: Sequence[Word], output: Union[int, IO[bytes]] = subprocess.PIPE) -> bytes:
     """Runs the program with some words, and gives what it wrote unless that went to `output`.
 
-    A fault of an input is raised as an InputFault, invalid arguments as an ArgumentError, and all else
-    as an RjoinError.
+    A fault of an input is raised as an InputFault, invalid arguments as an ArgumentError, and all
+    else as an RjoinError.
     """
     program = find()
     environment = {"GLIBC_TUNABLES": TUNABLES, **os.environ}
