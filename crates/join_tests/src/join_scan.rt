@@ -40,18 +40,6 @@ fn nested_loop(
     Ok(pairs)
 }
 
-const RELATIONS: &[&[u8]] = &[
-    b"intersects",
-    b"touches",
-    b"crosses",
-    b"within",
-    b"contains",
-    b"overlaps",
-    b"equals",
-    b"****T****",
-    b"0********",
-];
-
 /// Numbers of workers, batches and cuts.
 const WAYS: [(u32, u32, u32); 5] = [
     (1, 256, 0),
@@ -116,39 +104,68 @@ fn see_join<R: Threads + Wait + Sync>(
     see_ways(rt, alloc, joined, wanted.as_slice())
 }
 
-/// Sees the same of two layers in either order, for each relation.
-fn see_relations<R: Threads + Wait + Sync>(
+/// Sees the same of two layers in either order, of which one is mostly packed and the other mostly
+/// edits. Both trees have four levels.
+fn see_relation<R: Threads + Wait + Sync + RandomSource + AllocGlobal>(
     rt: &R,
-    alloc: Global,
-    one: &Layer,
-    two: &Layer,
+    name: &[u8],
 ) -> Result<(), Fail> {
-    for name in RELATIONS {
-        let relation = &JoinRelation::new(Relation::read(name)?)?;
-        for (left, right) in [(one, two), (two, one)] {
-            let joined = Joined {
-                left,
-                right,
-                relation,
-            };
-            see_join(rt, alloc, &joined)?;
-        }
+    let mut random = Random::new(1);
+    let one = &edited(rt, &mut random, 700, 140)?;
+    let two = &edited(rt, &mut random, 500, 500)?;
+    let relation = &JoinRelation::new(Relation::read(name)?)?;
+    for (left, right) in [(one, two), (two, one)] {
+        let joined = Joined {
+            left,
+            right,
+            relation,
+        };
+        see_join(rt, rt.alloc(), &joined)?;
     }
     Ok(())
 }
 
-/// Sees the same of a layer and another one that is mostly edits.
-fn see_layer<R: Threads + Wait + Sync + RandomSource + AllocGlobal>(
-    rt: &R,
-    random: &mut Random,
-    layer: &Layer,
-) -> Result<(), Fail> {
-    see_relations(rt, rt.alloc(), layer, &edited(rt, random, 900, 900)?)
+#[test]
+fn join_scan_intersects(rt: HostRuntime) -> Result<(), Fail> {
+    see_relation(&rt, b"intersects")
 }
 
 #[test]
-fn join_scan(rt: HostRuntime) -> Result<(), Fail> {
-    let mut random = Random::new(1);
-    let layer = edited(&rt, &mut random, 1500, 300)?;
-    see_layer(&rt, &mut random, &layer)
+fn join_scan_touches(rt: HostRuntime) -> Result<(), Fail> {
+    see_relation(&rt, b"touches")
+}
+
+#[test]
+fn join_scan_crosses(rt: HostRuntime) -> Result<(), Fail> {
+    see_relation(&rt, b"crosses")
+}
+
+#[test]
+fn join_scan_within(rt: HostRuntime) -> Result<(), Fail> {
+    see_relation(&rt, b"within")
+}
+
+#[test]
+fn join_scan_contains(rt: HostRuntime) -> Result<(), Fail> {
+    see_relation(&rt, b"contains")
+}
+
+#[test]
+fn join_scan_overlaps(rt: HostRuntime) -> Result<(), Fail> {
+    see_relation(&rt, b"overlaps")
+}
+
+#[test]
+fn join_scan_equals(rt: HostRuntime) -> Result<(), Fail> {
+    see_relation(&rt, b"equals")
+}
+
+#[test]
+fn join_scan_mask_of_boundaries(rt: HostRuntime) -> Result<(), Fail> {
+    see_relation(&rt, b"****T****")
+}
+
+#[test]
+fn join_scan_mask_of_points(rt: HostRuntime) -> Result<(), Fail> {
+    see_relation(&rt, b"0********")
 }
