@@ -105,7 +105,7 @@ fn see_join<R: Threads + Wait + Sync>(
 }
 
 /// Sees the same of two layers in either order, of which one is mostly packed and the other mostly
-/// edits. Both trees have four levels.
+/// edits. Both trees have at least four levels.
 fn see_relation<R: Threads + Wait + Sync + RandomSource + AllocGlobal>(
     rt: &R,
     name: &[u8],

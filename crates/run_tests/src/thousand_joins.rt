@@ -31,29 +31,32 @@ fn writes<R: Threads + Wait + Sync + RandomSource + AllocGlobal>(
     Some(report(rt, files, &options)?.as_slice() == wanted)
 }
 
-/// Whether 45 joins of two files write the wanted report.
+/// How many workers a join has.
+const WORKERS: [u32; 5] = [1, 2, 3, 8, 16];
+
+/// Whether nine joins of two files by so many workers write the wanted report.
 fn all_write<R: Threads + Wait + Sync + RandomSource + AllocGlobal>(
     rt: &R,
     files: &Files<'_>,
+    workers: u32,
     wanted: &[u8],
 ) -> Option<bool> {
-    for workers in [1, 2, 3, 8, 16] {
-        for batch in [1, 7, 4096] {
-            for cut in [0, 2, 8] {
-                if !writes(rt, files, (workers, batch, cut), wanted)? {
-                    return Some(false);
-                }
+    for batch in [1, 7, 4096] {
+        for cut in [0, 2, 8] {
+            if !writes(rt, files, (workers, batch, cut), wanted)? {
+                return Some(false);
             }
         }
     }
     Some(true)
 }
 
-/// Whether 45 joins of two files write the same report.
+/// Whether nine joins of two files by each of these numbers of workers write the same report.
 fn are_same<'a, R: Threads + Wait + Sync + RandomSource + AllocGlobal>(
     rt: &R,
     left: &'a str,
     right: &'a str,
+    numbers: &[u32],
 ) -> Option<bool> {
     let files = Files {
         left: at_once(left),
@@ -61,19 +64,24 @@ fn are_same<'a, R: Threads + Wait + Sync + RandomSource + AllocGlobal>(
         edits: None,
     };
     let wanted = report(rt, &files, &Options::new(1, 256, 2).ok()?)?;
-    all_write(rt, &files, wanted.as_slice())
+    for workers in numbers {
+        if !all_write(rt, &files, *workers, wanted.as_slice())? {
+            return Some(false);
+        }
+    }
+    Some(true)
 }
 
-/// The same of two files with so many features.
+/// Whether the joins of two files with so many features do.
 fn are_same_of<R: Threads + Wait + Sync + RandomSource + AllocGlobal>(
     rt: &R,
     random: &mut Random,
-    left: u32,
-    right: u32,
+    (left, right): (u32, u32),
+    numbers: &[u32],
 ) -> Option<bool> {
     let left = shapes_text(rt.alloc(), random, left)?;
     let right = shapes_text(rt.alloc(), random, right)?;
-    are_same(rt, left.as_str(), right.as_str())
+    are_same(rt, left.as_str(), right.as_str(), numbers)
 }
 
 // The joins of small layers are two tests, so that each has time on a busy machine.
@@ -81,7 +89,9 @@ fn are_same_of<R: Threads + Wait + Sync + RandomSource + AllocGlobal>(
 fn thousand_joins_few_on_the_left(rt: HostRuntime) {
     let mut random = Random::new(2);
     for size in 0..11 {
-        assert!(rt; are_same_of(&rt, &mut random, 4 * size, 100 - 4 * size) == Some(true));
+        assert!(rt;
+            are_same_of(&rt, &mut random, (4 * size, 100 - 4 * size), &WORKERS) == Some(true)
+        );
     }
 }
 
@@ -89,12 +99,39 @@ fn thousand_joins_few_on_the_left(rt: HostRuntime) {
 fn thousand_joins_more_on_the_left(rt: HostRuntime) {
     let mut random = Random::new(3);
     for size in 11..22 {
-        assert!(rt; are_same_of(&rt, &mut random, 4 * size, 100 - 4 * size) == Some(true));
+        assert!(rt;
+            are_same_of(&rt, &mut random, (4 * size, 100 - 4 * size), &WORKERS) == Some(true)
+        );
     }
 }
 
+// Two layers whose trees have four levels.
 #[test]
-fn joins_of_many_features(rt: HostRuntime) {
+fn many_features_by_one(rt: HostRuntime) {
     let mut random = Random::new(4);
-    assert!(rt; are_same_of(&rt, &mut random, 2000, 1500) == Some(true));
+    assert!(rt; are_same_of(&rt, &mut random, (900, 700), &[1]) == Some(true));
+}
+
+#[test]
+fn many_features_by_two(rt: HostRuntime) {
+    let mut random = Random::new(4);
+    assert!(rt; are_same_of(&rt, &mut random, (900, 700), &[2]) == Some(true));
+}
+
+#[test]
+fn many_features_by_three(rt: HostRuntime) {
+    let mut random = Random::new(4);
+    assert!(rt; are_same_of(&rt, &mut random, (900, 700), &[3]) == Some(true));
+}
+
+#[test]
+fn many_features_by_eight(rt: HostRuntime) {
+    let mut random = Random::new(4);
+    assert!(rt; are_same_of(&rt, &mut random, (900, 700), &[8]) == Some(true));
+}
+
+#[test]
+fn many_features_by_sixteen(rt: HostRuntime) {
+    let mut random = Random::new(4);
+    assert!(rt; are_same_of(&rt, &mut random, (900, 700), &[16]) == Some(true));
 }
