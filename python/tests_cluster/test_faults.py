@@ -7,6 +7,8 @@ from pathlib import Path
 import pytest
 from conftest import Tools, write_layer
 
+from rjoin_cluster import steps
+
 GOOD = [(f"n{number}", f"POINT ({number} {number})") for number in range(60)]
 
 
@@ -57,6 +59,20 @@ def test_the_first_fault_is_told(tools: Tools, capfd: pytest.CaptureFixture[str]
     later = write_layer(tools.folder / "later.csv", [rows[51], *rows])
     for left, right in ((bad, later), (later, bad)):
         check_fault(tools, left, right, capfd)
+
+
+@pytest.mark.parametrize("most", [1, 7])
+def test_a_double_id_among_many_ranges_of_hashes(
+    tools: Tools, most: int, capfd: pytest.CaptureFixture[str], monkeypatch: pytest.MonkeyPatch
+) -> None:
+    monkeypatch.setattr(steps, "HASHES_PER_TASK", most)
+    doubles = [(f"n{number}", "POINT (1 1)") for number in (31, 7, 12)]
+    check_fault(
+        tools,
+        write_layer(tools.folder / "good.csv", GOOD),
+        write_layer(tools.folder / "bad.csv", [*GOOD[:45], *doubles, *GOOD[45:]]),
+        capfd,
+    )
 
 
 def test_an_id_that_is_not_utf8(tools: Tools, capfd: pytest.CaptureFixture[str]) -> None:

@@ -4,7 +4,7 @@ from __future__ import annotations
 import numpy as np
 import pytest
 
-from rjoin_cluster.blocks import Boxes
+from rjoin_cluster.answers import Boxes
 from rjoin_cluster.tiles import Sample, Tiles, Want, make_tiles
 
 

@@ -3,16 +3,14 @@ features of each block.
 """
 from __future__ import annotations
 
-import io
 from dataclasses import dataclass
-from typing import Iterator, Optional
+from typing import Iterator, Optional, Sequence
 
 import numpy as np
-import pandas
-from numpy.typing import NDArray
 
+from rjoin_cluster.answers import NO_FEATURES, Boxes, Features, read_answer
 from rjoin_cluster.faults import RunFailed
-from rjoin_cluster.ids import IdTable, hashes_of, id_table, stacked
+from rjoin_cluster.ids import bucket_of, hashes_of, stacked
 from rjoin_cluster.layout import Layout, save_array
 from rjoin_cluster.program import HEADER, MOST_BYTES, MOST_FEATURES, Program, RowFault
 from rjoin_cluster.records import (
@@ -20,15 +18,12 @@ from rjoin_cluster.records import (
     WINDOW,
     Bytes,
     Segment,
-    line_ends,
+    most_record_ends,
     record_ends,
     scan,
 )
 from rjoin_cluster.sides import Side
 
-Boxes = NDArray[np.int64]
-CORNERS = ["x1", "y1", "x2", "y2"]
-COMMA = ord(",")
 MOST_PART = MOST_BYTES - len(HEADER)
 
 # Put before the first block, so that a second byte order mark stays part of the header.
@@ -48,13 +43,17 @@ class Extent:
     def __str__(self) -> str:
         return f"{self.side.value} block {self.number}, bytes {self.begin} to {self.end}"
 
-    def read(self) -> bytes:
+    @property
+    def size(self) -> int:
+        return self.end - self.begin
+
+    def read(self) -> Bytes:
+        text = np.empty(self.size, dtype=np.uint8)
         with open(self.path, "rb") as file:
             file.seek(self.begin)
-            data = file.read(self.end - self.begin)
-        if len(data) < self.end - self.begin:
-            raise OSError(f"{self.path} is shorter than it was")
-        return data
+            if file.readinto(text.data) < text.size:
+                raise OSError(f"{self.path} is shorter than it was")
+        return text
 
 
 @dataclass(frozen=True)
@@ -81,14 +80,6 @@ class BlockRead:
     fault: Optional[RowFault]
 
 
-@dataclass(frozen=True)
-class Features:
-    """Ids and boxes, in the order of the file."""
-
-    ids: IdTable
-    boxes: Boxes
-
-
 def header_begin(path: str) -> int:
     """Where the first record of a file begins: behind a byte order mark and empty lines."""
     with open(path, "rb") as file:
@@ -104,7 +95,7 @@ def header_begin(path: str) -> int:
 
 def scan_segment(extent: Extent) -> Segment:
     """What the bytes do to a reader, for each state that it may come with."""
-    return scan(np.frombuffer(extent.read(), dtype=np.uint8))
+    return scan(extent.read())
 
 
 def read_block(job: ReadJob) -> BlockRead:
@@ -112,10 +103,11 @@ def read_block(job: ReadJob) -> BlockRead:
     features, fault = features_of(job.program, job.block)
     keep(job.layout, job.block, features)
     boxes = features.boxes
+    least, greatest = int(boxes.min(initial=0)), int(boxes.max(initial=0))
     return BlockRead(
         len(boxes),
-        int(np.abs(boxes).max(initial=0)),
-        bool(boxes.min(initial=0) < 0),
+        max(-least, greatest),
+        least < 0,
         sample_of(boxes, job.share, job.block.number),
         fault,
     )
@@ -125,23 +117,25 @@ def keep(layout: Layout, block: Extent, features: Features) -> None:
     save_array(layout.boxes(block.side, block.number), features.boxes)
     save_array(layout.ids(block.side, block.number), features.ids)
     hashes = hashes_of(features.ids)
-    order = np.argsort(hashes, kind="stable")
+    order = np.argsort(bucket_of(hashes), kind="stable")
     save_array(layout.hashes(block.side, block.number), hashes.take(order))
     save_array(layout.hashed_rows(block.side, block.number), order.astype(np.uint32))
 
 
 def sample_of(boxes: Boxes, share: float, seed: int) -> Boxes:
-    if share >= 1:
+    if share >= 1 or not len(boxes):
         return boxes
-    return boxes[np.random.default_rng(seed).random(len(boxes)) < share]
+    random = np.random.default_rng(seed)
+    rows = random.integers(len(boxes), size=random.binomial(len(boxes), share))
+    return boxes.take(rows, axis=0)
 
 
 def features_of(program: Program, block: Extent) -> tuple[Features, Optional[RowFault]]:
     """The features of a block, or those before its first fault."""
-    read = [NO_FEATURES]
+    read = []
     rows = 0
     fault = None
-    for place, part in enumerate(parts_of_runs(np.frombuffer(block.read(), dtype=np.uint8))):
+    for place, part in enumerate(parts_of_runs(block.read())):
         before = HEADER if block.number or place else NO_MARK
         features, fault = read_part(program, before, part)
         read.append(features)
@@ -149,15 +143,21 @@ def features_of(program: Program, block: Extent) -> tuple[Features, Optional[Row
             fault = RowFault(fault.row + rows, fault.text, fault.teller)
             break
         rows += len(features.boxes)
-    boxes = np.concatenate([features.boxes for features in read])
-    return Features(stacked([features.ids for features in read]), boxes), fault
+    return together(read), fault
+
+
+def together(parts: Sequence[Features]) -> Features:
+    if len(parts) == 1:
+        return parts[0]
+    boxes = np.concatenate([NO_FEATURES.boxes, *(part.boxes for part in parts)])
+    return Features(stacked([part.ids for part in parts]), boxes)
 
 
 def parts_of_runs(text: Bytes) -> Iterator[Bytes]:
     """A block in parts that a run takes: one, unless its rows are very short or its records very
     long.
     """
-    if text.size <= MOST_PART and line_ends(text).size < MOST_FEATURES:
+    if text.size <= MOST_PART and most_record_ends(text) < MOST_FEATURES:
         yield text
         return
     ends = record_ends(text)
@@ -176,7 +176,7 @@ def read_part(program: Program, before: bytes, part: Bytes) -> tuple[Features, O
         return NO_FEATURES, RowFault(1, f"longer than {MOST_PART} bytes", "rjoin-cluster")
     answer = program.bounds([before, part.data])
     if not isinstance(answer, RowFault):
-        return parsed(answer), None
+        return read_answer(answer), None
     if answer.row == 0:
         return NO_FEATURES, answer
     records = answer.row - 1 + int(before != HEADER)
@@ -184,21 +184,4 @@ def read_part(program: Program, before: bytes, part: Bytes) -> tuple[Features, O
     good = program.bounds([before, part[:end].data])
     if isinstance(good, RowFault):
         raise RunFailed(f"rjoin bounds: a fault in row {good.row}, where there was none before")
-    return parsed(good), answer
-
-
-def parsed(text: Bytes) -> Features:
-    """The features that rjoin wrote as CSV: an id, which may be quoted, and four whole numbers."""
-    ends = record_ends(text)
-    commas = np.flatnonzero(text == COMMA)
-    behind_id = commas[np.searchsorted(commas, ends[1:]) - len(CORNERS)]
-    begins = ends[:-1]
-    frame = pandas.read_csv(io.BytesIO(text.data), usecols=CORNERS, dtype=np.int64)
-    if len(frame) != begins.size:
-        raise RunFailed("rjoin bounds: something other than an id and four numbers a row")
-    return Features(
-        id_table(text, begins, behind_id - begins), np.ascontiguousarray(frame[CORNERS].to_numpy())
-    )
-
-
-NO_FEATURES = Features(np.zeros((0, 1), dtype=np.uint8), np.zeros((0, 4), dtype=np.int64))
+    return read_answer(good), answer

@@ -10,12 +10,10 @@ from typing import Optional
 
 import numpy as np
 
-from rjoin_cluster.ids import Hashes
+from rjoin_cluster.ids import BUCKET_SHIFT, BUCKETS, Hashes
 from rjoin_cluster.layout import Layout, mapped
 from rjoin_cluster.records import Places
 from rjoin_cluster.sides import Side
-
-HASHES = 2**64
 
 
 @dataclass(frozen=True)
@@ -33,15 +31,16 @@ class DoublesJob:
 
     @property
     def range(self) -> tuple[int, int]:
-        """The first hash of the range and the last one."""
-        return HASHES * self.part // self.parts, HASHES * (self.part + 1) // self.parts - 1
+        """The first hash of the range and the last one. It is a range of whole buckets, in whose
+        order the hashes of a block are.
+        """
+        first, behind = (BUCKETS * part // self.parts for part in (self.part, self.part + 1))
+        return first << BUCKET_SHIFT, (behind << BUCKET_SHIFT) - 1
 
 
 def first_double(job: DoublesJob) -> Optional[int]:
     """The number of the first feature whose id a feature before it has."""
-    hashes, numbers = hashed(job)
-    order = np.argsort(hashes, kind="stable")  # so that numbers of one hash ascend
-    hashes, numbers = hashes.take(order), numbers.take(order)
+    hashes, numbers = repeated(*hashed(job))
     again = np.flatnonzero(hashes[1:] == hashes[:-1]) + 1
     for place in again[np.argsort(numbers[again])].tolist():
         begin = int(np.searchsorted(hashes, hashes[place]))
@@ -49,6 +48,15 @@ def first_double(job: DoublesJob) -> Optional[int]:
         if any(id_of(job, earlier) == name for earlier in numbers[begin:place].tolist()):
             return int(numbers[place])
     return None
+
+
+def repeated(hashes: Hashes, numbers: Places) -> tuple[Hashes, Places]:
+    """Those hashes that stand more than once, in order, and of one hash the numbers in order."""
+    in_order = np.sort(hashes)
+    places = np.flatnonzero(np.isin(hashes, in_order[1:][in_order[1:] == in_order[:-1]]))
+    hashes, numbers = hashes.take(places), numbers.take(places)
+    order = np.lexsort((numbers, hashes))
+    return hashes.take(order), numbers.take(order)
 
 
 def hashed(job: DoublesJob) -> tuple[Hashes, Places]:

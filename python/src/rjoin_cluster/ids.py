@@ -9,27 +9,41 @@ from __future__ import annotations
 from typing import Sequence
 
 import numpy as np
-import pandas
-from numpy.lib.stride_tricks import sliding_window_view
 from numpy.typing import NDArray
 
 from rjoin_cluster.records import Bytes, Places
+from rjoin_cluster.words import WORD, Words, first_bytes, words_at
 
 IdTable = NDArray[np.uint8]
 Hashes = NDArray[np.uint64]
-WORD = 8
+
+# Of SplitMix64 (Steele, Lea, Flood 2014).
+STEP = np.uint64(0x9E3779B97F4A7C15)
+MIXERS = ((30, np.uint64(0xBF58476D1CE4E5B9)), (27, np.uint64(0x94D049BB133111EB)))
+LAST_SHIFT = np.uint64(31)
+
+BUCKETS = 2**16
+BUCKET_SHIFT = 48
 
 
 def id_table(text: Bytes, begins: Places, lengths: Places) -> IdTable:
-    """The table of ids that begin at these places of a text."""
+    """The table of ids that begin at these places of a text, each of them followed by eight bytes
+    at least.
+    """
     width = int(lengths.max(initial=0))
-    table = np.zeros((begins.size, 1 + width), dtype=np.uint8)
+    words = np.empty((begins.size, words_in(width)), dtype="<u8")
+    for word in range(words.shape[1]):
+        rest = lengths - WORD * word
+        places = begins + np.minimum(WORD * word, lengths)
+        words[:, word] = first_bytes(words_at(text, places), rest)
+    table = np.empty((begins.size, 1 + width), dtype=np.uint8)
     table[:, 0] = lengths
-    if begins.size:
-        padded = np.append(text, np.zeros(width, dtype=np.uint8))
-        table[:, 1:] = sliding_window_view(padded, width)[begins]
-        table[:, 1:][np.arange(width) >= lengths[:, np.newaxis]] = 0
+    table[:, 1:] = words.view(np.uint8)[:, :width]
     return table
+
+
+def words_in(width: int) -> int:
+    return -(-width // WORD)
 
 
 def widened(table: IdTable, width: int) -> IdTable:
@@ -49,12 +63,22 @@ def stacked(tables: Sequence[IdTable]) -> IdTable:
 
 def hashes_of(table: IdTable) -> Hashes:
     """A hash of each id, which doesn't depend on the width of the table."""
-    words = (table.shape[1] + WORD - 1) // WORD
-    padded = np.ascontiguousarray(widened(table, words * WORD)).view("<u8")
-    used = table[:, 0] // WORD + 1
+    words = np.ascontiguousarray(widened(table, words_in(table.shape[1]) * WORD)).view("<u8")
     hashes = np.zeros(len(table), dtype=np.uint64)
-    for count in np.unique(used):
-        rows = used == count
-        frame = pandas.DataFrame(padded[rows, :count])
-        hashes[rows] = pandas.util.hash_pandas_object(frame, index=False)
+    for word in words.T[::-1]:  # what fills up an id comes first, and leaves zero
+        hashes = hashes * STEP + mixed(word)
     return hashes
+
+
+def mixed(words: Words) -> Hashes:
+    """A hash of each word; that of zero is zero."""
+    for shift, factor in MIXERS:
+        words = (words ^ (words >> np.uint64(shift))) * factor
+    return words ^ (words >> LAST_SHIFT)
+
+
+def bucket_of(hashes: Hashes) -> NDArray[np.uint16]:
+    """Which of 65,536 ranges each hash lies in. NumPy sorts 16 bits by their digits, in a fifth of
+    the time that whole hashes take.
+    """
+    return (hashes >> np.uint64(BUCKET_SHIFT)).astype(np.uint16)

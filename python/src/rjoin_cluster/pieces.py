@@ -11,7 +11,7 @@ from typing import Any, Iterator
 import numpy as np
 from numpy.typing import NDArray
 
-from rjoin_cluster.blocks import Boxes
+from rjoin_cluster.answers import Boxes
 from rjoin_cluster.ids import IdTable, stacked
 from rjoin_cluster.layout import Layout, mapped, save_array
 from rjoin_cluster.records import Places
@@ -63,7 +63,7 @@ def piece_type(id_width: int) -> np.dtype[Any]:
 def deal_block(job: DealJob) -> Counts:
     """Writes the block's features tile by tile, and answers how many each tile got."""
     layout = job.layout
-    boxes: Boxes = np.array(mapped(layout.boxes(job.side, job.block)))
+    boxes: Boxes = np.asarray(mapped(layout.boxes(job.side, job.block)))
     tiles = Tiles(mapped(layout.tiles()))
     dealt = dict(tiles.deal(boxes))
     counts = np.zeros(tiles.count, dtype=np.int32)
@@ -82,7 +82,7 @@ def piece_rows(job: DealJob, boxes: Boxes, order: Places) -> NDArray[np.void]:
     """The block's features in this order. Only right ids travel with the pairs: left ones are read
     in the end.
     """
-    ids = np.array(mapped(job.layout.ids(job.side, job.block)))
+    ids = np.asarray(mapped(job.layout.ids(job.side, job.block)))
     if job.side is Side.LEFT:
         ids = ids[:, :0]
     rows = np.empty(order.size, dtype=piece_type(ids.shape[1]))

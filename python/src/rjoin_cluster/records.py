@@ -29,6 +29,7 @@ def table_of(members: bytes) -> Flags:
     return table
 
 
+COMMA = ord(",")
 QUOTE = ord('"')
 RETURN = ord("\r")
 FEED = ord("\n")
@@ -83,6 +84,12 @@ def line_ends(part: Bytes) -> Places:
     return np.flatnonzero((part == RETURN) | (part == FEED))
 
 
+def most_record_ends(part: Bytes) -> int:
+    """As many as the part's control characters, among which both line ends are."""
+    windows = (part[begin:begin + WINDOW] for begin in range(0, part.size, WINDOW))
+    return sum(int(np.count_nonzero(window <= RETURN)) for window in windows)
+
+
 def opening(runs: QuoteRuns, start: State) -> Flags:
     """Whether the first quote of each run opens a field, where the run stands outside quotes."""
     opens = runs.opens.copy()
@@ -129,18 +136,19 @@ def state_after(part: Bytes, runs: QuoteRuns, quoted: Flags, start: State) -> St
     return State.FREE if was_inside or opening(runs, start)[-1] else State.BARE
 
 
-def is_outside(places: Places, runs: QuoteRuns, quoted: Flags, start: State) -> Flags:
-    """Whether places, none of which holds a quote, are outside quotes."""
+def outside(places: Places, runs: QuoteRuns, quoted: Flags, start: State) -> Places:
+    """Those of the places, none of which holds a quote, that are outside quotes."""
+    if not quoted.size:
+        return places[:0] if start is State.QUOTED else places
     behind = np.concatenate([[start is State.QUOTED], quoted])
-    outside: Flags = ~behind[np.searchsorted(runs.begins, places)]
-    return outside
+    return places[~behind[np.searchsorted(runs.begins, places)]]
 
 
 def first_record_end(part: Bytes, runs: QuoteRuns, quoted: Flags, start: State) -> Optional[int]:
     """The place behind the first line end outside quotes."""
     for begin in range(0, part.size, WINDOW):
         places = begin + line_ends(part[begin:begin + WINDOW])
-        ends = places[is_outside(places, runs, quoted, start)]
+        ends = outside(places, runs, quoted, start)
         if ends.size:
             return int(ends[0]) + 1
     return None
@@ -179,9 +187,19 @@ def record_ends(part: Bytes) -> Places:
     """The place behind each record of a text that begins between records; empty lines are none."""
     runs = quote_runs(part)
     quoted = quoted_behind(runs, State.FREE)
-    places = line_ends(part)
-    ends = places[is_outside(places, runs, quoted, State.FREE)]
+    ends = outside(line_ends(part), runs, quoted, State.FREE)
     last = int(ends[-1]) + 1 if ends.size else 0
     behind = ends[np.diff(ends, prepend=-1) != 1] + 1
     all_ends: Places = np.append(behind, part.size) if last < part.size else behind
     return all_ends
+
+
+def field_ends(part: Bytes) -> Places:
+    """Where the fields of a text end that begins between records: the places of the commas and line
+    ends that aren't quoted.
+    """
+    runs = quote_runs(part)
+    is_end = part == COMMA
+    is_end |= part == FEED
+    is_end |= part == RETURN
+    return outside(np.flatnonzero(is_end), runs, quoted_behind(runs, State.FREE), State.FREE)

@@ -18,7 +18,7 @@ from typing import Any, Iterator
 import numpy as np
 from numpy.typing import NDArray
 
-from rjoin_cluster.blocks import Boxes
+from rjoin_cluster.answers import Boxes
 from rjoin_cluster.digits import digits_in, read_back, written, written_signed
 from rjoin_cluster.faults import RunFailed
 from rjoin_cluster.layout import Layout, new_file

@@ -15,6 +15,7 @@ from rjoin_cluster.blocks import (
 from rjoin_cluster.doubles import DoublesJob, first_double
 from rjoin_cluster.engine import Engine
 from rjoin_cluster.faults import JoinFault, ProgramFault
+from rjoin_cluster.ids import BUCKETS
 from rjoin_cluster.inputs import Input
 from rjoin_cluster.layers import Layer, Layers
 from rjoin_cluster.layout import Layout, save_array
@@ -141,7 +142,7 @@ class Steps:
 
     def doubles_jobs(self, layer: Layer) -> list[DoublesJob]:
         save_array(self.layout.firsts(layer.side), layer.firsts)
-        blocks, parts = len(layer.blocks), 1 + layer.rows // HASHES_PER_TASK
+        blocks, parts = len(layer.blocks), min(BUCKETS, 1 + layer.rows // HASHES_PER_TASK)
         return [DoublesJob(self.layout, layer.side, blocks, part, parts) for part in range(parts)]
 
     def make_tiles(self, layers: Layers) -> Tiles:

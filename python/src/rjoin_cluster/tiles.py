@@ -12,7 +12,7 @@ from typing import Iterator, NamedTuple, Optional
 import numpy as np
 from numpy.typing import NDArray
 
-from rjoin_cluster.blocks import Boxes
+from rjoin_cluster.answers import Boxes
 from rjoin_cluster.records import Flags, Places
 
 LEAF = -1

@@ -1,0 +1,29 @@
+"""Bytes of a text, eight at a time, as numbers whose lowest byte is the first one."""
+from __future__ import annotations
+
+import numpy as np
+from numpy.typing import NDArray
+
+from rjoin_cluster.records import Bytes, Places
+
+Words = NDArray[np.uint64]
+
+WORD = 8
+KEEPS_FIRST = np.array([(1 << 8 * count) - 1 for count in range(WORD + 1)], dtype=np.uint64)
+KEEPS_LAST = ~KEEPS_FIRST[::-1]
+
+
+def words_at(text: Bytes, places: Places) -> Words:
+    """The eight bytes from each place on, all of which lie in the text."""
+    overlapping: Words = np.ndarray(text.size - WORD + 1, "<u8", text.data, strides=1)
+    return overlapping[places]
+
+
+def first_bytes(words: Words, counts: Places) -> Words:
+    """The words with zeros for all but so many of their first bytes: none below 0, all above 8."""
+    return words & KEEPS_FIRST.take(counts, mode="clip")
+
+
+def last_bytes(words: Words, counts: Places) -> Words:
+    """The words with zeros for all but so many of their last bytes: none below 0, all above 8."""
+    return words & KEEPS_LAST.take(counts, mode="clip")
