@@ -7,7 +7,7 @@ import random
 import numpy as np
 import pytest
 
-from rjoin_cluster.records import Bytes, State, block_begins, record_ends, scan
+from rjoin_cluster.records import Bytes, State, block_begins, record_ends, scan, scan_ends
 
 ENDS = "\r\n"
 STATES = {
@@ -77,3 +77,27 @@ def test_blocks_hold_whole_records() -> None:
         for begin, end in zip(begins, [*begins[1:], len(text)]):
             found += [begin + place for place in record_ends(array_of(text[begin:end])).tolist()]
         assert found == ends_of(text), (text, size)
+
+
+def test_both_ends_tell_what_the_whole_does() -> None:
+    """Or nothing, as where a quote of the middle decides."""
+    random.seed(4181)
+    told = 0
+    for _ in range(1500):
+        part = array_of("".join(random.choices('a",\n)', k=random.randint(8, 60))))
+        ends = random.randint(1, part.size)
+        found = scan_ends(part[:ends], part[-ends:], part.size)
+        if found is not None:
+            assert found.passages == scan(part).passages
+            told += 1
+    assert told > 150
+
+
+def test_a_quote_between_both_ends() -> None:
+    line = array_of('a,"b,c"\n')
+    for middle in ("", '"', '""', ',"', 'a"'):
+        text = np.concatenate([line, array_of(middle), line])
+        found = scan_ends(line, line, text.size)
+        assert found is not None and found.passages == scan(text).passages
+    plain = array_of("a,b\n")
+    assert scan_ends(plain, plain, 100) is None

@@ -3,7 +3,7 @@ features of each block.
 """
 from __future__ import annotations
 
-from dataclasses import dataclass
+from dataclasses import dataclass, replace
 from typing import Iterator, Optional, Sequence
 
 import numpy as np
@@ -21,10 +21,12 @@ from rjoin_cluster.records import (
     most_record_ends,
     record_ends,
     scan,
+    scan_ends,
 )
 from rjoin_cluster.sides import Side
 
 MOST_PART = MOST_BYTES - len(HEADER)
+END_BYTES = 2**18
 
 # Put before the first block, so that a second byte order mark stays part of the header.
 NO_MARK = b"\n"
@@ -46,6 +48,12 @@ class Extent:
     @property
     def size(self) -> int:
         return self.end - self.begin
+
+    def first(self, size: int) -> Extent:
+        return replace(self, end=self.begin + size)
+
+    def last(self, size: int) -> Extent:
+        return replace(self, begin=self.end - size)
 
     def read(self) -> Bytes:
         text = np.empty(self.size, dtype=np.uint8)
@@ -95,6 +103,11 @@ def header_begin(path: str) -> int:
 
 def scan_segment(extent: Extent) -> Segment:
     """What the bytes do to a reader, for each state that it may come with."""
+    if extent.size > 2 * END_BYTES:
+        head, tail = extent.first(END_BYTES).read(), extent.last(END_BYTES).read()
+        found = scan_ends(head, tail, extent.size)
+        if found is not None:
+            return found
     return scan(extent.read())
 
 

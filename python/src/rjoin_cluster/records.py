@@ -57,7 +57,7 @@ class Segment:
     """What a scan found in a part of a file."""
 
     passages: tuple[Passage, ...]  # by the state that the part begins in
-    line_feeds: int
+    line_feeds: int  # about
 
 
 @dataclass(frozen=True)
@@ -166,6 +166,22 @@ def scan(part: Bytes) -> Segment:
         passage(part, runs, quoted, start) for start, quoted in zip(State, quoted_by_state(runs))
     )
     return Segment(tuple(passages), int(np.count_nonzero(part == FEED)))
+
+
+def scan_ends(head: Bytes, tail: Bytes, size: int) -> Optional[Segment]:
+    """What a part of this size does, of which only both ends were looked at; None where that takes
+    more of it.
+
+    Behind a quote that surely closes a field the state doesn't depend on what stands before. So the
+    tail mostly leads all states to one, as the head has a record's end for each of them.
+    """
+    first, last = scan(head), scan(tail)
+    (after, *others) = {passage.after for passage in last.passages}
+    if others or any(passage.first_end is None for passage in first.passages):
+        return None
+    line_feeds = (first.line_feeds + last.line_feeds) * size // (head.size + tail.size)
+    passages = (Passage(after, passage.first_end) for passage in first.passages)
+    return Segment(tuple(passages), line_feeds)
 
 
 def block_begins(segments: Sequence[Segment], segment_bytes: int) -> list[int]:
