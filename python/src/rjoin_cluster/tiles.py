@@ -126,13 +126,17 @@ class Split:
     low: tuple[Sample, Sample]
     high: tuple[Sample, Sample]
 
-    @property
-    def greatest(self) -> float:
-        return max(load_of(self.low), load_of(self.high))
-
 
 def load_of(samples: tuple[Sample, Sample]) -> float:
     return samples[0].load + samples[1].load
+
+
+def greatest_load(samples: tuple[Sample, Sample], axis: int, cut: int) -> float:
+    """The load of the fuller side of a cut."""
+    return max(
+        sum(np.count_nonzero(side(boxes, axis, cut)) * weight for boxes, weight in samples)
+        for side in (below, above)
+    )
 
 
 def split_at(samples: tuple[Sample, Sample], axis: int, cut: int) -> Split:
@@ -152,14 +156,17 @@ def best_split(samples: tuple[Sample, Sample]) -> Optional[Split]:
     At the median of all ends of boxes along an axis, as many boxes reach below as above. Where many
     ends are one number, the cut behind it may be the better one.
     """
-    splits = []
+    cuts = []
     for axis in (0, 1):
         ends = np.concatenate([sample.boxes[:, axis::2].ravel() for sample in samples])
         if ends.size:
             median = int(np.partition(ends, ends.size // 2)[ends.size // 2])
-            splits += [split_at(samples, axis, median), split_at(samples, axis, median + 1)]
-    best = min(splits, key=lambda split: split.greatest, default=None)
-    return best if best and best.greatest <= LEAST_GAIN * load_of(samples) else None
+            cuts += [(axis, median), (axis, median + 1)]
+    loads = [greatest_load(samples, axis, cut) for axis, cut in cuts]
+    least = min(loads, default=np.inf)
+    if least > LEAST_GAIN * load_of(samples):
+        return None
+    return split_at(samples, *cuts[loads.index(least)])
 
 
 def make_tiles(left: Sample, right: Sample, want: Want) -> Tiles:
