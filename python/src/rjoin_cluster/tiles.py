@@ -92,8 +92,10 @@ class Tiles:
             if axis == LEAF:
                 yield low, rows
             else:
-                waiting.append((low, rows[ends[axis].take(rows) < cut]))
-                waiting.append((high, rows[ends[axis + 2].take(rows) >= cut]))
+                # NumPy takes what stands at places faster than what has a flag
+                is_low, is_high = ends[axis].take(rows) < cut, ends[axis + 2].take(rows) >= cut
+                waiting.append((low, rows.take(np.flatnonzero(is_low))))
+                waiting.append((high, rows.take(np.flatnonzero(is_high))))
 
 
 class Sample(NamedTuple):
