@@ -65,8 +65,8 @@ def client_of(cluster: Any, place: Place) -> Any:
 def local_cluster(place: Place, layout: Layout) -> Any:
     """Workers of one thread each, whose own files lie in the folder of the join and go with it.
 
-    They take memory as runs of rjoin do. Dask's own setting gives each array back to the system at
-    once, which costs a worker a fourth of its time in the system.
+    They take memory as runs of rjoin do. By dask's own setting the memory of each array is given
+    back to the system at once, which has to clear the pages of the next one.
     """
     dask.config.set({"distributed.nanny.pre-spawn-environ.GLIBC_TUNABLES": TUNABLES})
     return LocalCluster(  # type: ignore[no-untyped-call]
