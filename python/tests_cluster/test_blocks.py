@@ -11,6 +11,8 @@ from conftest import write_layer
 from rjoin_cluster import blocks, steps
 from rjoin_cluster.inputs import find_inputs
 from rjoin_cluster.program import Program, RowFault
+from rjoin_cluster.records import scan
+from rjoin_cluster.sides import Side
 
 MOST = 60
 GOOD = [(f"n{number}", f"POINT ({number} 1)") for number in range(50)]
@@ -52,3 +54,17 @@ def test_a_header_that_is_a_part_of_its_own(
     job = jobs_of(program, write_layer(tmp_path / "long.csv", rows), 4000)[0]
     features, fault = blocks.features_of(job.program, job.block)
     assert (features.boxes[:, 0].tolist(), fault) == ([1, 0, 1], None)
+
+
+@pytest.mark.parametrize("geometry", ["POINT (1 1)", '"LINESTRING (1 1, 2 1)"'])
+def test_a_segment_is_what_its_whole_is(
+    tmp_path: Path, geometry: str, monkeypatch: pytest.MonkeyPatch
+) -> None:
+    """Where both ends tell, as they do of rows with quotes, and where they don't."""
+    monkeypatch.setattr(blocks, "END_BYTES", 100)
+    layer = write_layer(tmp_path / "layer.csv", [(f"n{number}", geometry) for number in range(99)])
+    for begin in range(7, 60):
+        segment = blocks.Extent(Side.LEFT, str(layer), 0, begin, layer.stat().st_size)
+        found, whole = blocks.scan_segment(segment), scan(segment.read())
+        assert found.passages == whole.passages
+        assert abs(found.line_feeds - whole.line_feeds) < 20
