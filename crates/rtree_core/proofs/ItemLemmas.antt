@@ -15,7 +15,7 @@ use Rattle.split_core.specs.Covers.{IsLeastCover}
 use Rattle.rtree_core.specs.Items.{entry_alone, FitsLeaf, FitsInner, IsNodeList, IsNodeOf, leaf_node, inner_node}
 use Rattle.split_core.specs.Limits.{fewest}
 use Rattle.rtree_core.specs.Nodes.{entries_of, own_entries, level_of, size_of, children_of, IsPage, IsInner, IsLawfulAt, IsLawful}
-use Rattle.rtree_core.specs.Packed.{IsPackedAt, FitsPacked, IsPackedOf}
+use Rattle.rtree_core.specs.Packed.{half_full, IsPackedAt, FitsPacked, IsPackedOf}
 use Rattle.rtree_core.proofs.NodeLemmas.{entries_leaf, level_leaf, entries_inner, level_inner}
 
 -- a leaf by its list
@@ -106,7 +106,7 @@ leaf_children c v = rw outs-Entries refl
 
 pub leaf_packed : (c : Shape) (v : Vec Entry Global) → IsPackedOf (λ _ _. Unit {0}) v.items (leaf_node c v)
 leaf_packed c v zero all = tt
-leaf_packed c v (suc level) all = rw (leaf_children c v) (All-nil (λ m. (4 ≤ size_of m) × IsPackedAt level m))
+leaf_packed c v (suc level) all = rw (leaf_children c v) (All-nil (λ m. (half_full ≤ size_of m) × IsPackedAt level m))
 
 none_fits : (ns : List Node) → 0 < length ns → All (FitsInner 0) ns → ⊥
 none_fits [] some all = omega arith

@@ -14,7 +14,7 @@ use Rattle.std.proofs.lemmas.List.{length-map, get_or-map}
 use Rattle.std.proofs.lemmas.List.Elements.{All-head, All-tail, All-map, All-weaker}
 use Rattle.split_core.specs.Limits.{fewest}
 use Rattle.split_core.specs.Covers.{IsLeastCover}
-use Rattle.rtree_core.specs.Nodes.{entries_step, entries_of, level_step, level_of, size_of, children_of, leaf_law, inner_law, IsLawfulAt, IsLawful}
+use Rattle.rtree_core.specs.Nodes.{entries_step, entries_of, level_step, level_of, size_of, children_of, leaf_law, inner_law, IsLeaf, IsLawfulAt, IsLawful}
 use Rattle.rtree_core.specs.Nodes.{AreLawfulChildren}
 
 flat_map-map : {A B C : Type 0} (f : A → B) (g : B → List C) (xs : List A) → flat_map g (map f xs) ≡ flat_map (λ x. g (f x)) xs
@@ -45,6 +45,13 @@ level_leaf n v e = level_unfold n ∙ rw e refl
 pub level_inner : (n : Node) (v : Vec Node Global) → out-Below n.below ≡ Children v → level_of n ≡ fold max 0 (map level_of v.items) + 1
 level_inner n v e = level_unfold n ∙ rw e refl
 
+-- what a node holds tells whether it is a leaf
+pub holds_entries : (n : Node) (v : Vec Entry Global) → out-Below n.below ≡ Entries v → IsLeaf n
+holds_entries n v e = rw e tt
+
+pub holds_children : (n : Node) (v : Vec Node Global) → out-Below n.below ≡ Children v → ¬ (IsLeaf n)
+holds_children n v e leaf = rw e at leaf
+
 fold_max_from : (l : ℕ) (xs : List ℕ) → All (λ x. x ≡ l) xs → fold max l xs ≡ l
 fold_max_from l [] h = refl
 fold_max_from l (x ∷ xs) h =
@@ -62,6 +69,14 @@ fold_max_same l (x ∷ xs) s h =
 leaf_level : (n : Node) (b : Below-F Below Node) → out-Below n.below ≡ b → leaf_law n.cover b → level_of n ≡ 0
 leaf_level n (Entries v) e h = level_leaf n v e
 leaf_level n (Children v) e h = absurd h
+
+leaf_holds : (n : Node) (b : Below-F Below Node) → out-Below n.below ≡ b → leaf_law n.cover b → 0 < size_of n
+leaf_holds n (Entries v) e h = rw e (h.some)
+leaf_holds n (Children v) e h = absurd h
+
+-- a leaf has an entry
+pub leaf_some : (n : Node) → IsLawfulAt 0 n → 0 < size_of n
+leaf_some n h = leaf_holds n (out-Below n.below) refl h
 
 inner_level : (l : ℕ) (n : Node) (b : Below-F Below Node) →
     ((m : Node) → IsLawfulAt l m → level_of m ≡ l) →

@@ -1,13 +1,16 @@
 -- How a list of items is cut into the nodes of the level above, and what that makes of the whole.
 use Rattle.std.proofs.Common.{arith, ◌≡◌, ℕ, zero, suc, ◌+◌, ◌-◌, ◌*◌, ◌/◌, ◌%◌, ◌^◌, ◌<◌, ◌≤◌, Bool, cond, inl, inr, List, [], ◌∷◌, ◌++◌, map, min, length, refl}
 use Rattle.std.proofs.Common.{sym, ◌∙◌, ap, subst, append_assoc, append-nil, length-append, take, drop}
-use Rattle.std.specs.Prelude.{All, Option, IfSome, count_by, sum_by}
+use Rattle.std.specs.Prelude.{All, Option, IfSome, Result, IfOk, count_by, sum_by, vec_len, vec_capacity}
+use Rattle.std.specs.declared.alloc.Global.{Global}
+use Rattle.std.specs.declared.vec.Vec.{Vec}
 use Rattle.std.specs.Int.{div_ceil}
 use Rattle.std.specs.List.{flat_map}
 use Rattle.std.specs.List.Sorted.{IsPermutation}
 use Rattle.std.proofs.Math.Nat.{mul-le-mul_left}
 use Rattle.std.proofs.lemmas.Bool.{cases_lt}
 use Rattle.std.proofs.lemmas.Bool.Decides.{nat_tests}
+use Rattle.std.proofs.lemmas.Result.{IfOk-weaker}
 use Rattle.std.proofs.lemmas.List.{flat_map_more}
 use Rattle.std.proofs.lemmas.List.Concat.{flat_map-append}
 use Rattle.std.proofs.lemmas.List.Elements.{All-nil, All-head, All-tail, All-push, All-append}
@@ -22,9 +25,9 @@ use Rattle.rtree_core.specs.declared.pack.Placed.{Placed}
 use Rattle.split_core.specs.Collections.{HasSame}
 use Rattle.rtree_core.specs.Items.{entry_alone, FitsLeaf, FitsInner, IsNodeOf}
 use Rattle.rtree_core.specs.Nodes.{entries_of, children_of, size_of, IsLawfulAt}
-use Rattle.rtree_core.specs.Packed.{IsPackedAt, HasU32, FitsPacked, IsPackedOf, AreNodesOf, IsPackedTree, IsShare}
+use Rattle.rtree_core.specs.Packed.{half_full, IsPackedAt, HasU32, FitsPacked, IsPackedOf, AreNodesOf, IsPackedTree, IsShare, IsNextPage}
 use Rattle.rtree_core.specs.Packings.{AreLeavesOf, AreNodesAbove, IsPackedLevel, IsPackingOf, AreTilesOf, pages_of}
-use Rattle.rtree_core.specs.Trees.{has_number}
+use Rattle.rtree_core.specs.Trees.{entries_in, has_number}
 use Rattle.split_core.proofs.TileLemmas.{same_permuted}
 use Rattle.split_core.proofs.CoverLemmas.{All-front, All-back}
 use Rattle.rtree_core.proofs.NodeLemmas.{lawful_level, lawful_is}
@@ -82,6 +85,52 @@ pub list_packed : (n : ℕ) (old slice new : List Entry) (root : Option Node) �
     IfSome root (IsPackingOf old)
 list_packed n old slice new root all len perm packed = tree_permuted _ _ root (list_permuted n old slice new all len perm) packed
 
+-- a page before its first item, and with one more
+pub page_none : {S T : Type 0} (held : S → T) (InRange : T → Type 0) (items : List S) (page : Vec T Global) →
+    page.items ≡ [] →
+    vec_len page ≡ 0 →
+    most + 1 ≤ vec_capacity page →
+    IsNextPage held InRange 0 items items page
+page_none held InRange items page none len room = record {
+  taken = rw none refl;
+  len = len;
+  room = room;
+  in_range = rw none (All-nil InRange);
+}
+
+pub page_more : {S T : Type 0} (held : S → T) (InRange : T → Type 0) (size : ℕ) (old rest left : List S) (page more : Vec T Global) (x : S) (y : T) →
+    IsNextPage held InRange size old rest page →
+    rest ≡ x ∷ left →
+    y ≡ held x →
+    InRange (held x) →
+    more.items ≡ page.items ++ y ∷ [] →
+    vec_len more ≡ vec_len page + 1 →
+    vec_capacity more ≡ vec_capacity page →
+    IsNextPage held InRange (size + 1) old left more
+page_more held InRange size old rest left page more x y was next is known items len capacity = record {
+  taken = rw (items, is) (was.taken ∙ ap (λ xs. page.items ++ map held xs) next ∙ sym (append_assoc page.items (held x ∷ []) (map held left)));
+  len = omega (arith, was.len, len);
+  room = omega (arith, was.room, capacity);
+  in_range = rw (items, is) (All-push InRange page.items (held x) was.in_range known);
+}
+
+-- so it is of a tree that was made, or wasn't
+pub tree_same : {E : Type 0} (n : ℕ) (old slice new : List Entry) (made : Result (Option Node) E) →
+    slice ≡ old →
+    length slice ≡ n →
+    IsPermutation slice new →
+    IfOk made (λ t. HasSame (take n (new ++ drop (length new) old)) (entries_in t)) →
+    IfOk made (λ t. HasSame old (entries_in t))
+tree_same n old slice new made all len perm = IfOk-weaker made _ _ (λ t same. list_same n old slice new (entries_in t) all len perm same)
+
+pub tree_packed : {E : Type 0} (n : ℕ) (old slice new : List Entry) (made : Result (Option Node) E) →
+    slice ≡ old →
+    length slice ≡ n →
+    IsPermutation slice new →
+    IfOk made (λ t. IfSome t (IsPackingOf (take n (new ++ drop (length new) old)))) →
+    IfOk made (λ t. IfSome t (IsPackingOf old))
+tree_packed n old slice new made all len perm = IfOk-weaker made _ _ (λ t packed. list_packed n old slice new t all len perm packed)
+
 -- the last item of a list of one
 pub only_one : {T : Type 0} (all front : List T) (x : T) → all ≡ front ++ x ∷ [] → length all ≤ 1 → all ≡ x ∷ []
 only_one all [] x e h = e
@@ -109,6 +158,10 @@ share_least q r o m lt h =
       | inl more ↦ let wide : q + 1 ≤ m = omega arith in absurd (omega (arith, mul-le-mul_left (o + 1) wide))
       | inr less ↦ less
     ]
+
+-- a share is no more than all
+pub share_within : (size items pages : ℕ) → 0 < pages → IsShare size items pages → size ≤ items
+share_within size items pages some share = share.at_most items (omega (arith, mul-le-mul_left items some))
 
 share_few : (q r o m : ℕ) → r < o + 1 → (o + 1) * q + r ≤ m * (o + 1) → (o + 1) * q + r ≤ m * o + (q + min 1 r)
 share_few q r o m lt h =
@@ -232,7 +285,7 @@ module _ {K : Type 0} (entries : K → List Entry) (fits fits_packed : ℕ → K
         same = λ p. ap (count_by p) all;
         count = cut.count ∙ e;
         two = λ h. cut.big 2 (omega arith);
-        four = λ h. cut.big 4 (omega (arith, cut.count));
+        half = λ h. cut.big half_full (omega (arith, cut.count));
         lawful = cut.lawful;
         packed = cut.packed;
       }
@@ -260,7 +313,7 @@ module _ {K : Type 0} (entries : K → List Entry) (fits fits_packed : ℕ → K
             ∙ made.same p;
         count = rw (← len) made.count;
         two = λ h. made.two (omega arith);
-        four = made.four;
+        half = made.half;
         lawful = λ level h. made.lawful level (All-permutation (fits level) unsorted items perm h);
         packed = λ level h. made.packed level (All-permutation (fits_packed level) unsorted items perm h);
       }
@@ -299,7 +352,7 @@ pub record IsRow (all : List Entry) (nodes : List Node) (height : ℕ) : Type 0 
   pub lawful : All (IsLawfulAt level) nodes
   pub packed : All (IsPackedAt level) nodes
   pub two : 0 < level → All (λ n. 2 ≤ size_of n) nodes
-  pub four : 2 ≤ length nodes → All (λ n. 4 ≤ size_of n) nodes
+  pub half : 2 ≤ length nodes → All (λ n. half_full ≤ size_of n) nodes
   pub packing : IsPackedLevel all level nodes
 
 pub row_first : (all : List Entry) (nodes : List Node) →
@@ -315,15 +368,15 @@ row_first all nodes some made leaves = record {
   lawful = made.lawful 0 (λ k d lt. refl);
   packed = made.packed 0 (λ k d lt. tt);
   two = λ h. absurd (omega arith);
-  four = made.four;
+  half = made.half;
   packing = leaves;
 }
 
 row_fits : (all : List Entry) (nodes : List Node) (height : ℕ) (row : IsRow all nodes height) → 2 ≤ length nodes → All (FitsInner (suc row.level)) nodes
-row_fits all nodes height row many k d lt = (row.lawful k d lt, omega (arith, row.four many k d lt))
+row_fits all nodes height row many k d lt = (row.lawful k d lt, omega (arith, row.half many k d lt))
 
 row_fits_packed : (all : List Entry) (nodes : List Node) (height : ℕ) (row : IsRow all nodes height) → 2 ≤ length nodes → All (FitsPacked (suc row.level)) nodes
-row_fits_packed all nodes height row many k d lt = (row.four many k d lt, row.packed k d lt)
+row_fits_packed all nodes height row many k d lt = (row.half many k d lt, row.packed k d lt)
 
 pub row_next : (all : List Entry) (nodes above : List Node) (height : ℕ) →
     2 ≤ length nodes →
@@ -339,7 +392,7 @@ row_next all nodes above height many row made tiles = record {
   lawful = made.lawful (suc row.level) (row_fits all nodes height row many);
   packed = made.packed (suc row.level) (row_fits_packed all nodes height row many);
   two = λ h. made.two many;
-  four = made.four;
+  half = made.half;
   packing = (nodes, many, row.packing, tiles);
 }
 

@@ -1,9 +1,9 @@
 -- What insertions into a trunk do, one after another.
-use Rattle.std.proofs.Common.{arith, ◌≡◌, ℕ, suc, ◌+◌, ◌*◌, ◌≤◌, cond, List, [], ◌∷◌, ◌++◌, refl, ◌∙◌, ap, append-nil}
+use Rattle.std.proofs.Common.{arith, ◌≡◌, ℕ, zero, suc, ◌+◌, ◌*◌, ◌<◌, ◌≤◌, Bool, true, false, cond, List, [], ◌∷◌, ◌++◌, refl, ◌∙◌, ap, append-nil}
 use Rattle.std.specs.Prelude.{vec_len, Option, None, Some, IsSomeAnd}
 use Rattle.std.proofs.lemmas.Nat.{mul-le}
 use Rattle.std.proofs.lemmas.List.Elements.{All-push, All-cons, All-nil}
-use Rattle.std.proofs.lemmas.List.Sums.{sum_by-append}
+use Rattle.std.proofs.lemmas.List.Sums.{sum_by-append, sum_by-cons}
 use Rattle.geom_core.specs.declared.shape.Shape.{Shape}
 use Rattle.std.specs.declared.alloc.Global.{Global}
 use Rattle.std.specs.declared.vec.Vec.{Vec}
@@ -14,10 +14,11 @@ use Rattle.rtree_core.specs.Insertions.{StaysOne, ComesInTwo}
 use Rattle.rtree_core.specs.Items.{entry_alone, FitsLeaf, FitsInner, IsNodeOf}
 use Rattle.rtree_core.specs.Nodes.{entries_of, level_of, size_of, IsLawfulAt}
 use Rattle.rtree_core.specs.Spares.{AreSpare, IsSpare, IsSpent}
+use Rattle.split_core.specs.Collections.{HasSame}
 use Rattle.split_core.specs.Splits.{IsRoom}
 use Rattle.rtree_core.specs.Trees.{entries_in, height_of, IsRoot}
-use Rattle.rtree_core.specs.Trunks.{IsSound, CanTake, HasTakenIn, HasGrownBy}
-use Rattle.rtree_core.proofs.NodeLemmas.{lawful_level, lawful_is}
+use Rattle.rtree_core.specs.Trunks.{IsSound, IsRooted, CanTake, HasTakenIn, HasGrownBy}
+use Rattle.rtree_core.proofs.NodeLemmas.{leaf_some, lawful_level, lawful_is}
 
 -- lists for more insertions are enough for fewer
 pub can_take_less : (m n : ℕ) (t : Trunk) → m ≤ n → CanTake n t → CanTake m t
@@ -42,6 +43,45 @@ can_take_after n s t le leaf inner e = record {
   inners = omega (arith, e.inners, one_more n (s.height + (1 + n)), mul-le n (t.height + n) n (s.height + (1 + n)) (omega arith) (omega arith));
   low = omega (arith, e.low);
 }
+
+-- what was taken out of a collection but for some, which came in again, is gone from the whole
+pub lost_but_back : (e : Entry) (old kept aside after : List Entry) →
+    HasSame (e ∷ (kept ++ aside)) old →
+    HasSame (aside ++ kept) after →
+    HasSame (e ∷ after) old
+lost_but_back e old kept aside after loses gains p =
+    let count : Entry → ℕ = λ x. cond (p x) 1 0 in
+    omega (
+      arith,
+      loses p,
+      gains p,
+      sum_by-cons count e (kept ++ aside),
+      sum_by-cons count e after,
+      sum_by-append count kept aside,
+      sum_by-append count aside kept,
+    )
+
+lone_at : (l : ℕ) (n : Node) → IsLawfulAt l n → (0 < l → 2 ≤ size_of n) → size_of n < 2 → IsLawfulAt 0 n × (size_of n ≡ 1)
+lone_at zero n lawful two few = (lawful, omega (arith, leaf_some n lawful))
+lone_at (suc l) n lawful two few = absurd (omega (arith, two (omega arith)))
+
+-- a root that has fewer than two items is a leaf of one
+pub lone_root : (n : Node) → IsRoot n → size_of n < 2 → IsLawfulAt 0 n × (size_of n ≡ 1)
+lone_root n root few = lone_at (level_of n) n root.lawful root.two few
+
+-- a trunk that was emptied, or wasn't
+pub emptied_rooted : (gone : Bool) (old new : Trunk) →
+    IsRooted old →
+    (gone ≡ true → new ≡ record old { root = None; height = 0 }) →
+    (gone ≡ false → new ≡ old) →
+    IsRooted new
+emptied_rooted true old new rooted emptied kept =
+    rw (emptied refl) (record { sound = record { lawful = tt; height_is = refl; lists = rooted.sound.lists }; root = tt })
+emptied_rooted false old new rooted emptied kept = rw (kept refl) rooted
+
+-- the last of a collection is gone from it
+pub lost_last : (e : Entry) (old after : List Entry) → old ≡ e ∷ [] → after ≡ [] → HasSame (e ∷ after) old
+lost_last e old after last none = rw (last, none) (λ p. refl)
 
 some_of : (r : Option Node) (P : Node → Type 0) → IsSomeAnd r P → (m : Node) × (r ≡ Some m) × P m
 some_of None P h = absurd h

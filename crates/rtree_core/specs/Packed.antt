@@ -1,6 +1,6 @@
--- Packed trees: each node below the root has at least four entries or children.
-use Rattle.std.specs.Prelude.{◌≡◌, ℕ, zero, suc, ◌+◌, ◌-◌, ◌*◌, ◌^◌, ◌<◌, ◌≤◌, List, ◌++◌, map}
-use Rattle.std.specs.Prelude.{length, vec_len, vec_capacity, Some, All}
+-- Packed trees: each node below the root has at least half of the most entries or children.
+use Rattle.std.specs.Prelude.{◌≡◌, ℕ, zero, suc, ◌+◌, ◌-◌, ◌*◌, ◌/◌, ◌^◌, ◌<◌, ◌≤◌, List, ◌++◌}
+use Rattle.std.specs.Prelude.{map, length, vec_len, vec_capacity, Some, All}
 use Rattle.std.specs.Int.{div_ceil}
 use Rattle.std.specs.List.{flat_map}
 use Rattle.std.specs.declared.alloc.Global.{Global}
@@ -13,10 +13,14 @@ use Rattle.rtree_core.specs.Nodes.{entries_of, children_of, level_of, size_of, I
 use Rattle.rtree_core.specs.Packings.{IsPackingOf}
 use Rattle.rtree_core.specs.Trees.{IsTree}
 
--- each node below this one, of this level, has at least four entries or children
+-- the fewest entries or children of a packed node below the root: half of the most
+abbrev pub half_full : ℕ
+half_full = most / 2
+
+-- each node below this one, of this level, is at least half full
 abbrev pub IsPackedAt : ℕ → Node → Type 0
 IsPackedAt zero n = Unit {0}
-IsPackedAt (suc level) n = All (λ m. (4 ≤ size_of m) × IsPackedAt level m) (children_of n)
+IsPackedAt (suc level) n = All (λ m. (half_full ≤ size_of m) × IsPackedAt level m) (children_of n)
 
 -- the same, at the level that the node has
 abbrev pub IsPacked : Node → Type 0
@@ -29,7 +33,7 @@ HasU32 e = e.number < 2 ^ 32
 -- a packed node of this level may hold this node
 abbrev pub FitsPacked : ℕ → Node → Type 0
 FitsPacked zero n = Unit {0}
-FitsPacked (suc level) n = (4 ≤ size_of n) × IsPackedAt level n
+FitsPacked (suc level) n = (half_full ≤ size_of n) × IsPackedAt level n
 
 -- the node of this list is packed at each level where these items are
 abbrev pub IsPackedOf : {T : Type 0} → (ℕ → T → Type 0) → List T → Node → Type 0
@@ -57,7 +61,7 @@ pub record AreNodesOf {T : Type 0} (entries : T → List Entry) (fits fits_packe
   pub same : HasSame (flat_map entries items) (flat_map entries_of nodes)
   pub count : length nodes ≡ div_ceil (length items) most
   pub two : 2 ≤ length items → All (λ n. 2 ≤ size_of n) nodes
-  pub four : 2 ≤ length nodes → All (λ n. 4 ≤ size_of n) nodes
+  pub half : 2 ≤ length nodes → All (λ n. half_full ≤ size_of n) nodes
   pub lawful : (level : ℕ) → All (fits level) items → All (IsLawfulAt level) nodes
   pub packed : (level : ℕ) → All (fits_packed level) items → All (IsPackedAt level) nodes
 

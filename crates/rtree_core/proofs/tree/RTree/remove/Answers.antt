@@ -1,4 +1,6 @@
-use Rattle.std.proofs.Common.{arith, ◌∷◌, refl}
+use Rattle.std.proofs.Common.{arith, ◌∷◌, refl, sym, ◌∙◌}
+use Rattle.std.proofs.lemmas.Bool.{false≢true}
+use Rattle.std.proofs.lemmas.Result.{err_from_is_err_and}
 use Rattle.split_core.specs.Collections.{Gains}
 use Rattle.rtree_core.specs.Trees.{entries_in}
 use Rattle.rtree_core.proofs.TreeLemmas.{tree_height, tree_loses, same_length}
@@ -38,3 +40,35 @@ invariant_of-self-then-removed c =
       );
       none_aside = c.remove-removed.ensures.none_aside;
     }
+
+pub returns-in_err-reserve-clause-held : goal.returns-in_err-reserve-clause-held
+returns-in_err-reserve-clause-held c = rw (err_from_is_err_and c.from_residual.result c.from_residual.ensures.1).1 tt
+
+pub returns-in_err-reserve-clause-loses : goal.returns-in_err-reserve-clause-loses
+returns-in_err-reserve-clause-loses c = rw (err_from_is_err_and c.from_residual.result c.from_residual.ensures.1).1 tt
+
+pub returns-in_err-reserve-clause-unchanged : goal.returns-in_err-reserve-clause-unchanged
+returns-in_err-reserve-clause-unchanged c = rw (err_from_is_err_and c.from_residual.result c.from_residual.ensures.1).1 tt
+
+pub returns-in_err-gather-clause-held : goal.returns-in_err-gather-clause-held
+returns-in_err-gather-clause-held c = rw (err_from_is_err_and c.from_residual-in_err-gather.result c.from_residual-in_err-gather.ensures.1).1 tt
+
+pub returns-in_err-gather-clause-loses : goal.returns-in_err-gather-clause-loses
+returns-in_err-gather-clause-loses c = rw (err_from_is_err_and c.from_residual-in_err-gather.result c.from_residual-in_err-gather.ensures.1).1 tt
+
+pub returns-in_err-gather-clause-unchanged : goal.returns-in_err-gather-clause-unchanged
+returns-in_err-gather-clause-unchanged c = rw (err_from_is_err_and c.from_residual-in_err-gather.result c.from_residual-in_err-gather.ensures.1).1 tt
+
+pub returns-then-removed-clause-unchanged : goal.returns-then-removed-clause-unchanged
+returns-then-removed-clause-unchanged c = λ e. absurd (false≢true (sym e ∙ c.if-removed.true))
+
+pub returns-else-removed-clause-loses : goal.returns-else-removed-clause-loses
+returns-else-removed-clause-loses c = λ e. absurd (false≢true (sym c.if-removed.false ∙ e))
+
+pub gather-requires-clause-sound : goal.gather-requires-clause-sound
+gather-requires-clause-sound c = c.self.invariant.sound
+
+pub invariant_of-self : goal.invariant_of-self
+invariant_of-self c =
+    let i = c.self.invariant in
+    record { tree = i.tree; sound = i.sound; len = i.len; none_aside = c.reserve.ensures.items ∙ i.none_aside }
