@@ -214,3 +214,11 @@ exact_text text r h m e = (exact_ok text r h m).1 (ap str_to_ascii_uppercase e �
 
 pub reads_fault : (text : List ℕ) (fault : MaskFault) → length text ≡ 9 → TellsBad text 0 9 fault → Reads text (Err fault)
 reads_fault text fault n bad = subst (λ (f : MaskFault). Reads text (Err f)) (sym bad.told) (n, bad.first_bad)
+
+pub ok_not_err : {A E : Type 0} (a : A) (e : E) → Ok a ≡ Err e → ⊥
+ok_not_err a e is = cc
+
+-- what an error is told of stays told where another result is wanted
+pub err_exact : {A B E : Type 0} (x y : E) (P : Type 0) →
+    (◌≡◌ {A = Result A E} (Err x) (Err y)) ↔ P → (◌≡◌ {A = Result B E} (Err x) (Err y)) ↔ P
+err_exact x y P told = (λ e. let same : x ≡ y = cc in told.0 (ap Err same), λ w. let e = told.1 w in let same : x ≡ y = cc in ap Err same)
