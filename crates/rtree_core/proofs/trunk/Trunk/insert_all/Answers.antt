@@ -1,10 +1,10 @@
-use Rattle.std.proofs.Common.{arith, ◌≡◌, ◌-◌, ◌+◌, ◌++◌, [], ◌∷◌, length, ap, ◌∙◌, append_assoc, length-append}
+use Rattle.std.proofs.Common.{arith, rules, ◌≡◌, ◌-◌, ◌+◌, ◌++◌, [], ◌∷◌, length, ap, ◌∙◌, append_assoc, length-append}
 use Rattle.std.proofs.lemmas.List.Concat.{flat_map-append}
 use Rattle.std.proofs.lemmas.List.{append-nil}
 use Rattle.std.specs.Vec.Iter.{into_iter_items}
 use Rattle.std.specs.List.{flat_map}
 use Rattle.split_core.proofs.CoverLemmas.{All-mid}
-use Rattle.rtree_core.proofs.TrunkLemmas.{can_take_less, took_both}
+use Rattle.rtree_core.proofs.TrunkLemmas.{can_take_less, took_none, took_both}
 use Rattle.rtree_core.proofs.trunk.Trunk.insert_all.Goals as goal
 
 pub insert-requires-clause-can_take : goal.insert-requires-clause-can_take
@@ -39,3 +39,6 @@ loop-item-preserved g c =
           rw (length-append yielded (item ∷ []), more)
           (took_both (length yielded) 1 (flat_map entries yielded) (entries item) _ _ _ c.loop-item.invariant.taken_in c.insert.ensures);
     }
+
+pub loop-item-init : goal.loop-item-init
+loop-item-init g c = record { parts = search rules; left = search rules; taken_in = took_none c.args.self.now c.requires.sound }

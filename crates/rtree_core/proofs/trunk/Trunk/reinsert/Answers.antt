@@ -1,11 +1,11 @@
-use Rattle.std.proofs.Common.{arith, ◌≡◌, ◌-◌, ◌+◌, ◌*◌, ◌<◌, ◌++◌, [], ◌∷◌, length, take, drop, ap, sym, ◌∙◌, get_or, drop-drop, get_or-drop, add-zero, subst}
+use Rattle.std.proofs.Common.{arith, refl, ◌≡◌, ◌-◌, ◌+◌, ◌*◌, ◌<◌, ◌++◌, [], ◌∷◌, length, take, drop, ap, sym, ◌∙◌, get_or, drop-drop, get_or-drop, add-zero, subst}
 use Rattle.std.proofs.lemmas.Bool.Decides.{nat_tests}
-use Rattle.std.proofs.lemmas.List.{append-nil, take_more, length-drop}
+use Rattle.std.proofs.lemmas.List.{append-nil, take_more, take_all, length-drop}
 use Rattle.std.proofs.lemmas.List.Concat.{flat_map-append}
 use Rattle.std.specs.List.{flat_map}
 use Rattle.split_core.specs.Limits.{fewest}
 use Rattle.rtree_core.specs.Nodes.{entries_of, size_of, IsLawfulAt}
-use Rattle.rtree_core.proofs.TrunkLemmas.{can_take_less, took_both}
+use Rattle.rtree_core.proofs.TrunkLemmas.{can_take_less, took_none, took_both}
 use Rattle.rtree_core.proofs.trunk.Trunk.reinsert.Goals as goal
 use Rattle.rtree_core.proofs.trunk.Trunk.reinsert.Goals.{After-remove-node}
 
@@ -62,3 +62,13 @@ loop-aside-preserved c =
           (took_both (2 * level) (size_of node) (flat_map entries_of (take level nodes)) (entries_of node) _ _ _ c.loop-aside.invariant.taken_in
           c.reinsert_node.ensures);
     }
+
+pub loop-aside-init : goal.loop-aside-init
+loop-aside-init c = record { few = omega arith; rest = refl; taken_in = took_none c.args.self.now c.requires.sound }
+
+pub returns-clause-taken_in : goal.returns-clause-taken_in
+returns-clause-taken_in c =
+    let nodes = c.args.aside.now.items in
+    let none : length c.loop-aside.aside.items ≡ 0 = grind (arith, nat_tests, c.loop-aside-test.false, c.is_empty.ensures, c.loop-aside.aside.ok.0) in
+    let all : c.loop-aside.level ≡ length nodes = omega (arith, c.loop-aside.invariant.few, ap length c.loop-aside.invariant.rest, length-drop c.loop-aside.level nodes, none) in
+    rw (all, take_all (length nodes) nodes (omega arith)) at c.loop-aside.invariant.taken_in
