@@ -6,9 +6,14 @@ use Rattle.std.proofs.lemmas.List.{get_or_default, set-get_or}
 use Rattle.std.proofs.lemmas.List.Elements.{All-weaker}
 use Rattle.geom_core.specs.Cells.{IsIn}
 use Rattle.split_core.specs.Limits.{fewest}
-use Rattle.rtree_core.specs.declared.node.Below.TheVariants.{outs-Children}
+use Rattle.rtree_core.specs.declared.node.Below.{Below}
+use Rattle.rtree_core.specs.declared.node.Below.TheVariants.{Entries, Children, outs-Entries, outs-Children}
+use Rattle.rtree_core.specs.declared.node.Node.{Node}
+use Rattle.std.specs.declared.alloc.Global.{Global}
+use Rattle.std.specs.declared.vec.Vec.{Vec}
+use Rattle.rtree_core.specs.declared.node.Entry.{Entry}
 use Rattle.split_core.specs.Covers.{IsLeastCover}
-use Rattle.rtree_core.specs.Items.{inner_node}
+use Rattle.rtree_core.specs.Items.{leaf_node, inner_node}
 use Rattle.rtree_core.specs.Removals.{CanTakeOut}
 use Rattle.rtree_core.specs.Nodes.{entries_of, level_of, size_of, IsLawful, IsLawfulAt}
 use Rattle.rtree_core.proofs.NodeLemmas.{level_inner, lawful_level, lawful_is, top_level, level-le-top}
@@ -198,3 +203,30 @@ take_from_inner-returns-clause-capacity t c =
       | take_from_inner-then-size-lt-FEWEST b ↦ ap vec_capacity b.aside-is ∙ b.push_reserved.ensures.capacity ∙ c.in-Some.ensures.capacity
       | take_from_inner-else-size-lt-FEWEST b ↦ ap vec_capacity b.aside-is ∙ c.in-Some.ensures.capacity
     ]
+
+-- a node is made of its cover and its list
+leaf_is : (n : Node) (v : Vec Entry Global) → n.below ≡ Entries v → n ≡ leaf_node n.cover v
+leaf_is n v e = let make : Below → Node = λ b. record { cover = n.cover; below = b } in ap make e
+
+inner_is : (n : Node) (v : Vec Node Global) → n.below ≡ Children v → n ≡ inner_node n.cover v
+inner_is n v e = let make : Below → Node = λ b. record { cover = n.cover; below = b } in ap make e
+
+pub take_out-returns-in-Entries-clause-held : goal.take_out-returns-in-Entries-clause-held
+take_out-returns-in-Entries-clause-held t c =
+    let node = leaf_is c.args.node.now c.in-Entries.entries c.in-Entries.is in
+    rw node (rw c.in-Entries.entries-is at c.take_from_leaf.ensures.held)
+
+pub take_out-returns-in-Entries-clause-taken : goal.take_out-returns-in-Entries-clause-taken
+take_out-returns-in-Entries-clause-taken t c =
+    let node = leaf_is c.args.node.now c.in-Entries.entries c.in-Entries.is in
+    rw (node, outs-Entries c.in-Entries.entries, c.requires.none_aside) (rw c.in-Entries.entries-is at c.take_from_leaf.ensures.taken)
+
+pub take_out-returns-in-Children-clause-held : goal.take_out-returns-in-Children-clause-held
+take_out-returns-in-Children-clause-held t c =
+    let node = inner_is c.args.node.now c.in-Children.children c.in-Children.is in
+    rw node (rw c.in-Children.children-is at c.take_from_inner.ensures.held)
+
+pub take_out-returns-in-Children-clause-taken : goal.take_out-returns-in-Children-clause-taken
+take_out-returns-in-Children-clause-taken t c =
+    let node = inner_is c.args.node.now c.in-Children.children c.in-Children.is in
+    rw (node, outs-Children c.in-Children.children) (rw c.in-Children.children-is at c.take_from_inner.ensures.taken)
