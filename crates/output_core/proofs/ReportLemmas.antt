@@ -1,6 +1,6 @@
 -- The rows of a report.
 use Rattle.std.proofs.Common.{◌≡◌, ℕ, List, [], ◌∷◌, ◌++◌, Bool, true, false, ◌||◌, Option, Some, None, IsSome, IsSomeAnd, option_map, sym}
-use Rattle.std.proofs.Common.{ap, subst, ◌∙◌, refl, ◌+◌, ◌<◌, length, get_or, take, append_assoc}
+use Rattle.std.proofs.Common.{codes, ap, subst, ◌∙◌, refl, ◌+◌, ◌<◌, length, get_or, take, append_assoc}
 use Rattle.std.specs.Borrow.{Bor}
 use Rattle.geom_core.specs.declared.shape.Shape.{Shape}
 use Rattle.geom_core.specs.declared.extent.Extent.{Extent}
@@ -145,6 +145,11 @@ pub line_added : (old a b c new first second third : List ℕ) → a ≡ old ++ 
     → new ≡ old ++ line_of first second third
 line_added old a b c new first second third p q r s =
     s ∙ ap (λ x. x ++ line_feed ∷ []) (r ∙ ap (λ x. x ++ third) (q ∙ ap (λ x. x ++ second) p)) ∙ simp append_assoc refl
+
+-- the header, added to nothing
+pub header_made : (old new : List ℕ) → old ≡ [] → new ≡ old ++ codes "left,right,matrix\n" → new ≡ header_line
+unfolding fields_text is_blank
+header_made old new none grown = grown ∙ ap (λ t. t ++ codes "left,right,matrix\n") none
 
 -- the header, and the records that were added to it
 pub report_written : (old new text : List ℕ) (left right : Contents) (pairs : List (ℕ × ℕ))

@@ -1,19 +1,16 @@
 -- The records of a report, as they are written.
-use Rattle.std.specs.Prelude.{◌≡◌, ℕ, List, [], ◌∷◌, ◌++◌, Result, Ok, Err, codes}
+use Rattle.std.specs.Prelude.{◌≡◌, ℕ, List, [], ◌∷◌, ◌++◌, Result, Ok, Err}
 use Rattle.std.specs.Global.{Global}
-use Rattle.std.specs.List.{AllZip}
 use Rattle.std.specs.declared.alloc.AllocError.{AllocError}
 use Rattle.std.specs.declared.vec.Vec.{Vec}
 use Rattle.layer_core.specs.Layers.{Contents}
 use Rattle.csv.specs.Machine.{line_feed}
 use Rattle.output_core.specs.CsvTexts.{csv_text}
-use Rattle.output_core.specs.Reports.{IsRow}
+use Rattle.output_core.specs.Reports.{header, HasRecords}
 
 -- the text has a record for each pair in turn
-pub record AreRows (left right : Contents) (pairs : List (ℕ × ℕ)) (text : List ℕ) : Type 0 where
-  pub rows : List (List (List ℕ))
-  pub are_rows : AllZip (IsRow left right) pairs rows
-  pub written : text ≡ csv_text rows
+abbrev pub AreRows : Contents → Contents → List (ℕ × ℕ) → List ℕ → Type 0
+AreRows left right pairs text = HasRecords [] left right pairs text
 
 -- such a text was added
 pub record AddsRows (left right : Contents) (pairs : List (ℕ × ℕ)) (old new : List ℕ)
@@ -22,9 +19,9 @@ pub record AddsRows (left right : Contents) (pairs : List (ℕ × ℕ)) (old new
   pub are_rows : AreRows left right pairs text
   pub added : new ≡ old ++ text
 
--- the header, as it stands
+-- the header as CSV
 abbrev pub header_line : List ℕ
-header_line = codes "left,right,matrix\n"
+header_line = csv_text (header ∷ [])
 
 -- a record of two fields with their commas, and a third one that is written as it stands
 abbrev pub line_of : List ℕ → List ℕ → List ℕ → List ℕ

@@ -1,5 +1,5 @@
 -- The report of pairs of features.
-use Rattle.std.specs.Prelude.{◌≡◌, ℕ, List, [], ◌∷◌, Some, IsSome, codes}
+use Rattle.std.specs.Prelude.{◌≡◌, ℕ, List, [], ◌∷◌, ◌++◌, Some, IsSome, codes}
 use Rattle.std.specs.List.{AllZip}
 use Rattle.geom_core.specs.declared.matrix.Matrix.{Matrix}
 use Rattle.geom_core.specs.Matrices.{IsMatrix, letters_of}
@@ -23,8 +23,13 @@ pub record IsRow (left right : Contents) (pair : ℕ × ℕ) (row : List (List �
 abbrev pub header : List (List ℕ)
 header = codes "left" ∷ codes "right" ∷ codes "matrix" ∷ []
 
--- the header, and a record for each pair in turn
-pub record IsReport (left right : Contents) (pairs : List (ℕ × ℕ)) (text : List ℕ) : Type 0 where
+-- these records, and then one for each pair in turn
+pub record HasRecords (first : List (List (List ℕ))) (left right : Contents)
+    (pairs : List (ℕ × ℕ)) (text : List ℕ) : Type 0 where
   pub rows : List (List (List ℕ))
   pub are_rows : AllZip (IsRow left right) pairs rows
-  pub written : text ≡ csv_text (header ∷ rows)
+  pub written : text ≡ csv_text (first ++ rows)
+
+-- the header, and a record for each pair in turn
+abbrev pub IsReport : Contents → Contents → List (ℕ × ℕ) → List ℕ → Type 0
+IsReport left right pairs text = HasRecords (header ∷ []) left right pairs text
