@@ -8,10 +8,11 @@ use Rattle.std.proofs.lemmas.Int.{ints, to_z_pos}
 use Rattle.std.specs.List.{list_any}
 use Rattle.std.specs.Ordering.{nat_cmp}
 use Rattle.std.specs.BTreeSet.{BTreeSet, contains, Updates}
+use Rattle.geom_core.specs.Limits.{IsCoordinate}
 use Rattle.layer_core.specs.Layers.{Feature, Contents}
 use Rattle.draw_core.specs.Marks.{has_left, has_right}
 use Rattle.draw_core.specs.Pictures.{closing, element, group, legend, canvas, opening, picture_of}
-use Rattle.draw_core.specs.Views.{View, drawn_height, margin_of, view_around, view_of}
+use Rattle.draw_core.specs.Views.{View, drawn_height, greatest_margin, margin_of, view_around, view_of}
 
 -- a piece, and what comes after it
 pub chain : (s t u a b : List ℕ) → t ≡ s ++ a → u ≡ t ++ b → u ≡ s ++ (a ++ b)
@@ -38,20 +39,27 @@ held_more side s n pairs i within new so_far q =
     grind (arith, common_steps, new.0 q, so_far q, list_any_more (λ p. q == side p) pairs i (0, 0) within)
 
 -- a coordinate, in 64 bits
-pub same_coordinate : (x : ℤ) → neg_ℤ (pos 1000000000000) ≤ℤ x → x ≤ℤ pos 1000000000000 → to_z w64 (of_z w64 x) ≡ x
-same_coordinate x above below = omega (arith, ints)
+pub same_coordinate : (x : ℤ) → IsCoordinate x → to_z w64 (of_z w64 x) ≡ x
+same_coordinate x is =
+    let above = is.0 in
+    let below = is.1 in
+    omega (arith, ints)
 
 -- a coordinate and a margin, in 64 bits
-pub moved_down : (x : ℤ) (m : ℕ) → neg_ℤ (pos 1000000000000) ≤ℤ x → x ≤ℤ pos 1000000000000 → m ≤ 100000000001
+pub moved_down : (x : ℤ) (m : ℕ) → IsCoordinate x → m ≤ greatest_margin
     → to_z w64 (of_z w64 (to_z w64 (of_z w64 x) -ℤ to_z w64 m)) ≡ x -ℤ pos m
-moved_down x m above below small =
+moved_down x m is small =
+    let above = is.0 in
+    let below = is.1 in
     let p : to_z w64 (of_z w64 x) ≡ x = omega (arith, ints) in
     let q : to_z w64 m ≡ pos m = to_z_pos w64 m (omega arith) in
     rw (p, q) (let r : to_z w64 (of_z w64 (x -ℤ pos m)) ≡ x -ℤ pos m = omega (arith, ints) in r)
 
-pub moved_up : (x : ℤ) (m : ℕ) → neg_ℤ (pos 1000000000000) ≤ℤ x → x ≤ℤ pos 1000000000000 → m ≤ 100000000001
+pub moved_up : (x : ℤ) (m : ℕ) → IsCoordinate x → m ≤ greatest_margin
     → to_z w64 (of_z w64 (to_z w64 (of_z w64 x) +ℤ to_z w64 m)) ≡ x +ℤ pos m
-moved_up x m above below small =
+moved_up x m is small =
+    let above = is.0 in
+    let below = is.1 in
     let p : to_z w64 (of_z w64 x) ≡ x = omega (arith, ints) in
     let q : to_z w64 m ≡ pos m = to_z_pos w64 m (omega arith) in
     rw (p, q) (let r : to_z w64 (of_z w64 (x +ℤ pos m)) ≡ x +ℤ pos m = omega (arith, ints) in r)

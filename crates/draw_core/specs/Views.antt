@@ -3,6 +3,7 @@ use Rattle.std.specs.Prelude.{ℕ, ◌+◌, ◌*◌, ◌/◌, ◌<◌, ◌≤◌
 use Rattle.std.specs.Prelude.{List, [], ◌∷◌, Option, None, Some}
 use Rattle.std.specs.Int.{div_ceil}
 use Rattle.geom_core.specs.declared.shape.Shape.{Shape}
+use Rattle.geom_core.specs.Limits.{greatest_coordinate}
 use Rattle.geom_core.specs.Shapes.{x1, y1, x2, y2, cover_of}
 use Rattle.layer_core.specs.Layers.{Feature, Contents}
 
@@ -13,15 +14,26 @@ pub record View : Type 0 where
   pub width : ℕ
   pub height : ℕ
 
+-- how far apart two coordinates are at most
+abbrev pub greatest_distance : ℕ
+greatest_distance = 2 * greatest_coordinate
+
+-- a twentieth of the longer side, and one unit more
+abbrev pub margin_of : ℕ → ℕ → ℕ
+margin_of width height = max width height / 20 + 1
+
+abbrev pub greatest_margin : ℕ
+greatest_margin = margin_of greatest_distance greatest_distance
+
 -- at most twice as far out as a coordinate
 abbrev pub IsNear : ℤ → Type 0
-IsNear c = (neg_ℤ (pos 2000000000000) ≤ℤ c) × (c ≤ℤ pos 2000000000000)
+IsNear c = (neg_ℤ (pos greatest_distance) ≤ℤ c) × (c ≤ℤ pos greatest_distance)
 
--- both lengths of a frame are positive, and a tenth more than the plane's at most
+-- both lengths of a frame are positive, and at most the plane's with a margin on each side
 pub record HasSize (width height : ℕ) : Type 0 where
   pub wide : 0 < width
-  pub width_few : width ≤ 2200000000002
-  pub height_few : height ≤ 2200000000002
+  pub width_few : width ≤ greatest_distance + 2 * greatest_margin
+  pub height_few : height ≤ greatest_distance + 2 * greatest_margin
 
 -- how high a view is drawn at a width of 1,000: in its proportion, and at most twice that
 abbrev pub drawn_height : View → ℕ
@@ -36,10 +48,6 @@ widened (Some cover) s = cover_of cover s
 abbrev pub cover_with : Option Shape → List Feature → Option Shape
 cover_with cover [] = cover
 cover_with cover (f ∷ fs) = cover_with (Some (widened cover f.shape)) fs
-
--- a twentieth of the longer side, and one unit more
-abbrev pub margin_of : ℕ → ℕ → ℕ
-margin_of width height = max width height / 20 + 1
 
 -- about these corners, with a margin on each side
 abbrev pub view_around : ℤ → ℤ → ℤ → ℤ → View

@@ -2,7 +2,7 @@
 
 ghost use Rattle.std.specs.Prelude.{◌≡◌, ◌≤◌, ◌-ℤ◌, unsigned_abs};
 ghost use Rattle.geom_core.specs.Shapes.{IsCoordinate};
-ghost use Rattle.draw_core.specs.Views.{cover_with, margin_of};
+ghost use Rattle.draw_core.specs.Views.{cover_with, margin_of, greatest_distance, greatest_margin};
 
 use geom_core::Shape;
 use layer_core::Layer;
@@ -43,17 +43,17 @@ fn distance(a: i64, b: i64) -> u64
     requires first { IsCoordinate a }
     requires second { IsCoordinate b }
     ensures distance { result ≡ unsigned_abs (b -ℤ a) }
-    ensures bound { result ≤ 2000000000000 }
+    ensures bound { result ≤ greatest_distance }
 {
     b.abs_diff(a)
 }
 
 /// A twentieth of the longer side, and one unit more.
 fn margin_of(width: u64, height: u64) -> u64
-    requires width { width ≤ 2000000000000 }
-    requires height { height ≤ 2000000000000 }
+    requires width { width ≤ greatest_distance }
+    requires height { height ≤ greatest_distance }
     ensures margin { result ≡ margin_of width height }
-    ensures bound { result ≤ 100000000001 }
+    ensures bound { result ≤ greatest_margin }
 {
     width.max(height) / 20 + 1
 }
