@@ -8,7 +8,7 @@ use Rattle.atomic_table.specs.declared.shared.Seat.{Seat}
 use Rattle.deliver_core.specs.declared.board.rule.SeatView.{SeatView}
 use Rattle.deliver_core.specs.Draws.{SeatState, seat_after}
 use Rattle.deliver_core.specs.BoardRule.{seat_view, Drew}
-use Rattle.deliver_core.specs.Boards.{BoardValue, SeatValue, board_of, seat_value, IsCounted, IsCountedSeat}
+use Rattle.deliver_core.specs.Boards.{BoardValue, SeatValue, board_of, seat_value, state_of, IsCounted, IsCountedSeat, IsDrawOf}
 
 abbrev Place : Type 0
 Place = Seat (Unit {0}) SeatView
@@ -29,6 +29,9 @@ module _ (p : Option Place) (count : ℕ) (done : Bool) (place : Place) (there :
 
   pub drawn_at : (s : SeatValue) → seat_value p count done ≡ s → place.me.0.drawn ≡ s.drawn
   drawn_at s is = sym (ap (λ (q : Option Place). (seat_value q count done).drawn) there) ∙ ap (λ (t : SeatValue). t.drawn) is
+
+  pub over_at : (s : SeatValue) → seat_value p count done ≡ s → place.me.0.over ≡ s.over
+  over_at s is = sym (ap (λ (q : Option Place). (seat_value q count done).over) there) ∙ ap (λ (t : SeatValue). t.over) is
 
   pub done_at : (s : SeatValue) → seat_value p count done ≡ s → done ≡ s.done
   done_at s is = sym (ap (λ (q : Option Place). (seat_value q count done).done) there) ∙ ap (λ (t : SeatValue). t.done) is
@@ -87,5 +90,21 @@ module _ (old new : Place) (count word : ℕ) (counts : IsCounted old count fals
       }
 
 -- a hand by its parts
-pub same_state : {g h : SeatState} → g.drawn ≡ h.drawn → g.done ≡ h.done → g ≡ h
+same_state : {g h : SeatState} → g.drawn ≡ h.drawn → g.done ≡ h.done → g ≡ h
 same_state drawn done = λ i. record { drawn = drawn i; done = done i }
+
+-- a draw of a number, and one of none
+module _ (b : BoardValue) (s t : SeatValue) (word : ℕ) (fits : word < b.tasks + b.seats) (none_yet : s.over ≡ 0) where
+  pub draw_number : word < b.tasks → t.drawn ≡ s.drawn ++ word ∷ [] → t.done ≡ s.done → t.over ≡ 0 → IsDrawOf b s t word
+  draw_number below drawn done over = record {
+    below = fits;
+    state = same_state drawn done ∙ sym (seat_number b.tasks word (state_of s) below);
+    over = rw (lt-ltb word b.tasks below) (omega arith);
+  }
+
+  pub draw_end : b.tasks ≤ word → t.drawn ≡ s.drawn → t.done ≡ true → t.over ≡ 1 → IsDrawOf b s t word
+  draw_end past drawn done over = record {
+    below = fits;
+    state = same_state drawn done ∙ sym (seat_end b.tasks word (state_of s) past);
+    over = rw (le-ltb word b.tasks past) (omega arith);
+  }

@@ -1,12 +1,12 @@
 -- What contracts see of a board and of its seats.
-use Rattle.std.specs.Prelude.{◌≡◌, ℕ, ◌+◌, ◌<◌, ◌≤◌, Bool, true, false, List, [], ◌∷◌, ◌++◌, length}
-use Rattle.std.specs.Prelude.{All, if◌then◌else◌, Option, Some, None}
+use Rattle.std.specs.Prelude.{◌≡◌, ℕ, ◌+◌, ◌^◌, ◌<◌, ◌≤◌, Bool, true, false, List, [], ◌∷◌, ◌++◌, length}
+use Rattle.std.specs.Prelude.{All, nat_lt, if◌then◌else◌, Option, Some, None}
 use Rattle.atomic_table.specs.Seated.{TableId}
 use Rattle.atomic_table.specs.declared.shared.Seat.{Seat}
 use Rattle.deliver_core.specs.declared.board.rule.SeatView.{SeatView}
 use Rattle.deliver_core.specs.declared.board.rule.Size.{Size}
 use Rattle.deliver_core.specs.Draws.{SeatState, seat_after}
-use Rattle.deliver_core.specs.Limits.{most_tasks, most_seats}
+use Rattle.deliver_core.specs.declared.limits.TheConstants.{MAX_WORKERS}
 
 -- a board: what no other board shares with it, its number of tasks and its number of seats
 pub record BoardValue : Type 0 where
@@ -14,21 +14,24 @@ pub record BoardValue : Type 0 where
   pub tasks : ℕ
   pub seats : ℕ
 
--- a seat: the board that it draws from, until that is closed and the seat is spent; the numbers
--- that it has drawn from it, in order; how many these are; and whether it has met the end of them
+-- A seat: the board that it draws from, until that is closed and the seat is spent; the numbers
+-- that it has drawn from it, in order, and how many of its draws found no number, both as the
+-- board's table knows them, where only a draw changes them; how many numbers it has drawn; and
+-- whether it has met the end of them
 pub record SeatValue : Type 0 where
   pub board : Option BoardValue
   pub drawn : List ℕ
+  pub over : ℕ
   pub count : ℕ
   pub done : Bool
 
 -- a seat of this board that has drawn nothing
 abbrev pub fresh_seat : BoardValue → SeatValue
-fresh_seat b = record { board = Some b; drawn = []; count = 0; done = false }
+fresh_seat b = record { board = Some b; drawn = []; over = 0; count = 0; done = false }
 
 -- the seat, after its board was closed
 abbrev pub spent_seat : SeatValue → SeatValue
-spent_seat s = record { board = None; drawn = []; count = s.count; done = s.done }
+spent_seat s = record { board = None; drawn = []; over = 0; count = s.count; done = s.done }
 
 -- what a seat has drawn and whether it is done, as the definition of the board has it
 abbrev pub state_of : SeatValue → SeatState
@@ -51,10 +54,16 @@ pub record IsAfterEnd (s t : SeatValue) : Type 0 where
   pub drawn : t.drawn ≡ s.drawn
   pub done : t.done ≡ true
 
+-- The seat before and after a draw that found this word. It has drawn one number more, or made one
+-- draw more that found none, of which the board's table knows: so the word is one that stood there
+pub record IsDrawOf (b : BoardValue) (s t : SeatValue) (word : ℕ) : Type 0 where
+  pub below : word < b.tasks + b.seats
+  pub state : state_of t ≡ seat_after b.tasks word (state_of s)
+  pub over : t.over ≡ s.over + (if nat_lt word b.tasks then 0 else 1)
+
 -- the seat before and after one draw, which found some word
 abbrev pub IsDraw : BoardValue → SeatValue → SeatValue → Type 0
-IsDraw b s t = (word : ℕ) × (word < b.tasks + b.seats)
-    × (state_of t ≡ seat_after b.tasks word (state_of s))
+IsDraw b s t = (word : ℕ) × IsDrawOf b s t word
 
 -- what a board is made for
 abbrev pub size_of : BoardValue → Size
@@ -67,8 +76,15 @@ board_of s = record { id = s.table_id; tasks = s.me.0.tasks; seats = s.me.0.seat
 -- the seat of which this is the seat at the table, if it isn't spent
 abbrev pub seat_value : Option (Seat (Unit {0}) SeatView) → ℕ → Bool → SeatValue
 seat_value (Some place) count done =
-    record { board = Some (board_of place); drawn = place.me.0.drawn; count = count; done = done }
-seat_value None count done = record { board = None; drawn = []; count = count; done = done }
+    record {
+      board = Some (board_of place);
+      drawn = place.me.0.drawn;
+      over = place.me.0.over;
+      count = count;
+      done = done;
+    }
+seat_value None count done =
+    record { board = None; drawn = []; over = 0; count = count; done = done }
 
 -- what the seat at the table knows is what is counted beside it: it stands for one seat, holds no
 -- slot, and is done once a draw of its has met the end
@@ -83,11 +99,11 @@ abbrev pub IsCountedSeat : Option (Seat (Unit {0}) SeatView) → ℕ → Bool �
 IsCountedSeat (Some place) count done = IsCounted place count done
 IsCountedSeat None count done = Unit {0}
 
--- the board's table has one word and no slot, and was made for this many tasks
+-- the board's table has one word and no slot, and was made for this many tasks, which have 32 bits
 pub record IsMadeFor (id : TableId) (size : Size) (tasks : ℕ) : Type 0 where
   pub words : id.words ≡ 1
   pub slots : id.slots ≡ 0
   pub tasks_are : tasks ≡ size.tasks
-  pub few_tasks : size.tasks ≤ most_tasks
+  pub few_tasks : size.tasks < 2 ^ 32
   pub some_seats : 1 ≤ size.seats
-  pub few_seats : size.seats ≤ most_seats
+  pub few_seats : size.seats ≤ MAX_WORKERS

@@ -4,7 +4,6 @@ pub mod Byes
 pub mod Collectors
 pub mod Draws
 pub mod FaultTexts
-pub mod Limits
 pub mod Marks
 pub mod OutletCalls
 pub mod OutletRule

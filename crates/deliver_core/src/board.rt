@@ -9,6 +9,7 @@ ghost use Rattle.deliver_core.specs.declared.board.rule.SeatView.{SeatView};
 mod rule;
 mod seat;
 
+use crate::limits::MAX_WORKERS;
 use atomic_table::Table;
 use rule::{Draw, EachOnce, JoinSeats, SeatView, Size, SplitSeat};
 pub use seat::BoardSeat;
@@ -41,16 +42,9 @@ impl Board {
     ghost use Rattle.deliver_core.specs.Boards.{fresh_seat, spent_seat, size_of, IsSeatOf};
     ghost use Rattle.deliver_core.specs.Boards.{IsAfterNumber, IsAfterEnd, IsDraw};
 
-    /// The most tasks of a board.
-    pub const MAX_TASKS: u32 = 65_536;
-
-    /// The most seats of a board.
-    pub const MAX_SEATS: u32 = 16;
-
     /// A board of this many tasks, and its seats, none of which has drawn.
     pub fn new(alloc: Global, tasks: u32, seats: u32) -> Result<(Board, Vec<BoardSeat>), AllocError>
-        requires tasks { tasks ≤ Self.MAX_TASKS }
-        requires seats { (1 ≤ seats) × (seats ≤ Self.MAX_SEATS) }
+        requires { (1 ≤ seats) × (seats ≤ MAX_WORKERS) }
         ensures board { IfOk result (λ r. (r.0.tasks ≡ tasks) × (r.0.seats ≡ seats)) }
         ensures seats { IfOk result (λ r. r.1.items ≡ replicate seats (fresh_seat r.0)) }
     {
@@ -75,7 +69,8 @@ impl Board {
         ensures number { IfSome result (IsAfterNumber self.now seat.old seat.new) }
         ensures none { IfNone result (IsAfterEnd seat.old seat.new) }
 
-        // A seat that isn't done makes a draw, which found some word. One that is makes no step.
+        // A seat that isn't done makes a draw at the board's table, which found some word. One that
+        // is makes no step.
         ensures draw { seat.old.done ≡ false → IsDraw self.now seat.old seat.new }
 
         // Whatever the word and what the seats know are, while the board's rule holds of them.

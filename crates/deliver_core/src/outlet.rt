@@ -1,4 +1,5 @@
 //! The outlet: one bounded queue by which the messages of every port reach the tap.
+use crate::limits::{MAX_WAITING, MAX_WORKERS};
 use crate::message::{Body, Message};
 use crate::pass_view::{InOrder, Make, Meet, PassView, Put, Take};
 use crate::port::Port;
@@ -8,12 +9,9 @@ use std::alloc::{AllocError, Global};
 use std::sync::Wait;
 use std::thread;
 
-// How many messages may wait.
-const ROOM: usize = 64;
-
 type Queue = RuledArrayQueue<Message, PassView, InOrder>;
 
-/// A queue of 64 messages, which the ports fill and the tap empties. Each put is one successful
+/// A queue of [`MAX_WAITING`] messages, which the ports fill and the tap empties. Each put is one successful
 /// push and each take one successful pop, so the messages of a port are taken in the order in which
 /// it sent them.
 #[derive(Drop)]
@@ -28,7 +26,6 @@ impl Outlet {
     ghost use mathlib.Core.List.{IsPrefix};
     ghost use Rattle.crossbeam_queue.specs.Passes.{view, IsPassOf, IsSamePass};
     ghost use Rattle.deliver_core.specs.Byes.{has_bye};
-    ghost use Rattle.deliver_core.specs.Limits.{most_ports, room};
     ghost use Rattle.deliver_core.specs.OutletCalls.{IsFreshPort, IsFreshTap, IsOpenPort};
     ghost use Rattle.deliver_core.specs.OutletCalls.{IsEndedPort, IsForPort, bye_of, IsAfterTaking};
     ghost use Rattle.deliver_core.specs.OutletCalls.{IsAfterNothing, IsSameTap, IsSpentPort};
@@ -40,21 +37,18 @@ impl Outlet {
     ghost use Rattle.deliver_core.specs.Ports.{index_of, is_spent, sent_by, taken_by, met_by};
     ghost use Rattle.deliver_core.specs.Ports.{port_count, room_of, IsTapOf};
 
-    /// The most ports of an outlet.
-    pub const MAX_PORTS: u32 = 16;
-
-    /// An outlet, in which 64 messages may wait, its 1 to 16 ports, in the order of their indexes,
-    /// and its tap. It fails only where memory runs out.
+    /// An outlet, in which [`MAX_WAITING`] messages may wait, its ports, in the order of their
+    /// indexes, and its tap. It fails only where memory runs out.
     pub fn new(alloc: Global, ports: u32) -> Result<(Outlet, Vec<Port>, Tap), AllocError>
-        requires ports { (1 ≤ ports) × (ports ≤ Self.MAX_PORTS) }
-        ensures count { IfOk result (λ r. (vec_len r.1 ≡ ports) × (ports ≤ most_ports)) }
+        requires ports { (1 ≤ ports) × (ports ≤ MAX_WORKERS) }
+        ensures count { IfOk result (λ r. (vec_len r.1 ≡ ports) × (ports ≤ MAX_WORKERS)) }
         ensures indexes { IfOk result (λ r. map index_of r.1.items ≡ range_with_len 0 ports) }
         ensures fresh { IfOk result (λ r. All (IsFreshPort r.0) r.1.items) }
         ensures tap { IfOk result (λ r. IsFreshTap r.0 ports r.2) }
-        ensures room { IfOk result (λ r. room_of r.0 ≡ room) }
+        ensures room { IfOk result (λ r. room_of r.0 ≡ MAX_WAITING) }
     {
         let mut all = Vec::with_capacity(alloc, ports as usize)?;
-        let (queue, mut pass) = Queue::ruled(alloc, ROOM)?;
+        let (queue, mut pass) = Queue::ruled(alloc, MAX_WAITING)?;
         for index in 0..ports {
             all.push_reserved(Port::new(index, queue.another::<Make>(&mut pass)));
         }

@@ -2,11 +2,14 @@
 ghost use Rattle.std.specs.Prelude.{◌≡◌, ◌≤◌, length, replicate, All, IfOk};
 ghost use Rattle.deliver_core.specs.Boards.{IsSeatOf, fresh_seat};
 
-use deliver_core::{Board, BoardSeat, draws_law};
+use deliver_core::{Board, BoardSeat, MAX_WORKERS, draws_law};
 use std::alloc::{AllocError, Global};
 use std::test::Fail;
 use std::thread;
 use std::thread::Threads;
+
+// More numbers than any test here draws, but for one of them.
+const MANY: u32 = 65_536;
 
 // Claims for two seats in turn, and says whether each pair of claims answers so.
 fn claim_in_turn(
@@ -42,8 +45,7 @@ fn board_at_last(
     tasks: u32,
     seats: u32,
 ) -> Result<(Board, Vec<BoardSeat>), AllocError>
-    requires tasks { tasks ≤ Board.MAX_TASKS }
-    requires seats { (1 ≤ seats) × (seats ≤ Board.MAX_SEATS) }
+    requires { (1 ≤ seats) × (seats ≤ MAX_WORKERS) }
     ensures board { IfOk result (λ r. r.0.seats ≡ seats) }
     ensures seats { IfOk result (λ r. r.1.items ≡ replicate seats (fresh_seat r.0)) }
 {
@@ -103,14 +105,14 @@ fn gives_none(alloc: Global) -> Result<bool, AllocError> {
     Ok(seats.len() == 16 && board.claim(&mut seats[15]) == None)
 }
 
-// Whether a board of the most tasks gives all to its only seat.
+// Whether a board of as many tasks as a plan has at most gives all to its only seat.
 fn gives_most(alloc: Global) -> Result<bool, AllocError> {
-    let (board, mut seats) = Board::new(alloc, 65_536, 1)?;
+    let (board, mut seats) = Board::new(alloc, MANY, 1)?;
     let Some(seat) = seats.pop() else {
         return Ok(false);
     };
     let worker = draw_all(alloc, &board, seat);
-    Ok(worker.drawn.iter().copied().eq(0..65_536) && worker.seat.done())
+    Ok(worker.drawn.iter().copied().eq(0..MANY) && worker.seat.done())
 }
 
 #[test]
@@ -164,7 +166,7 @@ fn draw_all(alloc: Global, board: &Board, mut seat: BoardSeat) -> Worker
     ensures { IsSeatOf board.now result.seat }
 {
     let mut drawn = Vec::new(alloc);
-    for _ in 0..=Board::MAX_TASKS {
+    for _ in 0..=MANY {
         let Some(number) = board.claim(&mut seat) else {
             break;
         };

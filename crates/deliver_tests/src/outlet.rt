@@ -4,7 +4,7 @@ ghost use Rattle.deliver_core.specs.Byes.{is_bye};
 ghost use Rattle.deliver_core.specs.OutletCalls.{IsFreshPort, IsEndedPort};
 ghost use Rattle.deliver_core.specs.Ports.{IsTapOf};
 
-use deliver_core::{Body, Message, Outlet, Port, Tap, outlet_law};
+use deliver_core::{Body, MAX_WORKERS, Message, Outlet, Port, Tap, outlet_law};
 use std::alloc::{AllocError, Global};
 use std::process::Abort;
 use std::sync::Wait;
@@ -281,7 +281,7 @@ fn board_and_outlet(rt: HostRuntime) -> Result<(), Fail> {
 
 // An outlet, made again where memory was refused once.
 fn outlet_at_last(alloc: Global, ports: u32) -> Result<(Outlet, Vec<Port>, Tap), AllocError>
-    requires ports { (1 ≤ ports) × (ports ≤ Outlet.MAX_PORTS) }
+    requires ports { (1 ≤ ports) × (ports ≤ MAX_WORKERS) }
     ensures fresh { IfOk result (λ r. All (IsFreshPort r.0) r.1.items) }
     ensures tap { IfOk result (λ r. IsTapOf r.0 r.2) }
 {

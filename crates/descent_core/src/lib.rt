@@ -6,5 +6,6 @@ mod plan;
 mod rounds;
 mod rows;
 
-pub use plan::{MOST_TASKS, Plan};
+pub use plan::Plan;
+pub use rounds::MAX_TASKS;
 pub use rows::row;

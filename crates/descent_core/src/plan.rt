@@ -1,7 +1,6 @@
 //! The plan of a join: the pairs of nodes that are its tasks.
 
-pub use crate::rounds::MOST_TASKS;
-use crate::rounds::{Task, go_down};
+use crate::rounds::{MAX_TASKS, Task, go_down};
 use rtree_core::{Node, RTree};
 use std::alloc::{AllocError, Global};
 use std::marker::Model;
@@ -38,11 +37,11 @@ impl<'a> Plan<'a> {
     ghost use Rattle.geom_core.specs.declared.relation.Relation.{Relation};
     ghost use Rattle.geom_core.specs.Relations.{ForbidsDisjoint};
     ghost use Rattle.rtree_core.specs.Trees.{entries_in};
-    ghost use Rattle.descent_core.specs.Plans.{most_tasks, IsPlan, IsTask};
+    ghost use Rattle.descent_core.specs.Plans.{IsPlan, IsTask};
     ghost use Rattle.descent_core.specs.Shares.{ShareOut, RowsJoin};
 
     /// The pairs of nodes at the greatest depth, up to `cut`, that makes no more than
-    /// [`MOST_TASKS`] of them, nor does any depth above it.
+    /// [`MAX_TASKS`] of them, nor does any depth above it.
     ///
     /// At depth 0 stand the roots. A leaf takes part in greater depths, as itself. Only pairs whose
     /// covers meet are tasks, in the order of the trees: by the places on the two paths from the
@@ -69,7 +68,7 @@ impl<'a> Plan<'a> {
     /// The number of tasks.
     pub fn len(&self) -> u32
         ensures len { result ≡ length self.now }
-        ensures few { result ≤ most_tasks }
+        ensures few { result ≤ MAX_TASKS }
     {
         self.tasks.len() as u32
     }

@@ -4,7 +4,7 @@ ghost use Rattle.std.specs.Prelude.{◌≤◌, length, map, All, IfOk};
 ghost use Rattle.std.specs.List.{flat_map};
 ghost use Rattle.descent_core.specs.Lists.{pairs};
 ghost use Rattle.descent_core.specs.Depths.{lower_pairs};
-ghost use Rattle.descent_core.specs.Plans.{most_tasks, AreDeepest};
+ghost use Rattle.descent_core.specs.Plans.{AreDeepest};
 ghost use Rattle.descent_core.specs.Steps.{nodes_of, AreMeeting, IsNextRound, TakesIn};
 
 use crate::lower::lower;
@@ -12,7 +12,7 @@ use rtree_core::Node;
 use std::alloc::{AllocError, Global};
 
 /// The most tasks of a plan.
-pub const MOST_TASKS: usize = 65_536;
+pub const MAX_TASKS: usize = 65_536;
 
 /// A left and a right node.
 pub(crate) type Task<'a> = (&'a Node, &'a Node);
@@ -23,7 +23,7 @@ pub(crate) fn go_down<'a>(
     mut tasks: Vec<Task<'a>>,
     rounds: u8,
 ) -> Result<Vec<Task<'a>>, AllocError>
-    requires few { length tasks.items ≤ most_tasks }
+    requires few { length tasks.items ≤ MAX_TASKS }
     requires meeting { All AreMeeting (nodes_of tasks.items) }
     ensures { let above = nodes_of tasks.entry.items in
         IfOk result (λ v. AreDeepest above rounds (nodes_of v.items)) }
@@ -44,7 +44,7 @@ fn next_round<'a>(alloc: Global, tasks: &[Task<'a>]) -> Result<Option<Vec<Task<'
         IfOk result (IsNextRound offered) }
 {
     let mut next = Vec::with_capacity(alloc, tasks.len())?;
-    for &(left, right) in tasks {
+    'tasks: for (left, right) in tasks.iter().copied() {
         if !push_lower(lower(left), lower(right), &mut next)? {
             return Ok(None);
         }
@@ -58,7 +58,7 @@ fn push_lower<'a>(
     rights: &'a [Node],
     next: &mut Vec<Task<'a>>,
 ) -> Result<bool, AllocError>
-    requires { length next.old.items ≤ most_tasks }
+    requires { length next.old.items ≤ MAX_TASKS }
     ensures { let offered = pairs lefts.now rights.now in
         IfOk result (TakesIn offered (nodes_of next.old.items) (nodes_of next.new.items)) }
 {
@@ -76,13 +76,13 @@ fn push_beside<'a>(
     rights: &'a [Node],
     next: &mut Vec<Task<'a>>,
 ) -> Result<bool, AllocError>
-    requires { length next.old.items ≤ most_tasks }
+    requires { length next.old.items ≤ MAX_TASKS }
     ensures { let offered = map (λ right. (left.now, right)) rights.now in
         IfOk result (TakesIn offered (nodes_of next.old.items) (nodes_of next.new.items)) }
 {
     for right in rights {
         if left.cover().meets(&right.cover()) {
-            if next.len() == MOST_TASKS {
+            if next.len() == MAX_TASKS {
                 return Ok(false);
             }
             next.push((left, right))?;

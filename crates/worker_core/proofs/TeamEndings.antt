@@ -24,7 +24,7 @@ use Rattle.worker_core.specs.Deliveries.{IsDelivered}
 use Rattle.worker_core.specs.Faults.{IsWant}
 use Rattle.worker_core.specs.Gatherings.{Gathers}
 use Rattle.worker_core.specs.Teams.{IsReady, AreShares, HasRun}
-use Rattle.worker_core.specs.Terms.{terms_by}
+use Rattle.worker_core.specs.Shared.{shared_by}
 use Rattle.worker_core.proofs.Endings.{Law, Finishes, only_want, delivered}
 use Rattle.worker_core.proofs.Ownership.{AreOwners, are_owners}
 
@@ -53,7 +53,7 @@ first_ready board outlet n team seats many indexes fresh count gathers = record 
 
 pub all_end : (relation : Relation) (plan : List (Node × Node)) (size workers room : ℕ) (board : BoardValue) (outlet : Outlet) (begun : Gathering) (team : Team)
     (result : Result Delivery JoinFault) → 1 ≤ workers → 1 ≤ size → board.tasks ≡ length plan → port_count begun.tap ≡ workers
-    → begun.intake.collector.tasks ≡ board.tasks → HasRun (terms_by relation plan size board outlet) workers room begun team → team.all_started ≡ true
+    → begun.intake.collector.tasks ≡ board.tasks → HasRun (shared_by relation plan size board outlet) workers room begun team → team.all_started ≡ true
     → ((n : ℕ) × (n ≤ board.tasks) × AreNumbersBelow n (flat_map (λ (s : SeatValue). s.drawn) team.seats.items)
     × (Any (λ (s : SeatValue). s.done ≡ true) team.seats.items → n ≡ board.tasks))
     → Law → Finishes team.gathering.intake.accepted team.all_ok team.gathering.intake.collector result

@@ -21,7 +21,7 @@ use Rattle.worker_core.specs.declared.working.Worked.{Worked}
 use Rattle.worker_core.specs.Gatherings.{Gathers, Continues}
 use Rattle.worker_core.specs.Sending.{said_by}
 use Rattle.worker_core.specs.Teams.{IsReady, IsBeside, IsAsBefore, IsShare, HasRun}
-use Rattle.worker_core.specs.Terms.{Terms}
+use Rattle.worker_core.specs.Shared.{SharedValue}
 use Rattle.worker_core.specs.Workers.{WorkerSays, ComesBack}
 use Rattle.worker_core.proofs.Gatherings.{continues_here, continues_on}
 
@@ -98,14 +98,14 @@ right_true : (a b : Bool) → (a && b) ≡ true → b ≡ true
 right_true true b is = is
 right_true false b is = cc
 
-module _ (terms : Terms) where
+module _ (shared : SharedValue) where
   -- of no workers, and of workers of which one wasn't started
-  pub none_run : (room : ℕ) (team : Team) → IsReady terms.board terms.outlet team → length team.ports.items ≡ 0 → vec_capacity team.seats ≡ room
-      → HasRun terms (length team.ports.items) room team.gathering team
+  pub none_run : (room : ℕ) (team : Team) → IsReady shared.board shared.outlet team → length team.ports.items ≡ 0 → vec_capacity team.seats ≡ room
+      → HasRun shared (length team.ports.items) room team.gathering team
   none_run room team h none same =
       let many = h.as_many in
       record {
-        gathering = continues_here terms.outlet team.gathering h.gathers;
+        gathering = continues_here shared.outlet team.gathering h.gathers;
         room_is = same;
         few = omega arith;
         shares = λ started. record {
@@ -114,22 +114,22 @@ module _ (terms : Terms) where
         };
       }
 
-  pub not_started : (count room : ℕ) (begun : Gathering) (team : Team) → Gathers terms.outlet begun → team.gathering ≡ begun → vec_capacity team.seats ≡ room
-      → length team.seats.items ≤ count → team.all_started ≡ false → HasRun terms count room begun team
+  pub not_started : (count room : ℕ) (begun : Gathering) (team : Team) → Gathers shared.outlet begun → team.gathering ≡ begun → vec_capacity team.seats ≡ room
+      → length team.seats.items ≤ count → team.all_started ≡ false → HasRun shared count room begun team
   not_started count room begun team h same capacity few not = record {
-    gathering = subst (Continues terms.outlet begun) (sym same) (continues_here terms.outlet begun h);
+    gathering = subst (Continues shared.outlet begun) (sym same) (continues_here shared.outlet begun h);
     room_is = capacity;
     few = few;
     shares = λ started. cc;
   }
 
   -- what is known of the worker behind the others
-  last_share : (taken : List Message) (all_ok : Bool) (index : ℕ) (w : Worked) → ComesBack terms index w
+  last_share : (taken : List Message) (all_ok : Bool) (index : ℕ) (w : Worked) → ComesBack shared index w
       → map content_of (of_port index taken) ≡ said_by w.port → has_bye (of_port index taken) ≡ true → (all_ok ≡ true → w.ok ≡ true)
-      → IsShare terms.relation terms.plan terms.size terms.board taken all_ok index w.seat
+      → IsShare shared.relation shared.plan shared.size shared.board taken all_ok index w.seat
   last_share taken all_ok index w back whole bye ok = record {
     ok = w.ok;
-    says = subst (WorkerSays terms.relation terms.plan terms.size w.seat.drawn w.ok) (sym whole) back.says;
+    says = subst (WorkerSays shared.relation shared.plan shared.size w.seat.drawn w.ok) (sym whole) back.says;
     bye = bye;
     drew = back.seat;
     done = back.done;
@@ -137,17 +137,17 @@ module _ (terms : Terms) where
   }
 
   pub has_run : (count room index : ℕ) (begun : Gathering) (rest : Team) (taken met : Gathering) (w : Worked) (team : Team)
-      → HasRun terms count room begun rest → Continues terms.outlet rest.gathering taken → Continues terms.outlet taken met
-      → index ≡ count → ComesBack terms index w → has_bye (of_port index (taken_by taken.tap)) ≡ true
+      → HasRun shared count room begun rest → Continues shared.outlet rest.gathering taken → Continues shared.outlet taken met
+      → index ≡ count → ComesBack shared index w → has_bye (of_port index (taken_by taken.tap)) ≡ true
       → map content_of (of_port index (taken_by met.tap)) ≡ said_by w.port → team.gathering ≡ met → team.seats.items ≡ rest.seats.items ++ w.seat ∷ []
       → vec_capacity team.seats ≡ vec_capacity rest.seats → team.all_started ≡ rest.all_started → team.all_ok ≡ (rest.all_ok && w.ok)
-      → HasRun terms (count + 1) room begun team
+      → HasRun shared (count + 1) room begun team
   has_run count room index begun rest taken met w team h one two at back bye whole gathering seats capacity started ok =
-      let both = continues_on terms.outlet rest.gathering taken met one two in
+      let both = continues_on shared.outlet rest.gathering taken met one two in
       let longer : length team.seats.items ≡ length rest.seats.items + 1 = ap length seats ∙ length-append rest.seats.items (w.seat ∷ []) in
       let few = h.few in
       record {
-        gathering = subst (Continues terms.outlet begun) (sym gathering) (continues_on terms.outlet begun rest.gathering met h.gathering both);
+        gathering = subst (Continues shared.outlet begun) (sym gathering) (continues_on shared.outlet begun rest.gathering met h.gathering both);
         room_is = capacity ∙ h.room_is;
         few = omega arith;
         shares = λ all.
@@ -158,7 +158,7 @@ module _ (terms : Terms) where
               each = λ k seat is. elim (get_push rest.seats.items w.seat k seat (ap (λ l. slice_get l k) (sym seats) ∙ is)) [
                 | inl before ↦
                     let share = inner.each k seat before in
-                    share_stays terms.relation terms.plan terms.size terms.board
+                    share_stays shared.relation shared.plan shared.size shared.board
                     (taken_by rest.gathering.tap) (taken_by team.gathering.tap) rest.all_ok team.all_ok k seat
                     (ap (λ g. of_port k (taken_by g.tap)) gathering ∙ both.final k share.bye)
                     (λ is_ok. left_true rest.all_ok w.ok (sym ok ∙ is_ok)) share
@@ -169,14 +169,14 @@ module _ (terms : Terms) where
                     let share = last_share (taken_by team.gathering.tap) team.all_ok index w back
                     (ap (λ g. map content_of (of_port index (taken_by g.tap))) gathering ∙ whole)
                     (ap has_bye final ∙ bye) (λ is_ok. right_true rest.all_ok w.ok (sym ok ∙ is_ok)) in
-                    subst (λ (n : ℕ). IsShare terms.relation terms.plan terms.size terms.board (taken_by team.gathering.tap) team.all_ok n seat) (sym here)
-                    (subst (IsShare terms.relation terms.plan terms.size terms.board (taken_by team.gathering.tap) team.all_ok index) last.1 share)
+                    subst (λ (n : ℕ). IsShare shared.relation shared.plan shared.size shared.board (taken_by team.gathering.tap) team.all_ok n seat) (sym here)
+                    (subst (IsShare shared.relation shared.plan shared.size shared.board (taken_by team.gathering.tap) team.all_ok index) last.1 share)
               ];
             };
       }
 
   -- from the start of the team on, and not from where the first worker has come off
   pub as_begun : (old new team : Team) → length old.ports.items ≡ length new.ports.items + 1 → IsAsBefore old new
-      → HasRun terms (length new.ports.items + 1) (vec_capacity new.seats) new.gathering team
-      → HasRun terms (length old.ports.items) (vec_capacity old.seats) old.gathering team
+      → HasRun shared (length new.ports.items + 1) (vec_capacity new.seats) new.gathering team
+      → HasRun shared (length old.ports.items) (vec_capacity old.seats) old.gathering team
   as_begun old new team count same h = rw (count, ← same.capacity, ← same.gathering) h

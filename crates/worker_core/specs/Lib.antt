@@ -3,6 +3,6 @@ pub mod Faults
 pub mod Gatherings
 pub mod Intakes
 pub mod Sending
+pub mod Shared
 pub mod Teams
-pub mod Terms
 pub mod Workers

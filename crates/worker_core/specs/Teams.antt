@@ -15,7 +15,7 @@ use Rattle.deliver_core.specs.Scripts.{content_of}
 use Rattle.worker_core.specs.declared.gathering.Gathering.{Gathering}
 use Rattle.worker_core.specs.declared.team.Team.{Team}
 use Rattle.worker_core.specs.Gatherings.{Gathers, Continues}
-use Rattle.worker_core.specs.Terms.{Terms}
+use Rattle.worker_core.specs.Shared.{SharedValue}
 use Rattle.worker_core.specs.Workers.{WorkerSays, IsSeatBelow}
 
 -- the team has as many fresh seats as ports, which are the outlet's first ones and fresh
@@ -64,10 +64,10 @@ pub record AreShares (relation : Relation) (plan : List (Node × Node)) (size : 
       → IsShare relation plan size board (taken_by team.gathering.tap) team.all_ok index seat
 
 -- what a team of so many workers leaves, which has begun with this gathering and room
-pub record HasRun (terms : Terms) (count room : ℕ) (begun : Gathering) (team : Team)
+pub record HasRun (shared : SharedValue) (count room : ℕ) (begun : Gathering) (team : Team)
     : Type 0 where
-  pub gathering : Continues terms.outlet begun team.gathering
+  pub gathering : Continues shared.outlet begun team.gathering
   pub room_is : vec_capacity team.seats ≡ room
   pub few : length team.seats.items ≤ count
   pub shares : team.all_started ≡ true
-      → AreShares terms.relation terms.plan terms.size terms.board count team
+      → AreShares shared.relation shared.plan shared.size shared.board count team

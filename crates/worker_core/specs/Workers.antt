@@ -13,7 +13,7 @@ use Rattle.deliver_core.specs.Ports.{index_of, is_spent}
 use Rattle.deliver_core.specs.Scripts.{Content, Task, bye, scripts_of}
 use Rattle.worker_core.specs.declared.working.Worked.{Worked}
 use Rattle.worker_core.specs.Sending.{said_by, Says}
-use Rattle.worker_core.specs.Terms.{Terms}
+use Rattle.worker_core.specs.Shared.{SharedValue}
 
 -- the row of the task of this number in the plan
 abbrev pub IsRowIn : Relation → List (Node × Node) → Task → Type 0
@@ -73,8 +73,8 @@ pub record IsReadyToMeet (outlet : Outlet) (index : ℕ) (port : Port) : Type 0 
 
 -- what a worker comes back with: its port has said what it says, and its seat is done where it is
 -- ok
-pub record ComesBack (terms : Terms) (index : ℕ) (w : Worked) : Type 0 where
-  pub says : WorkerSays terms.relation terms.plan terms.size w.seat.drawn w.ok (said_by w.port)
-  pub seat : IsSeatBelow terms.board w.seat
+pub record ComesBack (shared : SharedValue) (index : ℕ) (w : Worked) : Type 0 where
+  pub says : WorkerSays shared.relation shared.plan shared.size w.seat.drawn w.ok (said_by w.port)
+  pub seat : IsSeatBelow shared.board w.seat
   pub done : w.ok ≡ true → w.seat.done ≡ true
-  pub port : IsReadyToMeet terms.outlet index w.port
+  pub port : IsReadyToMeet shared.outlet index w.port

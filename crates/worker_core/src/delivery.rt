@@ -11,14 +11,11 @@ use crate::rows::Rows;
 use crate::shared::Shared;
 use crate::team::{Team, run};
 use crate::working::MAX_BATCH;
-use deliver_core::{Board, Outcome, Outlet, owners_law};
+use deliver_core::{Board, MAX_WORKERS, Outcome, Outlet, owners_law};
 use geom_core::JoinRelation;
 use std::alloc::Global;
 use std::sync::Wait;
 use std::thread::Threads;
-
-/// The most workers of a join.
-pub const MAX_WORKERS: u32 = 16;
 
 /// Processes the tasks of a plan by so many workers, each in a thread of its own, and gives what
 /// they delivered. Each of them enters the gate with each task that it draws.

@@ -2,7 +2,8 @@
 ghost use Rattle.std.specs.Prelude.{◌≡◌, ◌<◌, ◌⊎◌, ℕ, true, false, Some, IfOk, length, map};
 ghost use Rattle.std.specs.Prelude.{slice_get};
 ghost use Rattle.deliver_core.specs.Byes.{is_bye, has_bye};
-ghost use Rattle.deliver_core.specs.OutletCalls.{IsFreshTap};
+ghost use Rattle.deliver_core.specs.declared.message.Message.{Message};
+ghost use Rattle.deliver_core.specs.OutletCalls.{IsFreshTap, IsAfterTaking, IsAfterNothing};
 ghost use Rattle.deliver_core.specs.Outlets.{of_port};
 ghost use Rattle.deliver_core.specs.Ports.{index_of, taken_by, port_count};
 ghost use Rattle.deliver_core.specs.Scripts.{content_of};
@@ -82,7 +83,10 @@ impl Gathering {
     /// Takes in a message, if one waits.
     fn take_in<R: Wait>(&mut self, rt: &R, outlet: &Outlet) -> bool
         requires { Gathers outlet.now self.old }
-        ensures { Continues outlet.now self.old self.new }
+        ensures continues { Continues outlet.now self.old self.new }
+        ensures one { result ≡ true
+            → (message : Message) × IsAfterTaking self.old.tap self.new.tap message }
+        ensures none { result ≡ false → IsAfterNothing self.old.tap self.new.tap }
     {
         let Some(message) = outlet.take(rt, &mut self.tap) else {
             return false;

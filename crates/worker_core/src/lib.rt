@@ -14,7 +14,8 @@ mod shared;
 mod team;
 mod working;
 
-pub use delivery::{MAX_WORKERS, run_workers};
+pub use deliver_core::MAX_WORKERS;
+pub use delivery::run_workers;
 pub use fault::JoinFault;
 pub use gate::{Gate, OpenGate};
 pub use rows::Rows;

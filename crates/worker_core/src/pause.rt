@@ -1,4 +1,5 @@
 //! How one who waits for messages passes the time.
+ghost use Rattle.std.specs.Prelude.{◌≡◌, ◌+◌, ◌<◌, ◌≤◌};
 
 use std::sync::Wait;
 use std::thread;
@@ -19,7 +20,10 @@ pub(crate) struct Pause {
 }
 
 impl Pause {
-    pub(crate) fn new() -> Pause {
+    /// A pause that begins with yielding.
+    pub(crate) fn new() -> Pause
+        ensures { result.yields ≡ 0 }
+    {
         Pause {
             parker: Parker::new(),
             yields: 0,
@@ -27,7 +31,10 @@ impl Pause {
     }
 
     /// Passes a short time.
-    pub(crate) fn rest<R: Wait>(&mut self, rt: &R) {
+    pub(crate) fn rest<R: Wait>(&mut self, rt: &R)
+        ensures yields { self.old.yields < YIELDS → self.new.yields ≡ self.old.yields + 1 }
+        ensures sleeps { YIELDS ≤ self.old.yields → self.new.yields ≡ self.old.yields }
+    {
         if self.yields < YIELDS {
             self.yields += 1;
             thread::yield_now();
@@ -38,7 +45,9 @@ impl Pause {
     }
 
     /// Begins with yielding again.
-    pub(crate) fn begin_again(&mut self) {
+    pub(crate) fn begin_again(&mut self)
+        ensures { self.new.yields ≡ 0 }
+    {
         self.yields = 0;
     }
 }

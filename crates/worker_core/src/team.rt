@@ -7,7 +7,7 @@ ghost use Rattle.deliver_core.specs.declared.outlet.Outlet.{Outlet};
 ghost use Rattle.deliver_core.specs.OutletCalls.{IsFreshPort};
 ghost use Rattle.deliver_core.specs.Ports.{index_of};
 ghost use Rattle.worker_core.specs.Teams.{IsReady, IsBeside, IsAsBefore, HasRun};
-ghost use Rattle.worker_core.specs.Terms.{terms_by, terms_of};
+ghost use Rattle.worker_core.specs.Shared.{shared_by, shared_of};
 ghost use Rattle.worker_core.specs.Workers.{ComesBack};
 
 use crate::gate::Gate;
@@ -72,19 +72,13 @@ impl Team {
 
 /// What a worker's thread gives back, by what it was given.
 #[derive_where(Clone, Copy)]
-struct Working<'a, P> {
-    plan: &'a P,
-    relation: &'a JoinRelation,
-    batch: u32,
-    board: &'a Board,
-    outlet: &'a Outlet,
+struct Working<'a, P, G> {
+    shared: Shared<'a, P, G>,
     index: u32,
 }
 
-impl<'a, P: Rows> Promise<Worked> for Working<'a, P> {
-    ghost kept_by = { λ p w. let terms = terms_by (relation_of p.relation.now)
-        (P.tasks p.plan.now) p.batch p.board.now p.outlet.now in
-        ComesBack terms p.index w };
+impl<'a, P: Rows, G> Promise<Worked> for Working<'a, P, G> {
+    ghost kept_by = { λ p w. ComesBack (shared_of P.tasks p.shared) p.index w };
 }
 
 /// Runs the workers of a team side by side, and gathers until all that were started have ended.
@@ -101,13 +95,13 @@ pub(crate) fn run<'a, R: Threads + Wait + Sync, P: Rows + Sync, G: Gate + Sync>(
     requires tasks { shared.board.now.tasks ≡ length (P.tasks shared.plan.now) }
     requires ready { IsReady shared.board.now shared.outlet.now team }
     ensures { let count = length team.ports.items in let room = vec_capacity team.seats in
-        HasRun (terms_of P.tasks shared.entry) count room team.gathering result }
+        HasRun (shared_of P.tasks shared.entry) count room team.gathering result }
 {
     let Some((seat, port)) = team.next() else {
         return team;
     };
     let index = port.index();
-    // a closure that captured the struct itself would have no contract
+    // A closure that captured the struct itself would have no contract.
     let Shared {
         plan,
         relation,
@@ -125,29 +119,29 @@ pub(crate) fn run<'a, R: Threads + Wait + Sync, P: Rows + Sync, G: Gate + Sync>(
             requires tasks { board.now.tasks ≡ length (P.tasks plan.now) }
             requires beside { IsBeside board.now outlet.now team seat port }
             requires index { index ≡ index_of port }
-            ensures { let terms = terms_by (relation_of relation.entry.now)
+            ensures { let all = shared_by (relation_of relation.entry.now)
                 (P.tasks plan.entry.now) batch board.entry.now outlet.entry.now in
                 let count = length team.ports.items + 1 in let room = vec_capacity team.seats in
-                HasRun terms count room team.gathering result }
+                HasRun all count room team.gathering result }
         {
-            let working = Working {
+            let shared = Shared {
                 plan,
                 relation,
                 batch,
+                gate,
                 board,
                 outlet,
-                index,
             };
             let child = scope.spawn_with(
-                working,
+                Working { shared, index },
                 move || -> Worked
                     requires batch { (1 ≤ batch) × (batch ≤ MAX_BATCH) }
                     requires tasks { board.now.tasks ≡ length (P.tasks plan.now) }
                     requires seat { seat ≡ fresh_seat board.now }
                     requires port { IsFreshPort outlet.now port }
-                    ensures { let terms = terms_by (relation_of relation.entry.now)
+                    ensures { let all = shared_by (relation_of relation.entry.now)
                         (P.tasks plan.entry.now) batch board.entry.now outlet.entry.now in
-                        ComesBack terms (index_of port) result }
+                        ComesBack all (index_of port) result }
                 {
                     let shared = Shared {
                         plan,
@@ -165,14 +159,6 @@ pub(crate) fn run<'a, R: Threads + Wait + Sync, P: Rows + Sync, G: Gate + Sync>(
                     all_started: false,
                     ..team
                 };
-            };
-            let shared = Shared {
-                plan,
-                relation,
-                batch,
-                gate,
-                board,
-                outlet,
             };
             let mut team = run(rt, alloc, shared, team);
             team.gathering.take_until_bye(rt, outlet, index);

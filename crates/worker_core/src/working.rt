@@ -5,7 +5,7 @@ ghost use Rattle.deliver_core.specs.Boards.{fresh_seat};
 ghost use Rattle.deliver_core.specs.OutletCalls.{IsFreshPort, IsOpenPort};
 ghost use Rattle.deliver_core.specs.Ports.{index_of};
 ghost use Rattle.worker_core.specs.Sending.{said_by, StaysOpen};
-ghost use Rattle.worker_core.specs.Terms.{terms_of};
+ghost use Rattle.worker_core.specs.Shared.{shared_of};
 ghost use Rattle.worker_core.specs.Workers.{IsSeatBelow, IsReadyToMeet, WorkerSays};
 ghost use Rattle.worker_core.specs.Workers.{AreScripts, BeginScripts, SaysScripts, SaysBeginning};
 ghost use Rattle.worker_core.specs.Workers.{ComesBack};
@@ -82,7 +82,7 @@ pub(crate) fn work<R: Threads + Wait + Sync, P: Rows, G: Gate>(
     requires tasks { shared.now.board.now.tasks ≡ length (P.tasks shared.now.plan.now) }
     requires seat { seat ≡ fresh_seat shared.now.board.now }
     requires port { IsFreshPort shared.now.outlet.now port }
-    ensures { ComesBack (terms_of P.tasks shared.now) (index_of port) result }
+    ensures { ComesBack (shared_of P.tasks shared.now) (index_of port) result }
 {
     let worked = work_off(rt, alloc, shared, &mut seat, &mut port);
     let ok = worked.is_ok();
@@ -104,10 +104,10 @@ fn work_off<R: Threads + Wait + Sync, P: Rows, G: Gate>(
     requires port { IsFreshPort shared.now.outlet.now port.old }
     ensures seat { IsSeatBelow shared.now.board.now seat.new }
     ensures port { StaysOpen shared.now.outlet.now port.old port.new }
-    ensures ok { let it = terms_of P.tasks shared.now in let drawn = seat.new.drawn in
+    ensures ok { let it = shared_of P.tasks shared.now in let drawn = seat.new.drawn in
         IfOk result (λ _. (seat.new.done ≡ true)
         × AreScripts it.relation it.plan it.size drawn (said_by port.new)) }
-    ensures err { let it = terms_of P.tasks shared.now in let drawn = seat.new.drawn in
+    ensures err { let it = shared_of P.tasks shared.now in let drawn = seat.new.drawn in
         IfErr result (λ _. BeginScripts it.relation it.plan it.size drawn (said_by port.new)) }
 {
     for _ in rt.forever() {
@@ -133,9 +133,9 @@ fn send_task<R: Wait, P: Rows, G>(
     requires batch { 0 < shared.now.batch }
     requires port { IsOpenPort shared.now.outlet.now port.old }
     ensures port { StaysOpen shared.now.outlet.now port.old port.new }
-    ensures ok { let it = terms_of P.tasks shared.now in let numbers = task ∷ [] in IfOk result
+    ensures ok { let it = shared_of P.tasks shared.now in let numbers = task ∷ [] in IfOk result
         (λ _. SaysScripts it.relation it.plan it.size numbers port.old port.new) }
-    ensures err { let it = terms_of P.tasks shared.now in let numbers = task ∷ [] in IfErr result
+    ensures err { let it = shared_of P.tasks shared.now in let numbers = task ∷ [] in IfErr result
         (λ _. SaysBeginning it.relation it.plan it.size numbers port.old port.new) }
 {
     let row = shared.plan.row_of(alloc, task, shared.relation)?;

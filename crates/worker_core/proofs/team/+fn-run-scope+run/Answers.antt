@@ -4,16 +4,16 @@ use Rattle.deliver_core.specs.Outlets.{of_port}
 use Rattle.deliver_core.specs.Ports.{taken_by}
 use Rattle.deliver_core.specs.Scripts.{content_of}
 use Rattle.worker_core.specs.declared.team.Team.{Team}
-use Rattle.worker_core.specs.Terms.{terms_by, terms_of}
+use Rattle.worker_core.specs.Shared.{shared_by, shared_of}
 use Rattle.worker_core.specs.Workers.{ComesBack}
 use Rattle.worker_core.proofs.Teams.{has_run, as_begun}
 use Rattle.worker_core.proofs.team.+fn-run-scope+run.Goals as goal
 
 pub scope-returns : goal.scope-returns
 scope-returns g t c =
-    let terms = terms_by (relation_of c.captures.relation.now) (g.P.Rows.tasks c.captures.plan.now)
+    let shared = shared_by (relation_of c.captures.relation.now) (g.P.Rows.tasks c.captures.plan.now)
     c.captures.batch c.captures.board.now c.captures.outlet.now in
-    let back : ComesBack terms c.captures.index c.join-seat.result =
+    let back : ComesBack shared c.captures.index c.join-seat.result =
     rw c.in-Ok.ensures.ok at c.join-seat.ensures in
     let team : Team = record {
       seats = c.push_reserved.new.self;
@@ -22,7 +22,7 @@ scope-returns g t c =
       all_started = c.run-team.result.all_started;
       all_ok = c.run-team.result.all_ok && c.join-seat.result.ok;
     } in
-    has_run terms (length c.captures.team.ports.items)
+    has_run shared (length c.captures.team.ports.items)
     (vec_capacity c.captures.team.seats) c.captures.index
     c.captures.team.gathering c.run-team.result c.take_until_bye.new.self c.meet.new.self c.join-seat.result team
     c.run-team.ensures c.take_until_bye.ensures.continues c.meet.ensures.continues
@@ -38,5 +38,5 @@ scoped-requires g t c =
 
 pub returns : goal.returns
 returns g t c =
-    as_begun (terms_of g.P.Rows.tasks c.args.shared) c.args.team c.next.new.self c.scoped.result
+    as_begun (shared_of g.P.Rows.tasks c.args.shared) c.args.team c.next.new.self c.scoped.result
     c.in-Some.ensures.count c.next.ensures.before c.scoped.ensures.1

@@ -1,8 +1,8 @@
 use Rattle.std.proofs.Common.{ℕ, ◌+◌, ◌<◌, List, [], ◌∷◌, ◌++◌, All, Bool, false, sym, ap, ◌∙◌, subst, refl, arith}
-use Rattle.deliver_core.specs.Boards.{BoardValue, size_of, state_of, IsCounted}
+use Rattle.deliver_core.specs.Boards.{BoardValue, size_of, IsCounted}
 use Rattle.deliver_core.proofs.BoardMoves.{word_bound, draws}
-use Rattle.deliver_core.proofs.BoardClaims.{board_at, counted_at, drawn_at, done_at, NumberDrawn, number_drawn, EndMet, end_met, seat_number, seat_end}
-use Rattle.deliver_core.proofs.BoardClaims.{same_state}
+use Rattle.deliver_core.proofs.BoardClaims.{board_at, counted_at, drawn_at, over_at, done_at, NumberDrawn, number_drawn, EndMet, end_met}
+use Rattle.deliver_core.proofs.BoardClaims.{draw_number, draw_end}
 use Rattle.deliver_core.proofs.board.Board.claim.Goals as goal
 use Rattle.deliver_core.proofs.board.Board.claim.Goals.{Then-word-from, Else-word-from}
 
@@ -77,18 +77,19 @@ returns-then-word-from-clause-number c =
 pub returns-then-word-from-clause-draw : goal.returns-then-word-from-clause-draw
 returns-then-word-from-clause-draw c fresh =
     let own = board_at _ _ _ c.in-Some.place c.in-Some.is c.args.seat.now c.args.self.now c.seat.view_is c.requires in
+    let counts = counted_at _ _ _ c.in-Some.place c.in-Some.is false c.if-seat.false c.seat.invariant in
     let drawn = drawn_at _ _ _ c.in-Some.place c.in-Some.is c.args.seat.now c.seat.view_is in
+    let over = over_at _ _ _ c.in-Some.place c.in-Some.is c.args.seat.now c.seat.view_is in
     let tasks = ap (λ (b : BoardValue). b.tasks) own in
     let tasks' = ap (λ (b : BoardValue). b.tasks) c.self.view_is in
     let seats = ap (λ (b : BoardValue). b.seats) own in
     let below = c.fetch_add-word.ensures.2.0 in
-    let word = c.fetch_add-word.result in (
+    let word = c.fetch_add-word.result in
+    let now = number (goal.at.returns-then-word-from-clause-draw c).Then-word-from in (
       word,
-      omega arith,
-      same_state
-          ((number (goal.at.returns-then-word-from-clause-draw c).Then-word-from).drawn ∙ ap (λ (xs : List ℕ). xs ++ word ∷ []) drawn)
-          (done_at _ _ _ c.in-Some.place c.in-Some.is c.args.seat.now c.seat.view_is)
-          ∙ sym (seat_number c.args.self.now.tasks word (state_of c.args.seat.now) (omega arith)),
+      draw_number c.args.self.now c.args.seat.now _ word (omega arith) (sym over ∙ counts.over_is) (omega arith)
+          (now.drawn ∙ ap (λ (xs : List ℕ). xs ++ word ∷ []) drawn)
+          (done_at _ _ _ c.in-Some.place c.in-Some.is c.args.seat.now c.seat.view_is) now.counted.over_is,
     )
 
 pub returns-else-word-from-clause-none : goal.returns-else-word-from-clause-none
@@ -101,14 +102,15 @@ returns-else-word-from-clause-none c = record {
 pub returns-else-word-from-clause-draw : goal.returns-else-word-from-clause-draw
 returns-else-word-from-clause-draw c fresh =
     let own = board_at _ _ _ c.in-Some.place c.in-Some.is c.args.seat.now c.args.self.now c.seat.view_is c.requires in
+    let counts = counted_at _ _ _ c.in-Some.place c.in-Some.is false c.if-seat.false c.seat.invariant in
     let drawn = drawn_at _ _ _ c.in-Some.place c.in-Some.is c.args.seat.now c.seat.view_is in
+    let over = over_at _ _ _ c.in-Some.place c.in-Some.is c.args.seat.now c.seat.view_is in
     let tasks = ap (λ (b : BoardValue). b.tasks) own in
     let tasks' = ap (λ (b : BoardValue). b.tasks) c.self.view_is in
     let seats = ap (λ (b : BoardValue). b.seats) own in
     let below = c.fetch_add-word.ensures.2.0 in
-    let word = c.fetch_add-word.result in (
+    let word = c.fetch_add-word.result in
+    let met = past (goal.at.returns-else-word-from-clause-draw c).Else-word-from in (
       word,
-      omega arith,
-      same_state ((past (goal.at.returns-else-word-from-clause-draw c).Else-word-from).drawn ∙ drawn) refl
-          ∙ sym (seat_end c.args.self.now.tasks word (state_of c.args.seat.now) (omega arith)),
+      draw_end c.args.self.now c.args.seat.now _ word (omega arith) (sym over ∙ counts.over_is) (omega arith) (met.drawn ∙ drawn) refl met.counted.over_is,
     )

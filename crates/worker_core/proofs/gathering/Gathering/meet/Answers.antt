@@ -6,6 +6,12 @@ use Rattle.deliver_core.specs.Scripts.{content_of}
 use Rattle.worker_core.proofs.Gatherings.{continues_same}
 use Rattle.worker_core.proofs.gathering.Gathering.meet.Goals as goal
 
+pub meet-requires-clause-tap : goal.meet-requires-clause-tap
+meet-requires-clause-tap g c = c.requires.gathers.tap
+
+pub meet-requires-clause-port : goal.meet-requires-clause-port
+meet-requires-clause-port g c = c.requires.port.ended
+
 pub returns-clause-continues : goal.returns-clause-continues
 returns-clause-continues g c =
     let same = c.meet.ensures.tap in

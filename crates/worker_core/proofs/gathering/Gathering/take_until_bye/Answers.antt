@@ -5,7 +5,7 @@ pub loop-init : goal.loop-init
 loop-init g c = continues_here _ _ c.requires.gathers
 
 pub loop-preserved : goal.loop-preserved
-loop-preserved g c = continues_on _ _ _ _ c.loop.invariant c.take_in.ensures
+loop-preserved g c = continues_on _ _ _ _ c.loop.invariant c.take_in.ensures.continues
 
 pub loop-preserved-then-take_in : goal.loop-preserved-then-take_in
-loop-preserved-then-take_in g c = continues_on _ _ _ _ c.loop.invariant c.take_in.ensures
+loop-preserved-then-take_in g c = continues_on _ _ _ _ c.loop.invariant c.take_in.ensures.continues

@@ -1,4 +1,4 @@
--- What the workers of a join are given alike, as contracts speak of it.
+-- What the workers of a join share, as contracts speak of it.
 use Rattle.std.specs.Prelude.{ℕ, List}
 use Rattle.geom_core.specs.declared.relation.Relation.{Relation}
 use Rattle.geom_core.specs.JoinRelations.{relation_of}
@@ -9,15 +9,15 @@ use Rattle.worker_core.specs.declared.shared.Shared.{Shared}
 
 -- the relation, the tasks of the plan and the most pairs of a batch, and where tasks are drawn and
 -- messages put
-pub record Terms : Type 0 where
+pub record SharedValue : Type 0 where
   pub relation : Relation
   pub plan : List (Node × Node)
   pub size : ℕ
   pub board : BoardValue
   pub outlet : Outlet
 
-abbrev pub terms_by : Relation → List (Node × Node) → ℕ → BoardValue → Outlet → Terms
-terms_by relation plan size board outlet = record {
+abbrev pub shared_by : Relation → List (Node × Node) → ℕ → BoardValue → Outlet → SharedValue
+shared_by relation plan size board outlet = record {
   relation = relation;
   plan = plan;
   size = size;
@@ -26,7 +26,7 @@ terms_by relation plan size board outlet = record {
 }
 
 -- what is shared, where a plan has these tasks
-abbrev pub terms_of : {P G : Type 0} → (P → List (Node × Node)) → Shared P G → Terms
-terms_of tasks shared =
-    terms_by (relation_of shared.relation.now) (tasks shared.plan.now) shared.batch
+abbrev pub shared_of : {P G : Type 0} → (P → List (Node × Node)) → Shared P G → SharedValue
+shared_of tasks shared =
+    shared_by (relation_of shared.relation.now) (tasks shared.plan.now) shared.batch
     shared.board.now shared.outlet.now
