@@ -1,13 +1,43 @@
-use Rattle.std.proofs.Common.{rules, ◌&&◌, length, vec_capacity, map, refl, sym, ap, ◌∙◌}
+use Rattle.std.proofs.Common.{rules, arith, ◌+◌, ◌&&◌, length, vec_capacity, map, refl, sym, ap, ◌∙◌}
 use Rattle.geom_core.specs.JoinRelations.{relation_of}
+use Rattle.deliver_core.specs.Byes.{has_bye}
 use Rattle.deliver_core.specs.Outlets.{of_port}
 use Rattle.deliver_core.specs.Ports.{taken_by}
 use Rattle.deliver_core.specs.Scripts.{content_of}
 use Rattle.worker_core.specs.declared.team.Team.{Team}
 use Rattle.worker_core.specs.Shared.{shared_by, shared_of}
 use Rattle.worker_core.specs.Workers.{ComesBack}
-use Rattle.worker_core.proofs.Teams.{has_run, as_begun}
+use Rattle.worker_core.proofs.Teams.{has_run, not_started, as_begun}
 use Rattle.worker_core.proofs.team.+fn-run-scope+run.Goals as goal
+
+pub scope-take_until_bye-requires : goal.scope-take_until_bye-requires
+scope-take_until_bye-requires g t c =
+    let run = c.run-team.ensures.gathering in
+    record {
+      gathers = run.gathers;
+      port = omega (arith, run.ports, c.requires.index, c.requires.beside.index, c.requires.beside.below);
+    }
+
+pub scope-meet-requires : goal.scope-meet-requires
+scope-meet-requires g t c =
+    let shared = shared_by (relation_of c.captures.relation.now) (g.P.Rows.tasks c.captures.plan.now)
+    c.captures.batch c.captures.board.now c.captures.outlet.now in
+    let back : ComesBack shared c.captures.index c.join-seat.result =
+    rw c.in-Ok.ensures.ok at c.join-seat.ensures in
+    record {
+      gathers = c.take_until_bye.ensures.continues.gathers;
+      port = record { ended = back.port.ended; unmet = back.port.unmet; index_is = refl };
+      bye = ap (λ n. has_bye (of_port n (taken_by c.take_until_bye.new.self.tap))) back.port.index_is ∙ c.take_until_bye.ensures.bye;
+    }
+
+pub scope-returns-in_default : goal.scope-returns-in_default
+scope-returns-in_default g t c =
+    let shared = shared_by (relation_of c.captures.relation.now) (g.P.Rows.tasks c.captures.plan.now)
+    c.captures.batch c.captures.board.now c.captures.outlet.now in
+    let ready = c.requires.beside.ready in
+    let many = ready.as_many in
+    not_started shared (length c.captures.team.ports.items + 1) (vec_capacity c.captures.team.seats) c.captures.team.gathering _
+    ready.gathers refl refl (omega arith) refl
 
 pub scope-returns : goal.scope-returns
 scope-returns g t c =
