@@ -11,9 +11,9 @@ use std::thread;
 
 type Queue = RuledArrayQueue<Message, PassView, InOrder>;
 
-/// A queue of [`MAX_WAITING`] messages, which the ports fill and the tap empties. Each put is one successful
-/// push and each take one successful pop, so the messages of a port are taken in the order in which
-/// it sent them.
+/// A queue of [`MAX_WAITING`] messages, which the ports fill and the tap empties. Each put is one
+/// successful push and each take one successful pop, so the messages of a port are taken in the
+/// order in which it sent them.
 #[derive(Drop)]
 pub struct Outlet {
     queue: Queue,
