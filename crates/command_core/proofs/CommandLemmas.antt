@@ -9,8 +9,8 @@ use Rattle.join_core.specs.declared.fault.RunFault.{RunFault}
 use Rattle.join_core.specs.declared.fault.RunFault.TheVariants as run
 use Rattle.join_core.specs.Relating.{RelateGives, IsMatrixLine, HasFirstFault, IsTextFault}
 use Rattle.join_core.specs.Runs.{Ends, WritesAll, WritesPrefix}
-use Rattle.command_core.specs.declared.words.Command.{Command}
-use Rattle.command_core.specs.declared.words.Command.TheVariants.{Relate}
+use Rattle.words_core.specs.declared.words.Command.{Command}
+use Rattle.words_core.specs.declared.words.Command.TheVariants.{Relate}
 use Rattle.command_core.specs.Commands.{AfterOpening, CommandGives, IsCommandText, BlamesCommand, IsFoundFirst, IsFoundNext}
 use Rattle.command_core.specs.Commands.{IsFaultOf, CommandEnds}
 use Rattle.command_core.specs.Opening.{Files}

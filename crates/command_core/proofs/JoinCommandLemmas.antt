@@ -16,9 +16,9 @@ use Rattle.join_core.specs.JoinRuns.{IsJoinFault}
 use Rattle.join_core.specs.Runs.{Ends}
 use Rattle.command_core.specs.declared.command.Product.{Product}
 use Rattle.command_core.specs.declared.command.Product.TheVariants.{Report, Picture}
-use Rattle.command_core.specs.declared.words.Command.{Command}
-use Rattle.command_core.specs.declared.words.Command.TheVariants.{Join, Draw}
-use Rattle.command_core.specs.declared.words.JoinRequest.{JoinRequest}
+use Rattle.words_core.specs.declared.words.Command.{Command}
+use Rattle.words_core.specs.declared.words.Command.TheVariants.{Join, Draw}
+use Rattle.words_core.specs.declared.words.JoinRequest.{JoinRequest}
 use Rattle.command_core.specs.Commands.{AfterOpening, AfterEdits, PathsGive, CommandGives, IsCommandText, BlamesCommand, IsFoundFirst, IsFoundNext}
 use Rattle.command_core.specs.Commands.{IsFaultOf, CommandEnds, command_of}
 use Rattle.command_core.specs.Opening.{Files, IsAt, IsMissing, AreEditsAt, AreEditsMissing, AreOpened, IsFirstMissing, no_left, no_right, no_edits}

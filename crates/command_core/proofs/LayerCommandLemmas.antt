@@ -13,8 +13,8 @@ use Rattle.join_core.specs.Runs.{Ends}
 use Rattle.join_core.specs.BoundsRuns.{BoundsGives, layer_fault as bounds_fault, listed as bounds_listed, IsBoundsFault}
 use Rattle.join_core.specs.StatsRuns.{StatsGives, layer_fault as stats_fault, counted, IsStatsFault}
 use Rattle.join_core.specs.WindowRuns.{WindowGives, text_fault, layer_fault as window_layer_fault, listed, IsWindowFault, HasWindowFault}
-use Rattle.command_core.specs.declared.words.Command.{Command}
-use Rattle.command_core.specs.declared.words.Command.TheVariants.{Window, Stats, Bounds}
+use Rattle.words_core.specs.declared.words.Command.{Command}
+use Rattle.words_core.specs.declared.words.Command.TheVariants.{Window, Stats, Bounds}
 use Rattle.command_core.specs.Commands.{AfterOpening, CommandGives, IsCommandText, BlamesCommand, IsFoundFirst, IsFoundNext, IsFaultOf, CommandEnds}
 use Rattle.command_core.specs.Opening.{Files, IsAt, IsMissing}
 use Rattle.command_core.proofs.CommandLemmas.{ends_as, refused_ends, input_opened, err_is}

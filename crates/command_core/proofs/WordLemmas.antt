@@ -3,10 +3,9 @@ use Rattle.std.proofs.Common.{◌≡◌, ℕ, Bool, List, [], ◌∷◌, ◌++�
 use Rattle.std.specs.Io.KnownBytes.{Appends}
 use Rattle.output_core.specs.Written.{AppendsPrefix}
 use Rattle.join_core.specs.Lines.{line_of}
-use Rattle.clap.specs.Words.{Text}
 use Rattle.command_core.specs.Endings.{WordsAreDone}
 use Rattle.command_core.specs.Opening.{Files}
-use Rattle.command_core.specs.Readings.{ReadAs}
+use Rattle.words_core.specs.Readings.{ReadAs}
 
 -- a line that begins with the program's name, and one text behind it
 pub one_piece : (begun line text : List ℕ) → begun ≡ codes "rjoin: " → line ≡ begun ++ text → line ++ 10 ∷ [] ≡ line_of text
@@ -28,7 +27,7 @@ err_as r old new a b e h = subst (λ (l : List ℕ). OnErr r (AppendsPrefix old 
 
 -- words that are done, by other words that are the same
 pub words_done_as : {O E : Type 0} {known : Option Files} {written : O → Option (List ℕ)} {is_flushed has_failed : O → Bool} {output output' : O}
-    {told : E → Option (List ℕ)} {has_failed' : E → Bool} {errors errors' : E} {status : ℕ} (old new : List Text) → old ≡ new
+    {told : E → Option (List ℕ)} {has_failed' : E → Bool} {errors errors' : E} {status : ℕ} (old new : List (List ℕ)) → old ≡ new
     → WordsAreDone old known written is_flushed has_failed output output' told has_failed' errors errors' status
     → WordsAreDone new known written is_flushed has_failed output output' told has_failed' errors errors' status
-words_done_as old new same done = record { read = done.read; reading = subst (λ (ws : List Text). ReadAs ws done.read) same done.reading; done = done.done }
+words_done_as old new same done = record { read = done.read; reading = subst (λ (ws : List (List ℕ)). ReadAs ws done.read) same done.reading; done = done.done }

@@ -18,10 +18,10 @@ use Rattle.join_core.specs.WindowRuns.{WindowGives, IsWindowFault}
 use Rattle.command_core.specs.Opening.{Files}
 use Rattle.command_core.specs.declared.command.Product.{Product}
 use Rattle.command_core.specs.declared.command.Product.TheVariants.{Report, Picture}
-use Rattle.command_core.specs.declared.words.Command.{Command}
-use Rattle.command_core.specs.declared.words.Command.TheVariants.{Relate, Join, Draw, Window, Stats}
-use Rattle.command_core.specs.declared.words.Command.TheVariants.{Bounds}
-use Rattle.command_core.specs.declared.words.JoinRequest.{JoinRequest}
+use Rattle.words_core.specs.declared.words.Command.{Command}
+use Rattle.words_core.specs.declared.words.Command.TheVariants.{Relate, Join, Draw, Window, Stats}
+use Rattle.words_core.specs.declared.words.Command.TheVariants.{Bounds}
+use Rattle.words_core.specs.declared.words.JoinRequest.{JoinRequest}
 
 -- an input that has to be opened, and what follows where it is
 abbrev pub AfterOpening : Input → Option (List ℕ) → Result (List ℕ) RunFault

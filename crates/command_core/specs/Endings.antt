@@ -2,16 +2,15 @@
 use Rattle.std.specs.Prelude.{◌≡◌, ◌≢◌, ℕ, List, Option, Bool, false, Result, Ok, Err, MatchResult}
 use Rattle.std.specs.Prelude.{IsTrue}
 use Rattle.std.specs.Io.KnownBytes.{Appends}
-use Rattle.clap.specs.Words.{Text}
 use Rattle.join_core.specs.declared.fault.RunFault.{RunFault}
 use Rattle.join_core.specs.declared.fault.RunFault.TheVariants.{Write}
 use Rattle.join_core.specs.Lines.{run_line}
 use Rattle.output_core.specs.Written.{AppendsPrefix}
-use Rattle.command_core.specs.declared.words.Command.{Command}
-use Rattle.command_core.specs.declared.words.WordFault.{WordFault}
+use Rattle.words_core.specs.declared.words.Command.{Command}
+use Rattle.words_core.specs.declared.words.WordFault.{WordFault}
 use Rattle.command_core.specs.Commands.{CommandEnds}
 use Rattle.command_core.specs.Opening.{Files}
-use Rattle.command_core.specs.Readings.{IsUngiven, ReadAs}
+use Rattle.words_core.specs.Readings.{IsUngiven, ReadAs}
 use Rattle.command_core.specs.WordFaults.{word_status_of, word_fault_line}
 
 -- known bytes grow by this line, or by a prefix of it where the sink has failed
@@ -54,7 +53,7 @@ CommandIsDone known written is_flushed has_failed output output'
     × IsToldBy told has_failed' errors errors' outcome status
 
 -- the words were read as a command, which is done, or as a fault, which is shown
-pub record WordsAreDone {O E : Type 0} (words : List Text) (known : Option Files)
+pub record WordsAreDone {O E : Type 0} (words : List (List ℕ)) (known : Option Files)
     (written : O → Option (List ℕ)) (is_flushed has_failed : O → Bool) (output output' : O)
     (told : E → Option (List ℕ)) (has_failed' : E → Bool) (errors errors' : E)
     (status : ℕ) : Type 0 where
@@ -71,7 +70,7 @@ pub record ProgramIsDone {O E : Type 0} (known : Option Files)
     (written : O → Option (List ℕ)) (is_flushed has_failed : O → Bool) (output output' : O)
     (told : E → Option (List ℕ)) (has_failed' : E → Bool) (errors errors' : E)
     (status : ℕ) : Type 0 where
-  pub given : Result (List Text) WordFault
+  pub given : Result (List (List ℕ)) WordFault
   pub done : MatchResult given
       (λ words. WordsAreDone words known written is_flushed has_failed output output'
       told has_failed' errors errors' status)

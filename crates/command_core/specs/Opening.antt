@@ -4,7 +4,7 @@ use Rattle.std.specs.Borrow.{Bor}
 use Rattle.join_core.specs.declared.fault.Input.TheVariants.{Left, Right, Edits}
 use Rattle.join_core.specs.declared.fault.RunFault.{RunFault}
 use Rattle.join_core.specs.declared.fault.RunFault.TheVariants.{NoFile}
-use Rattle.command_core.specs.declared.words.JoinRequest.{JoinRequest}
+use Rattle.words_core.specs.declared.words.JoinRequest.{JoinRequest}
 
 -- what lies at each path: bytes, or nothing that can be opened
 abbrev pub Files : Type 0

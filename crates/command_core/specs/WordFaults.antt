@@ -2,10 +2,10 @@
 use Rattle.std.specs.Prelude.{ℕ, true, false, List, ◌++◌, codes, string_bytes}
 use Rattle.geom_core.specs.FaultTexts.{mask_text, allows_disjoint_text}
 use Rattle.join_core.specs.Lines.{line_of}
-use Rattle.join_core.specs.OptionTexts.{option_text}
-use Rattle.command_core.specs.declared.words.WordFault.{WordFault}
-use Rattle.command_core.specs.declared.words.WordFault.TheVariants.{Usage, Relation, AllowsDisjoint}
-use Rattle.command_core.specs.declared.words.WordFault.TheVariants.{Options, Scale, Memory}
+use Rattle.deliver_core.specs.OptionTexts.{option_text}
+use Rattle.words_core.specs.declared.words.WordFault.{WordFault}
+use Rattle.words_core.specs.declared.words.WordFault.TheVariants.{Usage, Relation, AllowsDisjoint}
+use Rattle.words_core.specs.declared.words.WordFault.TheVariants.{Options, Scale, Memory}
 
 abbrev pub word_status_of : WordFault → ℕ
 word_status_of (Usage text true) = 0

@@ -8,7 +8,6 @@ ghost use Rattle.command_core.specs.Opening.{AreOpened, IsFirstMissing};
 ghost use Rattle.command_core.specs.Endings.{CommandIsDone};
 
 use crate::inputs::Inputs;
-use crate::words::{Command, JoinRequest};
 use join_core::{
     Input, JoinSources, OpenGate, RunFault, Sink, fault_line, run_bounds, run_draw, run_join,
     run_relate, run_stats, run_window,
@@ -17,6 +16,7 @@ use std::hash::RandomState;
 use std::random::RandomSource;
 use std::sync::Wait;
 use std::thread::Threads;
+use words_core::{Command, JoinRequest};
 
 /// What is made of the pairs of a join.
 #[derive(Clone, Copy)]

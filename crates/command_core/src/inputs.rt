@@ -2,19 +2,8 @@
 
 ghost use Rattle.std.specs.Prelude.{◌≡◌, ℕ, List, Option, None, false, IfOk, IfSome};
 ghost use Rattle.command_core.specs.Opening.{Opens};
-ghost use Rattle.command_core.specs.Readings.{is_dash};
 
 use file_core::Source;
-
-/// The path at which standard input lies.
-const STANDARD_INPUT: &str = "-";
-
-/// Whether standard input lies at a path.
-pub fn is_standard_input(path: &str) -> bool
-    ensures { result ≡ is_dash path.now }
-{
-    path == STANDARD_INPUT
-}
 
 /// A file can't be opened.
 #[derive(Clone, Copy, Debug, PartialEq, Eq)]

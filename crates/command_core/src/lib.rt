@@ -3,16 +3,12 @@
 #![tactic(auto)]
 
 mod command;
-mod hint;
 mod inputs;
 mod program;
-mod reading;
-mod usage;
 mod word_fault;
-mod words;
 
 pub use command::{FAILED, run_command};
-pub use inputs::{Inputs, NotOpened, is_standard_input};
+pub use inputs::{Inputs, NotOpened};
 pub use program::{run_program, run_words};
 pub use word_fault::{word_line, word_status};
-pub use words::{Command, JoinRequest, WordFault, read_words};
+pub use words_core::{Command, JoinRequest, WordFault, is_standard_input, read_words};

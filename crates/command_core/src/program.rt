@@ -2,12 +2,11 @@
 
 ghost use Rattle.std.specs.Prelude.{◌≡◌, false, map, string_bytes, IfOk, IfErr};
 ghost use Rattle.command_core.specs.Endings.{IsShownBy, ProgramIsDone, WordsAreDone};
-ghost use Rattle.command_core.specs.Readings.{IsUngiven};
+ghost use Rattle.words_core.specs.Readings.{IsUngiven};
 
 use crate::command::{FAILED, run_command};
 use crate::inputs::Inputs;
 use crate::word_fault::{word_line, word_status};
-use crate::words::{WordFault, read_words};
 use join_core::{RunFault, Sink, WriteFailed, fault_line};
 use std::alloc::{AllocError, Global};
 use std::random::RandomSource;
@@ -15,6 +14,7 @@ use std::rt::Env;
 use std::sync::Wait;
 use std::thread::Threads;
 use std::{env, io};
+use words_core::{WordFault, read_words};
 
 /// Does what the words of the command line ask for, and returns the exit status. What they ask for,
 /// help included, goes to `output`, and the line of a fault to `errors`.

@@ -7,9 +7,9 @@ ghost use Rattle.geom_core.specs.FaultTexts.{mask_text};
 ghost use Rattle.output_core.specs.Written.{AppendsPrefix};
 ghost use Rattle.command_core.specs.WordFaults.{word_status_of, word_fault_line};
 
-use crate::words::WordFault;
 use geom_core::{AllowsDisjoint, MaskFault};
 use join_core::{Line, Sink, WriteFailed, write_text};
+use words_core::WordFault;
 
 /// The exit status: 0 for help, 1 where memory ran out, and else 2.
 pub fn word_status(fault: &WordFault) -> u8

@@ -2,7 +2,7 @@
 
 use command_core::{Command, JoinRequest, WordFault, read_words, word_line, word_status};
 use geom_core::{JoinRelation, Relation};
-use join_core::{Options, ToWrite};
+use join_core::{MAX_BATCH, MAX_CUT, MAX_DRAWN, MAX_WORKERS, Options, ToWrite};
 use std::alloc::Global;
 use std::test::Fail;
 use wkt_core::Scale;
@@ -238,6 +238,20 @@ fn help_and_version(rt: HostRuntime) -> Result<(), Fail> {
     for (words, part) in HELP {
         assert!(rt; helps(rt.alloc(), words, part)?, "{words}");
     }
+    Ok(())
+}
+
+#[test]
+fn help_tells_the_limits(rt: HostRuntime) -> Result<(), Fail> {
+    let alloc = rt.alloc();
+    let workers = format!(in alloc; "1 to {MAX_WORKERS} [default: 4]")?;
+    let batch = format!(in alloc; "1 to {MAX_BATCH} [default: 256]")?;
+    let cut = format!(in alloc; "0 to {MAX_CUT} [default: 2]")?;
+    let drawn = format!(in alloc; "more than {MAX_DRAWN} features")?;
+    assert!(rt; helps(alloc, "rjoin|join|--help", workers.as_str())?);
+    assert!(rt; helps(alloc, "rjoin|join|--help", batch.as_str())?);
+    assert!(rt; helps(alloc, "rjoin|join|--help", cut.as_str())?);
+    assert!(rt; helps(alloc, "rjoin|draw|--help", drawn.as_str())?);
     Ok(())
 }
 

@@ -5,6 +5,8 @@ pub mod Collectors
 pub mod Draws
 pub mod FaultTexts
 pub mod Marks
+pub mod OptionTexts
+pub mod Options
 pub mod OutletCalls
 pub mod OutletRule
 pub mod OutletSteps

@@ -1,4 +1,5 @@
-//! Tests of `deliver_core` from outside: worked examples, growths that are refused, and threads.
+//! Tests of `deliver_core` from outside: worked examples, options, growths that are refused, and
+//! threads.
 #![tactic(auto)]
 
 #[cfg(test)]
@@ -7,5 +8,7 @@ mod board;
 mod collector;
 #[cfg(test)]
 mod full_outlet;
+#[cfg(test)]
+mod options;
 #[cfg(test)]
 mod outlet;

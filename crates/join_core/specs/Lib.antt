@@ -6,10 +6,7 @@ pub mod Inputs
 pub mod Jobs
 pub mod JoinRuns
 pub mod Joins
-pub mod Limits
 pub mod Lines
-pub mod OptionTexts
-pub mod Options
 pub mod Products
 pub mod Relating
 pub mod Runs

@@ -8,23 +8,21 @@ mod fault_text;
 mod job;
 mod joins;
 mod layer_input;
-mod options;
 mod relate;
 mod stats;
 mod text;
 mod window;
 
 pub use bounds::run_bounds;
-pub use deliver_core::Outcome;
+pub use deliver_core::{MAX_BATCH, MAX_CUT, MAX_WORKERS, OptionFault, Options, Outcome};
 pub use draw_core::MAX_DRAWN;
 pub use fault::{Input, RunFault};
 pub use fault_text::fault_line;
 pub use joins::{JoinSources, apply_edits, join, run_draw, run_join};
-pub use options::{MAX_CUT, OptionFault, Options};
 pub use output_core::{
     Line, ROOM, Sink, ToWrite, WriteFailed, report_texts, write_text, write_texts,
 };
 pub use relate::run_relate;
 pub use stats::run_stats;
 pub use window::run_window;
-pub use worker_core::{Gate, JoinFault, MAX_BATCH, MAX_WORKERS, OpenGate};
+pub use worker_core::{Gate, JoinFault, OpenGate};

@@ -1,11 +1,9 @@
-//! Tests of joins of two layers, from outside: their pairs and marks, workers and options.
+//! Tests of joins of two layers, from outside: their pairs and marks, and workers.
 #![tactic(auto)]
 
 #[cfg(test)]
 mod join_scan;
 #[cfg(test)]
 mod layers;
-#[cfg(test)]
-mod options;
 #[cfg(test)]
 mod workers;

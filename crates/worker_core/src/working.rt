@@ -22,7 +22,7 @@ use std::sync::Wait;
 use std::thread::Threads;
 
 /// The most pairs of a batch.
-pub const MAX_BATCH: u32 = 4096;
+pub const MAX_BATCH: u32 = deliver_core::MAX_BATCH;
 
 /// A worker's seat and port, when it has said bye.
 #[derive(Drop)]

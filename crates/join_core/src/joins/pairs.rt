@@ -3,12 +3,11 @@
 ghost use Rattle.std.specs.Prelude.{IfOk, IfErr};
 ghost use Rattle.geom_core.specs.JoinRelations.{relation_of};
 ghost use Rattle.descent_core.specs.Plans.{IsPlan};
+ghost use Rattle.deliver_core.specs.Options.{batch_of, cut_of};
 ghost use Rattle.worker_core.specs.Faults.{IsWant};
 ghost use Rattle.join_core.specs.Joins.{IsJoinList, HasMarks, RowsAreJoinList};
-ghost use Rattle.join_core.specs.Options.{batch_of, cut_of};
 
-use crate::options::Options;
-use deliver_core::Outcome;
+use deliver_core::{Options, Outcome};
 use descent_core::Plan;
 use geom_core::JoinRelation;
 use layer_core::Layer;

@@ -1,5 +1,5 @@
 use Rattle.std.proofs.Common.{◌≡◌, ◌∙◌, Err, ap, map, refl, rules}
-use Rattle.command_core.specs.declared.words.WordFault.TheVariants.{Memory}
+use Rattle.words_core.specs.declared.words.WordFault.TheVariants.{Memory}
 use Rattle.command_core.proofs.WordLemmas.{words_done_as}
 use Rattle.command_core.proofs.program.run_words.Goals as goal
 

@@ -1,0 +1,127 @@
+//! How a join is run: its workers, its batches and how deep its trees are cut into tasks.
+
+ghost use Rattle.std.specs.Prelude.{◌<◌, ◌≤◌};
+ghost use Rattle.deliver_core.specs.Limits.{most_workers, most_batch, most_cut};
+
+use crate::board::Board;
+use std::error::Error;
+use std::fmt;
+
+/// The most workers of a join, each of which has a seat.
+pub const MAX_WORKERS: u32 = Board::MAX_SEATS;
+
+/// The most pairs of a batch.
+pub const MAX_BATCH: u32 = 4096;
+
+/// The most rounds of cutting the two trees into tasks.
+pub const MAX_CUT: u8 = 8;
+
+/// How a join is run.
+#[derive(Clone, Copy, Debug, PartialEq, Eq)]
+pub struct Options {
+    workers: u32,
+    batch: u32,
+    cut: u8,
+    ghost some_workers: { 0 < workers },
+    ghost few_workers: { workers ≤ most_workers },
+    ghost some_batch: { 0 < batch },
+    ghost small_batch: { batch ≤ most_batch },
+    ghost small_cut: { cut ≤ most_cut },
+}
+
+/// The first of the three numbers that is out of range.
+#[derive(Clone, Copy, Debug, PartialEq, Eq)]
+pub enum OptionFault {
+    /// Workers are 1 to [`MAX_WORKERS`].
+    Workers,
+    /// A batch has 1 to [`MAX_BATCH`] pairs.
+    Batch,
+    /// The cut is 0 to [`MAX_CUT`].
+    Cut,
+}
+
+impl OptionFault {
+    ghost use Rattle.std.specs.Prelude.{◌≡◌, length};
+    ghost use Rattle.deliver_core.specs.OptionTexts.{option_text};
+
+    /// What is wrong, in the words of the command line.
+    pub fn text(self) -> &'static str
+        ensures text { result.now ≡ option_text self }
+        ensures short { length result.now ≤ 50 }
+    {
+        match self {
+            OptionFault::Workers => "--workers must be 1 to 16",
+            OptionFault::Batch => "--batch must be 1 to 4096",
+            OptionFault::Cut => "--cut must be 0 to 8",
+        }
+    }
+}
+
+impl fmt::Display for OptionFault {
+    ghost use Rattle.std.specs.Prelude.{Some};
+    ghost use Rattle.deliver_core.specs.OptionTexts.{option_text};
+
+    ghost output = { λ fault. Some (option_text fault) };
+
+    fn fmt<W: fmt::Write>(&self, f: &mut fmt::Formatter<W>) -> fmt::Result {
+        f.write_str(self.text())
+    }
+}
+
+impl Error for OptionFault {}
+
+impl Options {
+    ghost use Rattle.std.specs.Prelude.{◌≡◌, ◌↔◌, IfOk, IsErrOf};
+    ghost use Rattle.deliver_core.specs.Options.{workers_of, batch_of, cut_of, AreWorkers, IsBatch};
+    ghost use Rattle.deliver_core.specs.Options.{IsCut};
+
+    /// The options with these three numbers.
+    ///
+    /// # Errors
+    /// The first of `Workers`, `Batch` and `Cut` whose number is out of range.
+    pub fn new(workers: u32, batch: u32, cut: u32) -> Result<Options, OptionFault>
+        ensures workers { IsErrOf result OptionFault.Workers ↔ ¬ (AreWorkers workers) }
+        ensures batch { IsErrOf result OptionFault.Batch
+            ↔ (AreWorkers workers × ¬ (IsBatch batch)) }
+        ensures cut { IsErrOf result OptionFault.Cut
+            ↔ (AreWorkers workers × IsBatch batch × ¬ (IsCut cut)) }
+        ensures ok { IfOk result (λ o.
+            (workers_of o ≡ workers) × (batch_of o ≡ batch) × (cut_of o ≡ cut)) }
+    {
+        if workers < 1 || workers > MAX_WORKERS {
+            return Err(OptionFault::Workers);
+        }
+        if batch < 1 || batch > MAX_BATCH {
+            return Err(OptionFault::Batch);
+        }
+        if cut > u32::from(MAX_CUT) {
+            return Err(OptionFault::Cut);
+        }
+        Ok(Options {
+            workers,
+            batch,
+            cut: cut as u8,
+        })
+    }
+
+    /// The number of workers.
+    pub fn workers(&self) -> u32
+        ensures { result ≡ workers_of self.now }
+    {
+        self.workers
+    }
+
+    /// The number of pairs of a full batch.
+    pub fn batch(&self) -> u32
+        ensures { result ≡ batch_of self.now }
+    {
+        self.batch
+    }
+
+    /// The number of rounds of cutting.
+    pub fn cut(&self) -> u8
+        ensures { result ≡ cut_of self.now }
+    {
+        self.cut
+    }
+}

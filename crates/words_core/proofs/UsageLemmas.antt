@@ -1,0 +1,44 @@
+-- How a command comes to its usage.
+use Rattle.std.proofs.Common.{◌≡◌, ◌∙◌, ◌++◌, ◌∷◌, ◌||◌, [], List, Bool, true, false, refl, ap, ap₂, append_assoc}
+use Rattle.clap.specs.Words.{AddsArg, AddsSubcommand, App, app_of, Rule, Shape, Text, with_rule, with_subcommand}
+use Rattle.clap.specs.Simple.{new_shape}
+use Rattle.clap.specs.declared.builder.arg.Arg.{Arg}
+use Rattle.clap.specs.declared.builder.command.Command.{Command}
+use Rattle.clap.specs.declared.builder.command.Command.TheViews.{out-Command as fields_of}
+use Rattle.words_core.specs.Usage.{AddsRules, HasRules, HasUsage, IsArgument, IsBegun, with_rules}
+
+or_false : (b : Bool) → (b || false) ≡ b
+or_false true = refl
+or_false false = refl
+
+-- one argument is added
+pub adds_one : (rule : Rule) (old new : Command) (arg : Arg) → AddsArg old arg new → IsArgument rule arg → AddsRules old (rule ∷ []) new
+adds_one rule old new arg added is =
+    record {
+      shape = added.shape is.local ∙ ap (with_rule (app_of old)) is.rule;
+      globals = added.globals ∙ ap (λ b. (fields_of old).has_globals || b) is.local
+          ∙ or_false (fields_of old).has_globals;
+    }
+
+-- arguments are added, and then others
+pub adds_then : (rules more : List Rule) (old mid new : Command) → AddsRules old rules mid → AddsRules mid more new → AddsRules old (rules ++ more) new
+adds_then rules more old mid new first second = record {
+  shape = second.shape ∙ ap (λ a. with_rules a more) first.shape ∙ ap (λ rs. with_all (app_of old) rs) (append_assoc (app_of old).top.rules rules more);
+  globals = second.globals ∙ first.globals;
+}
+  where
+    with_all : App → List Rule → App
+    with_all a rs = record a { top = record a.top { rules = rs } }
+
+-- a begun command has the arguments that were added
+pub has_rules : (name text : Text) (rules : List Rule) (begun new : Command) → IsBegun (new_shape name) text begun → AddsRules begun rules new → HasRules name rules new
+has_rules name text rules begun new is added =
+    record { shape = added.shape ∙ ap (λ a. with_rules a rules) is.shape; local = added.globals ∙ is.local }
+
+-- one subcommand is added
+pub adds_command : (usage : App) (shape : Shape) (old sub new : Command) → HasUsage usage old → HasUsage (record { top = shape; subs = [] }) sub
+    → AddsSubcommand old sub new → HasUsage (with_subcommand usage shape) new
+adds_command usage shape old sub new has is added = record {
+  shape = added.shape is.local ∙ ap₂ with_subcommand has.shape (ap (λ (a : App). a.top) is.shape);
+  local = added.globals ∙ ap₂ (λ a b. a || b) has.local is.local;
+}

@@ -1,0 +1,270 @@
+-- What the words of the command line are read as, by what `clap` finds in them.
+use Rattle.std.specs.Prelude.{◌≡◌, ◌≢◌, ◌<◌, ◌⊎◌, ◌&&◌, ◌||◌, ℕ, Bool, true, false, List, []}
+use Rattle.std.specs.Prelude.{◌∷◌, ◌++◌, length, Option, Some, None, Result, Ok, Err, codes}
+use Rattle.std.specs.Prelude.{if◌then◌else◌, find, nat_le, nat_eq, option_map, option_and_then}
+use Rattle.std.specs.Prelude.{string_bytes}
+use Rattle.std.specs.Bool.{MatchBool}
+use Rattle.std.specs.Borrow.{Bor}
+use Rattle.std.specs.Option.{MatchOption, option_map_or}
+use Rattle.std.specs.Str.{bytes_eq, chars}
+use Rattle.std.specs.Str.Parse.{digits_value, without_leading_plus}
+use Rattle.clap.specs.Words.{Kinds, IsAmong, Row, Text, fault_of, first_of, found_of, one_of}
+use Rattle.clap.specs.Words.{rows_of, subcommand_of}
+use Rattle.clap.specs.ValueTests.{is_unsigned_in}
+use Rattle.strsim.specs.Edits.{levenshtein_row}
+use Rattle.clap.specs.declared.error.kind.ErrorKind.{ErrorKind}
+use Rattle.clap.specs.declared.error.kind.ErrorKind.TheVariants.{DisplayHelp, DisplayVersion}
+use Rattle.clap.specs.declared.parser.matches.ArgMatches.{ArgMatches}
+use Rattle.geom_core.specs.FaultTexts.{mask_text}
+use Rattle.geom_core.specs.JoinRelations.{relation_of}
+use Rattle.geom_core.specs.Masks.{HasBadLetter}
+use Rattle.geom_core.specs.Relations.{Spells, SpellsNothing, HoldsForDisjoint}
+use Rattle.geom_core.specs.declared.join_relation.JoinRelation.{JoinRelation}
+use Rattle.geom_core.specs.declared.mask.MaskFault.{MaskFault}
+use Rattle.geom_core.specs.declared.mask.MaskFault.TheVariants as mask
+use Rattle.geom_core.specs.declared.relation.Relation.{Relation}
+use Rattle.wkt_core.specs.ScaleLimits.{most_digits}
+use Rattle.wkt_core.specs.Scales.{digits_of}
+use Rattle.wkt_core.specs.declared.scale.Scale.{Scale}
+use Rattle.deliver_core.specs.Options.{workers_of, batch_of, cut_of, AreWorkers, IsBatch, IsCut}
+use Rattle.deliver_core.specs.declared.options.Options.{Options}
+use Rattle.deliver_core.specs.declared.options.OptionFault.TheVariants as range
+use Rattle.words_core.specs.Usage.{program_usage}
+use Rattle.words_core.specs.declared.words.Command.{Command}
+use Rattle.words_core.specs.declared.words.Command.TheVariants.{Relate, Join, Draw, Window, Stats}
+use Rattle.words_core.specs.declared.words.Command.TheVariants.{Bounds}
+use Rattle.words_core.specs.declared.words.JoinRequest.{JoinRequest}
+use Rattle.words_core.specs.declared.words.WordFault.{WordFault}
+use Rattle.words_core.specs.declared.words.WordFault.TheVariants as fault
+
+-- ---- values
+
+-- what was found of the arguments of one command
+abbrev pub found_in : ArgMatches → List Row
+found_in given = rows_of (found_of given)
+
+-- the number below 2 ^ 32 that a text writes
+abbrev pub number_of : Text → Option ℕ
+number_of text =
+    if is_unsigned_in 0 4294967295 text then Some (digits_value 10 (without_leading_plus text))
+    else None
+
+abbrev pub number_at : Text → List Row → Option ℕ
+number_at name rows = option_and_then number_of (one_of name rows)
+
+abbrev pub is_dash : Text → Bool
+is_dash path = bytes_eq path (codes "-")
+
+-- two of the files of a join are standard input
+abbrev pub share_input : Text → Text → Option Text → Bool
+share_input left right edits = (is_dash left && is_dash right)
+    || ((is_dash left || is_dash right) && option_map_or is_dash edits false)
+
+-- ---- commands
+
+abbrev pub IsScaleIn : List Row → Scale → Type 0
+IsScaleIn rows scale = number_at (codes "scale") rows ≡ Some (digits_of scale)
+
+pub record AreOptionsIn (rows : List Row) (options : Options) : Type 0 where
+  pub workers : number_at (codes "workers") rows ≡ Some (workers_of options)
+  pub batch : number_at (codes "batch") rows ≡ Some (batch_of options)
+  pub cut : number_at (codes "cut") rows ≡ Some (cut_of options)
+  pub ranges : AreWorkers (workers_of options) × IsBatch (batch_of options)
+      × IsCut (cut_of options)
+
+-- the word spells the relation
+abbrev pub IsRelationIn : List Row → JoinRelation → Type 0
+IsRelationIn rows relation = (word : Text) × (first_of (codes "relation") rows ≡ Some word)
+    × Spells (relation_of relation) word
+
+abbrev pub text_in : Option (Bor Text) → Option Text
+text_in = option_map (λ text. text.now)
+
+pub record IsJoinIn (rows : List Row) (join : JoinRequest) : Type 0 where
+  pub left : first_of (codes "LEFT") rows ≡ Some join.left_path.now
+  pub right : first_of (codes "RIGHT") rows ≡ Some join.right_path.now
+  pub edits : first_of (codes "edits") rows ≡ text_in join.edits_path
+  pub one_input : share_input join.left_path.now join.right_path.now (text_in join.edits_path)
+      ≡ false
+  pub relation : IsRelationIn rows join.relation
+  pub options : AreOptionsIn rows join.options
+  pub scale : IsScaleIn rows join.scale
+
+-- ---- faults
+
+-- the fault shows this text, and it isn't help
+abbrev pub Says : Text → WordFault → Type 0
+Says text (fault.Usage shown false) = string_bytes shown ≡ text
+Says text _ = ⊥
+
+abbrev pub missing_text : Text → Text
+missing_text name = codes "error: " ++ name ++ codes " is missing\n"
+
+-- what follows of a value, or the fault that there is none
+abbrev pub Needs : {X : Type 0} → Text → Option X → WordFault → (X → Type 0) → Type 0
+Needs name None f Then = Says (missing_text name) f
+Needs name (Some value) f Then = Then value
+
+abbrev pub NeedsText : Text → List Row → WordFault → (Text → Type 0) → Type 0
+NeedsText name rows = Needs name (first_of name rows)
+
+abbrev pub NeedsNumber : Text → List Row → WordFault → (ℕ → Type 0) → Type 0
+NeedsNumber name rows = Needs name (number_at name rows)
+
+abbrev pub HasScaleFault : List Row → WordFault → Type 0
+HasScaleFault rows f =
+    NeedsNumber (codes "scale") rows f (λ digits. (most_digits < digits) × (f ≡ fault.Scale))
+
+abbrev pub HasLayerFault : List Row → WordFault → Type 0
+HasLayerFault rows f = NeedsText (codes "LAYER") rows f (λ _. HasScaleFault rows f)
+
+abbrev pub HasWindowFault : List Row → WordFault → Type 0
+HasWindowFault rows f =
+    NeedsText (codes "LAYER") rows f (λ _. NeedsText (codes "WKT") rows f (λ _.
+    HasScaleFault rows f))
+
+abbrev pub HasRelateFault : List Row → WordFault → Type 0
+HasRelateFault rows f =
+    NeedsText (codes "A") rows f (λ _. NeedsText (codes "B") rows f (λ _. HasScaleFault rows f))
+
+-- the first of the three numbers that is out of its range
+abbrev pub IsRangeFault : ℕ → ℕ → ℕ → WordFault → Type 0
+IsRangeFault workers batch cut (fault.Options range.Workers) = ¬ (AreWorkers workers)
+IsRangeFault workers batch cut (fault.Options range.Batch) =
+    AreWorkers workers × ¬ (IsBatch batch)
+IsRangeFault workers batch cut (fault.Options range.Cut) =
+    AreWorkers workers × IsBatch batch × ¬ (IsCut cut)
+IsRangeFault workers batch cut _ = ⊥
+
+-- a fault of the three numbers, or what follows where they have none
+abbrev pub NeedsOptions : List Row → WordFault → Type 0 → Type 0
+NeedsOptions rows f Then =
+    NeedsNumber (codes "workers") rows f (λ workers. NeedsNumber (codes "batch") rows f (λ batch.
+    NeedsNumber (codes "cut") rows f (λ cut. IsRangeFault workers batch cut f
+    ⊎ (AreWorkers workers × IsBatch batch × IsCut cut × Then))))
+
+abbrev pub IsNoRelation : Text → MaskFault → Type 0
+IsNoRelation word mask.Length = (length word ≢ 9) × SpellsNothing word
+IsNoRelation word (mask.Letter place) = HasBadLetter word place
+
+-- the relations that a hint may name, and the first of them that differs from the word in at most
+-- two letters
+abbrev pub hint_names : List Text
+hint_names =
+    codes "intersects" ∷ codes "touches" ∷ codes "crosses" ∷ codes "within" ∷ codes "contains"
+    ∷ codes "overlaps" ∷ codes "equals" ∷ []
+
+abbrev pub is_near : Text → Text → Bool
+is_near word name =
+    nat_le (levenshtein_row nat_eq (chars word) (chars name) (length (chars name))) 2
+
+unfoldable pub hint_of : Text → Option Text
+hint_of word = find (is_near word) hint_names
+
+abbrev pub hint_text : Text → Text
+hint_text name = codes "rjoin: --relation: " ++ mask_text mask.Length
+    ++ codes "; did you mean " ++ name ++ codes "?\n"
+
+-- the word spells no relation that a join may use
+abbrev pub IsRelationFault : Text → WordFault → Type 0
+IsRelationFault word (fault.Relation reason) = IsNoRelation word reason × (hint_of word ≡ None)
+IsRelationFault word (fault.Usage shown help) = ((reason : MaskFault) × IsNoRelation word reason)
+    × MatchOption (hint_of word) ⊥ (λ name. Says (hint_text name) (fault.Usage shown help))
+IsRelationFault word fault.AllowsDisjoint =
+    (relation : Relation) × Spells relation word × HoldsForDisjoint relation
+IsRelationFault word _ = ⊥
+
+abbrev pub SpellsJoin : Text → Type 0
+SpellsJoin word = (relation : JoinRelation) × Spells (relation_of relation) word
+
+abbrev pub NeedsRelation : List Row → WordFault → Type 0 → Type 0
+NeedsRelation rows f Then = NeedsText (codes "relation") rows f (λ word.
+    IsRelationFault word f ⊎ (SpellsJoin word × Then))
+
+abbrev pub shared_text : Text
+shared_text = codes "error: only one of LEFT, RIGHT and --edits can be -\n"
+
+abbrev pub NeedsOneInput : Text → Text → Option Text → WordFault → Type 0 → Type 0
+NeedsOneInput left right edits f Then =
+    MatchBool (share_input left right edits) (Says shared_text f) Then
+
+abbrev pub HasJoinFault : List Row → WordFault → Type 0
+HasJoinFault rows f =
+    NeedsText (codes "LEFT") rows f (λ left. NeedsText (codes "RIGHT") rows f (λ right.
+    NeedsOneInput left right (first_of (codes "edits") rows) f
+    (NeedsRelation rows f (NeedsOptions rows f (HasScaleFault rows f)))))
+
+-- ---- the words
+
+-- the subcommand with what was found of it, as `clap` gives them
+abbrev pub Met : Type 0
+Met = Option (Text × List Row)
+
+-- what was found under the name of the command is this command
+abbrev pub IsCommandIn : Text → List Row → Command → Type 0
+IsCommandIn name rows (Relate a b scale) = (name ≡ codes "relate")
+    × (first_of (codes "A") rows ≡ Some a.now)
+    × (first_of (codes "B") rows ≡ Some b.now) × IsScaleIn rows scale
+IsCommandIn name rows (Join join) = (name ≡ codes "join") × IsJoinIn rows join
+IsCommandIn name rows (Draw join) = (name ≡ codes "draw") × IsJoinIn rows join
+IsCommandIn name rows (Window path wkt scale) = (name ≡ codes "window")
+    × (first_of (codes "LAYER") rows ≡ Some path.now)
+    × (first_of (codes "WKT") rows ≡ Some wkt.now) × IsScaleIn rows scale
+IsCommandIn name rows (Stats path scale) = (name ≡ codes "stats")
+    × (first_of (codes "LAYER") rows ≡ Some path.now) × IsScaleIn rows scale
+IsCommandIn name rows (Bounds path scale) = (name ≡ codes "bounds")
+    × (first_of (codes "LAYER") rows ≡ Some path.now) × IsScaleIn rows scale
+
+-- the fault of what was found under the name of a command
+pub data HasCommandFault (rows : List Row) (f : WordFault) : Text → Type 0 where
+  of_relate : HasRelateFault rows f → HasCommandFault rows f (codes "relate")
+  of_join : HasJoinFault rows f → HasCommandFault rows f (codes "join")
+  of_draw : HasJoinFault rows f → HasCommandFault rows f (codes "draw")
+  of_window : HasWindowFault rows f → HasCommandFault rows f (codes "window")
+  of_stats : HasLayerFault rows f → HasCommandFault rows f (codes "stats")
+  of_bounds : HasLayerFault rows f → HasCommandFault rows f (codes "bounds")
+  of_none : (name : Text) → name ≢ codes "relate" → name ≢ codes "join" → name ≢ codes "draw"
+      → name ≢ codes "window" → name ≢ codes "stats" → name ≢ codes "bounds"
+      → Says (missing_text (codes "COMMAND")) f → HasCommandFault rows f name
+
+-- what was found under some name is this command
+abbrev pub IsMetAs : Met → Command → Type 0
+IsMetAs None command = ⊥
+IsMetAs (Some met) command = IsCommandIn met.0 met.1 command
+
+-- a fault of what was found, or that no command was
+abbrev pub HasMetFault : Met → WordFault → Type 0
+HasMetFault None f = Says (missing_text (codes "COMMAND")) f
+HasMetFault (Some met) f = HasCommandFault met.1 f met.0
+
+abbrev pub is_help : ErrorKind → Bool
+is_help DisplayHelp = true
+is_help DisplayVersion = true
+is_help _ = false
+
+-- the text of `clap` on an error of this kind
+abbrev pub IsUsageFault : ErrorKind → WordFault → Type 0
+IsUsageFault kind (fault.Usage shown help) = help ≡ is_help kind
+IsUsageFault kind _ = ⊥
+
+-- the fault of the usage, or where that has none, of what was found
+abbrev pub HasFault : Kinds → Met → WordFault → Type 0
+HasFault [] met f = HasMetFault met f
+HasFault (first ∷ more) met f =
+    (kind : ErrorKind) × IsAmong kind (first ∷ more) × IsUsageFault kind f
+
+-- what `clap` refuses of the words, and what it finds in them
+unfoldable pub refusals_of : List Text → Kinds
+refusals_of words = fault_of program_usage words
+
+unfoldable pub met_in : List Text → Met
+met_in words = subcommand_of program_usage words
+
+-- the words are read as this command, or as this fault, that of memory aside
+abbrev pub ReadAs : List Text → Result Command WordFault → Type 0
+ReadAs words (Ok command) = (refusals_of words ≡ []) × IsMetAs (met_in words) command
+ReadAs words (Err f) = f ≢ fault.Memory → HasFault (refusals_of words) (met_in words) f
+
+-- memory ran out, or a word is no text
+abbrev pub IsUngiven : WordFault → Type 0
+IsUngiven f = f ≢ fault.Memory → Says (codes "error: a word is not UTF-8\n") f

@@ -1,0 +1,41 @@
+//! Which relation a mistyped word may have meant.
+
+ghost use Rattle.std.specs.Prelude.{◌≡◌, find, map, IfOk};
+ghost use Rattle.words_core.specs.Readings.{hint_of, is_near, text_in};
+
+use std::alloc::{AllocError, Global};
+use strsim::levenshtein;
+
+/// The names of the relations that a join may use.
+const NAMES: [&str; 7] = [
+    "intersects",
+    "touches",
+    "crosses",
+    "within",
+    "contains",
+    "overlaps",
+    "equals",
+];
+
+/// In how many letters a word may differ from what was meant.
+const MOST_TYPOS: usize = 2;
+
+/// The first name of a relation that differs from the word in few letters, if there is one.
+pub fn nearest_relation(alloc: Global, word: &str) -> Result<Option<&'static str>, AllocError>
+    ensures { IfOk result (λ found. text_in found ≡ hint_of word.now) }
+{
+    nearest(alloc, word, NAMES.as_slice())
+}
+
+/// The first of the names that differs from the word in few letters, if there is one.
+fn nearest<'a>(alloc: Global, word: &str, names: &[&'a str]) -> Result<Option<&'a str>, AllocError>
+    ensures { IfOk result (λ found. text_in found
+        ≡ find (is_near word.now) (map (λ name. name.now) names.now)) }
+{
+    for name in names {
+        if levenshtein(alloc, word, name)? <= MOST_TYPOS {
+            return Ok(Some(*name));
+        }
+    }
+    Ok(None)
+}

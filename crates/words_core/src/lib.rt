@@ -1,0 +1,12 @@
+//! The words of the command line as a library: what `clap` is told of them, and the command that
+//! they are read as, or the fault.
+#![tactic(auto)]
+
+mod hint;
+mod reading;
+mod standard_input;
+mod usage;
+mod words;
+
+pub use standard_input::is_standard_input;
+pub use words::{Command, JoinRequest, WordFault, read_words};

@@ -1,0 +1,231 @@
+//! What `clap` found in the words, read as a command.
+
+ghost use Rattle.std.specs.Prelude.{◌≡◌, ◌≢◌, Some, None, true, false, codes, IfOk, IfErr};
+ghost use Rattle.clap.specs.Words.{first_of, subcommand_rows_of};
+ghost use Rattle.geom_core.specs.JoinRelations.{relation_of};
+ghost use Rattle.geom_core.specs.Relations.{Spells};
+ghost use Rattle.words_core.specs.Readings.{AreOptionsIn, HasJoinFault, HasLayerFault};
+ghost use Rattle.words_core.specs.Readings.{HasCommandFault, HasMetFault, HasRelateFault};
+ghost use Rattle.words_core.specs.Readings.{HasScaleFault};
+ghost use Rattle.words_core.specs.Readings.{HasWindowFault, IsCommandIn, IsJoinIn, IsMetAs};
+ghost use Rattle.words_core.specs.Readings.{IsNoRelation, IsRelationFault, IsScaleIn};
+ghost use Rattle.words_core.specs.Readings.{NeedsOptions, Says, found_in, missing_text};
+ghost use Rattle.words_core.specs.Readings.{number_at, share_input, shared_text, text_in};
+
+use crate::hint::nearest_relation;
+use crate::standard_input::is_standard_input;
+use crate::words::{Command, JoinRequest, WordFault};
+use clap::ArgMatches;
+use deliver_core::Options;
+use geom_core::{JoinRelation, MaskFault, Relation};
+use std::alloc::{AllocError, Global};
+use wkt_core::Scale;
+
+/// Reads the command that the matches name.
+pub fn read_command<'a>(alloc: Global, matches: &ArgMatches<'a>) -> Result<Command<'a>, WordFault>
+    ensures ok { IfOk result (IsMetAs (subcommand_rows_of matches.now)) }
+    ensures err { IfErr result (λ f. f ≢ WordFault.Memory
+        → HasMetFault (subcommand_rows_of matches.now) f) }
+{
+    match matches.subcommand() {
+        Some(met) => read_named(alloc, met.0, met.1),
+        None => Err(missing(alloc, "COMMAND")),
+    }
+}
+
+/// Reads the command of this name, of what was given for it.
+fn read_named<'a>(
+    alloc: Global,
+    name: &str,
+    given: &ArgMatches<'a>,
+) -> Result<Command<'a>, WordFault>
+    ensures ok { IfOk result (IsCommandIn name.now (found_in given.now)) }
+    ensures err { IfErr result (λ f. f ≢ WordFault.Memory
+        → HasCommandFault (found_in given.now) f name.now) }
+{
+    match name {
+        "relate" => read_relate(alloc, given),
+        "join" => Ok(Command::Join(read_join(alloc, given)?)),
+        "draw" => Ok(Command::Draw(read_join(alloc, given)?)),
+        "window" => read_window(alloc, given),
+        "stats" => read_stats(alloc, given),
+        "bounds" => read_bounds(alloc, given),
+        _ => Err(missing(alloc, "COMMAND")),
+    }
+}
+
+fn read_relate<'a>(alloc: Global, given: &ArgMatches<'a>) -> Result<Command<'a>, WordFault>
+    ensures ok { IfOk result (IsCommandIn (codes "relate") (found_in given.now)) }
+    ensures err { IfErr result (λ f. f ≢ WordFault.Memory → HasRelateFault (found_in given.now) f) }
+{
+    let a = required(alloc, given, "A")?;
+    let b = required(alloc, given, "B")?;
+    let scale = read_scale(alloc, given)?;
+    Ok(Command::Relate { a, b, scale })
+}
+
+fn read_join<'a>(alloc: Global, given: &ArgMatches<'a>) -> Result<JoinRequest<'a>, WordFault>
+    ensures ok { IfOk result (IsJoinIn (found_in given.now)) }
+    ensures err { IfErr result (λ f. f ≢ WordFault.Memory → HasJoinFault (found_in given.now) f) }
+{
+    let left_path = required(alloc, given, "LEFT")?;
+    let right_path = required(alloc, given, "RIGHT")?;
+    let edits_path = given.get_str("edits");
+    refuse_shared_input(alloc, left_path, right_path, edits_path)?;
+    let relation = read_relation(alloc, required(alloc, given, "relation")?)?;
+    let options = read_options(alloc, given)?;
+    let scale = read_scale(alloc, given)?;
+    Ok(JoinRequest {
+        left_path,
+        right_path,
+        edits_path,
+        relation,
+        options,
+        scale,
+    })
+}
+
+/// The relation that a word names, or that it spells as a mask.
+fn read_relation(alloc: Global, word: &str) -> Result<JoinRelation, WordFault>
+    ensures ok { IfOk result (λ relation. Spells (relation_of relation) word.now) }
+    ensures err { IfErr result (λ f. f ≢ WordFault.Memory → IsRelationFault word.now f) }
+{
+    match Relation::read(word.as_bytes()) {
+        Ok(relation) => Ok(JoinRelation::new(relation)?),
+        Err(fault) => Err(relation_fault(alloc, word, fault)?),
+    }
+}
+
+/// The fault of a word that is no relation, with a hint where it is nearly a name.
+fn relation_fault(alloc: Global, word: &str, fault: MaskFault) -> Result<WordFault, AllocError>
+    requires { IsNoRelation word.now fault }
+    ensures { IfOk result (IsRelationFault word.now) }
+{
+    let Some(name) = nearest_relation(alloc, word)? else {
+        return Ok(WordFault::Relation(fault));
+    };
+    let reason = MaskFault::Length.text();
+    Ok(WordFault::Usage {
+        text: format!(in alloc; "rjoin: --relation: {reason}; did you mean {name}?\n")?,
+        help: false,
+    })
+}
+
+/// Refuses two files that are both to be read from standard input, which can be read only once.
+fn refuse_shared_input(
+    alloc: Global,
+    left: &str,
+    right: &str,
+    edits: Option<&str>,
+) -> Result<(), WordFault>
+    ensures ok { IfOk result (λ _. share_input left.now right.now (text_in edits.entry) ≡ false) }
+    ensures err { IfErr result (λ f. f ≢ WordFault.Memory → Says shared_text f
+        × (share_input left.now right.now (text_in edits.entry) ≡ true)) }
+{
+    if !shares_input(left, right, edits) {
+        return Ok(());
+    }
+    Err(WordFault::Usage {
+        text: String::from_str(
+            alloc,
+            "error: only one of LEFT, RIGHT and --edits can be -\n",
+        )?,
+        help: false,
+    })
+}
+
+/// Whether two of the files of a join are to be read from standard input.
+fn shares_input(left: &str, right: &str, edits: Option<&str>) -> bool
+    ensures { result ≡ share_input left.now right.now (text_in edits.entry) }
+{
+    let (left, right) = (is_standard_input(left), is_standard_input(right));
+    let edits = match edits {
+        Some(edits) => is_standard_input(edits),
+        None => false,
+    };
+    (left && right) || ((left || right) && edits)
+}
+
+fn read_window<'a>(alloc: Global, given: &ArgMatches<'a>) -> Result<Command<'a>, WordFault>
+    ensures ok { IfOk result (IsCommandIn (codes "window") (found_in given.now)) }
+    ensures err { IfErr result (λ f. f ≢ WordFault.Memory → HasWindowFault (found_in given.now) f) }
+{
+    let path = required(alloc, given, "LAYER")?;
+    let wkt = required(alloc, given, "WKT")?;
+    let scale = read_scale(alloc, given)?;
+    Ok(Command::Window { path, wkt, scale })
+}
+
+fn read_stats<'a>(alloc: Global, given: &ArgMatches<'a>) -> Result<Command<'a>, WordFault>
+    ensures ok { IfOk result (IsCommandIn (codes "stats") (found_in given.now)) }
+    ensures err { IfErr result (λ f. f ≢ WordFault.Memory → HasLayerFault (found_in given.now) f) }
+{
+    let path = required(alloc, given, "LAYER")?;
+    let scale = read_scale(alloc, given)?;
+    Ok(Command::Stats { path, scale })
+}
+
+fn read_bounds<'a>(alloc: Global, given: &ArgMatches<'a>) -> Result<Command<'a>, WordFault>
+    ensures ok { IfOk result (IsCommandIn (codes "bounds") (found_in given.now)) }
+    ensures err { IfErr result (λ f. f ≢ WordFault.Memory → HasLayerFault (found_in given.now) f) }
+{
+    let path = required(alloc, given, "LAYER")?;
+    let scale = read_scale(alloc, given)?;
+    Ok(Command::Bounds { path, scale })
+}
+
+fn read_options(alloc: Global, given: &ArgMatches<'_>) -> Result<Options, WordFault>
+    ensures ok { IfOk result (AreOptionsIn (found_in given.now)) }
+    ensures err { IfErr result (λ f. f ≢ WordFault.Memory
+        → NeedsOptions (found_in given.now) f ⊥) }
+{
+    let workers = number(alloc, given, "workers")?;
+    let batch = number(alloc, given, "batch")?;
+    let cut = number(alloc, given, "cut")?;
+    Ok(Options::new(workers, batch, cut)?)
+}
+
+fn read_scale(alloc: Global, given: &ArgMatches<'_>) -> Result<Scale, WordFault>
+    ensures ok { IfOk result (IsScaleIn (found_in given.now)) }
+    ensures err { IfErr result (λ f. f ≢ WordFault.Memory → HasScaleFault (found_in given.now) f) }
+{
+    match Scale::new(number(alloc, given, "scale")?) {
+        Some(scale) => Ok(scale),
+        None => Err(WordFault::Scale),
+    }
+}
+
+/// The value of an argument that `clap` requires.
+fn required<'a>(alloc: Global, given: &ArgMatches<'a>, name: &str) -> Result<&'a str, WordFault>
+    ensures ok { IfOk result (λ value.
+        first_of name.now (found_in given.now) ≡ Some value.now) }
+    ensures none { IfErr result (λ _. first_of name.now (found_in given.now) ≡ None) }
+    ensures told { IfErr result (λ f. f ≢ WordFault.Memory → Says (missing_text name.now) f) }
+{
+    match given.get_str(name) {
+        Some(value) => Ok(value),
+        None => Err(missing(alloc, name)),
+    }
+}
+
+/// The value of a number, which `clap` requires or has a default for.
+fn number(alloc: Global, given: &ArgMatches<'_>, name: &str) -> Result<u32, WordFault>
+    ensures ok { IfOk result (λ value. number_at name.now (found_in given.now) ≡ Some value) }
+    ensures none { IfErr result (λ _. number_at name.now (found_in given.now) ≡ None) }
+    ensures told { IfErr result (λ f. f ≢ WordFault.Memory → Says (missing_text name.now) f) }
+{
+    match given.get_one::<u32>(name) {
+        Some(value) => Ok(value),
+        None => Err(missing(alloc, name)),
+    }
+}
+
+/// The fault of a word that isn't there.
+fn missing(alloc: Global, name: &str) -> WordFault
+    ensures { result ≢ WordFault.Memory → Says (missing_text name.now) result }
+{
+    match format!(in alloc; "error: {name} is missing\n") {
+        Ok(text) => WordFault::Usage { text, help: false },
+        Err(AllocError) => WordFault::Memory,
+    }
+}

@@ -1,0 +1,130 @@
+//! The words of the command line.
+
+ghost use Rattle.std.specs.Prelude.{◌≡◌, ◌≢◌, map};
+ghost use Rattle.clap.specs.Words.{kind_of};
+ghost use Rattle.words_core.specs.Readings.{IsUsageFault, ReadAs};
+ghost use Rattle.words_core.specs.declared.words.WordFault.TheVariants as word_faults;
+
+use crate::reading::read_command;
+use crate::usage::usage;
+use clap::error::ErrorKind;
+use deliver_core::{OptionFault, Options};
+use geom_core::{AllowsDisjoint, JoinRelation, MaskFault};
+use std::alloc::{AllocError, Global};
+use wkt_core::Scale;
+
+/// Two layers that are to be joined after edits, and how.
+#[derive(Clone, Copy, Debug, PartialEq, Eq)]
+pub struct JoinRequest<'a> {
+    pub left_path: &'a str,
+    pub right_path: &'a str,
+    pub edits_path: Option<&'a str>,
+    pub relation: JoinRelation,
+    pub options: Options,
+    pub scale: Scale,
+}
+
+/// What the program is asked to do. Texts and paths are borrowed from the words.
+#[derive(Clone, Copy, Debug, PartialEq, Eq)]
+pub enum Command<'a> {
+    /// Write the matrix of two geometries that are given as texts.
+    Relate {
+        a: &'a str,
+        b: &'a str,
+        scale: Scale,
+    },
+    /// Write the pairs of features of two layers that stand in a relation.
+    Join(JoinRequest<'a>),
+    /// Write a picture of two layers, in which the features of those pairs are highlighted.
+    Draw(JoinRequest<'a>),
+    /// Write the ids of a layer's features that meet the geometry of a text.
+    Window {
+        path: &'a str,
+        wkt: &'a str,
+        scale: Scale,
+    },
+    /// Write counts of a layer's features.
+    Stats {
+        path: &'a str,
+        scale: Scale,
+    },
+    /// Write the corners of a layer's features.
+    Bounds {
+        path: &'a str,
+        scale: Scale,
+    },
+}
+
+/// Why the words are no command.
+#[derive(Debug, Drop)]
+pub enum WordFault {
+    /// The words don't fit the usage, or ask for help: `text` is what to show.
+    Usage { text: String, help: bool },
+    /// The relation is neither a name nor a mask.
+    Relation(MaskFault),
+    /// The relation holds for disjoint features too.
+    AllowsDisjoint,
+    /// A number is out of its range.
+    Options(OptionFault),
+    /// More decimals are asked for than a coordinate keeps.
+    Scale,
+    /// Memory ran out.
+    Memory,
+}
+
+impl From<MaskFault> for WordFault {
+    ghost from_gives = { λ fault e. e ≡ word_faults.Relation fault };
+
+    fn from(fault: MaskFault) -> WordFault {
+        WordFault::Relation(fault)
+    }
+}
+
+impl From<AllowsDisjoint> for WordFault {
+    ghost from_gives = { λ _ e. e ≡ word_faults.AllowsDisjoint };
+
+    fn from(_: AllowsDisjoint) -> WordFault {
+        WordFault::AllowsDisjoint
+    }
+}
+
+impl From<OptionFault> for WordFault {
+    ghost from_gives = { λ fault e. e ≡ word_faults.Options fault };
+
+    fn from(fault: OptionFault) -> WordFault {
+        WordFault::Options(fault)
+    }
+}
+
+impl From<AllocError> for WordFault {
+    ghost from_gives = { λ _ e. e ≡ word_faults.Memory };
+
+    fn from(_: AllocError) -> WordFault {
+        WordFault::Memory
+    }
+}
+
+/// Reads the words of the command line, of which the first is the program's name.
+pub fn read_words<'a>(alloc: Global, words: &'a [&'a str]) -> Result<Command<'a>, WordFault>
+    ensures { ReadAs (map (λ word. word.now) words.now) result }
+{
+    match usage(alloc)?.try_get_matches_from(words) {
+        Ok(matches) => read_command(alloc, &matches),
+        Err(error) => Err(usage_fault(alloc, &error)),
+    }
+}
+
+/// What `clap` refuses, or shows when it is asked for help.
+fn usage_fault(alloc: Global, error: &clap::Error) -> WordFault
+    ensures memory { kind_of error.now ≡ ErrorKind.OutOfMemory → result ≡ WordFault.Memory }
+    ensures told { result ≢ WordFault.Memory → IsUsageFault (kind_of error.now) result }
+{
+    if matches!(error.kind(), ErrorKind::OutOfMemory) {
+        return WordFault::Memory;
+    }
+    let help = !error.use_stderr();
+    match format!(in alloc; "{error}") {
+        Ok(text) => WordFault::Usage { text, help },
+        Err(AllocError) => WordFault::Memory,
+    }
+}
