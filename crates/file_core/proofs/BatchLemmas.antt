@@ -1,64 +1,141 @@
--- Rows that records say in turn: one more of them, and what they give a layer.
-use Rattle.std.proofs.Common.{◌≡◌, ◌≢◌, ◌∙◌, ◌+◌, ◌<◌, ℕ, Bool, true, false, List, [], ◌∷◌, ◌++◌, All, length, Result, Ok, Err, refl, sym, ap, arith, subst}
+-- Rows that records say in turn: more of them, and what they give a layer.
+use Rattle.std.proofs.Common.{◌≡◌, ◌≢◌, ◌∙◌, ◌+◌, ◌<◌, ℕ, Bool, true, false, List, [], ◌∷◌, ◌++◌, All, length, Option, Some, None, Result, Ok, Err, refl, sym, ap, inl, inr, arith, append_assoc}
+use Rattle.std.specs.declared.alloc.Global.{Global}
+use Rattle.std.specs.declared.vec.Vec.{Vec}
+use Rattle.geom_core.specs.declared.shape.Shape.{Shape}
+use Rattle.wkt_core.specs.declared.fault.WktFault.{WktFault}
 use Rattle.wkt_core.specs.declared.scale.Scale.{Scale}
 use Rattle.file_core.specs.declared.layer_row.ReadRow.{ReadRow}
 use Rattle.file_core.specs.declared.read_fault.ReadFault.{ReadFault}
 use Rattle.file_core.specs.declared.read_fault.ReadFault.TheVariants.{Io, Memory}
-use Rattle.file_core.specs.declared.rows.Rows.{Rows}
-use Rattle.file_core.specs.Batches.{HasFault, HasId, IsBatch, SayInTurn, if_given, with_rows}
-use Rattle.file_core.specs.LayerFiles.{LayerRowGives, with_row}
-use Rattle.file_core.specs.LayerRows.{RowSays, content_of}
-use Rattle.layer_core.specs.Layers.{Contents}
+use Rattle.file_core.specs.declared.rows.Rows.{Rows as RowsOf}
+use Rattle.file_core.specs.declared.unread.Unread.{Unread}
+use Rattle.file_core.specs.declared.unread.Unread.TheVariants.{Rows}
+use Rattle.file_core.specs.Batches.{HasFault, HasId, IsBatch, SayInTurn, all_rows, if_given, with_rows}
+use Rattle.file_core.specs.LayerFiles.{LayerRowGives, refused_or, with_row}
+use Rattle.file_core.specs.LayerRows.{RowContent, RowSays, Says, content_of, content_with}
+use Rattle.layer_core.specs.declared.fault.LayerFault.{LayerFault}
+use Rattle.layer_core.specs.Layers.{Contents, inserted}
+use Rattle.layer_core.specs.Refusals.{insert_refusal}
 use Rattle.file_core.specs.Records.{Record}
 use Rattle.file_core.specs.Rows.{RowsGive, rows_left}
+use Rattle.file_core.specs.Unread.{count_unread, records_unread}
+
+-- ---- the layer with some rows
+
+-- a row that is inserted uses a number
+with_row-next : (n : ℕ) (layer : Contents) (row : RowContent) (next : Contents) → with_row n layer (Ok row) ≡ Ok next → next.next ≡ layer.next + 1
+with_row-next n layer row next given = by (insert_refusal layer row.id) given
+  where
+    by : (fault : Option LayerFault) → refused_or n fault (inserted layer row.id row.shape) ≡ Ok next → next.next ≡ layer.next + 1
+    by (Some fault) is = let none = is in cc
+    by None is = let same : inserted layer row.id row.shape ≡ next = cc in sym (ap (λ l. l.next) same)
+
+pub with_rows-append : (layer : Contents) (a b : List ReadRow) → with_rows layer (a ++ b) ≡ if_given (with_rows layer a) (λ l. with_rows l b)
+with_rows-append layer [] b = refl
+with_rows-append layer (row ∷ a) b = by (with_row (layer.next + 1) layer (Ok (content_of row))) (λ l. with_rows-append l a b)
+  where
+    by : (w : Result Contents ReadFault) → ((l : Contents) → with_rows l (a ++ b) ≡ if_given (with_rows l a) (λ l. with_rows l b))
+        → if_given w (λ l. with_rows l (a ++ b)) ≡ if_given (if_given w (λ l. with_rows l a)) (λ l. with_rows l b)
+    by (Ok l) more = more l
+    by (Err fault) more = refl
+
+pub with_rows-next : (layer : Contents) (rows : List ReadRow) (next : Contents) → with_rows layer rows ≡ Ok next → next.next ≡ layer.next + length rows
+with_rows-next layer [] next given = let same : layer ≡ next = cc in omega (arith, ap (λ l. l.next) same)
+with_rows-next layer (row ∷ rows) next given =
+    by (with_row (layer.next + 1) layer (Ok (content_of row))) refl given (λ l more. with_rows-next l rows next more)
+  where
+    by : (w : Result Contents ReadFault) → with_row (layer.next + 1) layer (Ok (content_of row)) ≡ w → if_given w (λ l. with_rows l rows) ≡ Ok next
+        → ((l : Contents) → with_rows l rows ≡ Ok next → next.next ≡ l.next + length rows) → next.next ≡ layer.next + length (row ∷ rows)
+    by (Ok l) is given more = omega (arith, more l given, with_row-next (layer.next + 1) layer (content_of row) l is)
+    by (Err fault) is given more = let none = given in cc
+
+pub all_rows-append : (a b : List (Vec ReadRow Global)) → all_rows (a ++ b) ≡ all_rows a ++ all_rows b
+all_rows-append [] b = refl
+all_rows-append (rows ∷ a) b = ap (λ others. rows.items ++ others) (all_rows-append a b) ∙ sym (append_assoc rows.items (all_rows a) (all_rows b))
 
 module _ (scale : Scale) where
+  -- ---- what records say
+
+  -- what a row says doesn't depend on its number
+  pub says-any : (n : ℕ) (fields : Record) (content : RowContent) → RowSays scale n fields (Ok content) → Says scale fields content
+  says-any n [] content says m = let none = says in cc
+  says-any n (id ∷ []) content says m = let none = says in cc
+  says-any n (id ∷ wkt ∷ other ∷ others) content says m = let none = says in cc
+  says-any n (id ∷ wkt ∷ []) content (inl (bad, is)) m = let none = is in cc
+  says-any n (id ∷ wkt ∷ []) content (inr (good, (shape, reads, is))) m = inr (good, (shape, reads, by shape is))
+    where
+      by : (shape : Result Shape WktFault) → Ok content ≡ content_with n id shape → Ok content ≡ content_with m id shape
+      by (Ok s) is = is
+      by (Err fault) is = let none = is in cc
+
   -- one more row
-  pub say-push : (n m : ℕ) (records : List Record) (rows : List ReadRow) (first : Record) (row : ReadRow) (left : List Record)
-      → SayInTurn scale n records rows (first ∷ left) → n + length rows ≡ m → row.number ≡ m → RowSays scale m first (Ok (content_of row))
-      → SayInTurn scale n records (rows ++ row ∷ []) left
-  say-push n m records [] first row left say at number says =
-      let same : m ≡ n = omega arith in
-      rw say (number ∙ same, subst (λ (k : ℕ). RowSays scale k first (Ok (content_of row))) same says, refl)
-  say-push n m [] (r ∷ rows) first row left say at number says = absurd say
-  say-push n m (other ∷ records) (r ∷ rows) first row left say at number says =
-      (say.0, say.1, say-push (n + 1) m records rows first row left say.2 (omega arith) number says)
+  pub say-push : (records : List Record) (rows : List ReadRow) (first : Record) (row : ReadRow) (left : List Record)
+      → SayInTurn scale records rows (first ∷ left) → Says scale first (content_of row) → SayInTurn scale records (rows ++ row ∷ []) left
+  say-push records [] first row left say says = rw say (says, refl)
+  say-push [] (r ∷ rows) first row left say says = absurd say
+  say-push (other ∷ records) (r ∷ rows) first row left say says = (say.0, say-push records rows first row left say.1 says)
+
+  -- the rows of two texts
+  pub say-append : (a b : List Record) (rows others : List ReadRow) (left : List Record)
+      → SayInTurn scale a rows [] → SayInTurn scale b others left → SayInTurn scale (a ++ b) (rows ++ others) left
+  say-append a b [] others left say more = rw say more
+  say-append [] b (r ∷ rows) others left say more = absurd say
+  say-append (first ∷ a) b (r ∷ rows) others left say more = (say.0, say-append a b rows others left say.1 more)
+
+  -- and then what is left
+  pub say-then : (a b : List Record) (rows : List ReadRow) → SayInTurn scale a rows [] → SayInTurn scale (a ++ b) rows b
+  say-then a b [] say = rw say refl
+  say-then [] b (r ∷ rows) say = absurd say
+  say-then (first ∷ a) b (r ∷ rows) say = (say.0, say-then a b rows say.1)
+
+  pub say-length : (records : List Record) (rows : List ReadRow) (left : List Record) → SayInTurn scale records rows left
+      → length records ≡ length rows + length left
+  say-length records [] left say = omega (arith, ap length say)
+  say-length [] (r ∷ rows) left say = absurd say
+  say-length (first ∷ records) (r ∷ rows) left say = omega (arith, say-length records rows left say.1)
+
+  -- ---- what a layer is given
 
   -- a layer that takes these rows, and then what is left
   pub say-give : (n m : ℕ) (records : List Record) (rows : List ReadRow) (left : List Record) (layer next : Contents) (answer : Result Contents ReadFault)
-      → SayInTurn scale n records rows left → n + length rows ≡ m → with_rows layer rows ≡ Ok next
+      → SayInTurn scale records rows left → n ≡ layer.next + 1 → n + length rows ≡ m → with_rows layer rows ≡ Ok next
       → RowsGive (LayerRowGives scale) m next left answer → RowsGive (LayerRowGives scale) n layer records answer
-  say-give n m records [] left layer next answer say at given gives =
+  say-give n m records [] left layer next answer say at sum given gives =
       let same : m ≡ n = omega arith in
       let layers : next ≡ layer = cc in
       rw (say, ← same, ← layers) gives
-  say-give n m [] (r ∷ rows) left layer next answer say at given gives = absurd say
-  say-give n m (first ∷ records) (r ∷ rows) left layer next answer say at given gives =
-      by (with_row n layer (Ok (content_of r))) refl (rw say.0 at given)
-      (λ l more. say-give (n + 1) m records rows left l next answer say.2 (omega arith) more gives)
+  say-give n m [] (r ∷ rows) left layer next answer say at sum given gives = absurd say
+  say-give n m (first ∷ records) (r ∷ rows) left layer next answer say at sum given gives =
+      by (with_row n layer (Ok (content_of r))) refl (ap (λ k. if_given (with_row k layer (Ok (content_of r))) (λ l. with_rows l rows)) at ∙ given)
+      (λ l is more. say-give (n + 1) m records rows left l next answer say.1
+      (omega (arith, with_row-next n layer (content_of r) l is)) (omega arith) more gives)
     where
       by : (w : Result Contents ReadFault) → with_row n layer (Ok (content_of r)) ≡ w
           → if_given (with_row n layer (Ok (content_of r))) (λ l. with_rows l rows) ≡ Ok next
-          → ((l : Contents) → with_rows l rows ≡ Ok next → RowsGive (LayerRowGives scale) (n + 1) l records answer)
+          → ((l : Contents) → with_row n layer (Ok (content_of r)) ≡ Ok l → with_rows l rows ≡ Ok next
+          → RowsGive (LayerRowGives scale) (n + 1) l records answer)
           → RowsGive (LayerRowGives scale) n layer (first ∷ records) answer
-      by (Ok l) is given later = (Ok l, (Ok (content_of r), say.1, sym is), later l (rw is at given))
+      by (Ok l) is given later = (Ok l, (Ok (content_of r), say.0 n, sym is), later l is (rw is at given))
       by (Err f) is given later = let none = rw is at given in cc
 
   -- a layer that refuses one of these rows
   pub say-refuse : (n : ℕ) (records : List Record) (rows : List ReadRow) (left : List Record) (layer : Contents) (fault : ReadFault)
-      → SayInTurn scale n records rows left → with_rows layer rows ≡ Err fault → RowsGive (LayerRowGives scale) n layer records (Err fault)
-  say-refuse n records [] left layer fault say given = let none = given in cc
-  say-refuse n [] (r ∷ rows) left layer fault say given = absurd say
-  say-refuse n (first ∷ records) (r ∷ rows) left layer fault say given =
-      by (with_row n layer (Ok (content_of r))) refl (rw say.0 at given)
-      (λ l more. say-refuse (n + 1) records rows left l fault say.2 more)
+      → SayInTurn scale records rows left → n ≡ layer.next + 1 → with_rows layer rows ≡ Err fault
+      → RowsGive (LayerRowGives scale) n layer records (Err fault)
+  say-refuse n records [] left layer fault say at given = let none = given in cc
+  say-refuse n [] (r ∷ rows) left layer fault say at given = absurd say
+  say-refuse n (first ∷ records) (r ∷ rows) left layer fault say at given =
+      by (with_row n layer (Ok (content_of r))) refl (ap (λ k. if_given (with_row k layer (Ok (content_of r))) (λ l. with_rows l rows)) at ∙ given)
+      (λ l is more. say-refuse (n + 1) records rows left l fault say.1 (omega (arith, with_row-next n layer (content_of r) l is)) more)
     where
       by : (w : Result Contents ReadFault) → with_row n layer (Ok (content_of r)) ≡ w
           → if_given (with_row n layer (Ok (content_of r))) (λ l. with_rows l rows) ≡ Err fault
-          → ((l : Contents) → with_rows l rows ≡ Err fault → RowsGive (LayerRowGives scale) (n + 1) l records (Err fault))
+          → ((l : Contents) → with_row n layer (Ok (content_of r)) ≡ Ok l → with_rows l rows ≡ Err fault
+          → RowsGive (LayerRowGives scale) (n + 1) l records (Err fault))
           → RowsGive (LayerRowGives scale) n layer (first ∷ records) (Err fault)
-      by (Ok l) is given later = (Ok l, (Ok (content_of r), say.1, sym is), later l (rw is at given))
-      by (Err f) is given later = (Err f, (Ok (content_of r), say.1, sym is), sym (rw is at given))
+      by (Ok l) is given later = (Ok l, (Ok (content_of r), say.0 n, sym is), later l is (rw is at given))
+      by (Err f) is given later = (Err f, (Ok (content_of r), say.0 n, sym is), sym (rw is at given))
 
   -- a row that has a fault by itself
   pub fault-gives : (n : ℕ) (records : List Record) (layer : Contents) (fault : ReadFault) → HasFault scale n records fault
@@ -66,9 +143,9 @@ module _ (scale : Scale) where
   fault-gives n [] layer fault has = absurd has
   fault-gives n (first ∷ records) layer fault has = (Err fault, (Err fault, has, refl), refl)
 
--- what ends a batch
-module _ (scale : Scale) (old new : Rows) (read : List ReadRow) (left : List Record)
-    (say : SayInTurn scale (old.count + 1) (rows_left old) read left) (ids : All HasId read) where
+-- ---- what ends a batch
+module _ (scale : Scale) (old new : Unread) (read : List ReadRow) (left : List Record)
+    (say : SayInTurn scale (records_unread old) read left) (ids : All HasId read) where
   -- memory was refused
   pub batch-refused : IsBatch scale old read (Err Memory) new
   batch-refused = record { left = left; rows = say; behind = λ other. absurd (other refl); ids = ids; no_io = λ e. cc }
@@ -78,53 +155,66 @@ module _ (scale : Scale) (old new : Rows) (read : List ReadRow) (left : List Rec
   batch-ended none = record { left = left; rows = say; behind = none; ids = ids; no_io = λ e. cc }
 
   -- the first row that is left has a fault of its own, or memory was refused
-  pub batch-faulty : (fault : ReadFault) → fault ≢ Io → (fault ≢ Memory → HasFault scale (old.count + 1 + length read) left fault)
+  pub batch-faulty : (fault : ReadFault) → fault ≢ Io → (fault ≢ Memory → HasFault scale (count_unread old + 1 + length read) left fault)
       → IsBatch scale old read (Err fault) new
   batch-faulty fault no_io has = record { left = left; rows = say; behind = has; ids = ids; no_io = λ e. no_io cc }
 
+-- rows that a reader reads are those that were left
+pub batch-begun : (scale : Scale) (old : Unread) (first new : RowsOf) (read : List ReadRow) (more : Result Bool ReadFault)
+    → rows_left first ≡ records_unread old → first.count ≡ count_unread old → IsBatch scale (Rows first) read more (Rows new)
+    → IsBatch scale old read more (Rows new)
+batch-begun scale old first new read more rows count batch = record {
+  left = batch.left;
+  rows = rw (← rows) batch.rows;
+  behind = rw (← count) batch.behind;
+  ids = batch.ids;
+  no_io = batch.no_io;
+}
+
 -- how many rounds are still to come, at most
-abbrev pub most_rounds : Rows → Result Bool ReadFault → ℕ
-most_rounds rows (Ok true) = length (rows_left rows) + 1
-most_rounds rows (Ok false) = 0
-most_rounds rows (Err fault) = 0
+abbrev pub most_rounds : Unread → Result Bool ReadFault → ℕ
+most_rounds unread (Ok true) = length (records_unread unread) + 1
+most_rounds unread (Ok false) = 0
+most_rounds unread (Err fault) = 0
 
 -- what a layer is given by a batch and what is behind it
 module _ (scale : Scale) where
   -- the rows that are left give a layer this
-  abbrev pub Gives : Rows → Contents → Result Contents ReadFault → Type 0
-  Gives rows layer answer = RowsGive (LayerRowGives scale) (rows.count + 1) layer (rows_left rows) answer
+  abbrev pub Gives : Unread → Contents → Result Contents ReadFault → Type 0
+  Gives unread layer answer = RowsGive (LayerRowGives scale) (count_unread unread + 1) layer (records_unread unread) answer
 
-  say-length : (n : ℕ) (records : List Record) (rows : List ReadRow) (left : List Record) → SayInTurn scale n records rows left
-      → length records ≡ length rows + length left
-  say-length n records [] left say = omega (arith, ap length say)
-  say-length n [] (r ∷ rows) left say = absurd say
-  say-length n (first ∷ records) (r ∷ rows) left say = omega (arith, say-length (n + 1) records rows left say.2)
-
-  module _ (old new : Rows) (read : List ReadRow) where
-    pub batch-smaller : (more : Result Bool ReadFault) → IsBatch scale old read more new → most_rounds new more < length (rows_left old) + 1
+  module _ (old new : Unread) (read : List ReadRow) where
+    pub batch-smaller : (more : Result Bool ReadFault) → IsBatch scale old read more new → most_rounds new more < length (records_unread old) + 1
     batch-smaller (Ok true) batch =
-        omega (arith, say-length (old.count + 1) (rows_left old) read batch.left batch.rows, ap length batch.behind.1, batch.behind.3)
+        omega (arith, say-length scale (records_unread old) read batch.left batch.rows, ap length batch.behind.1, batch.behind.3)
     batch-smaller (Ok false) batch = omega arith
     batch-smaller (Err fault) batch = omega arith
 
-    pub batch-refuses : (layer : Contents) (more : Result Bool ReadFault) (fault : ReadFault) → IsBatch scale old read more new
-        → with_rows layer read ≡ Err fault → Gives old layer (Err fault)
-    batch-refuses layer more fault batch given = say-refuse scale (old.count + 1) (rows_left old) read batch.left layer fault batch.rows given
+    module _ (layer : Contents) (at : count_unread old ≡ layer.next) where
+      pub batch-refuses : (more : Result Bool ReadFault) (fault : ReadFault) → IsBatch scale old read more new
+          → with_rows layer read ≡ Err fault → Gives old layer (Err fault)
+      batch-refuses more fault batch given =
+          say-refuse scale (count_unread old + 1) (records_unread old) read batch.left layer fault batch.rows (omega arith) given
 
-    module _ (layer next : Contents) where
-      pub batch-goes-on : (answer : Result Contents ReadFault) → IsBatch scale old read (Ok true) new → with_rows layer read ≡ Ok next
-          → Gives new next answer → Gives old layer answer
-      batch-goes-on answer batch given gives =
-          say-give scale (old.count + 1) (new.count + 1) (rows_left old) read batch.left layer next answer batch.rows batch.behind.2 given
-          (rw batch.behind.1 gives)
+      module _ (next : Contents) where
+        pub batch-goes-on : (answer : Result Contents ReadFault) → IsBatch scale old read (Ok true) new → with_rows layer read ≡ Ok next
+            → Gives new next answer → Gives old layer answer
+        batch-goes-on answer batch given gives =
+            say-give scale (count_unread old + 1) (count_unread new + 1) (records_unread old) read batch.left layer next answer batch.rows
+            (omega arith) batch.behind.2 given (rw batch.behind.1 gives)
 
-      pub batch-ends : IsBatch scale old read (Ok false) new → with_rows layer read ≡ Ok next → Gives old layer (Ok next)
-      batch-ends batch given =
-          say-give scale (old.count + 1) (old.count + 1 + length read) (rows_left old) read batch.left layer next (Ok next) batch.rows refl given
-          (rw batch.behind refl)
+        pub batch-ends : IsBatch scale old read (Ok false) new → with_rows layer read ≡ Ok next → Gives old layer (Ok next)
+        batch-ends batch given =
+            say-give scale (count_unread old + 1) (count_unread old + 1 + length read) (records_unread old) read batch.left layer next (Ok next)
+            batch.rows (omega arith) refl given (rw batch.behind refl)
 
-      pub batch-fails : (fault : ReadFault) → IsBatch scale old read (Err fault) new → fault ≢ Memory → with_rows layer read ≡ Ok next
-          → Gives old layer (Err fault)
-      batch-fails fault batch known given =
-          say-give scale (old.count + 1) (old.count + 1 + length read) (rows_left old) read batch.left layer next (Err fault) batch.rows refl given
-          (fault-gives scale (old.count + 1 + length read) batch.left next fault (batch.behind known))
+        pub batch-fails : (fault : ReadFault) → IsBatch scale old read (Err fault) new → fault ≢ Memory → with_rows layer read ≡ Ok next
+            → Gives old layer (Err fault)
+        batch-fails fault batch known given =
+            say-give scale (count_unread old + 1) (count_unread old + 1 + length read) (records_unread old) read batch.left layer next (Err fault)
+            batch.rows (omega arith) refl given
+            (fault-gives scale (count_unread old + 1 + length read) batch.left next fault (batch.behind known))
+
+        -- the layer has as many features more as rows were read
+        pub batch-counted : IsBatch scale old read (Ok true) new → with_rows layer read ≡ Ok next → count_unread new ≡ next.next
+        batch-counted batch given = omega (arith, with_rows-next layer read next given, batch.behind.2)

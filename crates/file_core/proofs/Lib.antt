@@ -1,5 +1,7 @@
 pub mod RecordLemmas
+pub mod CutLemmas
 pub mod FieldLemmas
 pub mod HeaderLemmas
 pub mod FileLemmas
 pub mod BatchLemmas
+pub mod PartLemmas

@@ -1,18 +1,20 @@
 -- Rows that are read together, and the layer with all of them.
-use Rattle.std.specs.Prelude.{◌≡◌, ◌≢◌, ◌+◌, ◌<◌, ℕ, Bool, true, false, List, [], ◌∷◌, length, All}
+use Rattle.std.specs.Prelude.{◌≡◌, ◌≢◌, ◌+◌, ◌<◌, ◌++◌, ℕ, Bool, true, false, List, [], ◌∷◌, length, All}
 use Rattle.std.specs.Prelude.{IsTrue, Result, Ok, Err}
+use Rattle.std.specs.declared.alloc.Global.{Global}
+use Rattle.std.specs.declared.vec.Vec.{Vec}
 use Rattle.wkt_core.specs.declared.scale.Scale.{Scale}
 use Rattle.file_core.specs.declared.layer_row.ReadRow.{ReadRow}
 use Rattle.file_core.specs.declared.read_fault.ReadFault.{ReadFault}
 use Rattle.file_core.specs.declared.read_fault.ReadFault.TheVariants.{Io, Memory}
-use Rattle.file_core.specs.declared.rows.Rows.{Rows}
+use Rattle.file_core.specs.declared.unread.Unread.{Unread}
 use Rattle.file_core.specs.LayerFiles.{with_row}
-use Rattle.file_core.specs.LayerRows.{RowSays, content_of}
+use Rattle.file_core.specs.LayerRows.{RowSays, Says, content_of}
 use Rattle.layer_core.specs.Ids.{id_bytes}
 use Rattle.layer_core.specs.Layers.{Contents}
 use Rattle.file_core.specs.Records.{Record}
 use Rattle.layer_core.specs.Refusals.{is_id}
-use Rattle.file_core.specs.Rows.{rows_left, IsReading}
+use Rattle.file_core.specs.Unread.{IsUnread, count_unread, records_unread}
 
 -- the row's id has as many bytes as an id may have
 abbrev pub HasId : ReadRow → Type 0
@@ -24,24 +26,29 @@ abbrev pub if_given : Result Contents ReadFault → (Contents → Result Content
 if_given (Ok layer) next = next layer
 if_given (Err fault) next = Err fault
 
--- the layer with these rows in turn, or the fault of the first that it refuses
+-- the layer with these rows in turn, or the fault of the first that it refuses: each row before it
+-- has inserted a feature
 abbrev pub with_rows : Contents → List ReadRow → Result Contents ReadFault
 with_rows layer [] = Ok layer
 with_rows layer (row ∷ rows) =
-    if_given (with_row row.number layer (Ok (content_of row))) (λ l. with_rows l rows)
+    if_given (with_row (layer.next + 1) layer (Ok (content_of row))) (λ l. with_rows l rows)
+
+-- the rows of all parts
+abbrev pub all_rows : List (Vec ReadRow Global) → List ReadRow
+all_rows [] = []
+all_rows (rows ∷ parts) = rows.items ++ all_rows parts
 
 -- the layer with these rows or the fault is answered, running out of memory aside
 abbrev pub AnswersRows : Contents → List ReadRow → Result Contents ReadFault → Type 0
 AnswersRows layer rows answer =
     (answer ≢ Err Memory → with_rows layer rows ≡ answer) × (answer ≢ Err Io)
 
--- the first of these records, numbered from n, say these rows in turn, and the others are left
-abbrev pub SayInTurn : Scale → ℕ → List Record → List ReadRow → List Record → Type 0
-SayInTurn scale n records [] left = records ≡ left
-SayInTurn scale n [] (row ∷ rows) left = ⊥
-SayInTurn scale n (first ∷ records) (row ∷ rows) left =
-    (row.number ≡ n) × RowSays scale n first (Ok (content_of row))
-    × SayInTurn scale (n + 1) records rows left
+-- the first of these records say these rows in turn, and the others are left
+abbrev pub SayInTurn : Scale → List Record → List ReadRow → List Record → Type 0
+SayInTurn scale records [] left = records ≡ left
+SayInTurn scale [] (row ∷ rows) left = ⊥
+SayInTurn scale (first ∷ records) (row ∷ rows) left =
+    Says scale first (content_of row) × SayInTurn scale records rows left
 
 -- the first of these records, which has this number, has this fault by itself
 abbrev pub HasFault : Scale → ℕ → List Record → ReadFault → Type 0
@@ -50,19 +57,20 @@ HasFault scale n (row ∷ rows) fault = RowSays scale n row (Err fault)
 
 -- what is behind the rows that were read, where the next row has this number: rows that weren't
 -- read or none, certainly none, or a row with this fault
-abbrev pub IsBehind : Scale → ℕ → List ReadRow → Result Bool ReadFault → List Record → Rows
+abbrev pub IsBehind : Scale → ℕ → List ReadRow → Result Bool ReadFault → List Record → Unread
     → Type 0
 IsBehind scale n read (Ok true) left new =
-    IsReading new × (left ≡ rows_left new) × (n ≡ new.count + 1) × (0 < length read)
+    IsUnread new × (left ≡ records_unread new) × (n ≡ count_unread new + 1) × (0 < length read)
 IsBehind scale n read (Ok false) left new = left ≡ []
 IsBehind scale n read (Err fault) left new = fault ≢ Memory → HasFault scale n left fault
 
 -- a batch: these rows were read, and this is what was found behind them
 pub record IsBatch
-    (scale : Scale) (old : Rows) (read : List ReadRow) (more : Result Bool ReadFault) (new : Rows)
+    (scale : Scale) (old : Unread) (read : List ReadRow) (more : Result Bool ReadFault)
+    (new : Unread)
     : Type 0 where
   pub left : List Record
-  pub rows : SayInTurn scale (old.count + 1) (rows_left old) read left
-  pub behind : IsBehind scale (old.count + 1 + length read) read more left new
+  pub rows : SayInTurn scale (records_unread old) read left
+  pub behind : IsBehind scale (count_unread old + 1 + length read) read more left new
   pub ids : All HasId read
   pub no_io : more ≢ Err Io

@@ -31,3 +31,7 @@ RowSays scale n (id ∷ wkt ∷ []) content =
     ((shape : Result Shape WktFault) × Reads scale wkt shape
     × (content ≡ content_with n id shape))
 RowSays scale n _ content = content ≡ Err (Row n)
+
+-- the row says this, whatever its number is
+abbrev pub Says : Scale → Record → RowContent → Type 0
+Says scale row content = (n : ℕ) → RowSays scale n row (Ok content)

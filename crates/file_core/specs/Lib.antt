@@ -1,10 +1,13 @@
 pub mod Batches
+pub mod Cuts
 pub mod EditFiles
 pub mod FaultTexts
 pub mod Fields
 pub mod LayerFiles
 pub mod LayerRows
 pub mod Limits
+pub mod Parts
 pub mod Records
 pub mod Rows
 pub mod Sources
+pub mod Unread

@@ -1,5 +1,5 @@
 -- The rows of a CSV file: what they give together, and how they are read in turn.
-use Rattle.std.specs.Prelude.{◌≡◌, ◌≤◌, ◌+◌, ◌⊎◌, ℕ, List, [], ◌∷◌, length, map, nat_lt, Result, Ok}
+use Rattle.std.specs.Prelude.{◌≡◌, ◌≤◌, ◌+◌, ◌⊎◌, ℕ, false, List, [], ◌∷◌, length, map, nat_lt, Result, Ok}
 use Rattle.std.specs.Prelude.{Err, MatchResult}
 use Rattle.std.specs.Bool.{MatchBool}
 use Rattle.std.specs.Char.{to_ascii_lowercase}
@@ -7,6 +7,7 @@ use Rattle.csv.specs.Records.{fields_of}
 use Rattle.file_core.specs.declared.read_fault.ReadFault.{ReadFault}
 use Rattle.file_core.specs.declared.read_fault.ReadFault.TheVariants.{TooLong, Header}
 use Rattle.file_core.specs.declared.rows.Rows.{Rows}
+use Rattle.file_core.specs.Cuts.{IsClosed}
 use Rattle.file_core.specs.Limits.{most_file_bytes}
 use Rattle.file_core.specs.Records.{Record, records_of, records_left, IsBetweenRecords}
 
@@ -57,20 +58,35 @@ last_row rows = fields_of rows.row
 abbrev pub rows_left : Rows → List Record
 rows_left rows = records_left rows.reader
 
--- the reader stands between two rows, and no file has more rows than bytes
+-- no row has a greater number
+abbrev pub most_rows : ℕ
+most_rows = 4294967295
+
+-- the reader stands between two rows, and those that are left can be numbered
 pub record IsReading (rows : Rows) : Type 0 where
   pub reader : IsBetweenRecords rows.reader
-  pub few : rows.count + length (rows_left rows) ≤ most_file_bytes
+  pub few : rows.count + length (rows_left rows) ≤ most_rows
 
--- the rows of a file of these columns, none of which was read
+-- the rows of a file of these columns, none of which was read, behind this header
 pub record IsOpened (columns : List (List ℕ)) (bytes : List ℕ) (rows : Rows) : Type 0 where
   pub behind_header : AreRows columns bytes (Ok (rows_left rows))
+  pub header : Record
+  pub headed : IsHeader columns header
+  pub records : records_of bytes ≡ header ∷ rows_left rows
+  pub closed : rows.unended ≡ false → IsClosed header
+  pub few : length (rows_left rows) ≤ most_file_bytes
   pub none_read : rows.count ≡ 0
   pub reading : IsReading rows
+
+-- no row was left
+pub record IsEnded (old new : Rows) : Type 0 where
+  pub none_left : rows_left old ≡ []
+  pub same : new.unended ≡ old.unended
 
 -- the first row left was read, and this is its number
 pub record ReadsRow (old : Rows) (number : ℕ) (new : Rows) : Type 0 where
   pub row : rows_left old ≡ last_row new ∷ rows_left new
   pub numbered : number ≡ old.count + 1
   pub counted : new.count ≡ number
+  pub closed : new.unended ≡ false → (old.unended ≡ false) × IsClosed (last_row new)
   pub reading : IsReading new

@@ -1,52 +1,76 @@
 //! Batches of rows, which are read ahead of their insertion.
-ghost use Rattle.std.specs.Prelude.{◌≡◌, [], All};
-ghost use Rattle.file_core.specs.Batches.{HasId, AnswersRows, IsBatch};
-ghost use Rattle.file_core.specs.Rows.{IsReading};
+ghost use Rattle.std.specs.Prelude.{◌≡◌, ◌<◌, [], false, All, IfSome, Ok};
+ghost use Rattle.file_core.specs.Batches.{HasId, AnswersRows, IsBatch, all_rows};
+ghost use Rattle.file_core.specs.Cuts.{IsClosed};
+ghost use Rattle.file_core.specs.Rows.{IsReading, rows_left};
+ghost use Rattle.file_core.specs.Unread.{IsUnread};
 
-use crate::insertion::add_rows;
+use crate::cuts::{cut, is_plain};
+use crate::insertion::add_parts;
 use crate::layer_row::{ReadRow, read_row};
+use crate::parts::{Parts, ReadParts};
 use crate::read_fault::ReadFault;
 use crate::rows::Rows;
+use crate::unread::Unread;
 use layer_core::Loading;
 use std::alloc::Global;
 use std::thread;
 use std::thread::Threads;
 use wkt_core::Scale;
 
-/// How many rows a batch has where more may follow.
+// How many rows one after another a batch has where more may follow.
 const BATCH_ROWS: usize = 16_384;
 
-/// Consecutive rows of a file.
+// About how many bytes a part has.
+const PART_BYTES: usize = 524_288;
+
+// How few bytes are worth threads.
+const LEAST_ROUND: usize = 65_536;
+
+/// Consecutive rows of a file, part by part.
 #[derive(Drop)]
 pub(crate) struct Batch {
-    pub(crate) rows: Vec<ReadRow>,
+    pub(crate) rows: Vec<Vec<ReadRow>>,
     /// Whether there may be more rows behind them, or the fault of the next row.
     pub(crate) more: Result<bool, ReadFault>,
 }
 
-/// Reads the next rows.
-pub(crate) fn read_batch(alloc: Global, rows: &mut Rows, scale: Scale) -> Batch
-    requires { IsReading rows.old }
-    ensures { IsBatch scale rows.old result.rows.items result.more rows.new }
+// Reads the next rows, one after another.
+fn read_batch<'a>(alloc: Global, unread: Unread<'a>, scale: Scale) -> (Unread<'a>, Batch)
+    requires { IsUnread unread }
+    ensures { IsBatch scale unread.entry (all_rows result.1.rows.items) result.1.more result.0 }
 {
+    let mut rows = unread.into_rows(alloc);
+    let mut parts = Vec::new(alloc);
+    if parts.reserve(1).is_err() {
+        let more = Err(ReadFault::Memory);
+        return (Unread::Rows(rows), Batch { rows: parts, more });
+    }
     let mut read = Vec::new(alloc);
-    let more = fill(alloc, &mut read, rows, scale);
-    Batch { rows: read, more }
+    let more = fill(alloc, &mut read, &mut rows, scale, BATCH_ROWS);
+    parts.push_reserved(read);
+    (Unread::Rows(rows), Batch { rows: parts, more })
 }
 
-// Reads the next rows into a list that is empty, and says whether there may be more.
-fn fill(
+/// Reads the next rows, at most so many, into a list that is empty, and says whether there may be
+/// more.
+pub(crate) fn fill(
     alloc: Global,
     read: &mut Vec<ReadRow>,
     rows: &mut Rows,
     scale: Scale,
+    most: usize,
 ) -> Result<bool, ReadFault>
     requires empty { read.old.items ≡ [] }
     requires reading { IsReading rows.old }
-    ensures { IsBatch scale rows.old read.new.items result rows.new }
+    requires some { 0 < most }
+    ensures batch { IsBatch scale (Unread.Rows rows.old) read.new.items result
+        (Unread.Rows rows.new) }
+    ensures closed { result ≡ Ok false → rows.new.unended ≡ false
+        → All IsClosed (rows_left rows.old) }
 {
-    read.reserve(BATCH_ROWS)?;
-    for _ in 0..BATCH_ROWS {
+    read.reserve(most)?;
+    for _ in 0..most {
         let Some(number) = rows.next()? else {
             return Ok(false);
         };
@@ -55,21 +79,75 @@ fn fill(
     Ok(true)
 }
 
+// Reads the next rows, as many parts of their text as `parts` reads, and otherwise one after
+// another.
+fn read_ahead<'a, P: ReadParts>(
+    alloc: Global,
+    unread: Unread<'a>,
+    scale: Scale,
+    parts: &P,
+) -> (Unread<'a>, Batch)
+    requires { IsUnread unread }
+    ensures { IsBatch scale unread.entry (all_rows result.1.rows.items) result.1.more result.0 }
+{
+    match read_parts(alloc, &unread, scale, parts) {
+        Some((behind, batch)) => (behind, batch),
+        None => read_batch(alloc, unread, scale),
+    }
+}
+
+// The next rows, read as parts, where they are those of a text that isn't short.
+fn read_parts<'a, P: ReadParts>(
+    alloc: Global,
+    unread: &Unread<'a>,
+    scale: Scale,
+    parts: &P,
+) -> Option<(Unread<'a>, Batch)>
+    requires { IsUnread unread.now }
+    ensures { IfSome result (λ read.
+        IsBatch scale unread.now (all_rows read.1.rows.items) read.1.more read.0) }
+{
+    let Unread::Text(text, count) = unread else {
+        return None;
+    };
+    let (round, rest) = cut(text, parts.count().saturating_mul(PART_BYTES));
+    if round.len() < LEAST_ROUND || !is_plain(rest) {
+        return None;
+    }
+    let Parts { rows, count: read } = parts.read(alloc, scale, round)?;
+    let behind = count.checked_add(read)?;
+    if read == 0 {
+        return None;
+    }
+    let batch = Batch {
+        rows,
+        more: Ok(true),
+    };
+    Some((Unread::Text(rest, behind), batch))
+}
+
 /// How rows are inserted and the next batch is read.
 pub(crate) trait Order {
+    /// Reads the next batch.
+    fn read<'a>(&self, alloc: Global, scale: Scale, unread: Unread<'a>) -> (Unread<'a>, Batch)
+        requires { IsUnread unread }
+        ensures { IsBatch scale unread.entry (all_rows result.1.rows.items) result.1.more
+            result.0 };
+
     /// Inserts some rows, and reads the next batch whether or not they are all inserted.
     fn add_and_read<'a>(
         &self,
         alloc: Global,
         scale: Scale,
         loading: Loading,
-        read: Vec<ReadRow>,
-        rows: Rows<'a>,
-    ) -> (Result<Loading, ReadFault>, (Rows<'a>, Batch))
-        requires ids { All HasId read.items }
-        requires reading { IsReading rows }
-        ensures added { AnswersRows loading read.items result.0 }
-        ensures read { IsBatch scale rows.entry result.1.1.rows.items result.1.1.more result.1.0 };
+        read: Vec<Vec<ReadRow>>,
+        unread: Unread<'a>,
+    ) -> (Result<Loading, ReadFault>, (Unread<'a>, Batch))
+        requires ids { All HasId (all_rows read.items) }
+        requires reading { IsUnread unread }
+        ensures added { AnswersRows loading (all_rows read.items) result.0 }
+        ensures read { IsBatch scale unread.entry (all_rows result.1.1.rows.items) result.1.1.more
+            result.1.0 };
 }
 
 /// One after the other.
@@ -77,53 +155,60 @@ pub(crate) trait Order {
 pub(crate) struct InTurn;
 
 impl Order for InTurn {
+    fn read<'a>(&self, alloc: Global, scale: Scale, unread: Unread<'a>) -> (Unread<'a>, Batch) {
+        read_batch(alloc, unread, scale)
+    }
+
     fn add_and_read<'a>(
         &self,
         alloc: Global,
         scale: Scale,
         loading: Loading,
-        read: Vec<ReadRow>,
-        mut rows: Rows<'a>,
-    ) -> (Result<Loading, ReadFault>, (Rows<'a>, Batch)) {
-        let added = with_rows(loading, read);
-        let batch = read_batch(alloc, &mut rows, scale);
-        (added, (rows, batch))
+        read: Vec<Vec<ReadRow>>,
+        unread: Unread<'a>,
+    ) -> (Result<Loading, ReadFault>, (Unread<'a>, Batch)) {
+        let added = with_parts(loading, read);
+        let next = read_batch(alloc, unread, scale);
+        (added, next)
     }
 }
 
-/// At the same time, by two threads.
+/// At the same time, by one thread and by those that read parts.
 #[derive(Drop)]
-pub(crate) struct SideBySide<'r, R>(pub(crate) &'r R);
+pub(crate) struct SideBySide<'r, R, P>(pub(crate) &'r R, pub(crate) P);
 
-impl<R: Threads + Sync> Order for SideBySide<'_, R> {
+impl<R: Threads + Sync, P: ReadParts + Sync> Order for SideBySide<'_, R, P> {
+    fn read<'a>(&self, alloc: Global, scale: Scale, unread: Unread<'a>) -> (Unread<'a>, Batch) {
+        read_ahead(alloc, unread, scale, &self.1)
+    }
+
     fn add_and_read<'a>(
         &self,
         alloc: Global,
         scale: Scale,
         loading: Loading,
-        read: Vec<ReadRow>,
-        mut rows: Rows<'a>,
-    ) -> (Result<Loading, ReadFault>, (Rows<'a>, Batch)) {
+        read: Vec<Vec<ReadRow>>,
+        unread: Unread<'a>,
+    ) -> (Result<Loading, ReadFault>, (Unread<'a>, Batch)) {
+        let SideBySide(rt, parts) = self;
         let add = move || -> Result<Loading, ReadFault>
-            requires { All HasId read.items }
-            ensures { AnswersRows loading read.items result }
-        { with_rows(loading, read) };
-        let read_on = move || -> (Rows, Batch)
-            requires { IsReading rows }
-            ensures { IsBatch scale rows.entry result.1.rows.items result.1.more result.0 }
-        {
-            let batch = read_batch(alloc, &mut rows, scale);
-            (rows, batch)
-        };
-        thread::join(self.0, add, read_on)
+            requires { All HasId (all_rows read.items) }
+            ensures { AnswersRows loading (all_rows read.items) result }
+        { with_parts(loading, read) };
+        let read_on = move || -> (Unread, Batch)
+            requires { IsUnread unread }
+            ensures { IsBatch scale unread.entry (all_rows result.1.rows.items) result.1.more
+                result.0 }
+        { read_ahead(alloc, unread, scale, parts) };
+        thread::join(*rt, add, read_on)
     }
 }
 
-// The layer with these rows.
-fn with_rows(mut loading: Loading, read: Vec<ReadRow>) -> Result<Loading, ReadFault>
-    requires { All HasId read.items }
-    ensures { AnswersRows loading read.items result }
+// The layer with the rows of these parts.
+fn with_parts(mut loading: Loading, read: Vec<Vec<ReadRow>>) -> Result<Loading, ReadFault>
+    requires { All HasId (all_rows read.items) }
+    ensures { AnswersRows loading (all_rows read.items) result }
 {
-    add_rows(&mut loading, read)?;
+    add_parts(&mut loading, read)?;
     Ok(loading)
 }

@@ -1,6 +1,6 @@
 //! Rows of a layer's file are inserted into the layer that is loaded.
-ghost use Rattle.std.specs.Prelude.{◌≡◌, ◌≢◌, Ok, Err, All, OnOk, IfErr};
-ghost use Rattle.file_core.specs.Batches.{HasId, with_rows};
+ghost use Rattle.std.specs.Prelude.{◌≡◌, ◌≢◌, ◌+◌, Ok, Err, All, OnOk, IfErr};
+ghost use Rattle.file_core.specs.Batches.{HasId, all_rows, with_rows};
 ghost use Rattle.file_core.specs.LayerFiles.{with_row};
 ghost use Rattle.file_core.specs.LayerRows.{content_of};
 
@@ -8,19 +8,19 @@ use crate::layer_row::ReadRow;
 use crate::read_fault::ReadFault;
 use layer_core::Loading;
 
-/// Inserts the feature of a row.
+/// Inserts the feature of a row, before which each row of its file has inserted one.
 pub(crate) fn add_row(loading: &mut Loading, row: ReadRow) -> Result<(), ReadFault>
     requires { HasId row }
     ensures ok { OnOk result
-        (with_row row.number loading.old (Ok (content_of row)) ≡ Ok loading.new) }
+        (with_row (loading.old.next + 1) loading.old (Ok (content_of row)) ≡ Ok loading.new) }
     ensures err { IfErr result (λ fault. fault ≢ ReadFault.Memory
-        → with_row row.number loading.old (Ok (content_of row)) ≡ Err fault) }
+        → with_row (loading.old.next + 1) loading.old (Ok (content_of row)) ≡ Err fault) }
     ensures no_io { result ≢ Err ReadFault.Io }
 {
-    let ReadRow { number, id, shape } = row;
+    let ReadRow { id, shape } = row;
     match loading.add(id, shape) {
         Ok(()) => Ok(()),
-        Err(fault) => Err(ReadFault::of_row(number, fault)),
+        Err(fault) => Err(ReadFault::of_row(loading.inserted() + 1, fault)),
     }
 }
 
@@ -34,6 +34,20 @@ pub(crate) fn add_rows(loading: &mut Loading, rows: Vec<ReadRow>) -> Result<(), 
 {
     for row in rows {
         add_row(loading, row)?;
+    }
+    Ok(())
+}
+
+/// Inserts the features of the rows of some parts in turn, up to the first that is refused.
+pub(crate) fn add_parts(loading: &mut Loading, parts: Vec<Vec<ReadRow>>) -> Result<(), ReadFault>
+    requires { All HasId (all_rows parts.items) }
+    ensures ok { OnOk result (with_rows loading.old (all_rows parts.items) ≡ Ok loading.new) }
+    ensures err { IfErr result (λ fault. fault ≢ ReadFault.Memory
+        → with_rows loading.old (all_rows parts.items) ≡ Err fault) }
+    ensures no_io { result ≢ Err ReadFault.Io }
+{
+    for rows in parts {
+        add_rows(loading, rows)?;
     }
     Ok(())
 }

@@ -3,27 +3,25 @@ ghost use Rattle.std.specs.Prelude.{◌≡◌, ◌≢◌, ◌≤◌, ◌↔◌, 
 ghost use Rattle.file_core.specs.LayerFiles.{IsLayerFile, list_read};
 ghost use Rattle.layer_core.specs.Limits.{most_features};
 
-use crate::batch::{InTurn, Order, SideBySide, read_batch};
-use crate::insertion::add_rows;
+use crate::batch::{InTurn, Order, SideBySide};
+use crate::insertion::add_parts;
+use crate::parts::{Beside, Whole};
 use crate::read_fault::ReadFault;
-use crate::rows::Rows;
 use crate::source::{Source, read_all};
+use crate::unread::Unread;
 use layer_core::{Layer, Loading, MAX_FEATURES};
 use std::alloc::Global;
 use std::hash::RandomState;
 use std::thread::Threads;
 use wkt_core::Scale;
 
-/// The columns of a layer's file.
-const COLUMNS: [&str; 2] = ["id", "wkt"];
-
 // From how many bytes at its start the number of a file's rows is guessed.
 const SAMPLE: usize = 65_536;
 
 /// The layer that a CSV file stands for. `state` hashes the ids.
 ///
-/// Where `threads` is more than 1, one thread reads rows ahead while another inserts those before
-/// them. The answer is the same.
+/// Where `threads` is more than 1, several threads read parts of the file ahead while another
+/// inserts the rows before them. The answer is the same.
 ///
 /// The file is records of comma-separated fields with double quotes where needed (RFC 4180), with
 /// line ends LF or CR LF. Its header is `id,wkt`, in any ASCII case, with or without a byte order
@@ -74,7 +72,7 @@ pub fn read_layer<S: Source>(
     Ok(loading.finish(alloc)?)
 }
 
-// The features of a file, whose tree isn't packed yet, by one thread or by two.
+// The features of a file, whose tree isn't packed yet, by one thread or by several.
 fn load_by<R: Threads + Sync>(
     alloc: Global,
     state: RandomState,
@@ -86,10 +84,16 @@ fn load_by<R: Threads + Sync>(
     ensures file { result ≢ Err ReadFault.Memory → IsLayerFile scale bytes.now result }
     ensures no_io { result ≢ Err ReadFault.Io }
 {
-    if threads > 1 {
-        load(alloc, state, bytes, scale, &SideBySide(rt))
-    } else {
-        load(alloc, state, bytes, scale, &InTurn)
+    match threads {
+        0 | 1 => load(alloc, state, bytes, scale, &InTurn),
+        2 | 3 => {
+            let two = Beside(rt, Whole);
+            load(alloc, state, bytes, scale, &SideBySide(rt, two))
+        }
+        _ => {
+            let four = Beside(rt, Beside(rt, Beside(rt, Whole)));
+            load(alloc, state, bytes, scale, &SideBySide(rt, four))
+        }
     }
 }
 
@@ -104,15 +108,15 @@ fn load<O: Order>(
     ensures file { result ≢ Err ReadFault.Memory → IsLayerFile scale bytes.now result }
     ensures no_io { result ≢ Err ReadFault.Io }
 {
-    let mut rows = Rows::open(alloc, bytes, &COLUMNS)?;
+    let unread = Unread::open(alloc, bytes)?;
     let mut loading = Loading::new(alloc, state, likely_rows(bytes))?;
-    let mut batch = read_batch(alloc, &mut rows, scale);
+    let (mut unread, mut batch) = order.read(alloc, scale, unread);
     while let Ok(true) = batch.more {
-        let (added, next) = order.add_and_read(alloc, scale, loading, batch.rows, rows);
+        let (added, next) = order.add_and_read(alloc, scale, loading, batch.rows, unread);
         loading = added?;
-        (rows, batch) = next;
+        (unread, batch) = next;
     }
-    add_rows(&mut loading, batch.rows)?;
+    add_parts(&mut loading, batch.rows)?;
     batch.more?;
     Ok(loading)
 }

@@ -12,10 +12,9 @@ use layer_core::{Id, LayerFault};
 use std::alloc::Global;
 use wkt_core::Scale;
 
-/// A row that was read well: its number, and the id and the shape of its feature.
+/// A row that was read well: the id and the shape of its feature.
 #[derive(Drop)]
 pub(crate) struct ReadRow {
-    pub(crate) number: u32,
     pub(crate) id: Id,
     pub(crate) shape: Shape,
 }
@@ -28,7 +27,6 @@ pub(crate) fn read_row(
     row: &ByteRecord,
     scale: Scale,
 ) -> Result<ReadRow, ReadFault>
-    ensures number { IfOk result (λ read. read.number ≡ number) }
     ensures says { IfOk result
         (λ read. RowSays scale number (fields_of row.now) (Ok (content_of read))) }
     ensures id { IfOk result HasId }
@@ -40,5 +38,5 @@ pub(crate) fn read_row(
     let id = id_in(id).ok_or(ReadFault::Layer(number, LayerFault::BadId))?;
     let shape = wkt_core::read(wkt, scale).map_err(|fault| ReadFault::Wkt(number, fault))?;
     let id = Id::from_str(alloc, id)?;
-    Ok(ReadRow { number, id, shape })
+    Ok(ReadRow { id, shape })
 }

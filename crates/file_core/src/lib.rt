@@ -2,14 +2,17 @@
 #![tactic(auto)]
 
 mod batch;
+mod cuts;
 mod edit_file;
 mod fields;
 mod insertion;
 mod layer_file;
 mod layer_row;
+mod parts;
 mod read_fault;
 mod rows;
 mod source;
+mod unread;
 
 pub use edit_file::{edits_of_bytes, read_edits};
 pub use layer_file::{layer_of_bytes, read_layer};

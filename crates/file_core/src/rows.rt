@@ -7,6 +7,7 @@ ghost use Rattle.file_core.specs.Rows.{IsHeader};
 ghost use Rattle.file_core.specs.Records.{records_of, records_left, IsBetweenRecords};
 ghost use Rattle.file_core.specs.Records.{IsRefusedOrUnread, TakesRecord};
 
+use crate::cuts::is_unended;
 use crate::read_fault::ReadFault;
 use crate::source::MAX_FILE_BYTES;
 use csv::{ByteRecord, Error, Reader, ReaderBuilder};
@@ -20,11 +21,16 @@ pub(crate) struct Rows<'a> {
     row: ByteRecord,
     // How many rows were read.
     count: u32,
+    // Whether a record was read whose last field ends with a line feed.
+    unended: bool,
 }
 
 impl<'a> Rows<'a> {
+    ghost use Rattle.std.specs.Prelude.{◌+◌, ◌≤◌, length};
+    ghost use Rattle.csv.specs.Reading.{default_config, records};
+    ghost use Rattle.file_core.specs.Cuts.{IsPlain};
     ghost use Rattle.file_core.specs.Rows.{last_row, rows_left, AreRows, IsOpened, IsReading};
-    ghost use Rattle.file_core.specs.Rows.{ReadsRow};
+    ghost use Rattle.file_core.specs.Rows.{most_rows, IsEnded, ReadsRow};
 
     /// The rows of a file, behind its header, which names these columns in any ASCII case.
     pub(crate) fn open(
@@ -45,23 +51,49 @@ impl<'a> Rows<'a> {
         if !next_record(&mut reader, &mut row)? || !is_header(&row, columns) {
             return Err(ReadFault::Header);
         }
+        let unended = is_unended(&row);
         Ok(Rows {
             reader,
             row,
             count: 0,
+            unended,
         })
+    }
+
+    /// All records of a text as rows, behind so many others.
+    pub(crate) fn behind(alloc: Global, text: &'a [u8], count: u32) -> Rows<'a>
+        requires plain { IsPlain text.now }
+        requires few { count + length (records default_config text.now) ≤ most_rows }
+        ensures reading { IsReading result }
+        ensures rows { rows_left result ≡ records default_config text.now }
+        ensures count { result.count ≡ count }
+    {
+        Rows {
+            reader: records(alloc, text),
+            row: ByteRecord::new(alloc),
+            count,
+            unended: false,
+        }
+    }
+
+    /// Whether a record was read whose last field ends with a line feed.
+    pub(crate) fn has_unended(&self) -> bool
+        ensures { result ≡ self.now.unended }
+    {
+        self.unended
     }
 
     /// Reads the next row, and answers its number. The first is 1.
     pub(crate) fn next(&mut self) -> Result<Option<u32>, AllocError>
         requires { IsReading self.old }
         ensures { IfOk result
-            (λ row. MatchOption row (rows_left self.old ≡ []) (λ n. ReadsRow self.old n self.new)) }
+            (λ row. MatchOption row (IsEnded self.old self.new) (λ n. ReadsRow self.old n self.new)) }
     {
         if !next_record(&mut self.reader, &mut self.row)? {
             return Ok(None);
         }
         self.count += 1;
+        self.unended |= is_unended(&self.row);
         Ok(Some(self.count))
     }
 

@@ -128,7 +128,8 @@ impl Features {
 
     /// The number that the next feature gets: how many were ever inserted.
     pub(crate) fn next(&self) -> usize
-        ensures { result ≡ self.now.list.next }
+        ensures next { result ≡ self.now.list.next }
+        ensures few { result ≤ most_features }
     {
         self.slots.len()
     }

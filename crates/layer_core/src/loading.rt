@@ -31,9 +31,10 @@ impl Model for Loading {
 }
 
 impl Loading {
-    ghost use Rattle.std.specs.Prelude.{◌≡◌, IsTrue, OnOk, OnErr, IfOk};
+    ghost use Rattle.std.specs.Prelude.{◌≡◌, ◌≤◌, IsTrue, OnOk, OnErr, IfOk};
     ghost use Rattle.layer_core.specs.Ids.{id_bytes};
     ghost use Rattle.layer_core.specs.Layers.{empty, inserted};
+    ghost use Rattle.layer_core.specs.Limits.{most_features};
     ghost use Rattle.layer_core.specs.Refusals.{is_id, AnswersWith, insert_refusal};
 
     /// No features, and room for so many. `state` hashes the ids.
@@ -43,6 +44,14 @@ impl Loading {
         Ok(Loading {
             features: Features::with_room(alloc, state, room)?,
         })
+    }
+
+    /// How many features were inserted.
+    pub fn inserted(&self) -> u32
+        ensures count { result ≡ self.now.next }
+        ensures few { result ≤ most_features }
+    {
+        self.features.next() as u32
     }
 
     /// Inserts a feature at the end, under an id that [`crate::is_id`] allows.

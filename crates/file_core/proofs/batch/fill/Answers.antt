@@ -1,16 +1,19 @@
-use Rattle.std.proofs.Common.{◌≡◌, ◌∙◌, ◌+◌, [], Err, length, ap, arith, refl}
-use Rattle.std.proofs.lemmas.List.Elements.{All-nil, All-push}
+use Rattle.std.proofs.Common.{◌≡◌, ◌∙◌, ◌+◌, [], Err, length, ap, sym, arith, refl}
+use Rattle.std.proofs.lemmas.List.Elements.{All-cons, All-nil, All-push}
 use Rattle.std.proofs.lemmas.Result.{err_from_is_err_and}
+use Rattle.file_core.specs.declared.unread.Unread.TheVariants.{Rows}
 use Rattle.file_core.specs.Batches.{HasId}
+use Rattle.file_core.specs.Cuts.{IsClosed}
+use Rattle.file_core.specs.LayerRows.{content_of}
 use Rattle.file_core.specs.Rows.{last_row, rows_left}
-use Rattle.file_core.proofs.BatchLemmas.{say-push, batch-refused, batch-ended, batch-faulty}
+use Rattle.file_core.proofs.BatchLemmas.{say-push, says-any, batch-refused, batch-ended, batch-faulty}
 use Rattle.file_core.proofs.batch.fill.Goals as goal
 
-pub returns-in_err-reserve : goal.returns-in_err-reserve
-returns-in_err-reserve c =
+pub returns-in_err-reserve-clause-batch : goal.returns-in_err-reserve-clause-batch
+returns-in_err-reserve-clause-batch c =
     let none = c.reserve.ensures.items ∙ c.requires.empty in
     let p = err_from_is_err_and c.from_residual.result c.from_residual.ensures.1 in
-    rw (none, p.1, p.2) (batch-refused c.args.scale c.args.rows.now c.args.rows.now [] (rows_left c.args.rows.now) refl (All-nil HasId))
+    rw (none, p.1, p.2) (batch-refused c.args.scale (Rows c.args.rows.now) (Rows c.args.rows.now) [] (rows_left c.args.rows.now) refl (All-nil HasId))
 
 pub loop-init : goal.loop-init
 loop-init c =
@@ -21,31 +24,38 @@ loop-init c =
       rows = rw none refl;
       counted = omega (arith, few, c.reserve.new.self.ok.0);
       ids = rw none (All-nil HasId);
-      room = omega (arith, c.in_ok-reserve.ensures.ok);
+      closed = λ unended all. all;
+      room = omega (arith, few, c.reserve.new.self.ok.0, c.in_ok-reserve.ensures.ok);
       filled = omega (arith, few, c.reserve.new.self.ok.0);
     }
 
-pub returns-in_err-number : goal.returns-in_err-number
-returns-in_err-number c =
+pub returns-in_err-number-clause-batch : goal.returns-in_err-number-clause-batch
+returns-in_err-number-clause-batch c =
     let p = err_from_is_err_and c.from_residual-in_err-number.result c.from_residual-in_err-number.ensures.1 in
     rw (p.1, p.2)
-    (batch-refused c.args.scale c.args.rows.now c.next.new.self c.loop.read.items (rows_left c.loop.rows) c.loop.invariant.rows c.loop.invariant.ids)
+    (batch-refused c.args.scale (Rows c.args.rows.now) (Rows c.next.new.self) c.loop.read.items (rows_left c.loop.rows) c.loop.invariant.rows
+    c.loop.invariant.ids)
 
-pub returns-in_default : goal.returns-in_default
-returns-in_default c =
-    batch-ended c.args.scale c.args.rows.now c.next.new.self c.loop.read.items (rows_left c.loop.rows) c.loop.invariant.rows c.loop.invariant.ids
-    (rw c.in_default.is at c.in_ok-number.ensures)
+pub returns-in_default-clause-batch : goal.returns-in_default-clause-batch
+returns-in_default-clause-batch c =
+    batch-ended c.args.scale (Rows c.args.rows.now) (Rows c.next.new.self) c.loop.read.items (rows_left c.loop.rows) c.loop.invariant.rows
+    c.loop.invariant.ids (rw c.in_default.is at c.in_ok-number.ensures).none_left
 
-pub returns-in_err-read_row : goal.returns-in_err-read_row
-returns-in_err-read_row c =
+pub returns-in_default-clause-closed : goal.returns-in_default-clause-closed
+returns-in_default-clause-closed c done unended =
+    let ended = rw c.in_default.is at c.in_ok-number.ensures in
+    c.loop.invariant.closed (sym ended.same ∙ unended) (rw ended.none_left (All-nil IsClosed))
+
+pub returns-in_err-read_row-clause-batch : goal.returns-in_err-read_row-clause-batch
+returns-in_err-read_row-clause-batch c =
     let reads = rw c.in-Some.is at c.in_ok-number.ensures in
     let fault = c.in_err-read_row.field-0.0 in
     let p = err_from_is_err_and c.from_residual-in_err-read_row.result c.from_residual-in_err-read_row.ensures.1 in
     let at : c.in-Some.number ≡ c.args.rows.now.count + 1 + length c.loop.read.items =
     omega (arith, reads.numbered, c.loop.invariant.counted, c.loop.read.ok.0) in
     rw (p.1, p.2)
-    (batch-faulty c.args.scale c.args.rows.now c.next.new.self c.loop.read.items (rows_left c.loop.rows) c.loop.invariant.rows c.loop.invariant.ids
-    fault (λ e. c.in_err-read_row.ensures.no_io (ap Err e))
+    (batch-faulty c.args.scale (Rows c.args.rows.now) (Rows c.next.new.self) c.loop.read.items (rows_left c.loop.rows) c.loop.invariant.rows
+    c.loop.invariant.ids fault (λ e. c.in_err-read_row.ensures.no_io (ap Err e))
     (λ known. rw (reads.row, ← at, ← c.row.ensures) (c.in_err-read_row.ensures.fault known)))
 
 pub loop-preserved : goal.loop-preserved
@@ -56,23 +66,25 @@ loop-preserved c =
     record {
       reading = reads.reading;
       rows = rw c.push_reserved.ensures.items
-          (say-push c.args.scale (c.args.rows.now.count + 1) c.in-Some.number (rows_left c.args.rows.now) c.loop.read.items (last_row c.next.new.self) row
-          (rows_left c.next.new.self) say (omega (arith, reads.numbered, c.loop.invariant.counted, c.loop.read.ok.0)) c.in_ok-read_row.ensures.number
-          (rw (← c.row.ensures) c.in_ok-read_row.ensures.says));
+          (say-push c.args.scale (rows_left c.args.rows.now) c.loop.read.items (last_row c.next.new.self) row
+          (rows_left c.next.new.self) say
+          (says-any c.args.scale c.in-Some.number (last_row c.next.new.self) (content_of row) (rw (← c.row.ensures) c.in_ok-read_row.ensures.says)));
       counted = omega (arith, reads.numbered, reads.counted, c.loop.invariant.counted, c.push_reserved.ensures.len);
       ids = rw c.push_reserved.ensures.items (All-push HasId c.loop.read.items row c.loop.invariant.ids c.in_ok-read_row.ensures.id);
+      closed = λ unended all. c.loop.invariant.closed (reads.closed unended).0
+          (rw reads.row (All-cons IsClosed (last_row c.next.new.self) (rows_left c.next.new.self) (reads.closed unended).1 all));
       room = omega (arith, c.loop.invariant.room, c.push_reserved.ensures.capacity);
       filled = omega (arith, c.loop.invariant.filled, c.push_reserved.ensures.len);
     }
 
-pub returns : goal.returns
-returns c =
+pub returns-clause-batch : goal.returns-clause-batch
+returns-clause-batch c =
     let inv = c.loop.invariant in
     let count = c.loop.read.ok.0 in
     record {
       left = rows_left c.loop.rows;
       rows = inv.rows;
-      behind = (inv.reading, refl, omega (arith, inv.counted, count), omega (arith, inv.filled, c.loop-test.false, count));
+      behind = (inv.reading, refl, omega (arith, inv.counted, count), omega (arith, inv.filled, c.loop-test.false, count, c.requires.some));
       ids = inv.ids;
       no_io = λ e. cc;
     }

@@ -1,5 +1,6 @@
-use Rattle.std.proofs.Common.{◌≡◌, ◌+◌, ◌≤◌, All, vec_len, vec_capacity}
+use Rattle.std.proofs.Common.{◌≡◌, ◌+◌, ◌≤◌, false, All, vec_len, vec_capacity}
 use Rattle.file_core.specs.Batches.{HasId, SayInTurn}
+use Rattle.file_core.specs.Cuts.{IsClosed}
 use Rattle.file_core.specs.Rows.{IsReading, rows_left}
 use Rattle.file_core.proofs.batch.fill.Given as goal
 
@@ -7,9 +8,10 @@ use Rattle.file_core.proofs.batch.fill.Given as goal
 abbrev pub invariant-loop : goal.invariant-loop
 invariant-loop l = record {
   reading : IsReading l.rows;
-  rows : SayInTurn l.scale (l.fn.rows.count + 1) (rows_left l.fn.rows) l.read.items (rows_left l.rows);
+  rows : SayInTurn l.scale (rows_left l.fn.rows) l.read.items (rows_left l.rows);
   counted : l.rows.count ≡ l.fn.rows.count + vec_len l.read;
   ids : All HasId l.read.items;
-  room : 16384 ≤ vec_capacity l.read;
+  closed : l.rows.unended ≡ false → All IsClosed (rows_left l.rows) → All IsClosed (rows_left l.fn.rows);
+  room : l.most ≤ vec_capacity l.read;
   filled : vec_len l.read ≡ l.counter;
 }

@@ -23,7 +23,7 @@ loop-edits-preserved c =
     let edits = ap (map content_of) items ∙ map-append content_of c.loop-edits.edits.items (c.in_ok-edit.edit ∷ []) in
     let row_gives = rw (reads.numbered, c.row.ensures) at c.in_ok-edit.ensures.ok in (
       reads.reading,
-      omega (arith, c.loop-edits.invariant.1, ap length items, length-append c.loop-edits.edits.items (c.in_ok-edit.edit ∷ []), reads.counted, reads.numbered),
+      omega (arith, c.loop-edits.invariant.1, ap length items, length-append c.loop-edits.edits.items (c.in_ok-edit.edit ∷ []), ap length reads.row),
       λ answer gives.
           let later = rw (reads.counted ∙ reads.numbered) at gives in
           c.loop-edits.invariant.2 answer

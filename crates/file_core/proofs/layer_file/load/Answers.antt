@@ -1,17 +1,19 @@
-use Rattle.std.proofs.Common.{◌≡◌, ◌≤◌, suc, Bool, true, false, Result, Ok, Err, ap, subst, sym}
+use Rattle.std.proofs.Common.{◌≡◌, ◌≤◌, ◌∙◌, suc, Bool, true, false, Result, Ok, Err, ap, subst, sym}
 use Rattle.std.proofs.lemmas.Result.{err_from_is_err_and}
 use Rattle.file_core.specs.declared.read_fault.ReadFault.{ReadFault}
-use Rattle.file_core.specs.Rows.{rows_left}
-use Rattle.file_core.proofs.BatchLemmas.{most_rounds, batch-ends, batch-fails, batch-goes-on, batch-refuses, batch-smaller}
+use Rattle.file_core.specs.Batches.{all_rows}
+use Rattle.file_core.specs.Unread.{records_unread}
+use Rattle.file_core.proofs.BatchLemmas.{most_rounds, batch-counted, batch-ends, batch-fails, batch-goes-on, batch-refuses, batch-smaller}
 use Rattle.file_core.proofs.layer_file.load.Goals as goal
 use Rattle.file_core.proofs.layer_file.load.Goals.{in_default, in_default-2}
 
 pub loop-batch-init : goal.loop-batch-init
 loop-batch-init g c =
-    let opened = c.in_ok-rows.ensures.ok in (
-      c.in_ok-rows.rows,
-      c.read_batch-batch.ensures,
-      λ answer gives. (Ok (rows_left c.in_ok-rows.rows), opened.behind_header, rw (opened.none_read, c.in_ok-loading.ensures) at gives),
+    let opened = c.in_ok-unread.ensures.ok in (
+      c.in_ok-unread.unread,
+      c.read-unread.ensures,
+      opened.none_read ∙ sym (ap (λ l. l.next) c.in_ok-loading.ensures),
+      λ answer gives. (Ok (records_unread c.in_ok-unread.unread), opened.rows, rw (opened.none_read, c.in_ok-loading.ensures) at gives),
     )
 
 pub loop-batch-preserved : goal.loop-batch-preserved
@@ -21,13 +23,15 @@ loop-batch-preserved g c =
     let test = c.in-Ok-true.field-0-is in
     let more : c.loop-batch.batch.more ≡ Ok true = cc in
     let batch = rw more at inv.1 in
-    let added = rw c.in_ok-loading-2.was at c.add_and_read-added.ensures.added in (
-      c.loop-batch.rows,
+    let added = rw c.in_ok-loading-2.was at c.add_and_read-added.ensures.added in
+    let rows = all_rows c.loop-batch.batch.rows.items in
+    let given = added.0 (λ e. cc) in (
+      c.loop-batch.unread,
       c.add_and_read-added.ensures.read,
+      batch-counted c.args.scale inv.0 c.loop-batch.unread rows c.loop-batch.loading inv.2 c.in_ok-loading-2.loading batch given,
       λ answer gives.
-          inv.2 answer
-          (batch-goes-on c.args.scale inv.0 c.loop-batch.rows c.loop-batch.batch.rows.items c.loop-batch.loading c.in_ok-loading-2.loading answer
-          batch (added.0 (λ e. cc)) gives),
+          inv.3 answer
+          (batch-goes-on c.args.scale inv.0 c.loop-batch.unread rows c.loop-batch.loading inv.2 c.in_ok-loading-2.loading answer batch given gives),
     )
 
 pub loop-batch-smaller : goal.loop-batch-smaller
@@ -36,8 +40,9 @@ loop-batch-smaller g c =
     let test = c.in-Ok-true.field-0-is in
     let more : c.loop-batch.batch.more ≡ Ok true = cc in
     let next = c.add_and_read-added.result.1 in
-    let P : Result Bool ReadFault → Type 0 = λ m. suc (most_rounds next.0 next.1.more) ≤ most_rounds c.loop-batch.rows m in
-    subst P (sym more) (batch-smaller c.args.scale c.loop-batch.rows next.0 next.1.rows.items next.1.more c.add_and_read-added.ensures.read)
+    let P : Result Bool ReadFault → Type 0 = λ m. suc (most_rounds next.0 next.1.more) ≤ most_rounds c.loop-batch.unread m in
+    subst P (sym more)
+    (batch-smaller c.args.scale c.loop-batch.unread next.0 (all_rows next.1.rows.items) next.1.more c.add_and_read-added.ensures.read)
 
 pub returns-in_err-loading-2-clause-file : goal.returns-in_err-loading-2-clause-file
 returns-in_err-loading-2-clause-file g c =
@@ -47,20 +52,20 @@ returns-in_err-loading-2-clause-file g c =
     let p = err_from_is_err_and c.from_residual-in_err-loading-2.result c.from_residual-in_err-loading-2.ensures.1 in
     rw (p.1, p.2)
     (λ known.
-    inv.2 (Err fault)
-    (batch-refuses c.args.scale inv.0 c.loop-batch.rows c.loop-batch.batch.rows.items c.loop-batch.loading c.loop-batch.batch.more fault inv.1
-    (added.0 known)))
+    inv.3 (Err fault)
+    (batch-refuses c.args.scale inv.0 c.loop-batch.unread (all_rows c.loop-batch.batch.rows.items) c.loop-batch.loading inv.2
+    c.loop-batch.batch.more fault inv.1 (added.0 known)))
 
-pub returns-in_err-add_rows-clause-file : goal.returns-in_err-add_rows-clause-file
-returns-in_err-add_rows-clause-file g c =
+pub returns-in_err-add_parts-clause-file : goal.returns-in_err-add_parts-clause-file
+returns-in_err-add_parts-clause-file g c =
     let inv = c.loop-batch.invariant in
-    let fault = c.in_err-add_rows.field-0.0 in
-    let p = err_from_is_err_and c.from_residual-in_err-add_rows.result c.from_residual-in_err-add_rows.ensures.1 in
+    let fault = c.in_err-add_parts.field-0.0 in
+    let p = err_from_is_err_and c.from_residual-in_err-add_parts.result c.from_residual-in_err-add_parts.ensures.1 in
     rw (p.1, p.2)
     (λ known.
-    inv.2 (Err fault)
-    (batch-refuses c.args.scale inv.0 c.loop-batch.rows c.loop-batch.batch.rows.items c.loop-batch.loading c.loop-batch.batch.more fault inv.1
-    (c.in_err-add_rows.ensures.err (λ e. known (ap Err e)))))
+    inv.3 (Err fault)
+    (batch-refuses c.args.scale inv.0 c.loop-batch.unread (all_rows c.loop-batch.batch.rows.items) c.loop-batch.loading inv.2
+    c.loop-batch.batch.more fault inv.1 (c.in_err-add_parts.ensures.err (λ e. known (ap Err e)))))
 
 pub returns-in_err-batch-clause-file : goal.returns-in_err-batch-clause-file
 returns-in_err-batch-clause-file g c =
@@ -70,9 +75,9 @@ returns-in_err-batch-clause-file g c =
     let p = err_from_is_err_and c.from_residual-in_err-batch.result c.from_residual-in_err-batch.ensures.1 in
     rw (p.1, p.2)
     (λ known.
-    inv.2 (Err fault)
-    (batch-fails c.args.scale inv.0 c.loop-batch.rows c.loop-batch.batch.rows.items c.loop-batch.loading c.add_rows.new.loading fault batch
-    (λ e. known (ap Err e)) c.in_ok-add_rows.ensures.ok))
+    inv.3 (Err fault)
+    (batch-fails c.args.scale inv.0 c.loop-batch.unread (all_rows c.loop-batch.batch.rows.items) c.loop-batch.loading inv.2
+    c.add_parts.new.loading fault batch (λ e. known (ap Err e)) c.in_ok-add_parts.ensures.ok))
 
 pub returns-clause-file : goal.returns-clause-file
 returns-clause-file g c known =
@@ -83,6 +88,6 @@ returns-clause-file g c known =
       | in_default w ↦ let is = w.in_default.is in let test = w.in_default.field-0-test in cc
       | in_default-2 w ↦ let is = w.in_default.is in absurd cc
     ] in
-    inv.2 (Ok c.add_rows.new.loading)
-    (batch-ends c.args.scale inv.0 c.loop-batch.rows c.loop-batch.batch.rows.items c.loop-batch.loading c.add_rows.new.loading (rw last at inv.1)
-    c.in_ok-add_rows.ensures.ok)
+    inv.3 (Ok c.add_parts.new.loading)
+    (batch-ends c.args.scale inv.0 c.loop-batch.unread (all_rows c.loop-batch.batch.rows.items) c.loop-batch.loading inv.2 c.add_parts.new.loading
+    (rw last at inv.1) c.in_ok-add_parts.ensures.ok)

@@ -1,17 +1,20 @@
-use Rattle.std.proofs.Common.{Result}
+use Rattle.std.proofs.Common.{◌≡◌, Result}
 use Rattle.file_core.specs.declared.read_fault.ReadFault.{ReadFault}
-use Rattle.file_core.specs.declared.rows.Rows.{Rows}
-use Rattle.file_core.specs.Batches.{IsBatch}
+use Rattle.file_core.specs.declared.unread.Unread.{Unread}
+use Rattle.file_core.specs.Batches.{IsBatch, all_rows}
 use Rattle.file_core.specs.LayerFiles.{IsLayerFile}
+use Rattle.file_core.specs.Unread.{count_unread}
 use Rattle.layer_core.specs.Layers.{Contents}
 use Rattle.file_core.proofs.BatchLemmas.{Gives, most_rounds}
 use Rattle.file_core.proofs.layer_file.load.Given as goal
 
--- what the rows of the batch and those behind it give from here, the file gives
+-- what the rows of the batch and those behind it give from here, the file gives, and each row before
+-- them has inserted a feature
 abbrev pub invariant-loop-batch : goal.invariant-loop-batch
 invariant-loop-batch g l =
-    (old : Rows) × IsBatch l.scale old l.batch.rows.items l.batch.more l.rows
+    (old : Unread) × IsBatch l.scale old (all_rows l.batch.rows.items) l.batch.more l.unread
+    × (count_unread old ≡ l.loading.next)
     × ((answer : Result Contents ReadFault) → Gives l.scale old l.loading answer → IsLayerFile l.scale l.bytes answer)
 
 abbrev pub decreases-loop-batch : goal.decreases-loop-batch
-decreases-loop-batch g l = most_rounds l.rows l.batch.more
+decreases-loop-batch g l = most_rounds l.unread l.batch.more

@@ -1,0 +1,200 @@
+-- Parts of a text: which of them are whole, and the rows of parts that follow one another.
+use Rattle.std.proofs.Common.{◌≡◌, ◌∙◌, ℕ, ◌+◌, ◌<◌, ◌≤◌, Bool, true, false, List, [], ◌∷◌, ◌++◌, All, Bor, length, Option, Some, None, IfSome, Ok, refl, sym, ap, subst, arith, if◌then◌else◌, length-append, slice_get, IsTrue, not, nat_eq, ◌==◌, ◌&&◌}
+use Rattle.std.proofs.Math.ListN.{get_or-append}
+use Rattle.std.proofs.lemmas.List.Elements.{All-append, All-cons, All-nil, All-tail}
+use Rattle.csv.specs.Machine.{ends_at_end}
+use Rattle.csv.specs.Reading.{default_config, is_bom, records, strip_bom}
+use Rattle.csv.specs.Records.{field_at}
+use Rattle.csv.specs.declared.parser.State.{State}
+use Rattle.csv.specs.declared.parser.State.TheVariants as st
+use Rattle.wkt_core.specs.declared.scale.Scale.{Scale}
+use Rattle.file_core.specs.declared.layer_row.ReadRow.{ReadRow}
+use Rattle.file_core.specs.declared.parts.Parts.{Parts}
+use Rattle.file_core.specs.declared.rows.Rows.{Rows as RowsOf}
+use Rattle.file_core.specs.declared.unread.Unread.TheVariants.{Text, Rows}
+use Rattle.file_core.specs.Batches.{HasId, IsBatch}
+use Rattle.file_core.specs.Cuts.{EndsBetween, EndsWithFeed, IsClosed, IsPlain, state_after}
+use Rattle.file_core.specs.LayerFiles.{layer_columns}
+use Rattle.file_core.specs.Limits.{most_file_bytes}
+use Rattle.file_core.specs.Parts.{IsBoth, IsOnePart, IsParts, rows_of}
+use Rattle.file_core.specs.Records.{Record, records_of}
+use Rattle.file_core.specs.Rows.{IsOpened, rows_left}
+use Rattle.file_core.specs.Unread.{IsHeaderLine, IsUnread, IsUnreadFile}
+use Rattle.file_core.proofs.BatchLemmas.{say-append, say-length, say-then}
+use Rattle.file_core.proofs.CutLemmas.{closed-between, state-append, step-after_cr, text-cut}
+use Rattle.file_core.proofs.FileLemmas.{rows-headed}
+use Rattle.file_core.proofs.RecordLemmas.{length-records_from}
+
+-- ---- lists in two parts
+
+pub All-front : {X : Type 0} (P : X → Type 0) (a b : List X) → All P (a ++ b) → All P a
+All-front P a b all = λ k d within. subst P (get_or-append a b d k within) (all k d (omega (arith, length-append a b)))
+
+pub All-back : {X : Type 0} (P : X → Type 0) (a b : List X) → All P (a ++ b) → All P b
+All-back P [] b all = all
+All-back P (x ∷ a) b all = All-back P a b (All-tail P x (a ++ b) all)
+
+pub if-some : {X : Type 0} (P Q : X → Type 0) (o : Option X) → IfSome o P → ((x : X) → P x → Q x) → IfSome o Q
+if-some P Q None h more = tt
+if-some P Q (Some x) h more = more x h
+
+-- ---- ends and beginnings
+
+field-last : (front : Record) (last : List ℕ) → field_at (front ++ last ∷ []) (length front) ≡ Some last
+unfolding field_at
+field-last [] last = refl
+field-last (x ∷ front) last = field-last front last
+
+-- a record whose last field doesn't end with a line feed
+pub ended-closed : (fields : Record) (i : ℕ) (field : List ℕ) → i + 1 ≡ length fields → Some field ≡ field_at fields i → ¬ (EndsWithFeed field)
+    → IsClosed fields
+ended-closed fields i field at is ended front last e =
+    let place : i ≡ length front = omega (arith, ap length e, length-append front ((last ++ 10 ∷ []) ∷ [])) in
+    let here : field_at fields i ≡ Some (last ++ 10 ∷ []) = rw (e, place) (field-last front (last ++ 10 ∷ [])) in
+    let same : field ≡ last ++ 10 ∷ [] = cc in
+    ended (last, same)
+
+-- a text whose first byte isn't that of a byte order mark
+pub plain-first : (text : List ℕ) (c : ℕ) → Some c ≡ slice_get text 0 → IsTrue (not (nat_eq c 239)) → IsPlain text
+unfolding strip_bom
+plain-first [] c is other = refl
+plain-first (a ∷ []) c is other = refl
+plain-first (a ∷ b ∷ []) c is other = refl
+plain-first (a ∷ b ∷ d ∷ rest) c is other =
+    let same : c ≡ a = cc in
+    by (a == 239) (rw same at other)
+  where
+    by : (t : Bool) → IsTrue (not t) → (if t && (b == 187) && (d == 191) then rest else a ∷ b ∷ d ∷ rest) ≡ a ∷ b ∷ d ∷ rest
+    by true h = let e = h in cc
+    by false h = refl
+
+pub plain-empty : (text : List ℕ) → None ≡ slice_get text 0 → IsPlain text
+unfolding strip_bom
+plain-empty [] none = refl
+plain-empty (a ∷ rest) none = let n = none in cc
+
+-- a byte order mark stays at the start
+strip-append : (a b : List ℕ) → 3 ≤ length a → strip_bom (a ++ b) ≡ strip_bom a ++ b
+unfolding strip_bom
+strip-append [] b long = absurd (omega arith)
+strip-append (x ∷ []) b long = absurd (omega arith)
+strip-append (x ∷ y ∷ []) b long = absurd (omega arith)
+strip-append (x ∷ y ∷ z ∷ a) b long = by (is_bom x y z)
+  where
+    by : (t : Bool) → (if t then a ++ b else x ∷ y ∷ z ∷ (a ++ b)) ≡ (if t then a else x ∷ y ∷ z ∷ a) ++ b
+    by true = refl
+    by false = refl
+
+feed-tail : (x y : ℕ) (a : List ℕ) → EndsWithFeed (x ∷ y ∷ a) → EndsWithFeed (y ∷ a)
+feed-tail x y a ([], is) = absurd (omega (arith, ap length is))
+feed-tail x y a (z ∷ front, is) = let rest : y ∷ a ≡ front ++ 10 ∷ [] = cc in (front, rest)
+
+strip-feed : (a : List ℕ) → 3 < length a → EndsWithFeed a → EndsWithFeed (strip_bom a)
+unfolding strip_bom
+strip-feed [] long ends = absurd (omega arith)
+strip-feed (x ∷ []) long ends = absurd (omega arith)
+strip-feed (x ∷ y ∷ []) long ends = absurd (omega arith)
+strip-feed (x ∷ y ∷ z ∷ []) long ends = absurd (omega arith)
+strip-feed (x ∷ y ∷ z ∷ w ∷ a) long ends = by (is_bom x y z)
+  where
+    by : (t : Bool) → EndsWithFeed (if t then w ∷ a else x ∷ y ∷ z ∷ w ∷ a)
+    by true = feed-tail z w a (feed-tail y z (w ∷ a) (feed-tail x y (z ∷ w ∷ a) ends))
+    by false = ends
+
+-- a text of records none of which ends with a line feed, but which does
+feed-between : (text : List ℕ) → EndsWithFeed text → All IsClosed (records default_config text) → EndsBetween st.StartRecord text
+feed-between text (front, is) closed =
+    let all = rw is at closed in
+    let ends : EndsBetween st.StartRecord (front ++ 10 ∷ []) = closed-between (length (front ++ 10 ∷ []) + 1) st.StartRecord front refl (omega arith) all in
+    rw is ends
+
+ends-from : (s : State) (b : List ℕ) → ends_at_end s ≡ false → EndsBetween st.StartRecord b → EndsBetween s b
+ends-from s [] between ends = between
+ends-from st.StartRecord (c ∷ b) between ends = ends
+ends-from st.AfterCr (c ∷ b) between ends = rw (step-after_cr c) ends
+ends-from st.StartField (c ∷ b) between ends = let h = between in cc
+ends-from st.InField (c ∷ b) between ends = let h = between in cc
+ends-from st.InQuoted (c ∷ b) between ends = let h = between in cc
+ends-from st.AfterQuote (c ∷ b) between ends = let h = between in cc
+ends-from st.InEscape (c ∷ b) between ends = let h = between in cc
+ends-from st.InComment (c ∷ b) between ends = let h = between in cc
+
+ends-append : (a b : List ℕ) → EndsBetween st.StartRecord a → EndsBetween st.StartRecord b → EndsBetween st.StartRecord (a ++ b)
+ends-append a b first second = rw (state-append st.StartRecord a b) (ends-from (state_after st.StartRecord a) b first second)
+
+-- ---- parts
+
+pub parts-whole : (scale : Scale) (text : List ℕ) (old new : RowsOf) (read : List ReadRow) (parts : Parts) → EndsWithFeed text
+    → rows_left old ≡ records default_config text → IsBatch scale (Rows old) read (Ok false) (Rows new) → All IsClosed (rows_left old)
+    → IsOnePart read parts → IsParts scale text parts
+parts-whole scale text old new read parts ends rows batch closed one = record {
+  rows = rw (one.rows, ← rows, ← batch.behind) batch.rows;
+  counted = rw one.rows one.count;
+  ends = feed-between text ends (rw rows at closed);
+  ids = rw one.rows batch.ids;
+}
+
+pub parts-both : (scale : Scale) (text a b : List ℕ) (first second all : Parts) → a ++ b ≡ text → IsParts scale a first → IsParts scale b second
+    → IsBoth first second all → IsParts scale text all
+parts-both scale text a b first second all is one other both =
+    rw (← is)
+    (record {
+      rows = rw (text-cut a b one.ends, both.rows)
+          (say-append scale (records default_config a) (records default_config b) (rows_of first) (rows_of second) [] one.rows other.rows);
+      counted = omega (arith, both.count, one.counted, other.counted, ap length both.rows, length-append (rows_of first) (rows_of second));
+      ends = ends-append a b one.ends other.ends;
+      ids = rw both.rows (All-append HasId (rows_of first) (rows_of second) one.ids other.ids);
+    })
+
+pub parts-batch : (scale : Scale) (text rest : Bor (List ℕ)) (count behind : ℕ) (round : List ℕ) (parts : Parts) → IsUnread (Text text count)
+    → round ++ rest.now ≡ text.now → IsParts scale round parts → IsPlain rest.now → behind ≡ count + parts.count → 0 < parts.count
+    → IsBatch scale (Text text count) (rows_of parts) (Ok true) (Text rest behind)
+parts-batch scale text rest count behind round parts unread is read plain counted some =
+    let cut : records default_config text.now ≡ records default_config round ++ records default_config rest.now =
+    ap (records default_config) (sym is) ∙ text-cut round rest.now read.ends in
+    let rows = say-then scale (records default_config round) (records default_config rest.now) (rows_of parts) read.rows in
+    let many = say-length scale (records default_config round ++ records default_config rest.now) (rows_of parts) (records default_config rest.now) rows in
+    let few = unread.1 in
+    record {
+      left = records default_config rest.now;
+      rows = rw cut rows;
+      behind = (
+        (plain, omega (arith, few, many, ap length cut, counted, read.counted)),
+        refl,
+        omega (arith, counted, read.counted),
+        omega (arith, some, read.counted),
+      );
+      ids = read.ids;
+      no_io = λ e. cc;
+    }
+
+-- ---- a header
+
+pub header-line : (line : List ℕ) (rows : RowsOf) → 3 < length line → EndsWithFeed line → IsOpened layer_columns line rows
+    → rows.unended ≡ false → rows_left rows ≡ [] → IsHeaderLine layer_columns line
+header-line line rows long ends opened ended none =
+    let alone : records_of line ≡ opened.header ∷ [] = opened.records ∙ ap (λ others. opened.header ∷ others) none in
+    record {
+      header = opened.header;
+      headed = opened.headed;
+      records = alone;
+      ends = feed-between (strip_bom line) (strip-feed line long ends)
+          (rw alone (All-cons IsClosed opened.header [] (opened.closed ended) (All-nil IsClosed)));
+      long = omega arith;
+    }
+
+pub header-unread : (bytes line : List ℕ) (rest : Bor (List ℕ)) → line ++ rest.now ≡ bytes → length bytes ≤ most_file_bytes
+    → IsHeaderLine layer_columns line → IsPlain rest.now → IsUnreadFile bytes (Text rest 0)
+header-unread bytes line rest is few headed plain =
+    let text : strip_bom bytes ≡ strip_bom line ++ rest.now = ap strip_bom (sym is) ∙ strip-append line rest.now headed.long in
+    let all : records_of bytes ≡ headed.header ∷ records default_config rest.now =
+    ap (records default_config) text ∙ text-cut (strip_bom line) rest.now headed.ends
+    ∙ ap (λ first. first ++ records default_config rest.now) headed.records in
+    record {
+      rows = rows-headed layer_columns bytes few headed.header (records default_config rest.now) all headed.headed;
+      none_read = refl;
+      reading = (
+        plain,
+        omega (arith, length-records_from (length rest.now + 1) st.StartRecord rest.now, ap length is, length-append line rest.now),
+      );
+    }

@@ -1,0 +1,74 @@
+//! Where a text of records is cut into parts, and whether a part is as one that ends a record.
+ghost use Rattle.std.specs.Prelude.{◌≡◌, ◌≤◌, ◌++◌, ◌↔◌, false, length, IsTrue, Bool};
+ghost use Rattle.csv.specs.Records.{fields_of};
+ghost use Rattle.file_core.specs.Cuts.{EndsWithFeed, IsClosed, IsPlain};
+
+use csv::ByteRecord;
+
+// How far before a place a cut is looked for.
+const WINDOW: usize = 4096;
+
+/// The text in two parts, the first of which has about so many bytes.
+///
+/// It is cut behind a line feed, if there is one near, and of these behind one that follows a
+/// quote: a line feed of a quoted field seldom does. Where the cut is wrong, this costs time alone.
+pub(crate) fn cut(text: &[u8], near: usize) -> (&[u8], &[u8])
+    ensures { result.0.now ++ result.1.now ≡ text.now }
+{
+    let end = near.min(text.len());
+    let start = end.saturating_sub(WINDOW);
+    let place = start.saturating_add(last_end(&text[start..end]));
+    text.split_at(place.min(text.len()))
+}
+
+// Behind the last line feed that follows a quote, or else behind the last one, or else 0.
+fn last_end(window: &[u8]) -> usize {
+    let mut last = 0;
+    let mut quoted = 0;
+    let mut before = 0;
+    for (i, byte) in window.iter().enumerate() {
+        if *byte == b'\n' {
+            last = i + 1;
+            if before == b'"' {
+                quoted = last;
+            }
+        }
+        if *byte != b'\r' {
+            before = *byte;
+        }
+    }
+    if quoted > 0 { quoted } else { last }
+}
+
+/// Whether a text ends with a line feed.
+pub(crate) fn ends_with_feed(text: &[u8]) -> bool
+    ensures { IsTrue result ↔ EndsWithFeed text.now }
+{
+    match text.split_last() {
+        Some((last, _)) => *last == b'\n',
+        None => false,
+    }
+}
+
+/// Whether the last field of a record ends with a line feed, as one that a cut has cut off does.
+pub(crate) fn is_unended(row: &ByteRecord) -> bool
+    ensures { result ≡ false → IsClosed (fields_of row.now) }
+{
+    let Some(last) = row.len().checked_sub(1) else {
+        return false;
+    };
+    match row.get(last) {
+        Some(field) => ends_with_feed(field),
+        None => true,
+    }
+}
+
+/// Whether a text doesn't begin as a byte order mark does.
+pub(crate) fn is_plain(text: &[u8]) -> bool
+    ensures { IsTrue result → IsPlain text.now }
+{
+    match text.first() {
+        Some(first) => *first != 0xEF,
+        None => true,
+    }
+}

@@ -1,0 +1,117 @@
+//! Parts of a text of records that are read side by side.
+ghost use Rattle.std.specs.Prelude.{◌≡◌, ◌++◌, IfSome};
+ghost use Rattle.file_core.specs.Parts.{IsBoth, IsOnePart, IsParts};
+
+use crate::batch::fill;
+use crate::cuts::{cut, ends_with_feed, is_plain};
+use crate::layer_row::ReadRow;
+use crate::rows::Rows;
+use crate::source::MAX_FILE_BYTES;
+use std::alloc::Global;
+use std::thread;
+use std::thread::Threads;
+use wkt_core::Scale;
+
+// How few bytes a row has on average in a part that is read.
+const LEAST_ROW: usize = 8;
+
+/// The rows of a text, part by part.
+#[derive(Drop)]
+pub(crate) struct Parts {
+    pub(crate) rows: Vec<Vec<ReadRow>>,
+    /// How many rows there are.
+    pub(crate) count: u32,
+}
+
+impl Parts {
+    /// These rows, and those of the text behind theirs.
+    fn and(self, mut others: Parts) -> Option<Parts>
+        ensures { IfSome result (λ all. IsBoth self others all) }
+    {
+        let Parts { mut rows, count } = self;
+        let count = count.checked_add(others.count)?;
+        rows.append(&mut others.rows).ok()?;
+        Some(Parts { rows, count })
+    }
+}
+
+/// How the rows of a text are read, all of them or none.
+pub(crate) trait ReadParts {
+    /// The rows of a text that begins and ends between two records. None may be answered for any
+    /// text, and is where that isn't seen or a row has a fault.
+    fn read(&self, alloc: Global, scale: Scale, text: &[u8]) -> Option<Parts>
+        ensures { IfSome result (IsParts scale text.now) };
+
+    /// How many parts are read.
+    fn count(&self) -> usize;
+}
+
+/// As one part.
+#[derive(Drop)]
+pub(crate) struct Whole;
+
+impl ReadParts for Whole {
+    fn read(&self, alloc: Global, scale: Scale, text: &[u8]) -> Option<Parts> {
+        read_whole(alloc, scale, text)
+    }
+
+    fn count(&self) -> usize {
+        1
+    }
+}
+
+/// A part in a thread of its own, and what is behind it in another way.
+#[derive(Drop)]
+pub(crate) struct Beside<'r, R, P>(pub(crate) &'r R, pub(crate) P);
+
+impl<R: Threads + Sync, P: ReadParts> ReadParts for Beside<'_, R, P> {
+    fn read(&self, alloc: Global, scale: Scale, text: &[u8]) -> Option<Parts> {
+        let Beside(rt, others) = self;
+        let share = text.len().checked_div(self.count()).unwrap_or(0);
+        let (front, back) = cut(text, share);
+        let read_front = move || -> Option<Parts>
+            ensures { IfSome result (IsParts scale front.entry.now) }
+        { read_whole(alloc, scale, front) };
+        let read_back = || -> Option<Parts>
+            ensures { IfSome result (IsParts scale back.entry.now) }
+        { others.read(alloc, scale, back) };
+        let (first, second) = thread::join(*rt, read_front, read_back);
+        first?.and(second?)
+    }
+
+    fn count(&self) -> usize {
+        self.1.count().saturating_add(1)
+    }
+}
+
+// The rows of a text that begins and ends between two records, where this is seen.
+fn read_whole(alloc: Global, scale: Scale, text: &[u8]) -> Option<Parts>
+    ensures { IfSome result (IsParts scale text.now) }
+{
+    if text.len() > MAX_FILE_BYTES || !is_plain(text) || !ends_with_feed(text) {
+        return None;
+    }
+    let mut reader = Rows::behind(alloc, text, 0);
+    let mut read = Vec::new(alloc);
+    let most = text.len() / LEAST_ROW + 1;
+    let more = fill(alloc, &mut read, &mut reader, scale, most);
+    let Ok(false) = more else {
+        return None;
+    };
+    if reader.has_unended() {
+        return None;
+    }
+    one_part(alloc, read)
+}
+
+// These rows as one part.
+fn one_part(alloc: Global, read: Vec<ReadRow>) -> Option<Parts>
+    ensures { IfSome result (λ parts. IsOnePart read.items parts) }
+{
+    let Ok(count) = u32::try_from(read.len()) else {
+        return None;
+    };
+    let mut rows = Vec::new(alloc);
+    rows.push(read).ok()?;
+    Some(Parts { rows, count })
+}

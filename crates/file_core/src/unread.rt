@@ -1,0 +1,87 @@
+//! What of a layer's file isn't read yet.
+ghost use Rattle.std.specs.Prelude.{◌≡◌, ◌≢◌, Err, IfOk, IfErr, IfSome, IsTrue};
+ghost use Rattle.file_core.specs.LayerFiles.{layer_columns};
+ghost use Rattle.file_core.specs.Rows.{AreRows, IsReading, rows_left};
+ghost use Rattle.file_core.specs.Unread.{IsHeaderLine, IsUnread, IsUnreadFile};
+ghost use Rattle.file_core.specs.Unread.{count_unread, records_unread};
+
+use crate::cuts::{ends_with_feed, is_plain};
+use crate::read_fault::ReadFault;
+use crate::rows::Rows;
+use crate::source::MAX_FILE_BYTES;
+use std::alloc::Global;
+
+/// The columns of a layer's file.
+pub(crate) const COLUMNS: [&str; 2] = ["id", "wkt"];
+
+// How many bytes a byte order mark has.
+const MARK: usize = 3;
+
+/// The rows that are left of a file.
+#[derive(Drop)]
+pub(crate) enum Unread<'a> {
+    /// Those of a text that begins between two records, behind so many rows.
+    Text(&'a [u8], u32),
+    /// Those that a reader has left.
+    Rows(Rows<'a>),
+}
+
+impl<'a> Unread<'a> {
+    /// The rows of a file.
+    pub(crate) fn open(alloc: Global, bytes: &'a [u8]) -> Result<Unread<'a>, ReadFault>
+        ensures ok { IfOk result (IsUnreadFile bytes.now) }
+        ensures err { IfErr result (λ fault. fault ≢ ReadFault.Memory
+            → AreRows layer_columns bytes.now (Err fault)) }
+        ensures no_io { result ≢ Err ReadFault.Io }
+    {
+        match behind_header(alloc, bytes) {
+            Some(text) => Ok(Unread::Text(text, 0)),
+            None => Ok(Unread::Rows(Rows::open(alloc, bytes, &COLUMNS)?)),
+        }
+    }
+
+    /// A reader of the rows.
+    pub(crate) fn into_rows(self, alloc: Global) -> Rows<'a>
+        requires { IsUnread self }
+        ensures reading { IsReading result }
+        ensures rows { rows_left result ≡ records_unread self.entry }
+        ensures count { result.count ≡ count_unread self.entry }
+    {
+        match self {
+            Unread::Text(text, count) => Rows::behind(alloc, text, count),
+            Unread::Rows(rows) => rows,
+        }
+    }
+}
+
+// What is behind the header, where that is the first line by itself.
+fn behind_header(alloc: Global, bytes: &[u8]) -> Option<&[u8]>
+    ensures { IfSome result (λ text. IsUnreadFile bytes.now (Unread.Text text 0)) }
+{
+    let feed = bytes.iter().position(|byte| *byte == b'\n')?;
+    let (line, rest) = bytes.split_at_checked(feed.saturating_add(1))?;
+    if bytes.len() <= MAX_FILE_BYTES && is_header_line(alloc, line) && is_plain(rest) {
+        Some(rest)
+    } else {
+        None
+    }
+}
+
+// Whether a line is a header and nothing else.
+fn is_header_line(alloc: Global, line: &[u8]) -> bool
+    ensures { IsTrue result → IsHeaderLine layer_columns line.now }
+{
+    if line.len() <= MARK || !ends_with_feed(line) {
+        return false;
+    }
+    let Ok(mut rows) = Rows::open(alloc, line, &COLUMNS) else {
+        return false;
+    };
+    if rows.has_unended() {
+        return false;
+    }
+    let Ok(None) = rows.next() else {
+        return false;
+    };
+    true
+}
