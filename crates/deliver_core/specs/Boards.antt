@@ -6,7 +6,7 @@ use Rattle.atomic_table.specs.declared.shared.Seat.{Seat}
 use Rattle.deliver_core.specs.declared.board.rule.SeatView.{SeatView}
 use Rattle.deliver_core.specs.declared.board.rule.Size.{Size}
 use Rattle.deliver_core.specs.Draws.{SeatState, seat_after}
-use Rattle.deliver_core.specs.declared.limits.TheConstants.{MAX_WORKERS}
+use Rattle.deliver_core.specs.Limits.{most_workers}
 
 -- a board: what no other board shares with it, its number of tasks and its number of seats
 pub record BoardValue : Type 0 where
@@ -106,4 +106,4 @@ pub record IsMadeFor (id : TableId) (size : Size) (tasks : ℕ) : Type 0 where
   pub tasks_are : tasks ≡ size.tasks
   pub few_tasks : size.tasks < 2 ^ 32
   pub some_seats : 1 ≤ size.seats
-  pub few_seats : size.seats ≤ MAX_WORKERS
+  pub few_seats : size.seats ≤ most_workers

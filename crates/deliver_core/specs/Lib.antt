@@ -4,6 +4,7 @@ pub mod Byes
 pub mod Collectors
 pub mod Draws
 pub mod FaultTexts
+pub mod Limits
 pub mod Marks
 pub mod OptionTexts
 pub mod Options

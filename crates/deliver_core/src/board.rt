@@ -4,12 +4,12 @@ ghost use Rattle.std.specs.Prelude.{Any, None, IfSome, IfNone, IfOk, map, replic
 ghost use Rattle.std.specs.Prelude.{flat_map};
 ghost use Rattle.deliver_core.specs.Draws.{AreNumbersBelow};
 ghost use Rattle.deliver_core.specs.BoardRule.{ObeysRule};
+ghost use Rattle.deliver_core.specs.Limits.{most_workers};
 ghost use Rattle.deliver_core.specs.declared.board.rule.SeatView.{SeatView};
 
 mod rule;
 mod seat;
 
-use crate::limits::MAX_WORKERS;
 use atomic_table::Table;
 use rule::{Draw, EachOnce, JoinSeats, SeatView, Size, SplitSeat};
 pub use seat::BoardSeat;
@@ -42,9 +42,10 @@ impl Board {
     ghost use Rattle.deliver_core.specs.Boards.{fresh_seat, spent_seat, size_of, IsSeatOf};
     ghost use Rattle.deliver_core.specs.Boards.{IsAfterNumber, IsAfterEnd, IsDraw};
 
-    /// A board of this many tasks, and its seats, none of which has drawn.
+    /// A board of this many tasks, and its seats, at most [`crate::MAX_WORKERS`], none of which has
+    /// drawn.
     pub fn new(alloc: Global, tasks: u32, seats: u32) -> Result<(Board, Vec<BoardSeat>), AllocError>
-        requires { (1 ≤ seats) × (seats ≤ MAX_WORKERS) }
+        requires { (1 ≤ seats) × (seats ≤ most_workers) }
         ensures board { IfOk result (λ r. (r.0.tasks ≡ tasks) × (r.0.seats ≡ seats)) }
         ensures seats { IfOk result (λ r. r.1.items ≡ replicate seats (fresh_seat r.0)) }
     {

@@ -3,18 +3,9 @@
 ghost use Rattle.std.specs.Prelude.{◌<◌, ◌≤◌};
 ghost use Rattle.deliver_core.specs.Limits.{most_workers, most_batch, most_cut};
 
-use crate::board::Board;
+use crate::limits::{MAX_BATCH, MAX_CUT, MAX_WORKERS};
 use std::error::Error;
 use std::fmt;
-
-/// The most workers of a join, each of which has a seat.
-pub const MAX_WORKERS: u32 = Board::MAX_SEATS;
-
-/// The most pairs of a batch.
-pub const MAX_BATCH: u32 = 4096;
-
-/// The most rounds of cutting the two trees into tasks.
-pub const MAX_CUT: u8 = 8;
 
 /// How a join is run.
 #[derive(Clone, Copy, Debug, PartialEq, Eq)]

@@ -1,5 +1,5 @@
 //! The outlet: one bounded queue by which the messages of every port reach the tap.
-use crate::limits::{MAX_WAITING, MAX_WORKERS};
+use crate::limits::MAX_WAITING;
 use crate::message::{Body, Message};
 use crate::pass_view::{InOrder, Make, Meet, PassView, Put, Take};
 use crate::port::Port;
@@ -26,6 +26,7 @@ impl Outlet {
     ghost use mathlib.Core.List.{IsPrefix};
     ghost use Rattle.crossbeam_queue.specs.Passes.{view, IsPassOf, IsSamePass};
     ghost use Rattle.deliver_core.specs.Byes.{has_bye};
+    ghost use Rattle.deliver_core.specs.Limits.{most_waiting, most_workers};
     ghost use Rattle.deliver_core.specs.OutletCalls.{IsFreshPort, IsFreshTap, IsOpenPort};
     ghost use Rattle.deliver_core.specs.OutletCalls.{IsEndedPort, IsForPort, bye_of, IsAfterTaking};
     ghost use Rattle.deliver_core.specs.OutletCalls.{IsAfterNothing, IsSameTap, IsSpentPort};
@@ -40,12 +41,12 @@ impl Outlet {
     /// An outlet, in which [`MAX_WAITING`] messages may wait, its ports, in the order of their
     /// indexes, and its tap. It fails only where memory runs out.
     pub fn new(alloc: Global, ports: u32) -> Result<(Outlet, Vec<Port>, Tap), AllocError>
-        requires ports { (1 ≤ ports) × (ports ≤ MAX_WORKERS) }
-        ensures count { IfOk result (λ r. (vec_len r.1 ≡ ports) × (ports ≤ MAX_WORKERS)) }
+        requires ports { (1 ≤ ports) × (ports ≤ most_workers) }
+        ensures count { IfOk result (λ r. (vec_len r.1 ≡ ports) × (ports ≤ most_workers)) }
         ensures indexes { IfOk result (λ r. map index_of r.1.items ≡ range_with_len 0 ports) }
         ensures fresh { IfOk result (λ r. All (IsFreshPort r.0) r.1.items) }
         ensures tap { IfOk result (λ r. IsFreshTap r.0 ports r.2) }
-        ensures room { IfOk result (λ r. room_of r.0 ≡ MAX_WAITING) }
+        ensures room { IfOk result (λ r. room_of r.0 ≡ most_waiting) }
     {
         let mut all = Vec::with_capacity(alloc, ports as usize)?;
         let (queue, mut pass) = Queue::ruled(alloc, MAX_WAITING)?;

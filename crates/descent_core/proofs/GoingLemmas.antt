@@ -7,7 +7,7 @@ use Rattle.std.proofs.lemmas.List.Elements.{All-weaker}
 use Rattle.rtree_core.specs.declared.node.Node.{Node}
 use Rattle.descent_core.specs.Lists.{IsKept}
 use Rattle.descent_core.specs.Depths.{lower_pairs}
-use Rattle.descent_core.specs.declared.rounds.TheConstants.{MAX_TASKS}
+use Rattle.descent_core.specs.Plans.{most_tasks}
 use Rattle.descent_core.specs.Plans.{CoversMeet, AreAt, AreFewAt, AreDeepest}
 use Rattle.descent_core.specs.Steps.{AreMeeting, AreTaken, AreTooMany}
 use Rattle.descent_core.proofs.KeptLemmas.{kept_hold, kept_too}
@@ -25,14 +25,14 @@ all_meeting tasks lawful meet k d lt =
 pub record AreReached (above : List (Node × Node)) (d : ℕ) (tasks : List (Node × Node)) : Type 0 where
   pub lawful : All AreLawful above
   pub here : AreAt above d tasks
-  pub few_here : length tasks ≤ MAX_TASKS
+  pub few_here : length tasks ≤ most_tasks
   pub few : (e : ℕ) → e ≤ d → AreFewAt above e
 
 pub meeting_here : (above : List (Node × Node)) (d : ℕ) (tasks : List (Node × Node)) → AreReached above d tasks → All AreMeeting tasks
 meeting_here above d tasks h =
     all_meeting tasks (kept_too CoversMeet AreLawful h.here (all_depth_lawful d above h.lawful)) (kept_hold CoversMeet h.here)
 
-pub reached_start : (above : List (Node × Node)) → All AreMeeting above → length above ≤ MAX_TASKS → AreReached above 0 above
+pub reached_start : (above : List (Node × Node)) → All AreMeeting above → length above ≤ most_tasks → AreReached above 0 above
 reached_start above meeting few =
     let here = at_start above (All-weaker AreMeeting CoversMeet (λ t m. m.meet) above meeting) in
     record {

@@ -12,7 +12,7 @@ use Rattle.geom_core.specs.Cells.{IsWithin, Meets}
 use Rattle.geom_core.proofs.SpanLemmas.{common_line}
 use Rattle.rtree_core.specs.declared.node.Node.{Node}
 use Rattle.descent_core.specs.Lists.{IsKept, none, kept, left_out}
-use Rattle.descent_core.specs.declared.rounds.TheConstants.{MAX_TASKS}
+use Rattle.descent_core.specs.Plans.{most_tasks}
 use Rattle.descent_core.specs.Plans.{CoversMeet}
 use Rattle.descent_core.specs.Steps.{nodes_of, AreTaken, AreTooMany}
 use Rattle.descent_core.proofs.KeptLemmas.{kept_append, kept_some}
@@ -50,7 +50,7 @@ covers_meet_or_not p = meet_or_not p.0.cover p.1.cover
 pub some_met : (pairs : List (Node × Node)) → (met : List (Node × Node)) × IsKept CoversMeet pairs met
 some_met pairs = kept_some CoversMeet covers_meet_or_not pairs
 
-pub taken_none : (old : List (Node × Node)) → length old ≤ MAX_TASKS → AreTaken [] old old
+pub taken_none : (old : List (Node × Node)) → length old ≤ most_tasks → AreTaken [] old old
 taken_none old few = record { met = []; kept = none; items = sym (append-nil old); few = few }
 
 taken_append : (a b old mid new : List (Node × Node)) → AreTaken a old mid → AreTaken b mid new → AreTaken (a ++ b) old new
@@ -98,7 +98,7 @@ alone_all left rights = flat_map_single (λ right. (left, right)) rights
 
 -- a pair whose covers meet comes to the end
 pub takes_one : (left right : Node) (old new : List (Bor Node × Bor Node)) (l r : Bor Node) → l.now ≡ left → r.now ≡ right → CoversMeet (left, right) →
-    length (nodes_of old) ≤ MAX_TASKS → length (nodes_of old) ≢ MAX_TASKS → new ≡ old ++ (l, r) ∷ [] →
+    length (nodes_of old) ≤ most_tasks → length (nodes_of old) ≢ most_tasks → new ≡ old ++ (l, r) ∷ [] →
     AreTaken (alone left right) (nodes_of old) (nodes_of new)
 takes_one left right old new l r at_left at_right meet few more items =
     let pushed : nodes_of new ≡ nodes_of old ++ (left, right) ∷ [] =
@@ -110,11 +110,11 @@ takes_one left right old new l r at_left at_right meet few more items =
       few = omega (arith, ap length pushed, length-append (nodes_of old) ((left, right) ∷ []));
     }
 
-pub takes_not_one : (left right : Node) (old : List (Node × Node)) → ¬ (CoversMeet (left, right)) → length old ≤ MAX_TASKS →
+pub takes_not_one : (left right : Node) (old : List (Node × Node)) → ¬ (CoversMeet (left, right)) → length old ≤ most_tasks →
     AreTaken (alone left right) old old
 takes_not_one left right old apart few = record { met = []; kept = left_out apart none; items = sym (append-nil old); few = few }
 
-pub full_for_one : (left right : Node) (old : List (Node × Node)) → CoversMeet (left, right) → length old ≡ MAX_TASKS → AreTooMany (alone left right) old
+pub full_for_one : (left right : Node) (old : List (Node × Node)) → CoversMeet (left, right) → length old ≡ most_tasks → AreTooMany (alone left right) old
 full_for_one left right old meet full = record { met = (left, right) ∷ []; kept = kept meet none; many = omega arith }
 
 -- what was taken of all items

@@ -5,9 +5,12 @@ use Rattle.geom_core.specs.Cells.{Meets}
 use Rattle.rtree_core.specs.declared.node.Node.{Node}
 use Rattle.rtree_core.specs.Nodes.{entries_of, node_cover, IsLawful}
 use Rattle.rtree_core.specs.Trees.{has_number}
-use Rattle.descent_core.specs.declared.rounds.TheConstants.{MAX_TASKS}
 use Rattle.descent_core.specs.Lists.{IsKept}
 use Rattle.descent_core.specs.Depths.{at_depth}
+
+-- the most tasks of a plan
+abbrev pub most_tasks : ℕ
+most_tasks = 65536
 
 -- the covers of the two nodes share a cell
 abbrev pub CoversMeet : Node × Node → Type 0
@@ -25,10 +28,10 @@ AreAt above d met = IsKept CoversMeet (flat_map (at_depth d) above) met
 
 -- there are not too many of them for a plan
 abbrev pub AreFewAt : List (Node × Node) → ℕ → Type 0
-AreFewAt above d = (met : List (Node × Node)) × AreAt above d met × (length met ≤ MAX_TASKS)
+AreFewAt above d = (met : List (Node × Node)) × AreAt above d met × (length met ≤ most_tasks)
 
 abbrev pub AreTooManyAt : List (Node × Node) → ℕ → Type 0
-AreTooManyAt above d = (met : List (Node × Node)) × AreAt above d met × (MAX_TASKS < length met)
+AreTooManyAt above d = (met : List (Node × Node)) × AreAt above d met × (most_tasks < length met)
 
 -- the pairs at the greatest depth, up to the cut, such that at no depth up to it are too many
 pub record AreDeepest (above : List (Node × Node)) (cut : ℕ) (tasks : List (Node × Node))

@@ -11,8 +11,7 @@ use Rattle.rtree_core.specs.declared.node.Node.{Node}
 use Rattle.rtree_core.specs.Nodes.{entries_of, level_of, node_cover, IsLawful}
 use Rattle.rtree_core.specs.Trees.{IsTree}
 use Rattle.descent_core.specs.Lists.{IsKept}
-use Rattle.descent_core.specs.declared.rounds.TheConstants.{MAX_TASKS}
-use Rattle.descent_core.specs.Plans.{roots, CoversMeet, IsTask}
+use Rattle.descent_core.specs.Plans.{most_tasks, roots, CoversMeet, IsTask}
 
 -- the nodes hold what the node holds, one level below it, or the node is a leaf
 pub record IsOneLower (n : Node) (below : List Node) : Type 0 where
@@ -27,7 +26,7 @@ nodes_of = map (λ t. (t.0.now, t.1.now))
 
 -- the tasks of a plan, as far as its methods rest on them
 pub record AreTasks (tasks : List (Node × Node)) : Type 0 where
-  pub few : length tasks ≤ MAX_TASKS
+  pub few : length tasks ≤ most_tasks
   pub each : All IsTask tasks
 
 -- two lawful nodes whose covers meet
@@ -49,13 +48,13 @@ pub record AreTaken (offered old new : List (Node × Node)) : Type 0 where
   pub met : List (Node × Node)
   pub kept : IsKept CoversMeet offered met
   pub items : new ≡ old ++ met
-  pub few : length new ≤ MAX_TASKS
+  pub few : length new ≤ most_tasks
 
 -- there was no room for the pairs whose covers meet
 pub record AreTooMany (offered old : List (Node × Node)) : Type 0 where
   pub met : List (Node × Node)
   pub kept : IsKept CoversMeet offered met
-  pub many : MAX_TASKS < length old + length met
+  pub many : most_tasks < length old + length met
 
 -- what came of offering these pairs to a list, by whether there was room
 abbrev pub TakesIn : List (Node × Node) → List (Node × Node) → List (Node × Node) → Bool → Type 0

@@ -37,7 +37,7 @@ impl<'a> Plan<'a> {
     ghost use Rattle.geom_core.specs.declared.relation.Relation.{Relation};
     ghost use Rattle.geom_core.specs.Relations.{ForbidsDisjoint};
     ghost use Rattle.rtree_core.specs.Trees.{entries_in};
-    ghost use Rattle.descent_core.specs.Plans.{IsPlan, IsTask};
+    ghost use Rattle.descent_core.specs.Plans.{most_tasks, IsPlan, IsTask};
     ghost use Rattle.descent_core.specs.Shares.{ShareOut, RowsJoin};
 
     /// The pairs of nodes at the greatest depth, up to `cut`, that makes no more than
@@ -68,7 +68,7 @@ impl<'a> Plan<'a> {
     /// The number of tasks.
     pub fn len(&self) -> u32
         ensures len { result ≡ length self.now }
-        ensures few { result ≤ MAX_TASKS }
+        ensures few { result ≤ most_tasks }
     {
         self.tasks.len() as u32
     }

@@ -4,7 +4,7 @@ ghost use Rattle.std.specs.Prelude.{◌≤◌, length, map, All, IfOk};
 ghost use Rattle.std.specs.List.{flat_map};
 ghost use Rattle.descent_core.specs.Lists.{pairs};
 ghost use Rattle.descent_core.specs.Depths.{lower_pairs};
-ghost use Rattle.descent_core.specs.Plans.{AreDeepest};
+ghost use Rattle.descent_core.specs.Plans.{most_tasks, AreDeepest};
 ghost use Rattle.descent_core.specs.Steps.{nodes_of, AreMeeting, IsNextRound, TakesIn};
 
 use crate::lower::lower;
@@ -23,7 +23,7 @@ pub(crate) fn go_down<'a>(
     mut tasks: Vec<Task<'a>>,
     rounds: u8,
 ) -> Result<Vec<Task<'a>>, AllocError>
-    requires few { length tasks.items ≤ MAX_TASKS }
+    requires few { length tasks.items ≤ most_tasks }
     requires meeting { All AreMeeting (nodes_of tasks.items) }
     ensures { let above = nodes_of tasks.entry.items in
         IfOk result (λ v. AreDeepest above rounds (nodes_of v.items)) }
@@ -58,7 +58,7 @@ fn push_lower<'a>(
     rights: &'a [Node],
     next: &mut Vec<Task<'a>>,
 ) -> Result<bool, AllocError>
-    requires { length next.old.items ≤ MAX_TASKS }
+    requires { length next.old.items ≤ most_tasks }
     ensures { let offered = pairs lefts.now rights.now in
         IfOk result (TakesIn offered (nodes_of next.old.items) (nodes_of next.new.items)) }
 {
@@ -76,7 +76,7 @@ fn push_beside<'a>(
     rights: &'a [Node],
     next: &mut Vec<Task<'a>>,
 ) -> Result<bool, AllocError>
-    requires { length next.old.items ≤ MAX_TASKS }
+    requires { length next.old.items ≤ most_tasks }
     ensures { let offered = map (λ right. (left.now, right)) rights.now in
         IfOk result (TakesIn offered (nodes_of next.old.items) (nodes_of next.new.items)) }
 {

@@ -14,9 +14,9 @@ mod shared;
 mod team;
 mod working;
 
-pub use deliver_core::MAX_WORKERS;
+pub use deliver_core::{MAX_BATCH, MAX_WORKERS};
 pub use delivery::run_workers;
 pub use fault::JoinFault;
 pub use gate::{Gate, OpenGate};
 pub use rows::Rows;
-pub use working::{MAX_BATCH, Worked, worker};
+pub use working::{Worked, worker};

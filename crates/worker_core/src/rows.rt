@@ -2,9 +2,10 @@
 ghost use Rattle.std.specs.Prelude.{◌≡◌, ◌<◌, ◌≤◌, List, length, IfOk};
 ghost use Rattle.geom_core.specs.JoinRelations.{relation_of};
 ghost use Rattle.rtree_core.specs.declared.node.Node.{Node};
+ghost use Rattle.descent_core.specs.Plans.{most_tasks};
 ghost use Rattle.worker_core.specs.Workers.{IsRowIn};
 
-use descent_core::{MAX_TASKS, Plan, row};
+use descent_core::{Plan, row};
 use geom_core::JoinRelation;
 use std::alloc::{AllocError, Global};
 
@@ -17,7 +18,7 @@ pub trait Rows {
     /// How many tasks there are.
     fn len(&self) -> u32
         ensures len { result ≡ length (tasks self.now) }
-        ensures few { result ≤ MAX_TASKS };
+        ensures few { result ≤ most_tasks };
 
     /// The row of the task of this number.
     fn row_of(

@@ -14,15 +14,12 @@ use crate::gate::Gate;
 use crate::rows::Rows;
 use crate::script::send_script;
 use crate::shared::Shared;
-use deliver_core::{Board, BoardSeat, Outlet, Port};
+use deliver_core::{Board, BoardSeat, MAX_BATCH, Outlet, Port};
 use descent_core::Plan;
 use geom_core::JoinRelation;
 use std::alloc::{AllocError, Global};
 use std::sync::Wait;
 use std::thread::Threads;
-
-/// The most pairs of a batch.
-pub const MAX_BATCH: u32 = deliver_core::MAX_BATCH;
 
 /// A worker's seat and port, when it has said bye.
 #[derive(Drop)]

@@ -1,6 +1,6 @@
 use Rattle.std.proofs.Common.{arith, ◌≡◌, ◌≢◌, length, refl}
 use Rattle.std.proofs.lemmas.Bool.{false≢true}
-use Rattle.descent_core.specs.declared.rounds.TheConstants.{MAX_TASKS}
+use Rattle.descent_core.specs.Plans.{most_tasks}
 use Rattle.descent_core.specs.Steps.{nodes_of}
 use Rattle.descent_core.proofs.RoundLemmas.{alone, alone_all, taken_none, taken_more, too_many, taken_all, takes_one, takes_not_one, full_for_one}
 use Rattle.descent_core.proofs.TaskLemmas.{length_nodes}
@@ -19,7 +19,7 @@ loop-right-preserved c =
     let meets = rw (c.cover.ensures.value, c.cover-in-loop-right.ensures.value) at c.meets.ensures in
     elim c.if-meets.branch [
       | then-meets+else-len-eq-MAX_TASKS+in_ok-push w ↦
-          let room : length (nodes_of before.items) ≢ MAX_TASKS =
+          let room : length (nodes_of before.items) ≢ most_tasks =
           λ full. w.if-len-eq-MAX_TASKS.false (omega (arith, w.len.ensures, full, length_nodes before.items, before.ok.0)) in
           rw w.next-is (taken_more (alone left) c.args.rights.now c.loop-right.right-index right old (nodes_of before.items) c.loop-right-test.true
           c.right-item.is c.loop-right.invariant _
@@ -36,7 +36,7 @@ returns-then-len-eq-MAX_TASKS c =
     let right = c.right-item.result in
     let before = c.loop-right.next in
     let meets = rw (c.cover.ensures.value, c.cover-in-loop-right.ensures.value) at c.meets.ensures in
-    let full : length (nodes_of before.items) ≡ MAX_TASKS =
+    let full : length (nodes_of before.items) ≡ most_tasks =
     omega (arith, c.len.ensures, c.if-len-eq-MAX_TASKS.true, length_nodes before.items, before.ok.0) in
     rw (← alone_all left c.args.rights.now) (too_many (alone left) c.args.rights.now c.loop-right.right-index right (nodes_of c.args.next.now.items)
     (nodes_of before.items) c.loop-right-test.true c.right-item.is c.loop-right.invariant
