@@ -8,6 +8,7 @@ mod devices;
 mod edits;
 mod files;
 mod mixed;
+mod parts;
 mod refused_memory;
 mod stats;
 

@@ -1,0 +1,80 @@
+//! Files that threads read in parts: wherever they are cut, the layer is that of one thread.
+
+use super::*;
+
+// How many rows a file has, so that it is read in parts.
+const ROWS: u32 = 10_000;
+
+// What a row has before and behind its number: line feeds and quotes where a cut may come.
+const FORMS: &[(&str, &str)] = &[
+    ("\"p", "\n\",POINT (1 2)\n"),
+    ("p", ",\"POINT (1\n2)\"\n"),
+    ("x\"", ",POINT (1 2)\n"),
+    ("p", ",POINT (1 2)\r\n"),
+    ("p", ",POINT (1 2)\n\n\r"),
+    ("\u{feff}p", ",POINT (1 2)\n"),
+];
+
+// A layer file of rows of a form.
+fn file_of(alloc: Global, front: &str, back: &str) -> Result<String, AllocError> {
+    let mut file = String::from_str(alloc, "id,wkt\n")?;
+    for i in 0..ROWS {
+        write!(file, "{front}{i}{back}")?;
+    }
+    Ok(file)
+}
+
+// The layer has all rows, the last of which has this id.
+fn has_all(layer: &Layer, last: &str, shape: Shape) -> bool {
+    layer.len() == ROWS as usize && finds(layer, last, ROWS - 1, shape)
+}
+
+// The place of the first form whose file so many threads read as another layer.
+fn first_other_form<R: Threads + Sync + RandomSource + AllocGlobal>(
+    rt: &R,
+    threads: u32,
+) -> Result<Option<usize>, Fail> {
+    let ids = [
+        "p9999\n",
+        "p9999",
+        "x\"9999",
+        "p9999",
+        "p9999",
+        "\u{feff}p9999",
+    ];
+    for (place, ((front, back), last)) in FORMS.iter().zip(ids).enumerate() {
+        let file = file_of(rt.alloc(), front, back)?;
+        if !has_all(
+            &layer_by(rt, file.as_bytes(), threads)??,
+            last,
+            point(1, 2)?,
+        ) {
+            return Ok(Some(place));
+        }
+    }
+    Ok(None)
+}
+
+#[test]
+fn forms_in_parts(rt: HostRuntime) -> Result<(), Fail> {
+    for threads in [1, 2, 4] {
+        assert_eq!(rt; first_other_form(&rt, threads)?, None);
+    }
+    Ok(())
+}
+
+// A fault behind a cut is told with its row's number in the file, and before one of a later part.
+#[test]
+fn faults_in_parts(rt: HostRuntime) -> Result<(), Fail> {
+    let mut file = points_file(rt.alloc(), ROWS)?;
+    file.push_str("p0,POINT (0 0)\n")?;
+    for i in 0..ROWS {
+        writeln!(file, "q{i},POINT ({i} 0)")?;
+    }
+    file.push_str("r,POINT (0\n")?;
+    for threads in [1, 2, 4] {
+        let fault = layer_by(&rt, file.as_bytes(), threads)?.err();
+        assert!(rt; fault == Some(ReadFault::Layer(10_001, LayerFault::DoubleId)));
+    }
+    Ok(())
+}
