@@ -1,9 +1,10 @@
 -- How a command comes to its usage.
-use Rattle.std.proofs.Common.{◌≡◌, ◌∙◌, ◌++◌, ◌∷◌, ◌||◌, [], List, Bool, true, false, refl, ap, ap₂, append_assoc}
+use Rattle.std.proofs.Common.{◌≡◌, ◌∙◌, ◌++◌, ◌∷◌, ◌||◌, [], List, Bool, true, false, refl, ap, ap₂, append_assoc, Some, option_map}
 use Rattle.clap.specs.Words.{AddsArg, AddsSubcommand, App, app_of, Rule, Shape, Text, with_rule, with_subcommand}
-use Rattle.clap.specs.Simple.{new_shape}
+use Rattle.clap.specs.Simple.{app_of_fields, new_shape}
 use Rattle.clap.specs.declared.builder.arg.Arg.{Arg}
 use Rattle.clap.specs.declared.builder.command.Command.{Command}
+use Rattle.clap.specs.declared.builder.command.Command.TheOpen.{Command-F}
 use Rattle.clap.specs.declared.builder.command.Command.TheViews.{out-Command as fields_of}
 use Rattle.words_core.specs.Usage.{AddsRules, HasRules, HasUsage, IsArgument, IsBegun, with_rules}
 
@@ -29,6 +30,18 @@ adds_then rules more old mid new first second = record {
   where
     with_all : App → List Rule → App
     with_all a rs = record a { top = record a.top { rules = rs } }
+
+-- a new command is begun when help says something of it
+pub is_begun : (begun : Shape) (new said shown : Command) (about help : _) → app_of new ≡ record { top = begun; subs = [] } → (fields_of new).has_globals ≡ false
+    → fields_of said ≡ record (fields_of new) { about = Some about } → fields_of shown ≡ record (fields_of said) { after_help = Some help }
+    → IsBegun begun about.now shown
+is_begun begun new said shown about help shape local is_said is_shown =
+    let shown_fields = is_shown ∙ ap (λ (f : Command-F Command). record f { after_help = Some help }) is_said in
+    record {
+      shape = ap app_of_fields shown_fields ∙ shape;
+      about = ap (λ (f : Command-F Command). option_map (λ about. about.now) f.about) shown_fields;
+      local = ap (λ (f : Command-F Command). f.has_globals) shown_fields ∙ local;
+    }
 
 -- a begun command has the arguments that were added
 pub has_rules : (name text : Text) (rules : List Rule) (begun new : Command) → IsBegun (new_shape name) text begun → AddsRules begun rules new → HasRules name rules new
