@@ -20,7 +20,7 @@ out/crates.mk: crates.txt tools/crates.py tools/rules Makefile
 	@tools/rules $(PROGRAM) $(CORES) >$@.new && mv $@.new $@
 
 out/proved/%.done:
-	@tools/prove $* $(JOBS) || { kill -TERM $$PPID; exit 1; }
+	@nice -n $(firstword $(SHARE)) tools/prove $* $(lastword $(SHARE)) || { kill -TERM $$PPID; exit 1; }
 
 .PHONY: all
 .DELETE_ON_ERROR:
