@@ -1,5 +1,5 @@
 -- How a command ends, by what its files and its run did.
-use Rattle.std.proofs.Common.{◌≡◌, ◌≢◌, ◌↔◌, ℕ, List, Option, Some, None, Bool, true, false, Result, Ok, Err, IsErrAnd, ◌⊎◌, inl, inr, IfErr, IfSome, OnOk}
+use Rattle.std.proofs.Common.{◌≡◌, ◌≢◌, ◌↔◌, ℕ, List, Option, Some, None, Bool, false, Result, Ok, Err, IsErrAnd, ◌⊎◌, inl, inr, IfErr, IfSome}
 use Rattle.std.proofs.Common.{refl, sym, subst, ◌∙◌}
 use Rattle.std.specs.Borrow.{Bor}
 use Rattle.wkt_core.specs.declared.fault.WktFault.{WktFault}
@@ -8,51 +8,13 @@ use Rattle.join_core.specs.declared.fault.Input.{Input}
 use Rattle.join_core.specs.declared.fault.RunFault.{RunFault}
 use Rattle.join_core.specs.declared.fault.RunFault.TheVariants as run
 use Rattle.join_core.specs.Relating.{RelateGives, IsMatrixLine, HasFirstFault, IsTextFault}
-use Rattle.join_core.specs.Runs.{Ends, WritesAll, WritesPrefix}
+use Rattle.join_core.specs.Runs.{Ends}
+use Rattle.join_core.proofs.RunLemmas.{ends_as, not_begun}
 use Rattle.words_core.specs.declared.words.Command.{Command}
 use Rattle.words_core.specs.declared.words.Command.TheVariants.{Relate}
 use Rattle.command_core.specs.Commands.{AfterOpening, CommandGives, IsCommandText, BlamesCommand, IsFoundFirst, IsFoundNext}
 use Rattle.command_core.specs.Commands.{IsFaultOf, CommandEnds}
 use Rattle.command_core.specs.Opening.{Files}
-
--- a run of one kind of text is one of another that includes it
-abbrev all_as : (P Q : List ℕ → Type 0) → ((text : List ℕ) → P text → Q text) → (old new : Option (List ℕ)) → WritesAll P old new → WritesAll Q old new
-all_as P Q into old new h = (h.0, into h.0 h.1, h.2)
-
-abbrev prefix_as : (P Q : List ℕ → Type 0) → ((text : List ℕ) → P text → Q text) → (old new : Option (List ℕ)) → WritesPrefix P old new → WritesPrefix Q old new
-prefix_as P Q into old new h = (h.0, into h.0 h.1, h.2)
-
-on_ok_as : {T : Type 0} (P Q : Type 0) (result : Result T RunFault) → (P → Q) → OnOk result P → OnOk result Q
-on_ok_as P Q (Ok x) into h = into h
-on_ok_as P Q (Err e) into h = h
-
-pub ends_as : {T S : Type 0} (P Q : List ℕ → Type 0) (written : S → Option (List ℕ)) (is_flushed has_failed : S
-    → Bool) (old new : S) (result : Result T RunFault)
-    → ((text : List ℕ) → P text → Q text) → Ends P written is_flushed has_failed old new result → Ends Q written is_flushed has_failed old new result
-ends_as P Q written is_flushed has_failed old new result into h = record {
-  ok = on_ok_as (WritesAll P (written old) (written new)) (WritesAll Q (written old) (written new)) result (all_as P Q into (written old) (written new)) h.ok;
-  flushed = h.flushed;
-  failed = h.failed;
-  partly = λ e. prefix_as P Q into (written old) (written new) (h.partly e);
-  untouched = h.untouched;
-}
-
--- nothing is written where a fault comes before the run
-pub not_begun : {T S : Type 0} (P : List ℕ → Type 0) (written : S → Option (List ℕ)) (is_flushed has_failed : S
-    → Bool) (sink : S) (result : Result T RunFault) (f : RunFault)
-    → has_failed sink ≡ false → result ≡ Err f → f ≢ run.Write → Ends P written is_flushed has_failed sink sink result
-not_begun P written is_flushed has_failed sink (Ok x) f fresh is other = absurd cc
-not_begun P written is_flushed has_failed sink (Err e) f fresh is other = record {
-  ok = tt;
-  flushed = tt;
-  failed = (
-    (λ h. absurd (let same : e ≡ run.Write = cc in let bad : f ≡ run.Write = cc in
-        other bad)),
-    (λ h. absurd (let bad : true ≡ false = sym h ∙ fresh in cc)),
-  );
-  partly = λ h. absurd (let same : e ≡ run.Write = cc in let bad : f ≡ run.Write = cc in other bad);
-  untouched = λ h. refl;
-}
 
 -- ---- relating
 

@@ -22,7 +22,8 @@ use Rattle.words_core.specs.declared.words.JoinRequest.{JoinRequest}
 use Rattle.command_core.specs.Commands.{AfterOpening, AfterEdits, PathsGive, CommandGives, IsCommandText, BlamesCommand, IsFoundFirst, IsFoundNext}
 use Rattle.command_core.specs.Commands.{IsFaultOf, CommandEnds, command_of}
 use Rattle.command_core.specs.Opening.{Files, IsAt, IsMissing, AreEditsAt, AreEditsMissing, AreOpened, IsFirstMissing, no_left, no_right, no_edits}
-use Rattle.command_core.proofs.CommandLemmas.{ends_as, refused_ends, input_opened, err_is}
+use Rattle.join_core.proofs.RunLemmas.{ends_as}
+use Rattle.command_core.proofs.CommandLemmas.{refused_ends, input_opened, err_is}
 
 -- what `?` hands on of the first file that can't be opened
 pub missing_as : {T : Type 0} (known : Option Files) (join : JoinRequest) (result : Result T RunFault) (e f : RunFault) → IsErrAnd result (λ x. x ≡ e) → e ≡ f

@@ -1,23 +1,29 @@
 -- How a command ends that reads one layer.
 use Rattle.std.proofs.Common.{◌≡◌, ◌≢◌, ◌↔◌, ℕ, List, Option, Some, None, Bool, Result, Ok, Err, IsErrAnd, ◌⊎◌, inl, inr, IfErr, IfSome, false, refl, sym}
 use Rattle.std.proofs.Common.{subst}
+use Rattle.std.proofs.lemmas.Result.{IfErr-weaker}
 use Rattle.std.specs.Borrow.{Bor}
 use Rattle.wkt_core.specs.declared.fault.WktFault.{WktFault}
 use Rattle.wkt_core.specs.declared.scale.Scale.{Scale}
+use Rattle.file_core.specs.declared.read_fault.ReadFault.{ReadFault}
+use Rattle.layer_core.specs.LayerTrees.{LayerState}
 use Rattle.join_core.specs.declared.fault.Input.{Input}
 use Rattle.join_core.specs.declared.fault.Input.TheVariants as input
 use Rattle.join_core.specs.declared.fault.RunFault.{RunFault}
 use Rattle.join_core.specs.declared.fault.RunFault.TheVariants as run
 use Rattle.join_core.specs.Inputs.{BlamesInput}
 use Rattle.join_core.specs.Runs.{Ends}
-use Rattle.join_core.specs.BoundsRuns.{BoundsGives, layer_fault as bounds_fault, listed as bounds_listed, IsBoundsFault}
-use Rattle.join_core.specs.StatsRuns.{StatsGives, layer_fault as stats_fault, counted, IsStatsFault}
-use Rattle.join_core.specs.WindowRuns.{WindowGives, text_fault, layer_fault as window_layer_fault, listed, IsWindowFault, HasWindowFault}
+use Rattle.join_core.specs.Bounds.{ListsCorners}
+use Rattle.join_core.specs.LayerRuns.{LayerGives, layer_fault, made, IsLayerRunFault}
+use Rattle.join_core.specs.StatsTexts.{AreCounts}
+use Rattle.join_core.specs.WindowRuns.{WindowGives, text_fault, looked_up, IsWindowFault, HasWindowFault}
 use Rattle.words_core.specs.declared.words.Command.{Command}
 use Rattle.words_core.specs.declared.words.Command.TheVariants.{Window, Stats, Bounds}
 use Rattle.command_core.specs.Commands.{AfterOpening, CommandGives, IsCommandText, BlamesCommand, IsFoundFirst, IsFoundNext, IsFaultOf, CommandEnds}
+use Rattle.command_core.specs.Commands.{OrNoLayer}
 use Rattle.command_core.specs.Opening.{Files, IsAt, IsMissing}
-use Rattle.command_core.proofs.CommandLemmas.{ends_as, refused_ends, input_opened, err_is}
+use Rattle.join_core.proofs.RunLemmas.{ends_as}
+use Rattle.command_core.proofs.CommandLemmas.{refused_ends, input_opened, err_is}
 
 -- what a command gives is what its run gives of the file at this path
 pub record ReadsOne (command : Command) (path : List ℕ) (Gives : Option (List ℕ) → Result (List ℕ) RunFault → Type 0) : Type 0 where
@@ -120,6 +126,26 @@ module _ {S : Type 0} (known : Option Files) (written : S → Option (List ℕ))
     faults = faults;
   }
 
+-- what a layer gives as a fault is one of its file
+gives_only : (IsTextOf : LayerState → List ℕ → Type 0) (scale : Scale) (l : Option (List ℕ)) (P : RunFault → Type 0)
+    → ((f : ReadFault) → P (run.Read input.Layer f)) → (g : RunFault) → LayerGives IsTextOf scale l (Err g) → P g
+gives_only IsTextOf scale l P of_layer g given = by (Err g) given refl
+  where
+    by : (answer : Result (List ℕ) RunFault) → LayerGives IsTextOf scale l answer → answer ≡ Err g → P g
+    by answer (layer_fault f a) is = subst P (let same : run.Read input.Layer f ≡ g = cc in same) (of_layer f)
+    by answer (made layer text a b) is = absurd cc
+
+-- a fault of a run is one of its command
+allows_all : (IsRunFault : RunFault → Type 0) (f : RunFault) → IsRunFault f → OrNoLayer IsRunFault f
+allows_all IsRunFault (run.NoFile input.Layer) is = tt
+allows_all IsRunFault run.NoKeys is = tt
+allows_all IsRunFault f is = is
+
+all_allowed : {T : Type 0} (IsRunFault : RunFault → Type 0) (result : Result T RunFault) → IfErr result (λ f. f ≢ run.Write → IsRunFault f)
+    → IfErr result (λ f. f ≢ run.Write → OrNoLayer IsRunFault f)
+all_allowed IsRunFault (Ok x) faults = tt
+all_allowed IsRunFault (Err f) faults = λ w. allows_all IsRunFault f (faults w)
+
 -- ---- a window
 
 pub window_reads_one : (scale : Scale) (path wkt : Bor (List ℕ)) → ReadsOne (Window path wkt scale) path.now (WindowGives scale wkt.now)
@@ -131,8 +157,8 @@ window_none_first scale path wkt l g found gives = by (Err g) gives refl
   where
     by : (answer : Result (List ℕ) RunFault) → WindowGives scale wkt.now l answer → answer ≡ Err g → ⊥
     by answer (text_fault f a) is = subst (IsFoundFirst (Window path wkt scale)) (let same : g ≡ run.Wkt input.Window f = cc in same) found
-    by answer (window_layer_fault s f a b) is = subst (IsFoundFirst (Window path wkt scale)) (let same : g ≡ run.Read input.Layer f = cc in same) found
-    by answer (listed s layer text a b c) is = cc
+    by answer (looked_up s given_as a given) is =
+        gives_only _ scale l (λ f. IsFoundFirst (Window path wkt scale) f → ⊥) (λ f first. first) g (subst (LayerGives _ scale l) is given) found
 
 window_blamed : (scale : Scale) (wkt : List ℕ) (l : Option (List ℕ)) (f : RunFault) → IsWindowFault f
     → ((i : Input) (w : WktFault) → f ≡ run.Wkt i w → HasWindowFault scale wkt i w)
@@ -163,25 +189,8 @@ window_exact scale path wkt l result exact g found gives = by (Err g) gives refl
   where
     by : (answer : Result (List ℕ) RunFault) → WindowGives scale wkt.now l answer → answer ≡ Err g → result ≡ Err g
     by answer (text_fault f a) is = let same : g ≡ run.Wkt input.Window f = cc in let told = (exact input.Window f).1 a in cc
-    by answer (window_layer_fault s f a b) is =
-        absurd (subst (IsFoundNext (Window path wkt scale)) (let same : g ≡ run.Read input.Layer f = cc in same) found)
-    by answer (listed s layer text a b c) is = absurd cc
-
-window_allows : (scale : Scale) (path wkt : Bor (List ℕ)) (f : RunFault) → IsWindowFault f → IsFaultOf (Window path wkt scale) f
-window_allows scale path wkt (run.NoFile i) is = absurd is
-window_allows scale path wkt (run.Wkt i w) is = is
-window_allows scale path wkt (run.Read i r) is = is
-window_allows scale path wkt (run.Edit n e) is = is
-window_allows scale path wkt (run.Join j) is = is
-window_allows scale path wkt run.TooManyToDraw is = is
-window_allows scale path wkt run.Write is = is
-window_allows scale path wkt run.Memory is = is
-window_allows scale path wkt run.NoKeys is = tt
-
-window_allowed : {T : Type 0} (scale : Scale) (path wkt : Bor (List ℕ)) (result : Result T RunFault) → IfErr result (λ f. f ≢ run.Write → IsWindowFault f)
-    → IfErr result (λ f. f ≢ run.Write → IsFaultOf (Window path wkt scale) f)
-window_allowed scale path wkt (Ok x) faults = tt
-window_allowed scale path wkt (Err f) faults = λ w. window_allows scale path wkt f (faults w)
+    by answer (looked_up s given_as a given) is =
+        absurd (gives_only _ scale l (λ f. IsFoundNext (Window path wkt scale) f → ⊥) (λ f next. next) g (subst (LayerGives _ scale l) is given) found)
 
 -- the window was run over the opened file
 pub window_ran : {T S : Type 0} (known : Option Files) (written : S → Option (List ℕ)) (is_flushed has_failed : S → Bool)
@@ -197,121 +206,65 @@ window_ran {T} {S} known written is_flushed has_failed scale path wkt text l old
     (subst (λ (t : List ℕ). Ends (λ x. WindowGives scale t l (Ok x)) written is_flushed has_failed old new result) same ends)
     (window_fault scale wkt.now l result exact_now
     (subst (λ (t : List ℕ). IfErr result (λ f. BlamesInput f → WindowGives scale t l (Err f))) same fault) faults)
-    (window_none_first scale path wkt l) (window_exact scale path wkt l result exact_now) (window_allowed scale path wkt result faults)
+    (window_none_first scale path wkt l) (window_exact scale path wkt l result exact_now) (all_allowed IsWindowFault result faults)
   where
     exact_now : (i : Input) (w : WktFault) → (result ≡ Err (run.Wkt i w)) ↔ HasWindowFault scale wkt.now i w
     exact_now = subst (λ (t : List ℕ). (i : Input) (w : WktFault) → (result ≡ Err (run.Wkt i w)) ↔ HasWindowFault scale t i w) same exact
 
--- ---- counts
+-- ---- a text of one layer
 
-pub stats_reads_one : (scale : Scale) (path : Bor (List ℕ)) → ReadsOne (Stats path scale) path.now (StatsGives scale)
-stats_reads_one scale path = record { gives = λ at answer. ((λ h. h), (λ h. h)); may_miss = tt; may_lack_keys = tt }
+-- a command that asks for a text of the layer at this path, and for nothing else
+pub record AsksLayer (command : Command) (path : List ℕ) (scale : Scale) (IsTextOf : LayerState → List ℕ → Type 0) : Type 0 where
+  pub reads : ReadsOne command path (LayerGives IsTextOf scale)
+  pub not_first : (f : ReadFault) → IsFoundFirst command (run.Read input.Layer f) → ⊥
+  pub not_next : (g : RunFault) → IsFoundNext command g → ⊥
+  pub allows : (f : RunFault) → OrNoLayer IsLayerRunFault f → IsFaultOf command f
 
-pub stats_none_first : (scale : Scale) (path : Bor (List ℕ)) (l : Option (List ℕ)) (g : RunFault) → IsFoundFirst (Stats path scale) g
-    → StatsGives scale l (Err g) → ⊥
-stats_none_first scale path l g found gives = by (Err g) gives refl
-  where
-    by : (answer : Result (List ℕ) RunFault) → StatsGives scale l answer → answer ≡ Err g → ⊥
-    by answer (stats_fault f a) is = subst (IsFoundFirst (Stats path scale)) (let same : g ≡ run.Read input.Layer f = cc in same) found
-    by answer (counted layer a b) is = cc
+pub stats_asks : (scale : Scale) (path : Bor (List ℕ)) → AsksLayer (Stats path scale) path.now scale AreCounts
+stats_asks scale path = record {
+  reads = record { gives = λ at answer. ((λ h. h), (λ h. h)); may_miss = tt; may_lack_keys = tt };
+  not_first = λ f first. first;
+  not_next = λ g next. next;
+  allows = λ f is. is;
+}
 
-stats_blamed : (scale : Scale) (l : Option (List ℕ)) (f : RunFault) → IsStatsFault f → (BlamesInput f → StatsGives scale l (Err f)) → BlamesCommand f
-    → StatsGives scale l (Err f)
-stats_blamed scale l (run.Wkt i w) is given blame = absurd is
-stats_blamed scale l (run.NoFile i) is given blame = absurd is
-stats_blamed scale l (run.Read i r) is given blame = given blame
-stats_blamed scale l (run.Edit n e) is given blame = absurd is
-stats_blamed scale l (run.Join j) is given blame = absurd is
-stats_blamed scale l run.TooManyToDraw is given blame = absurd is
-stats_blamed scale l run.Write is given blame = absurd is
-stats_blamed scale l run.Memory is given blame = absurd blame
-stats_blamed scale l run.NoKeys is given blame = absurd is
+pub bounds_asks : (scale : Scale) (path : Bor (List ℕ)) → AsksLayer (Bounds path scale) path.now scale ListsCorners
+bounds_asks scale path = record {
+  reads = record { gives = λ at answer. ((λ h. h), (λ h. h)); may_miss = tt; may_lack_keys = tt };
+  not_first = λ f first. first;
+  not_next = λ g next. next;
+  allows = λ f is. is;
+}
 
-stats_fault_of : {T : Type 0} (scale : Scale) (l : Option (List ℕ)) (result : Result T RunFault)
-    → IfErr result (λ f. BlamesInput f → StatsGives scale l (Err f))
-    → IfErr result (λ f. f ≢ run.Write → IsStatsFault f) → IfErr result (λ f. BlamesCommand f → StatsGives scale l (Err f))
-stats_fault_of scale l (Ok x) fault faults = tt
-stats_fault_of scale l (Err f) fault faults = λ blame. stats_blamed scale l f (faults (λ w. subst BlamesCommand w blame)) fault blame
+layer_blamed : (IsTextOf : LayerState → List ℕ → Type 0) (scale : Scale) (l : Option (List ℕ)) (f : RunFault) → IsLayerRunFault f
+    → (BlamesInput f → LayerGives IsTextOf scale l (Err f)) → BlamesCommand f → LayerGives IsTextOf scale l (Err f)
+layer_blamed IsTextOf scale l (run.Wkt i w) is given blame = absurd is
+layer_blamed IsTextOf scale l (run.NoFile i) is given blame = absurd is
+layer_blamed IsTextOf scale l (run.Read i r) is given blame = given blame
+layer_blamed IsTextOf scale l (run.Edit n e) is given blame = absurd is
+layer_blamed IsTextOf scale l (run.Join j) is given blame = absurd is
+layer_blamed IsTextOf scale l run.TooManyToDraw is given blame = absurd is
+layer_blamed IsTextOf scale l run.Write is given blame = absurd is
+layer_blamed IsTextOf scale l run.Memory is given blame = absurd blame
+layer_blamed IsTextOf scale l run.NoKeys is given blame = absurd is
 
-stats_allows : (scale : Scale) (path : Bor (List ℕ)) (f : RunFault) → IsStatsFault f → IsFaultOf (Stats path scale) f
-stats_allows scale path (run.NoFile i) is = absurd is
-stats_allows scale path (run.Wkt i w) is = is
-stats_allows scale path (run.Read i r) is = is
-stats_allows scale path (run.Edit n e) is = is
-stats_allows scale path (run.Join j) is = is
-stats_allows scale path run.TooManyToDraw is = is
-stats_allows scale path run.Write is = is
-stats_allows scale path run.Memory is = is
-stats_allows scale path run.NoKeys is = tt
+layer_fault_of : {T : Type 0} (IsTextOf : LayerState → List ℕ → Type 0) (scale : Scale) (l : Option (List ℕ)) (result : Result T RunFault)
+    → IfErr result (λ f. BlamesInput f → LayerGives IsTextOf scale l (Err f))
+    → IfErr result (λ f. f ≢ run.Write → IsLayerRunFault f) → IfErr result (λ f. BlamesCommand f → LayerGives IsTextOf scale l (Err f))
+layer_fault_of IsTextOf scale l (Ok x) fault faults = tt
+layer_fault_of IsTextOf scale l (Err f) fault faults = λ blame. layer_blamed IsTextOf scale l f (faults (λ w. subst BlamesCommand w blame)) fault blame
 
-stats_allowed : {T : Type 0} (scale : Scale) (path : Bor (List ℕ)) (result : Result T RunFault) → IfErr result (λ f. f ≢ run.Write → IsStatsFault f)
-    → IfErr result (λ f. f ≢ run.Write → IsFaultOf (Stats path scale) f)
-stats_allowed scale path (Ok x) faults = tt
-stats_allowed scale path (Err f) faults = λ w. stats_allows scale path f (faults w)
+module _ {command : Command} {path : List ℕ} {scale : Scale} {IsTextOf : LayerState → List ℕ → Type 0} (asks : AsksLayer command path scale IsTextOf) where
+  pub layer_none_first : (l : Option (List ℕ)) (g : RunFault) → IsFoundFirst command g → LayerGives IsTextOf scale l (Err g) → ⊥
+  layer_none_first l g found given = gives_only IsTextOf scale l (λ f. IsFoundFirst command f → ⊥) asks.not_first g given found
 
--- the counts were made of the opened file
-pub stats_ran : {T S : Type 0} (known : Option Files) (written : S → Option (List ℕ)) (is_flushed has_failed : S → Bool)
-    (scale : Scale) (path : Bor (List ℕ)) (l : Option (List ℕ)) (old new : S) (result : Result T RunFault) → IsAt known path.now l
-    → Ends (λ t. StatsGives scale l (Ok t)) written is_flushed has_failed old new result
-    → IfErr result (λ f. BlamesInput f → StatsGives scale l (Err f))
-    → IfErr result (λ f. f ≢ run.Write → IsStatsFault f) → CommandEnds known written is_flushed has_failed (Stats path scale) old new result
-stats_ran known written is_flushed has_failed scale path l old new result is ends fault faults =
-    layer_ran known written is_flushed has_failed (Stats path scale) path.now (StatsGives scale) (stats_reads_one scale path) l old new result is ends
-    (stats_fault_of scale l result fault faults) (stats_none_first scale path l) (λ g nothing. absurd nothing) (stats_allowed scale path result faults)
-
--- ---- corners
-
-pub bounds_reads_one : (scale : Scale) (path : Bor (List ℕ)) → ReadsOne (Bounds path scale) path.now (BoundsGives scale)
-bounds_reads_one scale path = record { gives = λ at answer. ((λ h. h), (λ h. h)); may_miss = tt; may_lack_keys = tt }
-
-pub bounds_none_first : (scale : Scale) (path : Bor (List ℕ)) (l : Option (List ℕ)) (g : RunFault) → IsFoundFirst (Bounds path scale) g
-    → BoundsGives scale l (Err g) → ⊥
-bounds_none_first scale path l g found gives = by (Err g) gives refl
-  where
-    by : (answer : Result (List ℕ) RunFault) → BoundsGives scale l answer → answer ≡ Err g → ⊥
-    by answer (bounds_fault f a) is = subst (IsFoundFirst (Bounds path scale)) (let same : g ≡ run.Read input.Layer f = cc in same) found
-    by answer (bounds_listed layer a) is = cc
-
-bounds_blamed : (scale : Scale) (l : Option (List ℕ)) (f : RunFault) → IsBoundsFault f → (BlamesInput f → BoundsGives scale l (Err f)) → BlamesCommand f
-    → BoundsGives scale l (Err f)
-bounds_blamed scale l (run.Wkt i w) is given blame = absurd is
-bounds_blamed scale l (run.NoFile i) is given blame = absurd is
-bounds_blamed scale l (run.Read i r) is given blame = given blame
-bounds_blamed scale l (run.Edit n e) is given blame = absurd is
-bounds_blamed scale l (run.Join j) is given blame = absurd is
-bounds_blamed scale l run.TooManyToDraw is given blame = absurd is
-bounds_blamed scale l run.Write is given blame = absurd is
-bounds_blamed scale l run.Memory is given blame = absurd blame
-bounds_blamed scale l run.NoKeys is given blame = absurd is
-
-bounds_fault_of : {T : Type 0} (scale : Scale) (l : Option (List ℕ)) (result : Result T RunFault)
-    → IfErr result (λ f. BlamesInput f → BoundsGives scale l (Err f))
-    → IfErr result (λ f. f ≢ run.Write → IsBoundsFault f) → IfErr result (λ f. BlamesCommand f → BoundsGives scale l (Err f))
-bounds_fault_of scale l (Ok x) fault faults = tt
-bounds_fault_of scale l (Err f) fault faults = λ blame. bounds_blamed scale l f (faults (λ w. subst BlamesCommand w blame)) fault blame
-
-bounds_allows : (scale : Scale) (path : Bor (List ℕ)) (f : RunFault) → IsBoundsFault f → IsFaultOf (Bounds path scale) f
-bounds_allows scale path (run.NoFile i) is = absurd is
-bounds_allows scale path (run.Wkt i w) is = is
-bounds_allows scale path (run.Read i r) is = is
-bounds_allows scale path (run.Edit n e) is = is
-bounds_allows scale path (run.Join j) is = is
-bounds_allows scale path run.TooManyToDraw is = is
-bounds_allows scale path run.Write is = is
-bounds_allows scale path run.Memory is = is
-bounds_allows scale path run.NoKeys is = tt
-
-bounds_allowed : {T : Type 0} (scale : Scale) (path : Bor (List ℕ)) (result : Result T RunFault) → IfErr result (λ f. f ≢ run.Write → IsBoundsFault f)
-    → IfErr result (λ f. f ≢ run.Write → IsFaultOf (Bounds path scale) f)
-bounds_allowed scale path (Ok x) faults = tt
-bounds_allowed scale path (Err f) faults = λ w. bounds_allows scale path f (faults w)
-
--- the corners of the opened file were listed
-pub bounds_ran : {T S : Type 0} (known : Option Files) (written : S → Option (List ℕ)) (is_flushed has_failed : S → Bool)
-    (scale : Scale) (path : Bor (List ℕ)) (l : Option (List ℕ)) (old new : S) (result : Result T RunFault) → IsAt known path.now l
-    → Ends (λ t. BoundsGives scale l (Ok t)) written is_flushed has_failed old new result
-    → IfErr result (λ f. BlamesInput f → BoundsGives scale l (Err f))
-    → IfErr result (λ f. f ≢ run.Write → IsBoundsFault f) → CommandEnds known written is_flushed has_failed (Bounds path scale) old new result
-bounds_ran known written is_flushed has_failed scale path l old new result is ends fault faults =
-    layer_ran known written is_flushed has_failed (Bounds path scale) path.now (BoundsGives scale) (bounds_reads_one scale path) l old new result is ends
-    (bounds_fault_of scale l result fault faults) (bounds_none_first scale path l) (λ g nothing. absurd nothing) (bounds_allowed scale path result faults)
+  -- the text was made of the opened file
+  pub layer_asked : {T S : Type 0} (known : Option Files) (written : S → Option (List ℕ)) (is_flushed has_failed : S → Bool)
+      (l : Option (List ℕ)) (old new : S) (result : Result T RunFault) → IsAt known path l
+      → Ends (λ t. LayerGives IsTextOf scale l (Ok t)) written is_flushed has_failed old new result
+      → IfErr result (λ f. BlamesInput f → LayerGives IsTextOf scale l (Err f))
+      → IfErr result (λ f. f ≢ run.Write → IsLayerRunFault f) → CommandEnds known written is_flushed has_failed command old new result
+  layer_asked known written is_flushed has_failed l old new result is ends fault faults =
+      layer_ran known written is_flushed has_failed command path (LayerGives IsTextOf scale) asks.reads l old new result is ends
+      (layer_fault_of IsTextOf scale l result fault faults) (layer_none_first l) (λ g next. absurd (asks.not_next g next))
+      (IfErr-weaker result _ _ (λ f is w. asks.allows f (is w)) (all_allowed IsLayerRunFault result faults))

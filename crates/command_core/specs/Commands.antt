@@ -7,13 +7,14 @@ use Rattle.join_core.specs.declared.fault.Input.{Input}
 use Rattle.join_core.specs.declared.fault.Input.TheVariants as input
 use Rattle.join_core.specs.declared.fault.RunFault.{RunFault}
 use Rattle.join_core.specs.declared.fault.RunFault.TheVariants as run
-use Rattle.join_core.specs.BoundsRuns.{BoundsGives, IsBoundsFault}
+use Rattle.join_core.specs.Bounds.{ListsCorners}
 use Rattle.join_core.specs.DrawRuns.{DrawGives, IsDrawFault}
 use Rattle.join_core.specs.JoinRuns.{JoinFiles, JoinGives, IsJoinFault}
 use Rattle.join_core.specs.Inputs.{BlamesInput}
+use Rattle.join_core.specs.LayerRuns.{LayerGives, IsLayerRunFault}
 use Rattle.join_core.specs.Relating.{RelateGives, IsTextFault}
 use Rattle.join_core.specs.Runs.{Ends}
-use Rattle.join_core.specs.StatsRuns.{StatsGives, IsStatsFault}
+use Rattle.join_core.specs.StatsTexts.{AreCounts}
 use Rattle.join_core.specs.WindowRuns.{WindowGives, IsWindowFault}
 use Rattle.command_core.specs.Opening.{Files}
 use Rattle.command_core.specs.declared.command.Product.{Product}
@@ -54,9 +55,9 @@ CommandGives at (Draw join) answer =
 CommandGives at (Window path wkt scale) answer =
     AfterOpening input.Layer (at path.now) answer (λ l. WindowGives scale wkt.now (Some l) answer)
 CommandGives at (Stats path scale) answer =
-    AfterOpening input.Layer (at path.now) answer (λ l. StatsGives scale (Some l) answer)
+    AfterOpening input.Layer (at path.now) answer (λ l. LayerGives AreCounts scale (Some l) answer)
 CommandGives at (Bounds path scale) answer =
-    AfterOpening input.Layer (at path.now) answer (λ l. BoundsGives scale (Some l) answer)
+    AfterOpening input.Layer (at path.now) answer (λ l. LayerGives ListsCorners scale (Some l) answer)
 
 -- the command that asks for this of a join
 abbrev pub command_of : Product → JoinRequest → Command
@@ -84,24 +85,26 @@ abbrev pub IsFoundNext : Command → RunFault → Type 0
 IsFoundNext (Window path wkt scale) (run.Wkt input fault) = ⊤
 IsFoundNext _ _ = ⊥
 
+-- a fault that a command over one layer may have, by those of its run
+abbrev pub OrNoLayer : (RunFault → Type 0) → RunFault → Type 0
+OrNoLayer IsRunFault (run.NoFile input.Layer) = ⊤
+OrNoLayer IsRunFault run.NoKeys = ⊤
+OrNoLayer IsRunFault fault = IsRunFault fault
+
+-- a fault that a command over the files of a join may have, by those of its run
+abbrev pub OrNoFile : (RunFault → Type 0) → RunFault → Type 0
+OrNoFile IsRunFault (run.NoFile input) = ⊤
+OrNoFile IsRunFault run.NoKeys = ⊤
+OrNoFile IsRunFault fault = IsRunFault fault
+
 -- a fault that a command may have, that of its sink aside
 abbrev pub IsFaultOf : Command → RunFault → Type 0
-IsFaultOf (Relate a b scale) fault = IsTextFault fault
-IsFaultOf (Join join) (run.NoFile input) = ⊤
-IsFaultOf (Join join) run.NoKeys = ⊤
-IsFaultOf (Join join) fault = IsJoinFault fault
-IsFaultOf (Draw join) (run.NoFile input) = ⊤
-IsFaultOf (Draw join) run.NoKeys = ⊤
-IsFaultOf (Draw join) fault = IsDrawFault fault
-IsFaultOf (Window path wkt scale) (run.NoFile input.Layer) = ⊤
-IsFaultOf (Window path wkt scale) run.NoKeys = ⊤
-IsFaultOf (Window path wkt scale) fault = IsWindowFault fault
-IsFaultOf (Stats path scale) (run.NoFile input.Layer) = ⊤
-IsFaultOf (Stats path scale) run.NoKeys = ⊤
-IsFaultOf (Stats path scale) fault = IsStatsFault fault
-IsFaultOf (Bounds path scale) (run.NoFile input.Layer) = ⊤
-IsFaultOf (Bounds path scale) run.NoKeys = ⊤
-IsFaultOf (Bounds path scale) fault = IsBoundsFault fault
+IsFaultOf (Relate a b scale) = IsTextFault
+IsFaultOf (Join join) = OrNoFile IsJoinFault
+IsFaultOf (Draw join) = OrNoFile IsDrawFault
+IsFaultOf (Window path wkt scale) = OrNoLayer IsWindowFault
+IsFaultOf (Stats path scale) = OrNoLayer IsLayerRunFault
+IsFaultOf (Bounds path scale) = OrNoLayer IsLayerRunFault
 
 -- how a command ends: what it writes, which fault it names, exactly those that are found first and
 -- next, and no others

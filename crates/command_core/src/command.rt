@@ -73,15 +73,15 @@ fn execute<R: RandomSource + AllocGlobal + Threads + Wait + Sync, I: Inputs, O: 
             let mut layer = open_input(inputs, Input::Layer, path)?;
             let state = hash_state(rt)?;
             let wkt = wkt.as_bytes();
-            run_window(rt.alloc(), state, *scale, &mut layer, wkt, output)
+            run_window(rt, rt.alloc(), state, *scale, &mut layer, wkt, output)
         }
         Command::Stats { path, scale } => {
             let mut layer = open_input(inputs, Input::Layer, path)?;
-            run_stats(rt.alloc(), hash_state(rt)?, *scale, &mut layer, output)
+            run_stats(rt, rt.alloc(), hash_state(rt)?, *scale, &mut layer, output)
         }
         Command::Bounds { path, scale } => {
             let mut layer = open_input(inputs, Input::Layer, path)?;
-            run_bounds(rt.alloc(), hash_state(rt)?, *scale, &mut layer, output)
+            run_bounds(rt, rt.alloc(), hash_state(rt)?, *scale, &mut layer, output)
         }
     }
 }

@@ -2,7 +2,9 @@
 
 use command_core::{Command, JoinRequest, WordFault, read_words, word_line, word_status};
 use geom_core::{JoinRelation, Relation};
-use join_core::{MAX_BATCH, MAX_CUT, MAX_DRAWN, MAX_WORKERS, Options, ToWrite};
+use join_core::{
+    DEFAULT_WORKERS, MAX_BATCH, MAX_CUT, MAX_DRAWN, MAX_WORKERS, Options, ToWrite,
+};
 use std::alloc::Global;
 use std::test::Fail;
 use wkt_core::Scale;
@@ -244,7 +246,7 @@ fn help_and_version(rt: HostRuntime) -> Result<(), Fail> {
 #[test]
 fn help_tells_the_limits(rt: HostRuntime) -> Result<(), Fail> {
     let alloc = rt.alloc();
-    let workers = format!(in alloc; "1 to {MAX_WORKERS} [default: 4]")?;
+    let workers = format!(in alloc; "1 to {MAX_WORKERS} [default: {DEFAULT_WORKERS}]")?;
     let batch = format!(in alloc; "1 to {MAX_BATCH} [default: 256]")?;
     let cut = format!(in alloc; "0 to {MAX_CUT} [default: 2]")?;
     let drawn = format!(in alloc; "more than {MAX_DRAWN} features")?;

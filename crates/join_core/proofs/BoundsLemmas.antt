@@ -1,19 +1,10 @@
--- The rows of a list of corners, and what listing the corners of a file answers.
-use Rattle.std.proofs.Common.{◌≡◌, ℕ, List, [], ◌∷◌, ◌++◌, Vec, Global, map, sym, ap, subst, ◌∙◌, append-nil, append_assoc}
-use Rattle.std.proofs.Common.{Option, Result, Ok, Err, IfErr, IsErrAnd}
+-- The rows of a list of corners.
+use Rattle.std.proofs.Common.{◌≡◌, ℕ, List, [], ◌∷◌, ◌++◌, Vec, Global, map, sym, ap, ◌∙◌, append-nil, append_assoc}
 use Rattle.csv.specs.declared.writer.Writer.{Writer}
-use Rattle.wkt_core.specs.declared.scale.Scale.{Scale}
-use Rattle.layer_core.specs.Layers.{Feature, Contents}
-use Rattle.file_core.specs.declared.read_fault.ReadFault.{ReadFault}
+use Rattle.layer_core.specs.Layers.{Feature}
 use Rattle.output_core.specs.CsvTexts.{csv_text}
 use Rattle.output_core.specs.CsvWriting.{HasRows, AddsRow}
-use Rattle.join_core.specs.declared.fault.Input.TheVariants.{Layer}
-use Rattle.join_core.specs.declared.fault.RunFault.{RunFault}
-use Rattle.join_core.specs.declared.fault.RunFault.TheVariants.{Read}
 use Rattle.join_core.specs.Bounds.{bounds_header, bounds_row, bounds_text}
-use Rattle.join_core.specs.BoundsRuns.{BoundsGives, layer_fault, listed}
-use Rattle.join_core.specs.Inputs.{LayerFile, BlamesBytes, BlamesInput}
-use Rattle.join_core.proofs.JoinRunLemmas.{handed_on}
 
 -- the rows that a writer has, and those of the features that are left, are those of these features
 pub record HasFront (writer : Writer (Vec ℕ Global)) (left features : List Feature) : Type 0 where
@@ -43,16 +34,3 @@ pub all_written : (writer : Writer (Vec ℕ Global)) (left features : List Featu
     → ((rows : List (List (List ℕ))) → HasRows writer rows → text ≡ csv_text rows) → text ≡ bounds_text features
 all_written writer left features text front none kept =
     kept front.rows front.written ∙ ap csv_text (sym (append-nil front.rows) ∙ ap (λ fs. front.rows ++ map bounds_row fs) (sym none) ∙ front.all)
-
--- a fault of the layer, as `?` hands it on
-pub layer_blamed : {T : Type 0} (scale : Scale) (file : Option (List ℕ)) (out : Result T RunFault) (e : RunFault)
-    → IsErrAnd out (λ x. x ≡ e) → ((f : ReadFault) × (e ≡ Read Layer f) × (BlamesBytes f → LayerFile scale file (Err f)))
-    → IfErr out (λ x. BlamesInput x → BoundsGives scale file (Err x))
-layer_blamed scale file out e h fault =
-    handed_on (BoundsGives scale file) out e (Read Layer fault.0) h fault.1 (λ blame. layer_fault fault.0 (fault.2 blame))
-
--- the text of the corners of a layer that was read
-pub corners_listed : (scale : Scale) (file : Option (List ℕ)) (layer : Contents) (text : List ℕ) → LayerFile scale file (Ok layer)
-    → text ≡ bounds_text layer.features → BoundsGives scale file (Ok text)
-corners_listed scale file layer text read is =
-    subst (λ (t : List ℕ). BoundsGives scale file (Ok t)) (sym is) (listed layer read)

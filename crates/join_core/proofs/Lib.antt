@@ -6,7 +6,7 @@ pub mod LayersLemmas
 pub mod LineLemmas
 pub mod ProductLemmas
 pub mod RelatingLemmas
-pub mod StatsLemmas
+pub mod RunLemmas
 pub mod TreeJoinLemmas
 pub mod TreeWindowLemmas
 pub mod WindowLemmas

@@ -1,46 +1,69 @@
--- What a window over a file answers.
-use Rattle.std.proofs.Common.{◌≡◌, ℕ, List, Option, Result, Ok, Err, IfErr, IsErrAnd, ◌↔◌, subst, ◌∙◌}
+-- How a window over a file ends, by its text and by how the layer was looked up.
+use Rattle.std.proofs.Common.{◌≡◌, ℕ, List, Option, Bool, true, false, Result, Ok, Err, IsTrue, ◌↔◌, sym, refl, subst, ◌∙◌}
+use Rattle.std.proofs.lemmas.Result.{IfErr-weaker}
 use Rattle.geom_core.specs.declared.shape.Shape.{Shape}
 use Rattle.wkt_core.specs.declared.fault.WktFault.{WktFault}
 use Rattle.wkt_core.specs.declared.scale.Scale.{Scale}
 use Rattle.wkt_core.specs.Readings.{Reads}
-use Rattle.file_core.specs.declared.read_fault.ReadFault.{ReadFault}
 use Rattle.join_core.specs.declared.fault.Input.{Input}
 use Rattle.join_core.specs.declared.fault.Input.TheVariants.{Layer, Window}
 use Rattle.join_core.specs.declared.fault.RunFault.{RunFault}
-use Rattle.join_core.specs.declared.fault.RunFault.TheVariants.{Read, Wkt, Memory}
-use Rattle.join_core.specs.Inputs.{LayerFile, BlamesBytes, BlamesInput}
-use Rattle.join_core.specs.WindowRuns.{WindowGives, layer_fault, HasWindowFault}
+use Rattle.join_core.specs.declared.fault.RunFault.TheVariants.{NoFile, Read, Wkt, Edit, Join, TooManyToDraw, Write, Memory, NoKeys}
+use Rattle.join_core.specs.Jobs.{OnlyAt}
+use Rattle.join_core.specs.LayerRuns.{LayerGives, IsLayerRunFault}
+use Rattle.join_core.specs.Runs.{NoTextFault, RunEnds}
+use Rattle.join_core.specs.WindowRuns.{WindowGives, looked_up, HasWindowFault, IsWindowFault}
+use Rattle.join_core.specs.Windows.{AreMeeting}
 use Rattle.join_core.proofs.RelatingLemmas.{ReadsOnly}
-use Rattle.join_core.proofs.JoinRunLemmas.{handed_on}
+use Rattle.join_core.proofs.RunLemmas.{ends_as, not_begun}
 
 -- the window's text is at fault
-pub window_at_fault : {T : Type 0} (scale : Scale) (wkt : List ℕ) (e : WktFault) (out : Result T RunFault) → out ≡ Err (Wkt Window e)
+window_at_fault : {T : Type 0} (scale : Scale) (wkt : List ℕ) (e : WktFault) (out : Result T RunFault) → out ≡ Err (Wkt Window e)
     → Reads scale wkt (Err e) → ReadsOnly scale wkt (Err e) → (i : Input) (f : WktFault) → (out ≡ Err (Wkt i f)) ↔ HasWindowFault scale wkt i f
 window_at_fault scale wkt e out is read only Window f =
     ((λ q. let same : e ≡ f = cc in subst (λ (x : WktFault). Reads scale wkt (Err x)) same read), (λ h. let w = only (Err f) h in cc))
 window_at_fault scale wkt e out is read only _ f = ((λ q. absurd cc), (λ h. absurd h))
 
 -- it spells a shape
-pub window_spelled : {T : Type 0} (scale : Scale) (wkt : List ℕ) (s : Shape) (out : Result T RunFault) → ReadsOnly scale wkt (Ok s)
+window_spelled : {T : Type 0} (scale : Scale) (wkt : List ℕ) (s : Shape) (out : Result T RunFault) → ReadsOnly scale wkt (Ok s)
     → ((i : Input) (f : WktFault) → out ≡ Err (Wkt i f) → ⊥) → (i : Input) (f : WktFault) → (out ≡ Err (Wkt i f)) ↔ HasWindowFault scale wkt i f
 window_spelled scale wkt s out only none Window f = ((λ q. absurd (none Window f q)), (λ h. let bad = only (Err f) h in absurd cc))
 window_spelled scale wkt s out only none _ f = ((λ q. absurd (none _ f q)), (λ h. absurd h))
 
--- what `?` hands on of a fault of the layer
-pub no_text_fault : {T : Type 0} (out : Result T RunFault) (e : RunFault) (g : ReadFault) → IsErrAnd out (λ x. x ≡ e) → e ≡ Read Layer g
-    → (i : Input) (f : WktFault) → out ≡ Err (Wkt i f) → ⊥
-no_text_fault (Ok x) e g h same i f is = absurd h
-no_text_fault (Err x) e g h same i f is = let whole : x ≡ Read Layer g = h ∙ same in let other : x ≡ Wkt i f = cc in absurd cc
+of_layer : (f : RunFault) → IsLayerRunFault f → IsWindowFault f
+of_layer (Wkt i w) is = absurd is
+of_layer (NoFile i) is = is
+of_layer (Read i r) is = is
+of_layer (Edit n e) is = is
+of_layer (Join j) is = is
+of_layer TooManyToDraw is = is
+of_layer Write is = is
+of_layer Memory is = is
+of_layer NoKeys is = is
 
--- and of want of memory
-pub no_text_fault_of_memory : {T : Type 0} (out : Result T RunFault) → IsErrAnd out (λ x. x ≡ Memory)
-    → (i : Input) (f : WktFault) → out ≡ Err (Wkt i f) → ⊥
-no_text_fault_of_memory (Ok x) h i f is = absurd h
-no_text_fault_of_memory (Err x) h i f is = let other : x ≡ Wkt i f = cc in absurd cc
+module _ {S : Type 0} (written : S → Option (List ℕ)) (is_flushed has_failed : S → Bool) (scale : Scale) (wkt : List ℕ) (file : Option (List ℕ)) where
+  -- the layer isn't read where the window's text is at fault
+  pub not_looked_up : (e : WktFault) (layer_failed : Bool) (sink : S) → Reads scale wkt (Err e) → ReadsOnly scale wkt (Err e)
+      → layer_failed ≡ false → has_failed sink ≡ false
+      → RunEnds {T = Unit {0}} (WindowGives scale wkt file) (HasWindowFault scale wkt) IsWindowFault (OnlyAt Layer (IsTrue layer_failed))
+      written is_flushed has_failed sink sink (Err (Wkt Window e))
+  not_looked_up e layer_failed sink read only unread fresh = record {
+    writes = not_begun _ written is_flushed has_failed sink (Err (Wkt Window e)) (Wkt Window e) fresh refl (λ is. absurd cc);
+    wkt = window_at_fault scale wkt e (Err (Wkt Window e)) refl read only;
+    fault = λ blame. absurd blame;
+    faults = λ other. tt;
+    io = λ i. ((λ is. absurd cc), (λ failed. absurd (let bad : true ≡ false = sym failed.1 ∙ unread in cc)));
+  }
 
-pub layer_blamed : {T : Type 0} (scale : Scale) (wkt : List ℕ) (file : Option (List ℕ)) (s : Shape) (out : Result T RunFault) (e : RunFault)
-    → Reads scale wkt (Ok s) → IsErrAnd out (λ x. x ≡ e) → ((f : ReadFault) × (e ≡ Read Layer f) × (BlamesBytes f → LayerFile scale file (Err f)))
-    → IfErr out (λ x. BlamesInput x → WindowGives scale wkt file (Err x))
-layer_blamed scale wkt file s out e spelled h fault =
-    handed_on (WindowGives scale wkt file) out e (Read Layer fault.0) h fault.1 (λ blame. layer_fault s fault.0 spelled (fault.2 blame))
+  -- what the look-up of a window that is spelled gives
+  pub window_looked_up : {T : Type 0} (s : Shape) (HasFailed : Input → Type 0) (old new : S) (result : Result T RunFault) → Reads scale wkt (Ok s)
+      → ReadsOnly scale wkt (Ok s)
+      → RunEnds (LayerGives (AreMeeting s) scale file) NoTextFault IsLayerRunFault HasFailed written is_flushed has_failed old new result
+      → RunEnds (WindowGives scale wkt file) (HasWindowFault scale wkt) IsWindowFault HasFailed written is_flushed has_failed old new result
+  window_looked_up s HasFailed old new result spelled only ends = record {
+    writes = ends_as _ _ written is_flushed has_failed old new result (λ text given. looked_up s (Ok text) spelled given) ends.writes;
+    wkt = window_spelled scale wkt s result only (λ i f is. (ends.wkt i f).0 is);
+    fault = IfErr-weaker result _ _ (λ f given blame. looked_up s (Err f) spelled (given blame)) ends.fault;
+    faults = IfErr-weaker result _ _ (λ f is other. of_layer f (is other)) ends.faults;
+    io = ends.io;
+  }

@@ -1,6 +1,8 @@
 -- Counts as lines of text.
-use Rattle.std.specs.Prelude.{ℕ, List, [], ◌∷◌, ◌++◌, codes, decimal}
+use Rattle.std.specs.Prelude.{◌≡◌, ℕ, List, [], ◌∷◌, ◌++◌, codes, decimal}
 use Rattle.layer_core.specs.declared.stats.Stats.{Stats}
+use Rattle.layer_core.specs.LayerTrees.{LayerState, IsTreeOf}
+use Rattle.layer_core.specs.Statistics.{stats_of}
 
 -- a word, a space, a number in decimal digits and a line feed
 abbrev pub count_line : List ℕ → ℕ → List ℕ
@@ -13,3 +15,9 @@ stats_text stats =
     ++ count_line (codes "segments") stats.segments
     ++ count_line (codes "rectangles") stats.rectangles
     ++ count_line (codes "height") stats.height
+
+-- the counts of a layer, with the height of its tree, which is lawful and holds exactly its
+-- features
+abbrev pub AreCounts : LayerState → List ℕ → Type 0
+AreCounts layer text =
+    IsTreeOf layer.list layer.root × (text ≡ stats_text (stats_of layer))

@@ -6,7 +6,6 @@ use Rattle.join_core.specs.declared.text.Text.{Text}
 use Rattle.join_core.specs.declared.text.Text.TheVariants as text
 
 abbrev pub bytes_of_text : Text → List ℕ
-bytes_of_text (text.Matrix letters) = letters
 bytes_of_text (text.Lines lines) = lines
 bytes_of_text (text.Rows rows) = rows.items
 bytes_of_text (text.Picture picture) = string_bytes picture

@@ -1,17 +1,15 @@
 -- What a window over the file of a layer gives.
 use Rattle.std.specs.Prelude.{⊤, ℕ, List, Option, Result, Ok, Err}
 use Rattle.geom_core.specs.declared.shape.Shape.{Shape}
-use Rattle.file_core.specs.declared.read_fault.ReadFault.{ReadFault}
-use Rattle.layer_core.specs.Layers.{Contents}
 use Rattle.wkt_core.specs.declared.fault.WktFault.{WktFault}
 use Rattle.wkt_core.specs.declared.scale.Scale.{Scale}
 use Rattle.wkt_core.specs.Readings.{Reads}
 use Rattle.join_core.specs.declared.fault.Input.{Input}
 use Rattle.join_core.specs.declared.fault.Input.TheVariants as input
 use Rattle.join_core.specs.declared.fault.RunFault.{RunFault}
-use Rattle.join_core.specs.declared.fault.RunFault.TheVariants.{Read, Wkt, Memory}
-use Rattle.join_core.specs.Inputs.{LayerFile}
-use Rattle.join_core.specs.Windows.{IsWindowList}
+use Rattle.join_core.specs.declared.fault.RunFault.TheVariants.{Wkt}
+use Rattle.join_core.specs.LayerRuns.{LayerGives, IsLayerRunFault}
+use Rattle.join_core.specs.Windows.{AreMeeting}
 
 -- the list of the features that meet the window, or the first fault of its text and the layer's
 -- file, in this order
@@ -19,12 +17,8 @@ pub data WindowGives (scale : Scale) (wkt : List ℕ) (file : Option (List ℕ))
     : Result (List ℕ) RunFault → Type 0 where
   text_fault : (f : WktFault) → Reads scale wkt (Err f)
       → WindowGives scale wkt file (Err (Wkt input.Window f))
-  layer_fault : (window : Shape) (f : ReadFault)
-      → Reads scale wkt (Ok window) → LayerFile scale file (Err f)
-      → WindowGives scale wkt file (Err (Read input.Layer f))
-  listed : (window : Shape) (layer : Contents) (text : List ℕ) → Reads scale wkt (Ok window)
-      → LayerFile scale file (Ok layer) → IsWindowList window layer text
-      → WindowGives scale wkt file (Ok text)
+  looked_up : (window : Shape) (answer : Result (List ℕ) RunFault) → Reads scale wkt (Ok window)
+      → LayerGives (AreMeeting window) scale file answer → WindowGives scale wkt file answer
 
 -- what is wrong with the window's text
 abbrev pub HasWindowFault : Scale → List ℕ → Input → WktFault → Type 0
@@ -34,6 +28,4 @@ HasWindowFault scale wkt _ f = ⊥
 -- a fault that a window may have, that of its sink aside
 abbrev pub IsWindowFault : RunFault → Type 0
 IsWindowFault (Wkt input.Window f) = ⊤
-IsWindowFault (Read input.Layer f) = ⊤
-IsWindowFault Memory = ⊤
-IsWindowFault _ = ⊥
+IsWindowFault fault = IsLayerRunFault fault

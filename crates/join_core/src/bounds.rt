@@ -4,15 +4,13 @@ ghost use Rattle.std.specs.Prelude.{◌≡◌, false, IsTrue, IfOk, OnOk};
 ghost use Rattle.layer_core.specs.Walks.{feature_read};
 ghost use Rattle.output_core.specs.CsvWriting.{AddsRow};
 ghost use Rattle.join_core.specs.declared.fault.Input.{Input};
-ghost use Rattle.join_core.specs.declared.fault.Input.TheVariants as input;
-ghost use Rattle.join_core.specs.Bounds.{bounds_row, bounds_text};
-ghost use Rattle.join_core.specs.BoundsRuns.{BoundsGives, IsBoundsFault};
+ghost use Rattle.join_core.specs.Bounds.{ListsCorners, bounds_row, bounds_text};
 ghost use Rattle.join_core.specs.Jobs.{OnlyAt};
+ghost use Rattle.join_core.specs.LayerRuns.{LayerGives, IsLayerRunFault};
 ghost use Rattle.join_core.specs.Runs.{NoTextFault, RunEnds};
 
-use crate::fault::{Input, RunFault};
-use crate::job::{Job, run};
-use crate::layer_input::read_input;
+use crate::fault::RunFault;
+use crate::layer_run::{LayerText, run_on_layer};
 use crate::text::Text;
 use csv::Writer;
 use file_core::Source;
@@ -21,14 +19,17 @@ use layer_core::{FeatureRef, Layer};
 use output_core::{Sink, new_rows, push_row, rows_text};
 use std::alloc::{AllocError, Global};
 use std::hash::RandomState;
+use std::thread::Threads;
 use wkt_core::Scale;
 
 /// Writes the corners of the features of a layer: a CSV record `id,x1,y1,x2,y2`, and then one for
 /// each feature, in layer order.
 ///
-/// Each coordinate is a whole number of units of the last decimal that the scale allows. `state`
-/// hashes the ids. A fault of the layer is answered, and then nothing is written.
-pub fn run_bounds<L: Source, S: Sink>(
+/// Each coordinate is a whole number of units of the last decimal that the scale allows. Several
+/// threads read the layer. `state` hashes the ids. A fault of the layer is answered, and then
+/// nothing is written.
+pub fn run_bounds<R: Threads + Sync, L: Source, S: Sink>(
+    rt: &R,
     alloc: Global,
     state: RandomState,
     scale: Scale,
@@ -37,44 +38,22 @@ pub fn run_bounds<L: Source, S: Sink>(
 ) -> Result<(), RunFault>
     requires layer { L.has_failed layer.old ≡ false }
     requires sink { S.has_failed sink.old ≡ false }
-    ensures { RunEnds (BoundsGives scale (L.remaining layer.old)) NoTextFault IsBoundsFault
-        (OnlyAt Input.Layer (IsTrue (L.has_failed layer.new)))
+    ensures { RunEnds (LayerGives ListsCorners scale (L.remaining layer.old)) NoTextFault
+        IsLayerRunFault (OnlyAt Input.Layer (IsTrue (L.has_failed layer.new)))
         S.written S.is_flushed S.has_failed sink.old sink.new result }
 {
-    let job = BoundsJob {
-        alloc,
-        state,
-        scale,
-    };
-    run(job, layer, sink)
+    run_on_layer(rt, alloc, state, scale, layer, &Corners, sink)
 }
 
 /// The list of the corners of a layer's features.
-pub(crate) struct BoundsJob {
-    pub(crate) alloc: Global,
-    pub(crate) state: RandomState,
-    pub(crate) scale: Scale,
-}
+#[derive(Drop)]
+struct Corners;
 
-impl<L: Source> Job<L> for BoundsJob {
-    ghost gives = { λ job layer. BoundsGives job.scale (L.remaining layer) };
+impl LayerText for Corners {
+    ghost is_text_of = { λ _. ListsCorners };
 
-    ghost is_fault = { λ _. IsBoundsFault };
-
-    ghost are_fresh = { λ layer. L.has_failed layer ≡ false };
-
-    ghost has_failed = { λ layer. OnlyAt input.Layer (IsTrue (L.has_failed layer)) };
-
-    ghost is_no_write = { λ _ none. none };
-
-    fn text(self, layer: &mut L) -> Result<Text, RunFault> {
-        let BoundsJob {
-            alloc,
-            state,
-            scale,
-        } = self;
-        let layer = read_input(alloc, Input::Layer, state, scale, layer)?;
-        Ok(Text::Rows(bounds_text(alloc, &layer)?))
+    fn text(&self, alloc: Global, layer: &Layer) -> Result<Text, AllocError> {
+        Ok(Text::Rows(bounds_text(alloc, layer)?))
     }
 }
 

@@ -1,33 +1,49 @@
-//! The layer that an input is read as.
+//! The layer that a file's bytes or a source is read as, by several threads where there is much of
+//! it.
 
-ghost use Rattle.std.specs.Prelude.{◌≡◌, ◌↔◌, Ok, Err, false, IsTrue, IfOk, IfErr, IsErrOf};
-ghost use Rattle.file_core.specs.declared.read_fault.ReadFault.{ReadFault};
-ghost use Rattle.join_core.specs.Inputs.{LayerFile, BlamesBytes};
+ghost use Rattle.std.specs.Prelude.{◌≡◌, ◌↔◌, false, IsTrue, IsErrOf};
+ghost use Rattle.join_core.specs.Inputs.{Builds, Reads};
 
-use crate::fault::{Input, RunFault};
-use file_core::{ReadFault, Source, read_layer};
+use file_core::{ReadFault, Source, layer_of_bytes, read_all};
 use layer_core::Layer;
 use std::alloc::Global;
 use std::hash::RandomState;
+use std::thread::Threads;
 use wkt_core::Scale;
 
-/// The layer that is read from an input, whose ids `state` hashes.
-pub(crate) fn read_input<S: Source>(
+/// How few bytes are worth threads.
+const LEAST_BYTES: usize = 65_536;
+
+/// The layer of a file's bytes, which so many threads build, or one if they are few. `state` hashes
+/// the ids.
+pub(crate) fn build_by_threads<R: Threads + Sync>(
+    rt: &R,
     alloc: Global,
-    input: Input,
+    state: RandomState,
+    scale: Scale,
+    bytes: Vec<u8>,
+    threads: u32,
+) -> Result<Layer, ReadFault>
+    ensures { Builds scale bytes.items result }
+{
+    let is_long = bytes.len() >= LEAST_BYTES;
+    let threads = if is_long { threads } else { 1 };
+    layer_of_bytes(alloc, state, bytes, scale, threads, rt)
+}
+
+/// The layer that a source is read as, which so many threads build, or one if it has few bytes.
+pub(crate) fn read_by_threads<R: Threads + Sync, S: Source>(
+    rt: &R,
+    alloc: Global,
     state: RandomState,
     scale: Scale,
     source: &mut S,
-) -> Result<Layer, RunFault>
+    threads: u32,
+) -> Result<Layer, ReadFault>
     requires { S.has_failed source.old ≡ false }
-    ensures ok { IfOk result (λ layer. LayerFile scale (S.remaining source.old) (Ok layer.list)) }
-    ensures fault { IfErr result (λ e. (f : ReadFault) × (e ≡ RunFault.Read input f)
-        × (BlamesBytes f → LayerFile scale (S.remaining source.old) (Err f))) }
-    ensures io { IsErrOf result (RunFault.Read input ReadFault.Io)
-        ↔ IsTrue (S.has_failed source.new) }
+    ensures reads { Reads scale (S.remaining source.old) result }
+    ensures io { IsErrOf result ReadFault.Io ↔ IsTrue (S.has_failed source.new) }
 {
-    match read_layer(alloc, state, source, scale) {
-        Ok(layer) => Ok(layer),
-        Err(fault) => Err(RunFault::Read(input, fault)),
-    }
+    let bytes = read_all(alloc, source)?;
+    build_by_threads(rt, alloc, state, scale, bytes, threads)
 }

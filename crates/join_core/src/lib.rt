@@ -5,9 +5,9 @@
 mod bounds;
 mod fault;
 mod fault_text;
-mod job;
 mod joins;
 mod layer_input;
+mod layer_run;
 mod relate;
 mod stats;
 mod text;
@@ -19,6 +19,7 @@ pub use draw_core::MAX_DRAWN;
 pub use fault::{Input, RunFault};
 pub use fault_text::fault_line;
 pub use joins::{JoinSources, apply_edits, join, run_draw, run_join};
+pub use layer_run::DEFAULT_WORKERS;
 pub use output_core::{
     Line, ROOM, Sink, ToWrite, WriteFailed, report_texts, write_text, write_texts,
 };

@@ -2,28 +2,29 @@
 
 ghost use Rattle.std.specs.Prelude.{◌≡◌, ◌+◌, ◌≤◌, ◌++◌, false, length, IsTrue};
 ghost use Rattle.join_core.specs.declared.fault.Input.{Input};
-ghost use Rattle.join_core.specs.declared.fault.Input.TheVariants as input;
 ghost use Rattle.join_core.specs.Jobs.{OnlyAt};
+ghost use Rattle.join_core.specs.LayerRuns.{LayerGives, IsLayerRunFault};
 ghost use Rattle.join_core.specs.Runs.{NoTextFault, RunEnds};
-ghost use Rattle.join_core.specs.StatsRuns.{StatsGives, IsStatsFault};
-ghost use Rattle.join_core.specs.StatsTexts.{count_line, stats_text};
+ghost use Rattle.join_core.specs.StatsTexts.{AreCounts, count_line, stats_text};
 
-use crate::fault::{Input, RunFault};
-use crate::job::{Job, run};
-use crate::layer_input::read_input;
+use crate::fault::RunFault;
+use crate::layer_run::{LayerText, run_on_layer};
 use crate::text::Text;
 use file_core::Source;
-use layer_core::Stats;
+use layer_core::{Layer, Stats};
 use output_core::{Line, ROOM, Sink};
-use std::alloc::Global;
+use std::alloc::{AllocError, Global};
 use std::hash::RandomState;
+use std::thread::Threads;
 use wkt_core::Scale;
 
 /// Writes how many features a layer has, how many of them are points, segments and rectangles, and
 /// how high its tree is: five lines, each a word, a space and a number.
 ///
-/// `state` hashes the ids. A fault of the layer is answered, and then nothing is written.
-pub fn run_stats<L: Source, S: Sink>(
+/// Several threads read the layer. `state` hashes the ids. A fault of the layer is answered, and
+/// then nothing is written.
+pub fn run_stats<R: Threads + Sync, L: Source, S: Sink>(
+    rt: &R,
     alloc: Global,
     state: RandomState,
     scale: Scale,
@@ -32,43 +33,21 @@ pub fn run_stats<L: Source, S: Sink>(
 ) -> Result<(), RunFault>
     requires layer { L.has_failed layer.old ≡ false }
     requires sink { S.has_failed sink.old ≡ false }
-    ensures { RunEnds (StatsGives scale (L.remaining layer.old)) NoTextFault IsStatsFault
-        (OnlyAt Input.Layer (IsTrue (L.has_failed layer.new)))
+    ensures { RunEnds (LayerGives AreCounts scale (L.remaining layer.old)) NoTextFault
+        IsLayerRunFault (OnlyAt Input.Layer (IsTrue (L.has_failed layer.new)))
         S.written S.is_flushed S.has_failed sink.old sink.new result }
 {
-    let job = StatsJob {
-        alloc,
-        state,
-        scale,
-    };
-    run(job, layer, sink)
+    run_on_layer(rt, alloc, state, scale, layer, &Counts, sink)
 }
 
 /// The counts of a layer's features.
-pub(crate) struct StatsJob {
-    pub(crate) alloc: Global,
-    pub(crate) state: RandomState,
-    pub(crate) scale: Scale,
-}
+#[derive(Drop)]
+struct Counts;
 
-impl<L: Source> Job<L> for StatsJob {
-    ghost gives = { λ job layer. StatsGives job.scale (L.remaining layer) };
+impl LayerText for Counts {
+    ghost is_text_of = { λ _. AreCounts };
 
-    ghost is_fault = { λ _. IsStatsFault };
-
-    ghost are_fresh = { λ layer. L.has_failed layer ≡ false };
-
-    ghost has_failed = { λ layer. OnlyAt input.Layer (IsTrue (L.has_failed layer)) };
-
-    ghost is_no_write = { λ _ none. none };
-
-    fn text(self, layer: &mut L) -> Result<Text, RunFault> {
-        let StatsJob {
-            alloc,
-            state,
-            scale,
-        } = self;
-        let layer = read_input(alloc, Input::Layer, state, scale, layer)?;
+    fn text(&self, _: Global, layer: &Layer) -> Result<Text, AllocError> {
         // The tree says that it is lawful, and holds exactly the features.
         let _tree = layer.tree();
         Ok(Text::Lines(stats_lines(&layer.stats())))

@@ -10,8 +10,6 @@ use output_core::{Line, Sink, WriteFailed, write_text, write_texts};
 /// A text that a run writes, in the form in which it was made.
 #[derive(Drop)]
 pub(crate) enum Text {
-    /// The letters of a matrix, and a line feed.
-    Matrix([u8; 10]),
     /// A few lines.
     Lines(Line),
     /// CSV.
@@ -34,7 +32,6 @@ impl Text {
         ensures failed { IsErr result ↔ IsTrue (S.has_failed sink.new) }
     {
         match self {
-            Text::Matrix(letters) => write_text(sink, letters),
             Text::Lines(lines) => write_text(sink, lines.as_str().as_bytes()),
             Text::Rows(rows) => write_text(sink, rows.as_slice()),
             Text::Picture(picture) => write_text(sink, picture.as_bytes()),

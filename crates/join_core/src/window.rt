@@ -5,16 +5,14 @@ ghost use Rattle.std.specs.Prelude.{IsTrue, IfOk, OnOk, AllPairs, ◌<◌};
 ghost use Rattle.std.specs.Option.{option_map};
 ghost use Rattle.layer_core.specs.Layers.{IsLayer, with_number};
 ghost use Rattle.join_core.specs.declared.fault.Input.{Input};
-ghost use Rattle.join_core.specs.declared.fault.Input.TheVariants as input;
 ghost use Rattle.output_core.specs.CsvWriting.{AddsRow};
 ghost use Rattle.join_core.specs.Jobs.{OnlyAt};
 ghost use Rattle.join_core.specs.Runs.{RunEnds};
 ghost use Rattle.join_core.specs.WindowRuns.{WindowGives, HasWindowFault, IsWindowFault};
-ghost use Rattle.join_core.specs.Windows.{IsWindowList, MeetsAt};
+ghost use Rattle.join_core.specs.Windows.{AreMeeting, IsWindowList, MeetsAt};
 
 use crate::fault::{Input, RunFault};
-use crate::job::{Job, run};
-use crate::layer_input::read_input;
+use crate::layer_run::{LayerText, run_on_layer};
 use crate::text::Text;
 use csv::Writer;
 use file_core::Source;
@@ -23,14 +21,16 @@ use layer_core::Layer;
 use output_core::{Sink, new_rows, push_row, rows_text};
 use std::alloc::{AllocError, Global};
 use std::hash::RandomState;
+use std::thread::Threads;
 use wkt_core::Scale;
 
 /// Writes which features of a layer meet a window: a CSV record `id`, and then one with the id of
 /// each feature whose shape shares a point with the window's, in layer order.
 ///
-/// The text of the window is read first, then the layer, whose ids `state` hashes. The first fault
-/// is answered, and then nothing is written.
-pub fn run_window<L: Source, S: Sink>(
+/// The text of the window is read first, then the layer, by several threads; `state` hashes its
+/// ids. The first fault is answered, and then nothing is written.
+pub fn run_window<R: Threads + Sync, L: Source, S: Sink>(
+    rt: &R,
     alloc: Global,
     state: RandomState,
     scale: Scale,
@@ -45,49 +45,23 @@ pub fn run_window<L: Source, S: Sink>(
         (OnlyAt Input.Layer (IsTrue (L.has_failed layer.new)))
         S.written S.is_flushed S.has_failed sink.old sink.new result }
 {
-    let job = WindowJob {
-        alloc,
-        state,
-        scale,
-        wkt,
-    };
-    run(job, layer, sink)
+    match wkt_core::read(wkt, scale) {
+        Ok(window) => run_on_layer(rt, alloc, state, scale, layer, &Meeting { window }, sink),
+        Err(fault) => Err(RunFault::Wkt(Input::Window, fault)),
+    }
 }
 
-/// The list of a layer's features that meet a window, which is given as a text.
-pub(crate) struct WindowJob<'a> {
-    pub(crate) alloc: Global,
-    pub(crate) state: RandomState,
-    pub(crate) scale: Scale,
-    pub(crate) wkt: &'a [u8],
+/// The list of a layer's features that meet a window.
+#[derive(Drop)]
+struct Meeting {
+    window: Shape,
 }
 
-impl<L: Source> Job<L> for WindowJob<'_> {
-    ghost gives = { λ job layer. WindowGives job.scale job.wkt.now (L.remaining layer) };
+impl LayerText for Meeting {
+    ghost is_text_of = { λ meeting. AreMeeting meeting.window };
 
-    ghost has_text_fault = { λ job. HasWindowFault job.scale job.wkt.now };
-
-    ghost is_fault = { λ _. IsWindowFault };
-
-    ghost are_fresh = { λ layer. L.has_failed layer ≡ false };
-
-    ghost has_failed = { λ layer. OnlyAt input.Layer (IsTrue (L.has_failed layer)) };
-
-    ghost is_no_write = { λ _ none. none };
-
-    fn text(self, layer: &mut L) -> Result<Text, RunFault> {
-        let WindowJob {
-            alloc,
-            state,
-            scale,
-            wkt,
-        } = self;
-        let window = match wkt_core::read(wkt, scale) {
-            Ok(shape) => shape,
-            Err(fault) => return Err(RunFault::Wkt(Input::Window, fault)),
-        };
-        let layer = read_input(alloc, Input::Layer, state, scale, layer)?;
-        Ok(Text::Rows(window_text(alloc, &layer, &window)?))
+    fn text(&self, alloc: Global, layer: &Layer) -> Result<Text, AllocError> {
+        Ok(Text::Rows(window_text(alloc, layer, &self.window)?))
     }
 }
 

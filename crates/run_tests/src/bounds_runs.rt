@@ -9,16 +9,21 @@ use crate::running::{Ended, Reading, at_once};
 use file_core::{FromRead, ReadFault};
 use join_core::{Input, RunFault, ToWrite, run_bounds};
 use layer_core::LayerFault;
+use samples::points_text;
+use std::alloc::{AllocError, Global};
+use std::fmt::Write as _;
 use std::hash::RandomState;
 use std::io::Write;
+use std::random::RandomSource;
+use std::thread::Threads;
 use wkt_core::{Scale, WktFault};
 
 /// The corners of the layer LEFT.
 const CORNERS: &str = "id,x1,y1,x2,y2\na,0,0,4,4\nb,4,4,4,4\nc,1,0,3,0\n";
 
 /// What listing the corners of a layer at a scale answers that writes into this sink.
-fn bounds<W: Write>(
-    rt: &HostRuntime,
+fn bounds<R: Threads + Sync + RandomSource + AllocGlobal, W: Write>(
+    rt: &R,
     decimals: u32,
     layer: Reading<'_>,
     sink: &mut ToWrite<W>,
@@ -27,12 +32,12 @@ fn bounds<W: Write>(
 {
     let (state, scale) = (RandomState::new(rt).ok()?, Scale::new(decimals)?);
     let mut layer = FromRead::new(layer);
-    Some(run_bounds(rt.alloc(), state, scale, &mut layer, sink))
+    Some(run_bounds(rt, rt.alloc(), state, scale, &mut layer, sink))
 }
 
 /// Whether listing the corners of a layer at a scale answers and writes this.
-fn lists(
-    rt: &HostRuntime,
+fn lists<R: Threads + Sync + RandomSource + AllocGlobal>(
+    rt: &R,
     decimals: u32,
     layer: Reading<'_>,
     outcome: Result<(), RunFault>,
@@ -79,6 +84,25 @@ fn ids_as_fields_in_layer_order(rt: HostRuntime) {
     assert!(rt; lists(&rt, 0, at_once(layer), Ok(()), text) == Some(true));
 }
 
+/// The corners of so many points (0, 0), (1, 0) and on.
+fn corners_of_points(alloc: Global, count: u32) -> Result<String, AllocError> {
+    let mut text = String::from_str(alloc, "id,x1,y1,x2,y2\n")?;
+    for x in 0..count {
+        writeln!(text, "p{x},{x},0,{x},0")?;
+    }
+    Ok(text)
+}
+
+// The file has more than 64 KiB, so several threads read it.
+#[test]
+fn many_points_by_threads(rt: HostRuntime) -> Result<(), AllocError> {
+    let layer = points_text(rt.alloc(), 20_000)?;
+    let text = corners_of_points(rt.alloc(), 20_000)?;
+    let reading = at_once(layer.as_str());
+    assert!(rt; lists(&rt, 0, reading, Ok(()), text.as_str()) == Some(true));
+    Ok(())
+}
+
 #[test]
 fn layer_at_fault(rt: HostRuntime) {
     let faults = [
@@ -105,7 +129,10 @@ fn layer_at_fault(rt: HostRuntime) {
 }
 
 /// Whether a device with this room is given the front of the corners that it has room for.
-fn lists_front(rt: &HostRuntime, room: usize) -> Option<bool> {
+fn lists_front<R: Threads + Sync + RandomSource + AllocGlobal>(
+    rt: &R,
+    room: usize,
+) -> Option<bool> {
     let mut sink = make_device(rt.alloc(), room, 7);
     let outcome = bounds(rt, 0, at_once(LEFT), &mut sink)?;
     Some(has_front(

@@ -9,15 +9,19 @@ use crate::running::Ended;
 use file_core::{FromRead, ReadFault};
 use join_core::{Input, RunFault, ToWrite, run_stats, run_window};
 use layer_core::LayerFault;
+use samples::points_text;
+use std::alloc::AllocError;
 use std::hash::RandomState;
 use std::io::Write;
+use std::random::RandomSource;
+use std::thread::Threads;
 use wkt_core::{Scale, WktFault};
 
 const COUNTS: &str = "features 3\npoints 1\nsegments 1\nrectangles 1\nheight 1\n";
 
 /// What a window over a layer answers that writes into this sink.
-fn window<W: Write>(
-    rt: &HostRuntime,
+fn window<R: Threads + Sync + RandomSource + AllocGlobal, W: Write>(
+    rt: &R,
     layer: &str,
     wkt: &str,
     sink: &mut ToWrite<W>,
@@ -26,12 +30,20 @@ fn window<W: Write>(
 {
     let (state, scale) = (RandomState::new(rt).ok()?, Scale::new(0)?);
     let mut layer = FromRead::new(layer.as_bytes());
-    Some(run_window(rt.alloc(), state, scale, &mut layer, wkt.as_bytes(), sink))
+    Some(run_window(
+        rt,
+        rt.alloc(),
+        state,
+        scale,
+        &mut layer,
+        wkt.as_bytes(),
+        sink,
+    ))
 }
 
 /// What counting a layer answers that writes into this sink.
-fn stats<W: Write>(
-    rt: &HostRuntime,
+fn stats<R: Threads + Sync + RandomSource + AllocGlobal, W: Write>(
+    rt: &R,
     layer: &str,
     sink: &mut ToWrite<W>,
 ) -> Option<Result<(), RunFault>>
@@ -39,12 +51,12 @@ fn stats<W: Write>(
 {
     let (state, scale) = (RandomState::new(rt).ok()?, Scale::new(0)?);
     let mut layer = FromRead::new(layer.as_bytes());
-    Some(run_stats(rt.alloc(), state, scale, &mut layer, sink))
+    Some(run_stats(rt, rt.alloc(), state, scale, &mut layer, sink))
 }
 
 /// Whether a window over a layer answers and writes this.
-fn finds(
-    rt: &HostRuntime,
+fn finds<R: Threads + Sync + RandomSource + AllocGlobal>(
+    rt: &R,
     layer: &str,
     wkt: &str,
     outcome: Result<(), RunFault>,
@@ -56,8 +68,8 @@ fn finds(
 }
 
 /// Whether counting a layer answers and writes this.
-fn counts(
-    rt: &HostRuntime,
+fn counts<R: Threads + Sync + RandomSource + AllocGlobal>(
+    rt: &R,
     layer: &str,
     outcome: Result<(), RunFault>,
     text: &str,
@@ -100,8 +112,26 @@ fn first_fault_is_answered(rt: HostRuntime) {
     assert!(rt; counts(&rt, file, Err(double), "") == Some(true));
 }
 
+// The file has more than 64 KiB, so several threads read it: 20,000 points. A node has eight at
+// most, so the levels of the tree have 2,500 leaves, 313 nodes, 40, 5 and the root.
+#[test]
+fn many_points_by_threads(rt: HostRuntime) -> Result<(), AllocError> {
+    let layer = points_text(rt.alloc(), 20_000)?;
+    let layer = layer.as_str();
+    let counts_text = "features 20000\npoints 20000\nsegments 0\nrectangles 0\nheight 5\n";
+    assert!(rt; counts(&rt, layer, Ok(()), counts_text) == Some(true));
+    let window = "LINESTRING (7 0, 11 0)";
+    let ids = "id\np7\np8\np9\np10\np11\n";
+    assert!(rt; finds(&rt, layer, window, Ok(()), ids) == Some(true));
+    Ok(())
+}
+
 /// Whether a device with this room is given the front of a list of ids that it has room for.
-fn lists_front(rt: &HostRuntime, ids: &str, room: usize) -> Option<bool> {
+fn lists_front<R: Threads + Sync + RandomSource + AllocGlobal>(
+    rt: &R,
+    ids: &str,
+    room: usize,
+) -> Option<bool> {
     let mut sink = make_device(rt.alloc(), room, 3);
     let outcome = window(rt, RIGHT, "POINT (4 4)", &mut sink)?;
     Some(has_front(
@@ -121,7 +151,10 @@ fn list_to_failing_device(rt: HostRuntime) {
 }
 
 /// Whether a device with this room is given the front of the counts that it has room for.
-fn counts_front(rt: &HostRuntime, room: usize) -> Option<bool> {
+fn counts_front<R: Threads + Sync + RandomSource + AllocGlobal>(
+    rt: &R,
+    room: usize,
+) -> Option<bool> {
     let mut sink = make_device(rt.alloc(), room, 7);
     let outcome = stats(rt, LEFT, &mut sink)?;
     Some(has_front(

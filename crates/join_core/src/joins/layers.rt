@@ -7,7 +7,8 @@ ghost use Rattle.join_core.specs.Inputs.{LayerFile, Builds, Reads};
 ghost use Rattle.join_core.specs.JoinRuns.{IsLayersFault};
 
 use crate::fault::{Input, RunFault};
-use file_core::{ReadFault, Source, layer_of_bytes, read_all};
+use crate::layer_input::{build_by_threads, read_by_threads};
+use file_core::{ReadFault, Source, read_all};
 use layer_core::Layer;
 use std::alloc::Global;
 use std::hash::RandomState;
@@ -82,7 +83,7 @@ fn build_and_read<R: Threads + Sync, B: Source>(
     let threads = (workers / 2).max(1);
     let mut build_left = || -> Result<Layer, ReadFault>
         ensures { Builds scale left.entry.items result }
-    { build_by_threads(rt, alloc, left_state, scale, &mut left, threads) };
+    { build_taken(rt, alloc, left_state, scale, &mut left, threads) };
     let mut read_right = || -> Result<Layer, ReadFault>
         requires { B.has_failed right.now ≡ false }
         ensures reads { Reads scale (B.remaining right.entry.now) result }
@@ -96,8 +97,8 @@ fn build_and_read<R: Threads + Sync, B: Source>(
 }
 
 /// The layer of a file's bytes, which are taken out of `bytes`: a closure that threads share borrows
-/// what it captures. So many threads build it.
-fn build_by_threads<R: Threads + Sync>(
+/// what it captures.
+fn build_taken<R: Threads + Sync>(
     rt: &R,
     alloc: Global,
     state: RandomState,
@@ -108,24 +109,7 @@ fn build_by_threads<R: Threads + Sync>(
     ensures { Builds scale bytes.old.items result }
 {
     let taken = mem::replace(bytes, Vec::new(alloc));
-    layer_of_bytes(alloc, state, taken, scale, threads, rt)
-}
-
-/// The layer that a source is read as, which so many threads build.
-fn read_by_threads<R: Threads + Sync, S: Source>(
-    rt: &R,
-    alloc: Global,
-    state: RandomState,
-    scale: Scale,
-    source: &mut S,
-    threads: u32,
-) -> Result<Layer, ReadFault>
-    requires { S.has_failed source.old ≡ false }
-    ensures reads { Reads scale (S.remaining source.old) result }
-    ensures io { IsErrOf result ReadFault.Io ↔ IsTrue (S.has_failed source.new) }
-{
-    let bytes = read_all(alloc, source)?;
-    layer_of_bytes(alloc, state, bytes, scale, threads, rt)
+    build_by_threads(rt, alloc, state, scale, taken, threads)
 }
 
 /// Frees both layers: side by side where there is more than one worker.

@@ -1,6 +1,6 @@
 use Rattle.command_core.proofs.CommandLemmas.{relate_ends}
-use Rattle.command_core.proofs.LayerCommandLemmas.{layer_missing, layer_without_keys, window_reads_one, window_none_first, window_ran, stats_reads_one}
-use Rattle.command_core.proofs.LayerCommandLemmas.{stats_none_first, stats_ran, bounds_reads_one, bounds_none_first, bounds_ran}
+use Rattle.command_core.proofs.LayerCommandLemmas.{layer_missing, layer_without_keys, window_reads_one, window_none_first, window_ran}
+use Rattle.command_core.proofs.LayerCommandLemmas.{stats_asks, bounds_asks, layer_none_first, layer_asked}
 use Rattle.command_core.proofs.command.execute.Goals as goal
 
 pub returns-in-Relate : goal.returns-in-Relate
@@ -36,35 +36,35 @@ returns-in_ok-state-in-Window g c =
 pub returns-in_err-layer-in-Stats : goal.returns-in_err-layer-in-Stats
 returns-in_err-layer-in-Stats g c =
     rw c.in-Stats.is
-    (layer_missing _ _ _ _ _ _ _ (stats_reads_one c.in-Stats.scale c.in-Stats.path) _ _ _ c.requires c.from_residual-in_err-layer-in-Stats.ensures.1
+    (layer_missing _ _ _ _ _ _ _ (stats_asks c.in-Stats.scale c.in-Stats.path).reads _ _ _ c.requires c.from_residual-in_err-layer-in-Stats.ensures.1
     c.in_err-layer-in-Stats.ensures.fault c.in_err-layer-in-Stats.ensures.missing)
 
 pub returns-in_err-hash_state-in-Stats : goal.returns-in_err-hash_state-in-Stats
 returns-in_err-hash_state-in-Stats g c =
     rw c.in-Stats.is
-    (layer_without_keys _ _ _ _ _ _ _ (stats_reads_one c.in-Stats.scale c.in-Stats.path) _ _ _ _ c.requires c.from_residual-in_err-hash_state-in-Stats.ensures.1
-    c.in_err-hash_state-in-Stats.ensures c.in_ok-layer-in-Stats.ensures.ok (stats_none_first c.in-Stats.scale c.in-Stats.path _))
+    (layer_without_keys _ _ _ _ _ _ _ (stats_asks c.in-Stats.scale c.in-Stats.path).reads _ _ _ _ c.requires c.from_residual-in_err-hash_state-in-Stats.ensures.1
+    c.in_err-hash_state-in-Stats.ensures c.in_ok-layer-in-Stats.ensures.ok (layer_none_first (stats_asks c.in-Stats.scale c.in-Stats.path) _))
 
 pub returns-in_ok-hash_state-in-Stats : goal.returns-in_ok-hash_state-in-Stats
 returns-in_ok-hash_state-in-Stats g c =
     rw c.in-Stats.is
-    (stats_ran _ _ _ _ c.in-Stats.scale c.in-Stats.path _ _ _ _ c.in_ok-layer-in-Stats.ensures.ok
+    (layer_asked (stats_asks c.in-Stats.scale c.in-Stats.path) _ _ _ _ _ _ _ _ c.in_ok-layer-in-Stats.ensures.ok
     c.run_stats.ensures.writes c.run_stats.ensures.fault c.run_stats.ensures.faults)
 
 pub returns-in_err-layer-in-Bounds : goal.returns-in_err-layer-in-Bounds
 returns-in_err-layer-in-Bounds g c =
     rw c.in-Bounds.is
-    (layer_missing _ _ _ _ _ _ _ (bounds_reads_one c.in-Bounds.scale c.in-Bounds.path) _ _ _ c.requires c.from_residual-in_err-layer-in-Bounds.ensures.1
+    (layer_missing _ _ _ _ _ _ _ (bounds_asks c.in-Bounds.scale c.in-Bounds.path).reads _ _ _ c.requires c.from_residual-in_err-layer-in-Bounds.ensures.1
     c.in_err-layer-in-Bounds.ensures.fault c.in_err-layer-in-Bounds.ensures.missing)
 
 pub returns-in_err-hash_state-in-Bounds : goal.returns-in_err-hash_state-in-Bounds
 returns-in_err-hash_state-in-Bounds g c =
     rw c.in-Bounds.is
-    (layer_without_keys _ _ _ _ _ _ _ (bounds_reads_one c.in-Bounds.scale c.in-Bounds.path) _ _ _ _ c.requires c.from_residual-in_err-hash_state-in-Bounds.ensures.1
-    c.in_err-hash_state-in-Bounds.ensures c.in_ok-layer-in-Bounds.ensures.ok (bounds_none_first c.in-Bounds.scale c.in-Bounds.path _))
+    (layer_without_keys _ _ _ _ _ _ _ (bounds_asks c.in-Bounds.scale c.in-Bounds.path).reads _ _ _ _ c.requires c.from_residual-in_err-hash_state-in-Bounds.ensures.1
+    c.in_err-hash_state-in-Bounds.ensures c.in_ok-layer-in-Bounds.ensures.ok (layer_none_first (bounds_asks c.in-Bounds.scale c.in-Bounds.path) _))
 
 pub returns-in_ok-hash_state-in-Bounds : goal.returns-in_ok-hash_state-in-Bounds
 returns-in_ok-hash_state-in-Bounds g c =
     rw c.in-Bounds.is
-    (bounds_ran _ _ _ _ c.in-Bounds.scale c.in-Bounds.path _ _ _ _ c.in_ok-layer-in-Bounds.ensures.ok
+    (layer_asked (bounds_asks c.in-Bounds.scale c.in-Bounds.path) _ _ _ _ _ _ _ _ c.in_ok-layer-in-Bounds.ensures.ok
     c.run_bounds.ensures.writes c.run_bounds.ensures.fault c.run_bounds.ensures.faults)

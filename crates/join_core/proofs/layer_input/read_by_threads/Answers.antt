@@ -1,6 +1,6 @@
 use Rattle.std.proofs.Common.{Err, ap}
 use Rattle.join_core.proofs.LayersLemmas.{unread}
-use Rattle.join_core.proofs.joins.layers.read_by_threads.Goals as goal
+use Rattle.join_core.proofs.layer_input.read_by_threads.Goals as goal
 
 pub returns-in_err-bytes-clause-reads : goal.returns-in_err-bytes-clause-reads
 returns-in_err-bytes-clause-reads g c =

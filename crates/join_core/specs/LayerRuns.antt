@@ -1,0 +1,23 @@
+-- What a run over the file of one layer gives.
+use Rattle.std.specs.Prelude.{⊤, ℕ, List, Option, Result, Ok, Err}
+use Rattle.wkt_core.specs.declared.scale.Scale.{Scale}
+use Rattle.file_core.specs.declared.read_fault.ReadFault.{ReadFault}
+use Rattle.layer_core.specs.LayerTrees.{LayerState}
+use Rattle.join_core.specs.declared.fault.Input.TheVariants as input
+use Rattle.join_core.specs.declared.fault.RunFault.{RunFault}
+use Rattle.join_core.specs.declared.fault.RunFault.TheVariants.{Read, Memory}
+use Rattle.join_core.specs.Inputs.{LayerFile}
+
+-- a text of this kind, of the layer that the file gives, or the fault of the file
+pub data LayerGives (IsTextOf : LayerState → List ℕ → Type 0) (scale : Scale)
+    (file : Option (List ℕ)) : Result (List ℕ) RunFault → Type 0 where
+  layer_fault : (f : ReadFault) → LayerFile scale file (Err f)
+      → LayerGives IsTextOf scale file (Err (Read input.Layer f))
+  made : (layer : LayerState) (text : List ℕ) → LayerFile scale file (Ok layer.list)
+      → IsTextOf layer text → LayerGives IsTextOf scale file (Ok text)
+
+-- a fault that such a run may have, that of its sink aside
+abbrev pub IsLayerRunFault : RunFault → Type 0
+IsLayerRunFault (Read input.Layer f) = ⊤
+IsLayerRunFault Memory = ⊤
+IsLayerRunFault _ = ⊥

@@ -1,0 +1,81 @@
+//! Runs over one layer: it is read, and a text that is made of it is written.
+
+ghost use Rattle.std.specs.Prelude.{◌≡◌, ◌↔◌, ℕ, List, Ok, Err, false, IsTrue, IsErrOf, IfErr, IfOk};
+ghost use Rattle.layer_core.specs.LayerTrees.{LayerState};
+ghost use Rattle.join_core.specs.declared.fault.Input.{Input};
+ghost use Rattle.join_core.specs.Inputs.{BlamesInput};
+ghost use Rattle.join_core.specs.Jobs.{OnlyAt};
+ghost use Rattle.join_core.specs.LayerRuns.{LayerGives, IsLayerRunFault};
+ghost use Rattle.join_core.specs.Runs.{NoTextFault, RunEnds};
+ghost use Rattle.join_core.specs.Texts.{bytes_of_text};
+
+use crate::fault::{Input, RunFault};
+use crate::layer_input::read_by_threads;
+use crate::text::Text;
+use file_core::{ReadFault, Source};
+use layer_core::Layer;
+use output_core::Sink;
+use std::alloc::{AllocError, Global};
+use std::hash::RandomState;
+use std::thread::Threads;
+use wkt_core::Scale;
+
+/// How many workers a join has where none are asked for, and how many threads read one layer.
+pub const DEFAULT_WORKERS: u32 = 4;
+
+/// What a run makes of a layer.
+pub(crate) trait LayerText {
+    ghost is_text_of: { Self → LayerState → List ℕ → Type 0 };
+
+    /// The text of a layer.
+    fn text(&self, alloc: Global, layer: &Layer) -> Result<Text, AllocError>
+        ensures { IfOk result (λ text. is_text_of self.now layer.now (bytes_of_text text)) };
+}
+
+/// Reads a layer, whose ids `state` hashes, and writes the text that is made of it. After a fault
+/// of the layer nothing is written.
+pub(crate) fn run_on_layer<R: Threads + Sync, L: Source, T: LayerText, S: Sink>(
+    rt: &R,
+    alloc: Global,
+    state: RandomState,
+    scale: Scale,
+    layer: &mut L,
+    made: &T,
+    sink: &mut S,
+) -> Result<(), RunFault>
+    requires layer { L.has_failed layer.old ≡ false }
+    requires sink { S.has_failed sink.old ≡ false }
+    ensures { RunEnds (LayerGives (T.is_text_of made.now) scale (L.remaining layer.old))
+        NoTextFault IsLayerRunFault (OnlyAt Input.Layer (IsTrue (L.has_failed layer.new)))
+        S.written S.is_flushed S.has_failed sink.old sink.new result }
+{
+    let text = text_of(rt, alloc, state, scale, layer, made)?;
+    text.write(sink)?;
+    Ok(())
+}
+
+/// The text that is made of the layer that a source is read as.
+fn text_of<R: Threads + Sync, L: Source, T: LayerText>(
+    rt: &R,
+    alloc: Global,
+    state: RandomState,
+    scale: Scale,
+    source: &mut L,
+    made: &T,
+) -> Result<Text, RunFault>
+    requires { L.has_failed source.old ≡ false }
+    ensures ok { let file = L.remaining source.old in
+        let gives = LayerGives (T.is_text_of made.now) scale file in
+        IfOk result (λ text. gives (Ok (bytes_of_text text))) }
+    ensures fault { let file = L.remaining source.old in
+        let gives = LayerGives (T.is_text_of made.now) scale file in
+        IfErr result (λ f. BlamesInput f → gives (Err f)) }
+    ensures faults { IfErr result IsLayerRunFault }
+    ensures io { IsErrOf result (RunFault.Read Input.Layer ReadFault.Io)
+        ↔ IsTrue (L.has_failed source.new) }
+{
+    match read_by_threads(rt, alloc, state, scale, source, DEFAULT_WORKERS) {
+        Ok(layer) => Ok(made.text(alloc, &layer)?),
+        Err(fault) => Err(RunFault::Read(Input::Layer, fault)),
+    }
+}
