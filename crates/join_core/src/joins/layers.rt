@@ -19,7 +19,7 @@ use wkt_core::Scale;
 /// The layers that the left and the right source are read as. `states` hash their ids.
 ///
 /// The left source is read first. Then its layer is built, and the right source is read and its
-/// layer built: side by side where there is more than one worker, and each by half of the workers.
+/// layer built: side by side where there is more than one worker, and each by as many threads.
 /// A left source that fails is answered at once, and the right one isn't read; a right source that
 /// fails is answered before a fault in what was read of the left one.
 pub(crate) fn read_layers<R: Threads + Sync, A: Source, B: Source>(
@@ -80,15 +80,14 @@ fn build_and_read<R: Threads + Sync, B: Source>(
     ensures right_io { IsErrOf result.1 ReadFault.Io ↔ IsTrue (B.has_failed right.new) }
 {
     let (left_state, right_state) = states;
-    let threads = (workers / 2).max(1);
     let mut build_left = || -> Result<Layer, ReadFault>
         ensures { Builds scale left.entry.items result }
-    { build_taken(rt, alloc, left_state, scale, &mut left, threads) };
+    { build_taken(rt, alloc, left_state, scale, &mut left, workers) };
     let mut read_right = || -> Result<Layer, ReadFault>
         requires { B.has_failed right.now ≡ false }
         ensures reads { Reads scale (B.remaining right.entry.now) result }
         ensures io { IsErrOf result ReadFault.Io ↔ IsTrue (B.has_failed right.exit.now) }
-    { read_by_threads(rt, alloc, right_state, scale, right, threads) };
+    { read_by_threads(rt, alloc, right_state, scale, right, workers) };
     if workers > 1 {
         thread::join_mut(rt, &mut build_left, &mut read_right)
     } else {
