@@ -110,8 +110,8 @@ The path - stands for standard input.
 
 The answer has five lines: features, points, segments, rectangles and height, each with a number.
 
-Exit status: 0 for success, 1 for a fault of the file, output, memory or hashing keys, 2 for wrong
-words";
+Exit status: 0 for success, 1 for a fault of the file, output, memory or hashing keys, 2 for
+invalid arguments";
 
 const BOUNDS_HELP: &str = "\
 A layer is a CSV file, as
@@ -123,8 +123,8 @@ The answer is CSV: id,x1,y1,x2,y2, and for each feature, in the order of the fil
 least and greatest coordinates. They are whole numbers of units of the last decimal: with
 --scale 2, 12.5 is written as 1250.
 
-Exit status: 0 for success, 1 for a fault of the file, output, memory or hashing keys, 2 for wrong
-words";
+Exit status: 0 for success, 1 for a fault of the file, output, memory or hashing keys, 2 for
+invalid arguments";
 
 /// What `clap` is told of the program.
 pub fn usage<'a>(alloc: Global) -> Result<Command<'a>, AllocError>
