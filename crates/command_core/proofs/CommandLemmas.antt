@@ -89,7 +89,7 @@ pub refused_ends : {T S : Type 0} (known : Option Files) (written : S → Option
     → has_failed sink ≡ false → IsErrAnd result (λ x. x ≡ f) → f ≢ run.Write → IfSome known (λ at. CommandGives at command (Err f) ⊎ (BlamesCommand f → ⊥))
     → ((g : RunFault) → IsFoundFirst command g → IfSome known (λ at. CommandGives at command (Err g) → g ≡ f))
     → ((g : RunFault) → IsFoundNext command g → f ≢ run.NoKeys → IfSome known (λ at. CommandGives at command (Err g) → g ≡ f))
-    → IsFaultOf command f
+    → IsFaultOf known command f
     → CommandEnds known written is_flushed has_failed command sink sink result
 refused_ends known written is_flushed has_failed command sink (Ok x) f fresh h other given first next is = absurd h
 refused_ends {T} None written is_flushed has_failed command sink (Err e) f fresh h other given first next is =
@@ -98,7 +98,7 @@ refused_ends {T} None written is_flushed has_failed command sink (Err e) f fresh
       fault = λ blame. tt;
       first = λ g found. tt;
       next = λ g found keys. tt;
-      faults = λ w. subst (IsFaultOf command) (sym h) is;
+      faults = λ w. subst (IsFaultOf None command) (sym h) is;
     }
 refused_ends {T} (Some at) written is_flushed has_failed command sink (Err e) f fresh h other given first next is =
     let same : (let r : Result T RunFault = Err e in r) ≡ Err f = cc in record {
@@ -109,7 +109,7 @@ refused_ends {T} (Some at) written is_flushed has_failed command sink (Err e) f 
       ]);
       first = λ g found gives. let is_f : g ≡ f = first g found gives in cc;
       next = λ g found keys gives. let is_f : g ≡ f = next g found (λ none. keys (let whole : e ≡ run.NoKeys = h ∙ none in cc)) gives in cc;
-      faults = λ w. subst (IsFaultOf command) (sym h) is;
+      faults = λ w. subst (IsFaultOf (Some at) command) (sym h) is;
     }
 
 pub err_is : (f g : RunFault) → (let a : Result (List ℕ) RunFault = Err f in a) ≡ Err g → f ≡ g

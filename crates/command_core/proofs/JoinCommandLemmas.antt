@@ -2,6 +2,7 @@
 use Rattle.std.proofs.Common.{◌≡◌, ◌≢◌, ◌↔◌, ℕ, List, Option, Some, None, Bool, false, Result, Ok, Err, IsErrAnd, ◌⊎◌, inl, inr, IfErr, IfSome}
 use Rattle.std.proofs.Common.{refl, sym, subst, ◌∙◌}
 use Rattle.std.specs.Prelude.{⊤}
+use Rattle.std.proofs.lemmas.Result.{IfErr-weaker}
 use Rattle.std.specs.Borrow.{Bor}
 use Rattle.geom_core.specs.JoinRelations.{relation_of}
 use Rattle.layer_core.specs.Edits.{Layers}
@@ -20,9 +21,10 @@ use Rattle.words_core.specs.declared.words.Command.{Command}
 use Rattle.words_core.specs.declared.words.Command.TheVariants.{Join, Draw}
 use Rattle.words_core.specs.declared.words.JoinRequest.{JoinRequest}
 use Rattle.command_core.specs.Commands.{AfterOpening, AfterEdits, PathsGive, CommandGives, IsCommandText, BlamesCommand, IsFoundFirst, IsFoundNext}
-use Rattle.command_core.specs.Commands.{IsFaultOf, CommandEnds, command_of}
+use Rattle.command_core.specs.Commands.{IsFaultOf, OrNoFile, known_files, CommandEnds, command_of}
 use Rattle.command_core.specs.Opening.{Files, IsAt, IsMissing, AreEditsAt, AreEditsMissing, AreOpened, IsFirstMissing, no_left, no_right, no_edits}
 use Rattle.join_core.proofs.RunLemmas.{ends_as}
+use Rattle.command_core.proofs.KnownLemmas.{join_known, draw_known}
 use Rattle.command_core.proofs.CommandLemmas.{refused_ends, input_opened, err_is}
 
 -- what `?` hands on of the first file that can't be opened
@@ -51,18 +53,18 @@ edits_refused at (Some path) answer Then missing =
     let After : Option (List ℕ) → Type 0 = λ lies. AfterOpening Edits lies answer (λ bytes. Then (Some (Some bytes))) in
     ((λ h. let now : After None = h in subst After (sym missing) now), (λ h. let now : After None = subst After missing h in now))
 
-blames : (f : RunFault) → IsDrawFault f → BlamesCommand f → BlamesInput f
-blames (run.NoFile i) allowed blame = absurd allowed
-blames (run.Wkt i w) allowed blame = absurd allowed
-blames f allowed blame = blame
+blames : (files : JoinFiles) (f : RunFault) → IsDrawFault files f → BlamesCommand f → BlamesInput f
+blames files (run.NoFile i) allowed blame = absurd allowed.0
+blames files (run.Wkt i w) allowed blame = absurd allowed.0
+blames files f allowed blame = blame
 
 -- what a command gives is what its run gives of the files at the paths of a join
 pub record ReadsFiles (command : Command) (join : JoinRequest) (Gives : JoinFiles → Result (List ℕ) RunFault → Type 0) : Type 0 where
   pub gives : (at : Files) (answer : Result (List ℕ) RunFault) → PathsGive Gives at join answer ↔ CommandGives at command answer
   pub none_first : (g : RunFault) → IsFoundFirst command g → (files : JoinFiles) → Gives files (Err g) → ⊥
   pub none_next : (g : RunFault) → IsFoundNext command g → ⊥
-  pub may_miss : (i : Input) → IsFaultOf command (run.NoFile i)
-  pub may_lack_keys : IsFaultOf command run.NoKeys
+  pub may_miss : (known : Option Files) (i : Input) → IsFaultOf known command (run.NoFile i)
+  pub may_lack_keys : (known : Option Files) → IsFaultOf known command run.NoKeys
 
 module _ {S : Type 0} (known : Option Files) (written : S → Option (List ℕ)) (is_flushed has_failed : S → Bool)
     (command : Command) (join : JoinRequest) (Gives : JoinFiles → Result (List ℕ) RunFault → Type 0) (reads : ReadsFiles command join Gives) where
@@ -136,7 +138,7 @@ module _ {S : Type 0} (known : Option Files) (written : S → Option (List ℕ))
       → IsErrAnd result (λ x. x ≡ run.NoFile i) → CommandEnds known written is_flushed has_failed command sink sink result
   refused_by sink result i only fresh h =
       refused_ends known written is_flushed has_failed command sink result (run.NoFile i) fresh h (λ e. absurd cc) (that_fault known (run.NoFile i) only)
-      (λ g found. no_other known (run.NoFile i) only g) (λ g found keys. no_other known (run.NoFile i) only g) (reads.may_miss i)
+      (λ g found. no_other known (run.NoFile i) only g) (λ g found keys. no_other known (run.NoFile i) only g) (reads.may_miss known i)
 
   -- a file can't be opened
   pub not_opened : {T : Type 0} (sink : S) (result : Result T RunFault) (f : RunFault) → IsFirstMissing known join f → has_failed sink ≡ false
@@ -162,7 +164,7 @@ module _ {S : Type 0} (known : Option Files) (written : S → Option (List ℕ))
   without_keys sink result f l r e fresh h named is =
       refused_ends known written is_flushed has_failed command sink result run.NoKeys fresh
       (subst (λ (x : RunFault). IsErrAnd result (λ y. y ≡ x)) named h) (λ w. absurd cc) (no_keys_given known)
-      (λ g found. none_found known l r e is g run.NoKeys found) (λ g found keys. absurd (reads.none_next g found)) reads.may_lack_keys
+      (λ g found. none_found known l r e is g run.NoKeys found) (λ g found keys. absurd (reads.none_next g found)) (reads.may_lack_keys known)
 
   text_as : (known : Option Files) (l r : Option (List ℕ)) (e : Option (Option (List ℕ))) → AreOpened known join l r e → (text : List ℕ)
       → Gives (files_at l r e) (Ok text) → IsCommandText known command text
@@ -171,11 +173,11 @@ module _ {S : Type 0} (known : Option Files) (written : S → Option (List ℕ))
 
   blamed_as : {T : Type 0} (known : Option Files) (l r : Option (List ℕ)) (e : Option (Option (List ℕ))) → AreOpened known join l r e
       → (result : Result T RunFault) → IfErr result (λ f. BlamesInput f → Gives (files_at l r e) (Err f))
-      → IfErr result (λ f. f ≢ run.Write → IsDrawFault f) → IfErr result (λ f. BlamesCommand f → IfSome known (λ at. CommandGives at command (Err f)))
+      → IfErr result (λ f. f ≢ run.Write → IsDrawFault (files_at l r e) f) → IfErr result (λ f. BlamesCommand f → IfSome known (λ at. CommandGives at command (Err f)))
   blamed_as known l r e is (Ok x) fault faults = tt
   blamed_as None l r e is (Err f) fault faults = λ blame. tt
   blamed_as (Some at) l r e is (Err f) fault faults = λ blame.
-      (opened at l r e (Err f) is).0 (fault (blames f (faults (λ w. subst BlamesCommand w blame)) blame))
+      (opened at l r e (Err f) is).0 (fault (blames (files_at l r e) f (faults (λ w. subst BlamesCommand w blame)) blame))
 
   first_as : {T : Type 0} (known : Option Files) (l r : Option (List ℕ)) (e : Option (Option (List ℕ))) → AreOpened known join l r e
       → (result : Result T RunFault) (f : RunFault) → IsFoundFirst command f → IfSome known (λ at. CommandGives at command (Err f) → result ≡ Err f)
@@ -186,7 +188,7 @@ module _ {S : Type 0} (known : Option Files) (written : S → Option (List ℕ))
   files_ran : {T : Type 0} (l r : Option (List ℕ)) (e : Option (Option (List ℕ))) (old new : S) (result : Result T RunFault) → AreOpened known join l r e
       → Ends (λ text. Gives (files_at l r e) (Ok text)) written is_flushed has_failed old new result
       → IfErr result (λ f. BlamesInput f → Gives (files_at l r e) (Err f))
-      → IfErr result (λ f. f ≢ run.Write → IsDrawFault f) → IfErr result (λ f. f ≢ run.Write → IsFaultOf command f)
+      → IfErr result (λ f. f ≢ run.Write → IsDrawFault (files_at l r e) f) → IfErr result (λ f. f ≢ run.Write → IsFaultOf known command f)
       → CommandEnds known written is_flushed has_failed command old new result
   files_ran l r e old new result is ends fault faults allowed = record {
     writes = ends_as _ _ written is_flushed has_failed old new result (text_as known l r e is) ends;
@@ -231,27 +233,19 @@ join_reads join = record {
   gives = λ at answer. ((λ h. h), (λ h. h));
   none_first = join_none_first join;
   none_next = λ g nothing. nothing;
-  may_miss = λ i. tt;
-  may_lack_keys = tt;
+  may_miss = λ known i. tt;
+  may_lack_keys = λ known. tt;
 }
 
-join_is_draw : (f : RunFault) → IsJoinFault f → IsDrawFault f
-join_is_draw run.TooManyToDraw is = tt
-join_is_draw f is = is
+join_is_draw : (files : JoinFiles) (f : RunFault) → IsJoinFault files f → IsDrawFault files f
+join_is_draw files run.TooManyToDraw is = tt
+join_is_draw files f is = is
 
-joins_draw : {T : Type 0} (result : Result T RunFault) → IfErr result (λ f. f ≢ run.Write → IsJoinFault f) → IfErr result (λ f. f ≢ run.Write → IsDrawFault f)
-joins_draw (Ok x) faults = tt
-joins_draw (Err f) faults = λ w. join_is_draw f (faults w)
-
-join_allows : (join : JoinRequest) (f : RunFault) → IsJoinFault f → IsFaultOf (Join join) f
-join_allows join (run.NoFile i) is = tt
-join_allows join run.NoKeys is = tt
-join_allows join f is = is
-
-join_allowed : {T : Type 0} (join : JoinRequest) (result : Result T RunFault) → IfErr result (λ f. f ≢ run.Write → IsJoinFault f)
-    → IfErr result (λ f. f ≢ run.Write → IsFaultOf (Join join) f)
-join_allowed join (Ok x) faults = tt
-join_allowed join (Err f) faults = λ w. join_allows join f (faults w)
+-- a fault of a run is one of its command
+allows_all : (IsRunFault : RunFault → Type 0) (f : RunFault) → IsRunFault f → OrNoFile IsRunFault f
+allows_all IsRunFault (run.NoFile i) is = tt
+allows_all IsRunFault run.NoKeys is = tt
+allows_all IsRunFault f is = is
 
 module _ {T S : Type 0} (known : Option Files) (written : S → Option (List ℕ)) (is_flushed has_failed : S → Bool) (join : JoinRequest)
     (l r : Option (List ℕ)) (e : Option (Option (List ℕ))) (old new : S) (result : Result T RunFault) where
@@ -259,10 +253,11 @@ module _ {T S : Type 0} (known : Option Files) (written : S → Option (List ℕ
       → Ends (λ text. JoinGives (relation_of join.relation) (record { scale = join.scale; left = l; right = r; edits = e }) (Ok text))
       written is_flushed has_failed old new result
       → IfErr result (λ f. BlamesInput f → JoinGives (relation_of join.relation) (record { scale = join.scale; left = l; right = r; edits = e }) (Err f))
-      → IfErr result (λ f. f ≢ run.Write → IsJoinFault f) → CommandEnds known written is_flushed has_failed (Join join) old new result
+      → IfErr result (λ f. f ≢ run.Write → IsJoinFault (record { scale = join.scale; left = l; right = r; edits = e }) f) → CommandEnds known written is_flushed has_failed (Join join) old new result
   join_ran is ends fault faults =
       files_ran known written is_flushed has_failed (Join join) join (JoinGives (relation_of join.relation)) (join_reads join) l r e old new result is ends
-      fault (joins_draw result faults) (join_allowed join result faults)
+      fault (IfErr-weaker result _ _ (λ f given w. join_is_draw (record { scale = join.scale; left = l; right = r; edits = e }) f (given w)) faults)
+      (IfErr-weaker result _ _ (λ f given w. allows_all (IsJoinFault (known_files known join)) f (join_known known join l r e is f (given w))) faults)
 
 -- ---- a picture
 
@@ -285,19 +280,9 @@ draw_reads join = record {
   gives = λ at answer. ((λ h. h), (λ h. h));
   none_first = draw_none_first join;
   none_next = λ g nothing. nothing;
-  may_miss = λ i. tt;
-  may_lack_keys = tt;
+  may_miss = λ known i. tt;
+  may_lack_keys = λ known. tt;
 }
-
-draw_allows : (join : JoinRequest) (f : RunFault) → IsDrawFault f → IsFaultOf (Draw join) f
-draw_allows join (run.NoFile i) is = tt
-draw_allows join run.NoKeys is = tt
-draw_allows join f is = is
-
-draw_allowed : {T : Type 0} (join : JoinRequest) (result : Result T RunFault) → IfErr result (λ f. f ≢ run.Write → IsDrawFault f)
-    → IfErr result (λ f. f ≢ run.Write → IsFaultOf (Draw join) f)
-draw_allowed join (Ok x) faults = tt
-draw_allowed join (Err f) faults = λ w. draw_allows join f (faults w)
 
 module _ {T S : Type 0} (known : Option Files) (written : S → Option (List ℕ)) (is_flushed has_failed : S → Bool) (join : JoinRequest)
     (l r : Option (List ℕ)) (e : Option (Option (List ℕ))) (old new : S) (result : Result T RunFault) where
@@ -305,10 +290,11 @@ module _ {T S : Type 0} (known : Option Files) (written : S → Option (List ℕ
       → Ends (λ text. DrawGives (relation_of join.relation) (record { scale = join.scale; left = l; right = r; edits = e }) (Ok text))
       written is_flushed has_failed old new result
       → IfErr result (λ f. BlamesInput f → DrawGives (relation_of join.relation) (record { scale = join.scale; left = l; right = r; edits = e }) (Err f))
-      → IfErr result (λ f. f ≢ run.Write → IsDrawFault f) → CommandEnds known written is_flushed has_failed (Draw join) old new result
+      → IfErr result (λ f. f ≢ run.Write → IsDrawFault (record { scale = join.scale; left = l; right = r; edits = e }) f) → CommandEnds known written is_flushed has_failed (Draw join) old new result
   draw_ran is ends fault faults =
       files_ran known written is_flushed has_failed (Draw join) join (DrawGives (relation_of join.relation)) (draw_reads join) l r e old new result is ends
-      fault faults (draw_allowed join result faults)
+      fault faults
+      (IfErr-weaker result _ _ (λ f given w. allows_all (IsDrawFault (known_files known join)) f (draw_known known join l r e is f (given w))) faults)
 
 -- ---- either
 

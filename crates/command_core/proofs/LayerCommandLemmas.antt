@@ -20,17 +20,18 @@ use Rattle.join_core.specs.WindowRuns.{WindowGives, text_fault, looked_up, IsWin
 use Rattle.words_core.specs.declared.words.Command.{Command}
 use Rattle.words_core.specs.declared.words.Command.TheVariants.{Window, Stats, Bounds}
 use Rattle.command_core.specs.Commands.{AfterOpening, CommandGives, IsCommandText, BlamesCommand, IsFoundFirst, IsFoundNext, IsFaultOf, CommandEnds}
-use Rattle.command_core.specs.Commands.{OrNoLayer}
+use Rattle.command_core.specs.Commands.{OrNoLayer, bytes_at}
 use Rattle.command_core.specs.Opening.{Files, IsAt, IsMissing}
 use Rattle.join_core.proofs.RunLemmas.{ends_as}
+use Rattle.command_core.proofs.KnownLemmas.{told_at, layer_untold, window_untold}
 use Rattle.command_core.proofs.CommandLemmas.{refused_ends, input_opened, err_is}
 
 -- what a command gives is what its run gives of the file at this path
 pub record ReadsOne (command : Command) (path : List ℕ) (Gives : Option (List ℕ) → Result (List ℕ) RunFault → Type 0) : Type 0 where
   pub gives : (at : Files) (answer : Result (List ℕ) RunFault) →
       AfterOpening input.Layer (at path) answer (λ l. Gives (Some l) answer) ↔ CommandGives at command answer
-  pub may_miss : IsFaultOf command (run.NoFile input.Layer)
-  pub may_lack_keys : IsFaultOf command run.NoKeys
+  pub may_miss : (known : Option Files) → IsFaultOf known command (run.NoFile input.Layer)
+  pub may_lack_keys : (known : Option Files) → IsFaultOf known command run.NoKeys
 
 module _ {S : Type 0} (known : Option Files) (written : S → Option (List ℕ)) (is_flushed has_failed : S → Bool)
     (command : Command) (path : List ℕ) (Gives : Option (List ℕ) → Result (List ℕ) RunFault → Type 0) (one : ReadsOne command path Gives) where
@@ -64,7 +65,7 @@ module _ {S : Type 0} (known : Option Files) (written : S → Option (List ℕ))
   layer_missing sink result f fresh h named missing =
       refused_ends known written is_flushed has_failed command sink result (run.NoFile input.Layer) fresh
       (subst (λ (x : RunFault). IsErrAnd result (λ y. y ≡ x)) named h) (λ e. absurd cc) (is_missing known missing)
-      (λ g found. only_missing known missing g) (λ g found keys. only_missing known missing g) one.may_miss
+      (λ g found. only_missing known missing g) (λ g found keys. only_missing known missing g) (one.may_miss known)
 
   no_keys_given : (known : Option Files) → IfSome known (λ at. CommandGives at command (Err run.NoKeys) ⊎ (BlamesCommand run.NoKeys → ⊥))
   no_keys_given None = tt
@@ -86,7 +87,7 @@ module _ {S : Type 0} (known : Option Files) (written : S → Option (List ℕ))
   layer_without_keys sink result f l fresh h named is none =
       refused_ends known written is_flushed has_failed command sink result run.NoKeys fresh
       (subst (λ (x : RunFault). IsErrAnd result (λ y. y ≡ x)) named h) (λ e. absurd cc) (no_keys_given known)
-      (λ g found. none_first known l is none g run.NoKeys found) (λ g found keys. none_next known g keys) one.may_lack_keys
+      (λ g found. none_first known l is none g run.NoKeys found) (λ g found keys. none_next known g keys) (one.may_lack_keys known)
 
   text_as : (known : Option Files) (l : Option (List ℕ)) → IsAt known path l → (text : List ℕ) → Gives l (Ok text) → IsCommandText known command text
   text_as None l is text h = tt
@@ -117,7 +118,7 @@ module _ {S : Type 0} (known : Option Files) (written : S → Option (List ℕ))
       → IfErr result (λ f. BlamesCommand f → Gives l (Err f))
       → ((g : RunFault) → IsFoundFirst command g → Gives l (Err g) → ⊥)
       → ((g : RunFault) → IsFoundNext command g → Gives l (Err g) → result ≡ Err g)
-      → IfErr result (λ f. f ≢ run.Write → IsFaultOf command f) → CommandEnds known written is_flushed has_failed command old new result
+      → IfErr result (λ f. f ≢ run.Write → IsFaultOf known command f) → CommandEnds known written is_flushed has_failed command old new result
   layer_ran l old new result is ends fault none exact faults = record {
     writes = ends_as _ _ written is_flushed has_failed old new result (text_as known l is) ends;
     fault = blamed_as known l is result fault;
@@ -141,15 +142,10 @@ allows_all IsRunFault (run.NoFile input.Layer) is = tt
 allows_all IsRunFault run.NoKeys is = tt
 allows_all IsRunFault f is = is
 
-all_allowed : {T : Type 0} (IsRunFault : RunFault → Type 0) (result : Result T RunFault) → IfErr result (λ f. f ≢ run.Write → IsRunFault f)
-    → IfErr result (λ f. f ≢ run.Write → OrNoLayer IsRunFault f)
-all_allowed IsRunFault (Ok x) faults = tt
-all_allowed IsRunFault (Err f) faults = λ w. allows_all IsRunFault f (faults w)
-
 -- ---- a window
 
 pub window_reads_one : (scale : Scale) (path wkt : Bor (List ℕ)) → ReadsOne (Window path wkt scale) path.now (WindowGives scale wkt.now)
-window_reads_one scale path wkt = record { gives = λ at answer. ((λ h. h), (λ h. h)); may_miss = tt; may_lack_keys = tt }
+window_reads_one scale path wkt = record { gives = λ at answer. ((λ h. h), (λ h. h)); may_miss = λ known. tt; may_lack_keys = λ known. tt }
 
 pub window_none_first : (scale : Scale) (path wkt : Bor (List ℕ)) (l : Option (List ℕ)) (g : RunFault) → IsFoundFirst (Window path wkt scale) g
     → WindowGives scale wkt.now l (Err g) → ⊥
@@ -160,24 +156,24 @@ window_none_first scale path wkt l g found gives = by (Err g) gives refl
     by answer (looked_up s given_as a given) is =
         gives_only _ scale l (λ f. IsFoundFirst (Window path wkt scale) f → ⊥) (λ f first. first) g (subst (LayerGives _ scale l) is given) found
 
-window_blamed : (scale : Scale) (wkt : List ℕ) (l : Option (List ℕ)) (f : RunFault) → IsWindowFault f
+window_blamed : (scale : Scale) (wkt : List ℕ) (l : Option (List ℕ)) (f : RunFault) → IsWindowFault scale wkt l f
     → ((i : Input) (w : WktFault) → f ≡ run.Wkt i w → HasWindowFault scale wkt i w)
     → (BlamesInput f → WindowGives scale wkt l (Err f)) → BlamesCommand f → WindowGives scale wkt l (Err f)
 window_blamed scale wkt l (run.Wkt input.Window w) is named given blame = text_fault w (named input.Window w refl)
-window_blamed scale wkt l (run.Wkt _ w) is named given blame = absurd is
-window_blamed scale wkt l (run.NoFile i) is named given blame = absurd is
+window_blamed scale wkt l (run.Wkt _ w) is named given blame = absurd is.1
+window_blamed scale wkt l (run.NoFile i) is named given blame = absurd is.1
 window_blamed scale wkt l (run.Read i r) is named given blame = given blame
-window_blamed scale wkt l (run.Edit n e) is named given blame = absurd is
-window_blamed scale wkt l (run.Join j) is named given blame = absurd is
-window_blamed scale wkt l run.TooManyToDraw is named given blame = absurd is
-window_blamed scale wkt l run.Write is named given blame = absurd is
+window_blamed scale wkt l (run.Edit n e) is named given blame = absurd is.1
+window_blamed scale wkt l (run.Join j) is named given blame = absurd is.1
+window_blamed scale wkt l run.TooManyToDraw is named given blame = absurd is.1
+window_blamed scale wkt l run.Write is named given blame = absurd is.1
 window_blamed scale wkt l run.Memory is named given blame = absurd blame
-window_blamed scale wkt l run.NoKeys is named given blame = absurd is
+window_blamed scale wkt l run.NoKeys is named given blame = absurd is.1
 
 window_fault : {T : Type 0} (scale : Scale) (wkt : List ℕ) (l : Option (List ℕ)) (result : Result T RunFault)
     → ((i : Input) (w : WktFault) → (result ≡ Err (run.Wkt i w)) ↔ HasWindowFault scale wkt i w)
     → IfErr result (λ f. BlamesInput f → WindowGives scale wkt l (Err f))
-    → IfErr result (λ f. f ≢ run.Write → IsWindowFault f) → IfErr result (λ f. BlamesCommand f → WindowGives scale wkt l (Err f))
+    → IfErr result (λ f. f ≢ run.Write → IsWindowFault scale wkt l f) → IfErr result (λ f. BlamesCommand f → WindowGives scale wkt l (Err f))
 window_fault scale wkt l (Ok x) exact fault faults = tt
 window_fault scale wkt l (Err f) exact fault faults = λ blame.
     window_blamed scale wkt l f (faults (λ w. subst BlamesCommand w blame)) (λ i w e. (exact i w).0 (let is : Err f ≡ Err (run.Wkt i w) = cc in is)) fault blame
@@ -199,17 +195,22 @@ pub window_ran : {T S : Type 0} (known : Option Files) (written : S → Option (
     → Ends (λ t. WindowGives scale text l (Ok t)) written is_flushed has_failed old new result
     → ((i : Input) (w : WktFault) → (result ≡ Err (run.Wkt i w)) ↔ HasWindowFault scale text i w)
     → IfErr result (λ f. BlamesInput f → WindowGives scale text l (Err f))
-    → IfErr result (λ f. f ≢ run.Write → IsWindowFault f) → CommandEnds known written is_flushed has_failed (Window path wkt scale) old new result
+    → IfErr result (λ f. f ≢ run.Write → IsWindowFault scale text l f) → CommandEnds known written is_flushed has_failed (Window path wkt scale) old new result
 window_ran {T} {S} known written is_flushed has_failed scale path wkt text l old new result same is ends exact fault faults =
     layer_ran known written is_flushed has_failed (Window path wkt scale) path.now (WindowGives scale wkt.now)
     (window_reads_one scale path wkt) l old new result is
     (subst (λ (t : List ℕ). Ends (λ x. WindowGives scale t l (Ok x)) written is_flushed has_failed old new result) same ends)
     (window_fault scale wkt.now l result exact_now
-    (subst (λ (t : List ℕ). IfErr result (λ f. BlamesInput f → WindowGives scale t l (Err f))) same fault) faults)
-    (window_none_first scale path wkt l) (window_exact scale path wkt l result exact_now) (all_allowed IsWindowFault result faults)
+    (subst (λ (t : List ℕ). IfErr result (λ f. BlamesInput f → WindowGives scale t l (Err f))) same fault) faults_now)
+    (window_none_first scale path wkt l) (window_exact scale path wkt l result exact_now)
+    (IfErr-weaker result _ _ (λ f given w. allows_all (IsWindowFault scale wkt.now (bytes_at known path.now)) f
+    (told_at known path.now l is (λ o. IsWindowFault scale wkt.now o f) (window_untold scale wkt.now l f) (given w))) faults_now)
   where
     exact_now : (i : Input) (w : WktFault) → (result ≡ Err (run.Wkt i w)) ↔ HasWindowFault scale wkt.now i w
     exact_now = subst (λ (t : List ℕ). (i : Input) (w : WktFault) → (result ≡ Err (run.Wkt i w)) ↔ HasWindowFault scale t i w) same exact
+
+    faults_now : IfErr result (λ f. f ≢ run.Write → IsWindowFault scale wkt.now l f)
+    faults_now = subst (λ (t : List ℕ). IfErr result (λ f. f ≢ run.Write → IsWindowFault scale t l f)) same faults
 
 -- ---- a text of one layer
 
@@ -218,25 +219,25 @@ pub record AsksLayer (command : Command) (path : List ℕ) (scale : Scale) (IsTe
   pub reads : ReadsOne command path (LayerGives IsTextOf scale)
   pub not_first : (f : ReadFault) → IsFoundFirst command (run.Read input.Layer f) → ⊥
   pub not_next : (g : RunFault) → IsFoundNext command g → ⊥
-  pub allows : (f : RunFault) → OrNoLayer IsLayerRunFault f → IsFaultOf command f
+  pub allows : (known : Option Files) (f : RunFault) → OrNoLayer (IsLayerRunFault scale (bytes_at known path)) f → IsFaultOf known command f
 
 pub stats_asks : (scale : Scale) (path : Bor (List ℕ)) → AsksLayer (Stats path scale) path.now scale AreCounts
 stats_asks scale path = record {
-  reads = record { gives = λ at answer. ((λ h. h), (λ h. h)); may_miss = tt; may_lack_keys = tt };
+  reads = record { gives = λ at answer. ((λ h. h), (λ h. h)); may_miss = λ known. tt; may_lack_keys = λ known. tt };
   not_first = λ f first. first;
   not_next = λ g next. next;
-  allows = λ f is. is;
+  allows = λ known f is. is;
 }
 
 pub bounds_asks : (scale : Scale) (path : Bor (List ℕ)) → AsksLayer (Bounds path scale) path.now scale ListsCorners
 bounds_asks scale path = record {
-  reads = record { gives = λ at answer. ((λ h. h), (λ h. h)); may_miss = tt; may_lack_keys = tt };
+  reads = record { gives = λ at answer. ((λ h. h), (λ h. h)); may_miss = λ known. tt; may_lack_keys = λ known. tt };
   not_first = λ f first. first;
   not_next = λ g next. next;
-  allows = λ f is. is;
+  allows = λ known f is. is;
 }
 
-layer_blamed : (IsTextOf : LayerState → List ℕ → Type 0) (scale : Scale) (l : Option (List ℕ)) (f : RunFault) → IsLayerRunFault f
+layer_blamed : (IsTextOf : LayerState → List ℕ → Type 0) (scale : Scale) (l : Option (List ℕ)) (f : RunFault) → IsLayerRunFault scale l f
     → (BlamesInput f → LayerGives IsTextOf scale l (Err f)) → BlamesCommand f → LayerGives IsTextOf scale l (Err f)
 layer_blamed IsTextOf scale l (run.Wkt i w) is given blame = absurd is
 layer_blamed IsTextOf scale l (run.NoFile i) is given blame = absurd is
@@ -250,7 +251,7 @@ layer_blamed IsTextOf scale l run.NoKeys is given blame = absurd is
 
 layer_fault_of : {T : Type 0} (IsTextOf : LayerState → List ℕ → Type 0) (scale : Scale) (l : Option (List ℕ)) (result : Result T RunFault)
     → IfErr result (λ f. BlamesInput f → LayerGives IsTextOf scale l (Err f))
-    → IfErr result (λ f. f ≢ run.Write → IsLayerRunFault f) → IfErr result (λ f. BlamesCommand f → LayerGives IsTextOf scale l (Err f))
+    → IfErr result (λ f. f ≢ run.Write → IsLayerRunFault scale l f) → IfErr result (λ f. BlamesCommand f → LayerGives IsTextOf scale l (Err f))
 layer_fault_of IsTextOf scale l (Ok x) fault faults = tt
 layer_fault_of IsTextOf scale l (Err f) fault faults = λ blame. layer_blamed IsTextOf scale l f (faults (λ w. subst BlamesCommand w blame)) fault blame
 
@@ -263,8 +264,9 @@ module _ {command : Command} {path : List ℕ} {scale : Scale} {IsTextOf : Layer
       (l : Option (List ℕ)) (old new : S) (result : Result T RunFault) → IsAt known path l
       → Ends (λ t. LayerGives IsTextOf scale l (Ok t)) written is_flushed has_failed old new result
       → IfErr result (λ f. BlamesInput f → LayerGives IsTextOf scale l (Err f))
-      → IfErr result (λ f. f ≢ run.Write → IsLayerRunFault f) → CommandEnds known written is_flushed has_failed command old new result
+      → IfErr result (λ f. f ≢ run.Write → IsLayerRunFault scale l f) → CommandEnds known written is_flushed has_failed command old new result
   layer_asked known written is_flushed has_failed l old new result is ends fault faults =
       layer_ran known written is_flushed has_failed command path (LayerGives IsTextOf scale) asks.reads l old new result is ends
       (layer_fault_of IsTextOf scale l result fault faults) (layer_none_first l) (λ g next. absurd (asks.not_next g next))
-      (IfErr-weaker result _ _ (λ f is w. asks.allows f (is w)) (all_allowed IsLayerRunFault result faults))
+      (IfErr-weaker result _ _ (λ f given w. asks.allows known f (allows_all (IsLayerRunFault scale (bytes_at known path)) f
+      (told_at known path l is (λ o. IsLayerRunFault scale o f) (layer_untold scale l f) (given w)))) faults)

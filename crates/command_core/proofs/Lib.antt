@@ -1,4 +1,5 @@
 pub mod CommandLemmas
 pub mod JoinCommandLemmas
+pub mod KnownLemmas
 pub mod LayerCommandLemmas
 pub mod WordLemmas

@@ -97,14 +97,35 @@ OrNoFile IsRunFault (run.NoFile input) = ⊤
 OrNoFile IsRunFault run.NoKeys = ⊤
 OrNoFile IsRunFault fault = IsRunFault fault
 
--- a fault that a command may have, that of its sink aside
-abbrev pub IsFaultOf : Command → RunFault → Type 0
-IsFaultOf (Relate a b scale) = IsTextFault
-IsFaultOf (Join join) = OrNoFile IsJoinFault
-IsFaultOf (Draw join) = OrNoFile IsDrawFault
-IsFaultOf (Window path wkt scale) = OrNoLayer IsWindowFault
-IsFaultOf (Stats path scale) = OrNoLayer IsLayerRunFault
-IsFaultOf (Bounds path scale) = OrNoLayer IsLayerRunFault
+-- the bytes at a path, where it is known what lies there
+abbrev pub bytes_at : Option Files → List ℕ → Option (List ℕ)
+bytes_at None path = None
+bytes_at (Some at) path = at path
+
+abbrev pub edits_at : Option Files → Option (Bor (List ℕ)) → Option (Option (List ℕ))
+edits_at known None = None
+edits_at known (Some path) = Some (bytes_at known path.now)
+
+-- the files of a join, as far as it is known what lies at their paths
+abbrev pub known_files : Option Files → JoinRequest → JoinFiles
+known_files known join = record {
+  scale = join.scale;
+  left = bytes_at known join.left_path.now;
+  right = bytes_at known join.right_path.now;
+  edits = edits_at known join.edits_path;
+}
+
+-- a fault that a command may have, that of its sink aside, where it is known what lies at its
+-- paths
+abbrev pub IsFaultOf : Option Files → Command → RunFault → Type 0
+IsFaultOf known (Relate a b scale) = IsTextFault
+IsFaultOf known (Join join) = OrNoFile (IsJoinFault (known_files known join))
+IsFaultOf known (Draw join) = OrNoFile (IsDrawFault (known_files known join))
+IsFaultOf known (Window path wkt scale) =
+    OrNoLayer (IsWindowFault scale wkt.now (bytes_at known path.now))
+IsFaultOf known (Stats path scale) = OrNoLayer (IsLayerRunFault scale (bytes_at known path.now))
+IsFaultOf known (Bounds path scale) =
+    OrNoLayer (IsLayerRunFault scale (bytes_at known path.now))
 
 -- how a command ends: what it writes, which fault it names, exactly those that are found first and
 -- next, and no others
@@ -118,4 +139,4 @@ pub record CommandEnds {T S : Type 0} (known : Option Files)
       IfSome known (λ at. CommandGives at command (Err f) → result ≡ Err f)
   pub next : (f : RunFault) → IsFoundNext command f → result ≢ Err run.NoKeys →
       IfSome known (λ at. CommandGives at command (Err f) → result ≡ Err f)
-  pub faults : IfErr result (λ f. f ≢ run.Write → IsFaultOf command f)
+  pub faults : IfErr result (λ f. f ≢ run.Write → IsFaultOf known command f)

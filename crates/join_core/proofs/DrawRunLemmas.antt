@@ -37,19 +37,21 @@ pub picture_blamed : {T : Type 0} (relation : Relation) (files : JoinFiles) (lay
 picture_blamed relation files layers (Ok x) given many late = tt
 picture_blamed relation files layers (Err e) given many late = λ blame. late_blamed relation files layers e given (λ is. many cc) late blame
 
-late_is_of_draw : (e : RunFault) → IsLateDrawFault e → IsDrawFault e
-late_is_of_draw TooManyToDraw late = tt
-late_is_of_draw e late = late_is_of_join e late
+module _ (files : JoinFiles) (layers : Layers) (given : LayersGive files (Ok layers)) where
+  late_is_of_draw : (e : RunFault) → IsLateDrawFault e → IsDrawFault files e
+  late_is_of_draw TooManyToDraw late = tt
+  late_is_of_draw e late = late_is_of_join files layers given e late
 
-pub late_draw_faults : {T : Type 0} (out : Result T RunFault) → IfErr out IsLateDrawFault → IfErr out IsDrawFault
-late_draw_faults (Ok x) late = tt
-late_draw_faults (Err e) late = late_is_of_draw e late
+  pub late_draw_faults : {T : Type 0} (out : Result T RunFault) → IfErr out IsLateDrawFault → IfErr out (IsDrawFault files)
+  late_draw_faults (Ok x) late = tt
+  late_draw_faults (Err e) late = late_is_of_draw e late
 
-join_is_draw : (e : RunFault) → IsJoinFault e → IsDrawFault e
-join_is_draw TooManyToDraw is = tt
-join_is_draw e is = is
+join_is_draw : (files : JoinFiles) (e : RunFault) → IsJoinFault files e → IsDrawFault files e
+join_is_draw files TooManyToDraw is = tt
+join_is_draw files e is = is
 
 -- what `?` hands on is one of a picture's faults
-pub is_draw_fault : {T : Type 0} (out : Result T RunFault) (e : RunFault) → IsErrAnd out (λ x. x ≡ e) → IsJoinFault e → IfErr out IsDrawFault
-is_draw_fault (Ok x) e h fault = absurd h
-is_draw_fault (Err x) e h fault = subst IsDrawFault (sym h) (join_is_draw e fault)
+pub is_draw_fault : {T : Type 0} (files : JoinFiles) (out : Result T RunFault) (e : RunFault) → IsErrAnd out (λ x. x ≡ e) → IsJoinFault files e
+    → IfErr out (IsDrawFault files)
+is_draw_fault files (Ok x) e h fault = absurd h
+is_draw_fault files (Err x) e h fault = subst (IsDrawFault files) (sym h) (join_is_draw files e fault)

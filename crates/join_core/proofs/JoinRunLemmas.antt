@@ -1,9 +1,11 @@
 -- The answers of a join of files.
 use Rattle.std.proofs.Common.{◌≡◌, ℕ, List, Option, Some, None, Result, Ok, Err, IsSome, IsErrAnd, IsErrOf, IsSomeAnd, IfSome, IsTrue, Bool, true, false, IfErr}
 use Rattle.std.proofs.Common.{◌↔◌, ◌≢◌, All, get_or, refl, sym, subst, ◌∙◌, map}
+use Rattle.std.specs.Prelude.{⊤}
 use Rattle.geom_core.specs.declared.relation.Relation.{Relation}
 use Rattle.layer_core.specs.declared.edit.Edit.{Edit as EditType}
 use Rattle.layer_core.specs.declared.fault.LayerFault.{LayerFault}
+use Rattle.layer_core.specs.declared.fault.LayerFault.TheVariants.{Memory as no_memory}
 use Rattle.file_core.specs.declared.read_fault.ReadFault.{ReadFault}
 use Rattle.file_core.specs.declared.read_fault.ReadFault.TheVariants.{Io}
 use Rattle.layer_core.specs.Edits.{Layers, both, content_of, edits_give}
@@ -12,9 +14,9 @@ use Rattle.join_core.specs.declared.fault.Input.{Input}
 use Rattle.join_core.specs.declared.fault.Input.TheVariants.{First, Second, Left, Right, Edits, Layer, Window}
 use Rattle.join_core.specs.declared.fault.RunFault.{RunFault}
 use Rattle.join_core.specs.declared.fault.RunFault.TheVariants.{NoFile, Read, Wkt, Edit, Join, TooManyToDraw, Write, Memory, NoKeys}
-use Rattle.join_core.specs.Inputs.{LayerFile, BlamesBytes, BlamesEdit, BlamesInput}
+use Rattle.join_core.specs.Inputs.{LayerFile, BlamesBytes, BlamesInput}
 use Rattle.join_core.specs.JoinRuns.{JoinFiles, EditFile, LayersGive, edits_fault, edit_refused, edited, JoinGives, no_layers, IsLateFault}
-use Rattle.join_core.specs.JoinRuns.{IsJoinFault}
+use Rattle.join_core.specs.JoinRuns.{IsJoinFault, AreMade, AreMadeTo, EndsAt}
 use Rattle.join_core.specs.SourceStates.{FailedAt}
 use Rattle.join_core.specs.Joins.{IsJoinList}
 use Rattle.output_core.specs.Reports.{IsHeld}
@@ -53,12 +55,26 @@ pub edit_blamed : {T : Type 0} (files : JoinFiles) (l r : Contents) (list items 
     (e : RunFault)
     → LayerFile files.scale files.left (Ok l) → LayerFile files.scale files.right (Ok r) → EditFile files.scale files.edits (Ok (map content_of items))
     → list ≡ items → IsErrAnd out (λ x. x ≡ e)
-    → ((row : ℕ) × (f : LayerFault) × (e ≡ Edit row f) × (BlamesEdit f → edits_give 1 (both l r) (map content_of list) ≡ Err (row, f)))
+    → ((row : ℕ) × (f : LayerFault) × (e ≡ Edit row f) × EndsAt row f (both l r) (map content_of list))
     → IfErr out (λ x. BlamesInput x → LayersGive files (Err x))
 edit_blamed files l r list items out e left right edits same h fault =
     handed_on (LayersGive files) out e (Edit fault.0 fault.1) h fault.2
     (λ blame. edit_refused l r (map content_of items) fault.0 fault.1 left right edits
-    (subst (λ (es : List EditType). edits_give 1 (both l r) (map content_of es) ≡ Err (fault.0, fault.1)) same (fault.3 blame)))
+    (subst (λ (es : List EditType). edits_give 1 (both l r) (map content_of es) ≡ Err (fault.0, fault.1)) same (fault.3.refused blame)))
+
+-- the edits are made up to the one at which memory runs out
+pub made_to : (files : JoinFiles) (l r : Contents) (list items : List EditType) (row : ℕ) (f : LayerFault) → LayerFile files.scale files.left (Ok l)
+    → LayerFile files.scale files.right (Ok r) → EditFile files.scale files.edits (Ok (map content_of items)) → list ≡ items
+    → EndsAt row f (both l r) (map content_of list) → f ≡ no_memory → AreMadeTo files row
+made_to files l r list items row f left right edits same ends is = record {
+  left = l;
+  right = r;
+  edits = map content_of items;
+  left_read = left;
+  right_read = right;
+  edits_read = edits;
+  are_made = subst (λ (es : List EditType). AreMade row (both l r) (map content_of es)) same (ends.want is);
+}
 
 pub layers_edited : (files : JoinFiles) (l r : Contents) (list items : List EditType) (layers : Layers)
     → LayerFile files.scale files.left (Ok l) → LayerFile files.scale files.right (Ok r) → EditFile files.scale files.edits (Ok (map content_of items))
@@ -90,36 +106,50 @@ pub last_fault : {T : Type 0} (relation : Relation) (files : JoinFiles) (out : R
 last_fault relation files (Ok x) err = tt
 last_fault relation files (Err e) err = λ blame. absurd (none_blamed e err blame)
 
-pub late_is_of_join : (e : RunFault) → IsLateFault e → IsJoinFault e
-late_is_of_join (NoFile i) late = absurd late
-late_is_of_join (Read i f) late = absurd late
-late_is_of_join (Wkt i f) late = absurd late
-late_is_of_join (Edit row f) late = tt
-late_is_of_join (Join f) late = late
-late_is_of_join TooManyToDraw late = absurd late
-late_is_of_join Write late = absurd late
-late_is_of_join Memory late = tt
-late_is_of_join NoKeys late = absurd late
+module _ (files : JoinFiles) (layers : Layers) (given : LayersGive files (Ok layers)) where
+  pub late_is_of_join : (e : RunFault) → IsLateFault e → IsJoinFault files e
+  late_is_of_join (NoFile i) late = absurd late
+  late_is_of_join (Read i f) late = absurd late
+  late_is_of_join (Wkt i f) late = absurd late
+  late_is_of_join (Edit row f) late = absurd late
+  late_is_of_join (Join f) late = (late, (layers, given))
+  late_is_of_join TooManyToDraw late = absurd late
+  late_is_of_join Write late = absurd late
+  late_is_of_join Memory late = (tt, (layers, given))
+  late_is_of_join NoKeys late = absurd late
 
-pub last_faults : {T : Type 0} (out : Result T RunFault) → IfErr out IsLateFault → IfErr out IsJoinFault
-last_faults (Ok x) err = tt
-last_faults (Err e) err = late_is_of_join e err
+  pub last_faults : {T : Type 0} (out : Result T RunFault) → IfErr out IsLateFault → IfErr out (IsJoinFault files)
+  last_faults (Ok x) err = tt
+  last_faults (Err e) err = late_is_of_join e err
 
 -- what `?` hands on is one of a join's faults
-pub is_join_fault : {T : Type 0} (out : Result T RunFault) (e is : RunFault) → IsErrAnd out (λ x. x ≡ e) → e ≡ is → IsJoinFault is → IfErr out IsJoinFault
-is_join_fault (Ok x) e is h same fault = absurd h
-is_join_fault (Err x) e is h same fault = subst IsJoinFault (sym (h ∙ same)) fault
+pub is_join_fault : {T : Type 0} (files : JoinFiles) (out : Result T RunFault) (e is : RunFault) → IsErrAnd out (λ x. x ≡ e) → e ≡ is → IsJoinFault files is
+    → IfErr out (IsJoinFault files)
+is_join_fault files (Ok x) e is h same fault = absurd h
+is_join_fault files (Err x) e is h same fault = subst (IsJoinFault files) (sym (h ∙ same)) fault
 
-no_other : {T : Type 0} (out : Result T RunFault) (i : Input) → IfErr out IsJoinFault
-    → ((f : ReadFault) → IsJoinFault (Read i f) → ⊥) → IsErrOf out (Read i Io) → ⊥
+-- of the inputs, a fault of a join is of the left, of the right or of the edits
+abbrev pub IsJoinKind : RunFault → Type 0
+IsJoinKind (Read Left f) = ⊤
+IsJoinKind (Read Right f) = ⊤
+IsJoinKind (Read Edits f) = ⊤
+IsJoinKind (Read _ f) = ⊥
+IsJoinKind _ = ⊤
+
+pub is_join_kind : {T : Type 0} (out : Result T RunFault) (e is : RunFault) → IsErrAnd out (λ x. x ≡ e) → e ≡ is → IsJoinKind is → IfErr out IsJoinKind
+is_join_kind (Ok x) e is h same fault = absurd h
+is_join_kind (Err x) e is h same fault = subst IsJoinKind (sym (h ∙ same)) fault
+
+no_other : {T : Type 0} (out : Result T RunFault) (i : Input) → IfErr out IsJoinKind
+    → ((f : ReadFault) → IsJoinKind (Read i f) → ⊥) → IsErrOf out (Read i Io) → ⊥
 no_other (Ok x) i faults none h = absurd cc
 no_other (Err x) i faults none h =
     let is : x ≡ Read i Io = cc in
-    none Io (subst IsJoinFault is faults)
+    none Io (subst IsJoinKind is faults)
 
 -- three clauses on failed sources, as one
 pub failed_at : {T : Type 0} (L R E : Type 0) (out : Result T RunFault) → (IsErrOf out (Read Left Io) ↔ L) → (IsErrOf out (Read Right Io) ↔ R)
-    → (IsErrOf out (Read Edits Io) ↔ E) → IfErr out IsJoinFault → (i : Input) → IsErrOf out (Read i Io) ↔ FailedAt L R E i
+    → (IsErrOf out (Read Edits Io) ↔ E) → IfErr out IsJoinKind → (i : Input) → IsErrOf out (Read i Io) ↔ FailedAt L R E i
 failed_at L R E out left right edits faults Left = left
 failed_at L R E out left right edits faults Right = right
 failed_at L R E out left right edits faults Edits = edits

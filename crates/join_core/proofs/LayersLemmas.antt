@@ -15,7 +15,7 @@ use Rattle.join_core.specs.declared.fault.RunFault.{RunFault}
 use Rattle.join_core.specs.declared.fault.RunFault.TheVariants.{NoFile, Read, Wkt, Edit, Join, TooManyToDraw, Write, Memory, NoKeys}
 use Rattle.join_core.specs.Inputs.{LayerFile, Builds, Reads, BlamesBytes, BlamesInput}
 use Rattle.join_core.specs.JoinRuns.{JoinFiles, LayersGive, left_fault, right_fault, IsLayersFault, IsJoinFault}
-use Rattle.join_core.proofs.JoinRunLemmas.{handed_on}
+use Rattle.join_core.proofs.JoinRunLemmas.{handed_on, IsJoinKind}
 
 -- a source that isn't read to its end gives no layer
 pub unread_blamed : (scale : Scale) (known : Option (List ℕ)) (f : ReadFault) → IsReadingFault f
@@ -59,7 +59,7 @@ module _ (scale : Scale) where
 layers_give : (files : JoinFiles) (e : RunFault) → IsLayersFault files.scale files.left files.right e → BlamesInput e
     → LayersGive files (Err e)
 layers_give files (Read Left f) fault blame = left_fault f (fault blame)
-layers_give files (Read Right f) fault blame = let both = fault blame in right_fault both.0 f both.1 both.2
+layers_give files (Read Right f) fault blame = let left = fault.0 (λ e. subst BlamesBytes e blame) in right_fault left.0 f left.1 (fault.1 blame)
 layers_give files (Read First f) fault blame = absurd fault
 layers_give files (Read Second f) fault blame = absurd fault
 layers_give files (Read Edits f) fault blame = absurd fault
@@ -81,22 +81,39 @@ layers_blamed files out e h fault =
     handed_on (LayersGive files) out e e h refl (λ blame. layers_give files e fault blame)
 
 module _ (scale : Scale) (left right : Option (List ℕ)) where
-  pub layers_join_fault : (e : RunFault) → IsLayersFault scale left right e → IsJoinFault e
-  layers_join_fault (Read Left f) fault = tt
-  layers_join_fault (Read Right f) fault = tt
-  layers_join_fault (Read First f) fault = absurd fault
-  layers_join_fault (Read Second f) fault = absurd fault
-  layers_join_fault (Read Edits f) fault = absurd fault
-  layers_join_fault (Read Layer f) fault = absurd fault
-  layers_join_fault (Read Window f) fault = absurd fault
-  layers_join_fault (NoFile i) fault = absurd fault
-  layers_join_fault (Wkt i f) fault = absurd fault
-  layers_join_fault (Edit row f) fault = absurd fault
-  layers_join_fault (Join f) fault = absurd fault
-  layers_join_fault TooManyToDraw fault = absurd fault
-  layers_join_fault Write fault = absurd fault
-  layers_join_fault Memory fault = absurd fault
-  layers_join_fault NoKeys fault = absurd fault
+  pub layers_join_kind : (e : RunFault) → IsLayersFault scale left right e → IsJoinKind e
+  layers_join_kind (Read Left f) fault = tt
+  layers_join_kind (Read Right f) fault = tt
+  layers_join_kind (Read First f) fault = absurd fault
+  layers_join_kind (Read Second f) fault = absurd fault
+  layers_join_kind (Read Edits f) fault = absurd fault
+  layers_join_kind (Read Layer f) fault = absurd fault
+  layers_join_kind (Read Window f) fault = absurd fault
+  layers_join_kind (NoFile i) fault = absurd fault
+  layers_join_kind (Wkt i f) fault = absurd fault
+  layers_join_kind (Edit row f) fault = absurd fault
+  layers_join_kind (Join f) fault = absurd fault
+  layers_join_kind TooManyToDraw fault = absurd fault
+  layers_join_kind Write fault = absurd fault
+  layers_join_kind Memory fault = absurd fault
+  layers_join_kind NoKeys fault = absurd fault
 
   pub none_of_edits : (e : RunFault) → IsLayersFault scale left right e → e ≢ Read Edits read_faults.Io
   none_of_edits e fault is = subst (IsLayersFault scale left right) is fault
+
+pub layers_join_fault : (files : JoinFiles) (e : RunFault) → IsLayersFault files.scale files.left files.right e → IsJoinFault files e
+layers_join_fault files (Read Left f) fault = tt
+layers_join_fault files (Read Right f) fault = fault.0
+layers_join_fault files (Read First f) fault = absurd fault
+layers_join_fault files (Read Second f) fault = absurd fault
+layers_join_fault files (Read Edits f) fault = absurd fault
+layers_join_fault files (Read Layer f) fault = absurd fault
+layers_join_fault files (Read Window f) fault = absurd fault
+layers_join_fault files (NoFile i) fault = absurd fault
+layers_join_fault files (Wkt i f) fault = absurd fault
+layers_join_fault files (Edit row f) fault = absurd fault
+layers_join_fault files (Join f) fault = absurd fault
+layers_join_fault files TooManyToDraw fault = absurd fault
+layers_join_fault files Write fault = absurd fault
+layers_join_fault files Memory fault = absurd fault
+layers_join_fault files NoKeys fault = absurd fault

@@ -1,5 +1,6 @@
 pub mod BoundsLemmas
 pub mod DrawRunLemmas
+pub mod EditsLemmas
 pub mod JoinLemmas
 pub mod JoinRunLemmas
 pub mod LayersLemmas

@@ -25,10 +25,10 @@ pub no_product : {T : Type 0} (product : Product) (relation : Relation) (files :
 no_product Report = no_report
 no_product Picture = no_picture
 
-pub is_product_fault : {T : Type 0} (product : Product) (out : Result T RunFault) (e : RunFault) → IsErrAnd out (λ x. x ≡ e) → IsJoinFault e
-    → IfErr out (IsProductFault product)
-is_product_fault Report out e h fault = is_join_fault out e e h refl fault
-is_product_fault Picture out e h fault = is_draw_fault out e h fault
+pub is_product_fault : {T : Type 0} (product : Product) (files : JoinFiles) (out : Result T RunFault) (e : RunFault) → IsErrAnd out (λ x. x ≡ e)
+    → IsJoinFault files e → IfErr out (IsProductFault product files)
+is_product_fault Report files out e h fault = is_join_fault files out e e h refl fault
+is_product_fault Picture files out e h fault = is_draw_fault files out e h fault
 
 made : (product : Product) (relation : Relation) (files : JoinFiles) (layers : Layers) (text : List ℕ) → LayersGive files (Ok layers)
     → IsProduct product relation layers text → ProductGives product relation files (Ok text)
@@ -49,9 +49,10 @@ pub product_blamed : {T : Type 0} (product : Product) (relation : Relation) (fil
 product_blamed Report relation files layers out given many late = last_fault relation files out late
 product_blamed Picture relation files layers out given many late = picture_blamed relation files layers out given many late
 
-pub late_faults : {T : Type 0} (product : Product) (out : Result T RunFault) → IfErr out (IsLateProductFault product) → IfErr out (IsProductFault product)
-late_faults Report out late = last_faults out late
-late_faults Picture out late = late_draw_faults out late
+pub late_faults : {T : Type 0} (product : Product) (files : JoinFiles) (layers : Layers) (out : Result T RunFault) → LayersGive files (Ok layers)
+    → IfErr out (IsLateProductFault product) → IfErr out (IsProductFault product files)
+late_faults Report files layers out given late = last_faults files layers given out late
+late_faults Picture files layers out given late = late_draw_faults files layers given out late
 
 pub late_reads_none : (product : Product) (i : Input) (f : ReadFault) → IsLateProductFault product (Read i f) → ⊥
 late_reads_none Report i f late = late

@@ -30,6 +30,6 @@ IsLateDrawFault TooManyToDraw = ⊤
 IsLateDrawFault fault = IsLateFault fault
 
 -- a fault that drawing files may have, that of its sink aside
-abbrev pub IsDrawFault : RunFault → Type 0
-IsDrawFault TooManyToDraw = ⊤
-IsDrawFault fault = IsJoinFault fault
+abbrev pub IsDrawFault : JoinFiles → RunFault → Type 0
+IsDrawFault files TooManyToDraw = ⊤
+IsDrawFault files fault = IsJoinFault files fault

@@ -15,6 +15,10 @@ use Rattle.join_core.specs.declared.fault.RunFault.TheVariants.{Read, Edit, TooM
 abbrev pub LayerFile : Scale → Option (List ℕ) → Result Contents ReadFault → Type 0
 LayerFile scale known answer = IfSome known (λ bytes. IsLayerFile scale bytes answer)
 
+-- a file that gives a layer at a scale
+abbrev pub GivesLayer : Scale → Option (List ℕ) → Type 0
+GivesLayer scale known = (layer : Contents) × LayerFile scale known (Ok layer)
+
 -- the answer is what a layer's bytes give at a scale, or that memory ran out
 pub record Builds (scale : Scale) (bytes : List ℕ) (answer : Result LayerState ReadFault)
     : Type 0 where

@@ -1,9 +1,12 @@
 -- What a join of three files gives.
-use Rattle.std.specs.Prelude.{◌≡◌, ⊤, ℕ, List, [], Option, Some, None, Result, Ok, Err, IfSome}
+use Rattle.std.specs.Prelude.{◌≡◌, ◌≢◌, ◌<◌, ◌≤◌, ⊤, ℕ, List, [], Option, Some, None, Result, Ok}
+use Rattle.std.specs.Prelude.{Err, IfSome, length, take}
 use Rattle.geom_core.specs.declared.relation.Relation.{Relation}
 use Rattle.wkt_core.specs.declared.scale.Scale.{Scale}
 use Rattle.layer_core.specs.declared.fault.LayerFault.{LayerFault}
+use Rattle.layer_core.specs.declared.fault.LayerFault.TheVariants.{Memory as no_memory}
 use Rattle.file_core.specs.declared.read_fault.ReadFault.{ReadFault}
+use Rattle.file_core.specs.declared.read_fault.ReadFault.TheVariants.{Io}
 use Rattle.layer_core.specs.Layers.{Contents}
 use Rattle.layer_core.specs.Edits.{EditContent, Layers, both, edits_give}
 use Rattle.file_core.specs.EditFiles.{IsEditFile}
@@ -12,7 +15,7 @@ use Rattle.join_core.specs.declared.fault.Input.TheVariants.{Left, Right, Edits}
 use Rattle.join_core.specs.declared.fault.RunFault.{RunFault}
 use Rattle.join_core.specs.declared.fault.RunFault.TheVariants.{Read, Edit, Join, Memory}
 use Rattle.join_core.specs.declared.joins.sources.JoinSources.{JoinSources}
-use Rattle.join_core.specs.Inputs.{LayerFile, BlamesBytes}
+use Rattle.join_core.specs.Inputs.{LayerFile, GivesLayer, BlamesBytes, BlamesEdit}
 use Rattle.join_core.specs.Joins.{IsJoinList}
 use Rattle.output_core.specs.Reports.{IsReport}
 
@@ -43,11 +46,12 @@ abbrev pub EditFile : Scale → Option (Option (List ℕ))
 EditFile scale None answer = answer ≡ Ok []
 EditFile scale (Some known) answer = IfSome known (λ bytes. IsEditFile scale bytes answer)
 
--- a fault of reading two layers: one in the bytes of the right file comes where the left is good
+-- a fault of reading two layers: one of the right file comes where the left is good, but that its
+-- source fails
 abbrev pub IsLayersFault : Scale → Option (List ℕ) → Option (List ℕ) → RunFault → Type 0
 IsLayersFault scale left right (Read Left f) = BlamesBytes f → LayerFile scale left (Err f)
 IsLayersFault scale left right (Read Right f) =
-    BlamesBytes f → (l : Contents) × LayerFile scale left (Ok l) × LayerFile scale right (Err f)
+    (f ≢ Io → GivesLayer scale left) × (BlamesBytes f → LayerFile scale right (Err f))
 IsLayersFault scale left right _ = ⊥
 
 -- the edited layers, or the first fault of the left file, the right one, that of edits and the
@@ -85,10 +89,41 @@ IsLateFault (Join f) = IsWant f
 IsLateFault Memory = ⊤
 IsLateFault _ = ⊥
 
--- a fault that a join of files may have, that of its sink aside
-abbrev pub IsJoinFault : RunFault → Type 0
-IsJoinFault (Read Left f) = ⊤
-IsJoinFault (Read Right f) = ⊤
-IsJoinFault (Read Edits f) = ⊤
-IsJoinFault (Edit row f) = ⊤
-IsJoinFault fault = IsLateFault fault
+-- so many of the edits are made, and at least one: none of them is refused
+pub record AreMade (count : ℕ) (layers : Layers) (edits : List EditContent) : Type 0 where
+  pub some : 0 < count
+  pub within : count ≤ length edits
+  pub made : Layers
+  pub none_refused : edits_give 1 layers (take count edits) ≡ Ok made
+
+-- making edits ends at this row with this fault: its edit is the first that is refused, or memory
+-- ran out at one that isn't, nor is any before it
+pub record EndsAt (row : ℕ) (fault : LayerFault) (layers : Layers) (edits : List EditContent)
+    : Type 0 where
+  pub refused : BlamesEdit fault → edits_give 1 layers edits ≡ Err (row, fault)
+  pub want : fault ≡ no_memory → AreMade row layers edits
+
+-- both files of layers are good
+abbrev pub GiveLayers : JoinFiles → Type 0
+GiveLayers files =
+    GivesLayer files.scale files.left × GivesLayer files.scale files.right
+
+-- the file of edits is good too, and its edits are made up to that of this row
+pub record AreMadeTo (files : JoinFiles) (row : ℕ) : Type 0 where
+  pub left : Contents
+  pub right : Contents
+  pub edits : List EditContent
+  pub left_read : LayerFile files.scale files.left (Ok left)
+  pub right_read : LayerFile files.scale files.right (Ok right)
+  pub edits_read : EditFile files.scale files.edits (Ok edits)
+  pub are_made : AreMade row (both left right) edits
+
+-- a fault that a join of files may have, that of its sink aside; it comes where what is read and
+-- made before it is good, but that a right source which fails comes before the left file's bytes
+abbrev pub IsJoinFault : JoinFiles → RunFault → Type 0
+IsJoinFault files (Read Left f) = ⊤
+IsJoinFault files (Read Right f) = f ≢ Io → GivesLayer files.scale files.left
+IsJoinFault files (Read Edits f) = GiveLayers files
+IsJoinFault files (Edit row f) = f ≡ no_memory → AreMadeTo files row
+IsJoinFault files fault =
+    IsLateFault fault × ((layers : Layers) × LayersGive files (Ok layers))

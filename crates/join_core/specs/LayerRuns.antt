@@ -6,7 +6,7 @@ use Rattle.layer_core.specs.LayerTrees.{LayerState}
 use Rattle.join_core.specs.declared.fault.Input.TheVariants as input
 use Rattle.join_core.specs.declared.fault.RunFault.{RunFault}
 use Rattle.join_core.specs.declared.fault.RunFault.TheVariants.{Read, Memory}
-use Rattle.join_core.specs.Inputs.{LayerFile}
+use Rattle.join_core.specs.Inputs.{GivesLayer, LayerFile}
 
 -- a text of this kind, of the layer that the file gives, or the fault of the file
 pub data LayerGives (IsTextOf : LayerState → List ℕ → Type 0) (scale : Scale)
@@ -16,8 +16,9 @@ pub data LayerGives (IsTextOf : LayerState → List ℕ → Type 0) (scale : Sca
   made : (layer : LayerState) (text : List ℕ) → LayerFile scale file (Ok layer.list)
       → IsTextOf layer text → LayerGives IsTextOf scale file (Ok text)
 
--- a fault that such a run may have, that of its sink aside
-abbrev pub IsLayerRunFault : RunFault → Type 0
-IsLayerRunFault (Read input.Layer f) = ⊤
-IsLayerRunFault Memory = ⊤
-IsLayerRunFault _ = ⊥
+-- a fault that such a run may have, that of its sink aside: one of the layer, or want of memory
+-- once there is a layer
+abbrev pub IsLayerRunFault : Scale → Option (List ℕ) → RunFault → Type 0
+IsLayerRunFault scale file (Read input.Layer f) = ⊤
+IsLayerRunFault scale file Memory = GivesLayer scale file
+IsLayerRunFault scale file _ = ⊥

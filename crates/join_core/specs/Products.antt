@@ -33,7 +33,7 @@ IsProduct Report = IsReported
 IsProduct Picture = IsDrawn
 
 -- a fault that such a job may have, that of the sink aside
-abbrev pub IsProductFault : Product → RunFault → Type 0
+abbrev pub IsProductFault : Product → JoinFiles → RunFault → Type 0
 IsProductFault Report = IsJoinFault
 IsProductFault Picture = IsDrawFault
 

@@ -25,7 +25,9 @@ abbrev pub HasWindowFault : Scale → List ℕ → Input → WktFault → Type 0
 HasWindowFault scale wkt input.Window f = Reads scale wkt (Err f)
 HasWindowFault scale wkt _ f = ⊥
 
--- a fault that a window may have, that of its sink aside
-abbrev pub IsWindowFault : RunFault → Type 0
-IsWindowFault (Wkt input.Window f) = ⊤
-IsWindowFault fault = IsLayerRunFault fault
+-- a fault that a window may have, that of its sink aside; one of the layer, or of memory, comes
+-- where the text spells a shape
+abbrev pub IsWindowFault : Scale → List ℕ → Option (List ℕ) → RunFault → Type 0
+IsWindowFault scale wkt file (Wkt input.Window f) = ⊤
+IsWindowFault scale wkt file fault =
+    ((window : Shape) × Reads scale wkt (Ok window)) × IsLayerRunFault scale file fault

@@ -46,7 +46,8 @@ pub(crate) fn run_on_layer<R: Threads + Sync, L: Source, T: LayerText, S: Sink>(
     requires layer { L.has_failed layer.old ≡ false }
     requires sink { S.has_failed sink.old ≡ false }
     ensures { RunEnds (LayerGives (T.is_text_of made.now) scale (L.remaining layer.old))
-        NoTextFault IsLayerRunFault (OnlyAt Input.Layer (IsTrue (L.has_failed layer.new)))
+        NoTextFault (IsLayerRunFault scale (L.remaining layer.old))
+        (OnlyAt Input.Layer (IsTrue (L.has_failed layer.new)))
         S.written S.is_flushed S.has_failed sink.old sink.new result }
 {
     let text = text_of(rt, alloc, state, scale, layer, made)?;
@@ -70,7 +71,7 @@ fn text_of<R: Threads + Sync, L: Source, T: LayerText>(
     ensures fault { let file = L.remaining source.old in
         let gives = LayerGives (T.is_text_of made.now) scale file in
         IfErr result (λ f. BlamesInput f → gives (Err f)) }
-    ensures faults { IfErr result IsLayerRunFault }
+    ensures faults { IfErr result (IsLayerRunFault scale (L.remaining source.old)) }
     ensures io { IsErrOf result (RunFault.Read Input.Layer ReadFault.Io)
         ↔ IsTrue (L.has_failed source.new) }
 {

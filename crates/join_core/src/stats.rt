@@ -34,7 +34,8 @@ pub fn run_stats<R: Threads + Sync, L: Source, S: Sink>(
     requires layer { L.has_failed layer.old ≡ false }
     requires sink { S.has_failed sink.old ≡ false }
     ensures { RunEnds (LayerGives AreCounts scale (L.remaining layer.old)) NoTextFault
-        IsLayerRunFault (OnlyAt Input.Layer (IsTrue (L.has_failed layer.new)))
+        (IsLayerRunFault scale (L.remaining layer.old))
+        (OnlyAt Input.Layer (IsTrue (L.has_failed layer.new)))
         S.written S.is_flushed S.has_failed sink.old sink.new result }
 {
     run_on_layer(rt, alloc, state, scale, layer, &Counts, sink)

@@ -41,7 +41,7 @@ pub fn run_window<R: Threads + Sync, L: Source, S: Sink>(
     requires layer { L.has_failed layer.old ≡ false }
     requires sink { S.has_failed sink.old ≡ false }
     ensures { RunEnds (WindowGives scale wkt.now (L.remaining layer.old))
-        (HasWindowFault scale wkt.now) IsWindowFault
+        (HasWindowFault scale wkt.now) (IsWindowFault scale wkt.now (L.remaining layer.old))
         (OnlyAt Input.Layer (IsTrue (L.has_failed layer.new)))
         S.written S.is_flushed S.has_failed sink.old sink.new result }
 {

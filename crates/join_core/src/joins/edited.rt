@@ -40,7 +40,8 @@ pub(crate) fn edited_layers<R: Threads + Sync, A: Source, B: Source, E: Source>(
         IfOk result (λ layers. LayersGive files (Ok (both layers.0.list layers.1.list))) }
     ensures fault { let files = files_of scale A.remaining B.remaining E.remaining sources.old in
         IfErr result (λ f. BlamesInput f → LayersGive files (Err f)) }
-    ensures faults { IfErr result IsJoinFault }
+    ensures faults { let files = files_of scale A.remaining B.remaining E.remaining sources.old in
+        IfErr result (IsJoinFault files) }
     ensures io { TellsFailures A.has_failed B.has_failed E.has_failed sources.new result }
 {
     let (left, right) = (&mut sources.left, &mut sources.right);

@@ -1,9 +1,9 @@
 //! Edits of two layers, made in turn.
 
-ghost use Rattle.std.specs.Prelude.{◌≡◌, ◌<◌, ◌^◌, ℕ, Ok, Err, IfErr, OnOk, length, map};
+ghost use Rattle.std.specs.Prelude.{◌≡◌, ◌<◌, ◌^◌, ℕ, Ok, IfErr, OnOk, length, map};
 ghost use Rattle.layer_core.specs.declared.fault.LayerFault.{LayerFault};
 ghost use Rattle.layer_core.specs.Edits.{both, content_of, edits_give};
-ghost use Rattle.join_core.specs.Inputs.{BlamesEdit};
+ghost use Rattle.join_core.specs.JoinRuns.{EndsAt};
 
 use crate::fault::RunFault;
 use layer_core::{Edit, Layer};
@@ -15,9 +15,7 @@ pub fn apply_edits(edits: &[Edit], left: &mut Layer, right: &mut Layer) -> Resul
         (edits_give 1 (both left.old.list right.old.list) (map content_of edits.now)
         ≡ Ok (both left.new.list right.new.list)) }
     ensures err { IfErr result (λ e. (row : ℕ) × (f : LayerFault) × (e ≡ RunFault.Edit row f)
-        × (BlamesEdit f →
-        edits_give 1 (both left.old.list right.old.list) (map content_of edits.now)
-        ≡ Err (row, f))) }
+        × EndsAt row f (both left.old.list right.old.list) (map content_of edits.now)) }
 {
     let mut row = 0;
     for edit in edits {

@@ -55,7 +55,7 @@ pub fn run_join<R: Threads + Wait + Sync, A: Source, B: Source, E: Source, G: Ga
     requires sources { AreFresh A.has_failed B.has_failed E.has_failed sources.old }
     requires sink { S.has_failed sink.old ≡ false }
     ensures { let files = files_of scale A.remaining B.remaining E.remaining sources.old in
-        RunEnds (JoinGives (relation_of relation.now) files) NoTextFault IsJoinFault
+        RunEnds (JoinGives (relation_of relation.now) files) NoTextFault (IsJoinFault files)
         (HasFailed A.has_failed B.has_failed E.has_failed sources.new)
         S.written S.is_flushed S.has_failed sink.old sink.new result }
 {
@@ -95,7 +95,7 @@ pub fn run_draw<R: Threads + Wait + Sync, A: Source, B: Source, E: Source, G: Ga
     requires sources { AreFresh A.has_failed B.has_failed E.has_failed sources.old }
     requires sink { S.has_failed sink.old ≡ false }
     ensures { let files = files_of scale A.remaining B.remaining E.remaining sources.old in
-        RunEnds (DrawGives (relation_of relation.now) files) NoTextFault IsDrawFault
+        RunEnds (DrawGives (relation_of relation.now) files) NoTextFault (IsDrawFault files)
         (HasFailed A.has_failed B.has_failed E.has_failed sources.new)
         S.written S.is_flushed S.has_failed sink.old sink.new result }
 {
@@ -150,7 +150,9 @@ impl<R: Threads + Wait + Sync, G: Gate + Sync> JoinJob<'_, R, G> {
             let files = files_of job.scale A.remaining B.remaining E.remaining sources.old in
             let gives = ProductGives job.product (relation_of job.relation.now) files in
             IfErr result (λ f. BlamesInput f → gives (Err f)) }
-        ensures faults { IfErr result (IsProductFault self.entry.product) }
+        ensures faults { let job = self.entry in
+            let files = files_of job.scale A.remaining B.remaining E.remaining sources.old in
+            IfErr result (IsProductFault job.product files) }
         ensures io { TellsFailures A.has_failed B.has_failed E.has_failed sources.new result }
     {
         let JoinJob {

@@ -10,8 +10,10 @@ returns-in-Err-left_built-clause-fault g c =
     built_blamed _ _ _ _ _ c.in-Ok.ensures.bytes c.build_and_read-left_built.ensures.left c.in-Err-left_built.is
 
 pub returns-in-Err-right_built-clause-fault : goal.returns-in-Err-right_built-clause-fault
-returns-in-Err-right_built-clause-fault g c = λ blame. (
-  c.in-Ok-left_built.layer.list,
-  built_well _ _ _ _ c.in-Ok-left_built.layer c.in-Ok.ensures.bytes c.build_and_read-left_built.ensures.left c.in-Ok-left_built.is,
-  read_blamed _ _ _ _ c.build_and_read-left_built.ensures.right c.in-Err-right_built.is blame,
+returns-in-Err-right_built-clause-fault g c = (
+  (λ other. (
+    c.in-Ok-left_built.layer.list,
+    built_well _ _ _ _ c.in-Ok-left_built.layer c.in-Ok.ensures.bytes c.build_and_read-left_built.ensures.left c.in-Ok-left_built.is,
+  )),
+  read_blamed _ _ _ _ c.build_and_read-left_built.ensures.right c.in-Err-right_built.is,
 )

@@ -1,3 +1,4 @@
+use Rattle.join_core.specs.JoinRuns.{files_of}
 use Rattle.join_core.specs.Products.{IsLateProductFault}
 use Rattle.join_core.proofs.JoinRunLemmas.{io_handed_on, io_before}
 use Rattle.join_core.proofs.ProductLemmas.{no_product, is_product_fault, product_given, product_blamed, late_faults, late_reads_none}
@@ -8,7 +9,8 @@ returns-in_err-left-clause-fault g c = no_product c.args.self.product _ _ c.from
 
 pub returns-in_err-left-clause-faults : goal.returns-in_err-left-clause-faults
 returns-in_err-left-clause-faults g c =
-    is_product_fault c.args.self.product c.from_residual.result _ c.from_residual.ensures.1 c.in_err-left.ensures.faults
+    is_product_fault c.args.self.product (files_of c.args.self.scale g.A.Source.remaining g.B.Source.remaining g.E.Source.remaining c.args.sources.now)
+    c.from_residual.result _ c.from_residual.ensures.1 c.in_err-left.ensures.faults
 
 pub returns-in_err-left-clause-io : goal.returns-in_err-left-clause-io
 returns-in_err-left-clause-io g c = λ i. io_handed_on c.from_residual.result i _ _ c.from_residual.ensures.1 (c.in_err-left.ensures.io i)
@@ -23,7 +25,9 @@ returns-clause-fault g c =
     c.product_of-text.ensures.err
 
 pub returns-clause-faults : goal.returns-clause-faults
-returns-clause-faults g c = late_faults c.args.self.product c.product_of-text.result c.product_of-text.ensures.err
+returns-clause-faults g c =
+    late_faults c.args.self.product (files_of c.args.self.scale g.A.Source.remaining g.B.Source.remaining g.E.Source.remaining c.args.sources.now) _
+    c.product_of-text.result c.in_ok-left.ensures.ok c.product_of-text.ensures.err
 
 pub returns-clause-io : goal.returns-clause-io
 returns-clause-io g c =
