@@ -1,13 +1,16 @@
 -- The records of all pairs are those of their chunks, one after another.
 use Rattle.std.proofs.Common.{◌≡◌, ℕ, zero, suc, ◌+◌, ◌*◌, ◌/◌, ◌%◌, ◌<◌, ◌≤◌, min, List, [], ◌∷◌, ◌++◌, Result, Ok, Err}
 use Rattle.std.proofs.Common.{IsOk, IfOk, OnOk, refl, sym, ap, subst, ◌∙◌, arith}
-use Rattle.std.proofs.Common.{length, get_or, take, suc-mul, add-one, zero-mul, add-mul, one-mul, div-add-mod', ⊎_elim, All}
+use Rattle.std.proofs.Common.{length, length-append, get_or, take, suc-mul, add-one, zero-mul, add-mul, one-mul, div-add-mod', ⊎_elim, All}
+use Rattle.std.proofs.Common.{mul_comm, mul-le-mul_right, lt_of_mul-lt-mul_right}
 use Rattle.std.specs.Global.{Global}
 use Rattle.std.specs.Fork.{slice_chunk, IsChunk}
+use Rattle.std.specs.Int.{div_ceil}
 use Rattle.std.specs.List.{AllZip, flat_map}
 use Rattle.std.specs.declared.alloc.AllocError.{AllocError}
 use Rattle.std.specs.declared.vec.Vec.{Vec}
 use Rattle.std.proofs.lemmas.Bool.{cases_lt}
+use Rattle.std.proofs.lemmas.Grind.{div_ceil_times}
 use Rattle.std.proofs.lemmas.Nat.{mod_below}
 use Rattle.std.proofs.lemmas.List.{take_all, take-take, drop-take, take-append-drop, take_more, flat_map_more}
 use Rattle.std.proofs.lemmas.List.Concat.{flat_map-append}
@@ -46,6 +49,21 @@ covered count len size p is =
     (λ h. let e : count ≡ q + 1 = omega arith in let w = ap (λ n. n * size) e ∙ add-mul q 1 size in let o = one-mul size in omega arith)
     (λ h. let e : count ≡ q = omega arith in let w = ap (λ n. n * size) e in omega arith)
     (cases_lt 0 (len % size))
+
+-- as many chunks of a share or more as there are shares, at most
+few_parts : (count len size share shares : ℕ) → count * size < len + size → len ≤ share * shares → share ≤ size → count ≤ shares
+few_parts count len size share shares over within large =
+    let all : share * shares ≤ size * shares = mul-le-mul_right shares large in
+    let turned = mul_comm size shares in
+    let more = add-mul shares 1 size in
+    let single = one-mul size in
+    let below : count * size < (shares + 1) * size = omega arith in
+    let less : count < shares + 1 = lt_of_mul-lt-mul_right size below in
+    omega arith
+
+pub few_chunks : (len size workers : ℕ) → 0 < workers → 0 < size → div_ceil len workers ≤ size → div_ceil len size ≤ workers
+few_chunks len size workers some sized large =
+    few_parts (div_ceil len size) len size (div_ceil len workers) workers (div_ceil_times len size sized).1 (div_ceil_times len workers some).0 large
 
 -- the elements before a chunk, and the chunk
 next_chunk : {X : Type 0} (xs : List X) (size n : ℕ) → take (n * size) xs ++ slice_chunk xs size n ≡ take (n * size + size) xs
@@ -105,6 +123,21 @@ pub text_added : (old mid new : List (Vec ℕ Global)) (parts : List (Result (Ve
 text_added old mid new parts part text so_far grown is =
     ap joined grown ∙ sym (flat_map_more (λ t. t.items) [] mid text) ∙ ap (λ ts. ts ++ text.items) so_far
     ∙ ap (λ ts. (joined old ++ flat_map text_or_none parts) ++ ts) (sym (ap text_or_none is)) ∙ flat_map_more text_or_none (joined old) parts part
+
+-- one element more of each of two lists
+pub one_more : {A B : Type 0} (n : ℕ) (old new : List A) (x : A) (parts : List B) (part : B) → length old ≡ n + length parts → new ≡ old ++ x ∷ []
+    → length new ≡ n + length (parts ++ part ∷ [])
+one_more n old new x parts part so_far grown =
+    rw grown (simp length-append (omega arith))
+
+-- the header, and a text for each chunk
+pub few_texts : (old mid new : List (Vec ℕ Global)) (header : Vec ℕ Global) (parts : List (Result (Vec ℕ Global) AllocError)) (len size workers : ℕ)
+    → mid ≡ old ++ header ∷ [] → length parts ≡ div_ceil len size → 0 < workers → 0 < size → div_ceil len workers ≤ size
+    → length new ≡ length mid + length parts → length new ≤ length old + (workers + 1)
+few_texts old mid new header parts len size workers grown count some sized large added =
+    let few : length parts ≤ workers = subst (λ n. n ≤ workers) (sym count) (few_chunks len size workers some sized large) in
+    let first : length mid ≡ length old + 1 = ap length grown ∙ length-append old (header ∷ []) in
+    omega arith
 
 -- the header, and then the records of all chunks
 pub chunks_added : (left right : Contents) (pairs : List (ℕ × ℕ)) (old mid new : List (Vec ℕ Global)) (header : Vec ℕ Global) (line : List ℕ)

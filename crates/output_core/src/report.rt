@@ -1,6 +1,7 @@
 //! The report of a join, as CSV.
 
-ghost use Rattle.std.specs.Prelude.{◌≡◌, ◌<◌, ◌++◌, All, IfOk, IsOk, OnOk};
+ghost use Rattle.std.specs.Prelude.{◌≡◌, ◌+◌, ◌<◌, ◌≤◌, ◌++◌, All, IfOk, IsOk, OnOk, length};
+ghost use Rattle.std.specs.Int.{div_ceil};
 ghost use Rattle.std.specs.List.{flat_map};
 ghost use Rattle.output_core.specs.Columns.{AreColumnsFor};
 ghost use Rattle.output_core.specs.ReportRows.{AddsRows, AreRows, header_line, line_of};
@@ -20,7 +21,7 @@ const LEAST_RECORD: usize = 14;
 
 /// The report of these pairs, as texts to be concatenated: a CSV record `left,right,matrix`, and
 /// for each pair one with the ids of its features and the letters of their matrix. It is written
-/// by as many threads as there are workers, each to a text of its own.
+/// by at most as many threads as there are workers, each to a text of its own.
 pub fn report_texts<R: Threads + Sync>(
     alloc: Global,
     left: &Layer,
@@ -30,8 +31,9 @@ pub fn report_texts<R: Threads + Sync>(
     rt: &R,
 ) -> Result<Vec<Vec<u8>>, AllocError>
     requires { All (IsHeld left.now.list right.now.list) pairs.now }
-    ensures { IfOk result
+    ensures report { IfOk result
         (λ texts. IsReport left.now.list right.now.list pairs.now (joined texts.items)) }
+    ensures few { IfOk result (λ texts. length texts.items ≤ workers + 1) }
 {
     if workers > 1 {
         chunked_report(alloc, left, right, pairs, workers, rt)
@@ -52,8 +54,9 @@ fn chunked_report<R: Threads + Sync>(
 ) -> Result<Vec<Vec<u8>>, AllocError>
     requires held { All (IsHeld left.now.list right.now.list) pairs.now }
     requires workers { 0 < workers }
-    ensures { IfOk result
+    ensures report { IfOk result
         (λ texts. IsReport left.now.list right.now.list pairs.now (joined texts.items)) }
+    ensures few { IfOk result (λ texts. length texts.items ≤ workers + 1) }
 {
     let mut texts = Vec::new(alloc);
     push_texts(alloc, &mut texts, left, right, pairs, workers, rt)?;
@@ -69,8 +72,9 @@ fn whole_report(
     pairs: &[(u32, u32)],
 ) -> Result<Vec<Vec<u8>>, AllocError>
     requires { All (IsHeld left.now.list right.now.list) pairs.now }
-    ensures { IfOk result
+    ensures report { IfOk result
         (λ texts. IsReport left.now.list right.now.list pairs.now (joined texts.items)) }
+    ensures single { IfOk result (λ texts. length texts.items ≡ 1) }
 {
     let mut texts = Vec::new(alloc);
     texts.push(whole_text(alloc, left, right, pairs)?)?;
@@ -106,8 +110,10 @@ fn push_texts<R: Threads + Sync>(
 ) -> Result<(), AllocError>
     requires held { All (IsHeld left.now.list right.now.list) pairs.now }
     requires workers { 0 < workers }
-    ensures { OnOk result (AddsRows left.now.list right.now.list pairs.now
+    ensures rows { OnOk result (AddsRows left.now.list right.now.list pairs.now
         (joined texts.old.items ++ header_line) (joined texts.new.items)) }
+    ensures few { OnOk result
+        (length texts.new.items ≤ length texts.old.items + (workers + 1)) }
 {
     let size = pairs.len().div_ceil(workers as usize).max(1);
     let columns = Columns::side_by_side(alloc, left, right, pairs, rt)?;
@@ -137,8 +143,10 @@ fn chunk_rows<R: Threads + Sync>(
 ) -> Result<Vec<Result<Vec<u8>, AllocError>>, AllocError>
     requires columns { AreColumnsFor left.now.list right.now.list pairs.now columns.now }
     requires size { 0 < size }
-    ensures { IfOk result (λ chunks. All IsOk chunks.items → AreRows left.now.list right.now.list
-        pairs.now (flat_map text_or_none chunks.items)) }
+    ensures rows { IfOk result (λ chunks. All IsOk chunks.items
+        → AreRows left.now.list right.now.list pairs.now (flat_map text_or_none chunks.items)) }
+    ensures count { IfOk result
+        (λ chunks. length chunks.items ≡ div_ceil (length pairs.now) size) }
 {
     let rows = move |_start: usize, chunk: &[(u32, u32)]| {
         rows_text(alloc, left, right, columns, chunk)
@@ -212,6 +220,8 @@ fn push_all(
     ensures all { OnOk result (All IsOk parts.items) }
     ensures texts { OnOk result
         (joined texts.new.items ≡ joined texts.old.items ++ flat_map text_or_none parts.items) }
+    ensures count { OnOk result
+        (length texts.new.items ≡ length texts.old.items + length parts.items) }
 {
     for part in parts {
         texts.push(part?)?;

@@ -3,8 +3,8 @@ use Rattle.output_core.specs.ReportRows.{AreRows}
 use Rattle.output_core.proofs.ReportChunkLemmas.{chunks_joined, chunk_written, no_text, from_both}
 use Rattle.output_core.proofs.report.chunk_rows.Goals as goal
 
-pub returns : goal.returns
-returns g c = from_both c.map_chunks.result _ _ _ c.map_chunks.ensures.len c.map_chunks.ensures.each (λ chunks len each. λ ok.
+pub returns-clause-rows : goal.returns-clause-rows
+returns-clause-rows g c = from_both c.map_chunks.result _ _ _ c.map_chunks.ensures.len c.map_chunks.ensures.each (λ chunks len each. λ ok.
     let left = c.args.left.now.list in
     let right = c.args.right.now.list in
     chunks_joined left right c.args.size c.args.pairs.now chunks.items no_text

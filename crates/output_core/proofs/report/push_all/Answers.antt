@@ -1,6 +1,6 @@
 use Rattle.std.proofs.Common.{◌∷◌, [], IsOk, refl, ◌∙◌, append_assoc}
 use Rattle.std.proofs.lemmas.List.Elements.{All-push}
-use Rattle.output_core.proofs.ReportChunkLemmas.{text_added}
+use Rattle.output_core.proofs.ReportChunkLemmas.{one_more, text_added}
 use Rattle.output_core.proofs.report.push_all.Goals as goal
 
 pub loop-part-preserved : goal.loop-part-preserved
@@ -13,4 +13,5 @@ loop-part-preserved c =
       all = All-push IsOk yielded part before.all (rw c.in_ok-part.was refl);
       texts = text_added c.args.texts.now.items c.loop-part.texts.items c.push.new.self.items yielded part c.in_ok-part.field-0 before.texts
           c.in_ok-push.ensures.items c.in_ok-part.was;
+      count = one_more _ _ _ _ _ _ before.count c.in_ok-push.ensures.items;
     }

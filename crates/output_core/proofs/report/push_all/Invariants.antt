@@ -1,4 +1,4 @@
-use Rattle.std.proofs.Common.{◌≡◌, ◌++◌, All, IsOk}
+use Rattle.std.proofs.Common.{◌≡◌, ◌+◌, ◌++◌, All, IsOk, length}
 use Rattle.std.specs.List.{flat_map}
 use Rattle.std.specs.Vec.Iter.{into_iter_items}
 use Rattle.output_core.specs.ReportRows.{text_or_none}
@@ -10,4 +10,5 @@ invariant-loop-part l = record {
   parts : l.yielded ++ into_iter_items l.part-iterator ≡ l.fn.parts.items;
   all : All IsOk l.yielded;
   texts : joined l.texts.items ≡ joined l.fn.texts.items ++ flat_map text_or_none l.yielded;
+  count : length l.texts.items ≡ length l.fn.texts.items + length l.yielded;
 }
