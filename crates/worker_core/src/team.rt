@@ -40,6 +40,7 @@ impl Team {
     pub(crate) fn new(seats: Vec<BoardSeat>, ports: Vec<Port>, gathering: Gathering) -> Team
         ensures lists { (result.seats ≡ seats) × (result.ports ≡ ports) }
         ensures gathering { result.gathering ≡ gathering }
+        ensures well { (result.all_started ≡ true) × (result.all_ok ≡ true) }
     {
         Team {
             seats,
