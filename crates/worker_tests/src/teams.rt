@@ -145,6 +145,63 @@ fn two_workers_meet(rt: HostRuntime) {
     );
 }
 
+/// How often who is inside a room gives way before it leaves.
+const TURNS: u32 = 20_000;
+
+/// A gate that keeps those who enter inside for some turns, and notes where more are inside than
+/// may be.
+#[derive(Drop)]
+struct Room {
+    most: u32,
+    inside: AtomicU32,
+    overfull: AtomicBool,
+}
+
+impl Gate for Room {
+    fn enter<R: Threads + Wait + Sync>(&self, _rt: &R, _task: u32) {
+        if self.inside.fetch_add(1, Ordering::SeqCst) >= self.most {
+            self.overfull.store(true, Ordering::SeqCst);
+        }
+        for _ in 0..TURNS {
+            thread::yield_now();
+        }
+        self.inside.fetch_sub(1, Ordering::SeqCst);
+    }
+}
+
+/// Whether of the workers that are asked for at no time more are at work, and they deliver all.
+fn are_no_more<R: Threads + Wait + Sync>(
+    rt: &R,
+    alloc: Global,
+    trees: (&RTree, &RTree),
+    workers: u32,
+) -> bool {
+    let gate = Room {
+        most: workers,
+        inside: AtomicU32::new(0),
+        overfull: AtomicBool::new(false),
+    };
+    let is_delivered = delivers_twenty(rt, alloc, trees, workers, 4, &gate);
+    is_delivered && !gate.overfull.load(Ordering::SeqCst)
+}
+
+/// Whether one worker works alone, and two work as two.
+fn are_few<R: Threads + Wait + Sync>(rt: &R, alloc: Global, left: &RTree, right: &RTree) -> bool {
+    [1, 2].iter().all(|workers| are_no_more(rt, alloc, (left, right), *workers))
+}
+
+#[test]
+fn no_more_workers_than_asked_for(rt: HostRuntime) {
+    let (alloc, shared) = (rt.alloc(), &rt);
+    assert!(rt;
+        sees(
+            alloc,
+            (20, 1),
+            |left, right| are_few(shared, alloc, left, right)
+        )
+    );
+}
+
 /// Whether each of some numbers of workers delivers all.
 fn deliver<R: Threads + Wait + Sync>(rt: &R, alloc: Global, left: &RTree, right: &RTree) -> bool {
     [1, 2, 3, 8, 16].iter().all(|workers| delivers_twenty(
