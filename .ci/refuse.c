@@ -6,7 +6,8 @@
  *     REFUSE_AT     a number from 1
  *     REFUSE_TELL   a descriptor; it gets a byte when a call is refused
  *
- * What runs before the program's own constructors isn't counted. */
+ * What runs before the program's own constructors isn't counted, nor is the memory that the C library takes to
+ * start a thread. */
 #define _GNU_SOURCE
 #include <dlfcn.h>
 #include <errno.h>
@@ -45,7 +46,9 @@ static int refused(const char *of) {
     return 1;
 }
 
-static int no_memory(void) { return refused("memory") ? (errno = ENOMEM) : 0; }
+static __thread int starting;
+
+static int no_memory(void) { return !starting && refused("memory") ? (errno = ENOMEM) : 0; }
 
 void *malloc(size_t size) { return no_memory() ? NULL : __libc_malloc(size); }
 void *calloc(size_t count, size_t size) { return no_memory() ? NULL : __libc_calloc(count, size); }
@@ -104,5 +107,9 @@ int getentropy(void *bytes, size_t size) {
 
 int pthread_create(pthread_t *thread, const pthread_attr_t *attr, void *(*start)(void *), void *given) {
     int (*real)(pthread_t *, const pthread_attr_t *, void *(*)(void *), void *) = dlsym(RTLD_NEXT, "pthread_create");
-    return refused("thread") ? EAGAIN : real(thread, attr, start, given);
+    if (refused("thread")) return EAGAIN;
+    starting = 1;
+    int answer = real(thread, attr, start, given);
+    starting = 0;
+    return answer;
 }
