@@ -26,10 +26,6 @@ and_true : (a b : Bool) → a ≡ true → b ≡ true → (a && b) ≡ true
 and_true true b e f = f
 and_true false b e f = e
 
-true_and : (a b : Bool) → a ≡ true → (a && b) ≡ b
-true_and true b e = refl
-true_and false b e = absurd (false≢true e)
-
 either : (a b : Bool) → (a || b) ≡ true → (a ≡ true) ⊎ (b ≡ true)
 either true b h = inl refl
 either false b h = inr h
@@ -55,12 +51,15 @@ true_eq : (a b : ℤ) → int_eq a b ≡ true → a ≡ b
 true_eq a b e = (Decides-int_eq a b).0 e
 
 inside_up : (a b c : ℤ) → a <ℤ b → b <ℤ c → is_inside a b c ≡ true
+unfolding is_inside
 inside_up a b c h k = or_left _ _ (and_true _ _ (lt_true a b h) (lt_true b c k))
 
 inside_down : (a b c : ℤ) → b <ℤ a → c <ℤ b → is_inside a b c ≡ true
+unfolding is_inside
 inside_down a b c h k = or_right _ _ (and_true _ _ (lt_true c b k) (lt_true b a h))
 
 inside_means : (a b c : ℤ) → is_inside a b c ≡ true → ((a <ℤ b) × (b <ℤ c)) ⊎ ((c <ℤ b) × (b <ℤ a))
+unfolding is_inside
 inside_means a b c h =
     ⊎_elim (λ u. let k = both_parts _ _ u in inl (true_lt a b k.0, true_lt b c k.1))
     (λ u. let k = both_parts _ _ u in inr (true_lt c b k.0, true_lt b a k.1)) (either _ _ h)
@@ -70,12 +69,6 @@ same_true p q h = let k = both_parts _ _ h in same_position p q (true_eq p.x q.x
 
 pub differ_false : (p q : Position) → p ≢ q → is_same p q ≡ false
 differ_false p q d = by_bool (is_same p q) (λ t. absurd (d (same_true p q t))) (λ f. f)
-
-pub vertical_if : (p q r : Position) (b : Bool) → p.x ≡ q.x → q.x ≡ r.x → b ≡ is_inside p.y q.y r.y → b ≡ is_vertical p q r
-vertical_if p q r b e f h = h ∙ sym (true_and _ _ (eq_true p.x q.x e) ∙ true_and _ _ (eq_true q.x r.x f))
-
-pub horizontal_if : (p q r : Position) (b : Bool) → p.y ≡ q.y → q.y ≡ r.y → b ≡ is_inside p.x q.x r.x → b ≡ is_horizontal p q r
-horizontal_if p q r b e f h = h ∙ sym (true_and _ _ (eq_true p.y q.y e) ∙ true_and _ _ (eq_true q.y r.y f))
 
 -- ---- headings
 

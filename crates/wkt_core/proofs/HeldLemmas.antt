@@ -1,41 +1,30 @@
--- Coordinates as 64 bits hold them: they are read back, and equal bits are equal coordinates.
-use Rattle.std.proofs.Common.{◌≡◌, Bool, true, eqb, of_z, to_z, w64, sym, ◌∙◌, ap, subst, arith}
-use Rattle.std.specs.Prelude.{ℤ}
+-- Coordinates as 64 bits hold them, which are read back.
+use Rattle.std.proofs.Common.{◌≡◌, true, of_z, to_z, w64, sym, ◌∙◌, ap, subst, arith, FitsSigned}
+use Rattle.std.specs.Prelude.{ℤ, ◌↔◌, Option, IsSome, IfSome, IfNone}
 use Rattle.std.specs.Int.{int_min, int_max}
-use Rattle.std.proofs.lemmas.Bool.{eqb-true}
-use Rattle.std.proofs.lemmas.Int.{ints}
+use Rattle.std.specs.Ordering.{int_eq}
+use Rattle.std.proofs.lemmas.Bool.Decides.{Decides-int_eq}
+use Rattle.std.proofs.lemmas.Int.{ints, clamps, to_z-of_z}
+use Rattle.std.proofs.lemmas.Option.{IfSome_then}
 use Rattle.geom_core.specs.declared.shape.Shape.{Shape}
 use Rattle.geom_core.specs.Shapes.{x1, y1, x2, y2, AreCorners, HasCorners}
 use Rattle.wkt_core.specs.declared.position.Position.{Position}
 use Rattle.wkt_core.specs.FormSteps.{IsSpanned}
-use Rattle.wkt_core.specs.Walks.{is_inside, is_vertical, is_horizontal}
-use Rattle.wkt_core.proofs.HeadingLemmas.{vertical_if, horizontal_if}
-
--- both coordinates are read back
-pub record IsHeld (p : Position) : Type 0 where
-  pub x : to_z w64 (of_z w64 p.x) ≡ p.x
-  pub y : to_z w64 (of_z w64 p.y) ≡ p.y
-
-same_bits : (a b : ℤ) → to_z w64 (of_z w64 a) ≡ a → to_z w64 (of_z w64 b) ≡ b → of_z w64 a ≡ of_z w64 b → a ≡ b
-same_bits a b p q e = sym p ∙ ap (to_z w64) e ∙ q
-
-module _ (p q r : Position) (held_p : IsHeld p) (held_q : IsHeld q) (held_r : IsHeld r) (same inside : Bool) where
-  pub vertical_held : of_z w64 p.x ≡ of_z w64 q.x → same ≡ eqb (of_z w64 q.x) (of_z w64 r.x) → same ≡ true
-      → inside ≡ is_inside (to_z w64 (of_z w64 p.y)) (to_z w64 (of_z w64 q.y)) (to_z w64 (of_z w64 r.y)) → inside ≡ is_vertical p q r
-  vertical_held e f true_here g =
-      vertical_if p q r inside (same_bits p.x q.x held_p.x held_q.x e) (same_bits q.x r.x held_q.x held_r.x (eqb-true _ _ (sym f ∙ true_here)))
-      (rw (held_p.y, held_q.y, held_r.y) at g)
-
-  pub horizontal_held : of_z w64 p.y ≡ of_z w64 q.y → same ≡ eqb (of_z w64 q.y) (of_z w64 r.y) → same ≡ true
-      → inside ≡ is_inside (to_z w64 (of_z w64 p.x)) (to_z w64 (of_z w64 q.x)) (to_z w64 (of_z w64 r.x)) → inside ≡ is_horizontal p q r
-  horizontal_held e f true_here g =
-      horizontal_if p q r inside (same_bits p.y q.y held_p.y held_q.y e) (same_bits q.y r.y held_q.y held_r.y (eqb-true _ _ (sym f ∙ true_here)))
-      (rw (held_p.x, held_q.x, held_r.x) at g)
+use Rattle.wkt_core.proofs.FormLemmas.{none_unless}
 
 -- the lesser or the greater of two coordinates
-pub held_by : (f : ℤ → ℤ → ℤ) (r x y : ℤ) → to_z w64 (of_z w64 r) ≡ r → to_z w64 (of_z w64 x) ≡ x → to_z w64 (of_z w64 y) ≡ y
+held_by : (f : ℤ → ℤ → ℤ) (r x y : ℤ) → to_z w64 (of_z w64 r) ≡ r → to_z w64 (of_z w64 x) ≡ x → to_z w64 (of_z w64 y) ≡ y
     → r ≡ f (to_z w64 (of_z w64 x)) (to_z w64 (of_z w64 y)) → to_z w64 (of_z w64 r) ≡ f x y
 held_by f r x y h k l e = h ∙ e ∙ ap (λ z. f z (to_z w64 (of_z w64 y))) k ∙ ap (f x) l
+
+-- a coordinate is read back, and equal ones pass the test
+pub read_back : (z : ℤ) → FitsSigned w64 z → to_z w64 (of_z w64 z) ≡ z
+read_back z fits = to_z-of_z w64 z fits
+
+pub same_numbers : (a b : ℤ) → a ≡ b → int_eq a b ≡ true
+same_numbers a b e = (Decides-int_eq a b).1 e
+
+pub ruleset held = (read_back, same_numbers)
 
 -- ---- corners
 
@@ -57,14 +46,14 @@ corners_of s a b c d h =
     (subst (λ z. AreCorners (x1 s) (y1 s) (x2 s) z) h.second_y (own_corners s))))
 
 -- the lowest and the highest coordinates of two points
-pub record AreOuter (p q : Position) (a b c d : ℤ) : Type 0 where
+record AreOuter (p q : Position) (a b c d : ℤ) : Type 0 where
   pub first_x : a ≡ int_min p.x q.x
   pub first_y : b ≡ int_min p.y q.y
   pub second_x : c ≡ int_max p.x q.x
   pub second_y : d ≡ int_max p.y q.y
 
 module _ (p q : Position) (a b c d : ℤ) (outer : AreOuter p q a b c d) (s : Shape) where
-  pub spanned_from : HasCorners a b c d s → IsSpanned p q s
+  spanned_from : HasCorners a b c d s → IsSpanned p q s
   spanned_from h = record {
     first_x = h.first_x ∙ outer.first_x;
     first_y = h.first_y ∙ outer.first_y;
@@ -72,10 +61,54 @@ module _ (p q : Position) (a b c d : ℤ) (outer : AreOuter p q a b c d) (s : Sh
     second_y = h.second_y ∙ outer.second_y;
   }
 
-  pub corners_from : IsSpanned p q s → AreCorners a b c d
+  corners_from : IsSpanned p q s → AreCorners a b c d
   corners_from h = corners_of s a b c d (record {
     first_x = h.first_x ∙ sym outer.first_x;
     first_y = h.first_y ∙ sym outer.first_y;
     second_x = h.second_x ∙ sym outer.second_x;
     second_y = h.second_y ∙ sym outer.second_y;
   })
+
+-- ---- the shape that two points span, from coordinates as they are held
+
+-- a coordinate, as it is held, is the lesser of two
+pub record IsLesser (a x y : ℤ) : Type 0 where
+  pub is : to_z w64 (of_z w64 a) ≡ int_min x y
+
+pub record IsGreater (a x y : ℤ) : Type 0 where
+  pub is : to_z w64 (of_z w64 a) ≡ int_max x y
+
+int_min_swap : (x y : ℤ) → int_min x y ≡ int_min y x
+int_min_swap x y = omega (arith, ints, clamps)
+
+int_max_swap : (x y : ℤ) → int_max x y ≡ int_max y x
+int_max_swap x y = omega (arith, ints, clamps)
+
+module _ (a x y : ℤ) (held : FitsSigned w64 a) (held_x : FitsSigned w64 x) (held_y : FitsSigned w64 y) where
+  pub lesser_one : a ≡ int_min (to_z w64 (of_z w64 x)) (to_z w64 (of_z w64 y)) → IsLesser a x y
+  lesser_one e = record { is = held_by int_min a x y (read_back a held) (read_back x held_x) (read_back y held_y) e }
+
+  pub lesser_two : a ≡ int_min (to_z w64 (of_z w64 y)) (to_z w64 (of_z w64 x)) → IsLesser a x y
+  lesser_two e = record { is = held_by int_min a y x (read_back a held) (read_back y held_y) (read_back x held_x) e ∙ int_min_swap y x }
+
+  pub greater_one : a ≡ int_max (to_z w64 (of_z w64 x)) (to_z w64 (of_z w64 y)) → IsGreater a x y
+  greater_one e = record { is = held_by int_max a x y (read_back a held) (read_back x held_x) (read_back y held_y) e }
+
+  pub greater_two : a ≡ int_max (to_z w64 (of_z w64 y)) (to_z w64 (of_z w64 x)) → IsGreater a x y
+  greater_two e = record { is = held_by int_max a y x (read_back a held) (read_back y held_y) (read_back x held_x) e ∙ int_max_swap y x }
+
+module _ (p q : Position) (a b c d : ℤ) (r : Option Shape) where
+  outer_of : IsLesser a p.x q.x → IsLesser b p.y q.y → IsGreater c p.x q.x → IsGreater d p.y q.y
+      → AreOuter p q (to_z w64 (of_z w64 a)) (to_z w64 (of_z w64 b)) (to_z w64 (of_z w64 c)) (to_z w64 (of_z w64 d))
+  outer_of f g h k = record { first_x = f.is; first_y = g.is; second_x = h.is; second_y = k.is }
+
+  pub some_spanned : IfSome r (HasCorners (to_z w64 (of_z w64 a)) (to_z w64 (of_z w64 b)) (to_z w64 (of_z w64 c)) (to_z w64 (of_z w64 d)))
+      → IsLesser a p.x q.x → IsLesser b p.y q.y → IsGreater c p.x q.x → IsGreater d p.y q.y → IfSome r (λ s. IsSpanned p q s)
+  some_spanned made f g h k = IfSome_then r made (λ s has. spanned_from p q _ _ _ _ (outer_of f g h k) s has)
+
+  pub none_spanned : IsSome r ↔ AreCorners (to_z w64 (of_z w64 a)) (to_z w64 (of_z w64 b)) (to_z w64 (of_z w64 c)) (to_z w64 (of_z w64 d))
+      → IsLesser a p.x q.x → IsLesser b p.y q.y → IsGreater c p.x q.x → IsGreater d p.y q.y → IfNone r ((s : Shape) → IsSpanned p q s → ⊥)
+  none_spanned made f g h k = none_unless r (IsSpanned p q) made (λ s has. corners_from p q _ _ _ _ (outer_of f g h k) s has)
+
+-- all of these
+pub ruleset spanned_by = (lesser_one, lesser_two, greater_one, greater_two, some_spanned, none_spanned)

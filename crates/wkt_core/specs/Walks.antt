@@ -13,7 +13,7 @@ use Rattle.wkt_core.specs.Drawing.{is_same, IsRectangle}
 use Rattle.wkt_core.specs.DrawnBefore.{IsSegment}
 
 -- the second number lies strictly between the first and the third
-abbrev pub is_inside : ℤ → ℤ → ℤ → Bool
+unfoldable pub is_inside : ℤ → ℤ → ℤ → Bool
 is_inside a b c = (int_lt a b && int_lt b c) || (int_lt c b && int_lt b a)
 
 -- q lies strictly between p and r on a line along an axis

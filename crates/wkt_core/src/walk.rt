@@ -12,6 +12,7 @@ const ENOUGH: usize = 6;
 
 /// Whether the second number lies strictly between the first and the third.
 #[inline(always)]
+#[tactic(auto, unfolding(crate::specs::Walks::is_inside))]
 fn is_inside(a: i64, b: i64, c: i64) -> bool
     ensures { result ≡ is_inside a b c }
 {
@@ -20,6 +21,7 @@ fn is_inside(a: i64, b: i64, c: i64) -> bool
 
 /// Whether the second point lies between the first and the third on a vertical line.
 #[inline(always)]
+#[tactic(auto, using(crate::proofs::HeldLemmas::held))]
 fn is_vertical(p: &Position, q: &Position, r: &Position) -> bool
     ensures { result ≡ is_vertical p.now q.now r.now }
 {
@@ -28,6 +30,7 @@ fn is_vertical(p: &Position, q: &Position, r: &Position) -> bool
 
 /// Whether the second point lies between the first and the third on a horizontal line.
 #[inline(always)]
+#[tactic(auto, using(crate::proofs::HeldLemmas::held))]
 fn is_horizontal(p: &Position, q: &Position, r: &Position) -> bool
     ensures { result ≡ is_horizontal p.now q.now r.now }
 {
