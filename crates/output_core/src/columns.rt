@@ -12,6 +12,9 @@ use std::alloc::{AllocError, Global};
 use std::thread;
 use std::thread::Threads;
 
+/// How many bytes the letters of a matrix and the end of a record have.
+const LETTERS_AND_END: usize = 10;
+
 /// The ids of a layer's features, as CSV fields with their commas, by number.
 ///
 /// A report asks for right features in no order. Here their ids stand together, where a layer
@@ -61,9 +64,22 @@ impl Column {
         let end = *self.starts.get(number + 1)?;
         self.text.get(start..end)
     }
+
+    /// How many bytes a field has on average.
+    fn likely_field(&self) -> usize {
+        self.text.len().div_ceil(self.starts.len().max(1))
+    }
 }
 
 impl Columns {
+    /// How many bytes a record of the report is likely to have. Another number costs time or
+    /// memory alone.
+    pub(crate) fn likely_record(&self) -> usize {
+        let left = self.left.likely_field();
+        let right = self.right.likely_field();
+        LETTERS_AND_END.saturating_add(left).saturating_add(right)
+    }
+
     /// The columns of two layers, as far as these pairs of numbers need them.
     pub(crate) fn new(
         alloc: Global,

@@ -16,9 +16,6 @@ use std::alloc::{AllocError, Global};
 use std::thread;
 use std::thread::Threads;
 
-/// How many bytes a pair's record has at least: two ids of one, nine letters, two commas, an end.
-const LEAST_RECORD: usize = 14;
-
 /// The report of these pairs, as texts to be concatenated: a CSV record `left,right,matrix`, and
 /// for each pair one with the ids of its features and the letters of their matrix. It is written
 /// by at most as many threads as there are workers, each to a text of its own.
@@ -182,7 +179,7 @@ fn push_rows(
     ensures { OnOk result
         (AddsRows left.now.list right.now.list pairs.now text.old.items text.new.items) }
 {
-    text.reserve(pairs.len().saturating_mul(LEAST_RECORD))?;
+    text.reserve(pairs.len().saturating_mul(columns.likely_record()))?;
     for pair in pairs {
         // Looked up first, so that the processor fetches ids and shapes at the same time.
         let left_id = columns.left.at(pair.0).unwrap();
