@@ -25,3 +25,5 @@ mod relating;
 mod running;
 #[cfg(test)]
 mod thousand_joins;
+#[cfg(test)]
+mod told_faults;

@@ -1,0 +1,65 @@
+//! The lines of faults that runs end with.
+
+use crate::example::{LEFT, RIGHT};
+use crate::running::{Files, at_once, join};
+use geom_core::Relation;
+use join_core::{Options, ToWrite, fault_line};
+use samples::points_text;
+use std::alloc::AllocError;
+use std::random::RandomSource;
+use std::sync::Wait;
+use std::thread::Threads;
+
+/// Whether a join by touches fails, writes nothing and is told by this line.
+fn is_told<R: Threads + Wait + Sync + RandomSource + AllocGlobal>(
+    rt: &R,
+    files: &Files<'_>,
+    line: &str,
+) -> Option<bool> {
+    let options = Options::new(4, 256, 2).ok()?;
+    let ended = join(rt, files, Relation::Touches, &options)?;
+    let fault = ended.outcome.err()?;
+    let mut sink = ToWrite::new(Vec::new(rt.alloc()));
+    fault_line(&fault, &mut sink).ok()?;
+    let told: Vec<u8> = sink.into_inner();
+    Some(ended.written.is_empty() && told.as_slice() == line.as_bytes())
+}
+
+/// The first row can be made.
+const UNKNOWN_ID: &str = "op,layer,id,wkt\ndelete,left,a,\ndelete,right,a,\ndelete,left,b,\n";
+
+#[test]
+fn unknown_id(rt: HostRuntime) {
+    let files = Files {
+        left: at_once(LEFT),
+        right: at_once(RIGHT),
+        edits: Some(at_once(UNKNOWN_ID)),
+    };
+    let line = "rjoin: edits: row 2: no such id\n";
+    assert!(rt; is_told(&rt, &files, line) == Some(true));
+}
+
+#[test]
+fn double_id_on_the_left(rt: HostRuntime) {
+    let files = Files {
+        left: at_once("id,wkt\na,POINT (0 0)\nb,POINT (1 0)\na,POINT (2 0)\n"),
+        right: at_once("id,wkt\nx\n"),
+        edits: Some(at_once(UNKNOWN_ID)),
+    };
+    let line = "rjoin: left: row 3: id is already there\n";
+    assert!(rt; is_told(&rt, &files, line) == Some(true));
+}
+
+#[test]
+fn ragged_row_after_a_thousand_good_ones(rt: HostRuntime) -> Result<(), AllocError> {
+    let mut right = points_text(rt.alloc(), 1_000)?;
+    right.push_str("last\n")?;
+    let files = Files {
+        left: at_once(LEFT),
+        right: at_once(right.as_str()),
+        edits: Some(at_once("id,wkt\n")),
+    };
+    let line = "rjoin: right: row 1001: wrong fields\n";
+    assert!(rt; is_told(&rt, &files, line) == Some(true));
+    Ok(())
+}
