@@ -187,7 +187,9 @@ fn are_no_more<R: Threads + Wait + Sync>(
 
 /// Whether one worker works alone, and two work as two.
 fn are_few<R: Threads + Wait + Sync>(rt: &R, alloc: Global, left: &RTree, right: &RTree) -> bool {
-    [1, 2].iter().all(|workers| are_no_more(rt, alloc, (left, right), *workers))
+    [1, 2]
+        .iter()
+        .all(|workers| are_no_more(rt, alloc, (left, right), *workers))
 }
 
 #[test]
