@@ -8,10 +8,16 @@ import os
 import sys
 import time
 
-begun = time.monotonic()
-process = os.posix_spawnp(sys.argv[2], sys.argv[2:], os.environ)
-_, status, usage = os.wait4(process, 0)
-seconds = time.monotonic() - begun
-with open(sys.argv[1], "w", encoding="ascii") as file:
-    processor = usage.ru_utime + usage.ru_stime
-    file.write(f"{seconds} {processor} {usage.ru_maxrss} {os.waitstatus_to_exitcode(status)}")
+
+def main(note: str, words: list[str]) -> None:
+    begun = time.monotonic()
+    process = os.posix_spawnp(words[0], words, os.environ)
+    _, status, usage = os.wait4(process, 0)
+    seconds = time.monotonic() - begun
+    with open(note, "w", encoding="ascii") as file:
+        processor = usage.ru_utime + usage.ru_stime
+        file.write(f"{seconds} {processor} {usage.ru_maxrss} {os.waitstatus_to_exitcode(status)}")
+
+
+if __name__ == "__main__":
+    main(sys.argv[1], sys.argv[2:])

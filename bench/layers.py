@@ -3,6 +3,9 @@
 Random numbers come from SplitMix64 with a fixed seed, so that every machine makes the same files. Of the kinds that
 are regular, `expected` gives the number of pairs by arithmetic.
 """
+from __future__ import annotations
+
+from collections.abc import Callable, Iterable, Iterator
 from dataclasses import dataclass
 from math import isqrt
 from pathlib import Path
@@ -13,10 +16,10 @@ WORD = (1 << 64) - 1
 class Random:
     """SplitMix64 (Steele, Lea, Flood 2014)."""
 
-    def __init__(self, seed):
+    def __init__(self, seed: int) -> None:
         self.state = seed
 
-    def below(self, limit):
+    def below(self, limit: int) -> int:
         """A number from 0 to limit - 1; the bias is below 2^-32 for the limits that stand here."""
         self.state = (self.state + 0x9E3779B97F4A7C15) & WORD
         mixed = self.state
@@ -25,25 +28,26 @@ class Random:
         return (mixed ^ (mixed >> 31)) % limit
 
 
-def point(x, y):
+# Coordinates are whole numbers, or texts of decimal ones, here and below.
+def point(x: int | str, y: int | str) -> str:
     return f"POINT ({x} {y})"
 
 
-def segment(x1, y1, x2, y2):
+def segment(x1: int | str, y1: int | str, x2: int | str, y2: int | str) -> str:
     return f"LINESTRING ({x1} {y1}, {x2} {y2})"
 
 
-def rectangle(x1, y1, x2, y2):
+def rectangle(x1: int | str, y1: int | str, x2: int | str, y2: int | str) -> str:
     return f"POLYGON (({x1} {y1}, {x2} {y1}, {x2} {y2}, {x1} {y2}, {x1} {y1}))"
 
 
-def random_points(size, random):
+def random_points(size: int, random: Random) -> Iterator[str]:
     side = 10 * isqrt(size)
     for _ in range(size):
         yield point(random.below(side), random.below(side))
 
 
-def random_rectangles(size, random):
+def random_rectangles(size: int, random: Random) -> Iterator[str]:
     """Rectangles that cover the square about once."""
     side = 10 * isqrt(size)
     for _ in range(size):
@@ -51,7 +55,7 @@ def random_rectangles(size, random):
         yield rectangle(x, y, x + 1 + random.below(20), y + 1 + random.below(20))
 
 
-def random_mixture(size, random):
+def random_mixture(size: int, random: Random) -> Iterator[str]:
     """Points, segments along either axis and rectangles on a coarse grid, where ends and sides often coincide."""
     side = 4 * isqrt(size)
     for _ in range(size):
@@ -60,7 +64,7 @@ def random_mixture(size, random):
         yield shape(x, y, x + width, y + height)
 
 
-def shape(x1, y1, x2, y2):
+def shape(x1: int | str, y1: int | str, x2: int | str, y2: int | str) -> str:
     if (x1, y1) == (x2, y2):
         return point(x1, y1)
     if x1 == x2 or y1 == y2:
@@ -72,22 +76,22 @@ PARCEL = 20
 BLOCK_PARCELS = 2
 
 
-def blocks_along(size):
+def blocks_along(size: int) -> int:
     """How many blocks lie along a side of the cadastre that has about this number of parcels."""
     return max(1, isqrt(size) // BLOCK_PARCELS)
 
 
-def squares(along, side):
+def squares(along: int, side: int) -> Iterator[str]:
     for row in range(along):
         for column in range(along):
             yield rectangle(column * side, row * side, (column + 1) * side, (row + 1) * side)
 
 
-def parcels(size, _random):
+def parcels(size: int, _random: Random) -> Iterator[str]:
     yield from squares(blocks_along(size) * BLOCK_PARCELS, PARCEL)
 
 
-def blocks(size, _random):
+def blocks(size: int, _random: Random) -> Iterator[str]:
     """Squares of two by two parcels, which share their sides with each other."""
     yield from squares(blocks_along(size), PARCEL * BLOCK_PARCELS)
 
@@ -97,7 +101,7 @@ PITCH = 10
 CELL = 200
 
 
-def cells(size):
+def cells(size: int) -> Iterator[tuple[int, int]]:
     """The corners of the cells of a chip, in rows."""
     count = max(1, size // TRACKS)
     along = max(1, isqrt(count))
@@ -105,7 +109,7 @@ def cells(size):
         yield (cell % along) * CELL, (cell // along) * CELL
 
 
-def chip_bars(size, _random):
+def chip_bars(size: int, _random: Random) -> Iterator[str]:
     """Horizontal bars, eight a cell, that end inside the cell."""
     for x, y in cells(size):
         for track in range(TRACKS):
@@ -113,7 +117,7 @@ def chip_bars(size, _random):
             yield rectangle(x + 5, low, x + 95, low + 4)
 
 
-def chip_wires(size, _random):
+def chip_wires(size: int, _random: Random) -> Iterator[str]:
     """Vertical wires, eight a cell, every second one without a width, that run over all bars of their cell."""
     for x, y in cells(size):
         for track in range(TRACKS):
@@ -126,8 +130,8 @@ def chip_wires(size, _random):
 class Kind:
     """Two layers and the relation that they are joined by."""
 
-    left: object
-    right: object
+    left: Callable[[int, Random], Iterator[str]]
+    right: Callable[[int, Random], Iterator[str]]
     relation: str
 
 
@@ -140,7 +144,7 @@ KINDS = {
 }
 
 
-def expected(kind, relation, size):
+def expected(kind: str, relation: str, size: int) -> int | None:
     """The number of pairs where arithmetic tells it, else None."""
     if kind == "cadastre":
         return cadastre_pairs(relation, blocks_along(size))
@@ -149,14 +153,14 @@ def expected(kind, relation, size):
     return None
 
 
-def cadastre_pairs(relation, along):
+def cadastre_pairs(relation: str, along: int) -> int | None:
     """Along one axis a block lies over two parcels and meets one more at either end, but for the border's two ends."""
     meeting = (4 * along - 2) ** 2
     inside = (2 * along) ** 2
     return {"intersects": meeting, "within": inside, "touches": meeting - inside, "overlaps": 0}.get(relation)
 
 
-def write_layer(path, prefix, texts):
+def write_layer(path: Path, prefix: str, texts: Iterable[str]) -> None:
     with open(path, "w", encoding="ascii") as file:
         file.write("id,wkt\n")
         for number, text in enumerate(texts):
@@ -164,10 +168,10 @@ def write_layer(path, prefix, texts):
             file.write(f"{prefix}{number},{quoted}\n")
 
 
-def write_pair(folder, kind, size, seed=2026):
+def write_pair(folder: str | Path, kind: str, size: int, seed: int = 2026) -> tuple[Path, Path]:
     """Writes the two layers of a kind and gives their paths."""
     random = Random(seed)
-    paths = Path(folder, f"{kind}-left.csv"), Path(folder, f"{kind}-right.csv")
-    write_layer(paths[0], "a", KINDS[kind].left(size, random))
-    write_layer(paths[1], "b", KINDS[kind].right(size, random))
-    return paths
+    left, right = Path(folder, f"{kind}-left.csv"), Path(folder, f"{kind}-right.csv")
+    write_layer(left, "a", KINDS[kind].left(size, random))
+    write_layer(right, "b", KINDS[kind].right(size, random))
+    return left, right

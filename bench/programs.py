@@ -2,11 +2,14 @@
 import os
 import shutil
 import subprocess
+from collections.abc import Callable
 from dataclasses import dataclass
+from functools import partial
 from pathlib import Path
 
 HERE = Path(__file__).resolve().parent
 BUILT = HERE / "out"
+Words = list[str | Path]
 
 
 @dataclass(frozen=True)
@@ -25,10 +28,21 @@ class Program:
 
     name: str
     version: str
-    words: object
+    words: Callable[[Task], Words]
 
 
-def output_of(words):
+@dataclass(frozen=True)
+class Run:
+    """One run of a program: how long it took, all threads' time, its most memory, and its pairs in one order."""
+
+    seconds: float
+    processor: float
+    kilobytes: int
+    pairs: int
+    digest: str
+
+
+def output_of(words: Words) -> str | None:
     """What a command writes, or None where it is not there or fails."""
     try:
         ended = subprocess.run(words, capture_output=True, text=True, check=True)
@@ -37,7 +51,7 @@ def output_of(words):
     return ended.stdout.strip()
 
 
-def rjoin(path):
+def rjoin(path: str | Path) -> Program:
     """The program itself. The script at the root of the repository builds it first where it has to."""
     version = output_of([path, "--version"])
     if version is None:
@@ -45,13 +59,13 @@ def rjoin(path):
     built = HERE.parent / "crates/rjoin/out/rjoin"
     program = built if Path(path) == HERE.parent / "rjoin" else path
 
-    def words(task):
+    def words(task: Task) -> Words:
         return [program, "join", task.left, task.right, "--relation", task.relation, "--workers", str(task.workers)]
 
     return Program("rjoin", version, words)
 
 
-def built(source, *libraries):
+def built(source: Path, *libraries: str) -> Path | None:
     """A C++ peer, built where it isn't there or is older than its source; None where that fails."""
     program = BUILT / source.stem
     sources = [source, HERE / "peers/common.hpp"]
@@ -59,47 +73,45 @@ def built(source, *libraries):
         return program
     print(f"building {source.name}", flush=True)
     BUILT.mkdir(exist_ok=True)
-    words = ["g++", "-O2", "-std=c++17", "-pthread", source, "-o", program, *libraries]
+    words: Words = ["g++", "-O2", "-std=c++17", "-pthread", source, "-o", program, *libraries]
     return None if output_of(words) is None else program
 
 
-def header_version(header, macro):
+def header_version(header: str, macro: str) -> str | None:
     text = output_of(["g++", "-E", "-dM", "-include", header, "-x", "c++", "/dev/null"]) or ""
     values = [line.split(maxsplit=2)[2] for line in text.splitlines() if line.split()[1:2] == [macro]]
     return values[0].strip('"') if values else None
 
 
-def in_cplusplus(name, source, version, *libraries):
+def in_cplusplus(name: str, source: str, version: str | None, *libraries: str) -> Program | None:
     program = built(HERE / "peers" / source, *libraries) if version else None
-    if program is None:
-        return None
-
-    def words(task):
-        return [program, task.left, task.right, task.relation, str(task.workers)]
-
-    return Program(name, version, words)
+    return Program(name, version, partial(cplusplus_words, program)) if version and program else None
 
 
-def geos():
+def cplusplus_words(program: Path, task: Task) -> Words:
+    return [program, task.left, task.right, task.relation, str(task.workers)]
+
+
+def geos() -> Program | None:
     return in_cplusplus("GEOS", "geos_join.cpp", header_version("geos_c.h", "GEOS_VERSION"), "-lgeos_c")
 
 
-def boost():
+def boost() -> Program | None:
     version = header_version("boost/version.hpp", "BOOST_LIB_VERSION")
     return in_cplusplus("Boost.Geometry", "boost_join.cpp", version and version.replace("_", "."))
 
 
-def postgis():
+def postgis() -> Program | None:
     """PostGIS in the database that the environment of psql names; its time has the loading of the tables in it."""
     if not shutil.which("psql") or "PGHOST" not in os.environ:
         return None
-    asked = ["psql", "-qAtX", "-c", "set client_min_messages = error; create extension if not exists postgis",
-             "-c", "select postgis_lib_version()"]
+    asked: Words = ["psql", "-qAtX", "-c", "set client_min_messages = error; create extension if not exists postgis",
+                    "-c", "select postgis_lib_version()"]
     version = output_of(asked)
-    return version and Program("PostGIS", version, postgis_words)
+    return Program("PostGIS", version, postgis_words) if version else None
 
 
-def postgis_words(task):
+def postgis_words(task: Task) -> Words:
     copies = [f"\\copy {side}_rows (id, geom) from '{path}' csv header"
               for side, path in (("left", task.left), ("right", task.right))]
     return ["psql", "-qX", "--csv", "-v", f"relation=ST_{task.relation.capitalize()}",
@@ -107,4 +119,4 @@ def postgis_words(task):
             "-f", HERE / "peers/postgis_join.sql"]
 
 
-PEERS = {"geos": geos, "boost": boost, "postgis": postgis}
+PEERS: dict[str, Callable[[], Program | None]] = {"geos": geos, "boost": boost, "postgis": postgis}

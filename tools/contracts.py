@@ -26,8 +26,9 @@ class Call(NamedTuple):
 
 
 def specified_crates() -> list[str]:
-    """The crates that have definitions, bottom up."""
-    return [name for name in uses_by_crate() if (ROOT / "crates" / name / "specs").is_dir()]
+    """The libraries that have definitions, bottom up. A program has no public call."""
+    folders = ((name, ROOT / "crates" / name) for name in uses_by_crate())
+    return [name for name, it in folders if (it / "specs").is_dir() and (it / "src/lib.rt").is_file()]
 
 
 def public_calls(crate: str) -> Iterator[Call]:

@@ -6,7 +6,6 @@ import subprocess
 import sys
 import time
 from dataclasses import dataclass
-from importlib import import_module
 from pathlib import Path
 from typing import Any, Iterator, Sequence
 
@@ -22,7 +21,6 @@ os.environ["PYTHONPATH"] = os.pathsep.join(
 for module in ("numpy", "pandas", "dask"):
     pytest.importorskip(module)
 distributed: Any = pytest.importorskip("distributed")
-layers: Any = import_module("layers")  # of the benchmarks
 
 WAIT = 60
 

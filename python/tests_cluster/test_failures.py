@@ -10,17 +10,17 @@ from dataclasses import replace
 from pathlib import Path
 from typing import Any, Iterator
 
+import layers
 import numpy as np
 import pytest
-from conftest import WAIT, Tools, distributed, layers, wait_for
+from conftest import WAIT, Tools, distributed, wait_for
 
 from rjoin_cluster.layout import save_array
 
 
 @pytest.fixture
 def pair(tools: Tools) -> tuple[Path, Path]:
-    left, right = layers.write_pair(tools.folder, "rectangles", 20_000)
-    return left, right
+    return layers.write_pair(tools.folder, "rectangles", 20_000)
 
 
 @contextmanager

@@ -3,10 +3,10 @@ from __future__ import annotations
 
 import json
 import random
-from pathlib import Path
 
+import layers
 import pytest
-from conftest import Tools, ended, layers, quoted, write_layer
+from conftest import Tools, ended, quoted, write_layer
 
 RELATIONS = ("intersects", "touches", "crosses", "within", "contains", "overlaps", "equals")
 MASKS = ("T********", "FT*******", "****1****", "T*F**F***", "2FFF1FFF2")
@@ -24,14 +24,9 @@ def clusters(size: int, seed: int) -> list[tuple[str, str]]:
     return rows
 
 
-def kind_pair(folder: Path, kind: str, size: int) -> tuple[Path, Path]:
-    left, right = layers.write_pair(folder, kind, size)
-    return left, right
-
-
 @pytest.mark.parametrize("kind", ["points", "rectangles", "mixture", "cadastre", "chip"])
 def test_kinds(tools: Tools, kind: str) -> None:
-    left, right = kind_pair(tools.folder, kind, 1500)
+    left, right = layers.write_pair(tools.folder, kind, 1500)
     tools.check_same(
         left, right, layers.KINDS[kind].relation, "0", "--tiles", "9", "--block", "9999"
     )
@@ -39,7 +34,7 @@ def test_kinds(tools: Tools, kind: str) -> None:
 
 @pytest.mark.parametrize("relation", [*RELATIONS, *MASKS])
 def test_relations_and_masks(tools: Tools, relation: str) -> None:
-    left, right = kind_pair(tools.folder, "mixture", 400)
+    left, right = layers.write_pair(tools.folder, "mixture", 400)
     tools.check_same(left, right, relation, "0", "--tiles", "5", "--block", "5000")
 
 
@@ -180,7 +175,7 @@ def test_workers_of_this_machine(tools: Tools) -> None:
     """Without a scheduler, and by the name of the package."""
     import sys
 
-    left, right = kind_pair(tools.folder, "cadastre", 900)
+    left, right = layers.write_pair(tools.folder, "cadastre", 900)
     words = ["join", left, right, "--relation", "touches", "--out", tools.report(), "--json"]
     more = ["--workers", "2", "--program", tools.program, "--tiles", "6", "--block", "20000"]
     done = ended([sys.executable, "-m", "rjoin_cluster", *words, *more])

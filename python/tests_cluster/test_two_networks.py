@@ -10,8 +10,9 @@ from contextlib import ExitStack, contextmanager
 from pathlib import Path
 from typing import Any, Iterator
 
+import layers
 import pytest
-from conftest import WAIT, Tools, distributed, ended, layers, wait_for
+from conftest import WAIT, Tools, distributed, ended, wait_for
 
 NETWORK = "10.213.77"
 GROUPS = ("a", "b")

@@ -1,7 +1,7 @@
 -- A line that is made in pieces.
-use Rattle.std.proofs.Common.{◌≡◌, ℕ, Bool, List, [], ◌∷◌, ◌++◌, Option, Result, OnOk, OnErr, ap, subst, append_assoc, codes, ◌∙◌}
+use Rattle.std.proofs.Common.{◌≡◌, ℕ, Bool, List, [], ◌∷◌, ◌++◌, Option, Result, OnOk, OnErr, ap, map, subst, append_assoc, codes, ◌∙◌}
 use Rattle.std.specs.Io.KnownBytes.{Appends}
-use Rattle.output_core.specs.Written.{AppendsPrefix}
+use Rattle.report_core.specs.Written.{AppendsPrefix}
 use Rattle.join_core.specs.Lines.{line_of}
 use Rattle.command_core.specs.Endings.{WordsAreDone}
 use Rattle.command_core.specs.Opening.{Files}
@@ -24,6 +24,10 @@ ok_as r old new a b e h = subst (λ (l : List ℕ). OnOk r (Appends old new l)) 
 pub err_as : {T E : Type 0} (r : Result T E) (old new : Option (List ℕ)) (a b : List ℕ) → a ≡ b → OnErr r (AppendsPrefix old new a)
     → OnErr r (AppendsPrefix old new b)
 err_as r old new a b e h = subst (λ (l : List ℕ). OnErr r (AppendsPrefix old new l)) e h
+
+-- what is made of each item of a list that a slice shows
+pub map_of_items : {A B : Type 0} (f : A → B) (slice items : List A) (made : List B) → slice ≡ items → map f items ≡ made → map f slice ≡ made
+map_of_items f slice items made same is = ap (map f) same ∙ is
 
 -- words that are done, by other words that are the same
 pub words_done_as : {O E : Type 0} {known : Option Files} {written : O → Option (List ℕ)} {is_flushed has_failed : O → Bool} {output output' : O}

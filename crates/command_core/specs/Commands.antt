@@ -57,7 +57,8 @@ CommandGives at (Window path wkt scale) answer =
 CommandGives at (Stats path scale) answer =
     AfterOpening input.Layer (at path.now) answer (λ l. LayerGives AreCounts scale (Some l) answer)
 CommandGives at (Bounds path scale) answer =
-    AfterOpening input.Layer (at path.now) answer (λ l. LayerGives ListsCorners scale (Some l) answer)
+    AfterOpening input.Layer (at path.now) answer
+    (λ l. LayerGives ListsCorners scale (Some l) answer)
 
 -- the command that asks for this of a join
 abbrev pub command_of : Product → JoinRequest → Command

@@ -5,7 +5,7 @@ use Rattle.std.specs.Io.KnownBytes.{Appends}
 use Rattle.join_core.specs.declared.fault.RunFault.{RunFault}
 use Rattle.join_core.specs.declared.fault.RunFault.TheVariants.{Write}
 use Rattle.join_core.specs.Lines.{run_line}
-use Rattle.output_core.specs.Written.{AppendsPrefix}
+use Rattle.report_core.specs.Written.{AppendsPrefix}
 use Rattle.words_core.specs.declared.words.Command.{Command}
 use Rattle.words_core.specs.declared.words.WordFault.{WordFault}
 use Rattle.command_core.specs.Commands.{CommandEnds}

@@ -4,11 +4,11 @@ ghost use Rattle.std.specs.Prelude.{◌≡◌, ◌+◌, ◌≤◌, ◌↔◌, �
 ghost use Rattle.std.specs.Prelude.{IsErr, OnOk, OnErr};
 ghost use Rattle.std.specs.Io.KnownBytes.{Appends};
 ghost use Rattle.geom_core.specs.FaultTexts.{mask_text};
-ghost use Rattle.output_core.specs.Written.{AppendsPrefix};
+ghost use Rattle.report_core.specs.Written.{AppendsPrefix};
 ghost use Rattle.command_core.specs.WordFaults.{word_status_of, word_fault_line};
 
 use geom_core::{AllowsDisjoint, MaskFault};
-use join_core::{Line, Sink, WriteFailed, write_text};
+use join_core::{ShortText, Sink, WriteFailed, write_text};
 use words_core::WordFault;
 
 /// The exit status: 0 for help, 1 where memory ran out, and else 2.
@@ -37,7 +37,7 @@ pub fn word_line<S: Sink>(fault: &WordFault, sink: &mut S) -> Result<(), WriteFa
         (word_fault_line fault.now)) }
     ensures failed { IsErr result ↔ IsTrue (S.has_failed sink.new) }
 {
-    let mut line = Line::begun();
+    let mut line = ShortText::begun();
     match fault {
         WordFault::Usage { text, .. } => return write_text(sink, text.as_bytes()),
         WordFault::Relation(fault) => {
@@ -55,7 +55,7 @@ pub fn word_line<S: Sink>(fault: &WordFault, sink: &mut S) -> Result<(), WriteFa
     line.write(sink)
 }
 
-fn push_mask_text(line: &mut Line, fault: &MaskFault)
+fn push_mask_text(line: &mut ShortText, fault: &MaskFault)
     requires { length line.old ≤ 19 }
     ensures text { line.new ≡ line.old ++ mask_text fault.now }
     ensures short { length line.new ≤ 100 }

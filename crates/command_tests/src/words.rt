@@ -119,7 +119,7 @@ const JOINS: [(&str, Option<&str>, (u32, u32, u32), u32); 7] = [
 ];
 
 /// Words that ask for help, and what is among it.
-const HELP: [(&str, &str); 18] = [
+const HELP: [(&str, &str); 22] = [
     ("rjoin|--help", "id,wkt"),
     ("rjoin|help", "Exit status"),
     ("rjoin|--version", "rjoin 0.2.0"),
@@ -131,17 +131,33 @@ const HELP: [(&str, &str); 18] = [
     ),
     (
         "rjoin|join|--help",
+        "  intersects  they share a point\n  touches     they share a point, and their interiors",
+    ),
+    (
+        "rjoin|join|--help",
+        "  crosses     of two dimensions: their interiors share a point",
+    ),
+    (
+        "rjoin|join|--help",
         "  within      the left one lies in the right one",
     ),
     (
         "rjoin|join|--help",
         "  contains    the right one lies in the left one",
     ),
-    ("rjoin|join|--help", "  overlaps "),
+    ("rjoin|join|--help", "  overlaps    of one dimension"),
+    (
+        "rjoin|join|--help",
+        "  equals      they are the same set of points\n  disjoint    they share no point",
+    ),
     ("rjoin|join|--help", "1 to 16 [default: 4]"),
     ("rjoin|help|join", "0 to 6 [default: 0]"),
     ("rjoin|draw|--help", "Writes a picture of two layers"),
     ("rjoin|draw|--help", "SVG 1.1"),
+    (
+        "rjoin|draw|--help",
+        "left features in blue and\nright ones in orange",
+    ),
     ("rjoin|help|draw", "100000 features"),
     ("rjoin|window|--help", "Exit status"),
     ("rjoin|stats|--help", "Exit status"),

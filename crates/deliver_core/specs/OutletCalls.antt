@@ -68,7 +68,7 @@ pub record IsSpentPort (outlet : Outlet) (old new : Port) : Type 0 where
   pub said : has_said_bye new ≡ true
   pub spent : is_spent new ≡ true
 
--- the tap before and after it met this port, of which it has a beginning, and all at its Bye
+-- the tap before and after it met this port, of which it has a prefix, and all at its Bye
 pub record IsAfterMeeting (port : Port) (old new : Tap) : Type 0 where
   pub met : met_by new ≡ record { index = index_of port; sent = sent_by port } ∷ met_by old
   pub begins : IsPrefix (of_port (index_of port) (taken_by new)) (sent_by port)

@@ -8,7 +8,7 @@ use Rattle.deliver_core.specs.PassViews.{sender_of, sent_of, ports_of, taken_of,
 use Rattle.deliver_core.specs.PassViews.{with_met}
 use Rattle.deliver_core.specs.Outlets.{of_port}
 
--- of each port that was met, a beginning of its list was taken
+-- of each port that was met, a prefix of its list was taken
 abbrev pub Begins : PassView → Type 0
 Begins v = All (λ p. IsPrefix (of_port p.index (taken_of v)) p.sent) (met_of v)
 

@@ -37,7 +37,7 @@ abbrev pub last_word : Option Bool → List Content
 last_word None = []
 last_word (Some ok) = bye ok ∷ []
 
--- a beginning of the scripts of these tasks, and then at most one bye
+-- a prefix of the scripts of these tasks, and then at most one bye
 pub record IsPart (size : ℕ) (tasks : List Task) (said : List Content) : Type 0 where
   pub before : List Content
   pub last : Option Bool
@@ -67,7 +67,7 @@ pub record IsComplete (o : Owners) : Type 0 where
 abbrev pub collection : Owners → Collection
 collection o = collected o.tasks (contents o)
 
--- the messages of this task are, in order, a beginning of its script, and so are its marks
+-- the messages of this task are, in order, a prefix of its script, and so are its marks
 abbrev pub BeginsScript : Owners → Task → Type 0
 BeginsScript o task = IsPrefix (of_task task.0 (contents o)) (script task.0 o.size task.1)
     × IsPrefix (marks_of task.0 (collection o).marks)

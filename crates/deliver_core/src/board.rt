@@ -1,4 +1,5 @@
 //! The board, from which workers draw the numbers of tasks.
+
 ghost use Rattle.std.specs.Prelude.{◌≡◌, ℕ, ◌+◌, ◌<◌, ◌≤◌, List, [], ◌∷◌, ◌++◌, true, false, All};
 ghost use Rattle.std.specs.Prelude.{Any, None, IfSome, IfNone, IfOk, map, replicate, length};
 ghost use Rattle.std.specs.Prelude.{flat_map};

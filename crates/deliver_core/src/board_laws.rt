@@ -1,4 +1,5 @@
 //! The laws of the board.
+
 ghost use Rattle.std.specs.Prelude.{◌≡◌, ℕ, ◌+◌, ◌<◌, ◌≤◌, List, true, min, length, All, Any};
 ghost use Rattle.std.specs.Prelude.{count_by, sum_by, flat_map};
 ghost use Rattle.std.specs.List.Sorted.{IsStrictlyIncreasing};

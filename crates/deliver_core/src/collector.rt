@@ -1,5 +1,6 @@
 //! The collector: it accepts each task's batches in order, each once, and then its end, and gives
 //! all pairs in ascending order.
+
 ghost use Rattle.std.specs.Prelude.{◌≡◌, ◌↔◌, ◌<◌, [], true, false, length, All, IfOk, IfErr, IsOk};
 ghost use Rattle.std.specs.Prelude.{OnOk, OnErr, IsOkUnless, IfSome, IfNone, IsPermutation};
 ghost use Rattle.std.specs.Prelude.{IsSorted};
@@ -261,7 +262,7 @@ impl Outcome {
         par_sort_unstable(rt, self.pairs.as_mut_slice());
     }
 
-    /// The accepted pairs, each as often as it was accepted, in ascending order.
+    /// The accepted pairs, with multiplicity, in ascending order.
     pub fn pairs(&self) -> &[(u32, u32)]
         ensures { result.now ≡ self.now.pairs }
     {

@@ -1,4 +1,5 @@
 //! The faults of a collector, and their texts.
+
 use std::alloc::AllocError;
 use std::error::Error;
 use std::fmt;

@@ -1,4 +1,5 @@
 //! The outlet: one bounded queue by which the messages of every port reach the tap.
+
 use crate::limits::MAX_WAITING;
 use crate::message::{Body, Message};
 use crate::pass_view::{InOrder, Make, Meet, PassView, Put, Take};
@@ -100,7 +101,7 @@ impl Outlet {
         ensures some { IfSome result (IsAfterTaking tap.old tap.new) }
         ensures none { IfNone result (IsAfterNothing tap.old tap.new) }
 
-        // Of each port that was met, a beginning was taken.
+        // Of each port that was met, a prefix was taken.
         ensures begins { All (λ p. IsPrefix (of_port p.index (taken_by tap.new)) p.sent)
             (met_by tap.new) }
     {
@@ -124,7 +125,7 @@ impl Outlet {
         port
     }
 
-    // Pushes the message, and tries again while the queue is full.
+    /// Pushes the message, and tries again while the queue is full.
     fn send<R: Wait>(&self, rt: &R, pass: &mut Pass<Message, PassView>, mut message: Message)
         requires queue { IsPassOf self.now.queue pass.old }
         requires sender { sender_of (view pass.old) ≡ Some message.port }
@@ -142,7 +143,7 @@ impl Outlet {
         unreachable!()
     }
 
-    // Pops a message, if one waits.
+    /// Pops a message, if one waits.
     fn receive<R: Wait>(&self, rt: &R, pass: &mut Pass<Message, PassView>) -> Option<Message>
         requires queue { IsPassOf self.now.queue pass.old }
         requires receiver { is_receiver (view pass.old) ≡ true }
@@ -154,7 +155,7 @@ impl Outlet {
         self.queue.pop_as::<Take, R>(rt, pass)
     }
 
-    // Joins the pass of a port to the tap's, and looks at what waits.
+    /// Joins the pass of a port to the tap's, and looks at what waits.
     fn join(&self, pass: &mut Pass<Message, PassView>, port: Pass<Message, PassView>)
         requires queue { IsPassOf self.now.queue pass.old × IsPassOf self.now.queue port }
         requires receiver { is_receiver (view pass.old) ≡ true }

@@ -1,4 +1,5 @@
 //! The law of owners.
+
 ghost use Rattle.std.specs.Prelude.{◌≡◌, ℕ, ◌<◌, [], All, IsPermutation, flat_map};
 ghost use Rattle.deliver_core.specs.Collectors.{RefusesNone};
 ghost use Rattle.deliver_core.specs.Draws.{times};
@@ -9,12 +10,12 @@ ghost use Rattle.deliver_core.specs.Owners.{collection};
 ghost use Rattle.deliver_core.specs.Scripts.{of_task};
 
 /// Law of owners, for any number of ports: where no task has two owners, and each port sends the
-/// scripts of its own tasks in order, or a beginning of them, then the messages of each task come
+/// scripts of its own tasks in order, or a prefix of them, then the messages of each task come
 /// as in its script, whichever way those of the ports interleave, and a new collector refuses none
 /// of them but for lack of memory.
 ///
 /// Where besides each task has an owner and each port has sent all, the history is closed, each
-/// task's messages are its script, and the pairs are those of the rows, each as often.
+/// task's messages are its script, and the pairs are those of the rows, with multiplicity.
 pub fn owners_law()
     ensures begins { (o : Owners) → KeepsOwners o → All (BeginsScript o) (owned_tasks o) }
     ensures unowned { (o : Owners) → KeepsOwners o

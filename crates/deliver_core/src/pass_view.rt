@@ -1,5 +1,6 @@
 //! What the passes of an outlet's queue know, and the rule that ties it to what waits. It exists in
 //! proofs alone.
+
 use crate::message::Message;
 use crossbeam_queue::protocol::{Join, Lesson, Outcome, Protocol, Split};
 use std::collections::LinkedList;

@@ -1,4 +1,5 @@
 //! A port: one sender's end of an outlet.
+
 ghost use Rattle.std.specs.Prelude.{◌≡◌, true, false, Some, is_some};
 ghost use Rattle.std.specs.Option.{ForSome};
 ghost use Rattle.crossbeam_queue.specs.Passes.{view};

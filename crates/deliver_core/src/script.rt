@@ -1,4 +1,5 @@
 //! Scripts: the messages that a worker sends of one task.
+
 ghost use Rattle.std.specs.Prelude.{◌≡◌, ℕ, ◌+◌, ◌<◌, ◌≤◌, length};
 ghost use Rattle.std.specs.List.{flat_map};
 ghost use Rattle.deliver_core.specs.Marks.{script_marks};

@@ -1,4 +1,5 @@
 //! The tap: the collector's end of an outlet.
+
 ghost use Rattle.std.specs.Prelude.{◌≡◌, true};
 ghost use Rattle.crossbeam_queue.specs.Passes.{view};
 ghost use Rattle.deliver_core.specs.PassViews.{is_receiver};

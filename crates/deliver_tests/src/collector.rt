@@ -1,5 +1,6 @@
 //! The collector: whole histories, refusals and their texts, numbers that no worker sends, and
 //! growths that are refused.
+
 ghost use Rattle.std.specs.Prelude.{◌≤◌};
 
 use Said::{Batch, Bye, End};
@@ -80,7 +81,7 @@ fn collects(
 
 const PAIRS: &[(u32, u32)] = &[(3, 1), (2, 9), (3, 1)];
 
-// One batch and the end of task 0, and between them what is to be refused.
+/// One batch and the end of task 0, and between them what is to be refused.
 const ONE_BATCH: &[(Said<'static>, Result<(), Refusal>)] = &[
     (Batch(2, 0, PAIRS), Err(Refusal::Stranger)),
     (Batch(0, 1, PAIRS), Err(Refusal::Gap)),
@@ -118,7 +119,7 @@ fn collector_refusals(rt: HostRuntime) -> Result<(), Fail> {
     Ok(())
 }
 
-// The messages of two tasks, the second of which comes first.
+/// The messages of two tasks, the second of which comes first.
 const TURNED: &[(Said<'static>, Result<(), Refusal>)] = &[
     (Batch(1, 0, &[(5, 0), (4, 7)]), Ok(())),
     (Batch(1, 1, &[(4, 2)]), Ok(())),
@@ -142,11 +143,11 @@ fn collector_order(rt: HostRuntime) -> Result<(), Fail> {
     Ok(())
 }
 
-// More pairs than a sort takes for one thread alone. It is a prime number, so steps of any length
-// below it come to each place once.
+/// More pairs than a sort takes for one thread alone. It is a prime number, so steps of any length
+/// below it come to each place once.
 const MANY: u32 = 10_007;
 
-// A step that takes far pairs one after another.
+/// A step that takes far pairs one after another.
 const STRIDE: u32 = 7_919;
 
 /// Many pairs, each once. By steps of 1 they ascend.
@@ -174,7 +175,7 @@ fn delivers(answer: Result<Outcome, Finish>, pairs: &[(u32, u32)]) -> bool {
     answer.is_ok_and(|outcome| outcome.pairs() == pairs)
 }
 
-// Threads sort as one does.
+/// Threads sort as one does.
 #[test]
 fn many_pairs(rt: HostRuntime) -> Result<(), Fail> {
     let sorted = pairs_by_steps(rt.alloc(), 1)?;
@@ -201,7 +202,7 @@ fn open_task(rt: HostRuntime) -> Result<(), Fail> {
     Ok(())
 }
 
-// Numbers that no worker sends, to a collector of one task.
+/// Numbers that no worker sends, to a collector of one task.
 const STRANGE: &[(Said<'static>, Result<(), Refusal>)] = &[
     (Batch(0, u64::MAX, &[]), Err(Refusal::Gap)),
     (End(0, u64::MAX), Err(Refusal::WrongCount)),
@@ -213,7 +214,7 @@ const STRANGE: &[(Said<'static>, Result<(), Refusal>)] = &[
     (Bye, Ok(())),
 ];
 
-// Messages to a collector of no task.
+/// Messages to a collector of no task.
 const STRANGERS: &[(Said<'static>, Result<(), Refusal>)] = &[
     (Batch(0, 0, &[]), Err(Refusal::Stranger)),
     (Batch(u32::MAX, 1, PAIRS), Err(Refusal::Stranger)),
@@ -262,7 +263,7 @@ fn takes_a_batch(alloc: Global, collector: &mut Collector) -> Result<bool, Alloc
     Ok(is_taken && collector.taken() == [Mark::Batch(0, 0)].as_slice())
 }
 
-// Run with each allocation failing in turn, these two end as with ample memory.
+/// Run with each allocation failing in turn, these two end as with ample memory.
 #[test]
 fn refused_5(rt: HostRuntime) -> Result<(), Fail> {
     assert!(rt; takes_a_batch(rt.alloc(), &mut collector_at_last(rt.alloc(), 2)?)?);
@@ -313,7 +314,7 @@ fn shows(alloc: Global, fault: &impl Display, text: &str) -> Result<bool, AllocE
     Ok(format!(in alloc; "{fault}")?.as_str() == text)
 }
 
-// The text of a refusal, and of a fault that names its task.
+/// The text of a refusal, and of a fault that names its task.
 #[test]
 fn fault_texts(rt: HostRuntime) -> Result<(), Fail> {
     assert!(rt;

@@ -1,4 +1,5 @@
 //! A full outlet: 64 messages wait without a take, and the next one is through once one was taken.
+
 ghost use Rattle.std.specs.Prelude.{◌≡◌, false};
 ghost use Rattle.deliver_core.specs.Byes.{is_bye};
 ghost use Rattle.deliver_core.specs.OutletCalls.{IsFreshPort, IsOpenPort};
@@ -12,18 +13,18 @@ use std::test::Fail;
 use std::thread;
 use std::thread::Threads;
 
-// How many messages may wait in an outlet.
+/// How many messages may wait in an outlet.
 const ROOM: u64 = 64;
 
-// How often it is seen that the message after these waits.
+/// How often it is seen that the message after these waits.
 const LOOKS: u32 = 20_000;
 
-// How far the thread that puts one more has come: 0 at first, and then one of these.
+/// How far the thread that puts one more has come: 0 at first, and then one of these.
 const BEGUN: u64 = 1;
 
 const THROUGH: u64 = 2;
 
-// The end of a task with this many batches, from port 0.
+/// The end of a task with this many batches, from port 0.
 fn end(count: u64) -> Message
     ensures port { result.port ≡ 0 }
     ensures body { is_bye result ≡ false }
@@ -35,7 +36,7 @@ fn end(count: u64) -> Message
     }
 }
 
-// Puts the ends 0 to 63, each of which has room.
+/// Puts the ends 0 to 63, each of which has room.
 fn fill<R: Wait>(rt: &R, outlet: &Outlet, port: &mut Port)
     requires port { IsOpenPort outlet.now port.old }
     requires index { index_of port.old ≡ 0 }
@@ -47,7 +48,7 @@ fn fill<R: Wait>(rt: &R, outlet: &Outlet, port: &mut Port)
     }
 }
 
-// Puts one end more, and notes when it begins and when it is through.
+/// Puts one end more, and notes when it begins and when it is through.
 fn put_one_more<R: Wait>(rt: &R, outlet: &Outlet, mut port: Port, stage: &AtomicU64)
     requires port { IsOpenPort outlet.now port }
     requires index { index_of port ≡ 0 }
@@ -57,7 +58,7 @@ fn put_one_more<R: Wait>(rt: &R, outlet: &Outlet, mut port: Port, stage: &Atomic
     stage.store(THROUGH, Ordering::SeqCst);
 }
 
-// Waits until the other thread has come to this stage.
+/// Waits until the other thread has come to this stage.
 fn await_stage<R: Wait>(rt: &R, stage: &AtomicU64, wanted: u64) {
     for _ in rt.forever() {
         if stage.load(Ordering::SeqCst) >= wanted {
@@ -67,7 +68,7 @@ fn await_stage<R: Wait>(rt: &R, stage: &AtomicU64, wanted: u64) {
     }
 }
 
-// Whether the other thread isn't through, however often one looks.
+/// Whether the other thread isn't through, however often one looks.
 fn is_waiting(stage: &AtomicU64) -> bool {
     for _ in 0..LOOKS {
         if stage.load(Ordering::SeqCst) != BEGUN {
@@ -78,7 +79,7 @@ fn is_waiting(stage: &AtomicU64) -> bool {
     true
 }
 
-// Whether the ends from this one to the last are taken, and then nothing.
+/// Whether the ends from this one to the last are taken, and then nothing.
 fn takes_from<R: Wait>(rt: &R, outlet: &Outlet, tap: &mut Tap, first: u64) -> bool
     requires { IsTapOf outlet.now tap.old }
 {
@@ -90,8 +91,8 @@ fn takes_from<R: Wait>(rt: &R, outlet: &Outlet, tap: &mut Tap, first: u64) -> bo
     outlet.take(rt, tap).is_none()
 }
 
-// Takes all ends, the first of which lets the last one through, and says whether it waited for
-// that and all have come.
+/// Takes all ends, the first of which lets the last one through, and says whether it waited for
+/// that and all have come.
 fn takes_all<R: Wait>(rt: &R, outlet: &Outlet, mut tap: Tap, stage: &AtomicU64) -> bool
     requires { IsTapOf outlet.now tap }
 {
@@ -102,8 +103,8 @@ fn takes_all<R: Wait>(rt: &R, outlet: &Outlet, mut tap: Tap, stage: &AtomicU64) 
     has_waited && first == Some(end(0)) && takes_from(rt, outlet, &mut tap, 1)
 }
 
-// Fills the outlet, then puts in one thread and takes in another, and says whether all is taken
-// as it was put.
+/// Fills the outlet, then puts in one thread and takes in another, and says whether all is taken
+/// as it was put.
 fn runs<R: Threads + Wait + Sync>(rt: &R, outlet: &Outlet, mut port: Port, tap: Tap) -> bool
     requires port { IsFreshPort outlet.now port }
     requires index { index_of port ≡ 0 }

@@ -1,4 +1,5 @@
 //! Rows of the outlet, its growths, and sixteen ports at once.
+
 ghost use Rattle.std.specs.Prelude.{◌≡◌, ◌≤◌, true, false, IfSome, IfOk, All};
 ghost use Rattle.deliver_core.specs.Byes.{is_bye};
 ghost use Rattle.deliver_core.specs.OutletCalls.{IsFreshPort, IsEndedPort};
@@ -13,7 +14,7 @@ use std::thread;
 use std::thread::Threads;
 use std::time::{Clock, Duration};
 
-// The last of these ports.
+/// The last of these ports.
 pub(crate) fn last_port(outlet: &Outlet, ports: &mut Vec<Port>) -> Option<Port>
     requires { All (IsFreshPort outlet.now) ports.old.items }
     ensures rest { All (IsFreshPort outlet.now) ports.new.items }
@@ -22,7 +23,7 @@ pub(crate) fn last_port(outlet: &Outlet, ports: &mut Vec<Port>) -> Option<Port>
     ports.pop()
 }
 
-// Batch `number` of task `port`, with one pair.
+/// Batch `number` of task `port`, with one pair.
 fn batch(alloc: Global, port: u32, number: u64) -> Result<Message, AllocError>
     ensures port { IfOk result (λ m. m.port ≡ port) }
     ensures body { IfOk result (λ m. is_bye m ≡ false) }
@@ -35,7 +36,7 @@ fn batch(alloc: Global, port: u32, number: u64) -> Result<Message, AllocError>
     })
 }
 
-// The end of task `port`, which had these many batches.
+/// The end of task `port`, which had these many batches.
 fn end(port: u32, batches: u64) -> Message
     ensures port { result.port ≡ port }
     ensures body { is_bye result ≡ false }
@@ -47,7 +48,7 @@ fn end(port: u32, batches: u64) -> Message
     }
 }
 
-// Whether this is what is taken next.
+/// Whether this is what is taken next.
 fn takes<R: Wait>(rt: &R, outlet: &Outlet, tap: &mut Tap, wanted: &[Option<Message>]) -> bool
     requires { IsTapOf outlet.now tap.old }
 {
@@ -59,8 +60,8 @@ fn takes<R: Wait>(rt: &R, outlet: &Outlet, tap: &mut Tap, wanted: &[Option<Messa
     true
 }
 
-// Puts these many batches of the port's own task, their end and the port's Bye. Each fourth port
-// is slow.
+/// Puts these many batches of the port's own task, their end and the port's Bye. Each fourth port
+/// is slow.
 fn put_all<R: Wait + Clock>(
     rt: &R,
     alloc: Global,
@@ -87,7 +88,7 @@ fn put_all<R: Wait + Clock>(
     port
 }
 
-// Whether a message is the next of its port, of which so many were taken.
+/// Whether a message is the next of its port, of which so many were taken.
 fn is_next(message: &Message, taken: u64, batches: u64) -> bool {
     match &message.body {
         Body::Batch(number, pairs) => {
@@ -98,7 +99,7 @@ fn is_next(message: &Message, taken: u64, batches: u64) -> bool {
     }
 }
 
-// Takes the messages of each port, in order and whole, until all ports have said bye.
+/// Takes the messages of each port, in order and whole, until all ports have said bye.
 fn take_all<R: Wait + Abort>(
     rt: &R,
     outlet: &Outlet,
@@ -131,7 +132,7 @@ fn take_all<R: Wait + Abort>(
     tap
 }
 
-// Meets a port, twice, and says whether it stays as it is and nothing more is taken.
+/// Meets a port, twice, and says whether it stays as it is and nothing more is taken.
 fn is_met<R: Wait>(rt: &R, outlet: &Outlet, tap: &mut Tap, port: Port) -> bool
     requires tap { IsTapOf outlet.now tap.old }
     requires port { IsEndedPort outlet.now port }
@@ -145,7 +146,7 @@ fn is_met<R: Wait>(rt: &R, outlet: &Outlet, tap: &mut Tap, port: Port) -> bool
     is_first_none && is_same && outlet.take(rt, tap).is_none()
 }
 
-// Whether each port is met, twice.
+/// Whether each port is met, twice.
 fn are_met<R: Wait>(rt: &R, outlet: &Outlet, tap: &mut Tap, mut ports: Vec<Port>) -> bool
     requires tap { IsTapOf outlet.now tap.old }
     requires ports { All (IsEndedPort outlet.now) ports.items }
@@ -158,7 +159,7 @@ fn are_met<R: Wait>(rt: &R, outlet: &Outlet, tap: &mut Tap, mut ports: Vec<Port>
     true
 }
 
-// Puts in a thread for each port.
+/// Puts in a thread for each port.
 fn put_in_threads<R: Threads + Wait + Clock + Sync>(
     rt: &R,
     alloc: Global,
@@ -172,7 +173,7 @@ fn put_in_threads<R: Threads + Wait + Clock + Sync>(
     thread::map_vec(rt, ports, &|port| put_all(rt, alloc, outlet, port, batches))
 }
 
-// Puts in a thread for each port, and takes in another.
+/// Puts in a thread for each port, and takes in another.
 fn exchange<R: Threads + Wait + Clock + Abort + Sync>(
     rt: &R,
     alloc: Global,
@@ -200,7 +201,7 @@ fn exchange<R: Threads + Wait + Clock + Abort + Sync>(
     Ok(())
 }
 
-// The batch, made again where memory was refused once.
+/// The batch, made again where memory was refused once.
 fn batch_at_last(alloc: Global, port: u32, number: u64) -> Result<Message, AllocError>
     ensures port { IfOk result (λ m. m.port ≡ port) }
     ensures body { IfOk result (λ m. is_bye m ≡ false) }
@@ -211,8 +212,8 @@ fn batch_at_last(alloc: Global, port: u32, number: u64) -> Result<Message, Alloc
     }
 }
 
-// Puts a batch and a Bye at one port and an end at another, and says whether the first alone has
-// said bye.
+/// Puts a batch and a Bye at one port and an end at another, and says whether the first alone has
+/// said bye.
 fn put_at_two<R: Wait>(
     rt: &R,
     alloc: Global,
@@ -230,7 +231,7 @@ fn put_at_two<R: Wait>(
     Ok(zero.said_bye() && !one.said_bye())
 }
 
-// Whether these are taken, in the order in which they were put, and then nothing.
+/// Whether these are taken, in the order in which they were put, and then nothing.
 fn takes_of_two<R: Wait>(
     rt: &R,
     alloc: Global,
@@ -253,7 +254,7 @@ fn takes_of_two<R: Wait>(
     ))
 }
 
-// Whether the messages of two ports, 0 and 1, are taken as they were put; none without memory.
+/// Whether the messages of two ports, 0 and 1, are taken as they were put; none without memory.
 fn passes_on<R: Wait>(
     rt: &R,
     alloc: Global,
@@ -279,7 +280,7 @@ fn board_and_outlet(rt: HostRuntime) -> Result<(), Fail> {
     Ok(())
 }
 
-// An outlet, made again where memory was refused once.
+/// An outlet, made again where memory was refused once.
 fn outlet_at_last(alloc: Global, ports: u32) -> Result<(Outlet, Vec<Port>, Tap), AllocError>
     requires ports { (1 ≤ ports) × (ports ≤ MAX_WORKERS) }
     ensures fresh { IfOk result (λ r. All (IsFreshPort r.0) r.1.items) }
@@ -291,7 +292,7 @@ fn outlet_at_last(alloc: Global, ports: u32) -> Result<(Outlet, Vec<Port>, Tap),
     }
 }
 
-// Run with each allocation failing in turn, it ends as with ample memory.
+/// Run with each allocation failing in turn, it ends as with ample memory.
 #[test]
 fn refused_6(rt: HostRuntime) -> Result<(), Fail> {
     let (outlet, ports, tap) = outlet_at_last(rt.alloc(), 2)?;

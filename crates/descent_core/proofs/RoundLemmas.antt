@@ -14,9 +14,8 @@ use Rattle.rtree_core.specs.declared.node.Node.{Node}
 use Rattle.descent_core.specs.Lists.{IsKept, none, kept, left_out}
 use Rattle.descent_core.specs.Plans.{most_tasks}
 use Rattle.descent_core.specs.Plans.{CoversMeet}
-use Rattle.descent_core.specs.Steps.{nodes_of, AreTaken, AreTooMany}
+use Rattle.descent_core.specs.Steps.{nodes, nodes_of, AreTaken, AreTooMany}
 use Rattle.descent_core.proofs.KeptLemmas.{kept_append, kept_some}
-use Rattle.descent_core.proofs.TaskLemmas.{nodes}
 
 abbrev SpansMeet : Span → Span → Type 0
 SpansMeet a b = (u : ℤ) × IsWithin a u × IsWithin b u

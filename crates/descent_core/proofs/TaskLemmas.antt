@@ -3,11 +3,7 @@ use Rattle.std.proofs.Common.{◌≡◌, ℕ, ◌<◌, List, length, get_or, sym
 use Rattle.std.specs.Prelude.{All}
 use Rattle.std.proofs.lemmas.List.{length-map, get_or-map}
 use Rattle.rtree_core.specs.declared.node.Node.{Node}
-use Rattle.descent_core.specs.Steps.{nodes_of}
-
--- the nodes of one pair
-abbrev pub nodes : Bor Node × Bor Node → Node × Node
-nodes t = (t.0.now, t.1.now)
+use Rattle.descent_core.specs.Steps.{nodes, nodes_of}
 
 -- what holds of each pair of nodes holds of that of a pair that was read of the list
 pub task_at : (P : Node × Node → Type 0) (items : List (Bor Node × Bor Node)) (k : ℕ) (t : Bor Node × Bor Node) → All P (nodes_of items) →

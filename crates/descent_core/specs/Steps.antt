@@ -20,9 +20,13 @@ pub record IsOneLower (n : Node) (below : List Node) : Type 0 where
   pub levels : All (λ m. level_of m ≡ level_of n - 1) below
   pub covers : All (λ m. IsIn (node_cover m) (node_cover n)) below
 
--- the pairs of nodes that pairs of references lead to
+-- the nodes that a pair of references leads to
+abbrev pub nodes : Bor Node × Bor Node → Node × Node
+nodes t = (t.0.now, t.1.now)
+
+-- those that pairs of references lead to
 abbrev pub nodes_of : List (Bor Node × Bor Node) → List (Node × Node)
-nodes_of = map (λ t. (t.0.now, t.1.now))
+nodes_of = map nodes
 
 -- the tasks of a plan, as far as its methods rest on them
 pub record AreTasks (tasks : List (Node × Node)) : Type 0 where

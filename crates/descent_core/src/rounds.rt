@@ -5,7 +5,7 @@ ghost use Rattle.std.specs.List.{flat_map};
 ghost use Rattle.descent_core.specs.Lists.{pairs};
 ghost use Rattle.descent_core.specs.Depths.{lower_pairs};
 ghost use Rattle.descent_core.specs.Plans.{most_tasks, AreDeepest};
-ghost use Rattle.descent_core.specs.Steps.{nodes_of, AreMeeting, IsNextRound, TakesIn};
+ghost use Rattle.descent_core.specs.Steps.{nodes, nodes_of, AreMeeting, IsNextRound, TakesIn};
 
 use crate::lower::lower;
 use rtree_core::Node;
@@ -44,12 +44,22 @@ fn next_round<'a>(alloc: Global, tasks: &[Task<'a>]) -> Result<Option<Vec<Task<'
         IfOk result (IsNextRound offered) }
 {
     let mut next = Vec::with_capacity(alloc, tasks.len())?;
-    'tasks: for (left, right) in tasks.iter().copied() {
-        if !push_lower(lower(left), lower(right), &mut next)? {
+    for task in tasks {
+        if !push_below(task, &mut next)? {
             return Ok(None);
         }
     }
     Ok(Some(next))
+}
+
+/// Adds the tasks one level below this one, and says whether there was room.
+fn push_below<'a>(task: &Task<'a>, next: &mut Vec<Task<'a>>) -> Result<bool, AllocError>
+    requires meeting { AreMeeting (nodes task.now) }
+    requires few { length next.old.items ≤ most_tasks }
+    ensures { let offered = lower_pairs (nodes task.now) in
+        IfOk result (TakesIn offered (nodes_of next.old.items) (nodes_of next.new.items)) }
+{
+    push_lower(lower(task.0), lower(task.1), next)
 }
 
 /// Adds the pairs of a left and a right node whose covers meet, and says whether there was room.

@@ -4,8 +4,8 @@ use crate::rows::are_diagonal;
 use descent_core::{Plan, row};
 use geom_core::{JoinRelation, Relation};
 use rtree_core::RTree;
-use samples::on_packed;
 use std::alloc::{AllocError, Global};
+use test_data::on_packed;
 
 /// The plan of two trees, made again where memory was refused.
 fn plan_at_last<'a>(

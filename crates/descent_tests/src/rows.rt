@@ -3,8 +3,8 @@
 use descent_core::{Plan, row};
 use geom_core::{JoinRelation, Relation};
 use rtree_core::RTree;
-use samples::on_packed;
 use std::alloc::Global;
+use test_data::on_packed;
 
 /// Whether two packed trees of points are seen so.
 fn sees<F: FnOnce(&RTree, &RTree) -> bool>(

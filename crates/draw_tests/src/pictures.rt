@@ -94,7 +94,7 @@ fn draws(
     picture_of(rt, left, right, pairs).is_some_and(|text| says(text.as_str(), expected))
 }
 
-// With no features the frame is about the origin, one unit to each side.
+/// With no features the frame is about the origin, one unit to each side.
 #[test]
 fn nothing_drawn(rt: HostRuntime) {
     let expected = Expected {
@@ -107,7 +107,7 @@ fn nothing_drawn(rt: HostRuntime) {
     assert!(rt; draws(&rt, &[], &[], &[], &expected));
 }
 
-// One point stands in the middle of a frame of two units.
+/// One point stands in the middle of a frame of two units.
 #[test]
 fn point_drawn(rt: HostRuntime) {
     let expected = Expected {
@@ -121,9 +121,9 @@ fn point_drawn(rt: HostRuntime) {
     assert!(rt; draws(&rt, &[], &[("p", (7, -3, 7, -3))], &[], &expected));
 }
 
-// The cover goes from (0, -10) to (40, 20), so the margin is 40 / 20 + 1 = 3 and the corner of the
-// frame (-3, 23). It is 46 wide and 36 high, so 1,000 and 783 as drawn. The right layer's second
-// feature is in two pairs, and its first one in none.
+/// The cover goes from (0, -10) to (40, 20), so the margin is 40 / 20 + 1 = 3 and the corner of the
+/// frame (-3, 23). It is 46 wide and 36 high, so 1,000 and 783 as drawn. The right layer's second
+/// feature is in two pairs, and its first one in none.
 #[test]
 fn matches_drawn(rt: HostRuntime) {
     let left = [
@@ -147,7 +147,7 @@ fn matches_drawn(rt: HostRuntime) {
     assert!(rt; draws(&rt, &left, &right, &[(1, 1), (2, 1)], &expected));
 }
 
-// The whole plane: both lengths are 2 * 10^12, and the margin a twentieth of that and one.
+/// The whole plane: both lengths are 2 * 10^12, and the margin a twentieth of that and one.
 #[test]
 fn plane_drawn(rt: HostRuntime) {
     const FAR: i64 = 1_000_000_000_000;
@@ -167,8 +167,8 @@ fn plane_drawn(rt: HostRuntime) {
     assert!(rt; draws(&rt, &left, &right, &[], &expected));
 }
 
-// A segment of 100 units upwards: the margin is 6, and the frame 12 wide and 112 high. It is drawn
-// twice as high as it is wide, which is the most.
+/// A segment of 100 units upwards: the margin is 6, and the frame 12 wide and 112 high. It is drawn
+/// twice as high as it is wide, which is the most.
 #[test]
 fn tall_drawn(rt: HostRuntime) {
     let expected = Expected {
@@ -182,7 +182,7 @@ fn tall_drawn(rt: HostRuntime) {
     assert!(rt; draws(&rt, &[("mast", (0, 0, 0, 100))], &[], &[], &expected));
 }
 
-// XML 1.0, sections 2.2 and 2.4: markup by reference, and U+FFFD for what is forbidden.
+/// XML 1.0, sections 2.2 and 2.4: markup by reference, and U+FFFD for what is forbidden.
 #[test]
 fn ids_escaped(rt: HostRuntime) {
     let right = [

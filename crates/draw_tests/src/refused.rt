@@ -21,8 +21,8 @@ fn picture_at_last(rt: &HostRuntime) -> Option<String> {
     None
 }
 
-// Run with each allocation failing in turn, it ends as with ample memory: where it is refused, the
-// same call gives the same text afterwards.
+/// Run with each allocation failing in turn, it ends as with ample memory: where it is refused, the
+/// same call gives the same text afterwards.
 #[test]
 fn refused_picture(rt: HostRuntime) {
     assert!(rt; picture_at_last(&rt).is_some_and(|text| text.as_str().ends_with(END)));

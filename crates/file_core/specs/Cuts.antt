@@ -22,4 +22,5 @@ EndsWithFeed text = (front : List ℕ) × (text ≡ front ++ line_feed ∷ [])
 
 -- the last field of the record doesn't end with a line feed
 abbrev pub IsClosed : List (List ℕ) → Type 0
-IsClosed fields = (front : List (List ℕ)) (last : List ℕ) → fields ≢ front ++ (last ++ line_feed ∷ []) ∷ []
+IsClosed fields = (front : List (List ℕ)) (last : List ℕ)
+    → fields ≢ front ++ (last ++ line_feed ∷ []) ∷ []

@@ -1,4 +1,5 @@
 //! Batches of rows, which are read ahead of their insertion.
+
 ghost use Rattle.std.specs.Prelude.{◌≡◌, ◌<◌, [], false, All, IfSome, Ok};
 ghost use Rattle.file_core.specs.Batches.{HasId, AnswersRows, IsBatch, all_rows};
 ghost use Rattle.file_core.specs.Cuts.{IsClosed};
@@ -18,14 +19,14 @@ use std::thread;
 use std::thread::Threads;
 use wkt_core::Scale;
 
-// How many rows one after another a batch has where more may follow.
+/// How many rows one after another a batch has where more may follow.
 const BATCH_ROWS: usize = 16_384;
 
-// About how many bytes a part has.
+/// About how many bytes a part has.
 const PART_BYTES: usize = 524_288;
 
-// How few bytes are worth threads.
-const LEAST_ROUND: usize = 65_536;
+/// How many bytes are worth more than one thread.
+pub const MIN_THREADED_BYTES: usize = 65_536;
 
 /// Consecutive rows of a file, part by part.
 #[derive(Drop)]
@@ -35,7 +36,7 @@ pub(crate) struct Batch {
     pub(crate) more: Result<bool, ReadFault>,
 }
 
-// Reads the next rows, one after another.
+/// Reads the next rows, one after another.
 fn read_batch<'a>(alloc: Global, unread: Unread<'a>, scale: Scale) -> (Unread<'a>, Batch)
     requires { IsUnread unread }
     ensures { IsBatch scale unread.entry (all_rows result.1.rows.items) result.1.more result.0 }
@@ -79,8 +80,8 @@ pub(crate) fn fill(
     Ok(true)
 }
 
-// Reads the next rows, as many parts of their text as `parts` reads, and otherwise one after
-// another.
+/// Reads the next rows, as many parts of their text as `parts` reads, and otherwise one after
+/// another.
 fn read_ahead<'a, P: ReadParts>(
     alloc: Global,
     unread: Unread<'a>,
@@ -96,7 +97,7 @@ fn read_ahead<'a, P: ReadParts>(
     }
 }
 
-// The next rows, read as parts, where they are those of a text that isn't short.
+/// The next rows, read as parts, where they are those of a text that isn't short.
 fn read_parts<'a, P: ReadParts>(
     alloc: Global,
     unread: &Unread<'a>,
@@ -111,7 +112,7 @@ fn read_parts<'a, P: ReadParts>(
         return None;
     };
     let (round, rest) = cut(text, parts.count().saturating_mul(PART_BYTES));
-    if round.len() < LEAST_ROUND || !is_plain(rest) {
+    if round.len() < MIN_THREADED_BYTES || !is_plain(rest) {
         return None;
     }
     let Parts { rows, count: read } = parts.read(alloc, scale, round)?;
@@ -204,7 +205,7 @@ impl<R: Threads + Sync, P: ReadParts + Sync> Order for SideBySide<'_, R, P> {
     }
 }
 
-// The layer with the rows of these parts.
+/// The layer with the rows of these parts.
 fn with_parts(mut loading: Loading, read: Vec<Vec<ReadRow>>) -> Result<Loading, ReadFault>
     requires { All HasId (all_rows read.items) }
     ensures { AnswersRows loading (all_rows read.items) result }

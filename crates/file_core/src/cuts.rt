@@ -1,11 +1,12 @@
 //! Where a text of records is cut into parts, and whether a part is as one that ends a record.
+
 ghost use Rattle.std.specs.Prelude.{◌≡◌, ◌≤◌, ◌++◌, ◌↔◌, false, length, IsTrue, Bool};
 ghost use Rattle.csv.specs.Records.{fields_of};
 ghost use Rattle.file_core.specs.Cuts.{EndsWithFeed, IsClosed, IsPlain};
 
 use csv::ByteRecord;
 
-// How far before a place a cut is looked for.
+/// How far before a place a cut is looked for.
 const WINDOW: usize = 4096;
 
 /// The text in two parts, the first of which has about so many bytes.
@@ -21,7 +22,7 @@ pub(crate) fn cut(text: &[u8], near: usize) -> (&[u8], &[u8])
     text.split_at(place.min(text.len()))
 }
 
-// Behind the last line feed that follows a quote, or else behind the last one, or else 0.
+/// Behind the last line feed that follows a quote, or else behind the last one, or else 0.
 fn last_end(window: &[u8]) -> usize {
     let mut last = 0;
     let mut quoted = 0;

@@ -1,4 +1,5 @@
 //! CSV files of edits.
+
 ghost use Rattle.std.specs.Prelude.{◌≡◌, ◌≢◌, ◌↔◌, ◌≤◌, length, false, Ok, Err, IsErrOf, IsTrue};
 ghost use Rattle.std.specs.Prelude.{IfOk, IfErr, IfSome};
 ghost use Rattle.csv.specs.Records.{fields_of};
@@ -66,7 +67,7 @@ pub fn read_edits<S: Source>(
     edits_of_bytes(alloc, bytes.as_slice(), scale)
 }
 
-// The edit of the row with this number.
+/// The edit of the row with this number.
 fn edit_of_row(
     alloc: Global,
     number: u32,

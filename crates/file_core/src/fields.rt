@@ -1,4 +1,5 @@
 //! The fields of a record, and what they say.
+
 ghost use Rattle.std.specs.Prelude.{◌≡◌, ◌≢◌, [], ◌∷◌, codes, length, IsTrue, ◌↔◌, IfSome, IfNone};
 ghost use Rattle.csv.specs.Records.{fields_of};
 ghost use Rattle.file_core.specs.Fields.{IsId, side_named};

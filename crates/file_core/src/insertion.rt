@@ -1,4 +1,5 @@
 //! Rows of a layer's file are inserted into the layer that is loaded.
+
 ghost use Rattle.std.specs.Prelude.{◌≡◌, ◌≢◌, ◌+◌, Ok, Err, All, OnOk, IfErr};
 ghost use Rattle.file_core.specs.Batches.{HasId, all_rows, with_rows};
 ghost use Rattle.file_core.specs.LayerFiles.{with_row};

@@ -1,4 +1,5 @@
 //! CSV files of layers.
+
 ghost use Rattle.std.specs.Prelude.{◌≡◌, ◌≢◌, ◌≤◌, ◌↔◌, false, Err, IsErrOf, IsTrue, IfSome};
 ghost use Rattle.file_core.specs.LayerFiles.{IsLayerFile, list_read};
 ghost use Rattle.layer_core.specs.Limits.{most_features};
@@ -15,7 +16,7 @@ use std::hash::RandomState;
 use std::thread::Threads;
 use wkt_core::Scale;
 
-// From how many bytes at its start the number of a file's rows is guessed.
+/// From how many bytes at its start the number of a file's rows is guessed.
 const SAMPLE: usize = 65_536;
 
 /// The layer that a CSV file stands for. `state` hashes the ids.
@@ -72,7 +73,7 @@ pub fn read_layer<S: Source>(
     Ok(loading.finish(alloc)?)
 }
 
-// The features of a file, whose tree isn't packed yet, by one thread or by several.
+/// The features of a file, whose tree isn't packed yet, by one thread or by several.
 fn load_by<R: Threads + Sync>(
     alloc: Global,
     state: RandomState,
@@ -97,7 +98,7 @@ fn load_by<R: Threads + Sync>(
     }
 }
 
-// The features of a file, batch by batch of its rows.
+/// The features of a file, batch by batch of its rows.
 fn load<O: Order>(
     alloc: Global,
     state: RandomState,
@@ -121,8 +122,8 @@ fn load<O: Order>(
     Ok(loading)
 }
 
-// How many rows a file is likely to have that a layer can take, judged by its first lines. A wrong
-// guess costs time or memory alone.
+/// How many rows a file is likely to have that a layer can take, judged by its first lines. A wrong
+/// guess costs time or memory alone.
 fn likely_rows(bytes: &[u8]) -> usize
     ensures { result ≤ most_features }
 {

@@ -1,4 +1,5 @@
 //! What a row of a layer's file says by itself.
+
 ghost use Rattle.std.specs.Prelude.{◌≡◌, ◌≢◌, Ok, Err, IfOk, IfErr};
 ghost use Rattle.csv.specs.Records.{fields_of};
 ghost use Rattle.file_core.specs.LayerRows.{RowSays, content_of};

@@ -14,6 +14,7 @@ mod rows;
 mod source;
 mod unread;
 
+pub use batch::MIN_THREADED_BYTES;
 pub use edit_file::{edits_of_bytes, read_edits};
 pub use layer_file::{layer_of_bytes, read_layer};
 pub use read_fault::ReadFault;

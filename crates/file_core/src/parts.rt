@@ -1,4 +1,5 @@
 //! Parts of a text of records that are read side by side.
+
 ghost use Rattle.std.specs.Prelude.{◌≡◌, ◌++◌, IfSome};
 ghost use Rattle.file_core.specs.Parts.{IsBoth, IsOnePart, IsParts};
 
@@ -12,8 +13,8 @@ use std::thread;
 use std::thread::Threads;
 use wkt_core::Scale;
 
-// How few bytes a row has on average in a part that is read.
-const LEAST_ROW: usize = 8;
+/// How few bytes a row has on average in a part that is read.
+const MIN_ROW_BYTES: usize = 8;
 
 /// The rows of a text, part by part.
 #[derive(Drop)]
@@ -84,7 +85,7 @@ impl<R: Threads + Sync, P: ReadParts> ReadParts for Beside<'_, R, P> {
     }
 }
 
-// The rows of a text that begins and ends between two records, where this is seen.
+/// The rows of a text that begins and ends between two records, where this is seen.
 fn read_whole(alloc: Global, scale: Scale, text: &[u8]) -> Option<Parts>
     ensures { IfSome result (IsParts scale text.now) }
 {
@@ -93,7 +94,7 @@ fn read_whole(alloc: Global, scale: Scale, text: &[u8]) -> Option<Parts>
     }
     let mut reader = Rows::behind(alloc, text, 0);
     let mut read = Vec::new(alloc);
-    let most = text.len() / LEAST_ROW + 1;
+    let most = text.len() / MIN_ROW_BYTES + 1;
     let more = fill(alloc, &mut read, &mut reader, scale, most);
     let Ok(false) = more else {
         return None;
@@ -104,7 +105,7 @@ fn read_whole(alloc: Global, scale: Scale, text: &[u8]) -> Option<Parts>
     one_part(alloc, read)
 }
 
-// These rows as one part.
+/// These rows as one part.
 fn one_part(alloc: Global, read: Vec<ReadRow>) -> Option<Parts>
     ensures { IfSome result (λ parts. IsOnePart read.items parts) }
 {

@@ -30,7 +30,7 @@ impl ReadFault {
     ghost use Rattle.file_core.specs.FaultTexts.{cause_text, row_of};
     ghost use Rattle.file_core.specs.LayerFiles.{fault_of_row};
 
-    /// The layer's refusal of a row. Want of memory is no fault of the row.
+    /// The layer's refusal of a row. Being out of memory is no fault of the row.
     pub(crate) fn of_row(number: u32, fault: LayerFault) -> ReadFault
         ensures fault { result ≡ fault_of_row number fault }
         ensures no_io { result ≢ ReadFault.Io }

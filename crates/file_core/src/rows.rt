@@ -1,4 +1,5 @@
 //! The rows of a CSV file, one after another.
+
 ghost use Rattle.std.specs.Prelude.{◌≡◌, ◌≢◌, ◌↔◌, [], Err, map, IsTrue, IfOk, IfErr, MatchOption};
 ghost use Rattle.std.specs.Bool.{MatchBool};
 ghost use Rattle.csv.specs.Reading.{error_kind};
@@ -17,11 +18,11 @@ use std::alloc::{AllocError, Global};
 #[derive(Drop)]
 pub(crate) struct Rows<'a> {
     reader: Reader<&'a [u8]>,
-    // The row that was read last.
+    /// The row that was read last.
     row: ByteRecord,
-    // How many rows were read.
+    /// How many rows were read.
     count: u32,
-    // Whether a record was read whose last field ends with a line feed.
+    /// Whether a record was read whose last field ends with a line feed.
     unended: bool,
 }
 
@@ -86,8 +87,8 @@ impl<'a> Rows<'a> {
     /// Reads the next row, and answers its number. The first is 1.
     pub(crate) fn next(&mut self) -> Result<Option<u32>, AllocError>
         requires { IsReading self.old }
-        ensures { IfOk result
-            (λ row. MatchOption row (IsEnded self.old self.new) (λ n. ReadsRow self.old n self.new)) }
+        ensures { IfOk result (λ row. MatchOption row
+            (IsEnded self.old self.new) (λ n. ReadsRow self.old n self.new)) }
     {
         if !next_record(&mut self.reader, &mut self.row)? {
             return Ok(None);
@@ -105,7 +106,7 @@ impl<'a> Rows<'a> {
     }
 }
 
-// A reader of all records of the text. They may differ in length, and the first is like any other.
+/// A reader of all records of the text. They may differ in length, and the first is like any other.
 fn records(alloc: Global, text: &[u8]) -> Reader<&[u8]>
     ensures reading { IsBetweenRecords result }
     ensures records { records_left result ≡ records_of text.now }
@@ -116,7 +117,7 @@ fn records(alloc: Global, text: &[u8]) -> Reader<&[u8]>
         .from_reader(alloc, text)
 }
 
-// Reads the next record and answers true, or false where there is none left.
+/// Reads the next record and answers true, or false where there is none left.
 fn next_record(reader: &mut Reader<&[u8]>, row: &mut ByteRecord) -> Result<bool, AllocError>
     requires { IsBetweenRecords reader.old }
     ensures { IfOk result (λ found. MatchBool found
@@ -128,14 +129,14 @@ fn next_record(reader: &mut Reader<&[u8]>, row: &mut ByteRecord) -> Result<bool,
     }
 }
 
-// Bytes in memory are always read, so an error that is no record's is lack of memory.
+/// Bytes in memory are always read, so an error that is no record's is lack of memory.
 fn want_of_memory(error: Error) -> AllocError
     requires { IsRefusedOrUnread (error_kind error) }
 {
     AllocError
 }
 
-// Whether a record names these columns, in any ASCII case.
+/// Whether a record names these columns, in any ASCII case.
 fn is_header(row: &ByteRecord, columns: &[&str]) -> bool
     ensures { IsTrue result ↔ IsHeader (map (λ c. c.now) columns.now) (fields_of row.now) }
 {

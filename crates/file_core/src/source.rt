@@ -1,4 +1,5 @@
 //! Where bytes are read from, and reading all of them.
+
 ghost use Rattle.std.specs.Prelude.{◌≡◌, ◌≤◌, ◌<◌, ◌↔◌, ℕ, List, Option, None, Bool, true, false};
 ghost use Rattle.std.specs.Prelude.{length, is_err, IfOk, IfErr, IfSome, IsErrOf, IsTrue};
 ghost use Rattle.std.specs.Io.KnownBytes.{ReadConsumes};
@@ -12,7 +13,7 @@ use std::io::{ErrorKind, Read};
 /// How many bytes a file may have.
 pub const MAX_FILE_BYTES: usize = 134_217_728;
 
-// How many bytes one read may give.
+/// How many bytes one read may give.
 const CHUNK: usize = 65_536;
 
 /// A read that failed.
@@ -21,10 +22,10 @@ pub struct Failed;
 
 /// What bytes are read from, and what remembers that a read failed.
 pub trait Source {
-    // The bytes that reads will give from here on, where they are known.
+    /// The bytes that reads will give from here on, where they are known.
     ghost remaining: { Self → Option (List ℕ) } = { λ _. None };
 
-    // Whether a read has failed.
+    /// Whether a read has failed.
     ghost has_failed: { Self → Bool };
 
     /// Reads some bytes into the buffer, and answers how many: none only at the end, or where the
@@ -60,7 +61,7 @@ impl<R: Read> FromRead<R> {
         FromRead::with_likely_len(reader, 0)
     }
 
-    /// The same, of which is thought that it gives so many bytes.
+    /// A source that is likely to give so many bytes, for which room is made at once.
     pub fn with_likely_len(reader: R, likely_len: usize) -> FromRead<R>
         ensures remaining { ⟦<FromRead<R> as Source>⟧.remaining result ≡ R.remaining reader }
         ensures fresh { ⟦<FromRead<R> as Source>⟧.has_failed result ≡ false }

@@ -1,4 +1,5 @@
 //! What of a layer's file isn't read yet.
+
 ghost use Rattle.std.specs.Prelude.{◌≡◌, ◌≢◌, Err, IfOk, IfErr, IfSome, IsTrue};
 ghost use Rattle.file_core.specs.LayerFiles.{layer_columns};
 ghost use Rattle.file_core.specs.Rows.{AreRows, IsReading, rows_left};
@@ -14,7 +15,7 @@ use std::alloc::Global;
 /// The columns of a layer's file.
 pub(crate) const COLUMNS: [&str; 2] = ["id", "wkt"];
 
-// How many bytes a byte order mark has.
+/// How many bytes a byte order mark has.
 const MARK: usize = 3;
 
 /// The rows that are left of a file.
@@ -54,7 +55,7 @@ impl<'a> Unread<'a> {
     }
 }
 
-// What is behind the header, where that is the first line by itself.
+/// What is behind the header, where that is the first line by itself.
 fn behind_header(alloc: Global, bytes: &[u8]) -> Option<&[u8]>
     ensures { IfSome result (λ text. IsUnreadFile bytes.now (Unread.Text text 0)) }
 {
@@ -67,7 +68,7 @@ fn behind_header(alloc: Global, bytes: &[u8]) -> Option<&[u8]>
     }
 }
 
-// Whether a line is a header and nothing else.
+/// Whether a line is a header and nothing else.
 fn is_header_line(alloc: Global, line: &[u8]) -> bool
     ensures { IsTrue result → IsHeaderLine layer_columns line.now }
 {

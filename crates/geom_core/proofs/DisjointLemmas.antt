@@ -1,5 +1,5 @@
 -- The matrix of two shapes without a common cell follows from their dimensions, and each two dimensions have such shapes.
-use Rattle.std.proofs.Common.{◌≡◌, ◌↔◌, ℕ, ◌+◌, ◌<◌, ◌≤◌, zero, suc, refl, sym, subst, ◌∙◌, arith, inl, inr}
+use Rattle.std.proofs.Common.{◌≡◌, ◌↔◌, IsTrue, ℕ, ◌+◌, ◌<◌, ◌≤◌, zero, suc, refl, sym, subst, ◌∙◌, arith, inl, inr}
 use Rattle.std.specs.Prelude.{ℤ, pos, ◌+ℤ◌, ◌≤ℤ◌, ◌<ℤ◌, List, [], ◌∷◌, length, Bool, true, false, MatchBool}
 use Rattle.std.specs.List.{HoldsAt, AllWithin}
 use Rattle.std.proofs.lemmas.Int.{ints, by_lt_z}
@@ -232,3 +232,22 @@ pub one_from_cases : (found : Bool) (ms : List Mask) (m : Matrix) →
     (found ≡ true) ↔ FitsOne ms m
 one_from_cases true ms m (k, h, w) = (λ _. fits_at ms m k h w, λ _. refl)
 one_from_cases false ms m h = (λ e. absurd cc, λ f. absurd (none_fits ms m h f))
+
+-- no mask fits where the first of two disjoint shapes has this dimension
+pub record NoneFits (r : Relation) (da : ℕ) : Type 0 where
+  pub none : (db : ℕ) → db < 3 → FitsDisjoint r da db → ⊥
+
+pub none_allowed : (r : Relation) (da : ℕ) (allows : Bool) → allows ≡ false → (IsTrue allows ↔ ((db : ℕ) × (db < 3) × FitsDisjoint r da db)) → NoneFits r da
+none_allowed r da allows isnt allows_is = record { none = λ db h fits. absurd (cc (allows_is.1 (db, h, fits))) }
+
+-- no mask fits where the two have these dimensions
+pub record NotFits (r : Relation) (da db : ℕ) : Type 0 where
+  pub not : FitsDisjoint r da db → ⊥
+
+module _ (r : Relation) (da db : ℕ) (slice items : List Mask) (m : Matrix) (fits : Bool) (test : IsTrue fits ↔ FitsOne slice m) (same : slice ≡ items)
+    (are : items ≡ masks r da db) (is : m ≡ disjoint_matrix da db) where
+  exactly : IsTrue fits ↔ FitsDisjoint r da db
+  exactly = rw (same, are, is) at test
+
+  pub not_fits : fits ≡ false → NotFits r da db
+  not_fits isnt = record { not = λ f. absurd (cc (exactly.1 f)) }

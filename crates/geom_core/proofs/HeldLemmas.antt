@@ -1,8 +1,9 @@
 -- The ends of intervals as 64 bits hold them: they are read back, and comparisons of bits are comparisons of ends.
-use Rattle.std.proofs.Common.{◌≡◌, true, of_z, to_z, w64, sym, ◌∙◌, ap, arith}
+use Rattle.std.proofs.Common.{◌≡◌, true, of_z, to_z, w64, sym, ◌∙◌, ap, arith, FitsSigned}
 use Rattle.std.specs.Prelude.{ℤ, ◌≤ℤ◌, ◌<ℤ◌, int_lt, int_le}
-use Rattle.std.proofs.lemmas.Int.{ints}
+use Rattle.std.proofs.lemmas.Int.{ints, to_z-of_z}
 use Rattle.geom_core.specs.declared.span.Span.{Span}
+use Rattle.geom_core.specs.Shapes.{AreEnds, AreCorners}
 
 pub held_lo : (s : Span) → to_z w64 (of_z w64 s.lo) ≡ s.lo
 held_lo s = omega (arith, ints)
@@ -62,3 +63,18 @@ hi_no_later a b h = rw (held_hi a, held_hi b) (le_true a.hi b.hi h)
 pub held_by : (f : ℤ → ℤ → ℤ) (r x y : ℤ) → to_z w64 (of_z w64 r) ≡ r → to_z w64 (of_z w64 x) ≡ x → to_z w64 (of_z w64 y) ≡ y
     → r ≡ f (to_z w64 (of_z w64 x)) (to_z w64 (of_z w64 y)) → to_z w64 (of_z w64 r) ≡ f x y
 held_by f r x y h k l e = h ∙ e ∙ ap (λ z. f z (to_z w64 (of_z w64 y))) k ∙ ap (f x) l
+
+-- corners are the ends along both axes, as they are held
+pub held_corners : (a b c d : ℤ) → FitsSigned w64 a → FitsSigned w64 b → FitsSigned w64 c → FitsSigned w64 d
+    → AreEnds (to_z w64 (of_z w64 a)) (to_z w64 (of_z w64 c)) → AreEnds (to_z w64 (of_z w64 b)) (to_z w64 (of_z w64 d)) → AreCorners a b c d
+held_corners a b c d fits_a fits_b fits_c fits_d along_x along_y =
+    let x = rw (to_z-of_z w64 a fits_a, to_z-of_z w64 c fits_c) at along_x in
+    let y = rw (to_z-of_z w64 b fits_b, to_z-of_z w64 d fits_d) at along_y in
+    record {
+      along_x = x.ordered;
+      along_y = y.ordered;
+      first_x = x.first;
+      first_y = y.first;
+      second_x = x.second;
+      second_y = y.second;
+    }

@@ -1,6 +1,6 @@
 -- What the named relations say of the cells of two shapes.
-use Rattle.std.proofs.Common.{◌≡◌, ◌≢◌, ◌↔◌, ℕ, ◌==◌, ◌&&◌, Bool, true, false, if◌then◌else◌, [], ◌∷◌, List, refl, subst, arith, inl, inr, ◌⊎◌}
-use Rattle.std.specs.Prelude.{ℤ, pos, ◌+ℤ◌, ◌≤ℤ◌, ◌<ℤ◌}
+use Rattle.std.proofs.Common.{◌≡◌, ◌≢◌, ◌↔◌, ℕ, ◌==◌, ◌&&◌, Bool, true, false, if◌then◌else◌, [], ◌∷◌, List, refl, subst, arith, inl, inr, ◌⊎◌, to_z, of_z, w64}
+use Rattle.std.specs.Prelude.{ℤ, pos, ◌+ℤ◌, ◌≤ℤ◌, ◌<ℤ◌, int_le}
 use Rattle.std.proofs.lemmas.Int.{ints, by_lt_z}
 use Rattle.std.proofs.lemmas.Bool.Decides.{nat_tests}
 use Rattle.geom_core.specs.declared.span.Span.{Span}
@@ -20,6 +20,8 @@ use Rattle.geom_core.specs.Matrices.{IsInterior, IsBoundary, IsExterior, IsExten
 use Rattle.geom_core.specs.Masks.{FitsRow, row}
 use Rattle.geom_core.specs.Relations.{mask, masks, FitsOne, Holds}
 use Rattle.geom_core.specs.Sets.{InteriorsMeet, AreTouching, LiesWithin, AreSameSet}
+use Rattle.geom_core.proofs.HeldLemmas.{begins_within, within_begins, no_later_lo, no_later_hi, lo_no_later, hi_no_later}
+use Rattle.geom_core.proofs.SpanLemmas.{common_line, common_order, within_ends}
 use Rattle.geom_core.proofs.OneMatrix.{Share, one_matrix, shared, none_shared, empty, not_empty}
 
 -- a place of a closed interval is inner or not
@@ -243,6 +245,29 @@ ends_in a b f =
     let low = f (line a.lo) (omega (arith, ints), omega (arith, ints)) in
     let high = f (line a.hi) (omega (arith, ints), omega (arith, ints)) in
     (omega (arith, ints), omega (arith, ints))
+
+-- the ends of two intervals, as they are held, tell whether they share a number
+pub meeting_held : (a b : Span) → int_le (to_z w64 (of_z w64 a.lo)) (to_z w64 (of_z w64 b.hi)) ≡ true → int_le (to_z w64 (of_z w64 b.lo)) (to_z w64 (of_z w64 a.hi)) ≡ true
+    → (u : ℤ) × IsWithin a u × IsWithin b u
+meeting_held a b h k = common_line a b (begins_within a b h) (begins_within b a k)
+
+pub held_meeting : (a b : Span) (u : ℤ) → IsWithin a u → IsWithin b u → int_le (to_z w64 (of_z w64 a.lo)) (to_z w64 (of_z w64 b.hi)) ≡ true
+held_meeting a b u h k = within_begins a b (common_order a b u h k)
+
+pub ruleset meeting = (meeting_held, held_meeting)
+
+-- and whether one lies in the other
+pub inside_held : (a b : Span) (u : ℤ) → int_le (to_z w64 (of_z w64 b.lo)) (to_z w64 (of_z w64 a.lo)) ≡ true → int_le (to_z w64 (of_z w64 a.hi)) (to_z w64 (of_z w64 b.hi)) ≡ true
+    → IsWithin a u → IsWithin b u
+inside_held a b u h k within = within_ends a b (no_later_lo b a h) (no_later_hi a b k) u within
+
+pub held_lo_inside : (a b : Span) → ((u : ℤ) → IsWithin a u → IsWithin b u) → int_le (to_z w64 (of_z w64 b.lo)) (to_z w64 (of_z w64 a.lo)) ≡ true
+held_lo_inside a b f = lo_no_later b a (ends_in a b f).0
+
+pub held_hi_inside : (a b : Span) → ((u : ℤ) → IsWithin a u → IsWithin b u) → int_le (to_z w64 (of_z w64 a.hi)) (to_z w64 (of_z w64 b.hi)) ≡ true
+held_hi_inside a b f = hi_no_later a b (ends_in a b f).1
+
+pub ruleset inside = (inside_held, held_lo_inside, held_hi_inside)
 
 -- a shape in another is so along each axis
 pub axes_in : (a b : Shape) → IsIn a b → ((u : ℤ) → IsWithin a.x u → IsWithin b.x u) × ((v : ℤ) → IsWithin a.y v → IsWithin b.y v)

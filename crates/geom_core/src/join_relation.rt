@@ -105,7 +105,7 @@ fn allows_disjoint(relation: &Relation) -> bool
     false
 }
 
-/// The same, where the first of the two shapes has this dimension.
+/// Whether a mask fits where the first of the two disjoint shapes has this dimension.
 fn allows_disjoint_after(relation: &Relation, first_dim: u8) -> bool
     requires { first_dim < 3 }
     ensures { IsTrue result ↔

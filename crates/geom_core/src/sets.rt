@@ -9,6 +9,7 @@ impl Span {
 
     /// Whether each number of the interval is one of the other.
     #[inline(always)]
+    #[tactic(auto, using(crate::proofs::SetLaws::inside))]
     fn is_in(&self, other: &Span) -> bool
         ensures { IsTrue result ↔ ((u : ℤ) → IsWithin self.now u → IsWithin other.now u) }
     {
@@ -55,6 +56,7 @@ impl Shape {
 
     /// Whether each point of the closed shape is one of the other.
     #[inline(always)]
+    #[tactic(auto, using(crate::proofs::SetLaws::axes_in))]
     pub fn is_in(&self, other: &Shape) -> bool
         ensures { IsTrue result ↔ IsIn self.now other.now }
     {

@@ -28,10 +28,9 @@ impl Shape {
         ensures some { IsSome result ↔ AreCorners x1 y1 x2 y2 }
         ensures corners { IfSome result (HasCorners x1 y1 x2 y2) }
     {
-        match (Span::new(x1, x2), Span::new(y1, y2)) {
-            (Some(x), Some(y)) => Some(Shape { x, y }),
-            _ => None,
-        }
+        let x = Span::new(x1, x2)?;
+        let y = Span::new(y1, y2)?;
+        Some(Shape { x, y })
     }
 
     /// What the shape covers of the first axis.

@@ -46,6 +46,7 @@ impl Span {
 
     /// Whether the closed intervals share a number.
     #[inline(always)]
+    #[tactic(auto, using(crate::proofs::SetLaws::meeting))]
     pub fn meets(&self, other: &Span) -> bool
         ensures { IsTrue result ↔ ((u : ℤ) × IsWithin self.now u × IsWithin other.now u) }
     {

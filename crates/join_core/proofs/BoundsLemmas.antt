@@ -2,8 +2,8 @@
 use Rattle.std.proofs.Common.{◌≡◌, ℕ, List, [], ◌∷◌, ◌++◌, Vec, Global, map, sym, ap, ◌∙◌, append-nil, append_assoc}
 use Rattle.csv.specs.declared.writer.Writer.{Writer}
 use Rattle.layer_core.specs.Layers.{Feature}
-use Rattle.output_core.specs.CsvTexts.{csv_text}
-use Rattle.output_core.specs.CsvWriting.{HasRows, AddsRow}
+use Rattle.report_core.specs.CsvTexts.{csv_text}
+use Rattle.report_core.specs.CsvWriting.{HasRows, AddsRow}
 use Rattle.join_core.specs.Bounds.{bounds_header, bounds_row, bounds_text}
 
 -- the rows that a writer has, and those of the features that are left, are those of these features

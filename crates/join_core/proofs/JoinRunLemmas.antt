@@ -19,8 +19,8 @@ use Rattle.join_core.specs.JoinRuns.{JoinFiles, EditFile, LayersGive, edits_faul
 use Rattle.join_core.specs.JoinRuns.{IsJoinFault, AreMade, AreMadeTo, EndsAt}
 use Rattle.join_core.specs.SourceStates.{FailedAt}
 use Rattle.join_core.specs.Joins.{IsJoinList}
-use Rattle.output_core.specs.Reports.{IsHeld}
-use Rattle.output_core.specs.Written.{joined}
+use Rattle.report_core.specs.Reports.{IsHeld}
+use Rattle.report_core.specs.Written.{joined}
 use Rattle.join_core.proofs.JoinLemmas.{contains_at}
 
 pub is_some_of : (o : Option Feature) (f : Feature) → o ≡ Some f → IsSome o

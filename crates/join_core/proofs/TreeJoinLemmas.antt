@@ -17,7 +17,7 @@ use Rattle.descent_core.specs.Rows.{StandIn as EntriesStandIn}
 use Rattle.descent_core.specs.Shares.{is_pair, IsJoin, RowsJoin}
 use Rattle.descent_core.proofs.RowLemmas.{all_ascend}
 use Rattle.deliver_core.specs.Collectors.{Delivery, pair_cmp}
-use Rattle.worker_core.specs.Deliveries.{IsDelivered}
+use Rattle.parallel_core.specs.Deliveries.{IsDelivered}
 use Rattle.join_core.specs.Joins.{StandIn, IsJoinList, RowsAreJoinList, HasMarks}
 use Rattle.join_core.proofs.JoinLemmas.{held_by_number, listed_by_number}
 use Rattle.join_core.proofs.TreeWindowLemmas.{same-contains, feature_of, entry_of}

@@ -9,8 +9,8 @@ use Rattle.std.proofs.lemmas.Slice.Zip.{all_zipped_more}
 use Rattle.csv.specs.declared.writer.Writer.{Writer}
 use Rattle.geom_core.specs.declared.shape.Shape.{Shape}
 use Rattle.layer_core.specs.Layers.{Feature, Contents, IsLayer, with_number, IdAndShapeAre}
-use Rattle.output_core.specs.CsvTexts.{csv_text}
-use Rattle.output_core.specs.CsvWriting.{HasRows, AddsRow}
+use Rattle.report_core.specs.CsvTexts.{csv_text}
+use Rattle.report_core.specs.CsvWriting.{HasRows, AddsRow}
 use Rattle.join_core.specs.Windows.{IsWindowList, MeetsAt}
 use Rattle.join_core.proofs.JoinLemmas.{contains_at, contains_here, contains_later, held_by_number, listed_by_number}
 use Rattle.join_core.proofs.JoinRunLemmas.{is_some_of}

@@ -4,7 +4,7 @@ use Rattle.std.specs.Prelude.{◌≡◌, ℕ, List, [], ◌∷◌, codes, map}
 use Rattle.geom_core.specs.Shapes.{x1, y1, x2, y2}
 use Rattle.layer_core.specs.Layers.{Feature}
 use Rattle.layer_core.specs.LayerTrees.{LayerState}
-use Rattle.output_core.specs.CsvTexts.{csv_text}
+use Rattle.report_core.specs.CsvTexts.{csv_text}
 
 abbrev pub bounds_header : List (List ℕ)
 bounds_header = codes "id" ∷ codes "x1" ∷ codes "y1" ∷ codes "x2" ∷ codes "y2" ∷ []

@@ -3,7 +3,7 @@ use Rattle.std.specs.Prelude.{ℕ, List, ◌++◌, codes}
 use Rattle.wkt_core.specs.FaultTexts.{wkt_text}
 use Rattle.layer_core.specs.FaultTexts.{layer_text}
 use Rattle.file_core.specs.FaultTexts.{read_text, row_text}
-use Rattle.worker_core.specs.Faults.{join_text}
+use Rattle.parallel_core.specs.Faults.{join_text}
 use Rattle.join_core.specs.declared.fault.Input.{Input}
 use Rattle.join_core.specs.declared.fault.Input.TheVariants.{First, Second, Left, Right, Edits}
 use Rattle.join_core.specs.declared.fault.Input.TheVariants.{Layer, Window}

@@ -10,14 +10,14 @@ use Rattle.file_core.specs.declared.read_fault.ReadFault.TheVariants.{Io}
 use Rattle.layer_core.specs.Layers.{Contents}
 use Rattle.layer_core.specs.Edits.{EditContent, Layers, both, edits_give}
 use Rattle.file_core.specs.EditFiles.{IsEditFile}
-use Rattle.worker_core.specs.Faults.{IsWant}
+use Rattle.parallel_core.specs.Faults.{IsWant}
 use Rattle.join_core.specs.declared.fault.Input.TheVariants.{Left, Right, Edits}
 use Rattle.join_core.specs.declared.fault.RunFault.{RunFault}
 use Rattle.join_core.specs.declared.fault.RunFault.TheVariants.{Read, Edit, Join, Memory}
 use Rattle.join_core.specs.declared.joins.sources.JoinSources.{JoinSources}
 use Rattle.join_core.specs.Inputs.{LayerFile, GivesLayer, BlamesBytes, BlamesEdit}
 use Rattle.join_core.specs.Joins.{IsJoinList}
-use Rattle.output_core.specs.Reports.{IsReport}
+use Rattle.report_core.specs.Reports.{IsReport}
 
 -- the scale of a join, and what its sources tell of their bytes; there may be no file of edits
 pub record JoinFiles : Type 0 where

@@ -11,7 +11,7 @@ use Rattle.descent_core.specs.Rows.{Precedes}
 use Rattle.descent_core.specs.Shares.{AreRows}
 use Rattle.deliver_core.specs.Collectors.{Delivery, pair_cmp}
 use Rattle.deliver_core.specs.Marks.{IsLegalHistory, IsClosed}
-use Rattle.worker_core.specs.Deliveries.{AreMarks}
+use Rattle.parallel_core.specs.Deliveries.{AreMarks}
 
 -- the features with these numbers stand in the relation
 pub record StandIn (relation : Relation) (left right : Contents) (pair : ℕ × ℕ) : Type 0 where

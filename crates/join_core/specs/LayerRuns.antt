@@ -16,7 +16,7 @@ pub data LayerGives (IsTextOf : LayerState → List ℕ → Type 0) (scale : Sca
   made : (layer : LayerState) (text : List ℕ) → LayerFile scale file (Ok layer.list)
       → IsTextOf layer text → LayerGives IsTextOf scale file (Ok text)
 
--- a fault that such a run may have, that of its sink aside: one of the layer, or want of memory
+-- a fault that such a run may have, that of its sink aside: one of the layer, or out of memory
 -- once there is a layer
 abbrev pub IsLayerRunFault : Scale → Option (List ℕ) → RunFault → Type 0
 IsLayerRunFault scale file (Read input.Layer f) = ⊤

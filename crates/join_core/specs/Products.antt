@@ -4,7 +4,7 @@ use Rattle.geom_core.specs.declared.relation.Relation.{Relation}
 use Rattle.layer_core.specs.Edits.{Layers}
 use Rattle.draw_core.specs.Limits.{most_drawn}
 use Rattle.draw_core.specs.Pictures.{picture_of}
-use Rattle.output_core.specs.Reports.{IsReport}
+use Rattle.report_core.specs.Reports.{IsReport}
 use Rattle.join_core.specs.declared.fault.RunFault.{RunFault}
 use Rattle.join_core.specs.declared.joins.run.Product.{Product}
 use Rattle.join_core.specs.declared.joins.run.Product.TheVariants.{Report, Picture}

@@ -8,7 +8,7 @@ use Rattle.join_core.specs.declared.fault.Input.{Input}
 use Rattle.join_core.specs.declared.fault.RunFault.{RunFault}
 use Rattle.join_core.specs.declared.fault.RunFault.TheVariants.{Read, Wkt, Write}
 use Rattle.join_core.specs.Inputs.{BlamesInput}
-use Rattle.output_core.specs.Written.{AppendsPrefix}
+use Rattle.report_core.specs.Written.{AppendsPrefix}
 
 -- known bytes grow by a text of this kind
 abbrev pub WritesAll : (List ℕ → Type 0) → Option (List ℕ) → Option (List ℕ) → Type 0

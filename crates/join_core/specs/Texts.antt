@@ -1,7 +1,7 @@
 -- The bytes of a text that a run writes.
 use Rattle.std.specs.Prelude.{ℕ, List}
 use Rattle.std.specs.String.{string_bytes}
-use Rattle.output_core.specs.Written.{joined}
+use Rattle.report_core.specs.Written.{joined}
 use Rattle.join_core.specs.declared.text.Text.{Text}
 use Rattle.join_core.specs.declared.text.Text.TheVariants as text
 

@@ -4,7 +4,7 @@ use Rattle.geom_core.specs.declared.shape.Shape.{Shape}
 use Rattle.geom_core.specs.Cells.{Meets}
 use Rattle.layer_core.specs.Layers.{Feature, Contents, with_number}
 use Rattle.layer_core.specs.LayerTrees.{LayerState}
-use Rattle.output_core.specs.CsvTexts.{csv_text}
+use Rattle.report_core.specs.CsvTexts.{csv_text}
 
 -- the ids of the features whose shapes meet the window, in the order of the features
 pub data MeetingIds (window : Shape) : List Feature → List (List ℕ) → Type 0 where

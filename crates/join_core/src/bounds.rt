@@ -2,7 +2,7 @@
 
 ghost use Rattle.std.specs.Prelude.{◌≡◌, false, IsTrue, IfOk, OnOk};
 ghost use Rattle.layer_core.specs.Walks.{feature_read};
-ghost use Rattle.output_core.specs.CsvWriting.{AddsRow};
+ghost use Rattle.report_core.specs.CsvWriting.{AddsRow};
 ghost use Rattle.join_core.specs.declared.fault.Input.{Input};
 ghost use Rattle.join_core.specs.Bounds.{ListsCorners, bounds_row, bounds_text};
 ghost use Rattle.join_core.specs.Jobs.{OnlyAt};
@@ -16,7 +16,7 @@ use csv::Writer;
 use file_core::Source;
 use itoa::Buffer;
 use layer_core::{FeatureRef, Layer};
-use output_core::{Sink, new_rows, push_row, rows_text};
+use report_core::{Sink, new_rows, push_row, rows_text};
 use std::alloc::{AllocError, Global};
 use std::hash::RandomState;
 use std::thread::Threads;

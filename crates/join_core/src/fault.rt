@@ -5,10 +5,10 @@ ghost use Rattle.join_core.specs.declared.fault.RunFault.TheVariants as run_faul
 
 use file_core::ReadFault;
 use layer_core::LayerFault;
-use output_core::WriteFailed;
+use parallel_core::JoinFault;
+use report_core::WriteFailed;
 use std::alloc::AllocError;
 use wkt_core::WktFault;
-use worker_core::JoinFault;
 
 /// An input of a run.
 #[derive(Clone, Copy, Debug, PartialEq, Eq)]

@@ -4,17 +4,17 @@ ghost use Rattle.std.specs.Prelude.{◌≡◌, ◌+◌, ◌≤◌, ◌↔◌, �
 ghost use Rattle.std.specs.Prelude.{OnErr};
 ghost use Rattle.std.specs.Io.KnownBytes.{Appends};
 ghost use Rattle.file_core.specs.FaultTexts.{read_text, row_text};
-ghost use Rattle.worker_core.specs.Faults.{join_text};
+ghost use Rattle.parallel_core.specs.Faults.{join_text};
 ghost use Rattle.join_core.specs.FaultTexts.{run_text};
 ghost use Rattle.join_core.specs.Lines.{run_line};
-ghost use Rattle.output_core.specs.Written.{AppendsPrefix};
+ghost use Rattle.report_core.specs.Written.{AppendsPrefix};
 
 use crate::fault::RunFault;
 use file_core::ReadFault;
-use output_core::{Line, ROOM, Sink, WriteFailed};
+use parallel_core::JoinFault;
+use report_core::{ROOM, ShortText, Sink, WriteFailed};
 use std::error::Error;
 use std::fmt;
-use worker_core::JoinFault;
 
 impl fmt::Display for RunFault {
     ghost use Rattle.std.specs.Prelude.{Some};
@@ -22,7 +22,7 @@ impl fmt::Display for RunFault {
     ghost output = { λ fault. Some (run_text fault) };
 
     fn fmt<W: fmt::Write>(&self, f: &mut fmt::Formatter<W>) -> fmt::Result {
-        let mut line = Line::new();
+        let mut line = ShortText::new();
         push_run_text(&mut line, self);
         f.write_str(line.as_str())
     }
@@ -41,12 +41,12 @@ pub fn fault_line<S: Sink>(fault: &RunFault, sink: &mut S) -> Result<(), WriteFa
         (run_line fault.now)) }
     ensures failed { IsErr result ↔ IsTrue (S.has_failed sink.new) }
 {
-    let mut line = Line::begun();
+    let mut line = ShortText::begun();
     push_run_text(&mut line, fault);
     line.write(sink)
 }
 
-fn push_run_text(line: &mut Line, fault: &RunFault)
+fn push_run_text(line: &mut ShortText, fault: &RunFault)
     requires { length line.old ≤ 7 }
     ensures text { line.new ≡ line.old ++ run_text fault.now }
     ensures short { length line.new ≤ 100 }
@@ -79,7 +79,7 @@ fn push_run_text(line: &mut Line, fault: &RunFault)
     }
 }
 
-fn push_read_text(line: &mut Line, fault: &ReadFault)
+fn push_read_text(line: &mut ShortText, fault: &ReadFault)
     requires { length line.old ≤ 15 }
     ensures text { line.new ≡ line.old ++ read_text fault.now }
     ensures short { length line.new ≤ length line.old + 70 }
@@ -91,7 +91,7 @@ fn push_read_text(line: &mut Line, fault: &ReadFault)
 }
 
 /// Adds the number of a row, and what parts it from what is said of it.
-fn push_row(line: &mut Line, row: u32)
+fn push_row(line: &mut ShortText, row: u32)
     requires { length line.old + 16 ≤ ROOM }
     ensures text { line.new ≡ line.old ++ row_text row }
     ensures len { length line.new ≤ length line.old + 16 }
@@ -101,7 +101,7 @@ fn push_row(line: &mut Line, row: u32)
     line.push(": ");
 }
 
-fn push_join_text(line: &mut Line, fault: &JoinFault)
+fn push_join_text(line: &mut ShortText, fault: &JoinFault)
     requires { length line.old ≤ 7 }
     ensures text { line.new ≡ line.old ++ join_text fault.now }
     ensures short { length line.new ≤ 100 }

@@ -4,15 +4,12 @@
 ghost use Rattle.std.specs.Prelude.{◌≡◌, ◌↔◌, false, IsTrue, IsErrOf};
 ghost use Rattle.join_core.specs.Inputs.{Builds, Reads};
 
-use file_core::{ReadFault, Source, layer_of_bytes, read_all};
+use file_core::{MIN_THREADED_BYTES, ReadFault, Source, layer_of_bytes, read_all};
 use layer_core::Layer;
 use std::alloc::Global;
 use std::hash::RandomState;
 use std::thread::Threads;
 use wkt_core::Scale;
-
-/// How few bytes are worth threads.
-const LEAST_BYTES: usize = 65_536;
 
 /// The layer of a file's bytes, which so many threads build, or one if they are few. `state` hashes
 /// the ids.
@@ -26,7 +23,7 @@ pub(crate) fn build_by_threads<R: Threads + Sync>(
 ) -> Result<Layer, ReadFault>
     ensures { Builds scale bytes.items result }
 {
-    let is_long = bytes.len() >= LEAST_BYTES;
+    let is_long = bytes.len() >= MIN_THREADED_BYTES;
     let threads = if is_long { threads } else { 1 };
     layer_of_bytes(alloc, state, bytes, scale, threads, rt)
 }

@@ -1,6 +1,7 @@
 //! Runs over one layer: it is read, and a text that is made of it is written.
 
-ghost use Rattle.std.specs.Prelude.{◌≡◌, ◌↔◌, ℕ, List, Ok, Err, false, IsTrue, IsErrOf, IfErr, IfOk};
+ghost use Rattle.std.specs.Prelude.{◌≡◌, ◌↔◌, ℕ, List, Ok, Err, false, IsTrue, IsErrOf, IfErr};
+ghost use Rattle.std.specs.Prelude.{IfOk};
 ghost use Rattle.layer_core.specs.LayerTrees.{LayerState};
 ghost use Rattle.join_core.specs.declared.fault.Input.{Input};
 ghost use Rattle.join_core.specs.Inputs.{BlamesInput};
@@ -14,7 +15,7 @@ use crate::layer_input::read_by_threads;
 use crate::text::Text;
 use file_core::{ReadFault, Source};
 use layer_core::Layer;
-use output_core::Sink;
+use report_core::Sink;
 use std::alloc::{AllocError, Global};
 use std::hash::RandomState;
 use std::thread::Threads;

@@ -20,10 +20,10 @@ pub use fault::{Input, RunFault};
 pub use fault_text::fault_line;
 pub use joins::{JoinSources, apply_edits, join, run_draw, run_join};
 pub use layer_run::DEFAULT_WORKERS;
-pub use output_core::{
-    Line, ROOM, Sink, ToWrite, WriteFailed, report_texts, write_text, write_texts,
-};
+pub use parallel_core::{Gate, JoinFault, OpenGate};
 pub use relate::run_relate;
+pub use report_core::{
+    ROOM, ShortText, Sink, ToWrite, WriteFailed, report_texts, write_text, write_texts,
+};
 pub use stats::run_stats;
 pub use window::run_window;
-pub use worker_core::{Gate, JoinFault, OpenGate};

@@ -9,7 +9,7 @@ ghost use Rattle.join_core.specs.Runs.{RunEnds};
 
 use crate::fault::{Input, RunFault};
 use geom_core::{Matrix, relate};
-use output_core::{Sink, write_text};
+use report_core::{Sink, write_text};
 use wkt_core::Scale;
 
 /// Letters of a matrix and a line feed.

@@ -12,7 +12,7 @@ use crate::layer_run::{LayerText, run_on_layer};
 use crate::text::Text;
 use file_core::Source;
 use layer_core::{Layer, Stats};
-use output_core::{Line, ROOM, Sink};
+use report_core::{ROOM, ShortText, Sink};
 use std::alloc::{AllocError, Global};
 use std::hash::RandomState;
 use std::thread::Threads;
@@ -56,10 +56,10 @@ impl LayerText for Counts {
 }
 
 /// The counts as lines.
-fn stats_lines(stats: &Stats) -> Line
+fn stats_lines(stats: &Stats) -> ShortText
     ensures { result ≡ stats_text stats.now }
 {
-    let mut text = Line::new();
+    let mut text = ShortText::new();
     push_count(&mut text, "features", stats.features);
     push_count(&mut text, "points", stats.points);
     push_count(&mut text, "segments", stats.segments);
@@ -69,7 +69,7 @@ fn stats_lines(stats: &Stats) -> Line
 }
 
 /// Adds the line of a count.
-fn push_count(text: &mut Line, word: &str, count: u32)
+fn push_count(text: &mut ShortText, word: &str, count: u32)
     requires { length text.old + length word.now + 12 ≤ ROOM }
     ensures text { text.new ≡ text.old ++ count_line word.now count }
     ensures len { length text.new ≤ length text.old + length word.now + 12 }

@@ -2,16 +2,16 @@
 
 ghost use Rattle.std.specs.Prelude.{◌≡◌, ◌↔◌, false, IsErr, IsTrue, OnErr, OnOk};
 ghost use Rattle.std.specs.Io.KnownBytes.{Appends};
-ghost use Rattle.output_core.specs.Written.{AppendsPrefix};
+ghost use Rattle.report_core.specs.Written.{AppendsPrefix};
 ghost use Rattle.join_core.specs.Texts.{bytes_of_text};
 
-use output_core::{Line, Sink, WriteFailed, write_text, write_texts};
+use report_core::{ShortText, Sink, WriteFailed, write_text, write_texts};
 
 /// A text that a run writes, in the form in which it was made.
 #[derive(Drop)]
 pub(crate) enum Text {
     /// A few lines.
-    Lines(Line),
+    Lines(ShortText),
     /// CSV.
     Rows(Vec<u8>),
     /// SVG.

@@ -4,12 +4,12 @@ use crate::layers::edited;
 use geom_core::{JoinRelation, Relation};
 use join_core::{OpenGate, Options, join};
 use layer_core::{FeatureRef, Layer};
-use samples::Random;
 use std::alloc::{AllocError, Global};
 use std::random::RandomSource;
 use std::sync::Wait;
 use std::test::Fail;
 use std::thread::Threads;
+use test_data::Random;
 
 /// Appends the pairs of one left feature.
 fn push_pairs(

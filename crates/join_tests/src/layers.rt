@@ -3,11 +3,11 @@
 use file_core::{FromRead, ReadFault, read_layer};
 use geom_core::Shape;
 use layer_core::Layer;
-use samples::{Random, points_text, shapes_text};
 use std::alloc::Global;
 use std::hash::RandomState;
 use std::random::RandomSource;
 use std::test::Fail;
+use test_data::{Random, points_text, shapes_text};
 use wkt_core::Scale;
 
 /// The scale of whole numbers.

@@ -318,7 +318,7 @@ fn crosses<R: Threads + Wait + Sync + AllocGlobal>(
     Ok(outcome.map(|outcome| outcome.pairs() == [(0, 1), (1, 0)].as_slice()))
 }
 
-/// The same, joined again where memory is refused.
+/// Whether the join gives the two pairs, tried again where memory is refused.
 fn crosses_at_last<R: Threads + Wait + Sync + AllocGlobal>(
     rt: &R,
     layer: &Layer,
@@ -335,7 +335,7 @@ fn crosses_itself<R: Threads + Wait + Sync + RandomSource + AllocGlobal>(
     crosses_at_last(rt, &cross(rt)?)
 }
 
-// Run with each allocation failing in turn, it ends as with ample memory.
+/// Run with each allocation failing in turn, it ends as with ample memory.
 #[test]
 fn join_without_memory(rt: HostRuntime) -> Result<(), Fail> {
     assert!(rt; crosses_itself(&rt)? == Ok(true));

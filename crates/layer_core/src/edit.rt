@@ -57,7 +57,7 @@ impl Edit {
         }
     }
 
-    // Edits this layer, whichever side it is on.
+    /// Edits this layer, whichever side it is on.
     fn apply_to(&self, layer: &mut Layer) -> Result<(), LayerFault>
         ensures ok { OnOk result (layer.new.list ≡ edited layer.old.list (content_of self.now)) }
         ensures err { OnErr result (layer.new ≡ layer.old) }

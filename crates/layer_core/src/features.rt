@@ -1,4 +1,5 @@
 //! The features of a layer, found by id and by number.
+
 ghost use Rattle.std.specs.Prelude.{◌≡◌, Some, slice_get, IfSome, MatchOption};
 ghost use Rattle.std.specs.HashMap.{keys, values};
 ghost use Rattle.layer_core.specs.MapAndSlots.{ids_of, IsAbsent, IsOnly, AreInverse};
@@ -34,7 +35,7 @@ pub(crate) struct Slot {
 pub(crate) struct Features {
     ids: Ids,
     slots: Vec<Option<Slot>>,
-    // How many slots are filled.
+    /// How many slots are filled.
     count: usize,
 }
 
@@ -59,7 +60,7 @@ impl Model for Features {
     ghost invariant = { λ f. StandForLayer f.ids.entries f.slots.items f.count };
 }
 
-// The number and the slot of the feature with this id.
+/// The number and the slot of the feature with this id.
 fn locate(ids: &Ids, slots: &[Option<Slot>], id: &str) -> Option<(u32, Slot)>
     requires { AreInverse (values ids.now) slots.now }
     ensures found { MatchOption result
@@ -139,8 +140,7 @@ impl Features {
         ensures found { NumberAndShapeAre result (with_id id.now self.now.list) }
         ensures layer { IsLayer self.now.list }
     {
-        let (number, slot) = locate(&self.ids, self.slots.as_slice(), id)?;
-        Some((number, slot.shape))
+        locate(&self.ids, self.slots.as_slice(), id).map(|(number, slot)| (number, slot.shape))
     }
 
     /// The id and the shape of the feature with this number.
@@ -192,7 +192,7 @@ impl Features {
         Ok(())
     }
 
-    // What `insert` answers where a slot was refused: false where the id has a feature.
+    /// What `insert` answers where a slot was refused: false where the id has a feature.
     fn double_or_refused(&self, id: &str) -> Result<bool, AllocError>
         ensures double { IfOk result
             (λ added. (added ≡ false) × (is_some (with_id id.now self.now.list) ≡ true)) }

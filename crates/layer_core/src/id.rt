@@ -1,4 +1,5 @@
 //! The texts of ids, as the map of ids keeps them.
+
 ghost use Rattle.std.specs.Prelude.{◌≡◌, IfOk};
 ghost use Rattle.std.specs.Cmp as Cmp;
 ghost use Rattle.std.specs.Cmp.{on_per, on_equiv};

@@ -1,4 +1,5 @@
 //! The features of a layer, one after another.
+
 ghost use Rattle.std.specs.Prelude.{◌≡◌};
 ghost use Rattle.std.specs.HashMap.{keys};
 ghost use Rattle.std.specs.Iterator.{YieldsFirstBy, item_count};
@@ -22,7 +23,7 @@ pub struct FeatureRef<'a> {
 pub struct Iter<'a> {
     ids: &'a Ids,
     slots: &'a [Option<Slot>],
-    // The number of the first slot.
+    /// The number of the first slot.
     number: u32,
 }
 

@@ -1,4 +1,5 @@
 //! Layers.
+
 ghost use Rattle.std.specs.Prelude.{◌≡◌};
 ghost use Rattle.layer_core.specs.Refusals.{is_id};
 
@@ -90,7 +91,7 @@ impl Layer {
         })
     }
 
-    /// The same layer, whose tree is packed by at most so many threads.
+    /// The layer of these features, whose tree is packed by at most so many threads.
     pub(crate) fn pack_by_threads<R: Threads + Sync>(
         alloc: Global,
         features: Features,

@@ -1,4 +1,5 @@
 //! A layer while it is loaded: its features go in one by one, and at the end its tree is packed.
+
 ghost use Rattle.std.specs.Prelude.{◌≡◌, IfOk};
 ghost use Rattle.layer_core.specs.LayerTrees.{entries_for};
 
@@ -85,7 +86,7 @@ impl Loading {
         Layer::pack(alloc, self.features, entries)
     }
 
-    /// The same, by at most so many threads.
+    /// The layer of all features that were inserted, built by at most so many threads.
     pub fn finish_by_threads<R: Threads + Sync>(
         self,
         alloc: Global,
@@ -99,7 +100,7 @@ impl Loading {
     }
 }
 
-// What a tree holds of these features.
+/// What a tree holds of these features.
 fn entries_of(alloc: Global, features: &Features) -> Result<Vec<Entry>, AllocError>
     ensures { IfOk result (λ entries. entries.items ≡ entries_for features.now.list) }
 {

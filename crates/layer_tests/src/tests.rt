@@ -23,17 +23,17 @@ use std::test::Fail;
 use std::thread::Threads;
 use wkt_core::Scale;
 
-// The point at these coordinates.
+/// The point at these coordinates.
 fn point(x: i64, y: i64) -> Result<Shape, Fail> {
     Ok(Shape::new(x, y, x, y).ok_or("a point in range")?)
 }
 
-// The scale of whole numbers.
+/// The scale of whole numbers.
 fn whole() -> Result<Scale, Fail> {
     Ok(Scale::new(0).ok_or("a scale")?)
 }
 
-// The layer that these bytes of a file stand for, as so many threads load it.
+/// The layer that these bytes of a file stand for, as so many threads load it.
 fn layer_by<R: Threads + Sync + RandomSource + AllocGlobal>(
     rt: &R,
     bytes: &[u8],
@@ -43,7 +43,7 @@ fn layer_by<R: Threads + Sync + RandomSource + AllocGlobal>(
     Ok(layer_of_copy(rt, state, bytes, whole()?, threads))
 }
 
-// The layer of a copy of these bytes.
+/// The layer of a copy of these bytes.
 fn layer_of_copy<R: Threads + Sync + AllocGlobal>(
     rt: &R,
     state: RandomState,
@@ -55,7 +55,7 @@ fn layer_of_copy<R: Threads + Sync + AllocGlobal>(
     layer_of_bytes(rt.alloc(), state, copy, scale, threads, rt)
 }
 
-// The layer that these bytes of a file stand for, as two threads load it.
+/// The layer that these bytes of a file stand for, as two threads load it.
 fn layer_of<R: Threads + Sync + RandomSource + AllocGlobal>(
     rt: &R,
     bytes: &[u8],
@@ -63,7 +63,7 @@ fn layer_of<R: Threads + Sync + RandomSource + AllocGlobal>(
     layer_by(rt, bytes, 2)
 }
 
-// The fault of a layer's file, if it has one, and the same by one thread as by two.
+/// The fault of a layer's file, if it has one, and the same by one thread as by two.
 fn fault_of<R: Threads + Sync + RandomSource + AllocGlobal>(
     rt: &R,
     bytes: &[u8],
@@ -75,8 +75,8 @@ fn fault_of<R: Threads + Sync + RandomSource + AllocGlobal>(
     Ok(fault)
 }
 
-// Whether the layer of these bytes has exactly these features, in this order, by one thread and by
-// two.
+/// Whether the layer of these bytes has exactly these features, in this order, by one thread and by
+/// two.
 fn reads_as<R: Threads + Sync + RandomSource + AllocGlobal>(
     rt: &R,
     bytes: &[u8],
@@ -85,7 +85,7 @@ fn reads_as<R: Threads + Sync + RandomSource + AllocGlobal>(
     Ok(reads_by(rt, bytes, 1, features)? && reads_by(rt, bytes, 2, features)?)
 }
 
-// Whether so many threads load exactly these features, in this order.
+/// Whether so many threads load exactly these features, in this order.
 fn reads_by<R: Threads + Sync + RandomSource + AllocGlobal>(
     rt: &R,
     bytes: &[u8],
@@ -95,7 +95,7 @@ fn reads_by<R: Threads + Sync + RandomSource + AllocGlobal>(
     Ok(has_features(&layer_by(rt, bytes, threads)??, features))
 }
 
-// Whether the layer has exactly these features, in this order and numbered from 0.
+/// Whether the layer has exactly these features, in this order and numbered from 0.
 fn has_features(layer: &Layer, features: &[(&str, Shape)]) -> bool {
     for ((id, shape), number) in features.iter().zip(0..) {
         if !finds(layer, id, number, *shape) {
@@ -105,17 +105,17 @@ fn has_features(layer: &Layer, features: &[(&str, Shape)]) -> bool {
     layer.len() == features.len()
 }
 
-// Whether the layer finds this shape under the id, with this number.
+/// Whether the layer finds this shape under the id, with this number.
 fn finds(layer: &Layer, id: &str, number: u32, shape: Shape) -> bool {
     layer.find(id) == Some((number, shape))
 }
 
-// A layer with no features.
+/// A layer with no features.
 fn empty_layer(rt: &HostRuntime) -> Result<Layer, Fail> {
     Ok(Layer::new(rt.alloc(), RandomState::new(rt)?)?)
 }
 
-// What is seen of a layer with no features.
+/// What is seen of a layer with no features.
 fn on_empty<F: FnOnce(&mut Layer) -> Result<bool, Fail>>(
     rt: &HostRuntime,
     see: F,
@@ -125,7 +125,7 @@ fn on_empty<F: FnOnce(&mut Layer) -> Result<bool, Fail>>(
     see(&mut empty_layer(rt)?)
 }
 
-// The bytes of a layer file of points (0 0), (1 0), .., with the ids p0, p1, ..
+/// The bytes of a layer file of points (0 0), (1 0), .., with the ids p0, p1, ..
 fn points_file(alloc: Global, count: u32) -> Result<String, AllocError> {
     let mut file = String::from_str(alloc, "id,wkt\n")?;
     for i in 0..count {

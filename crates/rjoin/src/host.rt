@@ -21,6 +21,11 @@ pub enum HostFile<F, S> {
 }
 
 impl<F: Read, S: Read> Read for HostFile<F, S> {
+    ghost use Rattle.rjoin.specs.HostFiles.{bytes_left};
+
+    // It gives what is read of the file or of standard input, byte for byte.
+    ghost remaining = { bytes_left F.remaining S.remaining };
+
     fn read(&mut self, buffer: &mut [u8]) -> io::Result<usize> {
         match self {
             HostFile::Named(file) => file.read(buffer),
@@ -46,7 +51,7 @@ impl<'a, R: Files + Input> Inputs for HostFiles<'a, R> {
     }
 }
 
-// How many bytes a file is said to have, or 0 where nothing is said.
+/// How many bytes a file is said to have, or 0 where nothing is said.
 fn likely_len<F: OpenFile>(file: &F) -> usize {
     match file.metadata() {
         Ok(metadata) => metadata.len() as usize,

@@ -122,6 +122,10 @@ inner_lawful (suc level) c v page all =
     })
 
 -- the inner node of a list
+-- the cover of a list that a slice shows
+pub cover_of_items : {T : Type 0} (cover : T → Shape) (slice items : List T) (c : Shape) → slice ≡ items → IsLeastCover cover slice c → IsLeastCover cover items c
+cover_of_items cover slice items c same tight = subst (λ xs. IsLeastCover cover xs c) same tight
+
 pub inner_made : (c : Shape) (v : Vec Node Global) → IsNodeList v → IsLeastCover (λ n. n.cover) v.items c → IsNodeOf (λ n. n.cover) entries_of FitsInner
     v.items (inner_node c v)
 inner_made c v list tight = record {

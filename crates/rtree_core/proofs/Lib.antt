@@ -1,7 +1,7 @@
 pub mod NodeLemmas
 pub mod ItemLemmas
 pub mod InsertionLemmas
-pub mod TrunkLemmas
+pub mod EditableTreeLemmas
 pub mod TreeLemmas
 pub mod WindowLemmas
 pub mod RemovalLemmas

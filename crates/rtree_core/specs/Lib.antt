@@ -9,8 +9,8 @@ pub mod Nodes
 pub mod Packed
 pub mod Packings
 pub mod Removals
-pub mod Spares
+pub mod FreeLists
 pub mod TreeInvariant
 pub mod Trees
-pub mod Trunks
+pub mod EditableTrees
 pub mod Windows

@@ -2,11 +2,11 @@
 use Rattle.std.specs.Prelude.{◌≡◌, [], length}
 use Rattle.rtree_core.specs.declared.tree.RTree.TheInside.{Inside}
 use Rattle.rtree_core.specs.Trees.{entries_in, IsTree}
-use Rattle.rtree_core.specs.Trunks.{IsSound}
+use Rattle.rtree_core.specs.EditableTrees.{IsSound}
 
--- the tree is lawful, its height and length are told, its lists are spare, and no node is aside
+-- the tree is lawful, its height and length are told, its lists are free, and no node is aside
 pub record IsConsistent (t : Inside) : Type 0 where
-  pub tree : IsTree t.trunk.root
-  pub sound : IsSound t.trunk
-  pub len : t.len ≡ length (entries_in t.trunk.root)
+  pub tree : IsTree t.tree.root
+  pub sound : IsSound t.tree
+  pub len : t.len ≡ length (entries_in t.tree.root)
   pub none_aside : t.aside.items ≡ []

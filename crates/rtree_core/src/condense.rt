@@ -1,17 +1,17 @@
 //! Condensing after a removal: what nodes set aside hold goes back in, and a lone child of the root
 //! takes its place.
 
+use crate::editable_tree::EditableTree;
 use crate::insert::Insertable;
 use crate::node::{Below, Node};
-use crate::trunk::Trunk;
 
-impl Trunk {
+impl EditableTree {
     ghost use Rattle.std.specs.Prelude.{◌≡◌, ◌+◌, ◌*◌, ◌<◌, ◌≤◌, [], length, vec_len, All};
     ghost use Rattle.std.specs.List.{flat_map};
     ghost use Rattle.rtree_core.specs.Nodes.{entries_of, size_of, IsLawfulAt};
     ghost use Rattle.rtree_core.specs.Removals.{AreAside};
     ghost use Rattle.rtree_core.specs.Trees.{entries_in};
-    ghost use Rattle.rtree_core.specs.Trunks.{IsSound, IsRooted, CanTake, HasTakenIn};
+    ghost use Rattle.rtree_core.specs.EditableTrees.{IsSound, IsRooted, CanTake, HasTakenIn};
 
     /// Inserts again what the nodes set aside hold, lowest level first (Guttman 1984, 3.3, CT6).
     pub(crate) fn reinsert(&mut self, aside: &mut Vec<Node>)

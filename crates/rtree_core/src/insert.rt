@@ -5,11 +5,11 @@ ghost use Rattle.rtree_core.specs.Insertions.{IsHalved, IsInserted};
 ghost use Rattle.rtree_core.specs.Items.{leaf_node, inner_node, FitsInner, IsNodeList};
 ghost use Rattle.split_core.specs.Limits.{most};
 ghost use Rattle.rtree_core.specs.Nodes.{entries_of, level_of, IsPage, IsLawful};
-ghost use Rattle.rtree_core.specs.Spares.{HasSpare, HasSpent, IsReady, IsSpent};
+ghost use Rattle.rtree_core.specs.FreeLists.{HasFree, HasSpent, IsReady, IsSpent};
 
+use crate::free_lists::{FreeLists, take_list};
 use crate::item::Item;
 use crate::node::{Below, Entry, Node};
-use crate::spare::{Spare, take_list};
 use geom_core::Shape;
 use split_core::choices::choose;
 use split_core::measures::cover_all;
@@ -20,36 +20,36 @@ use std::mem;
 pub(crate) trait Insertable: Item {
     ghost use Rattle.rtree_core.specs.Insertions.{IsInserted};
     ghost use Rattle.rtree_core.specs.Nodes.{level_of, IsLawful};
-    ghost use Rattle.rtree_core.specs.Spares.{IsReady, IsSpent};
+    ghost use Rattle.rtree_core.specs.FreeLists.{IsReady, IsSpent};
 
     /// Puts it at the end of a node's list, and gives the node's second half where it was split.
-    fn add_to(self, node: &mut Node, spare: &mut Spare) -> Option<Node>
+    fn add_to(self, node: &mut Node, free: &mut FreeLists) -> Option<Node>
         requires lawful { IsLawful node.old }
         requires fits { Self.fits (level_of node.old) self }
-        requires ready { IsReady (level_of node.old) spare.old }
+        requires ready { IsReady (level_of node.old) free.old }
         ensures inserted { let added = Self.entries self in
             IsInserted added (Self.cover self) node.old node.new result }
-        ensures spent { IsSpent (level_of node.old) spare.old spare.new };
+        ensures spent { IsSpent (level_of node.old) free.old free.new };
 }
 
 impl Insertable for Entry {
-    fn add_to(self, node: &mut Node, spare: &mut Spare) -> Option<Node> {
+    fn add_to(self, node: &mut Node, free: &mut FreeLists) -> Option<Node> {
         match &mut node.below {
-            Below::Entries(entries) => add_entry(&mut node.cover, entries, self, &mut spare.leaves),
+            Below::Entries(entries) => add_entry(&mut node.cover, entries, self, &mut free.leaves),
             Below::Children(_) => unreachable!(),
         }
     }
 }
 
 impl Insertable for Node {
-    fn add_to(self, node: &mut Node, spare: &mut Spare) -> Option<Node> {
+    fn add_to(self, node: &mut Node, free: &mut FreeLists) -> Option<Node> {
         match &mut node.below {
             Below::Entries(_) => unreachable!(),
             Below::Children(children) => add_child(
                 &mut node.cover,
                 children,
                 self,
-                &mut spare.inners,
+                &mut free.inners,
             ),
         }
     }
@@ -60,15 +60,15 @@ fn add_entry(
     cover: &mut Shape,
     entries: &mut Vec<Entry>,
     entry: Entry,
-    spare: &mut Vec<Vec<Entry>>,
+    free: &mut Vec<Vec<Entry>>,
 ) -> Option<Node>
     requires lawful { IsPage (λ e. e.shape) cover.old entries.old }
-    requires spare { HasSpare 2 spare.old }
+    requires free { HasFree 2 free.old }
     ensures inserted { let old = leaf_node cover.old entries.old in
         IsInserted (entry ∷ []) entry.shape old (leaf_node cover.new entries.new) result }
-    ensures spent { HasSpent 1 spare.old spare.new }
+    ensures spent { HasSpent 1 free.old free.new }
 {
-    add(cover, entries, entry, spare)
+    add(cover, entries, entry, free)
 }
 
 /// Puts a node at the end of its parent's list, and gives the parent's second half where it was
@@ -77,16 +77,16 @@ fn add_child(
     cover: &mut Shape,
     children: &mut Vec<Node>,
     child: Node,
-    spare: &mut Vec<Vec<Node>>,
+    free: &mut Vec<Vec<Node>>,
 ) -> Option<Node>
     requires lawful { IsLawful (inner_node cover.old children.old) }
     requires fits { FitsInner (level_of (inner_node cover.old children.old)) child }
-    requires spare { HasSpare (level_of (inner_node cover.old children.old) + 1) spare.old }
+    requires free { HasFree (level_of (inner_node cover.old children.old) + 1) free.old }
     ensures inserted { let old = inner_node cover.old children.old in
         IsInserted (entries_of child) child.cover old (inner_node cover.new children.new) result }
-    ensures spent { HasSpent 1 spare.old spare.new }
+    ensures spent { HasSpent 1 free.old free.new }
 {
-    add(cover, children, child, spare)
+    add(cover, children, child, free)
 }
 
 /// Puts an item at the end of a node's list, and gives the node's second half where it was split.
@@ -94,39 +94,39 @@ fn add<T: Item>(
     cover: &mut Shape,
     list: &mut Vec<T>,
     item: T,
-    spare: &mut Vec<Vec<T>>,
+    free: &mut Vec<Vec<T>>,
 ) -> Option<Node>
     requires list { IsNodeList list.old }
-    requires spare { HasSpare 2 spare.old }
+    requires free { HasFree 2 free.old }
     ensures page { IsPage T.cover cover.new list.new }
     ensures items { let all = list.old.items ++ item ∷ [] in
         MatchOption result (list.new.items ≡ all)
         (IsHalved T.cover T.entries T.fits all list.new.items) }
-    ensures spent { HasSpent 1 spare.old spare.new }
+    ensures spent { HasSpent 1 free.old free.new }
 {
     list.push_reserved(item);
     let second = if list.len() <= MOST {
         None
     } else {
-        Some(halve(list, spare))
+        Some(halve(list, free))
     };
     *cover = cover_all(list);
     second
 }
 
 /// Splits a list of nine, which keeps the first group, and gives the node of the second.
-fn halve<T: Item>(list: &mut Vec<T>, spare: &mut Vec<Vec<T>>) -> Node
+fn halve<T: Item>(list: &mut Vec<T>, free: &mut Vec<Vec<T>>) -> Node
     requires nine { vec_len list.old ≡ most + 1 }
-    requires spare { HasSpare 2 spare.old }
+    requires free { HasFree 2 free.old }
     ensures list { IsNodeList list.new }
     ensures halved { IsHalved T.cover T.entries T.fits list.old.items list.new.items result }
-    ensures spent { HasSpent 1 spare.old spare.new }
+    ensures spent { HasSpent 1 free.old free.new }
 {
-    let mut one = take_list(spare);
-    let mut two = take_list(spare);
+    let mut one = take_list(free);
+    let mut two = take_list(free);
     split(list, &mut one, &mut two);
     let emptied = mem::replace(list, one);
-    spare.push_reserved(emptied);
+    free.push_reserved(emptied);
     T::node_of(two)
 }
 
@@ -137,27 +137,21 @@ pub(crate) fn insert_into<T: Insertable>(
     node: &mut Node,
     item: T,
     steps: u32,
-    spare: &mut Spare,
+    free: &mut FreeLists,
 ) -> Option<Node>
     requires lawful { IsLawful node.old }
     requires steps { steps ≤ level_of node.old }
     requires fits { T.fits (level_of node.old - steps) item }
-    requires ready { IsReady (level_of node.old) spare.old }
+    requires ready { IsReady (level_of node.old) free.old }
     ensures inserted { IsInserted (T.entries item) (T.cover item) node.old node.new result }
-    ensures spent { IsSpent (level_of node.old) spare.old spare.new }
+    ensures spent { IsSpent (level_of node.old) free.old free.new }
 {
     if steps == 0 {
-        return item.add_to(node, spare);
+        return item.add_to(node, free);
     }
     match &mut node.below {
         Below::Entries(_) => unreachable!(),
-        Below::Children(children) => insert_below(
-            &mut node.cover,
-            children,
-            item,
-            steps - 1,
-            spare,
-        ),
+        Below::Children(children) => insert_below(&mut node.cover, children, item, steps - 1, free),
     }
 }
 
@@ -169,23 +163,23 @@ fn insert_below<T: Insertable>(
     children: &mut Vec<Node>,
     item: T,
     steps: u32,
-    spare: &mut Spare,
+    free: &mut FreeLists,
 ) -> Option<Node>
     requires lawful { IsLawful (inner_node cover.old children.old) }
     requires steps { steps + 1 ≤ level_of (inner_node cover.old children.old) }
     requires fits { T.fits (level_of (inner_node cover.old children.old) - (steps + 1)) item }
-    requires ready { IsReady (level_of (inner_node cover.old children.old)) spare.old }
+    requires ready { IsReady (level_of (inner_node cover.old children.old)) free.old }
     ensures inserted { let old = inner_node cover.old children.old in
         IsInserted (T.entries item) (T.cover item) old (inner_node cover.new children.new) result }
-    ensures spent { IsSpent (level_of (inner_node cover.old children.old)) spare.old spare.new }
+    ensures spent { IsSpent (level_of (inner_node cover.old children.old)) free.old free.new }
 {
     let shape = item.cover();
     let place = choose(children, &shape);
-    match insert_into(&mut children[place], item, steps, spare) {
+    match insert_into(&mut children[place], item, steps, free) {
         None => {
             *cover = cover.cover(&shape);
             None
         }
-        Some(second) => add(cover, children, second, &mut spare.inners),
+        Some(second) => add(cover, children, second, &mut free.inners),
     }
 }

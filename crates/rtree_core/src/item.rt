@@ -11,16 +11,16 @@ pub(crate) trait Item: Covered + Drop {
     ghost use Rattle.rtree_core.specs.Items.{IsNodeList, IsNodeOf};
     ghost use Rattle.rtree_core.specs.Packed.{IsPackedOf};
 
-    // The entries below it.
+    /// The entries below it.
     ghost entries: { Self → List Entry };
 
-    // The list of a node that holds such.
+    /// The list of a node that holds such.
     ghost list_of: { Node → List Self };
 
-    // A node of this level may hold it.
+    /// A node of this level may hold it.
     ghost fits: { ℕ → Self → Type 0 };
 
-    // A node of this level may hold it in a packed tree.
+    /// A node of this level may hold it in a packed tree.
     ghost fits_packed: { ℕ → Self → Type 0 };
 
     /// The node of a list.

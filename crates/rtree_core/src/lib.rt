@@ -2,14 +2,14 @@
 #![tactic(auto)]
 
 mod condense;
+mod editable_tree;
+mod free_lists;
 mod insert;
 mod item;
 mod node;
 mod pack;
 mod remove;
-mod spare;
 mod tree;
-mod trunk;
 mod window;
 
 pub use node::{Entry, Node};

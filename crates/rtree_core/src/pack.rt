@@ -38,7 +38,7 @@ pub(crate) trait Packable: Ranked + Drop {
 
     ghost held: { Self → Self.Held };
 
-    // What its type says of its numbers.
+    /// What its type says of its numbers.
     ghost in_range: { Self.Held → Type 0 };
 
     /// Drops what only the sorts read.

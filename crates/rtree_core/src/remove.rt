@@ -7,19 +7,19 @@ ghost use Rattle.rtree_core.specs.Items.{leaf_node, inner_node};
 ghost use Rattle.rtree_core.specs.Nodes.{entries_of, level_of, size_of, IsPage, IsLawful};
 ghost use Rattle.rtree_core.specs.Removals.{CanTakeOut, IsPlaceOf, IsTakenBelow, IsTakenOut};
 
+use crate::editable_tree::EditableTree;
 use crate::node::{Below, Entry, Node};
-use crate::trunk::Trunk;
 use geom_core::Shape;
 use split_core::measures::cover_all;
 use split_core::split::FEWEST;
 
-impl Trunk {
+impl EditableTree {
     ghost use Rattle.std.specs.Prelude.{◌≡◌, ◌+◌, ◌-◌, ◌*◌, ◌≤◌, ◌↔◌, [], ◌∷◌, None, vec_capacity};
     ghost use Rattle.std.specs.Prelude.{Contains, IsTrue, IsFalse, IsSomeAnd};
     ghost use Rattle.split_core.specs.Collections.{Gains};
     ghost use Rattle.rtree_core.specs.Nodes.{size_of, IsLawfulAt};
     ghost use Rattle.rtree_core.specs.Trees.{entries_in};
-    ghost use Rattle.rtree_core.specs.Trunks.{IsRooted, CanRemove};
+    ghost use Rattle.rtree_core.specs.EditableTrees.{IsRooted, CanRemove};
 
     /// Takes an entry out, and says whether it was there.
     pub(crate) fn remove(&mut self, entry: &Entry, aside: &mut Vec<Node>) -> bool

@@ -3,10 +3,10 @@
 ghost use Rattle.std.specs.Prelude.{◌≡◌, ◌+◌, ◌≤◌, [], ◌∷◌, length, vec_len, IsSome, OnOk, OnErr};
 ghost use Rattle.std.specs.Prelude.{option_copied};
 
+use crate::editable_tree::EditableTree;
+use crate::free_lists::FreeLists;
 use crate::node::{Entry, Node};
 use crate::pack::pack_entries;
-use crate::spare::Spare;
-use crate::trunk::Trunk;
 use crate::window::collect;
 use geom_core::Shape;
 use split_core::tile::{tile, tile_by_threads};
@@ -20,7 +20,7 @@ use std::thread::Threads;
 /// entries, and one that is inner 2 to 8 children. All leaves are on one level (Guttman 1984, 2).
 #[derive(Drop)]
 pub struct RTree {
-    trunk: Trunk,
+    tree: EditableTree,
     len: usize,
     /// The nodes that a removal sets aside, none between edits.
     aside: Vec<Node>,
@@ -38,7 +38,7 @@ impl Model for RTree {
 
     ghost use Rattle.rtree_core.specs.TreeInvariant.{IsConsistent};
 
-    ghost view = { λ t. t.trunk.root };
+    ghost view = { λ t. t.tree.root };
 
     ghost invariant = { IsConsistent };
 }
@@ -59,7 +59,7 @@ impl RTree {
         ensures { result ≡ None }
     {
         RTree {
-            trunk: Trunk::new(alloc),
+            tree: EditableTree::new(alloc),
             len: 0,
             aside: Vec::new(alloc),
         }
@@ -110,13 +110,13 @@ impl RTree {
         }
         let len = entries.len();
         let (root, height) = pack_entries(alloc, entries)?;
-        let trunk = Trunk {
+        let tree = EditableTree {
             root: Some(root),
             height,
-            spare: Spare::new(alloc),
+            free: FreeLists::new(alloc),
         };
         Ok(RTree {
-            trunk,
+            tree,
             len,
             aside: Vec::new(alloc),
         })
@@ -127,7 +127,7 @@ impl RTree {
         ensures root { option_copied result ≡ self.now }
         ensures lawful { IsTree self.now }
     {
-        self.trunk.root.as_ref()
+        self.tree.root.as_ref()
     }
 
     /// The number of entries.
@@ -141,14 +141,14 @@ impl RTree {
     pub fn is_empty(&self) -> bool
         ensures { IsTrue result ↔ (self.now ≡ None) }
     {
-        self.trunk.root.is_none()
+        self.tree.root.is_none()
     }
 
     /// The number of levels: 0 for the empty tree, 1 where the root is a leaf.
     pub fn height(&self) -> u32
         ensures { result ≡ height_of self.now }
     {
-        self.trunk.height
+        self.tree.height
     }
 
     /// Inserts an entry, whose number the tree doesn't hold.
@@ -159,8 +159,8 @@ impl RTree {
         ensures ok { OnOk result (Gains entry (entries_in self.old) (entries_in self.new)) }
         ensures err { OnErr result (self.new ≡ self.old) }
     {
-        self.trunk.gather(1)?;
-        self.trunk.insert_entry(entry);
+        self.tree.reserve_lists(1)?;
+        self.tree.insert_entry(entry);
         self.len += 1;
         Ok(())
     }
@@ -176,10 +176,10 @@ impl RTree {
         ensures unchanged { IfOk result (λ removed. IsFalse removed → self.new ≡ self.old) }
         ensures err { OnErr result (self.new ≡ self.old) }
     {
-        let levels = self.trunk.height.saturating_sub(1);
+        let levels = self.tree.height.saturating_sub(1);
         self.aside.reserve(levels as usize)?;
-        self.trunk.gather(2 * levels)?;
-        let removed = self.trunk.remove(entry, &mut self.aside);
+        self.tree.reserve_lists(2 * levels)?;
+        let removed = self.tree.remove(entry, &mut self.aside);
         if removed {
             self.len -= 1;
         }
@@ -193,7 +193,7 @@ impl RTree {
         ensures all { IfOk result (λ v. AllFound window.now (entries_in self.now) v.items) }
     {
         let mut found = Vec::new(alloc);
-        if let Some(root) = &self.trunk.root {
+        if let Some(root) = &self.tree.root {
             collect(root, window, &mut found)?;
         }
         found.sort_unstable();

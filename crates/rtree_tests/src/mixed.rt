@@ -6,9 +6,9 @@ ghost use Rattle.rtree_core.specs.Trees.{IsFresh};
 
 use geom_core::Shape;
 use rtree_core::{Entry, Node, RTree};
-use samples::Random;
 use std::alloc::{AllocError, Global};
 use std::test::Fail;
+use test_data::Random;
 
 /// A point, a segment or a rectangle near one of nine centres.
 fn shape(random: &mut Random) -> Result<Shape, Fail> {
@@ -222,7 +222,7 @@ fn rises_and_falls(
     Ok(is_high && trial.tree.height() < 2)
 }
 
-/// The same twice, with a tree that is empty at first.
+/// Whether a tree that is empty at first rises and falls twice.
 fn rises_and_falls_twice(alloc: Global, random: &mut Random) -> Result<bool, Fail> {
     let mut trial = Trial {
         tree: RTree::new(alloc),

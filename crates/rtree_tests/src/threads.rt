@@ -6,10 +6,10 @@ ghost use Rattle.rtree_core.specs.Trees.{has_number};
 
 use geom_core::Shape;
 use rtree_core::{Entry, Node, RTree};
-use samples::Random;
 use std::alloc::{AllocError, Global};
 use std::test::Fail;
 use std::thread::Threads;
+use test_data::Random;
 
 /// What stands behind the numbers below a node.
 pub(crate) const END: u32 = u32::MAX;

@@ -1,7 +1,7 @@
 //! The rows of `run_bounds`, and devices that fail under it.
 
 ghost use Rattle.std.specs.Prelude.{◌≡◌, false};
-ghost use Rattle.output_core.specs.ToWrite.{failed_of};
+ghost use Rattle.report_core.specs.ToWrite.{failed_of};
 
 use crate::device::{has_front, make_device};
 use crate::example::LEFT;
@@ -9,13 +9,13 @@ use crate::running::{Ended, Reading, at_once};
 use file_core::{FromRead, ReadFault};
 use join_core::{Input, RunFault, ToWrite, run_bounds};
 use layer_core::LayerFault;
-use samples::points_text;
 use std::alloc::{AllocError, Global};
 use std::fmt::Write as _;
 use std::hash::RandomState;
 use std::io::Write;
 use std::random::RandomSource;
 use std::thread::Threads;
+use test_data::points_text;
 use wkt_core::{Scale, WktFault};
 
 /// The corners of the layer LEFT.
@@ -93,7 +93,7 @@ fn corners_of_points(alloc: Global, count: u32) -> Result<String, AllocError> {
     Ok(text)
 }
 
-// The file has more than 64 KiB, so several threads read it.
+/// The file has more than 64 KiB, so several threads read it.
 #[test]
 fn many_points_by_threads(rt: HostRuntime) -> Result<(), AllocError> {
     let layer = points_text(rt.alloc(), 20_000)?;

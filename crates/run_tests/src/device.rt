@@ -1,7 +1,7 @@
 //! Writers that fail.
 
 ghost use Rattle.std.specs.Prelude.{◌≡◌, false};
-ghost use Rattle.output_core.specs.ToWrite.{failed_of};
+ghost use Rattle.report_core.specs.ToWrite.{failed_of};
 
 use join_core::{RunFault, ToWrite};
 use std::alloc::Global;

@@ -1,7 +1,7 @@
 //! The rows of `run_draw`.
 
 ghost use Rattle.std.specs.Prelude.{◌≡◌, false};
-ghost use Rattle.output_core.specs.ToWrite.{failed_of};
+ghost use Rattle.report_core.specs.ToWrite.{failed_of};
 
 use crate::example::{LEFT, RIGHT};
 use crate::running::{Ended, Files, at_once, edited_example};
@@ -9,13 +9,13 @@ use file_core::{FromRead, ReadFault};
 use geom_core::{JoinRelation, Relation};
 use join_core::{Input, JoinSources, MAX_DRAWN, OpenGate, Options, RunFault, ToWrite, run_draw};
 use layer_core::LayerFault;
-use samples::points_text;
 use std::hash::RandomState;
 use std::io::Write;
 use std::random::RandomSource;
 use std::sync::Wait;
 use std::test::Fail;
 use std::thread::Threads;
+use test_data::points_text;
 use wkt_core::Scale;
 
 /// The picture of the edited example behind its legend. The cover goes from (0, 0) to (8, 8), so

@@ -56,7 +56,7 @@ fn reports_points<R: Threads + Wait + Sync + RandomSource + AllocGlobal>(
     Some(join(rt, &files, Relation::Equals, &options)?.is(Ok(()), EQUAL_POINTS))
 }
 
-// Three threads write 3, 3 and 1 of the pairs, and four write 2, 2, 2 and 1.
+/// Three threads write 3, 3 and 1 of the pairs, and four write 2, 2, 2 and 1.
 #[test]
 fn report_in_chunks(rt: HostRuntime) {
     for workers in [1, 3, 4] {

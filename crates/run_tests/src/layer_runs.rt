@@ -1,7 +1,7 @@
 //! The rows of `run_window` and `run_stats`, and devices that fail under them.
 
 ghost use Rattle.std.specs.Prelude.{◌≡◌, false};
-ghost use Rattle.output_core.specs.ToWrite.{failed_of};
+ghost use Rattle.report_core.specs.ToWrite.{failed_of};
 
 use crate::device::{has_front, make_device};
 use crate::example::{LEFT, RIGHT};
@@ -9,12 +9,12 @@ use crate::running::Ended;
 use file_core::{FromRead, ReadFault};
 use join_core::{Input, RunFault, ToWrite, run_stats, run_window};
 use layer_core::LayerFault;
-use samples::points_text;
 use std::alloc::AllocError;
 use std::hash::RandomState;
 use std::io::Write;
 use std::random::RandomSource;
 use std::thread::Threads;
+use test_data::points_text;
 use wkt_core::{Scale, WktFault};
 
 const COUNTS: &str = "features 3\npoints 1\nsegments 1\nrectangles 1\nheight 1\n";
@@ -112,8 +112,8 @@ fn first_fault_is_answered(rt: HostRuntime) {
     assert!(rt; counts(&rt, file, Err(double), "") == Some(true));
 }
 
-// The file has more than 64 KiB, so several threads read it: 20,000 points. A node has eight at
-// most, so the levels of the tree have 2,500 leaves, 313 nodes, 40, 5 and the root.
+/// The file has more than 64 KiB, so several threads read it: 20,000 points. A node has eight at
+/// most, so the levels of the tree have 2,500 leaves, 313 nodes, 40, 5 and the root.
 #[test]
 fn many_points_by_threads(rt: HostRuntime) -> Result<(), AllocError> {
     let layer = points_text(rt.alloc(), 20_000)?;

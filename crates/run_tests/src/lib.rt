@@ -12,8 +12,6 @@ mod drawing;
 #[cfg(test)]
 mod example;
 #[cfg(test)]
-mod fault_lines;
-#[cfg(test)]
 mod joining;
 #[cfg(test)]
 mod layer_runs;

@@ -32,7 +32,7 @@ fn attempt<R: Threads + Wait + Sync + RandomSource + AllocGlobal>(
     Some((ended.outcome, ended.is(ended.outcome, text)))
 }
 
-// Run with each allocation failing in turn, it ends as with ample memory.
+/// Run with each allocation failing in turn, it ends as with ample memory.
 #[test]
 fn refused_7(rt: HostRuntime) {
     for _ in 0..10 {

@@ -1,7 +1,7 @@
 //! The rows of `run_relate`, and devices that fail under it.
 
 ghost use Rattle.std.specs.Prelude.{◌≡◌, false};
-ghost use Rattle.output_core.specs.ToWrite.{failed_of};
+ghost use Rattle.report_core.specs.ToWrite.{failed_of};
 
 use crate::device::{has_front, make_device};
 use crate::running::Ended;
@@ -172,7 +172,7 @@ fn to_full(rt: &HostRuntime) -> Option<Ended> {
     Some(Ended::new(outcome, sink.into_inner().taken))
 }
 
-/// The same of a writer that takes four bytes, and then none.
+/// What is written of the two squares by a writer that takes four bytes, and then none.
 fn to_stuck(rt: &HostRuntime) -> Option<Ended> {
     let taken = Vec::new(rt.alloc());
     let mut sink = ToWrite::new(Stuck { taken });

@@ -1,7 +1,7 @@
 //! Runs of joins over files that stand in memory.
 
 ghost use Rattle.std.specs.Prelude.{◌≡◌, false};
-ghost use Rattle.output_core.specs.ToWrite.{failed_of};
+ghost use Rattle.report_core.specs.ToWrite.{failed_of};
 
 use crate::example::{EDITS, LEFT, RIGHT};
 use file_core::FromRead;
@@ -24,12 +24,12 @@ pub struct Reading<'a> {
 }
 
 impl Reading<'_> {
-    /// The same, read in steps of so many bytes.
+    /// This text, read in steps of so many bytes.
     pub fn by(self, step: usize) -> Self {
         Reading { step, ..self }
     }
 
-    /// The same, with a failure after so many reads.
+    /// This text, read with a failure after so many reads.
     pub fn failing_after(self, reads: usize) -> Self {
         Reading { reads, ..self }
     }

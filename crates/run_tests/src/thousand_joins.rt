@@ -4,10 +4,10 @@
 use crate::running::{Files, at_once, join};
 use geom_core::Relation;
 use join_core::Options;
-use samples::{Random, shapes_text};
 use std::random::RandomSource;
 use std::sync::Wait;
 use std::thread::Threads;
+use test_data::{Random, shapes_text};
 
 /// The report of a join of two files by intersects.
 fn report<R: Threads + Wait + Sync + RandomSource + AllocGlobal>(
@@ -84,7 +84,7 @@ fn are_same_of<R: Threads + Wait + Sync + RandomSource + AllocGlobal>(
     are_same(rt, left.as_str(), right.as_str(), numbers)
 }
 
-// The joins of small layers are two tests, so that each has time on a busy machine.
+/// The joins of small layers are two tests, so that each has time on a busy machine.
 #[test]
 fn thousand_joins_few_on_the_left(rt: HostRuntime) {
     let mut random = Random::new(2);
@@ -105,7 +105,7 @@ fn thousand_joins_more_on_the_left(rt: HostRuntime) {
     }
 }
 
-// Two layers whose trees have four levels.
+/// Two layers whose trees have four levels.
 #[test]
 fn many_features_by_one(rt: HostRuntime) {
     let mut random = Random::new(4);

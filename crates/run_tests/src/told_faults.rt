@@ -4,11 +4,11 @@ use crate::example::{LEFT, RIGHT};
 use crate::running::{Files, at_once, join};
 use geom_core::Relation;
 use join_core::{Options, ToWrite, fault_line};
-use samples::points_text;
 use std::alloc::AllocError;
 use std::random::RandomSource;
 use std::sync::Wait;
 use std::thread::Threads;
+use test_data::points_text;
 
 /// Whether a join by touches fails, writes nothing and is told by this line.
 fn is_told<R: Threads + Wait + Sync + RandomSource + AllocGlobal>(

@@ -61,14 +61,15 @@ module _ {T : Type 0} (cover : T → Shape) where
   cover_first [] x c lt at e = absurd (omega arith)
   cover_first (y ∷ ys) x c lt at e = rw (e, at) (cover_one y)
 
-  pub cover_more : (xs : List T) (i : ℕ) (x : T) (c d : Shape) →
+  pub cover_more : (xs : List T) (i : ℕ) (x : T) (c next d : Shape) →
       i < length xs →
       x ≡ get_or xs i x →
-      d ≡ cover_of c (cover x) →
+      next ≡ cover x →
+      d ≡ cover_of c next →
       IsLeastCover cover (take i xs) c →
       IsLeastCover cover (take (i + 1) xs) d
-  cover_more xs i x c d lt at e h =
-      rw (e, take_more xs i x lt) (subst (λ z. IsLeastCover cover (take i xs ++ z ∷ []) (cover_of c (cover x))) at (cover_push (take i xs) x c h))
+  cover_more xs i x c next d lt at is e h =
+      rw (e, is, take_more xs i x lt) (subst (λ z. IsLeastCover cover (take i xs ++ z ∷ []) (cover_of c (cover x))) at (cover_push (take i xs) x c h))
 
   -- where the item at a place grew by a shape, so does the cover
   pub cover_grow : (xs : List T) (i : ℕ) (x y : T) (c s : Shape) →

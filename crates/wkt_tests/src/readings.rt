@@ -11,7 +11,7 @@ pub(crate) fn corners_at(text: &[u8], scale: Scale) -> Result<(i64, i64, i64, i6
     }
 }
 
-/// The same at a scale of no decimals.
+/// The corners of the shape that a text spells at a scale of no decimals, or its fault.
 pub(crate) fn corners(text: &[u8]) -> Result<(i64, i64, i64, i64), WktFault> {
     corners_at(text, Scale::new(0).unwrap())
 }
@@ -24,7 +24,7 @@ pub(crate) fn reprinted_at(alloc: Global, text: &[u8], scale: Scale) -> Result<S
     }
 }
 
-/// The same at a scale of no decimals.
+/// What is printed of the shape that a text spells at a scale of no decimals, or nothing.
 fn reprinted(alloc: Global, text: &[u8]) -> Result<String, AllocError> {
     reprinted_at(alloc, text, Scale::new(0).unwrap())
 }
@@ -85,7 +85,7 @@ fn reprinted_at_last(alloc: Global, text: &[u8]) -> Result<String, AllocError> {
     }
 }
 
-// Run with each allocation failing in turn, it ends as with ample memory.
+/// Run with each allocation failing in turn, it ends as with ample memory.
 #[test]
 fn refused_6(rt: HostRuntime) -> Result<(), AllocError> {
     for (text, _, canonical) in SHAPES {

@@ -25,4 +25,5 @@ class ProgramFault(JoinFault):
 
 
 class RunFailed(Exception):
-    """A run of rjoin that ended for a cause that may be gone at another try, as want of memory."""
+    """A run of rjoin that ended for a cause that may be gone at another try, such as being out of
+    memory."""

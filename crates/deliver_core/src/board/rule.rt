@@ -1,4 +1,5 @@
 //! The rule of the board's word: each number below it was drawn by one seat, once.
+
 use atomic_table::{Join, Play, Split, TableRule};
 use std::collections::LinkedList;
 

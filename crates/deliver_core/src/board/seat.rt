@@ -1,4 +1,5 @@
 //! A worker's seat at the board.
+
 ghost use Rattle.std.specs.Prelude.{◌≡◌, [], length, IsSome};
 
 use super::rule::SeatView;
@@ -9,7 +10,7 @@ use std::marker::Model;
 /// themselves only contracts see.
 #[derive(Drop)]
 pub struct BoardSeat {
-    // The seat at the board's table, until the board is closed.
+    /// The seat at the board's table, until the board is closed.
     pub(super) place: Option<Seat<(), SeatView>>,
     pub(super) count: u32,
     pub(super) done: bool,
@@ -28,7 +29,7 @@ impl Model for BoardSeat {
 impl BoardSeat {
     ghost use Rattle.deliver_core.specs.Boards.{fresh_seat, spent_seat, board_of, IsCounted};
 
-    // A seat that has drawn nothing.
+    /// A seat that has drawn nothing.
     pub(super) fn fresh(place: Seat<(), SeatView>) -> BoardSeat
         requires slots { place.me.1 ≡ [] }
         requires view { (place.me.0.parts ≡ 1) × (place.me.0.drawn ≡ [])
@@ -42,7 +43,7 @@ impl BoardSeat {
         }
     }
 
-    // Takes the seat at the table out, and leaves the seat spent.
+    /// Takes the seat at the table out, and leaves the seat spent.
     pub(super) fn retire(&mut self) -> Seat<(), SeatView>
         requires { IsSome self.old.board }
         ensures spent { self.new ≡ spent_seat self.old }

@@ -95,8 +95,8 @@ fn build_and_read<R: Threads + Sync, B: Source>(
     }
 }
 
-/// The layer of a file's bytes, which are taken out of `bytes`: a closure that threads share borrows
-/// what it captures.
+/// The layer of a file's bytes, which are taken out of `bytes`: a closure that threads share
+/// borrows what it captures.
 fn build_taken<R: Threads + Sync>(
     rt: &R,
     alloc: Global,

@@ -4,17 +4,17 @@ ghost use Rattle.std.specs.Prelude.{IfOk, IfErr};
 ghost use Rattle.geom_core.specs.JoinRelations.{relation_of};
 ghost use Rattle.descent_core.specs.Plans.{IsPlan};
 ghost use Rattle.deliver_core.specs.Options.{batch_of, cut_of};
-ghost use Rattle.worker_core.specs.Faults.{IsWant};
+ghost use Rattle.parallel_core.specs.Faults.{IsWant};
 ghost use Rattle.join_core.specs.Joins.{IsJoinList, HasMarks, RowsAreJoinList};
 
 use deliver_core::{Options, Outcome};
 use descent_core::Plan;
 use geom_core::JoinRelation;
 use layer_core::Layer;
+use parallel_core::{Gate, JoinFault, run_workers};
 use std::alloc::{AllocError, Global};
 use std::sync::Wait;
 use std::thread::Threads;
-use worker_core::{Gate, JoinFault, run_workers};
 
 /// The numbers of each left and right feature that stand in the relation, in order, with the marks
 /// of how they were delivered.

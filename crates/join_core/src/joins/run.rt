@@ -24,13 +24,13 @@ use draw_core::{can_be_drawn, picture};
 use file_core::Source;
 use geom_core::JoinRelation;
 use layer_core::Layer;
-use output_core::{Sink, report_texts};
+use parallel_core::Gate;
+use report_core::{Sink, report_texts};
 use std::alloc::Global;
 use std::hash::RandomState;
 use std::sync::Wait;
 use std::thread::Threads;
 use wkt_core::Scale;
-use worker_core::Gate;
 
 /// Writes the report of two layers, after the edits of both: the pairs of a left and a right
 /// feature that stand in the relation, in layer order, with the letters of their matrix.

@@ -9,7 +9,7 @@ pub(super) struct Device<'a> {
     text: &'a [u8],
     chunk: usize,
     good_reads: u32,
-    // How often the next read was interrupted.
+    /// How often the next read was interrupted.
     interruptions: u32,
 }
 
@@ -101,7 +101,7 @@ fn lengths_that_are_wrong(rt: HostRuntime) -> Result<(), Fail> {
     Ok(())
 }
 
-// Whether a layer that is read one byte at a time has exactly these features, in this order.
+/// Whether a layer that is read one byte at a time has exactly these features, in this order.
 fn reads_bytewise(rt: &HostRuntime, text: &[u8], features: &[(&str, Shape)]) -> Result<bool, Fail> {
     let mut source = FromRead::new(Device::new(text, 1, 1_000));
     let state = RandomState::new(rt)?;

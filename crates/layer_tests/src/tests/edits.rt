@@ -2,12 +2,12 @@
 
 use super::*;
 
-// Ids of 64 and of 65 bytes.
+/// Ids of 64 and of 65 bytes.
 const LONG: &str = "0123456789abcdef0123456789abcdef0123456789abcdef0123456789abcdef";
 
 const TOO_LONG: &str = "0123456789abcdef0123456789abcdef0123456789abcdef0123456789abcdef0";
 
-// Ids of 16 and of 17 bytes.
+/// Ids of 16 and of 17 bytes.
 const SHORT: &str = "0123456789abcdef";
 
 const LONGER: &str = "0123456789abcdefg";
@@ -43,7 +43,7 @@ const LISTED: &[(&str, u32)] = &[("b", 1), ("c", 2), ("a", 3)];
 const EDITS: &[u8] = b"op,layer,id,wkt\r\ninsert,left,a,POINT (1 2)\r\n\
       insert,right,b,\"LINESTRING (0 0, 0 3)\"\r\ndelete,left,a,\r\n";
 
-// Makes insertions, and says whether each is answered so.
+/// Makes insertions, and says whether each is answered so.
 fn inserts(layer: &mut Layer, points: &[Insertion]) -> Result<bool, Fail> {
     for (id, x, answer) in points {
         if layer.insert(id, point(*x, *x)?) != *answer {
@@ -53,12 +53,12 @@ fn inserts(layer: &mut Layer, points: &[Insertion]) -> Result<bool, Fail> {
     Ok(true)
 }
 
-// Removes the feature with this id, and says whether this shape is answered.
+/// Removes the feature with this id, and says whether this shape is answered.
 fn removes(layer: &mut Layer, id: &str, shape: Shape) -> bool {
     layer.remove(id) == Ok(shape)
 }
 
-// Whether an empty layer takes the row's insertions, and then refuses a removal.
+/// Whether an empty layer takes the row's insertions, and then refuses a removal.
 fn takes_row(layer: &mut Layer) -> Result<bool, Fail> {
     let inserted = inserts(layer, ROW)? && finds(layer, "a", 0, point(0, 0)?);
     Ok(inserted && layer.remove("q") == Err(LayerFault::NoSuchId) && layer.len() == 2)
@@ -78,7 +78,7 @@ fn id_texts(rt: HostRuntime) -> Result<(), Fail> {
     Ok(())
 }
 
-// Whether an empty layer takes ids of many lengths, finds them, and loses but the one removed.
+/// Whether an empty layer takes ids of many lengths, finds them, and loses but the one removed.
 fn takes_many_lengths(layer: &mut Layer) -> Result<bool, Fail> {
     let (short, longer) = (point(1, 1)?, point(2, 2)?);
     let inserted = inserts(layer, OF_MANY_LENGTHS)? && finds(layer, SHORT, 1, short);
@@ -92,7 +92,7 @@ fn ids_of_many_lengths(rt: HostRuntime) -> Result<(), Fail> {
     Ok(())
 }
 
-// Adds the points (0 0), (1 0), .. under the ids p0, p1, ..
+/// Adds the points (0 0), (1 0), .. under the ids p0, p1, ..
 fn add_points(alloc: Global, loading: &mut Loading, count: u32) -> Result<(), Fail> {
     let mut id = String::new(alloc);
     for i in 0..count {
@@ -111,14 +111,14 @@ fn add_point(alloc: Global, loading: &mut Loading, id: &str, x: i64) -> Result<(
     Ok(())
 }
 
-// A layer that has had all its features. It is loaded without a file, which takes less time.
+/// A layer that has had all its features. It is loaded without a file, which takes less time.
 fn full_layer<R: RandomSource + AllocGlobal>(rt: &R) -> Result<Layer, Fail> {
     let mut loading = Loading::new(rt.alloc(), RandomState::new(rt)?, MAX_FEATURES)?;
     add_points(rt.alloc(), &mut loading, 1_000_000)?;
     Ok(loading.finish(rt.alloc())?)
 }
 
-// Whether a full layer refuses a new id, and still does so after one removal.
+/// Whether a full layer refuses a new id, and still does so after one removal.
 fn stays_full(full: &mut Layer) -> Result<bool, Fail> {
     let is_full = full.len() == 1_000_000 && inserts(full, INTO_FULL)?;
     Ok(is_full && removes(full, "p7", point(7, 0)?) && inserts(full, INTO_FULL)?)
@@ -128,28 +128,28 @@ fn is_full_for_good<R: RandomSource + AllocGlobal>(rt: &R) -> Result<bool, Fail>
     stays_full(&mut full_layer(rt)?)
 }
 
-// The last part of the row on edits of a layer.
+/// The last part of the row on edits of a layer.
 #[test]
 fn layer_edits_when_full(rt: HostRuntime) -> Result<(), Fail> {
     assert!(rt; is_full_for_good(&rt)?);
     Ok(())
 }
 
-// Deletes a of a layer that has three points, and inserts it again.
+/// Deletes a of a layer that has three points, and inserts it again.
 fn inserts_again(layer: &mut Layer) -> Result<bool, Fail> {
     let removed = removes(layer, "a", point(0, 0)?);
     let is_gone = layer.at(0).is_none() && layer.shape(0).is_none();
     Ok(removed && is_gone && inserts(layer, AGAIN)?)
 }
 
-// Whether an empty layer takes three points, and the first of them again behind the others.
+/// Whether an empty layer takes three points, and the first of them again behind the others.
 fn takes_again(layer: &mut Layer) -> Result<bool, Fail> {
     let inserted = layer.is_empty() && inserts(layer, THREE)? && inserts_again(layer)?;
     Ok(inserted && finds(layer, "a", 3, point(9, 9)?) && layer.len() == 3)
 }
 
-// Whether this is the feature of the id and the number, and the layer finds it and its shape by
-// its number.
+/// Whether this is the feature of the id and the number, and the layer finds it and its shape by
+/// its number.
 fn is_listed(layer: &Layer, feature: &FeatureRef<'_>, id: &str, number: u32) -> bool {
     match layer.at(number) {
         Some(found) => {
@@ -162,7 +162,7 @@ fn is_listed(layer: &Layer, feature: &FeatureRef<'_>, id: &str, number: u32) -> 
     }
 }
 
-// Whether the iterator gives features of these ids and numbers, in this order, and no more.
+/// Whether the iterator gives features of these ids and numbers, in this order, and no more.
 fn has_listed(layer: &Layer, wanted: &[(&str, u32)]) -> bool {
     let mut features = layer.iter();
     for (id, number) in wanted {
@@ -174,7 +174,7 @@ fn has_listed(layer: &Layer, wanted: &[(&str, u32)]) -> bool {
     features.next().is_none()
 }
 
-// Whether a layer without features is edited as wanted, and lists its features so.
+/// Whether a layer without features is edited as wanted, and lists its features so.
 fn lists_again(layer: &mut Layer) -> Result<bool, Fail> {
     Ok(takes_again(layer)? && has_listed(layer, LISTED))
 }
@@ -192,7 +192,7 @@ fn apply_all(edits: &[Edit], left: &mut Layer, right: &mut Layer) -> Result<(), 
     Ok(())
 }
 
-// Whether each edit of the right layer is refused, since its id is there.
+/// Whether each edit of the right layer is refused, since its id is there.
 fn are_doubles(edits: &[Edit], left: &mut Layer, right: &mut Layer) -> bool {
     for edit in edits {
         if edit.side() == Side::Right && edit.apply(left, right) != Err(LayerFault::DoubleId) {
@@ -202,7 +202,7 @@ fn are_doubles(edits: &[Edit], left: &mut Layer, right: &mut Layer) -> bool {
     true
 }
 
-// Makes the edits, and then those of the right layer again.
+/// Makes the edits, and then those of the right layer again.
 fn edits_twice(edits: &[Edit], left: &mut Layer, right: &mut Layer) -> Result<bool, Fail> {
     apply_all(edits, left, right)?;
     let segment = Shape::new(0, 0, 0, 3).ok_or("a segment")?;
@@ -210,13 +210,13 @@ fn edits_twice(edits: &[Edit], left: &mut Layer, right: &mut Layer) -> Result<bo
     Ok(edited && are_doubles(edits, left, right) && right.len() == 1)
 }
 
-// Whether a list of edits is read, and does to two layers without features what it says.
+/// Whether a list of edits is read, and does to two layers without features what it says.
 fn reads_edits(alloc: Global, left: &mut Layer, right: &mut Layer) -> Result<bool, Fail> {
     let edits = edits_of_bytes(alloc, EDITS, whole()?)?;
     Ok(edits.len() == 3 && edits_twice(&edits, left, right)?)
 }
 
-// The same for a left layer and a new right one.
+/// Whether edits of a left layer and a new right one are read and made.
 fn reads_edits_of(rt: &HostRuntime, left: &mut Layer) -> Result<bool, Fail> {
     reads_edits(rt.alloc(), left, &mut empty_layer(rt)?)
 }

@@ -1,4 +1,5 @@
 //! Files of layers and of edits.
+
 ghost use Rattle.std.specs.Prelude.{◌≡◌, false};
 
 use super::devices::{Device, Endless};
@@ -75,14 +76,14 @@ fn edits_fault(alloc: Global, bytes: &[u8]) -> Result<Option<ReadFault>, Fail> {
     Ok(edits_of_bytes(alloc, bytes, whole()?).err())
 }
 
-// The fault of a layer that is read from this source, if it has one.
+/// The fault of a layer that is read from this source, if it has one.
 fn fault_from<S: Source>(rt: &HostRuntime, source: &mut S) -> Result<Option<ReadFault>, Fail>
     requires { S.has_failed source.old ≡ false }
 {
     Ok(read_layer(rt.alloc(), RandomState::new(rt)?, source, whole()?).err())
 }
 
-// The file of a layer whose second read fails.
+/// The file of a layer whose second read fails.
 #[test]
 fn failing_layer(rt: HostRuntime) -> Result<(), Fail> {
     let mut failing = FromRead::new(Device::new(ONE_POINT, 5, 1));
@@ -99,7 +100,7 @@ fn endless_layer(rt: HostRuntime) -> Result<(), Fail> {
     Ok(())
 }
 
-// The place of the first of the broken layers that has another fault.
+/// The place of the first of the broken layers that has another fault.
 fn first_other_layer<R: Threads + Sync + RandomSource + AllocGlobal>(
     rt: &R,
 ) -> Result<Option<usize>, Fail> {
@@ -111,7 +112,7 @@ fn first_other_layer<R: Threads + Sync + RandomSource + AllocGlobal>(
     Ok(None)
 }
 
-// The place of the first of the broken lists of edits that has another fault.
+/// The place of the first of the broken lists of edits that has another fault.
 fn first_other_edits(alloc: Global) -> Result<Option<usize>, Fail> {
     for (place, (bytes, fault)) in BROKEN_EDITS.iter().enumerate() {
         if edits_fault(alloc, bytes)? != Some(*fault) {
@@ -138,7 +139,7 @@ fn spelled_files(rt: HostRuntime) -> Result<(), Fail> {
     Ok(())
 }
 
-// The fault of the file of so many points with these rows behind them, if it has one.
+/// The fault of the file of so many points with these rows behind them, if it has one.
 fn fault_behind<R: Threads + Sync + RandomSource + AllocGlobal>(
     rt: &R,
     count: u32,
@@ -149,7 +150,7 @@ fn fault_behind<R: Threads + Sync + RandomSource + AllocGlobal>(
     fault_of(rt, file.as_bytes())
 }
 
-// The fault of the file of a million points with this row behind them, as so many threads load it.
+/// The fault of the file of a million points with this row behind them, as so many threads load it.
 fn fault_behind_million<R: Threads + Sync + RandomSource + AllocGlobal>(
     rt: &R,
     row: &str,
@@ -188,7 +189,7 @@ fn full_file_new_id_by_two(rt: HostRuntime) -> Result<(), Fail> {
     Ok(())
 }
 
-// A row that is at fault is told by its number and as what it is, and not as a lack of memory.
+/// A row that is at fault is told by its number and as what it is, and not as a lack of memory.
 #[test]
 fn faults_behind_a_thousand_rows(rt: HostRuntime) -> Result<(), Fail> {
     let ragged = fault_behind(&rt, 1_000, "a\n")?;
@@ -198,7 +199,7 @@ fn faults_behind_a_thousand_rows(rt: HostRuntime) -> Result<(), Fail> {
     Ok(())
 }
 
-// An id of 64 bytes is one, and an id of 65 bytes is told as none.
+/// An id of 64 bytes is one, and an id of 65 bytes is told as none.
 #[test]
 fn longest_ids_in_files(rt: HostRuntime) -> Result<(), Fail> {
     let origin = point(0, 0)?;
@@ -208,8 +209,8 @@ fn longest_ids_in_files(rt: HostRuntime) -> Result<(), Fail> {
     Ok(())
 }
 
-// The first fault of two rows is answered, wherever they stand among the batches that are read
-// ahead, each of which has 16,384 rows.
+/// The first fault of two rows is answered, wherever they stand among the batches that are read
+/// ahead, each of which has 16,384 rows.
 #[test]
 fn batched_file_double_id(rt: HostRuntime) -> Result<(), Fail> {
     for count in [16_383, 16_384, 40_000] {
@@ -228,7 +229,7 @@ fn batched_file_broken_row(rt: HostRuntime) -> Result<(), Fail> {
     Ok(())
 }
 
-// How many features the layer of the file of so many points has, as two threads load it.
+/// How many features the layer of the file of so many points has, as two threads load it.
 fn points_loaded<R: Threads + Sync + RandomSource + AllocGlobal>(
     rt: &R,
     count: u32,
@@ -244,7 +245,7 @@ fn whole_batches(rt: HostRuntime) -> Result<(), Fail> {
     Ok(())
 }
 
-// Whether a fault shows as this text and is of this row.
+/// Whether a fault shows as this text and is of this row.
 fn shows(
     alloc: Global,
     fault: ReadFault,

@@ -1,9 +1,10 @@
 //! A long mixed list of edits of a layer that was read, beside a plain list of its features.
+
 ghost use Rattle.rtree_core.specs.Nodes.{IsLawful};
 
 use super::*;
 use rtree_core::{Entry, Node};
-use samples::Random;
+use test_data::Random;
 
 /// How many names ids are made of.
 const NAMES: usize = 400;

@@ -2,10 +2,10 @@
 
 use super::*;
 
-// How many rows a file has, so that it is read in parts.
+/// How many rows a file has, so that it is read in parts.
 const ROWS: u32 = 10_000;
 
-// What a row has before and behind its number: line feeds and quotes where a cut may come.
+/// What a row has before and behind its number: line feeds and quotes where a cut may come.
 const FORMS: &[(&str, &str)] = &[
     ("\"p", "\n\",POINT (1 2)\n"),
     ("p", ",\"POINT (1\n2)\"\n"),
@@ -15,7 +15,7 @@ const FORMS: &[(&str, &str)] = &[
     ("\u{feff}p", ",POINT (1 2)\n"),
 ];
 
-// A layer file of rows of a form.
+/// A layer file of rows of a form.
 fn file_of(alloc: Global, front: &str, back: &str) -> Result<String, AllocError> {
     let mut file = String::from_str(alloc, "id,wkt\n")?;
     for i in 0..ROWS {
@@ -24,12 +24,12 @@ fn file_of(alloc: Global, front: &str, back: &str) -> Result<String, AllocError>
     Ok(file)
 }
 
-// The layer has all rows, the last of which has this id.
+/// The layer has all rows, the last of which has this id.
 fn has_all(layer: &Layer, last: &str, shape: Shape) -> bool {
     layer.len() == ROWS as usize && finds(layer, last, ROWS - 1, shape)
 }
 
-// The place of the first form whose file so many threads read as another layer.
+/// The place of the first form whose file so many threads read as another layer.
 fn first_other_form<R: Threads + Sync + RandomSource + AllocGlobal>(
     rt: &R,
     threads: u32,
@@ -63,7 +63,7 @@ fn forms_in_parts(rt: HostRuntime) -> Result<(), Fail> {
     Ok(())
 }
 
-// A fault behind a cut is told with its row's number in the file, and before one of a later part.
+/// A fault behind a cut is told with its row's number in the file, and before one of a later part.
 #[test]
 fn faults_in_parts(rt: HostRuntime) -> Result<(), Fail> {
     let mut file = points_file(rt.alloc(), ROWS)?;

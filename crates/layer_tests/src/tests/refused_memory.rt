@@ -4,7 +4,7 @@
 
 use super::*;
 
-// An id that takes memory.
+/// An id that takes memory.
 const LONG_ID: &str = "0123456789abcdefg";
 
 const IDS: &[&str] = &[
@@ -33,7 +33,7 @@ fn outline(layer: &Layer) -> (Stats, Option<Shape>, usize) {
     )
 }
 
-// Inserts a feature, again where memory was refused, and says whether only that changes the layer.
+/// Inserts a feature, again where memory was refused, and says whether only that changes the layer.
 fn inserts_at_last(layer: &mut Layer, id: &str, shape: Shape) -> bool {
     let before = outline(layer);
     if layer.insert(id, shape) == Err(LayerFault::Memory) {
@@ -43,7 +43,7 @@ fn inserts_at_last(layer: &mut Layer, id: &str, shape: Shape) -> bool {
     outline(layer) != before
 }
 
-// Removes a feature, again where memory was refused, and says whether only that changes the layer.
+/// Removes a feature, again where memory was refused, and says whether only that changes the layer.
 fn removes_at_last(layer: &mut Layer, id: &str) -> bool {
     let before = outline(layer);
     let found = layer.find(id);
@@ -54,7 +54,7 @@ fn removes_at_last(layer: &mut Layer, id: &str) -> bool {
     outline(layer) != before && layer.find(id).is_none()
 }
 
-// A layer with no features, made again where memory was refused.
+/// A layer with no features, made again where memory was refused.
 fn layer_at_last(rt: &HostRuntime) -> Result<Layer, Fail> {
     match Layer::new(rt.alloc(), RandomState::new(rt)?) {
         Ok(layer) => Ok(layer),
@@ -62,7 +62,7 @@ fn layer_at_last(rt: &HostRuntime) -> Result<Layer, Fail> {
     }
 }
 
-// What is seen of a layer with no features, made again where memory was refused.
+/// What is seen of a layer with no features, made again where memory was refused.
 fn on_layer_at_last<F: FnOnce(&mut Layer) -> Result<bool, Fail>>(
     rt: &HostRuntime,
     see: F,
@@ -72,7 +72,7 @@ fn on_layer_at_last<F: FnOnce(&mut Layer) -> Result<bool, Fail>>(
     see(&mut layer_at_last(rt)?)
 }
 
-// Inserts points in a row under these ids, and says whether each is found.
+/// Inserts points in a row under these ids, and says whether each is found.
 fn grows(layer: &mut Layer, ids: &[&str]) -> Result<bool, Fail> {
     for (number, id) in (0..).zip(ids) {
         let shape = point(i64::from(number), 0)?;
@@ -92,12 +92,12 @@ fn shrinks(layer: &mut Layer) -> bool {
     true
 }
 
-// Whether the layer and its tree have so many features.
+/// Whether the layer and its tree have so many features.
 fn has_len(layer: &Layer, len: usize) -> bool {
     layer.len() == len && layer.tree().len() == len
 }
 
-// Grows and shrinks a layer, and inserts once more.
+/// Grows and shrinks a layer, and inserts once more.
 fn grows_again(layer: &mut Layer) -> Result<bool, Fail> {
     let origin = point(0, 0)?;
     let is_edited = grows(layer, IDS)? && shrinks(layer) && inserts_at_last(layer, "a", origin);
@@ -110,7 +110,7 @@ fn refused_growths(rt: HostRuntime) -> Result<(), Fail> {
     Ok(())
 }
 
-// Whether a layer of eight features takes a ninth, for which its tree needs a second leaf.
+/// Whether a layer of eight features takes a ninth, for which its tree needs a second leaf.
 fn takes_ninth(layer: &mut Layer) -> Result<bool, Fail> {
     let shape = point(8, 0)?;
     let is_taken = grows(layer, FIRST_EIGHT)? && inserts_at_last(layer, "ninth", shape);
@@ -123,7 +123,7 @@ fn refused_3(rt: HostRuntime) -> Result<(), Fail> {
     Ok(())
 }
 
-// Whether ten features are loaded, or the fault.
+/// Whether ten features are loaded, or the fault.
 fn loads_ten<R: Threads + Sync + RandomSource + AllocGlobal>(
     rt: &R,
 ) -> Result<Result<bool, ReadFault>, Fail> {

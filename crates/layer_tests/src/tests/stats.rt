@@ -27,7 +27,7 @@ fn stats_of<R: Threads + Sync + RandomSource + AllocGlobal>(
     Ok(layer_of(rt, bytes)??.stats())
 }
 
-// The counts of the layer of two features once they are removed.
+/// The counts of the layer of two features once they are removed.
 fn stats_emptied(layer: &mut Layer) -> Result<Stats, Fail> {
     layer.remove("a")?;
     layer.remove("b")?;

@@ -1,11 +1,18 @@
-use Rattle.std.proofs.Common.{codes, string_bytes}
+use Rattle.std.proofs.Common.{◌≡◌, ◌++◌, codes, string_bytes}
 use Rattle.std.proofs.lemmas.Result.{on_ok_weaker}
+use Rattle.draw_core.specs.Pictures.{counted}
 use Rattle.draw_core.proofs.PictureLemmas.{on_push, four_pieces}
 use Rattle.draw_core.proofs.drawing.push_canvas.Goals as goal
 
 pub returns : goal.returns
 returns c =
-    on_ok_weaker c.push_str.result
-    (λ e. four_pieces _ _ _ _ _ _ _ _ _ c.in_ok-push_counted.ensures (rw c.width.ensures at c.in_ok-push_counted-2.ensures)
-    (rw c.height.ensures at c.in_ok-push_counted-3.ensures) e)
-    (on_push c.push_str.result (string_bytes c.push_counted-3.new.text) _ (codes "\">\n") c.push_str.ensures.bytes)
+    let view = c.args.frame.now in
+    let before = string_bytes c.push_counted.new.text in
+    let wide = string_bytes c.push_counted-2.new.text in
+    let high = string_bytes c.push_counted-3.new.text in
+    let width = counted (codes "\" preserveAspectRatio=\"xMidYMin\" viewBox=\"0 0 ") view.width in
+    let height = counted (codes " ") view.height in
+    let wider : wide ≡ before ++ width = cc c.in_ok-push_counted-2.ensures in
+    let higher : high ≡ wide ++ height = cc c.in_ok-push_counted-3.ensures in
+    on_ok_weaker c.push_str.result (λ e. four_pieces _ _ _ _ _ _ _ _ _ c.in_ok-push_counted.ensures wider higher e)
+    (on_push c.push_str.result high _ (codes "\">\n") c.push_str.ensures.bytes)

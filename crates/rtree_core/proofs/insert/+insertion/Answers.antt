@@ -51,11 +51,11 @@ insert_below-add-requires-clause-list g t c =
     let page = (opened g t (goal.at.insert_below-add-requires-clause-list g t c).After-index_mut).inner.page in
     record { some = page.some; few = page.few; room = page.room }
 
-pub insert_below-add-requires-clause-spare : goal.insert_below-add-requires-clause-spare
-insert_below-add-requires-clause-spare g t c =
-    let at = (goal.at.insert_below-add-requires-clause-spare g t c).After-index_mut in
+pub insert_below-add-requires-clause-free : goal.insert_below-add-requires-clause-free
+insert_below-add-requires-clause-free g t c =
+    let at = (goal.at.insert_below-add-requires-clause-free g t c).After-index_mut in
     record {
-      spare = c.in-Some.ensures.spent.lists.inners;
+      free = c.in-Some.ensures.spent.lists.inners;
       enough = omega (arith, c.requires.ready.some_inners, c.in-Some.ensures.spent.inner, child_level_is g t at, (opened g t at).level_is);
     }
 
@@ -84,7 +84,7 @@ pub insert_below-returns-in-Some-clause-spent : goal.insert_below-returns-in-Som
 insert_below-returns-in-Some-clause-spent g t c =
     let at = (goal.at.insert_below-returns-in-Some-clause-spent g t c).After-index_mut in
     record {
-      lists = record { leaves = c.in-Some.ensures.spent.lists.leaves; inners = c.add.ensures.spent.spare };
+      lists = record { leaves = c.in-Some.ensures.spent.lists.leaves; inners = c.add.ensures.spent.free };
       leaf = c.in-Some.ensures.spent.leaf;
       inner = omega (arith, c.in-Some.ensures.spent.inner, c.add.ensures.spent.len, child_level_is g t at, (opened g t at).level_is);
     }

@@ -7,10 +7,10 @@ pub add-requires-clause-list : goal.add-requires-clause-list
 add-requires-clause-list c =
     page_list (λ n. n.cover) c.args.cover.now c.args.children.now (open_inner c.args.cover.now c.args.children.now c.requires.lawful).inner.page
 
-pub add-requires-clause-spare : goal.add-requires-clause-spare
-add-requires-clause-spare c = record {
-  spare = c.requires.spare.spare;
-  enough = omega (arith, c.requires.spare.enough, (open_inner c.args.cover.now c.args.children.now c.requires.lawful).level_is);
+pub add-requires-clause-free : goal.add-requires-clause-free
+add-requires-clause-free c = record {
+  free = c.requires.free.free;
+  enough = omega (arith, c.requires.free.enough, (open_inner c.args.cover.now c.args.children.now c.requires.lawful).level_is);
 }
 
 pub returns-clause-inserted : goal.returns-clause-inserted

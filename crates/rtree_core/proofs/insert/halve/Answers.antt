@@ -27,21 +27,21 @@ returns-clause-halved g c = record {
 }
 
 pub take_list-one-requires-clause-some : goal.take_list-one-requires-clause-some
-take_list-one-requires-clause-some g c = omega (arith, c.requires.spare.enough)
+take_list-one-requires-clause-some g c = omega (arith, c.requires.free.enough)
 
-pub take_list-one-requires-clause-spare : goal.take_list-one-requires-clause-spare
-take_list-one-requires-clause-spare g c = c.requires.spare.spare
+pub take_list-one-requires-clause-free : goal.take_list-one-requires-clause-free
+take_list-one-requires-clause-free g c = c.requires.free.free
 
 pub take_list-two-requires-clause-some : goal.take_list-two-requires-clause-some
-take_list-two-requires-clause-some g c = omega (arith, c.requires.spare.enough, c.take_list-one.ensures.len)
+take_list-two-requires-clause-some g c = omega (arith, c.requires.free.enough, c.take_list-one.ensures.len)
 
-pub take_list-two-requires-clause-spare : goal.take_list-two-requires-clause-spare
-take_list-two-requires-clause-spare g c = c.take_list-one.ensures.spare
+pub take_list-two-requires-clause-free : goal.take_list-two-requires-clause-free
+take_list-two-requires-clause-free g c = c.take_list-one.ensures.free
 
 pub push_reserved-requires : goal.push_reserved-requires
 push_reserved-requires g c = omega (
   arith,
-  c.args.spare.now.ok.1,
+  c.args.free.now.ok.1,
   c.take_list-one.ensures.len,
   c.take_list-one.ensures.capacity,
   c.take_list-two.ensures.len,
@@ -59,8 +59,8 @@ returns-clause-list g c =
 
 pub returns-clause-spent : goal.returns-clause-spent
 returns-clause-spent g c = record {
-  spare = rw (c.push_reserved.ensures.items, c.replace-emptied.ensures.value)
-      (All-push (λ v. IsRoom v) c.take_list-two.new.spare.items c.split.new.rest c.take_list-two.ensures.spare (record {
+  free = rw (c.push_reserved.ensures.items, c.replace-emptied.ensures.value)
+      (All-push (λ v. IsRoom v) c.take_list-two.new.free.items c.split.new.rest c.take_list-two.ensures.free (record {
         empty = c.split.ensures.emptied;
         room = omega (arith, c.requires.nine, c.args.list.now.ok.1, c.split.ensures.rest_capacity);
       }));

@@ -1,4 +1,4 @@
-use Rattle.std.proofs.Common.{pos}
+use Rattle.std.proofs.Common.{pos, rules}
 use Rattle.wkt_core.specs.declared.keyword.Keyword.TheVariants.{Point, LineString}
 use Rattle.wkt_core.specs.declared.position.Position.{Position}
 use Rattle.wkt_core.proofs.FormLemmas.{none_weaker, drawn_at, drawn_point, drawn_segment}
@@ -11,13 +11,13 @@ origin = record { x = pos 0; y = pos 0 }
 pub returns-in-empty-clause-none : goal.returns-in-empty-clause-none
 returns-in-empty-clause-none c =
     none_weaker c.spanned.result c.spanned.ensures.none (λ none s h.
-    none s (drawn_point origin c.turns.result.now c.in_ok-last.last s c.in-empty.len_below
-    (drawn_at c.args.keyword Point c.args.walk.now.turns.items c.turns.result.now c.args.walk.now.last c.in_ok-last.last s c.in-Point.is
-    c.turns.ensures c.in_ok-last.ensures h)))
+    none s (drawn_point origin _ c.in_ok-last.last s c.in-empty.len_below
+    (drawn_at c.args.keyword Point c.args.walk.now.turns.items _ c.args.walk.now.last c.in_ok-last.last s c.in-Point.is
+    (search rules) c.in_ok-last.ensures h)))
 
 pub returns-in-len1-clause-none : goal.returns-in-len1-clause-none
 returns-in-len1-clause-none c =
     none_weaker c.segment.result c.segment.ensures.none (λ none s h.
-    none s (drawn_segment origin c.turns-in-LineString.result.now c.in_ok-last.last s c.in-len1.len_at_least
-    (drawn_at c.args.keyword LineString c.args.walk.now.turns.items c.turns-in-LineString.result.now c.args.walk.now.last c.in_ok-last.last s
-    c.in-LineString.is c.turns-in-LineString.ensures c.in_ok-last.ensures h)))
+    none s (drawn_segment origin _ c.in_ok-last.last s c.in-len1.len_at_least
+    (drawn_at c.args.keyword LineString c.args.walk.now.turns.items _ c.args.walk.now.last c.in_ok-last.last s
+    c.in-LineString.is (search rules) c.in_ok-last.ensures h)))

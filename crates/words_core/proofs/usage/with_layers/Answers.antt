@@ -1,4 +1,4 @@
-use Rattle.std.proofs.Common.{codes, [], ◌∷◌}
+use Rattle.std.proofs.Common.{codes, [], ◌∷◌, rules}
 use Rattle.std.proofs.lemmas.Result.{IfOk-weaker}
 use Rattle.words_core.proofs.UsageLemmas.{adds_one, adds_then}
 use Rattle.words_core.specs.Usage.{positional_rule}
@@ -6,4 +6,4 @@ use Rattle.words_core.proofs.usage.with_layers.Goals as goal
 
 pub returns : goal.returns
 returns c = IfOk-weaker c.arg-2.result _ _ (λ command added. adds_then (positional_rule (codes "LEFT") ∷ []) (positional_rule (codes "RIGHT") ∷ []) _ _ _
-    (adds_one _ _ _ _ c.in_ok-arg.ensures c.positional.ensures) (adds_one _ _ _ _ added c.positional-2.ensures)) c.arg-2.ensures
+    (adds_one _ _ _ _ c.in_ok-arg.ensures (search rules)) (adds_one _ _ _ _ added (search rules))) c.arg-2.ensures

@@ -1,4 +1,4 @@
-use Rattle.std.proofs.Common.{codes, [], ◌∷◌}
+use Rattle.std.proofs.Common.{codes, [], ◌∷◌, rules}
 use Rattle.std.proofs.lemmas.Result.{IfOk-weaker}
 use Rattle.words_core.proofs.UsageLemmas.{adds_one, adds_then}
 use Rattle.words_core.specs.Usage.{numeric_rule, scale_rule}
@@ -12,5 +12,5 @@ returns c =
     IfOk-weaker c.arg-4.result _ _ (λ command added. adds_then (workers ∷ batch ∷ cut ∷ []) (scale_rule ∷ []) _ _ _
     (adds_then (workers ∷ batch ∷ []) (cut ∷ []) _ _ _
     (adds_then (workers ∷ []) (batch ∷ []) _ _ _
-    (adds_one _ _ _ _ c.in_ok-arg.ensures c.numeric.ensures) (adds_one _ _ _ _ c.in_ok-arg-2.ensures c.numeric-2.ensures))
-    (adds_one _ _ _ _ c.in_ok-arg-3.ensures c.numeric-3.ensures)) (adds_one _ _ _ _ added c.scale.ensures)) c.arg-4.ensures
+    (adds_one _ _ _ _ c.in_ok-arg.ensures (search rules)) (adds_one _ _ _ _ c.in_ok-arg-2.ensures (search rules)))
+    (adds_one _ _ _ _ c.in_ok-arg-3.ensures (search rules))) (adds_one _ _ _ _ added (search rules))) c.arg-4.ensures

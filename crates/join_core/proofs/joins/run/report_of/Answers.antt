@@ -1,5 +1,5 @@
 use Rattle.std.proofs.Common.{All, rules}
-use Rattle.output_core.specs.Reports.{IsHeld}
+use Rattle.report_core.specs.Reports.{IsHeld}
 use Rattle.join_core.proofs.JoinRunLemmas.{pairs_held}
 use Rattle.join_core.proofs.joins.run.report_of.Goals as goal
 

@@ -1,4 +1,4 @@
-use Rattle.std.proofs.Common.{arith}
+use Rattle.std.proofs.Common.{arith, rules}
 use Rattle.rtree_core.specs.Nodes.{entries_of}
 use Rattle.rtree_core.proofs.TreeLemmas.{same_length}
 use Rattle.rtree_core.proofs.tree.RTree.from_pages.Goals as goal
@@ -8,7 +8,7 @@ invariant_of-result c =
     let made = c.in_ok-root.ensures in
     record {
       tree = made.tree;
-      sound = record { lawful = made.tree.lawful.lawful; height_is = made.height_is; lists = c.new-2.ensures };
+      sound = record { lawful = made.tree.lawful.lawful; height_is = made.height_is; lists = search rules };
       len = omega (arith, c.len-len.ensures, c.args.entries.ok.0, same_length c.args.entries.items (entries_of c.in_ok-root.root) made.same);
-      none_aside = c.new-3.ensures.items;
+      none_aside = search rules;
     }

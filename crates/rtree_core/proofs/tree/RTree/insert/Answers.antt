@@ -4,25 +4,25 @@ use Rattle.rtree_core.specs.Trees.{entries_in}
 use Rattle.rtree_core.proofs.TreeLemmas.{tree_length, tree_height, tree_gains, same_length}
 use Rattle.rtree_core.proofs.tree.RTree.insert.Goals as goal
 
-pub gather-requires-clause-small : goal.gather-requires-clause-small
-gather-requires-clause-small c = omega (arith, tree_height c.self.inside.trunk.root c.self.invariant.tree, c.self.invariant.sound.height_is)
+pub reserve_lists-requires-clause-small : goal.reserve_lists-requires-clause-small
+reserve_lists-requires-clause-small c = omega (arith, tree_height c.self.inside.tree.root c.self.invariant.tree, c.self.invariant.sound.height_is)
 
 pub overflow_add-self : goal.overflow_add-self
-overflow_add-self c = omega (arith, tree_length c.self.inside.trunk.root c.self.invariant.tree, c.self.invariant.len)
+overflow_add-self c = omega (arith, tree_length c.self.inside.tree.root c.self.invariant.tree, c.self.invariant.len)
 
 pub invariant_of-self-2 : goal.invariant_of-self-2
 invariant_of-self-2 c =
     let took = c.insert_entry.ensures in
-    let same = c.in_ok-gather.ensures.root in
-    let gains : Gains c.args.entry (entries_in c.self.inside.trunk.root) (entries_in c.insert_entry.new.self.root) = rw same at took.gains in
+    let same = c.in_ok-reserve_lists.ensures.root in
+    let gains : Gains c.args.entry (entries_in c.self.inside.tree.root) (entries_in c.insert_entry.new.self.root) = rw same at took.gains in
     record {
-      tree = tree_gains c.args.entry c.self.inside.trunk.root c.insert_entry.new.self.root (omega arith) (rw (← c.self.view_is) at c.requires)
+      tree = tree_gains c.args.entry c.self.inside.tree.root c.insert_entry.new.self.root (omega arith) (rw (← c.self.view_is) at c.requires)
           c.self.invariant.tree gains (took.rooted (rw same c.self.invariant.tree.lawful));
       sound = took.sound;
       len = omega (
         arith,
         c.self.invariant.len,
-        same_length (c.args.entry ∷ entries_in c.self.inside.trunk.root) (entries_in c.insert_entry.new.self.root)
+        same_length (c.args.entry ∷ entries_in c.self.inside.tree.root) (entries_in c.insert_entry.new.self.root)
             gains,
       );
       none_aside = c.self.invariant.none_aside;

@@ -10,33 +10,33 @@ pub overflow_mul-levels : goal.overflow_mul-levels
 overflow_mul-levels c = omega (
   arith,
   c.saturating_sub-levels.ensures,
-  tree_height c.self.inside.trunk.root
+  tree_height c.self.inside.tree.root
       c.self.invariant.tree,
   c.self.invariant.sound.height_is,
 )
 
-pub gather-requires-clause-small : goal.gather-requires-clause-small
-gather-requires-clause-small c = omega (
+pub reserve_lists-requires-clause-small : goal.reserve_lists-requires-clause-small
+reserve_lists-requires-clause-small c = omega (
   arith,
   c.saturating_sub-levels.ensures,
-  tree_height c.self.inside.trunk.root
+  tree_height c.self.inside.tree.root
       c.self.invariant.tree,
   c.self.invariant.sound.height_is,
 )
 
 pub invariant_of-self-then-removed : goal.invariant_of-self-then-removed
 invariant_of-self-then-removed c =
-    let loses : Gains c.args.entry.now (entries_in c.remove-removed.new.self.root) (entries_in c.self.inside.trunk.root) = rw c.in_ok-gather.ensures.root
+    let loses : Gains c.args.entry.now (entries_in c.remove-removed.new.self.root) (entries_in c.self.inside.tree.root) = rw c.in_ok-reserve_lists.ensures.root
     at (c.if-removed.ensures.loses refl) in
     record {
-      tree = tree_loses c.args.entry.now c.self.inside.trunk.root c.remove-removed.new.self.root c.self.invariant.tree loses
+      tree = tree_loses c.args.entry.now c.self.inside.tree.root c.remove-removed.new.self.root c.self.invariant.tree loses
           c.remove-removed.ensures.rooted.root;
       sound = c.remove-removed.ensures.rooted.sound;
       len = omega (
         arith,
         c.self.invariant.len,
         same_length (c.args.entry.now ∷ entries_in c.remove-removed.new.self.root)
-            (entries_in c.self.inside.trunk.root) loses,
+            (entries_in c.self.inside.tree.root) loses,
       );
       none_aside = c.remove-removed.ensures.none_aside;
     }
@@ -50,14 +50,14 @@ returns-in_err-reserve-clause-loses c = rw (err_from_is_err_and c.from_residual.
 pub returns-in_err-reserve-clause-unchanged : goal.returns-in_err-reserve-clause-unchanged
 returns-in_err-reserve-clause-unchanged c = rw (err_from_is_err_and c.from_residual.result c.from_residual.ensures.1).1 tt
 
-pub returns-in_err-gather-clause-held : goal.returns-in_err-gather-clause-held
-returns-in_err-gather-clause-held c = rw (err_from_is_err_and c.from_residual-in_err-gather.result c.from_residual-in_err-gather.ensures.1).1 tt
+pub returns-in_err-reserve_lists-clause-held : goal.returns-in_err-reserve_lists-clause-held
+returns-in_err-reserve_lists-clause-held c = rw (err_from_is_err_and c.from_residual-in_err-reserve_lists.result c.from_residual-in_err-reserve_lists.ensures.1).1 tt
 
-pub returns-in_err-gather-clause-loses : goal.returns-in_err-gather-clause-loses
-returns-in_err-gather-clause-loses c = rw (err_from_is_err_and c.from_residual-in_err-gather.result c.from_residual-in_err-gather.ensures.1).1 tt
+pub returns-in_err-reserve_lists-clause-loses : goal.returns-in_err-reserve_lists-clause-loses
+returns-in_err-reserve_lists-clause-loses c = rw (err_from_is_err_and c.from_residual-in_err-reserve_lists.result c.from_residual-in_err-reserve_lists.ensures.1).1 tt
 
-pub returns-in_err-gather-clause-unchanged : goal.returns-in_err-gather-clause-unchanged
-returns-in_err-gather-clause-unchanged c = rw (err_from_is_err_and c.from_residual-in_err-gather.result c.from_residual-in_err-gather.ensures.1).1 tt
+pub returns-in_err-reserve_lists-clause-unchanged : goal.returns-in_err-reserve_lists-clause-unchanged
+returns-in_err-reserve_lists-clause-unchanged c = rw (err_from_is_err_and c.from_residual-in_err-reserve_lists.result c.from_residual-in_err-reserve_lists.ensures.1).1 tt
 
 pub returns-then-removed-clause-unchanged : goal.returns-then-removed-clause-unchanged
 returns-then-removed-clause-unchanged c = λ e. absurd (false≢true (sym e ∙ c.if-removed.true))
@@ -65,8 +65,8 @@ returns-then-removed-clause-unchanged c = λ e. absurd (false≢true (sym e ∙ 
 pub returns-else-removed-clause-loses : goal.returns-else-removed-clause-loses
 returns-else-removed-clause-loses c = λ e. absurd (false≢true (sym c.if-removed.false ∙ e))
 
-pub gather-requires-clause-sound : goal.gather-requires-clause-sound
-gather-requires-clause-sound c = c.self.invariant.sound
+pub reserve_lists-requires-clause-sound : goal.reserve_lists-requires-clause-sound
+reserve_lists-requires-clause-sound c = c.self.invariant.sound
 
 pub invariant_of-self : goal.invariant_of-self
 invariant_of-self c =

@@ -1,5 +1,0 @@
-use Rattle.output_core.proofs.ReportLemmas.{header_made}
-use Rattle.output_core.proofs.report.header_text.Goals as goal
-
-pub returns : goal.returns
-returns c = header_made _ _ c.new-text.ensures.items c.in_ok-extend_from_slice.ensures.items

@@ -1,7 +1,0 @@
-use Rattle.output_core.proofs.ReportLemmas.{line_added}
-use Rattle.output_core.proofs.report.push_row.Goals as goal
-
-pub returns : goal.returns
-returns c =
-    line_added _ _ _ _ _ _ _ _ c.in_ok-extend_from_slice.ensures.items c.in_ok-extend_from_slice-2.ensures.items c.in_ok-extend_from_slice-3.ensures.items
-    c.in_ok-push.ensures.items

@@ -1,6 +1,0 @@
-use Rattle.std.proofs.Common.{refl}
-use Rattle.output_core.proofs.ReportLemmas.{report_written}
-use Rattle.output_core.proofs.report.whole_text.Goals as goal
-
-pub returns : goal.returns
-returns c = report_written _ _ _ _ _ _ c.in_ok-text.ensures c.in_ok-push_rows.ensures refl

@@ -1,0 +1,10 @@
+pub mod Endings
+pub mod Receivers
+pub mod Ownership
+pub mod PlanOrder
+pub mod Results
+pub mod Scripts
+pub mod TakingIn
+pub mod TeamEndings
+pub mod Teams
+pub mod Workers

@@ -1,0 +1,76 @@
+//! The workers of a join: they process the tasks of a plan side by side.
+
+ghost use Rattle.std.specs.Prelude.{◌≡◌, ◌≤◌, true, false, IfErr, IfOk};
+ghost use Rattle.geom_core.specs.JoinRelations.{relation_of};
+ghost use Rattle.parallel_core.specs.Deliveries.{IsDelivered};
+ghost use Rattle.parallel_core.specs.Faults.{IsWant};
+
+use crate::fault::JoinFault;
+use crate::gate::Gate;
+use crate::receiver::Receiver;
+use crate::rows::Rows;
+use crate::shared::Shared;
+use crate::team::{Team, run};
+use deliver_core::{Board, MAX_BATCH, MAX_WORKERS, Outcome, Outlet, owners_law};
+use geom_core::JoinRelation;
+use std::alloc::Global;
+use std::sync::Wait;
+use std::thread::Threads;
+
+/// Processes the tasks of a plan by so many workers, each in a thread of its own, and gives what
+/// they delivered. Each of them enters the gate with each task that it draws.
+///
+/// All of them have ended when the call returns. It answers `Memory` where memory was refused, and
+/// `NoThread` where there was no thread for a worker; nothing else is ever answered.
+pub fn run_workers<'a, R: Threads + Wait + Sync, P: Rows + Sync, G: Gate + Sync>(
+    rt: &R,
+    alloc: Global,
+    plan: &'a P,
+    relation: &'a JoinRelation,
+    workers: u32,
+    batch: u32,
+    gate: &'a G,
+) -> Result<Outcome, JoinFault>
+    requires workers { (1 ≤ workers) × (workers ≤ MAX_WORKERS) }
+    requires batch { (1 ≤ batch) × (batch ≤ MAX_BATCH) }
+    ensures ok { IfOk result (IsDelivered (relation_of relation.now) (P.tasks plan.now) batch) }
+    ensures err { IfErr result IsWant }
+{
+    let tasks = plan.len();
+    let (board, seats) = Board::new(alloc, tasks, workers)?;
+    let (outlet, ports, tap) = Outlet::new(alloc, workers)?;
+    let receiver = Receiver::new(alloc, &outlet, workers, tap, tasks)?;
+    let shared = Shared {
+        plan,
+        relation,
+        batch,
+        gate,
+        board: &board,
+        outlet: &outlet,
+    };
+    let team = Team::new(seats, ports, receiver);
+    let Team {
+        seats,
+        ports: _,
+        receiver,
+        all_started,
+        all_ok,
+    } = run(rt, alloc, shared, team);
+    are_started(all_started)?;
+    owners_law();
+    board.close(seats);
+    let fused = receiver.fused;
+    fused.finish(rt, workers, all_ok)
+}
+
+/// Refuses a team in which some worker had no thread.
+fn are_started(all_started: bool) -> Result<(), JoinFault>
+    ensures ok { IfOk result (λ _. all_started ≡ true) }
+    ensures err { IfErr result (λ fault. (all_started ≡ false) × (fault ≡ JoinFault.NoThread)) }
+{
+    if all_started {
+        Ok(())
+    } else {
+        Err(JoinFault::NoThread)
+    }
+}

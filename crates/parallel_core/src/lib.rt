@@ -1,0 +1,22 @@
+//! The workers of a join: each draws tasks from the board and sends their scripts by its port, and
+//! who has started them receives what they send.
+#![tactic(auto)]
+
+mod delivery;
+mod fault;
+mod fused_collector;
+mod gate;
+mod pause;
+mod receiver;
+mod rows;
+mod script;
+mod shared;
+mod team;
+mod working;
+
+pub use deliver_core::{MAX_BATCH, MAX_WORKERS};
+pub use delivery::run_workers;
+pub use fault::JoinFault;
+pub use gate::{Gate, OpenGate};
+pub use rows::Rows;
+pub use working::{Worked, worker};

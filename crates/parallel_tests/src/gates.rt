@@ -1,0 +1,114 @@
+//! That a task is entered at the gate before its row is made.
+
+use crate::teams::{are_twenty, sees};
+use descent_core::Plan;
+use geom_core::{JoinRelation, Relation};
+use parallel_core::{Gate, MAX_WORKERS, Rows, run_workers};
+use rtree_core::RTree;
+use std::alloc::{AllocError, Global};
+use std::sync::Wait;
+use std::sync::atomic::{AtomicBool, AtomicU64, Ordering};
+use std::thread::Threads;
+
+/// A gate that notes which tasks were entered, by a bit each, and whether one was missed: whether
+/// its row was made first.
+#[derive(Drop)]
+struct Entries {
+    entered: AtomicU64,
+    missed: AtomicBool,
+}
+
+impl Entries {
+    fn new() -> Entries {
+        Entries {
+            entered: AtomicU64::new(0),
+            missed: AtomicBool::new(false),
+        }
+    }
+
+    /// Whether these tasks were entered, and each before its row was made.
+    fn were(&self, tasks: u64) -> bool {
+        self.entered.load(Ordering::SeqCst) == tasks && !self.missed.load(Ordering::SeqCst)
+    }
+}
+
+/// The bit of a task, of which there are a few.
+fn bit(task: u32) -> u64 {
+    1 << (task % 64)
+}
+
+impl Gate for Entries {
+    fn enter<R: Threads + Wait + Sync>(&self, _rt: &R, task: u32) {
+        self.entered.fetch_or(bit(task), Ordering::SeqCst);
+    }
+}
+
+/// The rows of a plan, which note at a gate where their task wasn't entered.
+#[derive(Drop)]
+struct Watched<'a, P> {
+    rows: &'a P,
+    gate: &'a Entries,
+}
+
+impl<'a, P: Rows> Rows for Watched<'a, P> {
+    ghost tasks = { λ watched. P.tasks watched.rows.now };
+
+    fn len(&self) -> u32 {
+        self.rows.len()
+    }
+
+    fn row_of(
+        &self,
+        alloc: Global,
+        task: u32,
+        relation: &JoinRelation,
+    ) -> Result<Vec<(u32, u32)>, AllocError> {
+        if self.gate.entered.load(Ordering::SeqCst) & bit(task) == 0 {
+            self.gate.missed.store(true, Ordering::SeqCst);
+        }
+        self.rows.row_of(alloc, task, relation)
+    }
+}
+
+/// Whether so many workers enter each of the three tasks of two trees before they make its row.
+fn enter_first<R: Threads + Wait + Sync>(
+    rt: &R,
+    alloc: Global,
+    trees: (&RTree, &RTree),
+    workers: u32,
+) -> Option<bool> {
+    if workers == 0 || workers > MAX_WORKERS {
+        return None;
+    }
+    let relation = JoinRelation::new(Relation::Equals).ok()?;
+    let plan = Plan::new(alloc, trees.0, trees.1, 1).ok()?;
+    let gate = Entries::new();
+    let rows = Watched {
+        rows: &plan,
+        gate: &gate,
+    };
+    let outcome = run_workers(rt, alloc, &rows, &relation, workers, 1, &gate).ok()?;
+    Some(are_twenty(outcome.pairs()) && gate.were(0b111))
+}
+
+/// Whether one worker does, and two, and more than there are tasks.
+fn all_enter_first<R: Threads + Wait + Sync>(
+    rt: &R,
+    alloc: Global,
+    left: &RTree,
+    right: &RTree,
+) -> bool {
+    [1, 2, 5].iter().all(|workers| enter_first(rt, alloc, (left, right), *workers) == Some(true))
+}
+
+#[test]
+fn task_entered_before_its_row(rt: HostRuntime) {
+    let (alloc, shared) = (rt.alloc(), &rt);
+    assert!(rt;
+        sees(
+            alloc,
+            (20, 1),
+            |left, right| all_enter_first(shared, alloc, left, right)
+        )
+    );
+}

@@ -1,0 +1,220 @@
+//! What one worker sends of the plan of two trees of twenty points at cut 1, which has three tasks.
+
+ghost use Rattle.std.specs.Prelude.{◌≡◌, ◌≤◌, length, All, IfSome};
+ghost use Rattle.deliver_core.specs.Boards.{fresh_seat};
+ghost use Rattle.deliver_core.specs.OutletCalls.{IsFreshPort};
+ghost use Rattle.deliver_core.specs.Ports.{IsTapOf};
+
+use crate::expected::{Expected, says};
+use deliver_core::{Board, BoardSeat, Body, Outlet, Port, Tap};
+use descent_core::Plan;
+use geom_core::{JoinRelation, Relation};
+use parallel_core::{Gate, MAX_BATCH, OpenGate, Worked, worker};
+use rtree_core::RTree;
+use std::alloc::Global;
+use std::sync::Wait;
+use std::sync::atomic::{AtomicU32, Ordering};
+use std::thread::Threads;
+use test_data::on_packed;
+
+const BY_THREE: [Expected; 11] = [
+    Expected::Batch(0, 0, &[0, 1, 2]),
+    Expected::Batch(0, 1, &[3, 4, 5]),
+    Expected::Batch(0, 2, &[6]),
+    Expected::End(0, 3),
+    Expected::Batch(1, 0, &[7, 8, 9]),
+    Expected::Batch(1, 1, &[10, 11, 12]),
+    Expected::Batch(1, 2, &[13]),
+    Expected::End(1, 3),
+    Expected::Batch(2, 0, &[14, 15, 16]),
+    Expected::Batch(2, 1, &[17, 18, 19]),
+    Expected::End(2, 2),
+];
+
+const BY_SEVEN: [Expected; 6] = [
+    Expected::Batch(0, 0, &[0, 1, 2, 3, 4, 5, 6]),
+    Expected::End(0, 1),
+    Expected::Batch(1, 0, &[7, 8, 9, 10, 11, 12, 13]),
+    Expected::End(1, 1),
+    Expected::Batch(2, 0, &[14, 15, 16, 17, 18, 19]),
+    Expected::End(2, 1),
+];
+
+const OF_NOTHING: [Expected; 3] = [
+    Expected::End(0, 0),
+    Expected::End(1, 0),
+    Expected::End(2, 0),
+];
+
+/// The last of these ports.
+fn last_port(outlet: &Outlet, ports: &mut Vec<Port>) -> Option<Port>
+    requires { All (IsFreshPort outlet.now) ports.old.items }
+    ensures { IfSome result (IsFreshPort outlet.now) }
+{
+    ports.pop()
+}
+
+/// Whether what waits is all of this and then the Bye, or a prefix of it and then the Bye that
+/// tells of refused memory.
+fn waits<R: Wait>(rt: &R, outlet: &Outlet, mut tap: Tap, ok: bool, wanted: &[Expected]) -> bool
+    requires { IsTapOf outlet.now tap }
+{
+    for &expected in wanted {
+        match outlet.take(rt, &mut tap) {
+            Some(message) => {
+                if message.body == Body::Bye(false) {
+                    return !ok && outlet.take(rt, &mut tap).is_none();
+                }
+                if !says(&message, expected) {
+                    return false;
+                }
+            }
+            None => return false,
+        }
+    }
+    let bye = outlet.take(rt, &mut tap);
+    bye.is_some_and(|m| m.body == Body::Bye(ok)) && outlet.take(rt, &mut tap).is_none()
+}
+
+/// What a worker is given, beside the trees and the gate, and what it has to send.
+#[derive(Clone, Copy)]
+struct Work {
+    relation: Relation,
+    batch: u32,
+    wanted: &'static [Expected],
+}
+
+/// Whether a worker of port 0 has said bye, and drawn three tasks and met the end unless memory was
+/// refused.
+fn has_worked(worked: &Worked) -> bool {
+    let is_drawn = worked.seat.count() == 3 && worked.seat.done();
+    worked.port.index() == 0 && worked.port.said_bye() && (is_drawn || !worked.ok)
+}
+
+/// Whether one worker with this seat sends of a plan what it has to; none without memory.
+fn works_at<R: Threads + Wait + Sync>(
+    rt: &R,
+    alloc: Global,
+    plan: &Plan<'_>,
+    relation: &JoinRelation,
+    work: Work,
+    gate: &impl Gate,
+    board: &Board,
+    seat: BoardSeat,
+) -> Option<bool>
+    requires batch { (1 ≤ work.batch) × (work.batch ≤ MAX_BATCH) }
+    requires tasks { board.now.tasks ≡ length plan.now }
+    requires seat { seat ≡ fresh_seat board.now }
+{
+    let (outlet, mut ports, tap) = Outlet::new(alloc, 1).ok()?;
+    let port = last_port(&outlet, &mut ports)?;
+    let worked = worker(
+        rt, alloc, plan, relation, work.batch, board, seat, &outlet, port, gate,
+    );
+    Some(has_worked(&worked) && waits(rt, &outlet, tap, worked.ok, work.wanted))
+}
+
+/// Whether one worker, on this thread, sends of a plan what it has to; none without memory.
+fn works<R: Threads + Wait + Sync>(
+    rt: &R,
+    alloc: Global,
+    plan: &Plan<'_>,
+    work: Work,
+    gate: &impl Gate,
+) -> Option<bool> {
+    if work.batch == 0 || work.batch > MAX_BATCH {
+        return None;
+    }
+    let relation = JoinRelation::new(work.relation).ok()?;
+    let (board, mut seats) = Board::new(alloc, plan.len(), 1).ok()?;
+    works_at(rt, alloc, plan, &relation, work, gate, &board, seats.pop()?)
+}
+
+/// Whether one worker sends of two trees what it has to; none without memory.
+fn sends_of<R: Threads + Wait + Sync>(
+    rt: &R,
+    alloc: Global,
+    (left, right): (&RTree, &RTree),
+    work: Work,
+    gate: &impl Gate,
+) -> Option<bool> {
+    works(
+        rt,
+        alloc,
+        &Plan::new(alloc, left, right, 1).ok()?,
+        work,
+        gate,
+    )
+}
+
+/// Whether one worker sends of two times twenty points what it has to.
+fn sends<R: Threads + Wait + Sync>(rt: &R, alloc: Global, work: Work, gate: &impl Gate) -> bool {
+    let sends = on_packed(alloc, (20, 1), (20, 1), |left, right| {
+        sends_of(rt, alloc, (left, right), work, gate)
+    });
+    sends == Ok(Some(true))
+}
+
+/// A gate that counts how often it was entered with each of three tasks.
+#[derive(Drop)]
+struct Counts {
+    entered: [AtomicU32; 3],
+}
+
+impl Gate for Counts {
+    fn enter<R: Threads + Wait + Sync>(&self, _rt: &R, task: u32) {
+        if let Some(times) = self.entered.get(task as usize) {
+            times.fetch_add(1, Ordering::SeqCst);
+        }
+    }
+}
+
+impl Counts {
+    fn new() -> Counts {
+        let entered = [AtomicU32::new(0), AtomicU32::new(0), AtomicU32::new(0)];
+        Counts { entered }
+    }
+
+    /// Whether it was entered once with each task.
+    fn are_ones(&self) -> bool {
+        let is_one = |times: &AtomicU32| times.load(Ordering::SeqCst) == 1;
+        self.entered.iter().all(is_one)
+    }
+}
+
+const WORKS: [Work; 3] = [
+    Work {
+        relation: Relation::Equals,
+        batch: 3,
+        wanted: &BY_THREE,
+    },
+    Work {
+        relation: Relation::Equals,
+        batch: 7,
+        wanted: &BY_SEVEN,
+    },
+    Work {
+        relation: Relation::Touches,
+        batch: 3,
+        wanted: &OF_NOTHING,
+    },
+];
+
+#[test]
+fn plan_and_scripts(rt: HostRuntime) {
+    for work in WORKS {
+        assert!(rt; sends(&rt, rt.alloc(), work, &OpenGate));
+    }
+}
+
+#[test]
+fn gate_once_each(rt: HostRuntime) {
+    let gate = Counts::new();
+    let work = Work {
+        relation: Relation::Equals,
+        batch: MAX_BATCH,
+        wanted: &BY_SEVEN,
+    };
+    assert!(rt; sends(&rt, rt.alloc(), work, &gate));
+    assert!(rt; gate.are_ones());
+}

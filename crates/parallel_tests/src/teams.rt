@@ -1,0 +1,256 @@
+//! What several workers deliver together.
+
+use deliver_core::{Mark, Outcome};
+use descent_core::Plan;
+use geom_core::{JoinRelation, Relation};
+use parallel_core::{Gate, MAX_BATCH, MAX_WORKERS, OpenGate, run_workers};
+use rtree_core::RTree;
+use std::alloc::Global;
+use std::sync::Wait;
+use std::sync::atomic::{AtomicBool, AtomicU32, Ordering};
+use std::thread;
+use std::thread::Threads;
+use test_data::on_packed;
+
+/// What the workers deliver of two trees, by equality; none without memory or threads.
+fn delivered<R: Threads + Wait + Sync, G: Gate + Sync>(
+    rt: &R,
+    alloc: Global,
+    trees: (&RTree, &RTree),
+    cut: u8,
+    workers: u32,
+    batch: u32,
+    gate: &G,
+) -> Option<Outcome> {
+    if workers == 0 || workers > MAX_WORKERS || batch == 0 || batch > MAX_BATCH {
+        return None;
+    }
+    let relation = JoinRelation::new(Relation::Equals).ok()?;
+    let plan = Plan::new(alloc, trees.0, trees.1, cut).ok()?;
+    run_workers(rt, alloc, &plan, &relation, workers, batch, gate).ok()
+}
+
+/// Whether these are the pairs of two times nine numbers, in order.
+fn are_eighty_one(pairs: &[(u32, u32)]) -> bool {
+    pairs.len() == 81
+        && pairs
+            .iter()
+            .zip(0..81u32)
+            .all(|(pair, i)| *pair == (i / 9, i % 9))
+}
+
+/// Whether these are the marks of a script of task 0 with 81 batches.
+fn are_marks(marks: &[Mark]) -> bool {
+    marks.len() == 82
+        && marks
+            .iter()
+            .zip(0..81u64)
+            .all(|(mark, i)| *mark == Mark::Batch(0, i))
+        && marks.get(81) == Some(&Mark::End(0, 81))
+}
+
+/// Whether these are the pairs (0, 0) to (19, 19).
+pub(crate) fn are_twenty(pairs: &[(u32, u32)]) -> bool {
+    pairs.len() == 20 && pairs.iter().zip(0..20u32).all(|(pair, i)| *pair == (i, i))
+}
+
+/// A gate that lets nobody on before two have entered, and notes where that never came.
+#[derive(Drop)]
+struct Meeting {
+    entered: AtomicU32,
+    missed: AtomicBool,
+}
+
+impl Gate for Meeting {
+    fn enter<R: Threads + Wait + Sync>(&self, _rt: &R, _task: u32) {
+        self.entered.fetch_add(1, Ordering::SeqCst);
+        for _ in 0..10_000_000 {
+            if self.entered.load(Ordering::SeqCst) >= 2 {
+                return;
+            }
+            thread::yield_now();
+        }
+        self.missed.store(true, Ordering::SeqCst);
+    }
+}
+
+/// What is seen of two packed trees of so many points, this far apart; false where they can't be
+/// made.
+pub(crate) fn sees<F: FnOnce(&RTree, &RTree) -> bool>(
+    alloc: Global,
+    points: (u16, u16),
+    see: F,
+) -> bool
+    requires { F.IsAlwaysCallable see }
+{
+    on_packed(alloc, points, points, see) == Ok(true)
+}
+
+/// Whether one worker delivers the pairs of two times nine points in batches of one.
+fn delivers_crowd<R: Threads + Wait + Sync>(
+    rt: &R,
+    alloc: Global,
+    left: &RTree,
+    right: &RTree,
+) -> bool {
+    delivered(rt, alloc, (left, right), 0, 1, 1, &OpenGate).is_some_and(|o| are_eighty_one(
+        o.pairs(),
+    ) && are_marks(o.taken()))
+}
+
+#[test]
+fn delivery_extra(rt: HostRuntime) {
+    let (alloc, shared) = (rt.alloc(), &rt);
+    assert!(rt;
+        sees(
+            alloc,
+            (9, 0),
+            |left, right| delivers_crowd(shared, alloc, left, right)
+        )
+    );
+}
+
+/// Whether so many workers deliver the pairs of two times twenty points.
+fn delivers_twenty<R: Threads + Wait + Sync, G: Gate + Sync>(
+    rt: &R,
+    alloc: Global,
+    trees: (&RTree, &RTree),
+    workers: u32,
+    batch: u32,
+    gate: &G,
+) -> bool {
+    delivered(rt, alloc, trees, 1, workers, batch, gate).is_some_and(|o| are_twenty(o.pairs()))
+}
+
+/// Whether two workers meet at the gate, enter it three times, and deliver all.
+fn meets<R: Threads + Wait + Sync>(rt: &R, alloc: Global, left: &RTree, right: &RTree) -> bool {
+    let gate = Meeting {
+        entered: AtomicU32::new(0),
+        missed: AtomicBool::new(false),
+    };
+    let is_delivered = delivers_twenty(rt, alloc, (left, right), 2, 4, &gate);
+    let has_met = gate.entered.load(Ordering::SeqCst) == 3 && !gate.missed.load(Ordering::SeqCst);
+    is_delivered && has_met
+}
+
+#[test]
+fn two_workers_meet(rt: HostRuntime) {
+    let (alloc, shared) = (rt.alloc(), &rt);
+    assert!(rt;
+        sees(
+            alloc,
+            (20, 1),
+            |left, right| meets(shared, alloc, left, right)
+        )
+    );
+}
+
+/// How often who is inside a room gives way before it leaves.
+const TURNS: u32 = 20_000;
+
+/// A gate that keeps those who enter inside for some turns, and notes where more are inside than
+/// may be.
+#[derive(Drop)]
+struct Room {
+    most: u32,
+    inside: AtomicU32,
+    overfull: AtomicBool,
+}
+
+impl Gate for Room {
+    fn enter<R: Threads + Wait + Sync>(&self, _rt: &R, _task: u32) {
+        if self.inside.fetch_add(1, Ordering::SeqCst) >= self.most {
+            self.overfull.store(true, Ordering::SeqCst);
+        }
+        for _ in 0..TURNS {
+            thread::yield_now();
+        }
+        self.inside.fetch_sub(1, Ordering::SeqCst);
+    }
+}
+
+/// Whether of the workers that are asked for at no time more are at work, and they deliver all.
+fn are_no_more<R: Threads + Wait + Sync>(
+    rt: &R,
+    alloc: Global,
+    trees: (&RTree, &RTree),
+    workers: u32,
+) -> bool {
+    let gate = Room {
+        most: workers,
+        inside: AtomicU32::new(0),
+        overfull: AtomicBool::new(false),
+    };
+    let is_delivered = delivers_twenty(rt, alloc, trees, workers, 4, &gate);
+    is_delivered && !gate.overfull.load(Ordering::SeqCst)
+}
+
+/// Whether one worker works alone, and two work as two.
+fn are_few<R: Threads + Wait + Sync>(rt: &R, alloc: Global, left: &RTree, right: &RTree) -> bool {
+    [1, 2]
+        .iter()
+        .all(|workers| are_no_more(rt, alloc, (left, right), *workers))
+}
+
+#[test]
+fn no_more_workers_than_asked_for(rt: HostRuntime) {
+    let (alloc, shared) = (rt.alloc(), &rt);
+    assert!(rt;
+        sees(
+            alloc,
+            (20, 1),
+            |left, right| are_few(shared, alloc, left, right)
+        )
+    );
+}
+
+/// Whether each of some numbers of workers delivers all.
+fn deliver<R: Threads + Wait + Sync>(rt: &R, alloc: Global, left: &RTree, right: &RTree) -> bool {
+    [1, 2, 3, 8, 16].iter().all(|workers| delivers_twenty(
+        rt,
+        alloc,
+        (left, right),
+        *workers,
+        1,
+        &OpenGate,
+    ))
+}
+
+#[test]
+fn any_number_of_workers(rt: HostRuntime) {
+    let (alloc, shared) = (rt.alloc(), &rt);
+    assert!(rt;
+        sees(
+            alloc,
+            (20, 1),
+            |left, right| deliver(shared, alloc, left, right)
+        )
+    );
+}
+
+/// Whether batches of each size deliver all.
+fn deliver_by_each_size<R: Threads + Wait + Sync>(
+    rt: &R,
+    alloc: Global,
+    left: &RTree,
+    right: &RTree,
+) -> bool {
+    for batch in 1..MAX_BATCH + 1 {
+        if !delivers_twenty(rt, alloc, (left, right), 1, batch, &OpenGate) {
+            return false;
+        }
+    }
+    true
+}
+
+#[test]
+fn any_batch_size(rt: HostRuntime) {
+    let (alloc, shared) = (rt.alloc(), &rt);
+    assert!(rt;
+        sees(
+            alloc,
+            (20, 1),
+            |left, right| deliver_by_each_size(shared, alloc, left, right)
+        )
+    );
+}

@@ -1,0 +1,72 @@
+-- How a column grows.
+use Rattle.std.proofs.Common.{◌≡◌, ℕ, ◌+◌, ◌-◌, ◌<◌, ◌≤◌, List, [], ◌∷◌, ◌++◌, Option, length, get_or, take, drop}
+use Rattle.std.proofs.Common.{slice_range, sym, ap, subst, ◌∙◌, ⊎_elim, arith}
+use Rattle.std.proofs.Math.Seq.{get_or-append_seam, drop-append_seam}
+use Rattle.std.proofs.lemmas.Bool.{cases_lt}
+use Rattle.std.proofs.lemmas.List.{get_or_append_left, take_all, take-append-le, drop-append-le, length-append, length-drop}
+use Rattle.layer_core.specs.Layers.{Feature, Contents, with_number}
+use Rattle.report_core.specs.Columns.{field_for, HasField, IsColumn}
+
+-- a text that grows keeps its parts
+kept_range : (text more : List ℕ) (a b : ℕ) → a ≤ b → b ≤ length text → slice_range (text ++ more) a b ≡ slice_range text a b
+kept_range text more a b h k =
+    ap (take (b - a)) (drop-append-le a text more (omega arith))
+    ∙ take-append-le (b - a) (drop a text) more (let l = length-drop a text in omega arith)
+
+-- and ends with what it grew by
+new_range : (text more : List ℕ) → slice_range (text ++ more) (length text) (length (text ++ more)) ≡ more
+new_range text more =
+    ap (take (length (text ++ more) - length text)) (drop-append_seam text more)
+    ∙ take_all (length (text ++ more) - length text) more (let l = length-append text more in omega arith)
+
+kept_field : (text more : List ℕ) (a b : ℕ) (feature : Option Feature) → HasField text a b feature → HasField (text ++ more) a b feature
+kept_field text more a b feature has = record {
+  in_order = has.in_order;
+  within = let l = length-append text more in let w : b ≤ length text = has.within in omega arith;
+  field = kept_range text more a b has.in_order has.within ∙ has.field;
+}
+
+new_field : (text : List ℕ) (feature : Option Feature) → HasField (text ++ field_for feature) (length text) (length (text ++ field_for feature)) feature
+new_field text feature = record {
+  in_order = let l = length-append text (field_for feature) in omega arith;
+  within = omega arith;
+  field = new_range text (field_for feature);
+}
+
+-- where the last field starts
+pub last_start : (starts : List ℕ) (end n : ℕ) → length starts ≡ n + 1 → get_or (starts ++ end ∷ []) (n + 1) 0 ≡ end
+last_start starts end n len = subst (λ (j : ℕ). get_or (starts ++ end ∷ []) j 0 ≡ end) len (get_or-append_seam starts end [] 0)
+
+-- one field more
+pub field_added : (layer : Contents) (starts text new : List ℕ) (n : ℕ) → IsColumn layer starts text → length starts ≡ n + 1 → get_or starts n 0 ≡ length text
+    → new ≡ text ++ field_for (with_number n layer) → IsColumn layer (starts ++ length new ∷ []) new
+field_added layer starts text new n column len last is = subst (λ (t : List ℕ). IsColumn layer (starts ++ length t ∷ []) t) (sym is) (record {
+  each = λ k h. ⊎_elim (λ early. at_start k (omega arith) (early_field k early))
+      (λ late. let same : k ≡ n = let l = length-append starts (end ∷ []) in omega arith in
+      subst (λ (j : ℕ). HasField grown (get_or more j 0) (get_or more (j + 1) 0) (with_number j layer)) (sym same) late_field)
+      (cases_lt (k + 1) (length starts));
+})
+  where
+    grown : List ℕ
+    grown = text ++ field_for (with_number n layer)
+
+    end : ℕ
+    end = length grown
+
+    more : List ℕ
+    more = starts ++ end ∷ []
+
+    at_start : (k : ℕ) → k < length starts → HasField grown (get_or starts k 0) (get_or more (k + 1) 0) (with_number k layer)
+        → HasField grown (get_or more k 0) (get_or more (k + 1) 0) (with_number k layer)
+    at_start k h has =
+        subst (λ (a : ℕ). HasField grown a (get_or more (k + 1) 0) (with_number k layer)) (sym (get_or_append_left starts (end ∷ []) 0 k h)) has
+
+    early_field : (k : ℕ) → k + 1 < length starts → HasField grown (get_or starts k 0) (get_or more (k + 1) 0) (with_number k layer)
+    early_field k h =
+        subst (λ (b : ℕ). HasField grown (get_or starts k 0) b (with_number k layer)) (sym (get_or_append_left starts (end ∷ []) 0 (k + 1) h))
+        (kept_field text (field_for (with_number n layer)) (get_or starts k 0) (get_or starts (k + 1) 0) (with_number k layer) (column.each k h))
+
+    late_field : HasField grown (get_or more n 0) (get_or more (n + 1) 0) (with_number n layer)
+    late_field = at_start n (omega arith)
+        (subst (λ (b : ℕ). HasField grown (get_or starts n 0) b (with_number n layer)) (sym (last_start starts end n len))
+        (subst (λ (a : ℕ). HasField grown a end (with_number n layer)) (sym last) (new_field text (with_number n layer))))

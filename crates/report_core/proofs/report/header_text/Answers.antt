@@ -1,0 +1,5 @@
+use Rattle.report_core.proofs.ReportLemmas.{header_made}
+use Rattle.report_core.proofs.report.header_text.Goals as goal
+
+pub returns : goal.returns
+returns c = header_made _ _ c.new-text.ensures.items c.in_ok-extend_from_slice.ensures.items

@@ -1,0 +1,33 @@
+-- The records of a report, as they are written.
+use Rattle.std.specs.Prelude.{◌≡◌, ℕ, List, [], ◌∷◌, ◌++◌, Result, Ok, Err}
+use Rattle.std.specs.Global.{Global}
+use Rattle.std.specs.declared.alloc.AllocError.{AllocError}
+use Rattle.std.specs.declared.vec.Vec.{Vec}
+use Rattle.layer_core.specs.Layers.{Contents}
+use Rattle.csv.specs.Machine.{line_feed}
+use Rattle.report_core.specs.CsvTexts.{csv_text}
+use Rattle.report_core.specs.Reports.{header, HasRecords}
+
+-- the text has a record for each pair in turn
+abbrev pub AreRows : Contents → Contents → List (ℕ × ℕ) → List ℕ → Type 0
+AreRows left right pairs text = HasRecords [] left right pairs text
+
+-- such a text was added
+pub record AddsRows (left right : Contents) (pairs : List (ℕ × ℕ)) (old new : List ℕ)
+    : Type 0 where
+  pub text : List ℕ
+  pub are_rows : AreRows left right pairs text
+  pub added : new ≡ old ++ text
+
+-- the header as CSV
+abbrev pub header_line : List ℕ
+header_line = csv_text (header ∷ [])
+
+-- a record of two fields with their commas, and a third one that is written as it stands
+abbrev pub line_of : List ℕ → List ℕ → List ℕ → List ℕ
+line_of first second third = first ++ (second ++ (third ++ line_feed ∷ []))
+
+-- a text, or nothing where memory was refused to it
+abbrev pub text_or_none : Result (Vec ℕ Global) AllocError → List ℕ
+text_or_none (Ok text) = text.items
+text_or_none (Err refused) = []

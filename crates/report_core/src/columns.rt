@@ -1,0 +1,158 @@
+//! The ids of the features of two layers, as CSV fields, found by number.
+
+ghost use Rattle.std.specs.Prelude.{◌≡◌, ◌≤◌, ◌<◌, ◌+◌, ◌++◌, ◌^◌, All, length};
+ghost use Rattle.std.specs.Prelude.{IfOk, OnOk, IsSomeAnd};
+ghost use Rattle.layer_core.specs.Layers.{Contents, with_number};
+ghost use Rattle.report_core.specs.Columns.{field_for, IsColumn, AreColumnsFor};
+ghost use Rattle.report_core.specs.Reports.{IsHeld};
+
+use crate::csv_fields::push_leading_field;
+use layer_core::Layer;
+use std::alloc::{AllocError, Global};
+use std::thread;
+use std::thread::Threads;
+
+/// How many bytes the letters of a matrix and the end of a record have.
+const LETTERS_AND_END: usize = 10;
+
+/// The ids of a layer's features, as CSV fields with their commas, by number.
+///
+/// A report asks for right features in no order. Here their ids stand together, where a layer
+/// would look at a slot, a place in its map of ids and the id.
+#[derive(Drop)]
+pub(crate) struct Column {
+    /// Where the field of each number starts, and at last where the fields end. The field of a
+    /// number without a feature is empty.
+    starts: Vec<usize>,
+    /// The fields, one after another.
+    text: Vec<u8>,
+}
+
+/// The columns of a left and a right layer.
+#[derive(Drop)]
+pub(crate) struct Columns {
+    pub(crate) left: Column,
+    pub(crate) right: Column,
+}
+
+impl Column {
+    /// The column of the features of a layer whose numbers are below a bound.
+    fn new(alloc: Global, layer: &Layer, bound: usize) -> Result<Column, AllocError>
+        requires { bound ≤ 2 ^ 32 }
+        ensures fields { IfOk result
+            (λ column. IsColumn layer.now.list column.starts.items column.text.items) }
+        ensures len { IfOk result (λ column. length column.starts.items ≡ bound + 1) }
+    {
+        let mut starts = Vec::with_capacity(alloc, bound + 1)?;
+        let mut text = Vec::new(alloc);
+        starts.push(0)?;
+        for number in 0..bound {
+            push_field(alloc, &mut text, layer, number as u32)?;
+            starts.push(text.len())?;
+        }
+        Ok(Column { starts, text })
+    }
+
+    /// The id of the feature with this number, as a CSV field with its comma.
+    pub(crate) fn at(&self, number: u32) -> Option<&[u8]>
+        ensures { (layer : Contents) → IsColumn layer self.now.starts.items self.now.text.items
+            → number + 1 < length self.now.starts.items
+            → IsSomeAnd result (λ field. field.now ≡ field_for (with_number number layer)) }
+    {
+        let number = number as usize;
+        let start = *self.starts.get(number)?;
+        let end = *self.starts.get(number + 1)?;
+        self.text.get(start..end)
+    }
+
+    /// How many bytes a field has on average.
+    fn likely_field(&self) -> usize {
+        self.text.len().div_ceil(self.starts.len().max(1))
+    }
+}
+
+impl Columns {
+    /// How many bytes a record of the report is likely to have. Another number costs time or
+    /// memory alone.
+    pub(crate) fn likely_record(&self) -> usize {
+        let left = self.left.likely_field();
+        let right = self.right.likely_field();
+        LETTERS_AND_END.saturating_add(left).saturating_add(right)
+    }
+
+    /// How many bytes the record of a pair needs.
+    pub(crate) fn room_of(&self, pair: &(u32, u32)) -> usize {
+        let left = self.left.at(pair.0).map_or(0, |field| field.len());
+        let right = self.right.at(pair.1).map_or(0, |field| field.len());
+        LETTERS_AND_END.saturating_add(left).saturating_add(right)
+    }
+
+    /// The columns of two layers, as far as these pairs of numbers need them.
+    pub(crate) fn new(
+        alloc: Global,
+        left: &Layer,
+        right: &Layer,
+        pairs: &[(u32, u32)],
+    ) -> Result<Columns, AllocError>
+        requires { All (IsHeld left.now.list right.now.list) pairs.now }
+        ensures { IfOk result (AreColumnsFor left.now.list right.now.list pairs.now) }
+    {
+        let (left_bound, right_bound) = bounds(pairs);
+        Ok(Columns {
+            left: Column::new(alloc, left, left_bound)?,
+            right: Column::new(alloc, right, right_bound)?,
+        })
+    }
+
+    /// The columns of two layers, made side by side.
+    pub(crate) fn side_by_side<R: Threads + Sync>(
+        alloc: Global,
+        left: &Layer,
+        right: &Layer,
+        pairs: &[(u32, u32)],
+        rt: &R,
+    ) -> Result<Columns, AllocError>
+        requires { All (IsHeld left.now.list right.now.list) pairs.now }
+        ensures { IfOk result (AreColumnsFor left.now.list right.now.list pairs.now) }
+    {
+        let (left_bound, right_bound) = bounds(pairs);
+        let (left_column, right_column) = thread::join(
+            rt,
+            move || Column::new(alloc, left, left_bound),
+            move || Column::new(alloc, right, right_bound),
+        );
+        Ok(Columns {
+            left: left_column?,
+            right: right_column?,
+        })
+    }
+}
+
+/// One more than the greatest number of each side.
+fn bounds(pairs: &[(u32, u32)]) -> (usize, usize)
+    ensures above { All (λ pair. (pair.0 < result.0) × (pair.1 < result.1)) pairs.now }
+    ensures few { (result.0 ≤ 2 ^ 32) × (result.1 ≤ 2 ^ 32) }
+{
+    let (mut left, mut right) = (0, 0);
+    for pair in pairs {
+        left = left.max(pair.0 as usize + 1);
+        right = right.max(pair.1 as usize + 1);
+    }
+    (left, right)
+}
+
+/// Adds the field of the feature with this number to a text, if there is one.
+fn push_field(
+    alloc: Global,
+    text: &mut Vec<u8>,
+    layer: &Layer,
+    number: u32,
+) -> Result<(), AllocError>
+    ensures { OnOk result
+        (text.new.items ≡ text.old.items ++ field_for (with_number number layer.now.list)) }
+{
+    match layer.at(number) {
+        Some((id, _)) => push_leading_field(alloc, text, id.as_bytes()),
+        None => Ok(()),
+    }
+}

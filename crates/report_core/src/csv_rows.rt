@@ -1,0 +1,42 @@
+//! Rows of CSV that are written to memory.
+
+ghost use Rattle.std.specs.Prelude.{◌≡◌, [], List, ℕ, IfOk, OnOk, map};
+ghost use Rattle.report_core.specs.CsvTexts.{csv_text};
+ghost use Rattle.report_core.specs.CsvWriting.{HasRows, AddsRow};
+
+use csv::Writer;
+use std::alloc::{AllocError, Global};
+
+/// A writer over memory that has written no row.
+pub fn new_rows(alloc: Global) -> Writer<Vec<u8>>
+    ensures { HasRows result [] }
+{
+    Writer::from_writer(Vec::new(alloc))
+}
+
+/// Writes a row behind those that the writer has written, with quotes where a field needs them.
+///
+/// # Errors
+/// Only where memory runs out: a writer over memory fails for nothing else.
+pub fn push_row(writer: &mut Writer<Vec<u8>>, row: &[&[u8]]) -> Result<(), AllocError>
+    ensures { OnOk result (AddsRow writer.old writer.new (map (λ field. field.now) row.now)) }
+{
+    match writer.write_fields(row) {
+        Ok(()) => Ok(()),
+        Err(_) => Err(AllocError),
+    }
+}
+
+/// The text of the rows that the writer has written, each with a line feed.
+///
+/// # Errors
+/// Only where memory runs out.
+pub fn rows_text(writer: Writer<Vec<u8>>) -> Result<Vec<u8>, AllocError>
+    ensures { IfOk result (λ text. (rows : List (List (List ℕ))) → HasRows writer rows
+        → text.items ≡ csv_text rows) }
+{
+    match writer.into_inner() {
+        Ok(text) => Ok(text),
+        Err(_) => Err(AllocError),
+    }
+}

@@ -1,0 +1,256 @@
+//! The report of a join, as CSV.
+
+ghost use Rattle.std.specs.Prelude.{◌≡◌, ◌+◌, ◌<◌, ◌≤◌, ◌++◌, All, IfOk, IsOk, OnOk, length};
+ghost use Rattle.std.specs.Int.{div_ceil};
+ghost use Rattle.std.specs.List.{flat_map};
+ghost use Rattle.report_core.specs.Columns.{AreColumnsFor};
+ghost use Rattle.report_core.specs.ReportRows.{AddsRows, AreRows, header_line, line_of};
+ghost use Rattle.report_core.specs.ReportRows.{text_or_none};
+ghost use Rattle.report_core.specs.Reports.{IsHeld, IsReport};
+ghost use Rattle.report_core.specs.Written.{joined};
+
+use crate::columns::Columns;
+use geom_core::relate;
+use layer_core::Layer;
+use std::alloc::{AllocError, Global};
+use std::thread;
+use std::thread::Threads;
+
+/// How many pairs are looked up together before their records are written.
+const BLOCK: usize = 32;
+
+/// The report of these pairs, as texts to be concatenated: a CSV record `left,right,matrix`, and
+/// for each pair one with the ids of its features and the letters of their matrix. It is written
+/// by at most as many threads as there are workers, each to a text of its own.
+pub fn report_texts<R: Threads + Sync>(
+    alloc: Global,
+    left: &Layer,
+    right: &Layer,
+    pairs: &[(u32, u32)],
+    workers: u32,
+    rt: &R,
+) -> Result<Vec<Vec<u8>>, AllocError>
+    requires { All (IsHeld left.now.list right.now.list) pairs.now }
+    ensures report { IfOk result
+        (λ texts. IsReport left.now.list right.now.list pairs.now (joined texts.items)) }
+    ensures few { IfOk result (λ texts. length texts.items ≤ workers + 1) }
+{
+    if workers > 1 {
+        chunked_report(alloc, left, right, pairs, workers, rt)
+    } else {
+        whole_report(alloc, left, right, pairs)
+    }
+}
+
+/// The report as a text for each chunk of the pairs, behind one for the header.
+#[tactic(auto, using(crate::proofs::ReportLemmas::report_pushed))]
+fn chunked_report<R: Threads + Sync>(
+    alloc: Global,
+    left: &Layer,
+    right: &Layer,
+    pairs: &[(u32, u32)],
+    workers: u32,
+    rt: &R,
+) -> Result<Vec<Vec<u8>>, AllocError>
+    requires held { All (IsHeld left.now.list right.now.list) pairs.now }
+    requires workers { 0 < workers }
+    ensures report { IfOk result
+        (λ texts. IsReport left.now.list right.now.list pairs.now (joined texts.items)) }
+    ensures few { IfOk result (λ texts. length texts.items ≤ workers + 1) }
+{
+    let mut texts = Vec::new(alloc);
+    push_texts(alloc, &mut texts, left, right, pairs, workers, rt)?;
+    Ok(texts)
+}
+
+/// The report as a single text.
+#[tactic(auto, using(crate::proofs::ReportLemmas::report_alone))]
+fn whole_report(
+    alloc: Global,
+    left: &Layer,
+    right: &Layer,
+    pairs: &[(u32, u32)],
+) -> Result<Vec<Vec<u8>>, AllocError>
+    requires { All (IsHeld left.now.list right.now.list) pairs.now }
+    ensures report { IfOk result
+        (λ texts. IsReport left.now.list right.now.list pairs.now (joined texts.items)) }
+    ensures single { IfOk result (λ texts. length texts.items ≡ 1) }
+{
+    let mut texts = Vec::new(alloc);
+    texts.push(whole_text(alloc, left, right, pairs)?)?;
+    Ok(texts)
+}
+
+/// The report in one text.
+fn whole_text(
+    alloc: Global,
+    left: &Layer,
+    right: &Layer,
+    pairs: &[(u32, u32)],
+) -> Result<Vec<u8>, AllocError>
+    requires { All (IsHeld left.now.list right.now.list) pairs.now }
+    ensures { IfOk result (λ text. IsReport left.now.list right.now.list pairs.now text.items) }
+{
+    let columns = Columns::new(alloc, left, right, pairs)?;
+    let mut text = header_text(alloc)?;
+    push_rows(&mut text, left, right, &columns, pairs)?;
+    Ok(text)
+}
+
+/// Adds the texts of the report: the header, and those of the chunks of the pairs, each written
+/// by a thread of its own.
+fn push_texts<R: Threads + Sync>(
+    alloc: Global,
+    texts: &mut Vec<Vec<u8>>,
+    left: &Layer,
+    right: &Layer,
+    pairs: &[(u32, u32)],
+    workers: u32,
+    rt: &R,
+) -> Result<(), AllocError>
+    requires held { All (IsHeld left.now.list right.now.list) pairs.now }
+    requires workers { 0 < workers }
+    ensures rows { OnOk result (AddsRows left.now.list right.now.list pairs.now
+        (joined texts.old.items ++ header_line) (joined texts.new.items)) }
+    ensures few { OnOk result
+        (length texts.new.items ≤ length texts.old.items + (workers + 1)) }
+{
+    let size = pairs.len().div_ceil(workers as usize).max(1);
+    let columns = Columns::side_by_side(alloc, left, right, pairs, rt)?;
+    let chunks = chunk_rows(alloc, left, right, &columns, pairs, size, rt)?;
+    texts.push(header_text(alloc)?)?;
+    push_all(texts, chunks)
+}
+
+/// The header.
+fn header_text(alloc: Global) -> Result<Vec<u8>, AllocError>
+    ensures { IfOk result (λ text. text.items ≡ header_line) }
+{
+    let mut text = Vec::new(alloc);
+    text.extend_from_slice(b"left,right,matrix\n")?;
+    Ok(text)
+}
+
+/// The records of each chunk of so many pairs, the last of which may be shorter.
+fn chunk_rows<R: Threads + Sync>(
+    alloc: Global,
+    left: &Layer,
+    right: &Layer,
+    columns: &Columns,
+    pairs: &[(u32, u32)],
+    size: usize,
+    rt: &R,
+) -> Result<Vec<Result<Vec<u8>, AllocError>>, AllocError>
+    requires columns { AreColumnsFor left.now.list right.now.list pairs.now columns.now }
+    requires size { 0 < size }
+    ensures rows { IfOk result (λ chunks. All IsOk chunks.items
+        → AreRows left.now.list right.now.list pairs.now (flat_map text_or_none chunks.items)) }
+    ensures count { IfOk result
+        (λ chunks. length chunks.items ≡ div_ceil (length pairs.now) size) }
+{
+    let rows = move |_start: usize, chunk: &[(u32, u32)]| {
+        rows_text(alloc, left, right, columns, chunk)
+    };
+    thread::map_chunks(rt, alloc, pairs, size, &rows)
+}
+
+/// The records of these pairs.
+fn rows_text(
+    alloc: Global,
+    left: &Layer,
+    right: &Layer,
+    columns: &Columns,
+    pairs: &[(u32, u32)],
+) -> Result<Vec<u8>, AllocError>
+    requires { AreColumnsFor left.now.list right.now.list pairs.now columns.now }
+    ensures { IfOk result (λ text. AreRows left.now.list right.now.list pairs.now text.items) }
+{
+    let mut text = Vec::new(alloc);
+    push_rows(&mut text, left, right, columns, pairs)?;
+    Ok(text)
+}
+
+/// Adds the records of these pairs.
+fn push_rows(
+    text: &mut Vec<u8>,
+    left: &Layer,
+    right: &Layer,
+    columns: &Columns,
+    pairs: &[(u32, u32)],
+) -> Result<(), AllocError>
+    requires { AreColumnsFor left.now.list right.now.list pairs.now columns.now }
+    ensures { OnOk result
+        (AddsRows left.now.list right.now.list pairs.now text.old.items text.new.items) }
+{
+    text.reserve(pairs.len().saturating_mul(columns.likely_record()))?;
+    for place in 0..pairs.len() {
+        make_room(text, right, columns, pairs, place)?;
+        let pair = pairs[place];
+        // Looked up first, so that the processor fetches ids and shapes at the same time.
+        let left_id = columns.left.at(pair.0).unwrap();
+        let right_id = columns.right.at(pair.1).unwrap();
+        let left_shape = left.shape(pair.0).unwrap();
+        let right_shape = right.shape(pair.1).unwrap();
+        let letters = relate(&left_shape, &right_shape).text();
+        push_row(text, left_id, right_id, &letters)?;
+    }
+    Ok(())
+}
+
+/// Makes room for the records of a block of pairs, if one begins here. What it looks up for that
+/// lies in no order: so the processor fetches at the same time what many records need next.
+fn make_room(
+    text: &mut Vec<u8>,
+    right: &Layer,
+    columns: &Columns,
+    pairs: &[(u32, u32)],
+    place: usize,
+) -> Result<(), AllocError>
+    requires { place ≤ length pairs.now }
+    ensures { text.new.items ≡ text.old.items }
+{
+    if place % BLOCK != 0 {
+        return Ok(());
+    }
+    let mut room: usize = 0;
+    for pair in pairs[place..].iter().take(BLOCK) {
+        if right.shape(pair.1).is_some() {
+            room = room.saturating_add(columns.room_of(pair));
+        }
+    }
+    text.reserve(room)
+}
+
+/// Adds the record of two ids, as CSV fields with their commas, and the letters of a matrix.
+fn push_row(
+    text: &mut Vec<u8>,
+    left: &[u8],
+    right: &[u8],
+    letters: &[u8; 9],
+) -> Result<(), AllocError>
+    ensures { OnOk result
+        (text.new.items ≡ text.old.items ++ line_of left.now right.now letters.now) }
+{
+    text.extend_from_slice(left)?;
+    text.extend_from_slice(right)?;
+    text.extend_from_slice(letters)?;
+    text.push(b'\n')?;
+    Ok(())
+}
+
+/// Adds these texts, unless memory was refused to one of them.
+fn push_all(
+    texts: &mut Vec<Vec<u8>>,
+    parts: Vec<Result<Vec<u8>, AllocError>>,
+) -> Result<(), AllocError>
+    ensures all { OnOk result (All IsOk parts.items) }
+    ensures texts { OnOk result
+        (joined texts.new.items ≡ joined texts.old.items ++ flat_map text_or_none parts.items) }
+    ensures count { OnOk result
+        (length texts.new.items ≡ length texts.old.items + length parts.items) }
+{
+    for part in parts {
+        texts.push(part?)?;
+    }
+    Ok(())
+}

@@ -1,0 +1,88 @@
+//! Devices that text is written to, and writing whole texts to one.
+
+ghost use Rattle.std.specs.Prelude.{◌≡◌, ℕ, ◌<◌, ◌≤◌, ◌↔◌, List, Option, Bool, false, length};
+ghost use Rattle.std.specs.Prelude.{IsTrue, IsErr, IfOk, OnOk, OnErr};
+ghost use Rattle.std.specs.Io.KnownBytes.{Appends, Keeps, WriteAppends};
+ghost use Rattle.report_core.specs.Written.{AppendsPrefix, joined};
+
+/// The device has failed.
+#[derive(Clone, Copy, Debug, PartialEq, Eq)]
+pub struct WriteFailed;
+
+/// A device that text is written to, and that fails for good.
+///
+/// Each call needs a device that hasn't failed yet.
+pub trait Sink {
+    /// What was written so far, or `None` where the device doesn't tell.
+    ghost written: { Self → Option (List ℕ) };
+
+    /// Whether all that was written has been flushed.
+    ghost is_flushed: { Self → Bool };
+
+    /// Whether the device has failed.
+    ghost has_failed: { Self → Bool };
+
+    /// Takes a prefix of the text, and says how long it is: of a text that isn't empty at least one
+    /// byte.
+    fn write(&mut self, text: &[u8]) -> Result<usize, WriteFailed>
+        requires { has_failed self.old ≡ false }
+        ensures within { IfOk result (λ n. n ≤ length text.now) }
+        ensures some { IfOk result (λ n. 0 < length text.now → 0 < n) }
+        ensures bytes { WriteAppends (written self.old) (written self.new) result text.now }
+        ensures failed { IsErr result ↔ IsTrue (has_failed self.new) };
+
+    /// Hands on what was taken.
+    fn flush(&mut self) -> Result<(), WriteFailed>
+        requires { has_failed self.old ≡ false }
+        ensures bytes { Keeps (written self.old) (written self.new) }
+        ensures flushed { OnOk result (IsTrue (is_flushed self.new)) }
+        ensures failed { IsErr result ↔ IsTrue (has_failed self.new) };
+
+    /// Whether the device has failed.
+    fn failed(&self) -> bool
+        ensures { result ≡ has_failed self.now };
+}
+
+/// Writes the whole text and flushes it. Where the device fails, a prefix of the text was written.
+pub fn write_text<S: Sink>(sink: &mut S, text: &[u8]) -> Result<(), WriteFailed>
+    requires { S.has_failed sink.old ≡ false }
+    ensures ok { OnOk result (Appends (S.written sink.old) (S.written sink.new) text.now) }
+    ensures flushed { OnOk result (IsTrue (S.is_flushed sink.new)) }
+    ensures err { OnErr result (AppendsPrefix (S.written sink.old) (S.written sink.new) text.now) }
+    ensures failed { IsErr result ↔ IsTrue (S.has_failed sink.new) }
+{
+    write_all(sink, text)?;
+    sink.flush()
+}
+
+/// Writes these texts in order and flushes them. Where the device fails, a prefix of
+/// them was written.
+pub fn write_texts<S: Sink>(sink: &mut S, texts: &[Vec<u8>]) -> Result<(), WriteFailed>
+    requires { S.has_failed sink.old ≡ false }
+    ensures ok { OnOk result (Appends (S.written sink.old) (S.written sink.new)
+        (joined texts.now)) }
+    ensures flushed { OnOk result (IsTrue (S.is_flushed sink.new)) }
+    ensures err { OnErr result (AppendsPrefix (S.written sink.old) (S.written sink.new)
+        (joined texts.now)) }
+    ensures failed { IsErr result ↔ IsTrue (S.has_failed sink.new) }
+{
+    for text in texts {
+        write_all(sink, text.as_slice())?;
+    }
+    sink.flush()
+}
+
+/// Writes the whole text.
+fn write_all<S: Sink>(sink: &mut S, text: &[u8]) -> Result<(), WriteFailed>
+    requires { S.has_failed sink.old ≡ false }
+    ensures ok { OnOk result (Appends (S.written sink.old) (S.written sink.new) text.now) }
+    ensures err { OnErr result (AppendsPrefix (S.written sink.old) (S.written sink.new) text.now) }
+    ensures failed { IsErr result ↔ IsTrue (S.has_failed sink.new) }
+{
+    let mut rest = text;
+    while !rest.is_empty() {
+        let taken = sink.write(rest)?;
+        rest = &rest[taken..];
+    }
+    Ok(())
+}
