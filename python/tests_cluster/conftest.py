@@ -6,6 +6,7 @@ import subprocess
 import sys
 import time
 from dataclasses import dataclass
+from importlib import import_module
 from pathlib import Path
 from typing import Any, Iterator, Sequence
 
@@ -18,9 +19,7 @@ os.environ["PYTHONPATH"] = os.pathsep.join(
     [str(SOURCES), *filter(None, [os.environ.get("PYTHONPATH")])]
 )
 
-for module in ("numpy", "pandas", "dask"):
-    pytest.importorskip(module)
-distributed: Any = pytest.importorskip("distributed")
+distributed: Any = import_module("distributed")
 
 WAIT = 60
 
