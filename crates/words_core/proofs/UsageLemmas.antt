@@ -1,5 +1,7 @@
 -- How a command comes to its usage.
-use Rattle.std.proofs.Common.{◌≡◌, ◌∙◌, ◌++◌, ◌∷◌, ◌||◌, [], List, Bool, true, false, refl, ap, ap₂, append_assoc, Some, option_map}
+use Rattle.std.proofs.Common.{◌≡◌, ◌∙◌, ◌++◌, ◌∷◌, ◌||◌, [], List, Bool, true, false, refl, ap, ap₂, append_assoc, Some, option_map, Result}
+use Rattle.std.specs.Prelude.{IfOk}
+use Rattle.std.proofs.lemmas.Result.{IfOk-weaker}
 use Rattle.clap.specs.Words.{AddsArg, AddsSubcommand, App, app_of, Rule, Shape, Text, with_rule, with_subcommand}
 use Rattle.clap.specs.Simple.{app_of_fields, new_shape}
 use Rattle.clap.specs.declared.builder.arg.Arg.{Arg}
@@ -55,3 +57,9 @@ adds_command usage shape old sub new has is added = record {
   shape = added.shape is.local ∙ ap₂ with_subcommand has.shape (ap (λ (a : App). a.top) is.shape);
   local = added.globals ∙ ap₂ (λ a b. a || b) has.local is.local;
 }
+
+-- two arguments are added
+pub adds_two : {E : Type 0} (one two : Rule) (old mid : Command) (first second : Arg) (r : Result Command E) → AddsArg old first mid → IsArgument one first
+    → IsArgument two second → IfOk r (λ new. AddsArg mid second new) → IfOk r (λ new. AddsRules old (one ∷ two ∷ []) new)
+adds_two one two old mid first second r added is_first is_second more =
+    IfOk-weaker r _ _ (λ new then. adds_then (one ∷ []) (two ∷ []) old mid new (adds_one one old mid first added is_first) (adds_one two mid new second then is_second)) more
