@@ -18,6 +18,7 @@ pub fn new_rows(alloc: Global) -> Writer<Vec<u8>>
 ///
 /// # Errors
 /// Only where memory runs out: a writer over memory fails for nothing else.
+#[tactic(auto, using(crate::proofs::CsvLemmas::row_pushed))]
 pub fn push_row(writer: &mut Writer<Vec<u8>>, row: &[&[u8]]) -> Result<(), AllocError>
     ensures { OnOk result (AddsRow writer.old writer.new (map (λ field. field.now) row.now)) }
 {
