@@ -7,7 +7,7 @@ pub returns-clause-found : goal.returns-clause-found
 returns-clause-found c =
     rw (← c.self.view_is)
     (found_by_id (keys c.self.inside.ids) c.as_slice.result.now c.self.inside.slots.items c.args.id.now _ _ _ (λ f made is. search rules)
-    c.as_slice.ensures.value c.locate.ensures.found c.map.ensures.cases)
+    c.as_slice.ensures.value (search rules) c.map.ensures.cases)
 
 pub returns-clause-layer : goal.returns-clause-layer
 returns-clause-layer c =
