@@ -11,7 +11,6 @@ overflow_add-index_mut c =
     let taking : Ok c.in_ok-next.next ≡ awaited c.args.self.now c.args.task = cc c.in_ok-next.ensures in
     let few = next-le-length a.progress.items a.marks.items c.self.invariant a.pairs.items c.args.self.now c.self.view_is c.args.task c.in_ok-next.next
     taking c.index_mut.result.now c.index_mut.ensures.value in
-    let more = c.push_reserved.ensures.len in
     grind (arith, common_steps)
 
 pub invariant_of-self-2 : goal.invariant_of-self-2
