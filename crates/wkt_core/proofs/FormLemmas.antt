@@ -284,6 +284,10 @@ pub none_weaker : {X P Q : Type 0} (r : Option X) → IfNone r P → (P → Q) �
 none_weaker None h f = f h
 none_weaker (Some x) h f = tt
 
+-- no shape spans two points that are the ends of a segment
+pub no_segment : (p q : Position) (r : Option Shape) → IfNone r ((s : Shape) → IsSpanned p q s → ⊥) → IfNone r ((s : Shape) → IsSegment p q s → ⊥)
+no_segment p q r none = none_weaker r none (λ no s h. no s (spanned_segment p q s h))
+
 -- ---- turns of the right count
 
 module _ (o : Position) where

@@ -8,6 +8,7 @@ use Rattle.std.proofs.lemmas.List.Folds.{list_all-append}
 use Rattle.wkt_core.specs.declared.position.Position.{Position}
 use Rattle.wkt_core.specs.declared.read_list.ReadList.{ReadList}
 use Rattle.wkt_core.specs.declared.scale.Scale.{Scale}
+use Rattle.wkt_core.specs.declared.position.ReadPoint.{ReadPoint}
 use Rattle.wkt_core.specs.Grammar.{RawPoint}
 use Rattle.wkt_core.specs.Spelling.{position, value}
 use Rattle.wkt_core.specs.NumberSteps.{number_read}
@@ -101,3 +102,19 @@ module _ (scale : Scale) (ps : List RawPoint) (p : RawPoint) (old marked new : R
   more_beyond e range =
       let never : are_in_range scale (ps ++ p ∷ []) ≡ false = in_range_more None e ∙ and_false (are_in_range scale ps) in
       record { whole = whole_more; in_range = range ∙ sym never; walk = λ t. absurd (false≢true (sym never ∙ t)) }
+
+-- the same, by the point that was read
+module _ (scale : Scale) (ps : List RawPoint) (p : RawPoint) (point : ReadPoint) (old marked new : ReadList)
+    (read : IsReadOf scale old ps) (is : point ≡ point_read scale p) (mark : IsMarked old point.whole marked) (same : new.whole ≡ marked.whole) where
+  here_marked : IsMarked old (point_read scale p).whole marked
+  here_marked = subst (λ (r : ReadPoint). IsMarked old r.whole marked) is mark
+
+  pub read_within : (q : Position) → point.position ≡ Some q → new.in_range ≡ marked.in_range
+      → ((qs : List Position) → IsKeptOf marked.walk (way_of qs) → IsKeptOf new.walk (way_of (qs ++ q ∷ [])))
+      → IsReadOf scale new (ps ++ p ∷ [])
+  read_within q e range step = more_within scale ps p old marked new read here_marked same q (sym (ap (λ r. r.position) is) ∙ e) range step
+
+  pub read_beyond : point.position ≡ None → new.in_range ≡ false → IsReadOf scale new (ps ++ p ∷ [])
+  read_beyond e range = more_beyond scale ps p old marked new read here_marked same (sym (ap (λ r. r.position) is) ∙ e) range
+
+pub ruleset read_more = (marked_bad, marked_good, read_within, read_beyond)

@@ -31,6 +31,7 @@ fn are_parallel(p: &Position, q: &Position) -> bool
 }
 
 /// The segment between two different points that share a coordinate.
+#[tactic(auto, using(crate::proofs::FormLemmas::no_segment))]
 fn segment(p: &Position, q: &Position) -> Option<Shape>
     ensures some { IfSome result (λ s. IsSegment p.now q.now s) }
     ensures none { IfNone result ((s : Shape) → IsSegment p.now q.now s → ⊥) }
