@@ -119,11 +119,16 @@ const JOINS: [(&str, Option<&str>, (u32, u32, u32), u32); 7] = [
 ];
 
 /// Words that ask for help, and what is among it.
-const HELP: [(&str, &str); 22] = [
+const HELP: [(&str, &str); 26] = [
     ("rjoin|--help", "id,wkt"),
+    ("rjoin|--help", "rjoin COMMAND --help tells more"),
     ("rjoin|help", "Exit status"),
     ("rjoin|--version", "rjoin 0.2.0"),
     ("rjoin|relate|--help", "interior, boundary and exterior"),
+    (
+        "rjoin|relate|--help",
+        "The nine letters are those of DE-9IM",
+    ),
     ("rjoin|join|--help", "op,layer,id,wkt"),
     (
         "rjoin|join|--help",
@@ -160,7 +165,9 @@ const HELP: [(&str, &str); 22] = [
     ),
     ("rjoin|help|draw", "100000 features"),
     ("rjoin|window|--help", "Exit status"),
+    ("rjoin|window|--help", "A feature meets the window"),
     ("rjoin|stats|--help", "Exit status"),
+    ("rjoin|stats|--help", "The answer has five lines"),
     ("rjoin|bounds|--help", "12.5 is written as 1250"),
     ("rjoin|help|bounds", "0 to 6 [default: 0]"),
 ];
