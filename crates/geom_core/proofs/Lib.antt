@@ -10,3 +10,4 @@ pub mod ShapeLemmas
 pub mod SpanLemmas
 pub mod Zones
 pub mod HeldLemmas
+pub mod LetterLemmas

@@ -10,7 +10,7 @@ use Rattle.geom_core.specs.declared.meeting.Meeting.TheVariants.{Disjoint, Meet,
 use Rattle.geom_core.specs.declared.meeting.Meeting.TheVariants.{PointInside, DisjointPoint, EndAtPoint, ContainsPoint, PointsDisjoint, PointsEqual}
 use Rattle.geom_core.specs.declared.relation.Relation.TheVariants as relations
 use Rattle.geom_core.specs.Meetings.{IsMeeting}
-use Rattle.geom_core.specs.Axes.{axis_of, entries_of}
+use Rattle.geom_core.specs.Axes.{matrix_by}
 use Rattle.geom_core.specs.declared.relation.Relation.{Relation}
 use Rattle.geom_core.specs.declared.mask.Mask.{Mask}
 use Rattle.geom_core.specs.Matrices.{IsMatrix}
@@ -18,7 +18,7 @@ use Rattle.geom_core.specs.Masks.{Fits}
 use Rattle.geom_core.specs.Shapes.{dim_of}
 use Rattle.geom_core.specs.Relations.{FitsOne, Holds, masks}
 use Rattle.geom_core.specs.Sets.{HoldsOfSets}
-use Rattle.geom_core.proofs.PartLemmas.{rows_hold}
+use Rattle.geom_core.proofs.PartLemmas.{matrix_holds}
 use Rattle.geom_core.proofs.SetLaws.{fits_where_holds, disjoint_law, intersects_law, touches_law, within_law, contains_law, equals_law}
 
 by_order : {P : Type 0} (x y : ℤ) → (x <ℤ y → P) → (x ≡ y → P) → (y <ℤ x → P) → P
@@ -82,16 +82,7 @@ pub some_matrix : (a b : Shape) → (m : Matrix) × IsMatrix a b m
 some_matrix a b =
     let (p, h) = some_meeting a.x b.x in
     let (q, k) = some_meeting a.y b.y in
-    let r = rows_hold a b p q h k in (
-      record {
-        rows = record {
-          interior = entries_of (axis_of p).interior (axis_of q).interior;
-          boundary = entries_of (axis_of p).boundary (axis_of q).boundary;
-          exterior = entries_of (axis_of p).exterior (axis_of q).exterior;
-        };
-      },
-      record { interior = r.interior; boundary = r.boundary; exterior = r.exterior },
-    )
+    (matrix_by p q, matrix_holds a b p q h k)
 
 -- the matrix of two shapes, of which there is one
 pub matrix_of : Shape → Shape → Matrix

@@ -10,8 +10,8 @@ use Rattle.geom_core.specs.declared.meeting.Meeting.{Meeting}
 use Rattle.geom_core.specs.declared.axis.ZonePairs.{ZonePairs}
 use Rattle.geom_core.specs.Cells.{line, IsWithin, IsInner}
 use Rattle.geom_core.specs.Meetings.{IsMeeting, interior_of, boundary_of}
-use Rattle.geom_core.specs.Matrices.{IsInterior, IsBoundary, IsExterior, IsRow}
-use Rattle.geom_core.specs.Axes.{larger_of, joined_row, pairs_of, axis_of, entries_of}
+use Rattle.geom_core.specs.Matrices.{IsInterior, IsBoundary, IsExterior, IsRow, IsMatrix}
+use Rattle.geom_core.specs.Axes.{larger_of, joined_row, pairs_of, axis_of, entries_of, matrix_by}
 use Rattle.geom_core.proofs.Zones.{IsEnd, IsOutside, IsShared}
 use Rattle.geom_core.proofs.MeetingLemmas.{IsAxisRow, table_holds}
 use Rattle.geom_core.proofs.Products.{Either, shared_left, shared_right, IsPairs, IsMadeOf, entry_extent}
@@ -132,14 +132,9 @@ row_holds P N W O X b x y f h k = record {
   exterior = entry_extent P (IsExterior b) N W O X (IsOutside b.x) (Whole b.x) (IsOutside b.y) (Whole b.y) _ _ f (exterior_made b) h.exterior k.exterior;
 }
 
--- the rows of the matrix, from how the shapes lie along each axis
-pub record AreRows (a b : Shape) (m n : Meeting) : Type 0 where
-  pub interior : IsRow (IsInterior a) b (entries_of (axis_of m).interior (axis_of n).interior)
-  pub boundary : IsRow (IsBoundary a) b (entries_of (axis_of m).boundary (axis_of n).boundary)
-  pub exterior : IsRow (IsExterior a) b (entries_of (axis_of m).exterior (axis_of n).exterior)
-
-pub rows_hold : (a b : Shape) (m n : Meeting) → IsMeeting m a.x b.x → IsMeeting n a.y b.y → AreRows a b m n
-rows_hold a b m n h k =
+-- the matrix of two shapes, from how they lie along each axis
+pub matrix_holds : (a b : Shape) (m n : Meeting) → IsMeeting m a.x b.x → IsMeeting n a.y b.y → IsMatrix a b (matrix_by m n)
+matrix_holds a b m n h k =
     let p = axis_holds m a.x b.x h in
     let q = axis_holds n a.y b.y k in
     record {

@@ -4,6 +4,7 @@
 use Rattle.geom_core.specs.declared.part.Parts.{Parts}
 use Rattle.geom_core.specs.declared.extent.Extent.{Extent}
 use Rattle.geom_core.specs.declared.extent.Extent.TheVariants as extents
+use Rattle.geom_core.specs.declared.matrix.Matrix.{Matrix}
 use Rattle.geom_core.specs.declared.meeting.Shared.{Shared}
 use Rattle.geom_core.specs.declared.meeting.Shared.TheVariants.{Nothing, Point, Interval}
 use Rattle.geom_core.specs.declared.meeting.Meeting.{Meeting}
@@ -94,3 +95,12 @@ entries_of x y = record {
   boundary = entry_of x.boundary y.boundary;
   exterior = entry_of x.exterior y.exterior;
 }
+
+-- the matrix of two shapes that lie so along each axis
+abbrev pub matrix_by : Meeting → Meeting → Matrix
+matrix_by x y =
+    let rows : Parts (Parts Extent) = record {
+      interior = entries_of (axis_of x).interior (axis_of y).interior;
+      boundary = entries_of (axis_of x).boundary (axis_of y).boundary;
+      exterior = entries_of (axis_of x).exterior (axis_of y).exterior;
+    } in record { rows = rows }

@@ -4,6 +4,7 @@ pub mod DisjointShapes
 pub mod FaultTexts
 pub mod JoinRelations
 pub mod Joined
+pub mod Letters
 pub mod Limits
 pub mod Masks
 pub mod Matrices

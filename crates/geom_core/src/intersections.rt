@@ -2,6 +2,7 @@
 
 ghost use Rattle.std.specs.Prelude.{◌≡◌};
 ghost use Rattle.geom_core.specs.Axes.{entries_of, entry_of, product_of, larger_extent};
+ghost use Rattle.geom_core.specs.Axes.{matrix_by};
 ghost use Rattle.geom_core.specs.Matrices.{IsMatrix};
 
 use crate::axis::{ZonePairs, axis_table};
@@ -16,18 +17,24 @@ use crate::shape::Shape;
 ///
 /// The boundary of a point is empty, that of a segment its two ends, that of a rectangle its ring
 /// (OGC 06-103r4, 6.1.4, 6.1.6 and 6.1.10).
+#[tactic(auto, using(crate::proofs::PartLemmas::matrix_holds))]
 pub fn relate(a: &Shape, b: &Shape) -> Matrix
     ensures { IsMatrix a.now b.now result }
 {
-    let x = axis_table(Meeting::of(a.x(), b.x()));
-    let y = axis_table(Meeting::of(a.y(), b.y()));
-    let interior = entries(&x.interior, &y.interior);
-    let boundary = entries(&x.boundary, &y.boundary);
-    let exterior = entries(&x.exterior, &y.exterior);
+    matrix_by(Meeting::of(a.x(), b.x()), Meeting::of(a.y(), b.y()))
+}
+
+/// The matrix of two shapes that lie so along each axis.
+#[inline(always)]
+pub(crate) fn matrix_by(x: Meeting, y: Meeting) -> Matrix
+    ensures { result ≡ matrix_by x y }
+{
+    let x = axis_table(x);
+    let y = axis_table(y);
     let rows = Parts {
-        interior,
-        boundary,
-        exterior,
+        interior: entries(&x.interior, &y.interior),
+        boundary: entries(&x.boundary, &y.boundary),
+        exterior: entries(&x.exterior, &y.exterior),
     };
     Matrix { rows }
 }

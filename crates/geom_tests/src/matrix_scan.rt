@@ -2,7 +2,7 @@
 
 ghost use Rattle.std.specs.Prelude.{◌≡◌, ◌+◌, ◌*◌, ◌<◌};
 
-use geom_core::{Shape, relate};
+use geom_core::{Letters, Shape, relate};
 use std::alloc::{AllocError, Global};
 use std::test::Fail;
 
@@ -97,11 +97,14 @@ pub(crate) fn shape(c: &Corners) -> Option<Shape> {
 fn every_matrix_is_that_of_a_scan(rt: HostRuntime) -> Result<(), Fail> {
     let all = all_corners(rt.alloc())?;
     assert!(rt; all.len() == 100);
+    let letters = Letters::new();
     for a in &all {
         let first = shape(a).ok_or("corners in order")?;
         for b in &all {
             let second = shape(b).ok_or("corners in order")?;
-            assert!(rt; relate(&first, &second).text() == scanned(a, b));
+            let nine = scanned(a, b);
+            assert!(rt; relate(&first, &second).text() == nine);
+            assert!(rt; *letters.of(&first, &second) == nine);
         }
     }
     Ok(())
