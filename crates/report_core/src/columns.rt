@@ -44,7 +44,7 @@ impl Column {
         ensures len { IfOk result (λ column. length column.starts.items ≡ bound + 1) }
     {
         let mut starts = Vec::with_capacity(alloc, bound + 1)?;
-        let mut text = Vec::new(alloc);
+        let mut text = Vec::with_capacity(alloc, likely_room(layer))?;
         starts.push(0)?;
         for number in 0..bound {
             push_field(alloc, &mut text, layer, number as u32)?;
@@ -80,10 +80,10 @@ impl Columns {
         LETTERS_AND_END.saturating_add(left).saturating_add(right)
     }
 
-    /// How many bytes the record of a pair needs.
+    /// About how many bytes the record of a pair needs.
     pub(crate) fn room_of(&self, pair: &(u32, u32)) -> usize {
-        let left = self.left.at(pair.0).map_or(0, |field| field.len());
-        let right = self.right.at(pair.1).map_or(0, |field| field.len());
+        let left = self.left.at(pair.0).map_or(0, room_of_field);
+        let right = self.right.at(pair.1).map_or(0, room_of_field);
         LETTERS_AND_END.saturating_add(left).saturating_add(right)
     }
 
@@ -139,6 +139,23 @@ fn bounds(pairs: &[(u32, u32)]) -> (usize, usize)
         right = right.max(pair.1 as usize + 1);
     }
     (left, right)
+}
+
+/// About how many bytes the fields of a layer need: as many as its ids have, and a comma each. So a
+/// column isn't moved while it grows.
+fn likely_room(layer: &Layer) -> usize {
+    let mut room: usize = 0;
+    for feature in layer.iter() {
+        room = room.saturating_add(feature.id.len()).saturating_add(1);
+    }
+    room
+}
+
+/// About how many bytes a field needs. Its first byte is read, so that the processor fetches the
+/// field; one byte of room more or less makes no difference.
+fn room_of_field(field: &[u8]) -> usize {
+    let is_quoted = field.first() == Some(&b'"');
+    field.len().saturating_add(is_quoted.into())
 }
 
 /// Adds the field of the feature with this number to a text, if there is one.

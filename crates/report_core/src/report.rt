@@ -10,7 +10,7 @@ ghost use Rattle.report_core.specs.Reports.{IsHeld, IsReport};
 ghost use Rattle.report_core.specs.Written.{joined};
 
 use crate::columns::Columns;
-use geom_core::relate;
+use geom_core::Letters;
 use layer_core::Layer;
 use std::alloc::{AllocError, Global};
 use std::thread;
@@ -183,6 +183,7 @@ fn push_rows(
         (AddsRows left.now.list right.now.list pairs.now text.old.items text.new.items) }
 {
     text.reserve(pairs.len().saturating_mul(columns.likely_record()))?;
+    let letters = Letters::new();
     for place in 0..pairs.len() {
         make_room(text, right, columns, pairs, place)?;
         let pair = pairs[place];
@@ -191,8 +192,12 @@ fn push_rows(
         let right_id = columns.right.at(pair.1).unwrap();
         let left_shape = left.shape(pair.0).unwrap();
         let right_shape = right.shape(pair.1).unwrap();
-        let letters = relate(&left_shape, &right_shape).text();
-        push_row(text, left_id, right_id, &letters)?;
+        push_row(
+            text,
+            left_id,
+            right_id,
+            letters.of(&left_shape, &right_shape),
+        )?;
     }
     Ok(())
 }
@@ -214,11 +219,21 @@ fn make_room(
     }
     let mut room: usize = 0;
     for pair in pairs[place..].iter().take(BLOCK) {
-        if right.shape(pair.1).is_some() {
-            room = room.saturating_add(columns.room_of(pair));
-        }
+        room = room.saturating_add(room_of_record(right, columns, pair));
     }
     text.reserve(room)
+}
+
+/// About how many bytes the record of a pair needs.
+fn room_of_record(right: &Layer, columns: &Columns, pair: &(u32, u32)) -> usize {
+    let Some(shape) = right.shape(pair.1) else {
+        return 0;
+    };
+    // Both ends of the shape are read, since they may lie in two lines of the cache.
+    if shape.y1() > shape.y2() {
+        return 0;
+    }
+    columns.room_of(pair)
 }
 
 /// Adds the record of two ids, as CSV fields with their commas, and the letters of a matrix.

@@ -20,11 +20,11 @@ loop-place-preserved c =
     let i = c.loop-place.place in
     let left_field = c.at.ensures _ c.requires.left_column (c.requires.left_within i (0, 0) c.loop-place-test.true) in
     let right_field = c.at-in-loop-place.ensures _ c.requires.right_column (c.requires.right_within i (0, 0) c.loop-place-test.true) in
-    let line = line_of c.unwrap-left_id.result.now c.unwrap-right_id.result.now c.text-letters.result in
+    let line = line_of c.unwrap-left_id.result.now c.unwrap-right_id.result.now c.of.result.now in
     pair_added _ _ _ _ _ _ i _ _ _ _ _ c.loop-place-test.true refl c.loop-place.invariant
     (found _ _ _ _ c.shape.ensures c.unwrap-left_shape.ensures (field_in _ _ _ left_field c.unwrap-left_id.ensures))
     (found _ _ _ _ c.shape-in-loop-place.ensures c.unwrap-right_shape.ensures (field_in _ _ _ right_field c.unwrap-right_id.ensures))
-    _ _ c.relate.ensures c.text-letters.ensures (c.in_ok-push_row.ensures ∙ ap (λ text. text ++ line) c.make_room.ensures)
+    _ _ c.of.ensures.is c.of.ensures.written (c.in_ok-push_row.ensures ∙ ap (λ text. text ++ line) c.make_room.ensures)
 
 pub returns : goal.returns
 returns c =
