@@ -1,6 +1,6 @@
 -- What is shown of words that are no command, and the status that they end with.
 use Rattle.std.specs.Prelude.{ℕ, true, false, List, ◌++◌, codes, string_bytes}
-use Rattle.geom_core.specs.FaultTexts.{mask_text, allows_disjoint_text}
+use Rattle.relation_core.specs.FaultTexts.{mask_text, allows_disjoint_text}
 use Rattle.join_core.specs.Lines.{line_of}
 use Rattle.deliver_core.specs.OptionTexts.{option_text}
 use Rattle.words_core.specs.declared.words.WordFault.{WordFault}

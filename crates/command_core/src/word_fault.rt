@@ -3,11 +3,11 @@
 ghost use Rattle.std.specs.Prelude.{◌≡◌, ◌+◌, ◌≤◌, ◌↔◌, ◌++◌, ◌∷◌, [], false, length, IsTrue};
 ghost use Rattle.std.specs.Prelude.{IsErr, OnOk, OnErr};
 ghost use Rattle.std.specs.Io.KnownBytes.{Appends};
-ghost use Rattle.geom_core.specs.FaultTexts.{mask_text};
+ghost use Rattle.relation_core.specs.FaultTexts.{mask_text};
 ghost use Rattle.report_core.specs.Written.{AppendsPrefix};
 ghost use Rattle.command_core.specs.WordFaults.{word_status_of, word_fault_line};
 
-use geom_core::{AllowsDisjoint, MaskFault};
+use relation_core::{AllowsDisjoint, MaskFault};
 use join_core::{ShortText, Sink, WriteFailed, write_text};
 use words_core::WordFault;
 

@@ -1,8 +1,6 @@
 -- what a collector holds, which messages it refuses and what it does with the others
 use Rattle.std.specs.Prelude.{◌≡◌, ◌↔◌, ℕ, ◌<◌, false, nat_lt, nat_le, ◌==◌, if◌then◌else◌, List}
 use Rattle.std.specs.Prelude.{[], ◌∷◌, ◌++◌, fold, Option, Some, None, Result, Ok, Err, IsTrue}
-use Rattle.std.specs.Ordering.{nat_cmp, ordering_then}
-use Rattle.std.specs.declared.cmp.Ordering.{Ordering}
 use Rattle.deliver_core.specs.declared.mark.Mark.{Mark}
 use Rattle.deliver_core.specs.declared.faults.Refusal.{Refusal}
 use Rattle.deliver_core.specs.declared.faults.Refusal.TheVariants.{Stranger, AfterEnd, Double, Gap}
@@ -73,7 +71,3 @@ abbrev pub IsLeastOpen : Collection → Finish → Type 0
 IsLeastOpen c (Open task) =
     (task < c.tasks) × (has_end task c.marks ≡ false)
     × ((other : ℕ) → other < task → IsTrue (has_end other c.marks))
-
--- the order of pairs: by the first number, and then by the second
-abbrev pub pair_cmp : ℕ × ℕ → ℕ × ℕ → Ordering
-pair_cmp a b = ordering_then (nat_cmp a.0 b.0) (nat_cmp a.1 b.1)

@@ -8,12 +8,13 @@ ghost use Rattle.std.specs.List.{AllWithin, HoldsAt};
 ghost use Rattle.deliver_core.specs.Marks.{IsLegalHistory, IsClosed};
 ghost use Rattle.deliver_core.specs.Scripts.{content_of, batch_of, end_of, IsBye};
 ghost use Rattle.deliver_core.specs.Collectors.{awaited, refusal_of, accept, RefusesIllegal};
-ghost use Rattle.deliver_core.specs.Collectors.{IsLeastOpen, pair_cmp};
+ghost use Rattle.deliver_core.specs.Collectors.{IsLeastOpen};
+ghost use Rattle.pair_core.specs.Pairs.{pair_cmp};
 
 use crate::faults::{Finish, Refusal};
 use crate::mark::Mark;
 use crate::message::{Body, Message};
-use rayon::slice::par_sort_unstable;
+use pair_core::{sort_pairs, sort_pairs_by_threads};
 use std::alloc::{AllocError, Global};
 use std::marker::Model;
 use std::thread::Threads;
@@ -245,21 +246,23 @@ impl Model for Outcome {
 
 impl Outcome {
     /// Puts the pairs into ascending order.
+    #[tactic(auto, using(pair_core::proofs::SortLemmas::written_sorted))]
     fn sort(&mut self)
         ensures as_often { IsPermutation self.old.pairs self.new.pairs }
         ensures ascending { IsSorted pair_cmp self.new.pairs }
         ensures marks { self.new.marks ≡ self.old.marks }
     {
-        self.pairs.sort_unstable();
+        sort_pairs(self.pairs.as_mut_slice());
     }
 
     /// Puts the pairs into ascending order. Threads share the work, up to two for each processor.
+    #[tactic(auto, using(pair_core::proofs::SortLemmas::written_sorted))]
     fn sort_by_threads<R: Threads + Sync>(&mut self, rt: &R)
         ensures as_often { IsPermutation self.old.pairs self.new.pairs }
         ensures ascending { IsSorted pair_cmp self.new.pairs }
         ensures marks { self.new.marks ≡ self.old.marks }
     {
-        par_sort_unstable(rt, self.pairs.as_mut_slice());
+        sort_pairs_by_threads(rt, self.pairs.as_mut_slice());
     }
 
     /// The accepted pairs, with multiplicity, in ascending order.

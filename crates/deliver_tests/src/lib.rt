@@ -1,4 +1,4 @@
-//! Tests of `deliver_core` from outside: worked examples, options, growths that are refused, and
+//! Tests of `deliver_core` and `pair_core` from outside: worked examples, options, growths that are refused, and
 //! threads.
 #![tactic(auto)]
 
@@ -12,3 +12,5 @@ mod full_outlet;
 mod options;
 #[cfg(test)]
 mod outlet;
+#[cfg(test)]
+mod pairs;

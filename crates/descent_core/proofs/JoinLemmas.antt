@@ -8,9 +8,9 @@ use Rattle.std.proofs.lemmas.Bool.Decides.{nat_tests}
 use Rattle.std.proofs.lemmas.Option.{slice_get-get_or, get_or_from_slice_get, slice_get_within, slice_get_cases}
 use Rattle.std.proofs.lemmas.List.Elements.{All-weaker, All-contains}
 use Rattle.std.proofs.lemmas.List.Sums.{sum_by-cons, get_or-le-sum_by}
-use Rattle.geom_core.specs.declared.relation.Relation.{Relation}
+use Rattle.relation_core.specs.declared.relation.Relation.{Relation}
 use Rattle.geom_core.specs.Cells.{Meets}
-use Rattle.geom_core.specs.Relations.{ForbidsDisjoint}
+use Rattle.relation_core.specs.Relations.{ForbidsDisjoint}
 use Rattle.rtree_core.specs.declared.node.Entry.{Entry}
 use Rattle.rtree_core.specs.declared.node.Node.{Node}
 use Rattle.rtree_core.specs.Nodes.{entries_of}

@@ -9,7 +9,8 @@ use Rattle.std.proofs.lemmas.Bool.Decides.{nat_tests}
 use Rattle.std.proofs.lemmas.Cmp.{ranked, by_ranked}
 use Rattle.std.proofs.lemmas.List.Sums.{sum_by_more, sum_by-take-le}
 use Rattle.std.proofs.lemmas.List.Sorted.{sum_by-IsPermutation, Contains-permutation, IsPermutation-sym}
-use Rattle.geom_core.specs.declared.relation.Relation.{Relation}
+use Rattle.pair_core.specs.Pairs.{pair_cmp}
+use Rattle.relation_core.specs.declared.relation.Relation.{Relation}
 use Rattle.rtree_core.specs.declared.node.Node.{Node}
 use Rattle.rtree_core.specs.Nodes.{entries_of}
 use Rattle.rtree_core.specs.Trees.{has_number}
@@ -17,9 +18,6 @@ use Rattle.descent_core.specs.Plans.{IsTask}
 use Rattle.descent_core.specs.Rows.{Precedes, IsRow}
 use Rattle.descent_core.specs.Shares.{is_pair}
 use Rattle.descent_core.specs.Finds.{Finds, Adds}
-
-abbrev pub pair_cmp : ℕ × ℕ → ℕ × ℕ → Ordering
-pair_cmp a b = ordering_then (nat_cmp a.0 b.0) (nat_cmp a.1 b.1)
 
 precedes_trans : (p q r : ℕ × ℕ) → Precedes p q → Precedes q r → Precedes p r
 precedes_trans p q r (inl h) (inl k) = inl (omega arith)

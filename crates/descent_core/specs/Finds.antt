@@ -1,6 +1,6 @@
 -- What a descent has found.
 use Rattle.std.specs.Prelude.{◌≡◌, ◌≤◌, ◌*◌, ◌↔◌, ℕ, List, ◌++◌, Contains, count_by}
-use Rattle.geom_core.specs.declared.relation.Relation.{Relation}
+use Rattle.relation_core.specs.declared.relation.Relation.{Relation}
 use Rattle.rtree_core.specs.declared.node.Entry.{Entry}
 use Rattle.rtree_core.specs.Trees.{has_number}
 use Rattle.descent_core.specs.Rows.{StandIn}

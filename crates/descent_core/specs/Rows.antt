@@ -1,7 +1,7 @@
 -- The pairs of numbers of the entries that stand in a relation.
 use Rattle.std.specs.Prelude.{◌≡◌, ◌<◌, ◌⊎◌, ◌↔◌, ℕ, List, AllPairs, Contains}
-use Rattle.geom_core.specs.declared.relation.Relation.{Relation}
-use Rattle.geom_core.specs.Relations.{Holds}
+use Rattle.relation_core.specs.declared.relation.Relation.{Relation}
+use Rattle.relation_core.specs.Relations.{Holds}
 use Rattle.rtree_core.specs.declared.node.Entry.{Entry}
 use Rattle.rtree_core.specs.declared.node.Node.{Node}
 use Rattle.rtree_core.specs.Nodes.{entries_of}

@@ -34,8 +34,8 @@ impl<'a> Model for Plan<'a> {
 impl<'a> Plan<'a> {
     ghost use Rattle.std.specs.Prelude.{◌≡◌, ◌<◌, ◌≤◌, ◌↔◌, [], Some, length, slice_get, IsTrue};
     ghost use Rattle.std.specs.Prelude.{IfOk};
-    ghost use Rattle.geom_core.specs.declared.relation.Relation.{Relation};
-    ghost use Rattle.geom_core.specs.Relations.{ForbidsDisjoint};
+    ghost use Rattle.relation_core.specs.declared.relation.Relation.{Relation};
+    ghost use Rattle.relation_core.specs.Relations.{ForbidsDisjoint};
     ghost use Rattle.rtree_core.specs.Trees.{entries_in};
     ghost use Rattle.descent_core.specs.Plans.{most_tasks, IsPlan, IsTask};
     ghost use Rattle.descent_core.specs.Shares.{ShareOut, RowsJoin};

@@ -1,7 +1,9 @@
 //! The pairs of a task: the descent of its two subtrees, side by side.
 
 ghost use Rattle.std.specs.Prelude.{◌<◌, [], ◌∷◌, length, All, IfOk, OnOk, IsSomeAnd, slice_get};
-ghost use Rattle.geom_core.specs.JoinRelations.{relation_of};
+ghost use Rattle.std.specs.Prelude.{IsPermutation, IsSorted};
+ghost use Rattle.pair_core.specs.Pairs.{pair_cmp};
+ghost use Rattle.relation_core.specs.JoinRelations.{relation_of};
 ghost use Rattle.std.specs.List.{flat_map};
 ghost use Rattle.rtree_core.specs.Nodes.{entries_of, IsLawful, IsLeaf};
 ghost use Rattle.descent_core.specs.Rows.{IsRow};
@@ -9,7 +11,8 @@ ghost use Rattle.descent_core.specs.Finds.{Adds};
 
 use crate::lower::lower;
 use crate::plan::Plan;
-use geom_core::JoinRelation;
+use pair_core::sort_pairs;
+use relation_core::JoinRelation;
 use rtree_core::{Entry, Node};
 use std::alloc::{AllocError, Global};
 
@@ -30,8 +33,17 @@ pub fn row(
     let (left, right) = plan.task(k);
     let mut found = Vec::new(alloc);
     descend(left, right, relation, &mut found)?;
-    found.sort_unstable();
-    Ok(found)
+    Ok(sorted(found))
+}
+
+/// These pairs in ascending order.
+#[tactic(auto, using(pair_core::proofs::SortLemmas::written_sorted))]
+fn sorted(mut pairs: Vec<(u32, u32)>) -> Vec<(u32, u32)>
+    ensures as_often { IsPermutation pairs.items result.items }
+    ensures ascending { IsSorted pair_cmp result.items }
+{
+    sort_pairs(pairs.as_mut_slice());
+    pairs
 }
 
 /// Adds the pairs of two subtrees: of two leaves their entries', else those of what stands below.

@@ -2,7 +2,7 @@
 
 use crate::rows::are_diagonal;
 use descent_core::{Plan, row};
-use geom_core::{JoinRelation, Relation};
+use relation_core::{JoinRelation, Relation};
 use rtree_core::RTree;
 use std::alloc::{AllocError, Global};
 use test_data::on_packed;

@@ -1,7 +1,7 @@
 //! The worked rows.
 
 use descent_core::{Plan, row};
-use geom_core::{JoinRelation, Relation};
+use relation_core::{JoinRelation, Relation};
 use rtree_core::RTree;
 use std::alloc::Global;
 use test_data::on_packed;

@@ -1,13 +1,4 @@
-pub mod DisjointLemmas
-pub mod MaskLemmas
-pub mod MatrixOf
-pub mod MeetingLemmas
-pub mod OneMatrix
-pub mod PartLemmas
-pub mod Products
+pub mod HeldLemmas
 pub mod SetLaws
 pub mod ShapeLemmas
 pub mod SpanLemmas
-pub mod Zones
-pub mod HeldLemmas
-pub mod LetterLemmas

@@ -30,6 +30,10 @@ IsInner s u = ((line s.lo <ℤ u) × (u <ℤ line s.hi)) ⊎ ((s.lo ≡ s.hi) ×
 abbrev pub Covers : Shape → ℤ → ℤ → Type 0
 Covers s u v = IsWithin s.x u × IsWithin s.y v
 
+-- the interior: the cells that are inner on both axes
+abbrev pub IsInterior : Shape → ℤ → ℤ → Type 0
+IsInterior s u v = IsInner s.x u × IsInner s.y v
+
 -- some cell is in both closed shapes
 abbrev pub Meets : Shape → Shape → Type 0
 Meets a b = (u : ℤ) × (v : ℤ) × Covers a u v × Covers b u v

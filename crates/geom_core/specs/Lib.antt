@@ -1,14 +1,5 @@
-pub mod Axes
 pub mod Cells
-pub mod DisjointShapes
-pub mod FaultTexts
-pub mod JoinRelations
 pub mod Joined
-pub mod Letters
 pub mod Limits
-pub mod Masks
-pub mod Matrices
-pub mod Meetings
-pub mod Relations
 pub mod Sets
 pub mod Shapes

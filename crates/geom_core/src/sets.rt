@@ -32,7 +32,7 @@ impl Shape {
 
     /// Whether the closed shapes share a point, and their interiors none.
     #[inline(always)]
-    pub(crate) fn touches(&self, other: &Shape) -> bool
+    pub fn touches(&self, other: &Shape) -> bool
         ensures { IsTrue result ↔ AreTouching self.now other.now }
     {
         self.meets(other) && !self.interiors_meet(other)
@@ -40,7 +40,7 @@ impl Shape {
 
     /// Whether the shape lies in the other, and their interiors share a point.
     #[inline(always)]
-    pub(crate) fn is_within(&self, other: &Shape) -> bool
+    pub fn is_within(&self, other: &Shape) -> bool
         ensures { IsTrue result ↔ LiesWithin self.now other.now }
     {
         self.is_in(other) && self.interiors_meet(other)
@@ -48,7 +48,7 @@ impl Shape {
 
     /// Whether each of the two closed shapes lies in the other.
     #[inline(always)]
-    pub(crate) fn is_same_set(&self, other: &Shape) -> bool
+    pub fn is_same_set(&self, other: &Shape) -> bool
         ensures { IsTrue result ↔ AreSameSet self.now other.now }
     {
         self.is_in(other) && other.is_in(self)

@@ -34,14 +34,16 @@ impl Shape {
     }
 
     /// What the shape covers of the first axis.
-    pub(crate) fn x(&self) -> &Span
+    #[inline(always)]
+    pub fn x(&self) -> &Span
         ensures { result.now ≡ self.now.x }
     {
         &self.x
     }
 
     /// What the shape covers of the second axis.
-    pub(crate) fn y(&self) -> &Span
+    #[inline(always)]
+    pub fn y(&self) -> &Span
         ensures { result.now ≡ self.now.y }
     {
         &self.y

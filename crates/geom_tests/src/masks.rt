@@ -1,6 +1,7 @@
 //! How masks and relations are read, and which relations a join may use.
 
-use geom_core::{JoinRelation, Mask, MaskFault, Relation, Shape, relate};
+use geom_core::Shape;
+use relation_core::{JoinRelation, Mask, MaskFault, Relation, relate};
 use std::process::Abort;
 use std::test::Fail;
 

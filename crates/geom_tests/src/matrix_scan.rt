@@ -2,7 +2,8 @@
 
 ghost use Rattle.std.specs.Prelude.{◌≡◌, ◌+◌, ◌*◌, ◌<◌};
 
-use geom_core::{Letters, Shape, relate};
+use geom_core::Shape;
+use relation_core::{Letters, relate};
 use std::alloc::{AllocError, Global};
 use std::test::Fail;
 

@@ -2,7 +2,7 @@
 //! over every cell says of the two sets.
 
 use crate::matrix_scan::{Corners, PLACES, all_corners, part_at, shape};
-use geom_core::{JoinRelation, Relation};
+use relation_core::{JoinRelation, Relation};
 use std::test::Fail;
 
 /// What two sets of cells have in common.

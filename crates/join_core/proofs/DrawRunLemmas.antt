@@ -1,6 +1,6 @@
 -- The answers of a picture of files.
 use Rattle.std.proofs.Common.{◌≡◌, ◌<◌, ℕ, List, Result, Ok, Err, IsErrAnd, IsErrOf, IfErr, refl, sym, subst}
-use Rattle.geom_core.specs.declared.relation.Relation.{Relation}
+use Rattle.relation_core.specs.declared.relation.Relation.{Relation}
 use Rattle.layer_core.specs.Edits.{Layers}
 use Rattle.layer_core.specs.Layers.{Contents}
 use Rattle.draw_core.specs.Limits.{most_drawn}

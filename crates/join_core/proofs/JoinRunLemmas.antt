@@ -2,7 +2,7 @@
 use Rattle.std.proofs.Common.{◌≡◌, ℕ, List, Option, Some, None, Result, Ok, Err, IsSome, IsErrAnd, IsErrOf, IsSomeAnd, IfSome, IsTrue, Bool, true, false, IfErr}
 use Rattle.std.proofs.Common.{◌↔◌, ◌≢◌, All, get_or, refl, sym, subst, ◌∙◌, map}
 use Rattle.std.specs.Prelude.{⊤}
-use Rattle.geom_core.specs.declared.relation.Relation.{Relation}
+use Rattle.relation_core.specs.declared.relation.Relation.{Relation}
 use Rattle.layer_core.specs.declared.edit.Edit.{Edit as EditType}
 use Rattle.layer_core.specs.declared.fault.LayerFault.{LayerFault}
 use Rattle.layer_core.specs.declared.fault.LayerFault.TheVariants.{Memory as no_memory}

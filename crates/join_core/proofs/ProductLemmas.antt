@@ -1,6 +1,6 @@
 -- The answers of a join of files, by what is made of its pairs.
 use Rattle.std.proofs.Common.{◌≡◌, ◌<◌, ℕ, List, Result, Ok, Err, IsErrAnd, IsErrOf, IfErr, IfOk, refl, sym, subst}
-use Rattle.geom_core.specs.declared.relation.Relation.{Relation}
+use Rattle.relation_core.specs.declared.relation.Relation.{Relation}
 use Rattle.layer_core.specs.Edits.{Layers}
 use Rattle.draw_core.specs.Limits.{most_drawn}
 use Rattle.file_core.specs.declared.read_fault.ReadFault.{ReadFault}

@@ -3,10 +3,10 @@ use Rattle.std.proofs.Common.{◌≡◌, ℕ, ◌∙◌, List, Option, Some, con
 use Rattle.std.specs.List.{flat_map}
 use Rattle.std.specs.List.Sorted.{IsSorted, IsPermutation}
 use Rattle.std.proofs.lemmas.List.Sorted.{sum_by-IsPermutation, Contains-permutation, IsPermutation-sym}
-use Rattle.geom_core.specs.declared.relation.Relation.{Relation}
-use Rattle.geom_core.specs.declared.join_relation.JoinRelation.{JoinRelation}
-use Rattle.geom_core.specs.JoinRelations.{relation_of, forbids_disjoint}
-use Rattle.geom_core.specs.Relations.{Holds, ForbidsDisjoint}
+use Rattle.relation_core.specs.declared.relation.Relation.{Relation}
+use Rattle.relation_core.specs.declared.join_relation.JoinRelation.{JoinRelation}
+use Rattle.relation_core.specs.JoinRelations.{relation_of, forbids_disjoint}
+use Rattle.relation_core.specs.Relations.{Holds, ForbidsDisjoint}
 use Rattle.rtree_core.specs.declared.node.Entry.{Entry}
 use Rattle.rtree_core.specs.declared.node.Node.{Node}
 use Rattle.rtree_core.specs.Trees.{entries_in}
@@ -16,7 +16,8 @@ use Rattle.descent_core.specs.Plans.{IsPlan}
 use Rattle.descent_core.specs.Rows.{StandIn as EntriesStandIn}
 use Rattle.descent_core.specs.Shares.{is_pair, IsJoin, RowsJoin}
 use Rattle.descent_core.proofs.RowLemmas.{all_ascend}
-use Rattle.deliver_core.specs.Collectors.{Delivery, pair_cmp}
+use Rattle.deliver_core.specs.Collectors.{Delivery}
+use Rattle.pair_core.specs.Pairs.{pair_cmp}
 use Rattle.parallel_core.specs.Deliveries.{IsDelivered}
 use Rattle.join_core.specs.Joins.{StandIn, IsJoinList, RowsAreJoinList, HasMarks}
 use Rattle.join_core.proofs.JoinLemmas.{held_by_number, listed_by_number}

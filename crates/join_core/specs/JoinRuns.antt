@@ -1,7 +1,7 @@
 -- What a join of three files gives.
 use Rattle.std.specs.Prelude.{◌≡◌, ◌≢◌, ◌<◌, ◌≤◌, ⊤, ℕ, List, [], Option, Some, None, Result, Ok}
 use Rattle.std.specs.Prelude.{Err, IfSome, length, take}
-use Rattle.geom_core.specs.declared.relation.Relation.{Relation}
+use Rattle.relation_core.specs.declared.relation.Relation.{Relation}
 use Rattle.wkt_core.specs.declared.scale.Scale.{Scale}
 use Rattle.layer_core.specs.declared.fault.LayerFault.{LayerFault}
 use Rattle.layer_core.specs.declared.fault.LayerFault.TheVariants.{Memory as no_memory}

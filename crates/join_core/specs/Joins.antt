@@ -2,14 +2,15 @@
 use Rattle.std.specs.Prelude.{◌≡◌, ◌↔◌, ℕ, List, Option, Some, length, AllPairs, Contains}
 use Rattle.std.specs.Prelude.{IsPermutation, IsSorted}
 use Rattle.std.specs.List.{flat_map}
-use Rattle.geom_core.specs.declared.relation.Relation.{Relation}
-use Rattle.geom_core.specs.Relations.{Holds, ForbidsDisjoint}
+use Rattle.relation_core.specs.declared.relation.Relation.{Relation}
+use Rattle.relation_core.specs.Relations.{Holds, ForbidsDisjoint}
 use Rattle.rtree_core.specs.declared.node.Node.{Node}
 use Rattle.layer_core.specs.Layers.{Feature, Contents, with_number}
 use Rattle.descent_core.specs.Plans.{IsPlan}
 use Rattle.descent_core.specs.Rows.{Precedes}
 use Rattle.descent_core.specs.Shares.{AreRows}
-use Rattle.deliver_core.specs.Collectors.{Delivery, pair_cmp}
+use Rattle.deliver_core.specs.Collectors.{Delivery}
+use Rattle.pair_core.specs.Pairs.{pair_cmp}
 use Rattle.deliver_core.specs.Marks.{IsLegalHistory, IsClosed}
 use Rattle.parallel_core.specs.Deliveries.{AreMarks}
 

@@ -1,8 +1,8 @@
 -- What two texts relate as.
 use Rattle.std.specs.Prelude.{◌≡◌, ⊤, ℕ, List, [], ◌∷◌, ◌++◌, Result, Ok, Err}
 use Rattle.geom_core.specs.declared.shape.Shape.{Shape}
-use Rattle.geom_core.specs.declared.matrix.Matrix.{Matrix}
-use Rattle.geom_core.specs.Matrices.{IsMatrix, letters_of}
+use Rattle.relation_core.specs.declared.matrix.Matrix.{Matrix}
+use Rattle.relation_core.specs.Matrices.{IsMatrix, letters_of}
 use Rattle.wkt_core.specs.declared.fault.WktFault.{WktFault}
 use Rattle.wkt_core.specs.declared.scale.Scale.{Scale}
 use Rattle.wkt_core.specs.Readings.{Reads}

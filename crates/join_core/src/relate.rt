@@ -1,14 +1,14 @@
 //! The matrix of two geometries that are given as texts.
 
 ghost use Rattle.std.specs.Prelude.{◌≡◌, ◌↔◌, ◌++◌, ◌∷◌, [], Err, false, IfOk, IfErr};
-ghost use Rattle.geom_core.specs.Matrices.{letters_of};
+ghost use Rattle.relation_core.specs.Matrices.{letters_of};
 ghost use Rattle.wkt_core.specs.declared.fault.WktFault.{WktFault};
 ghost use Rattle.join_core.specs.declared.fault.Input.{Input};
 ghost use Rattle.join_core.specs.Relating.{RelateGives, HasFirstFault, IsMatrixLine, IsTextFault};
 ghost use Rattle.join_core.specs.Runs.{RunEnds};
 
 use crate::fault::{Input, RunFault};
-use geom_core::{Matrix, relate};
+use relation_core::{Matrix, relate};
 use report_core::{Sink, write_text};
 use wkt_core::Scale;
 

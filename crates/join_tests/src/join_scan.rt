@@ -1,7 +1,7 @@
 //! Joins of mixed, clustered and coincident features, packed and edited, beside a nested loop.
 
 use crate::layers::edited;
-use geom_core::{JoinRelation, Relation};
+use relation_core::{JoinRelation, Relation};
 use join_core::{OpenGate, Options, join};
 use layer_core::{FeatureRef, Layer};
 use std::alloc::{AllocError, Global};

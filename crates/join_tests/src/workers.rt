@@ -2,7 +2,7 @@
 
 use crate::layers::{layer_of, points, read_text};
 use deliver_core::Mark;
-use geom_core::{JoinRelation, Relation};
+use relation_core::{JoinRelation, Relation};
 use join_core::{Gate, JoinFault, OpenGate, Options, Outcome, join};
 use layer_core::Layer;
 use std::random::RandomSource;

@@ -6,13 +6,14 @@ use Rattle.std.specs.List.{flat_map}
 use Rattle.std.proofs.lemmas.List.Elements.{All-contains}
 use Rattle.std.proofs.lemmas.List.Sorted.{IsPermutation-sym, IsPermutation-trans}
 use Rattle.std.proofs.lemmas.Option.{none-some}
-use Rattle.geom_core.specs.declared.relation.Relation.{Relation}
+use Rattle.relation_core.specs.declared.relation.Relation.{Relation}
 use Rattle.rtree_core.specs.declared.node.Node.{Node}
 use Rattle.descent_core.specs.Rows.{IsRow}
 use Rattle.deliver_core.specs.declared.faults.Refusal.{Refusal}
 use Rattle.deliver_core.specs.declared.faults.Refusal.TheVariants as refusals
 use Rattle.deliver_core.specs.declared.message.Message.{Message}
-use Rattle.deliver_core.specs.Collectors.{Collection, Delivery, collected, refusal_of, RefusesNone, pair_cmp}
+use Rattle.deliver_core.specs.Collectors.{Collection, Delivery, collected, refusal_of, RefusesNone}
+use Rattle.pair_core.specs.Pairs.{pair_cmp}
 use Rattle.deliver_core.specs.Marks.{IsLegalHistory, IsClosed, marks_of}
 use Rattle.deliver_core.specs.Owners.{Owners, KeepsOwners, IsComplete, IsScript, owned_tasks, contents, collection}
 use Rattle.deliver_core.specs.Scripts.{Content, Task, content_of}

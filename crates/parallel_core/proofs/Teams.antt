@@ -4,7 +4,7 @@ use Rattle.std.proofs.Common.{vec_capacity, refl, sym, ap, ◌∙◌, subst, ari
 use Rattle.std.proofs.lemmas.List.{get_or_append_left}
 use Rattle.std.proofs.lemmas.Option.{slice_get_within, same_Some, none-some}
 use Rattle.std.proofs.Math.Seq.{get_or-append_seam}
-use Rattle.geom_core.specs.declared.relation.Relation.{Relation}
+use Rattle.relation_core.specs.declared.relation.Relation.{Relation}
 use Rattle.rtree_core.specs.declared.node.Node.{Node}
 use Rattle.deliver_core.specs.declared.message.Message.{Message}
 use Rattle.deliver_core.specs.declared.outlet.Outlet.{Outlet}

@@ -5,7 +5,7 @@ use Rattle.std.proofs.lemmas.Grind.{flat_map-append}
 use Rattle.std.proofs.lemmas.List.{map-append}
 use Rattle.std.proofs.lemmas.List.Elements.{All-nil, All-append, All-push}
 use mathlib.Core.List.{IsPrefix}
-use Rattle.geom_core.specs.declared.relation.Relation.{Relation}
+use Rattle.relation_core.specs.declared.relation.Relation.{Relation}
 use Rattle.rtree_core.specs.declared.node.Node.{Node}
 use Rattle.deliver_core.specs.declared.port.Port.{Port}
 use Rattle.deliver_core.specs.declared.outlet.Outlet.{Outlet}

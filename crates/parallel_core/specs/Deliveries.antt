@@ -1,10 +1,11 @@
 -- What workers make of a plan.
 use Rattle.std.specs.Prelude.{◌≡◌, ℕ, List, Some, length, slice_get, IsPermutation, IsSorted}
 use Rattle.std.specs.List.{flat_map}
-use Rattle.geom_core.specs.declared.relation.Relation.{Relation}
+use Rattle.relation_core.specs.declared.relation.Relation.{Relation}
 use Rattle.rtree_core.specs.declared.node.Node.{Node}
 use Rattle.descent_core.specs.Shares.{AreRows}
-use Rattle.deliver_core.specs.Collectors.{Delivery, pair_cmp}
+use Rattle.deliver_core.specs.Collectors.{Delivery}
+use Rattle.pair_core.specs.Pairs.{pair_cmp}
 use Rattle.deliver_core.specs.Marks.{IsLegalHistory, IsClosed, marks_of, script_marks}
 use Rattle.deliver_core.specs.Scripts.{batches_for}
 

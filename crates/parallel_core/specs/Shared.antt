@@ -1,7 +1,7 @@
 -- What the workers of a join share, as contracts speak of it.
 use Rattle.std.specs.Prelude.{ℕ, List}
-use Rattle.geom_core.specs.declared.relation.Relation.{Relation}
-use Rattle.geom_core.specs.JoinRelations.{relation_of}
+use Rattle.relation_core.specs.declared.relation.Relation.{Relation}
+use Rattle.relation_core.specs.JoinRelations.{relation_of}
 use Rattle.rtree_core.specs.declared.node.Node.{Node}
 use Rattle.deliver_core.specs.declared.outlet.Outlet.{Outlet}
 use Rattle.deliver_core.specs.Boards.{BoardValue}

@@ -1,7 +1,7 @@
 -- A team of workers: what it may start with, and what it leaves when it has ended.
 use Rattle.std.specs.Prelude.{◌≡◌, ℕ, ◌<◌, ◌≤◌, Bool, true, List, All, Some, map, length, slice_get}
 use Rattle.std.specs.Prelude.{vec_capacity}
-use Rattle.geom_core.specs.declared.relation.Relation.{Relation}
+use Rattle.relation_core.specs.declared.relation.Relation.{Relation}
 use Rattle.rtree_core.specs.declared.node.Node.{Node}
 use Rattle.deliver_core.specs.declared.message.Message.{Message}
 use Rattle.deliver_core.specs.declared.outlet.Outlet.{Outlet}

@@ -2,7 +2,7 @@
 use Rattle.std.specs.Prelude.{◌≡◌, ℕ, ◌<◌, Bool, true, false, List, [], ◌∷◌, ◌++◌, map, All}
 use Rattle.std.specs.Prelude.{MatchBool, IsSomeAnd, slice_get}
 use mathlib.Core.List.{IsPrefix}
-use Rattle.geom_core.specs.declared.relation.Relation.{Relation}
+use Rattle.relation_core.specs.declared.relation.Relation.{Relation}
 use Rattle.rtree_core.specs.declared.node.Node.{Node}
 use Rattle.descent_core.specs.Rows.{IsRow}
 use Rattle.deliver_core.specs.declared.outlet.Outlet.{Outlet}

@@ -1,7 +1,7 @@
 //! The workers of a join: they process the tasks of a plan side by side.
 
 ghost use Rattle.std.specs.Prelude.{◌≡◌, ◌≤◌, true, false, IfErr, IfOk};
-ghost use Rattle.geom_core.specs.JoinRelations.{relation_of};
+ghost use Rattle.relation_core.specs.JoinRelations.{relation_of};
 ghost use Rattle.parallel_core.specs.Deliveries.{IsDelivered};
 ghost use Rattle.parallel_core.specs.Faults.{IsWant};
 
@@ -12,7 +12,7 @@ use crate::rows::Rows;
 use crate::shared::Shared;
 use crate::team::{Team, run};
 use deliver_core::{Board, MAX_BATCH, MAX_WORKERS, Outcome, Outlet, owners_law};
-use geom_core::JoinRelation;
+use relation_core::JoinRelation;
 use std::alloc::Global;
 use std::sync::Wait;
 use std::thread::Threads;

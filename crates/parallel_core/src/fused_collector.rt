@@ -2,7 +2,7 @@
 
 ghost use Rattle.std.specs.Prelude.{◌≡◌, List, [], ◌∷◌, ◌++◌, true, false, IsOk, IsPermutation};
 ghost use Rattle.std.specs.Prelude.{IsSorted, IfOk, IfErr};
-ghost use Rattle.deliver_core.specs.Collectors.{pair_cmp};
+ghost use Rattle.pair_core.specs.Pairs.{pair_cmp};
 ghost use Rattle.deliver_core.specs.Marks.{IsClosed, IsLegalHistory};
 ghost use Rattle.deliver_core.specs.Scripts.{Content, content_of};
 ghost use Rattle.parallel_core.specs.Faults.{fault_of};

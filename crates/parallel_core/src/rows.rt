@@ -1,13 +1,13 @@
 //! Where a worker has the rows of its tasks from.
 
 ghost use Rattle.std.specs.Prelude.{◌≡◌, ◌<◌, ◌≤◌, List, length, IfOk};
-ghost use Rattle.geom_core.specs.JoinRelations.{relation_of};
+ghost use Rattle.relation_core.specs.JoinRelations.{relation_of};
 ghost use Rattle.rtree_core.specs.declared.node.Node.{Node};
 ghost use Rattle.descent_core.specs.Plans.{most_tasks};
 ghost use Rattle.parallel_core.specs.Workers.{IsRowIn};
 
 use descent_core::{Plan, row};
-use geom_core::JoinRelation;
+use relation_core::JoinRelation;
 use std::alloc::{AllocError, Global};
 
 /// What gives the rows of numbered tasks. Threads share it in place of the plan, which has a

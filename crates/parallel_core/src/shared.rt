@@ -1,7 +1,7 @@
 //! What the workers of a join share.
 
 use deliver_core::{Board, Outlet};
-use geom_core::JoinRelation;
+use relation_core::JoinRelation;
 
 /// What all workers of a join are given alike: whose rows to send and how, and where to draw tasks
 /// and send to.

@@ -2,7 +2,7 @@
 
 ghost use Rattle.std.specs.Prelude.{◌≡◌, ◌+◌, ◌≤◌, true, length, vec_capacity, IfSome, IfNone};
 ghost use Rattle.std.specs.Thread.{IsSync};
-ghost use Rattle.geom_core.specs.JoinRelations.{relation_of};
+ghost use Rattle.relation_core.specs.JoinRelations.{relation_of};
 ghost use Rattle.deliver_core.specs.Boards.{BoardValue, fresh_seat};
 ghost use Rattle.deliver_core.specs.declared.outlet.Outlet.{Outlet};
 ghost use Rattle.deliver_core.specs.OutletCalls.{IsFreshPort};
@@ -17,7 +17,7 @@ use crate::rows::Rows;
 use crate::shared::Shared;
 use crate::working::{Worked, work};
 use deliver_core::{Board, BoardSeat, MAX_BATCH, Outlet, Port};
-use geom_core::JoinRelation;
+use relation_core::JoinRelation;
 use std::alloc::Global;
 use std::sync::Wait;
 use std::thread;

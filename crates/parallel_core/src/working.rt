@@ -1,7 +1,7 @@
 //! The worker: it processes tasks until the board has none left.
 
 ghost use Rattle.std.specs.Prelude.{◌≡◌, ◌<◌, ◌≤◌, ◌∷◌, [], true, length, IfErr, IfOk};
-ghost use Rattle.geom_core.specs.JoinRelations.{relation_of};
+ghost use Rattle.relation_core.specs.JoinRelations.{relation_of};
 ghost use Rattle.deliver_core.specs.Boards.{fresh_seat};
 ghost use Rattle.deliver_core.specs.OutletCalls.{IsFreshPort, IsOpenPort};
 ghost use Rattle.deliver_core.specs.Ports.{index_of};
@@ -17,7 +17,7 @@ use crate::script::send_script;
 use crate::shared::Shared;
 use deliver_core::{Board, BoardSeat, MAX_BATCH, Outlet, Port};
 use descent_core::Plan;
-use geom_core::JoinRelation;
+use relation_core::JoinRelation;
 use std::alloc::{AllocError, Global};
 use std::sync::Wait;
 use std::thread::Threads;

@@ -2,7 +2,7 @@
 
 use crate::teams::{are_twenty, sees};
 use descent_core::Plan;
-use geom_core::{JoinRelation, Relation};
+use relation_core::{JoinRelation, Relation};
 use parallel_core::{Gate, MAX_WORKERS, Rows, run_workers};
 use rtree_core::RTree;
 use std::alloc::{AllocError, Global};

@@ -8,7 +8,7 @@ ghost use Rattle.deliver_core.specs.Ports.{IsTapOf};
 use crate::expected::{Expected, says};
 use deliver_core::{Board, BoardSeat, Body, Outlet, Port, Tap};
 use descent_core::Plan;
-use geom_core::{JoinRelation, Relation};
+use relation_core::{JoinRelation, Relation};
 use parallel_core::{Gate, MAX_BATCH, OpenGate, Worked, worker};
 use rtree_core::RTree;
 use std::alloc::Global;

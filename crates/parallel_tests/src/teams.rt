@@ -2,7 +2,7 @@
 
 use deliver_core::{Mark, Outcome};
 use descent_core::Plan;
-use geom_core::{JoinRelation, Relation};
+use relation_core::{JoinRelation, Relation};
 use parallel_core::{Gate, MAX_BATCH, MAX_WORKERS, OpenGate, run_workers};
 use rtree_core::RTree;
 use std::alloc::Global;

@@ -3,10 +3,10 @@ use Rattle.std.proofs.Common.{◌≡◌, ℕ, List, [], ◌∷◌, ◌++◌, Boo
 use Rattle.std.proofs.Common.{codes, ap, subst, ◌∙◌, refl, ◌+◌, ◌<◌, length, get_or, take, append_assoc}
 use Rattle.std.specs.Borrow.{Bor}
 use Rattle.geom_core.specs.declared.shape.Shape.{Shape}
-use Rattle.geom_core.specs.declared.extent.Extent.{Extent}
-use Rattle.geom_core.specs.declared.extent.Extent.TheVariants.{Empty, Point, Line, Area}
-use Rattle.geom_core.specs.declared.matrix.Matrix.{Matrix}
-use Rattle.geom_core.specs.Matrices.{IsMatrix, letter_of, letters_of}
+use Rattle.relation_core.specs.declared.extent.Extent.{Extent}
+use Rattle.relation_core.specs.declared.extent.Extent.TheVariants.{Empty, Point, Line, Area}
+use Rattle.relation_core.specs.declared.matrix.Matrix.{Matrix}
+use Rattle.relation_core.specs.Matrices.{IsMatrix, letter_of, letters_of}
 use Rattle.layer_core.specs.Layers.{Feature, Contents, with_number}
 use Rattle.csv.specs.Machine.{line_feed}
 use Rattle.csv.specs.Writing.{comma, field_text, fields_text, is_blank, row_text, needs_byte, needs_quotes, default_writer}

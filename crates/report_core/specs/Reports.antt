@@ -1,8 +1,8 @@
 -- The report of pairs of features.
 use Rattle.std.specs.Prelude.{◌≡◌, ℕ, List, [], ◌∷◌, ◌++◌, Some, IsSome, codes}
 use Rattle.std.specs.List.{AllZip}
-use Rattle.geom_core.specs.declared.matrix.Matrix.{Matrix}
-use Rattle.geom_core.specs.Matrices.{IsMatrix, letters_of}
+use Rattle.relation_core.specs.declared.matrix.Matrix.{Matrix}
+use Rattle.relation_core.specs.Matrices.{IsMatrix, letters_of}
 use Rattle.layer_core.specs.Layers.{Feature, Contents, with_number}
 use Rattle.report_core.specs.CsvTexts.{csv_text}
 

@@ -10,7 +10,7 @@ ghost use Rattle.report_core.specs.Reports.{IsHeld, IsReport};
 ghost use Rattle.report_core.specs.Written.{joined};
 
 use crate::columns::Columns;
-use geom_core::Letters;
+use relation_core::Letters;
 use layer_core::Layer;
 use std::alloc::{AllocError, Global};
 use std::thread;

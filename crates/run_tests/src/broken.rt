@@ -5,7 +5,7 @@ use crate::device::{has_front, make_device};
 use crate::example::{EDITED, RIGHT};
 use crate::running::{Files, at_once, edited_example, ends, run};
 use file_core::ReadFault;
-use geom_core::Relation;
+use relation_core::Relation;
 use join_core::{Input, Options, RunFault};
 use std::random::RandomSource;
 use std::sync::Wait;

@@ -6,7 +6,7 @@ ghost use Rattle.report_core.specs.ToWrite.{failed_of};
 use crate::example::{LEFT, RIGHT};
 use crate::running::{Ended, Files, at_once, edited_example};
 use file_core::{FromRead, ReadFault};
-use geom_core::{JoinRelation, Relation};
+use relation_core::{JoinRelation, Relation};
 use join_core::{Input, JoinSources, MAX_DRAWN, OpenGate, Options, RunFault, ToWrite, run_draw};
 use layer_core::LayerFault;
 use std::hash::RandomState;

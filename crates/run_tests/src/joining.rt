@@ -3,7 +3,7 @@
 use crate::example::{EDITED, LEFT, REPORT, RIGHT};
 use crate::running::{Files, at_once, edited_example, ends, example, join};
 use file_core::ReadFault;
-use geom_core::Relation;
+use relation_core::Relation;
 use join_core::{Input, Options, RunFault};
 use layer_core::LayerFault;
 use std::random::RandomSource;

@@ -3,7 +3,7 @@
 use crate::example::EDITED;
 use crate::running::{edited_example, join};
 use file_core::ReadFault;
-use geom_core::Relation;
+use relation_core::Relation;
 use join_core::{JoinFault, Options, RunFault};
 use layer_core::LayerFault;
 use std::random::RandomSource;

@@ -5,7 +5,7 @@ ghost use Rattle.report_core.specs.ToWrite.{failed_of};
 
 use crate::example::{EDITS, LEFT, RIGHT};
 use file_core::FromRead;
-use geom_core::{JoinRelation, Relation};
+use relation_core::{JoinRelation, Relation};
 use join_core::{JoinSources, OpenGate, Options, RunFault, ToWrite, run_join};
 use std::hash::RandomState;
 use std::io;

@@ -2,7 +2,7 @@
 //! joins of the same two layers write the same bytes.
 
 use crate::running::{Files, at_once, join};
-use geom_core::Relation;
+use relation_core::Relation;
 use join_core::Options;
 use std::random::RandomSource;
 use std::sync::Wait;

@@ -2,7 +2,7 @@
 
 use crate::example::{LEFT, RIGHT};
 use crate::running::{Files, at_once, join};
-use geom_core::Relation;
+use relation_core::Relation;
 use join_core::{Options, ToWrite, fault_line};
 use std::alloc::AllocError;
 use std::random::RandomSource;

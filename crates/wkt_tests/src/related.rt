@@ -1,6 +1,6 @@
 //! The matrix of the shapes of two texts.
 
-use geom_core::relate;
+use relation_core::relate;
 use wkt_core::{Scale, WktFault, read};
 
 /// The matrix of the shapes that two texts spell.

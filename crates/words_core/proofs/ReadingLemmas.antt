@@ -22,13 +22,13 @@ use Rattle.deliver_core.specs.Options.{workers_of, batch_of, cut_of, AreWorkers,
 use Rattle.deliver_core.specs.declared.options.Options.{Options}
 use Rattle.deliver_core.specs.declared.options.OptionFault.{OptionFault}
 use Rattle.deliver_core.specs.declared.options.OptionFault.TheVariants as range
-use Rattle.geom_core.specs.JoinRelations.{relation_of}
-use Rattle.geom_core.specs.Masks.{HasBadLetter}
-use Rattle.geom_core.specs.Relations.{Spells, SpellsNothing}
-use Rattle.geom_core.specs.declared.join_relation.JoinRelation.{JoinRelation}
-use Rattle.geom_core.specs.declared.mask.MaskFault.{MaskFault}
-use Rattle.geom_core.specs.declared.mask.MaskFault.TheVariants as mask
-use Rattle.geom_core.specs.declared.relation.Relation.{Relation}
+use Rattle.relation_core.specs.JoinRelations.{relation_of}
+use Rattle.relation_core.specs.Masks.{HasBadLetter}
+use Rattle.relation_core.specs.Relations.{Spells, SpellsNothing}
+use Rattle.relation_core.specs.declared.join_relation.JoinRelation.{JoinRelation}
+use Rattle.relation_core.specs.declared.mask.MaskFault.{MaskFault}
+use Rattle.relation_core.specs.declared.mask.MaskFault.TheVariants as mask
+use Rattle.relation_core.specs.declared.relation.Relation.{Relation}
 use Rattle.words_core.specs.Readings.{found_in, hint_names, hint_of, is_near, missing_text, number_at, number_of, share_input, shared_text, text_in, AreOptionsIn, HasJoinFault, HasScaleFault}
 use Rattle.words_core.specs.Readings.{IsNoRelation, IsRangeFault, IsRelationFault, Needs, NeedsOneInput, NeedsOptions, NeedsRelation, Says}
 use Rattle.words_core.specs.Readings.{HasCommandFault, HasFault, HasMetFault, IsMetAs, IsUsageFault, Met, ReadAs, met_in, refusals_of}

@@ -15,14 +15,14 @@ use Rattle.strsim.specs.Edits.{levenshtein_row}
 use Rattle.clap.specs.declared.error.kind.ErrorKind.{ErrorKind}
 use Rattle.clap.specs.declared.error.kind.ErrorKind.TheVariants.{DisplayHelp, DisplayVersion}
 use Rattle.clap.specs.declared.parser.matches.ArgMatches.{ArgMatches}
-use Rattle.geom_core.specs.FaultTexts.{mask_text}
-use Rattle.geom_core.specs.JoinRelations.{relation_of}
-use Rattle.geom_core.specs.Masks.{HasBadLetter}
-use Rattle.geom_core.specs.Relations.{Spells, SpellsNothing, HoldsForDisjoint}
-use Rattle.geom_core.specs.declared.join_relation.JoinRelation.{JoinRelation}
-use Rattle.geom_core.specs.declared.mask.MaskFault.{MaskFault}
-use Rattle.geom_core.specs.declared.mask.MaskFault.TheVariants as mask
-use Rattle.geom_core.specs.declared.relation.Relation.{Relation}
+use Rattle.relation_core.specs.FaultTexts.{mask_text}
+use Rattle.relation_core.specs.JoinRelations.{relation_of}
+use Rattle.relation_core.specs.Masks.{HasBadLetter}
+use Rattle.relation_core.specs.Relations.{Spells, SpellsNothing, HoldsForDisjoint}
+use Rattle.relation_core.specs.declared.join_relation.JoinRelation.{JoinRelation}
+use Rattle.relation_core.specs.declared.mask.MaskFault.{MaskFault}
+use Rattle.relation_core.specs.declared.mask.MaskFault.TheVariants as mask
+use Rattle.relation_core.specs.declared.relation.Relation.{Relation}
 use Rattle.wkt_core.specs.ScaleLimits.{most_digits}
 use Rattle.wkt_core.specs.Scales.{digits_of}
 use Rattle.wkt_core.specs.declared.scale.Scale.{Scale}

@@ -2,8 +2,8 @@
 
 ghost use Rattle.std.specs.Prelude.{◌≡◌, ◌≢◌, Some, None, true, false, codes, IfOk, IfErr};
 ghost use Rattle.clap.specs.Words.{first_of, subcommand_rows_of};
-ghost use Rattle.geom_core.specs.JoinRelations.{relation_of};
-ghost use Rattle.geom_core.specs.Relations.{Spells};
+ghost use Rattle.relation_core.specs.JoinRelations.{relation_of};
+ghost use Rattle.relation_core.specs.Relations.{Spells};
 ghost use Rattle.words_core.specs.Readings.{AreOptionsIn, HasJoinFault, HasLayerFault};
 ghost use Rattle.words_core.specs.Readings.{HasCommandFault, HasMetFault, HasRelateFault};
 ghost use Rattle.words_core.specs.Readings.{HasScaleFault};
@@ -17,7 +17,7 @@ use crate::standard_input::is_standard_input;
 use crate::words::{Command, JoinRequest, WordFault};
 use clap::ArgMatches;
 use deliver_core::Options;
-use geom_core::{JoinRelation, MaskFault, Relation};
+use relation_core::{JoinRelation, MaskFault, Relation};
 use std::alloc::{AllocError, Global};
 use wkt_core::Scale;
 

@@ -9,7 +9,7 @@ use crate::reading::read_command;
 use crate::usage::usage;
 use clap::error::ErrorKind;
 use deliver_core::{OptionFault, Options};
-use geom_core::{AllowsDisjoint, JoinRelation, MaskFault};
+use relation_core::{AllowsDisjoint, JoinRelation, MaskFault};
 use std::alloc::{AllocError, Global};
 use wkt_core::Scale;
 

@@ -1,7 +1,7 @@
 //! The pairs of two layers that stand in a relation, by the tasks of a plan of their trees.
 
 ghost use Rattle.std.specs.Prelude.{IfOk, IfErr};
-ghost use Rattle.geom_core.specs.JoinRelations.{relation_of};
+ghost use Rattle.relation_core.specs.JoinRelations.{relation_of};
 ghost use Rattle.descent_core.specs.Plans.{IsPlan};
 ghost use Rattle.deliver_core.specs.Options.{batch_of, cut_of};
 ghost use Rattle.parallel_core.specs.Faults.{IsWant};
@@ -9,7 +9,7 @@ ghost use Rattle.join_core.specs.Joins.{IsJoinList, HasMarks, RowsAreJoinList};
 
 use deliver_core::{Options, Outcome};
 use descent_core::Plan;
-use geom_core::JoinRelation;
+use relation_core::JoinRelation;
 use layer_core::Layer;
 use parallel_core::{Gate, JoinFault, run_workers};
 use std::alloc::{AllocError, Global};

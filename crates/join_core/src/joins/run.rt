@@ -1,7 +1,7 @@
 //! Joins of two files of layers, after a file of edits, and what is made of their pairs.
 
 ghost use Rattle.std.specs.Prelude.{◌≡◌, ◌<◌, Ok, Err, false, IfOk, IfErr, IsErrOf};
-ghost use Rattle.geom_core.specs.JoinRelations.{relation_of};
+ghost use Rattle.relation_core.specs.JoinRelations.{relation_of};
 ghost use Rattle.layer_core.specs.Edits.{both};
 ghost use Rattle.draw_core.specs.Limits.{most_drawn};
 ghost use Rattle.join_core.specs.DrawRuns.{DrawGives, IsDrawFault, IsLateDrawFault, features_of};
@@ -22,7 +22,7 @@ use crate::text::Text;
 use deliver_core::Options;
 use draw_core::{can_be_drawn, picture};
 use file_core::Source;
-use geom_core::JoinRelation;
+use relation_core::JoinRelation;
 use layer_core::Layer;
 use parallel_core::Gate;
 use report_core::{Sink, report_texts};

@@ -1,6 +1,6 @@
 use Rattle.std.proofs.Common.{arith, ◌≡◌, ◌+◌, ◌-◌, ◌<◌, sym}
 use Rattle.std.proofs.lemmas.Bool.{false≢true}
-use Rattle.geom_core.specs.JoinRelations.{relation_of}
+use Rattle.relation_core.specs.JoinRelations.{relation_of}
 use Rattle.rtree_core.specs.Nodes.{entries_of, level_of, node_cover, IsLawful}
 use Rattle.rtree_core.proofs.NodeLemmas.{level-le-top}
 use Rattle.descent_core.proofs.FindLemmas.{adds_no_lefts, adds_no_rights, adds_node_left, adds_node_right, adds_apart, entries_in_cover}

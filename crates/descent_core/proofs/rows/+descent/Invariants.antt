@@ -1,6 +1,6 @@
 use Rattle.std.proofs.Common.{◌+◌, take}
 use Rattle.std.specs.List.{flat_map}
-use Rattle.geom_core.specs.JoinRelations.{relation_of}
+use Rattle.relation_core.specs.JoinRelations.{relation_of}
 use Rattle.rtree_core.specs.Nodes.{entries_of, level_of}
 use Rattle.rtree_core.proofs.NodeLemmas.{top_level}
 use Rattle.descent_core.specs.Finds.{Adds}

@@ -1,6 +1,6 @@
 use Rattle.std.proofs.Common.{[], ◌∷◌}
 use Rattle.std.proofs.lemmas.Bool.{false≢true}
-use Rattle.geom_core.specs.JoinRelations.{relation_of}
+use Rattle.relation_core.specs.JoinRelations.{relation_of}
 use Rattle.descent_core.proofs.FindLemmas.{adds_no_rights, adds_more_right, adds_one, adds_not_one}
 use Rattle.descent_core.proofs.rows.push_beside.Goals as goal
 use Rattle.descent_core.proofs.rows.push_beside.Goals.{then-holds+in_ok-push, else-holds}

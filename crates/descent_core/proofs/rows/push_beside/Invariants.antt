@@ -1,5 +1,5 @@
 use Rattle.std.proofs.Common.{[], ◌∷◌, take}
-use Rattle.geom_core.specs.JoinRelations.{relation_of}
+use Rattle.relation_core.specs.JoinRelations.{relation_of}
 use Rattle.descent_core.specs.Finds.{Adds}
 use Rattle.descent_core.proofs.rows.push_beside.Given as goal
 

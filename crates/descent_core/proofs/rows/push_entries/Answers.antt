@@ -4,7 +4,7 @@ use Rattle.geom_core.specs.declared.shape.Shape.{Shape}
 use Rattle.geom_core.specs.Cells.{Meets}
 use Rattle.rtree_core.specs.declared.node.Node.{Node}
 use Rattle.std.proofs.lemmas.Bool.{false≢true}
-use Rattle.geom_core.specs.JoinRelations.{relation_of}
+use Rattle.relation_core.specs.JoinRelations.{relation_of}
 use Rattle.rtree_core.specs.Nodes.{entries_of, node_cover}
 use Rattle.descent_core.proofs.FindLemmas.{adds_no_lefts, adds_more_left, adds_apart, entries_in_cover, entry_in_itself}
 use Rattle.descent_core.proofs.rows.push_entries.Goals as goal

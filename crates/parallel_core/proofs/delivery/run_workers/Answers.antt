@@ -1,5 +1,5 @@
 use Rattle.std.proofs.Common.{◌≡◌, length, map, vec_capacity, sym, ap, ◌∙◌, arith}
-use Rattle.geom_core.specs.JoinRelations.{relation_of}
+use Rattle.relation_core.specs.JoinRelations.{relation_of}
 use Rattle.deliver_core.specs.Ports.{index_of, port_count}
 use Rattle.parallel_core.proofs.TeamEndings.{first_ready, all_own, all_end}
 use Rattle.parallel_core.proofs.delivery.run_workers.Goals as goal

@@ -1,5 +1,5 @@
 use Rattle.std.proofs.Common.{rules, arith, ◌+◌, ◌&&◌, length, vec_capacity, map, refl, sym, ap, ◌∙◌}
-use Rattle.geom_core.specs.JoinRelations.{relation_of}
+use Rattle.relation_core.specs.JoinRelations.{relation_of}
 use Rattle.deliver_core.specs.Byes.{has_bye}
 use Rattle.deliver_core.specs.Outlets.{of_port}
 use Rattle.deliver_core.specs.Ports.{taken_by}

@@ -1,5 +1,5 @@
 use Rattle.std.proofs.Common.{rules, [], ◌∷◌}
-use Rattle.geom_core.specs.JoinRelations.{relation_of}
+use Rattle.relation_core.specs.JoinRelations.{relation_of}
 use Rattle.parallel_core.proofs.Workers.{seat_gains, stays_on, said_more, said_part}
 use Rattle.parallel_core.proofs.working.process_tasks.Goals as goal
 

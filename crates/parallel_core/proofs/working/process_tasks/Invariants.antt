@@ -1,4 +1,4 @@
-use Rattle.geom_core.specs.JoinRelations.{relation_of}
+use Rattle.relation_core.specs.JoinRelations.{relation_of}
 use Rattle.parallel_core.specs.Sending.{said_by, StaysOpen}
 use Rattle.parallel_core.specs.Workers.{IsSeatBelow, AreScripts}
 use Rattle.parallel_core.proofs.working.process_tasks.Given as goal

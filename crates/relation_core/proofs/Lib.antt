@@ -1,0 +1,10 @@
+pub mod DisjointLemmas
+pub mod LetterLemmas
+pub mod MaskLemmas
+pub mod MatrixOf
+pub mod MeetingLemmas
+pub mod OneMatrix
+pub mod PartLemmas
+pub mod Products
+pub mod RelationLaws
+pub mod Zones

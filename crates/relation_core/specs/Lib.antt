@@ -1,0 +1,9 @@
+pub mod Axes
+pub mod DisjointShapes
+pub mod FaultTexts
+pub mod JoinRelations
+pub mod Letters
+pub mod Masks
+pub mod Matrices
+pub mod Meetings
+pub mod Relations

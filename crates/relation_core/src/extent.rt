@@ -1,0 +1,32 @@
+//! What two parts of the plane share: the entries of a matrix.
+
+/// The greatest dimension of what two parts share.
+#[derive(Clone, Copy, Debug, PartialEq, Eq)]
+pub enum Extent {
+    /// They share nothing.
+    Empty,
+    /// They share points alone.
+    Point,
+    /// They share a piece of a line, and no area.
+    Line,
+    /// They share an area.
+    Area,
+}
+
+impl Extent {
+    ghost use Rattle.std.specs.Prelude.{◌≡◌};
+    ghost use Rattle.relation_core.specs.Matrices.{letter_of};
+
+    /// The letter of a matrix: `F`, `0`, `1` or `2`.
+    #[inline(always)]
+    pub fn letter(self) -> u8
+        ensures { result ≡ letter_of self }
+    {
+        match self {
+            Extent::Empty => b'F',
+            Extent::Point => b'0',
+            Extent::Line => b'1',
+            Extent::Area => b'2',
+        }
+    }
+}

@@ -1,0 +1,174 @@
+//! Relations that a join may use: those that hold only for shapes that share a point.
+
+ghost use Rattle.relation_core.specs.Relations.{ForbidsDisjoint};
+
+use crate::extent::Extent;
+use crate::mask::Mask;
+use crate::matrix::Matrix;
+use crate::part::Parts;
+use crate::relation::Relation;
+use geom_core::Shape;
+use std::error::Error;
+use std::fmt;
+
+/// A relation that holds for no two disjoint shapes.
+#[derive(Clone, Copy, Debug, PartialEq, Eq)]
+pub struct JoinRelation {
+    relation: Relation,
+    ghost forbids_disjoint: { ForbidsDisjoint relation },
+}
+
+/// The relation holds for some two disjoint shapes.
+#[derive(Clone, Copy, Debug, PartialEq, Eq)]
+pub struct AllowsDisjoint;
+
+impl AllowsDisjoint {
+    ghost use Rattle.std.specs.Prelude.{◌≡◌};
+    ghost use Rattle.relation_core.specs.FaultTexts.{allows_disjoint_text};
+
+    /// What a user reads of the fault.
+    pub fn text(&self) -> &'static str
+        ensures { result.now ≡ allows_disjoint_text }
+    {
+        "disjoint features may fit"
+    }
+}
+
+impl fmt::Display for AllowsDisjoint {
+    ghost use Rattle.std.specs.Prelude.{Some};
+    ghost use Rattle.relation_core.specs.FaultTexts.{allows_disjoint_text};
+
+    ghost output = { λ _. Some allows_disjoint_text };
+
+    fn fmt<W: fmt::Write>(&self, f: &mut fmt::Formatter<W>) -> fmt::Result {
+        f.write_str(self.text())
+    }
+}
+
+impl Error for AllowsDisjoint {}
+
+impl JoinRelation {
+    ghost use Rattle.std.specs.Prelude.{◌≡◌, ◌↔◌, IsTrue, IsOk, IfOk, OnErr};
+    ghost use Rattle.geom_core.specs.Cells.{Meets};
+    ghost use Rattle.relation_core.specs.Relations.{Holds, HoldsForDisjoint};
+    ghost use Rattle.relation_core.specs.JoinRelations.{relation_of};
+
+    /// The relation, if no two disjoint shapes of any dimensions stand in it.
+    ///
+    /// # Errors
+    /// `AllowsDisjoint` where two such shapes do.
+    pub fn new(relation: Relation) -> Result<JoinRelation, AllowsDisjoint>
+        ensures ok { IsOk result ↔ ForbidsDisjoint relation }
+        ensures same { IfOk result (λ join. relation_of join ≡ relation) }
+        ensures err { OnErr result (HoldsForDisjoint relation) }
+    {
+        if allows_disjoint(&relation) {
+            Err(AllowsDisjoint)
+        } else {
+            Ok(JoinRelation { relation })
+        }
+    }
+
+    /// The relation itself.
+    pub fn relation(&self) -> &Relation
+        ensures { result.now ≡ relation_of self.now }
+    {
+        &self.relation
+    }
+
+    /// Whether the relation holds for two shapes, which then meet. This is the inner test of a
+    /// join: shapes that don't meet cost four comparisons.
+    #[inline(always)]
+    pub fn holds(&self, a: &Shape, b: &Shape) -> bool
+        ensures holds { IsTrue result ↔ Holds (relation_of self.now) a.now b.now }
+        ensures meet { IsTrue result → Meets a.now b.now }
+    {
+        a.meets(b) && self.relation.holds(a, b)
+    }
+}
+
+ghost use Rattle.std.specs.Prelude.{◌≡◌, ℕ, ◌<◌, ◌↔◌, IsTrue};
+ghost use Rattle.relation_core.specs.Relations.{FitsOne};
+ghost use Rattle.relation_core.specs.DisjointShapes.{FitsDisjoint, boundary_extent, disjoint_matrix};
+ghost use Rattle.relation_core.specs.DisjointShapes.{interior_extent};
+
+/// Whether one of the relation's masks fits the matrix of disjoint shapes of some dimensions.
+fn allows_disjoint(relation: &Relation) -> bool
+    ensures { IsTrue result ↔
+        ((da : ℕ) × (db : ℕ) × (da < 3) × (db < 3) × FitsDisjoint relation.now da db) }
+{
+    for first_dim in 0..3 {
+        if allows_disjoint_after(relation, first_dim) {
+            return true;
+        }
+    }
+    false
+}
+
+/// Whether a mask fits where the first of the two disjoint shapes has this dimension.
+fn allows_disjoint_after(relation: &Relation, first_dim: u8) -> bool
+    requires { first_dim < 3 }
+    ensures { IsTrue result ↔
+        ((db : ℕ) × (db < 3) × FitsDisjoint relation.now first_dim db) }
+{
+    for second_dim in 0..3 {
+        let masks = relation.masks(first_dim, second_dim);
+        if one_fits(&masks, &disjoint_matrix(first_dim, second_dim)) {
+            return true;
+        }
+    }
+    false
+}
+
+/// Whether one of the masks fits.
+fn one_fits(masks: &[Mask], matrix: &Matrix) -> bool
+    ensures { IsTrue result ↔ FitsOne masks.now matrix.now }
+{
+    masks.iter().any(|mask| mask.fits(matrix))
+}
+
+/// The matrix of two disjoint shapes of these dimensions: each part of one lies in the exterior
+/// of the other.
+fn disjoint_matrix(first_dim: u8, second_dim: u8) -> Matrix
+    ensures { result ≡ disjoint_matrix first_dim second_dim }
+{
+    let (interior, boundary) = (interior_extent(first_dim), boundary_extent(first_dim));
+    let row = |exterior| Parts {
+        interior: Extent::Empty,
+        boundary: Extent::Empty,
+        exterior,
+    };
+    Matrix {
+        rows: Parts {
+            interior: row(interior),
+            boundary: row(boundary),
+            exterior: Parts {
+                interior: interior_extent(second_dim),
+                boundary: boundary_extent(second_dim),
+                exterior: Extent::Area,
+            },
+        },
+    }
+}
+
+/// What the interior of a shape of this dimension amounts to.
+fn interior_extent(dim: u8) -> Extent
+    ensures { result ≡ interior_extent dim }
+{
+    match dim {
+        0 => Extent::Point,
+        1 => Extent::Line,
+        _ => Extent::Area,
+    }
+}
+
+/// What its boundary amounts to.
+fn boundary_extent(dim: u8) -> Extent
+    ensures { result ≡ boundary_extent dim }
+{
+    match dim {
+        0 => Extent::Empty,
+        1 => Extent::Point,
+        _ => Extent::Line,
+    }
+}

@@ -1,0 +1,184 @@
+//! Masks of the matrix: nine places, each with what it asks of its entry.
+
+use crate::extent::Extent;
+use crate::matrix::Matrix;
+use crate::part::Parts;
+use crate::pattern_value::PatternValue;
+use std::error::Error;
+use std::fmt;
+
+/// A pattern of matrices (a pattern matrix, OGC 06-103r4, 6.1.15.2).
+#[derive(Clone, Copy, Debug, PartialEq, Eq)]
+pub struct Mask {
+    pub rows: Parts<Parts<PatternValue>>,
+}
+
+/// Why a text is no mask.
+#[derive(Clone, Copy, Debug, PartialEq, Eq)]
+pub enum MaskFault {
+    /// It hasn't nine bytes.
+    Length,
+    /// At this place, counted from 0, is the first byte that is no letter of a mask.
+    Letter(u32),
+}
+
+impl MaskFault {
+    ghost use Rattle.std.specs.Prelude.{◌≡◌};
+    ghost use Rattle.relation_core.specs.FaultTexts.{mask_words};
+
+    /// What a user reads of the fault, without the place.
+    pub fn text(&self) -> &'static str
+        ensures { result.now ≡ mask_words self.now }
+    {
+        match self {
+            MaskFault::Length => "not a name or a mask of nine letters",
+            MaskFault::Letter(_) => "bad letter at place ",
+        }
+    }
+}
+
+impl fmt::Display for MaskFault {
+    ghost use Rattle.std.specs.Prelude.{Some};
+    ghost use Rattle.relation_core.specs.FaultTexts.{mask_text};
+
+    ghost output = { λ fault. Some (mask_text fault) };
+
+    fn fmt<W: fmt::Write>(&self, f: &mut fmt::Formatter<W>) -> fmt::Result {
+        let text = self.text();
+        match self {
+            MaskFault::Length => f.write_str(text),
+            MaskFault::Letter(place) => write!(f, "{text}{place}"),
+        }
+    }
+}
+
+impl Error for MaskFault {}
+
+impl Mask {
+    ghost use Rattle.std.specs.Prelude.{◌≡◌, ◌≢◌, ℕ, ◌↔◌, length, IsTrue};
+    ghost use Rattle.relation_core.specs.Masks.{Fits, HasBadLetter, SpellsMask, text_of};
+
+    /// Reads nine letters of `T`, `F`, `*`, `0`, `1` and `2`, in the order of
+    /// [`Matrix::text`]; `T` and `F` may be small.
+    ///
+    /// # Errors
+    /// `Length` where the text hasn't nine bytes, else `Letter` with the place of the first bad
+    /// byte.
+    pub fn read(text: &[u8]) -> Result<Mask, MaskFault>
+        ensures ok { (mask : Mask) → (result ≡ Ok mask) ↔ SpellsMask text.now mask }
+        ensures length { (result ≡ Err MaskFault.Length) ↔ (length text.now ≢ 9) }
+        ensures letter { (place : ℕ) →
+            (result ≡ Err (MaskFault.Letter place)) ↔ HasBadLetter text.now place }
+        ensures text { (mask : Mask) → text.now ≡ text_of mask → result ≡ Ok mask }
+    {
+        if text.len() != 9 {
+            return Err(MaskFault::Length);
+        }
+        let rows = read_rows(text)?;
+        Ok(Mask { rows })
+    }
+
+    /// The nine letters, `T` and `F` as capitals.
+    pub fn text(&self) -> [u8; 9]
+        ensures { result ≡ text_of self.now }
+    {
+        let Parts {
+            interior,
+            boundary,
+            exterior,
+        } = self.rows;
+        [
+            interior.interior.letter(),
+            interior.boundary.letter(),
+            interior.exterior.letter(),
+            boundary.interior.letter(),
+            boundary.boundary.letter(),
+            boundary.exterior.letter(),
+            exterior.interior.letter(),
+            exterior.boundary.letter(),
+            exterior.exterior.letter(),
+        ]
+    }
+
+    /// Whether each of the nine places allows its entry.
+    #[inline(always)]
+    pub fn fits(&self, matrix: &Matrix) -> bool
+        ensures { IsTrue result ↔ Fits self.now matrix.now }
+    {
+        row_fits(self.rows.interior, matrix.rows.interior)
+            && row_fits(self.rows.boundary, matrix.rows.boundary)
+            && row_fits(self.rows.exterior, matrix.rows.exterior)
+    }
+}
+
+impl Default for Mask {
+    ghost use Rattle.std.specs.Prelude.{◌≡◌};
+    ghost use Rattle.relation_core.specs.Masks.{asks_nothing};
+
+    ghost is_default = { λ mask. mask ≡ asks_nothing };
+
+    /// Nine `*`, which each matrix fits.
+    fn default() -> Mask {
+        let row = Parts {
+            interior: PatternValue::Any,
+            boundary: PatternValue::Any,
+            exterior: PatternValue::Any,
+        };
+        Mask {
+            rows: Parts {
+                interior: row,
+                boundary: row,
+                exterior: row,
+            },
+        }
+    }
+}
+
+ghost use Rattle.std.specs.Prelude.{◌≡◌, ℕ, ◌+◌, ◌<◌, ◌≤◌, ◌↔◌, length, slice_index, IfOk, IfErr};
+ghost use Rattle.std.specs.Prelude.{IsTrue};
+ghost use Rattle.relation_core.specs.Masks.{FitsRow, IsLetterOf, SpellsRow, SpellsRows, TellsBad};
+
+/// The values that the nine bytes stand for, row by row.
+fn read_rows(text: &[u8]) -> Result<Parts<Parts<PatternValue>>, MaskFault>
+    requires { length text.now ≡ 9 }
+    ensures ok { IfOk result (SpellsRows text.now) }
+    ensures err { IfErr result (TellsBad text.now 0 9) }
+{
+    Ok(Parts {
+        interior: read_row(text, 0)?,
+        boundary: read_row(text, 3)?,
+        exterior: read_row(text, 6)?,
+    })
+}
+
+/// The values that the three bytes from `first` on stand for.
+fn read_row(text: &[u8], first: u32) -> Result<Parts<PatternValue>, MaskFault>
+    requires within { first + 3 ≤ length text.now }
+    requires short { length text.now ≡ 9 }
+    ensures ok { IfOk result (SpellsRow text.now first) }
+    ensures err { IfErr result (TellsBad text.now first (first + 3)) }
+{
+    Ok(Parts {
+        interior: read_value(text, first)?,
+        boundary: read_value(text, first + 1)?,
+        exterior: read_value(text, first + 2)?,
+    })
+}
+
+/// The value that the byte at a place stands for.
+fn read_value(text: &[u8], place: u32) -> Result<PatternValue, MaskFault>
+    requires { place < length text.now }
+    ensures ok { IfOk result (λ value. IsLetterOf value (slice_index text.now place)) }
+    ensures err { IfErr result (TellsBad text.now place (place + 1)) }
+{
+    PatternValue::of_letter(text[place as usize]).ok_or(MaskFault::Letter(place))
+}
+
+#[inline(always)]
+fn row_fits(row: Parts<PatternValue>, entries: Parts<Extent>) -> bool
+    ensures { IsTrue result ↔ FitsRow row entries }
+{
+    row.interior.allows(entries.interior)
+        && row.boundary.allows(entries.boundary)
+        && row.exterior.allows(entries.exterior)
+}
