@@ -1,6 +1,6 @@
 -- The ends of intervals as 64 bits hold them: they are read back, and comparisons of bits are comparisons of ends.
-use Rattle.std.proofs.Common.{◌≡◌, true, of_z, to_z, w64, sym, ◌∙◌, ap, arith, FitsSigned}
-use Rattle.std.specs.Prelude.{ℤ, ◌≤ℤ◌, ◌<ℤ◌, int_lt, int_le}
+use Rattle.std.proofs.Common.{◌≡◌, true, of_z, to_z, w64, ◌∙◌, ap, arith, FitsSigned}
+use Rattle.std.specs.Prelude.{ℤ, ◌≤ℤ◌, int_le}
 use Rattle.std.proofs.lemmas.Int.{ints, to_z-of_z}
 use Rattle.geom_core.specs.declared.span.Span.{Span}
 use Rattle.geom_core.specs.Shapes.{AreEnds, AreCorners}
@@ -10,28 +10,6 @@ held_lo s = omega (arith, ints)
 
 pub held_hi : (s : Span) → to_z w64 (of_z w64 s.hi) ≡ s.hi
 held_hi s = omega (arith, ints)
-
-same_bits : (a b : ℤ) → to_z w64 (of_z w64 a) ≡ a → to_z w64 (of_z w64 b) ≡ b → of_z w64 a ≡ of_z w64 b → a ≡ b
-same_bits a b p q e = sym p ∙ ap (to_z w64) e ∙ q
-
-pub same_lo : (a b : Span) → of_z w64 a.lo ≡ of_z w64 b.lo → a.lo ≡ b.lo
-same_lo a b e = same_bits a.lo b.lo (held_lo a) (held_lo b) e
-
-pub same_hi : (a b : Span) → of_z w64 a.hi ≡ of_z w64 b.hi → a.hi ≡ b.hi
-same_hi a b e = same_bits a.hi b.hi (held_hi a) (held_hi b) e
-
-lt_true : (x y : ℤ) → x <ℤ y → int_lt x y ≡ true
-lt_true x y h = grind (arith, ints)
-
-true_lt : (x y : ℤ) → int_lt x y ≡ true → x <ℤ y
-true_lt x y h = grind (arith, ints)
-
--- one interval begins before another ends
-pub begins_before : (a b : Span) → int_lt (to_z w64 (of_z w64 a.lo)) (to_z w64 (of_z w64 b.hi)) ≡ true → a.lo <ℤ b.hi
-begins_before a b h = true_lt a.lo b.hi (rw (held_lo a, held_hi b) at h)
-
-pub before_begins : (a b : Span) → a.lo <ℤ b.hi → int_lt (to_z w64 (of_z w64 a.lo)) (to_z w64 (of_z w64 b.hi)) ≡ true
-before_begins a b h = rw (held_lo a, held_hi b) (lt_true a.lo b.hi h)
 
 le_true : (x y : ℤ) → x ≤ℤ y → int_le x y ≡ true
 le_true x y h = grind (arith, ints)

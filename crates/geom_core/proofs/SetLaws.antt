@@ -73,3 +73,5 @@ apart_inner a b u h k =
     by_lt_z a.lo b.hi
     (λ l. by_lt_z b.lo a.hi (λ r. inl (l, r)) (λ r. inr (grind (arith, ints), grind (arith, ints))))
     (λ l. inr (grind (arith, ints), grind (arith, ints)))
+
+pub ruleset inner_meeting = (crossing_inner, same_inner, apart_inner)

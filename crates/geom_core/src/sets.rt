@@ -4,7 +4,7 @@ use crate::shape::Shape;
 use crate::span::Span;
 
 impl Span {
-    ghost use Rattle.std.specs.Prelude.{ℤ, ◌↔◌, IsTrue};
+    ghost use Rattle.std.specs.Prelude.{◌≡◌, ◌<ℤ◌, ℤ, ◌↔◌, IsTrue};
     ghost use Rattle.geom_core.specs.Cells.{IsInner, IsWithin};
 
     /// Whether each number of the interval is one of the other.
@@ -16,12 +16,31 @@ impl Span {
         other.lo <= self.lo && self.hi <= other.hi
     }
 
+    /// Whether each begins before the other ends.
+    #[inline(always)]
+    fn crosses(&self, other: &Span) -> bool
+        ensures { IsTrue result
+            ↔ ((self.now.lo <ℤ other.now.hi) × (other.now.lo <ℤ self.now.hi)) }
+    {
+        self.lo < other.hi && other.lo < self.hi
+    }
+
+    /// Whether both have the same ends.
+    #[inline(always)]
+    fn is_same(&self, other: &Span) -> bool
+        ensures { IsTrue result
+            ↔ ((self.now.lo ≡ other.now.lo) × (self.now.hi ≡ other.now.hi)) }
+    {
+        self.lo == other.lo && self.hi == other.hi
+    }
+
     /// Whether the inner parts share a number: a single number is its own inner part.
     #[inline(always)]
+    #[tactic(auto, using(crate::proofs::SetLaws::inner_meeting))]
     fn inner_meets(&self, other: &Span) -> bool
         ensures { IsTrue result ↔ ((u : ℤ) × IsInner self.now u × IsInner other.now u) }
     {
-        (self.lo < other.hi && other.lo < self.hi) || (self.lo == other.lo && self.hi == other.hi)
+        self.crosses(other) || self.is_same(other)
     }
 }
 
