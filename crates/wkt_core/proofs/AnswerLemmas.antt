@@ -1,5 +1,5 @@
 -- What a text spells, and the one answer that it reads as.
-use Rattle.std.proofs.Common.{◌≡◌, ℕ, List, [], ◌∷◌, Result, Ok, Err, refl, ap, subst, true}
+use Rattle.std.proofs.Common.{◌≡◌, ℕ, List, [], ◌∷◌, Option, Some, None, IfSome, IfNone, Result, Ok, Err, refl, sym, ◌∙◌, ap, subst, true, IsTrue}
 use Rattle.std.specs.List.{list_all}
 use Rattle.geom_core.specs.declared.shape.Shape.{Shape}
 use Rattle.wkt_core.specs.declared.fault.WktFault.{WktFault}
@@ -10,8 +10,10 @@ use Rattle.wkt_core.specs.declared.scale.Scale.{Scale}
 use Rattle.wkt_core.specs.Grammar.{RawPoint, Raw}
 use Rattle.wkt_core.specs.Spelling.{AllNumbersGood, positions, Forms, Spells}
 use Rattle.wkt_core.specs.Readings.{Reads}
+use Rattle.wkt_core.specs.AnswerSteps.{IsAnswerOf, IsReading}
+use Rattle.wkt_core.specs.declared.raw.RawText.{RawText}
 use Rattle.wkt_core.specs.ListSteps.{TakesText}
-use Rattle.wkt_core.specs.ReadLists.{are_whole, are_in_range}
+use Rattle.wkt_core.specs.ReadLists.{are_whole, are_in_range, AreReadOf}
 use Rattle.wkt_core.proofs.DrawnLemmas.{draws_same}
 use Rattle.wkt_core.proofs.GoodLemmas.{lists_good, lists_whole, lists_in_range}
 use Rattle.wkt_core.proofs.TextLemmas.{raw_taken, taken_raw, one_raw_form}
@@ -22,11 +24,6 @@ forms_same : (keyword : Keyword) (lists : List (List Position)) (s t : Shape) �
 forms_same keyword [] s t h k = absurd h
 forms_same keyword (ps ∷ []) s t h k = draws_same keyword ps s t h k
 forms_same keyword (ps ∷ qs ∷ lists) s t h k = absurd h
-
--- the one answer that a text reads as
-pub record IsReading (scale : Scale) (text : List ℕ) (answer : Result Shape WktFault) : Type 0 where
-  pub reads : Reads scale text answer
-  pub only : (other : Result Shape WktFault) → Reads scale text other → answer ≡ other
 
 module _ (scale : Scale) where
   -- ---- of a text with a raw form
@@ -97,3 +94,22 @@ module _ (scale : Scale) where
 
       pub form_reading : ((s : Shape) → Forms keyword (positions scale lists) s → ⊥) → IsReading scale text (Err Form)
       form_reading none = reading text (Err Form) (record { keyword = keyword; lists = lists; raw = raw_form; good = good; formless = none })
+
+  -- what is answered of what was read is what the text reads as
+  pub answered : (text : List ℕ) (read : Option RawText) (answer : Result Shape WktFault)
+      → IfSome read (λ raw. (lists : List (List RawPoint)) × TakesText text raw.keyword lists × AreReadOf scale raw.lists lists)
+      → IfNone read ((keyword : Keyword) (lists : List (List RawPoint)) → TakesText text keyword lists → ⊥)
+      → IsAnswerOf read answer → IsReading scale text answer
+  answered text None (Ok s) some none h = absurd h
+  answered text None (Err Text) some none h = text_reading text none
+  answered text None (Err Number) some none h = absurd h
+  answered text None (Err Form) some none h = absurd h
+  answered text (Some raw) (Ok s) (lists, taken, of) none h =
+      shape_reading text raw.keyword lists taken (sym of.whole ∙ h.0.0) (sym of.in_range ∙ h.0.1) s
+      (h.1 scale text lists taken of (sym of.in_range ∙ h.0.1))
+  answered text (Some raw) (Err Text) some none h = absurd h
+  answered text (Some raw) (Err Number) (lists, taken, of) none h =
+      number_reading text raw.keyword lists taken (λ whole in_range. h (of.whole ∙ whole, of.in_range ∙ in_range))
+  answered text (Some raw) (Err Form) (lists, taken, of) none h =
+      form_reading text raw.keyword lists taken (sym of.whole ∙ h.0.0) (sym of.in_range ∙ h.0.1)
+      (λ s forms. h.1 scale text lists s taken of (sym of.in_range ∙ h.0.1) forms)

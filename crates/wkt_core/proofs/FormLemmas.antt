@@ -1,7 +1,7 @@
 -- The points of a text and the shapes that they draw.
 use Rattle.std.proofs.Common.{◌≡◌, ◌≢◌, ℕ, zero, suc, ◌<◌, ◌≤◌, true, length, List, [], ◌∷◌, ◌⊎◌, inl, inr, get_or, reverse, sym, ◌∙◌, ap, subst, ⊎_elim, arith}
 use Rattle.std.proofs.Common.{ℤ}
-use Rattle.std.specs.Prelude.{◌<ℤ◌, ◌≤ℤ◌, ◌↔◌, Option, Some, None, IsSome, IfNone}
+use Rattle.std.specs.Prelude.{◌<ℤ◌, ◌≤ℤ◌, ◌↔◌, Option, Some, None, IsSome, IfSome, IfNone}
 use Rattle.std.specs.Int.{int_min, int_max}
 use Rattle.std.proofs.lemmas.Bool.{false≢true}
 use Rattle.std.proofs.lemmas.Int.{ints, clamps, by_lt_z}
@@ -11,7 +11,7 @@ use Rattle.wkt_core.specs.declared.position.Position.{Position}
 use Rattle.wkt_core.specs.declared.keyword.Keyword.{Keyword}
 use Rattle.wkt_core.specs.Drawing.{IsRectangle, RunsRound, corner, corners, rotated}
 use Rattle.wkt_core.specs.DrawnBefore.{IsSegment}
-use Rattle.wkt_core.specs.FormSteps.{IsSpanned, LeadsRound, HasFourCorners}
+use Rattle.wkt_core.specs.FormSteps.{IsSpanned, LeadsRound, HasFourCorners, AreCornersOf}
 use Rattle.wkt_core.specs.Walks.{is_straight, DrawnBy, IsDrawnBy}
 use Rattle.wkt_core.specs.declared.keyword.Keyword.TheVariants.{Point, LineString, Polygon}
 use Rattle.wkt_core.proofs.HeadingLemmas.{same_position}
@@ -126,10 +126,6 @@ module _ (a b c d : Position) (s : Shape) (spanned : IsSpanned a c s) where
     high = omega (arith, ints, clamps, dy);
     round = ⊎_elim (λ l. round_first l dx dy) (λ l. round_second l dx dy) round;
   }
-
--- what is known of four corners in order
-abbrev pub AreCornersOf : Position → Position → Position → Position → Shape → Type 0
-AreCornersOf a b c d s = HasFourCorners a b c d × IsSpanned a c s
 
 -- the numbers of four positions in a row
 record SameFour (a b c d p q r t : Position) : Type 0 where
@@ -287,6 +283,22 @@ none_weaker (Some x) h f = tt
 -- no shape spans two points that are the ends of a segment
 pub no_segment : (p q : Position) (r : Option Shape) → IfNone r ((s : Shape) → IsSpanned p q s → ⊥) → IfNone r ((s : Shape) → IsSegment p q s → ⊥)
 no_segment p q r none = none_weaker r none (λ no s h. no s (spanned_segment p q s h))
+
+-- where nothing is spanned, nothing is within corners
+pub none_within : (a b c d : Position) (r : Option Shape) → IfNone r ((s : Shape) → IsSpanned a c s → ⊥)
+    → IfNone r ((s : Shape) → AreCornersOf a b c d s → ⊥)
+none_within a b c d r none = none_weaker r none (λ no s h. no s h.1)
+
+-- a rectangle is what its first and third corner span, where there are four
+pub rectangle_some : (a b c d : Position) (r : Option Shape) → IfSome r (AreCornersOf a b c d) → IfSome r (IsRectangle a b c d)
+rectangle_some a b c d None h = h
+rectangle_some a b c d (Some s) h = rectangle_spanned a b c d s h.1 h.0
+
+pub no_rectangle : (a b c d : Position) (r : Option Shape) → IfNone r ((s : Shape) → AreCornersOf a b c d s → ⊥)
+    → IfNone r ((s : Shape) → IsRectangle a b c d s → ⊥)
+no_rectangle a b c d r none = none_weaker r none (λ no s h. no s (rectangle_corners a b c d s h))
+
+pub ruleset rectangles = (rectangle_some, no_rectangle)
 
 -- ---- turns of the right count
 

@@ -19,3 +19,7 @@ LeadsRound a b c d = (a.y ≡ b.y) × (b.x ≡ c.x) × (c.y ≡ d.y) × (d.x ≡
 
 abbrev pub HasFourCorners : Position → Position → Position → Position → Type 0
 HasFourCorners a b c d = (LeadsRound a b c d ⊎ LeadsRound b c d a) × (a.x ≢ c.x) × (a.y ≢ c.y)
+
+-- four corners, and the shape that the first and the third span
+abbrev pub AreCornersOf : Position → Position → Position → Position → Shape → Type 0
+AreCornersOf a b c d s = HasFourCorners a b c d × IsSpanned a c s

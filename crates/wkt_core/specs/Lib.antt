@@ -15,3 +15,4 @@ pub mod ListSteps
 pub mod Walks
 pub mod ReadLists
 pub mod FormSteps
+pub mod AnswerSteps

@@ -5,7 +5,8 @@ ghost use Rattle.geom_core.specs.declared.shape.Shape.{Shape};
 ghost use Rattle.wkt_core.specs.declared.keyword.Keyword.TheVariants.{Polygon};
 ghost use Rattle.wkt_core.specs.Drawing.{IsRectangle};
 ghost use Rattle.wkt_core.specs.DrawnBefore.{IsSegment};
-ghost use Rattle.wkt_core.specs.FormSteps.{IsSpanned, AreParallel, LeadsRound, HasFourCorners};
+ghost use Rattle.wkt_core.specs.FormSteps.{IsSpanned, AreParallel, LeadsRound};
+ghost use Rattle.wkt_core.specs.FormSteps.{HasFourCorners, AreCornersOf};
 ghost use Rattle.wkt_core.specs.Walks.{DrawnBy, IsDrawnBy};
 
 use crate::keyword::Keyword;
@@ -60,16 +61,27 @@ fn has_four_corners(a: &Position, b: &Position, c: &Position, d: &Position) -> b
     round && a.x != c.x && a.y != c.y
 }
 
-/// The rectangle with these corners, in order round it.
-fn rectangle(a: &Position, b: &Position, c: &Position, d: &Position) -> Option<Shape>
-    ensures some { IfSome result (λ s. IsRectangle a.now b.now c.now d.now s) }
-    ensures none { IfNone result ((s : Shape) → IsRectangle a.now b.now c.now d.now s → ⊥) }
+/// What the first and the third of these span, where they are the corners of a rectangle.
+#[inline(always)]
+#[tactic(auto, using(crate::proofs::FormLemmas::none_within))]
+fn within_corners(a: &Position, b: &Position, c: &Position, d: &Position) -> Option<Shape>
+    ensures some { IfSome result (λ s. AreCornersOf a.now b.now c.now d.now s) }
+    ensures none { IfNone result ((s : Shape) → AreCornersOf a.now b.now c.now d.now s → ⊥) }
 {
     if has_four_corners(a, b, c, d) {
         spanned(a, c)
     } else {
         None
     }
+}
+
+/// The rectangle with these corners, in order round it.
+#[tactic(auto, using(crate::proofs::FormLemmas::rectangles))]
+fn rectangle(a: &Position, b: &Position, c: &Position, d: &Position) -> Option<Shape>
+    ensures some { IfSome result (λ s. IsRectangle a.now b.now c.now d.now s) }
+    ensures none { IfNone result ((s : Shape) → IsRectangle a.now b.now c.now d.now s → ⊥) }
+{
+    within_corners(a, b, c, d)
 }
 
 /// The rectangle that a walk with these turns goes round, where it ends at the last point.

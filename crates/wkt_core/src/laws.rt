@@ -21,6 +21,7 @@ pub fn one_shape_law()
 {}
 
 /// What lists of two and of five points drew, when no further ones were read, they draw now.
+#[tactic(auto, using(crate::proofs::DrawnLemmas::drawn_still))]
 pub fn widened_law()
     ensures drawn_still { (keyword : Keyword) (ps : List Position) (s : Shape)
         → DrewBefore keyword ps s → Draws keyword ps s }
@@ -28,6 +29,7 @@ pub fn widened_law()
 
 /// What a text spelled, when numbers were whole and within 10^9, it spells now at a scale of no
 /// decimals.
+#[tactic(auto, using(crate::proofs::MigrationLemmas::spelled_still))]
 pub fn migration_law()
     ensures spelled_still { (scale : Scale) (text : List ℕ) (s : Shape)
         → digits_of scale ≡ 0 → SpelledBefore text s → Spells scale text s }

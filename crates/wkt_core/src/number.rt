@@ -96,6 +96,7 @@ fn magnitude(text: &[u8]) -> (u64, &[u8])
 
 /// The digit at the front, or a 0 where there is none, and what follows it.
 #[inline(always)]
+#[tactic(auto, using(crate::proofs::NumberLemmas::no_digit))]
 fn next_decimal(text: &[u8]) -> (u8, &[u8])
     ensures digit { IsDigit result.0 }
     ensures kept { (k : ℕ)

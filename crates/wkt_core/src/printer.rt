@@ -48,6 +48,7 @@ fn push_fraction(text: &mut String, units: u64, scale: Scale) -> Result<(), Allo
 }
 
 /// Adds a number of units of the scale.
+#[tactic(auto, using(crate::proofs::FractionLemmas::power_pos))]
 fn push_number(text: &mut String, units: i64, scale: Scale) -> Result<(), AllocError>
     ensures { OnOk result (string_bytes text.new
         ≡ string_bytes text.old ++ number scale units) }
@@ -73,6 +74,7 @@ fn push_point(text: &mut String, point: &Position, scale: Scale) -> Result<(), A
 }
 
 /// Adds points, with a comma and a space between them.
+#[tactic(auto, using(crate::proofs::PrintLemmas::points_added))]
 fn push_points(text: &mut String, points: &[Position], scale: Scale) -> Result<(), AllocError>
     ensures { OnOk result (string_bytes text.new
         ≡ string_bytes text.old ++ listed scale points.now) }
@@ -128,6 +130,7 @@ fn push_shape(text: &mut String, shape: &Shape, scale: Scale) -> Result<(), Allo
 ///
 /// # Errors
 /// Where memory is refused.
+#[tactic(auto, using(crate::proofs::CanonicalLemmas::canonical_spells))]
 pub fn print(alloc: Global, shape: &Shape, scale: Scale) -> Result<String, AllocError>
     ensures text { IfOk result (λ text. string_bytes text ≡ canonical scale shape.now) }
     // The spelling is read again as the shape.

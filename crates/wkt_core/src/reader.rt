@@ -1,9 +1,14 @@
 //! Reading a text.
 
-ghost use Rattle.std.specs.Prelude.{◌≡◌, Result};
+ghost use Rattle.std.specs.Prelude.{◌≡◌, List, IfSome, IfNone, Result};
 ghost use Rattle.geom_core.specs.declared.shape.Shape.{Shape};
 ghost use Rattle.wkt_core.specs.declared.fault.WktFault.{WktFault};
+ghost use Rattle.wkt_core.specs.AnswerSteps.{IsAnswerOf, IsReading};
+ghost use Rattle.wkt_core.specs.Grammar.{RawPoint};
+ghost use Rattle.wkt_core.specs.ListSteps.{TakesText};
+ghost use Rattle.wkt_core.specs.ReadLists.{AreReadOf};
 ghost use Rattle.wkt_core.specs.Readings.{Reads};
+ghost use Rattle.wkt_core.specs.declared.keyword.Keyword.{Keyword};
 
 use crate::fault::WktFault;
 use crate::raw::RawText;
@@ -38,7 +43,27 @@ pub fn read(text: &[u8], scale: Scale) -> Result<Shape, WktFault>
     ensures only { (answer : Result Shape WktFault)
         → Reads scale text.now answer → result ≡ answer }
 {
-    let Some(raw) = RawText::read(text, scale) else {
+    reading(text, scale, RawText::read(text, scale))
+}
+
+/// The one answer that a text reads as, by what was read of it.
+#[inline(always)]
+fn reading(text: &[u8], scale: Scale, read: Option<RawText>) -> Result<Shape, WktFault>
+    requires some { IfSome read (λ raw. (lists : List (List RawPoint))
+        × TakesText text.now raw.keyword lists × AreReadOf scale raw.lists lists) }
+    requires none { IfNone read ((keyword : Keyword) (lists : List (List RawPoint))
+        → TakesText text.now keyword lists → ⊥) }
+    ensures { IsReading scale text.now result }
+{
+    answer(read)
+}
+
+/// The answer for what was read.
+#[inline(always)]
+fn answer(read: Option<RawText>) -> Result<Shape, WktFault>
+    ensures { IsAnswerOf read result }
+{
+    let Some(raw) = read else {
         return Err(WktFault::Text);
     };
     if !raw.has_good_numbers() {
