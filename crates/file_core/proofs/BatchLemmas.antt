@@ -50,9 +50,9 @@ with_rows-next layer (row ∷ rows) next given =
     by (Ok l) is given more = omega (arith, more l given, with_row-next (layer.next + 1) layer (content_of row) l is)
     by (Err fault) is given more = let none = given in cc
 
-pub all_rows-append : (a b : List (Vec ReadRow Global)) → all_rows (a ++ b) ≡ all_rows a ++ all_rows b
-all_rows-append [] b = refl
-all_rows-append (rows ∷ a) b = ap (λ others. rows.items ++ others) (all_rows-append a b) ∙ sym (append_assoc rows.items (all_rows a) (all_rows b))
+pub all_rows_append : (a b : List (Vec ReadRow Global)) → all_rows (a ++ b) ≡ all_rows a ++ all_rows b
+all_rows_append [] b = refl
+all_rows_append (rows ∷ a) b = ap (λ others. rows.items ++ others) (all_rows_append a b) ∙ sym (append_assoc rows.items (all_rows a) (all_rows b))
 
 module _ (scale : Scale) where
   -- ---- what records say

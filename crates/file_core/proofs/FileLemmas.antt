@@ -9,7 +9,7 @@ use Rattle.file_core.specs.Limits.{most_file_bytes}
 use Rattle.file_core.specs.Records.{Record, records_of}
 use Rattle.file_core.specs.Rows.{AreRows, FileGives, IsHeader}
 use Rattle.file_core.specs.Sources.{IsReadingFault}
-use Rattle.file_core.proofs.RecordLemmas.{length-records_from}
+use Rattle.file_core.proofs.RecordLemmas.{length_records_from}
 
 module _ (columns : List (List ℕ)) (bytes : List ℕ) (few : length bytes ≤ most_file_bytes) where
   -- the rows behind a header of these columns
@@ -36,7 +36,7 @@ strip-le (a ∷ b ∷ c ∷ rest) = by (is_bom a b c)
 
 -- there are no more records than bytes, and one
 pub length-records_of : (bytes : List ℕ) → length (records_of bytes) ≤ length bytes + 1
-length-records_of bytes = omega (arith, length-records_from (length (strip_bom bytes) + 1) st.StartRecord (strip_bom bytes), strip-le bytes)
+length-records_of bytes = omega (arith, length_records_from (length (strip_bom bytes) + 1) st.StartRecord (strip_bom bytes), strip-le bytes)
 
 -- a file that is not read to its end, for its length if it is known
 pub file-unread : {A : Type 0} (columns : List (List ℕ)) (RowGives : ℕ → A → Record → Result A ReadFault → Type 0) (start : A)

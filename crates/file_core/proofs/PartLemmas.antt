@@ -19,11 +19,11 @@ use Rattle.file_core.specs.Limits.{most_file_bytes}
 use Rattle.file_core.specs.Parts.{IsBoth, IsOnePart, IsParts, rows_of}
 use Rattle.file_core.specs.Records.{Record, records_of}
 use Rattle.file_core.specs.Rows.{IsOpened, rows_left}
-use Rattle.file_core.specs.Unread.{IsHeaderLine, IsUnread, IsUnreadFile}
+use Rattle.file_core.specs.Unread.{IsHeaded, IsHeaderLine, IsUnread, IsUnreadFile}
 use Rattle.file_core.proofs.BatchLemmas.{say-append, say-length, say-then}
 use Rattle.file_core.proofs.CutLemmas.{closed-between, state-append, step-after_cr, text-cut}
 use Rattle.file_core.proofs.FileLemmas.{rows-headed}
-use Rattle.file_core.proofs.RecordLemmas.{length-records_from}
+use Rattle.file_core.proofs.RecordLemmas.{length_records_from}
 
 -- ---- lists in two parts
 
@@ -34,9 +34,9 @@ pub All-back : {X : Type 0} (P : X → Type 0) (a b : List X) → All P (a ++ b)
 All-back P [] b all = all
 All-back P (x ∷ a) b all = All-back P a b (All-tail P x (a ++ b) all)
 
-pub if-some : {X : Type 0} (P Q : X → Type 0) (o : Option X) → IfSome o P → ((x : X) → P x → Q x) → IfSome o Q
-if-some P Q None h more = tt
-if-some P Q (Some x) h more = more x h
+pub if_some : {X : Type 0} (P Q : X → Type 0) (o : Option X) → IfSome o P → ((x : X) → P x → Q x) → IfSome o Q
+if_some P Q None h more = tt
+if_some P Q (Some x) h more = more x h
 
 -- ---- ends and beginnings
 
@@ -46,21 +46,21 @@ field-last [] last = refl
 field-last (x ∷ front) last = field-last front last
 
 -- a record whose last field doesn't end with a line feed
-pub ended-closed : (fields : Record) (i : ℕ) (field : List ℕ) → i + 1 ≡ length fields → Some field ≡ field_at fields i → ¬ (EndsWithFeed field)
+pub ended_closed : (fields : Record) (i : ℕ) (field : List ℕ) → i + 1 ≡ length fields → Some field ≡ field_at fields i → ¬ (EndsWithFeed field)
     → IsClosed fields
-ended-closed fields i field at is ended front last e =
+ended_closed fields i field at is ended front last e =
     let place : i ≡ length front = omega (arith, ap length e, length-append front ((last ++ 10 ∷ []) ∷ [])) in
     let here : field_at fields i ≡ Some (last ++ 10 ∷ []) = rw (e, place) (field-last front (last ++ 10 ∷ [])) in
     let same : field ≡ last ++ 10 ∷ [] = cc in
     ended (last, same)
 
 -- a text whose first byte isn't that of a byte order mark
-pub plain-first : (text : List ℕ) (c : ℕ) → Some c ≡ slice_get text 0 → IsTrue (not (nat_eq c 239)) → IsPlain text
+pub plain_first : (text : List ℕ) (c : ℕ) → Some c ≡ slice_get text 0 → IsTrue (not (nat_eq c 239)) → IsPlain text
 unfolding strip_bom
-plain-first [] c is other = refl
-plain-first (a ∷ []) c is other = refl
-plain-first (a ∷ b ∷ []) c is other = refl
-plain-first (a ∷ b ∷ d ∷ rest) c is other =
+plain_first [] c is other = refl
+plain_first (a ∷ []) c is other = refl
+plain_first (a ∷ b ∷ []) c is other = refl
+plain_first (a ∷ b ∷ d ∷ rest) c is other =
     let same : c ≡ a = cc in
     by (a == 239) (rw same at other)
   where
@@ -68,10 +68,10 @@ plain-first (a ∷ b ∷ d ∷ rest) c is other =
     by true h = let e = h in cc
     by false h = refl
 
-pub plain-empty : (text : List ℕ) → None ≡ slice_get text 0 → IsPlain text
+pub plain_empty : (text : List ℕ) → None ≡ slice_get text 0 → IsPlain text
 unfolding strip_bom
-plain-empty [] none = refl
-plain-empty (a ∷ rest) none = let n = none in cc
+plain_empty [] none = refl
+plain_empty (a ∷ rest) none = let n = none in cc
 
 -- a byte order mark stays at the start
 strip-append : (a b : List ℕ) → 3 ≤ length a → strip_bom (a ++ b) ≡ strip_bom a ++ b
@@ -124,19 +124,19 @@ ends-append a b first second = rw (state-append st.StartRecord a b) (ends-from (
 
 -- ---- parts
 
-pub parts-whole : (scale : Scale) (text : List ℕ) (old new : RowsOf) (read : List ReadRow) (parts : Parts) → EndsWithFeed text
+pub parts_whole : (scale : Scale) (text : List ℕ) (old new : RowsOf) (read : List ReadRow) (parts : Parts) → EndsWithFeed text
     → rows_left old ≡ records default_config text → IsBatch scale (Rows old) read (Ok false) (Rows new) → All IsClosed (rows_left old)
     → IsOnePart read parts → IsParts scale text parts
-parts-whole scale text old new read parts ends rows batch closed one = record {
+parts_whole scale text old new read parts ends rows batch closed one = record {
   rows = rw (one.rows, ← rows, ← batch.behind) batch.rows;
   counted = rw one.rows one.count;
   ends = feed-between text ends (rw rows at closed);
   ids = rw one.rows batch.ids;
 }
 
-pub parts-both : (scale : Scale) (text a b : List ℕ) (first second all : Parts) → a ++ b ≡ text → IsParts scale a first → IsParts scale b second
+pub parts_both : (scale : Scale) (text a b : List ℕ) (first second all : Parts) → a ++ b ≡ text → IsParts scale a first → IsParts scale b second
     → IsBoth first second all → IsParts scale text all
-parts-both scale text a b first second all is one other both =
+parts_both scale text a b first second all is one other both =
     rw (← is)
     (record {
       rows = rw (text-cut a b one.ends, both.rows)
@@ -170,9 +170,9 @@ parts-batch scale text rest count behind round parts unread is read plain counte
 
 -- ---- a header
 
-pub header-line : (line : List ℕ) (rows : RowsOf) → 3 < length line → EndsWithFeed line → IsOpened layer_columns line rows
+pub header_line : (line : List ℕ) (rows : RowsOf) → 3 < length line → EndsWithFeed line → IsOpened layer_columns line rows
     → rows.unended ≡ false → rows_left rows ≡ [] → IsHeaderLine layer_columns line
-header-line line rows long ends opened ended none =
+header_line line rows long ends opened ended none =
     let alone : records_of line ≡ opened.header ∷ [] = opened.records ∙ ap (λ others. opened.header ∷ others) none in
     record {
       header = opened.header;
@@ -183,7 +183,7 @@ header-line line rows long ends opened ended none =
       long = omega arith;
     }
 
-pub header-unread : (bytes line : List ℕ) (rest : Bor (List ℕ)) → line ++ rest.now ≡ bytes → length bytes ≤ most_file_bytes
+header-unread : (bytes line : List ℕ) (rest : Bor (List ℕ)) → line ++ rest.now ≡ bytes → length bytes ≤ most_file_bytes
     → IsHeaderLine layer_columns line → IsPlain rest.now → IsUnreadFile bytes (Text rest 0)
 header-unread bytes line rest is few headed plain =
     let text : strip_bom bytes ≡ strip_bom line ++ rest.now = ap strip_bom (sym is) ∙ strip-append line rest.now headed.long in
@@ -195,6 +195,12 @@ header-unread bytes line rest is few headed plain =
       none_read = refl;
       reading = (
         plain,
-        omega (arith, length-records_from (length rest.now + 1) st.StartRecord rest.now, ap length is, length-append line rest.now),
+        omega (arith, length_records_from (length rest.now + 1) st.StartRecord rest.now, ap length is, length-append line rest.now),
       );
     }
+
+-- a file that is cut behind its first line
+pub header_cut : (bytes : List ℕ) (r : Option (Bor (List ℕ))) → IfSome r (λ rest. IsHeaded bytes rest.now)
+    → IfSome r (λ rest. IsUnreadFile bytes (Text rest 0))
+header_cut bytes None h = h
+header_cut bytes (Some rest) h = header-unread bytes h.line rest h.whole h.few h.headed h.plain

@@ -151,10 +151,10 @@ records-enough (suc m) (suc n) s xs a b e =
     by (Some p) found same = rw found (ap (λ rows. p.0 ∷ rows) (same p found))
 
 -- no more records than bytes, and one
-pub length-records_from : (n : ℕ) (s : State) (xs : List ℕ) → length (records_from default_config n s xs) ≤ n
+pub length_records_from : (n : ℕ) (s : State) (xs : List ℕ) → length (records_from default_config n s xs) ≤ n
 unfolding records_from
-length-records_from zero s xs = omega arith
-length-records_from (suc n) s xs = by (next_record default_config s [] [] xs) (λ p. length-records_from n p.1 p.2)
+length_records_from zero s xs = omega arith
+length_records_from (suc n) s xs = by (next_record default_config s [] [] xs) (λ p. length_records_from n p.1 p.2)
   where
     by : (r : Option Read) → ((p : Read) → length (records_from default_config n p.1 p.2) ≤ n) → length (records_next (records_from default_config n) r) ≤ suc n
     by None few = omega arith
@@ -209,10 +209,10 @@ module _ (a b : Reader (Bor (List ℕ))) (fields : Record) (reading : IsBetweenR
       (refl, refl) r in
       next_from first flexible r (g.0, g.1, g.2.0, g.2.1, g.2.2, g.2.3.0, g.2.3.1)
 
-  pub row-read : (found : Bool) → took_first b ≡ true → is_flexible b ≡ is_flexible a → ReadRecord (λ (s : Bor (List ℕ)). Some s.now) a b found fields
+  pub row_read : (found : Bool) → took_first b ≡ true → is_flexible b ≡ is_flexible a → ReadRecord (λ (s : Bor (List ℕ)). Some s.now) a b found fields
       → MatchBool found (TakesRecord a fields b) (records_left a ≡ [])
-  row-read true first flexible r = row-next first flexible r
-  row-read false first flexible r = row-last r
+  row_read true first flexible r = row-next first flexible r
+  row_read false first flexible r = row-last r
 
 -- a reader that takes records of any length fails for memory or for its bytes alone
 pub refused_or_unread : (a b : Reader (Bor (List ℕ))) (kind : ErrorKind) → is_flexible a ≡ true

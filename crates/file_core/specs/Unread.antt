@@ -1,11 +1,12 @@
 -- What of a layer's file isn't read yet.
-use Rattle.std.specs.Prelude.{◌≡◌, ◌≤◌, ◌+◌, ℕ, List, [], ◌∷◌, length, Ok}
+use Rattle.std.specs.Prelude.{◌≡◌, ◌≤◌, ◌+◌, ℕ, List, [], ◌∷◌, ◌++◌, length, Ok}
 use Rattle.csv.specs.Reading.{default_config, records, strip_bom}
 use Rattle.csv.specs.declared.parser.State.TheVariants.{StartRecord}
 use Rattle.file_core.specs.declared.unread.Unread.{Unread}
 use Rattle.file_core.specs.declared.unread.Unread.TheVariants.{Text, Rows}
 use Rattle.file_core.specs.Cuts.{EndsBetween, IsPlain}
 use Rattle.file_core.specs.LayerFiles.{layer_columns}
+use Rattle.file_core.specs.Limits.{most_file_bytes}
 use Rattle.file_core.specs.Records.{Record, records_of}
 use Rattle.file_core.specs.Rows.{AreRows, IsHeader, IsReading, most_rows, rows_left}
 
@@ -38,3 +39,11 @@ pub record IsHeaderLine (columns : List (List ℕ)) (line : List ℕ) : Type 0 w
   pub records : records_of line ≡ header ∷ []
   pub ends : EndsBetween StartRecord (strip_bom line)
   pub long : 3 ≤ length line
+
+-- a file whose first line is a header and nothing else, and that is plain behind it
+pub record IsHeaded (bytes rest : List ℕ) : Type 0 where
+  pub line : List ℕ
+  pub whole : line ++ rest ≡ bytes
+  pub few : length bytes ≤ most_file_bytes
+  pub headed : IsHeaderLine layer_columns line
+  pub plain : IsPlain rest

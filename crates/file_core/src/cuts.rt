@@ -52,6 +52,7 @@ pub(crate) fn ends_with_feed(text: &[u8]) -> bool
 }
 
 /// Whether the last field of a record ends with a line feed, as one that a cut has cut off does.
+#[tactic(auto, using(crate::proofs::PartLemmas::ended_closed))]
 pub(crate) fn is_unended(row: &ByteRecord) -> bool
     ensures { result ≡ false → IsClosed (fields_of row.now) }
 {
@@ -65,6 +66,7 @@ pub(crate) fn is_unended(row: &ByteRecord) -> bool
 }
 
 /// Whether a text doesn't begin as a byte order mark does.
+#[tactic(auto, using(crate::proofs::PartLemmas::plain_empty, crate::proofs::PartLemmas::plain_first))]
 pub(crate) fn is_plain(text: &[u8]) -> bool
     ensures { IsTrue result → IsPlain text.now }
 {

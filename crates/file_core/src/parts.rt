@@ -26,6 +26,7 @@ pub(crate) struct Parts {
 
 impl Parts {
     /// These rows, and those of the text behind theirs.
+    #[tactic(auto, using(crate::proofs::BatchLemmas::all_rows_append))]
     fn and(self, mut others: Parts) -> Option<Parts>
         ensures { IfSome result (λ all. IsBoth self others all) }
     {
@@ -66,6 +67,7 @@ impl ReadParts for Whole {
 pub(crate) struct Beside<'r, R, P>(pub(crate) &'r R, pub(crate) P);
 
 impl<R: Threads + Sync, P: ReadParts> ReadParts for Beside<'_, R, P> {
+    #[tactic(auto, using(crate::proofs::PartLemmas::parts_both))]
     fn read(&self, alloc: Global, scale: Scale, text: &[u8]) -> Option<Parts> {
         let Beside(rt, others) = self;
         let share = text.len().checked_div(self.count()).unwrap_or(0);
@@ -86,6 +88,7 @@ impl<R: Threads + Sync, P: ReadParts> ReadParts for Beside<'_, R, P> {
 }
 
 /// The rows of a text that begins and ends between two records, where this is seen.
+#[tactic(auto, using(crate::proofs::PartLemmas::if_some, crate::proofs::PartLemmas::parts_whole, crate::proofs::RecordLemmas::length_records_from))]
 fn read_whole(alloc: Global, scale: Scale, text: &[u8]) -> Option<Parts>
     ensures { IfSome result (IsParts scale text.now) }
 {

@@ -1,9 +1,9 @@
 //! What of a layer's file isn't read yet.
 
-ghost use Rattle.std.specs.Prelude.{◌≡◌, ◌≢◌, Err, IfOk, IfErr, IfSome, IsTrue};
+ghost use Rattle.std.specs.Prelude.{◌≡◌, ◌≢◌, ◌++◌, Err, IfOk, IfErr, IfSome, IsTrue};
 ghost use Rattle.file_core.specs.LayerFiles.{layer_columns};
 ghost use Rattle.file_core.specs.Rows.{AreRows, IsReading, rows_left};
-ghost use Rattle.file_core.specs.Unread.{IsHeaderLine, IsUnread, IsUnreadFile};
+ghost use Rattle.file_core.specs.Unread.{IsHeaded, IsHeaderLine, IsUnread, IsUnreadFile};
 ghost use Rattle.file_core.specs.Unread.{count_unread, records_unread};
 
 use crate::cuts::{ends_with_feed, is_plain};
@@ -56,11 +56,20 @@ impl<'a> Unread<'a> {
 }
 
 /// What is behind the header, where that is the first line by itself.
+#[tactic(auto, using(crate::proofs::PartLemmas::header_cut))]
 fn behind_header(alloc: Global, bytes: &[u8]) -> Option<&[u8]>
     ensures { IfSome result (λ text. IsUnreadFile bytes.now (Unread.Text text 0)) }
 {
     let feed = bytes.iter().position(|byte| *byte == b'\n')?;
     let (line, rest) = bytes.split_at_checked(feed.saturating_add(1))?;
+    headed_rest(alloc, bytes, line, rest)
+}
+
+/// What is behind the first line of a file, where that is a header and this is plain.
+fn headed_rest<'a>(alloc: Global, bytes: &[u8], line: &[u8], rest: &'a [u8]) -> Option<&'a [u8]>
+    requires { line.now ++ rest.now ≡ bytes.now }
+    ensures { IfSome result (λ text. IsHeaded bytes.now text.now) }
+{
     if bytes.len() <= MAX_FILE_BYTES && is_header_line(alloc, line) && is_plain(rest) {
         Some(rest)
     } else {
@@ -69,6 +78,7 @@ fn behind_header(alloc: Global, bytes: &[u8]) -> Option<&[u8]>
 }
 
 /// Whether a line is a header and nothing else.
+#[tactic(auto, using(crate::proofs::PartLemmas::header_line))]
 fn is_header_line(alloc: Global, line: &[u8]) -> bool
     ensures { IsTrue result → IsHeaderLine layer_columns line.now }
 {
