@@ -37,6 +37,7 @@ pub fn cover_all<T: Covered>(items: &[T]) -> Shape
 
 /// By how much the area of a cover grows where it takes in a shape.
 #[inline(always)]
+#[tactic(auto, using(crate::proofs::Areas::area_grows))]
 pub fn enlargement(cover: &Shape, shape: &Shape) -> Area
     ensures growth { result ≡ choices.enlargement cover.now shape.now }
     ensures bound { result ≤ greatest_area }
