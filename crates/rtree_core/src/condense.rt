@@ -14,6 +14,7 @@ impl EditableTree {
     ghost use Rattle.rtree_core.specs.EditableTrees.{IsSound, IsRooted, CanTake, HasTakenIn};
 
     /// Inserts again what the nodes set aside hold, lowest level first (Guttman 1984, 3.3, CT6).
+    #[tactic(auto, using(crate::proofs::EditableTreeLemmas::took_none))]
     pub(crate) fn reinsert(&mut self, aside: &mut Vec<Node>)
         requires sound { IsSound self.old }
         requires are_aside { AreAside aside.old.items }
@@ -32,6 +33,7 @@ impl EditableTree {
     }
 
     /// Inserts again what a node of a level holds.
+    #[tactic(auto, using(crate::proofs::NodeLemmas::lawful_is, crate::proofs::NodeLemmas::lawful_level, crate::proofs::ItemLemmas::as_leaf_level, crate::proofs::ItemLemmas::open_inner, crate::proofs::ItemLemmas::as_inner_level, crate::proofs::ItemLemmas::as_inner_lawful, crate::proofs::ItemLemmas::inner_fits))]
     fn reinsert_node(&mut self, node: Node, level: u32)
         requires sound { IsSound self.old }
         requires lawful { IsLawfulAt level node }
@@ -46,6 +48,7 @@ impl EditableTree {
     }
 
     /// Inserts items in turn, each into a node of a level, which the tree has.
+    #[tactic(auto, using(crate::proofs::EditableTreeLemmas::can_take_less, crate::proofs::EditableTreeLemmas::took_none))]
     fn insert_all<T: Insertable>(&mut self, items: Vec<T>, level: u32)
         requires sound { IsSound self.old }
         requires fit { All (T.fits level) items.items }

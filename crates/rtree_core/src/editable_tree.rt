@@ -68,6 +68,7 @@ impl EditableTree {
     }
 
     /// Makes a leaf of one entry the root.
+    #[tactic(auto, using(crate::proofs::EditableTreeLemmas::root_made_from))]
     fn make_root(&mut self, entry: Entry)
         requires sound { IsSound self.old }
         requires can_take { CanTake 1 self.old }
@@ -81,6 +82,7 @@ impl EditableTree {
     }
 
     /// Inserts an item into a node of a level, which the tree has.
+    #[tactic(auto, using(crate::proofs::NodeLemmas::lawful_level, crate::proofs::NodeLemmas::lawful_is))]
     pub(crate) fn insert<T: Insertable>(&mut self, item: T, level: u32)
         requires sound { IsSound self.old }
         requires can_take { CanTake 1 self.old }
@@ -100,6 +102,7 @@ impl EditableTree {
     }
 
     /// Puts a node over the root and its second half.
+    #[tactic(auto, using(crate::proofs::EditableTreeLemmas::of_two))]
     fn add_level(&mut self, second: Node)
         requires first { IsSomeAnd self.old.root (FitsInner (suc (level_of second))) }
         requires second { FitsInner (suc (level_of second)) second }

@@ -44,6 +44,7 @@ impl Node {
     ghost use Rattle.split_core.specs.Covers.{IsLeastCover};
 
     /// Whether it holds entries and no children: it is on level 0.
+    #[tactic(auto, using(crate::proofs::NodeLemmas::level_leaf, crate::proofs::NodeLemmas::level_inner, crate::proofs::NodeLemmas::holds_entries, crate::proofs::NodeLemmas::holds_children))]
     pub fn is_leaf(&self) -> bool
         ensures leaf { IsTrue result ↔ IsLeaf self.now }
         ensures level { IsTrue result ↔ (level_of self.now ≡ 0) }
@@ -64,6 +65,7 @@ impl Node {
     }
 
     /// The children of an inner node, of which there is at least one.
+    #[tactic(auto, using(crate::proofs::NodeLemmas::given_entries, crate::proofs::NodeLemmas::given_children))]
     pub fn children(&self) -> &[Node]
         requires { IsLeaf self.now → ⊥ }
         ensures children { result.now ≡ children_of self.now }
@@ -88,6 +90,7 @@ impl Node {
 
     /// The smallest shape that contains the shapes of its entries, or the covers of its children.
     #[inline(always)]
+    #[tactic(auto, using(crate::proofs::WindowLemmas::lawful_cover))]
     pub fn cover(&self) -> Shape
         ensures value { result ≡ node_cover self.now }
         ensures tight { let entries = entries_of self.now in

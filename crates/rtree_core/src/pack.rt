@@ -110,6 +110,7 @@ impl Packable for Placed {
 }
 
 /// How many of some items go into the first of some pages.
+#[tactic(auto, using(crate::proofs::PackLemmas::share_of))]
 fn page_size(items: usize, pages: usize) -> usize
     requires { 0 < pages }
     ensures value { result ≡ items_before 1 pages items }
@@ -119,6 +120,7 @@ fn page_size(items: usize, pages: usize) -> usize
 }
 
 /// Takes the first so many items into a list, which has room for one more than the most.
+#[tactic(auto, using(crate::proofs::PackLemmas::page_none, crate::proofs::PackLemmas::page_more))]
 fn next_page<T: Packable>(
     alloc: Global,
     items: &mut IntoIter<T, Global>,
@@ -141,6 +143,7 @@ fn next_page<T: Packable>(
 }
 
 /// The nodes of a level, given what they hold, in the order of their pages.
+#[tactic(auto, using(crate::proofs::PackingLemmas::pages_none, crate::proofs::PackingLemmas::pages_all, crate::proofs::PackLemmas::share_within, crate::proofs::PackLemmas::cut_none, crate::proofs::PackLemmas::cut_in_range))]
 fn nodes_of<T: Packable>(alloc: Global, items: Vec<T>) -> Result<Vec<Placed>, AllocError>
     ensures nodes { let held = map T.held items.items in
         let AreNodes = AreNodesOf T.Held.entries T.Held.fits T.Held.fits_packed held in
@@ -164,6 +167,7 @@ fn nodes_of<T: Packable>(alloc: Global, items: Vec<T>) -> Result<Vec<Placed>, Al
 }
 
 /// The nodes of the level above some nodes.
+#[tactic(auto, using(crate::proofs::PackLemmas::level_tiles))]
 fn level_above(alloc: Global, mut nodes: Vec<Placed>) -> Result<Vec<Placed>, AllocError>
     ensures nodes { let held = map (λ p. p.node) nodes.items in
         let AreNodes = AreNodesOf entries_of FitsInner FitsPacked held in

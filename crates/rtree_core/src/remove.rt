@@ -22,6 +22,7 @@ impl EditableTree {
     ghost use Rattle.rtree_core.specs.EditableTrees.{IsRooted, CanRemove};
 
     /// Takes an entry out, and says whether it was there.
+    #[tactic(auto, using(crate::proofs::NodeLemmas::lawful_level, crate::proofs::NodeLemmas::lawful_is, crate::proofs::EditableTreeLemmas::can_take_less, crate::proofs::EditableTreeLemmas::lone_root, crate::proofs::EditableTreeLemmas::emptied_rooted, crate::proofs::EditableTreeLemmas::lost_last, crate::proofs::EditableTreeLemmas::lost_but_back))]
     pub(crate) fn remove(&mut self, entry: &Entry, aside: &mut Vec<Node>) -> bool
         requires { CanRemove self.old aside.old }
         ensures rooted { IsRooted self.new }
@@ -47,6 +48,7 @@ impl EditableTree {
     }
 
     /// Empties a tree whose one entry is this one.
+    #[tactic(auto, using(crate::proofs::RemovalLemmas::other_entry))]
     fn remove_last(&mut self, entry: &Entry) -> bool
         requires leaf { IsSomeAnd self.old.root (λ n. IsLawfulAt 0 n × (size_of n ≡ 1)) }
         ensures held { IsTrue result ↔ Contains (entries_in self.old.root) entry.now }
@@ -152,6 +154,7 @@ fn take_from_one(nodes: &mut [Node], entry: &Entry, aside: &mut Vec<Node>) -> Op
 }
 
 /// The place of an entry in a list.
+#[tactic(auto, using(crate::proofs::RemovalLemmas::not_there))]
 fn place_of(entries: &[Entry], entry: &Entry) -> Option<usize>
     ensures found { IfSome result (IsPlaceOf entries.now entry.now) }
     ensures none { IfNone result (Contains entries.now entry.now → ⊥) }

@@ -69,6 +69,7 @@ impl RTree {
     /// and Edgington 1997).
     ///
     /// Each node below the root has 4 to 8 entries or children. An `Err` drops the list.
+    #[tactic(auto, using(crate::proofs::PackLemmas::list_tiled))]
     pub fn pack(alloc: Global, mut entries: Vec<Entry>) -> Result<RTree, AllocError>
         requires distinct { (k : ℕ) → count_by (has_number k) entries.items ≤ 1 }
         ensures entries { IfOk result (λ t. HasSame entries.items (entries_in t)) }
@@ -82,6 +83,7 @@ impl RTree {
     /// Packs entries into the same tree as `pack` does, by at most so many threads.
     ///
     /// By 0 or 1 it starts no thread. An `Err` drops the list.
+    #[tactic(auto, using(crate::proofs::PackLemmas::list_tiled))]
     pub fn pack_by_threads<R: Threads + Sync>(
         alloc: Global,
         mut entries: Vec<Entry>,
@@ -98,6 +100,7 @@ impl RTree {
     }
 
     /// The packed tree of entries that are in the order of their pages.
+    #[tactic(auto, using(crate::proofs::TreeLemmas::same_length))]
     fn from_pages(alloc: Global, entries: Vec<Entry>) -> Result<RTree, AllocError>
         requires distinct { (k : ℕ) → count_by (has_number k) entries.items ≤ 1 }
         requires order { IsTileOrder (λ e. e.shape) (λ e. e.number) entries.items }
@@ -154,6 +157,7 @@ impl RTree {
     /// Inserts an entry, whose number the tree doesn't hold.
     ///
     /// An `Err` leaves the tree as it was.
+    #[tactic(auto, using(crate::proofs::TreeLemmas::tree_length, crate::proofs::TreeLemmas::tree_height))]
     pub fn insert(&mut self, entry: Entry) -> Result<(), AllocError>
         requires { IsFresh entry.number self.old }
         ensures ok { OnOk result (Gains entry (entries_in self.old) (entries_in self.new)) }
@@ -168,6 +172,7 @@ impl RTree {
     /// Removes an entry, equal in shape and number, and says whether the tree held it.
     ///
     /// An `Err` leaves the tree as it was.
+    #[tactic(auto, using(crate::proofs::TreeLemmas::tree_height))]
     pub fn remove(&mut self, entry: &Entry) -> Result<bool, AllocError>
         ensures held { let there = Contains (entries_in self.old) entry.now in
             IfOk result (λ removed. IsTrue removed ↔ there) }

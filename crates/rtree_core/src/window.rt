@@ -41,6 +41,7 @@ fn collect_children(
 }
 
 /// Adds the numbers of the entries that meet the window.
+#[tactic(auto, using(crate::proofs::WindowLemmas::adds_none))]
 fn collect_entries(
     entries: &[Entry],
     window: &Shape,

@@ -1,13 +1,12 @@
-use Rattle.std.proofs.Common.{arith, ◌≡◌, ℕ, ◌-◌, ap, sym, refl, map, length}
+use Rattle.std.proofs.Common.{arith, ◌≡◌, ℕ, ◌-◌, ap, sym, map, length}
 use Rattle.std.proofs.lemmas.List.{length-map, map-append}
-use Rattle.std.proofs.lemmas.Result.{err_from_is_err_and}
 use Rattle.std.specs.Vec.Iter.{into_iter_items}
 use Rattle.rtree_core.specs.declared.pack.Placed.{Placed}
 use Rattle.rtree_core.specs.declared.node.Node.{Node}
 use Rattle.rtree_core.specs.Packed.{IsShare}
 use Rattle.split_core.specs.Tiles.{items_before}
-use Rattle.rtree_core.proofs.PackingLemmas.{pages_none, pages_more, pages_all, enumerate_next}
-use Rattle.rtree_core.proofs.PackLemmas.{share_some, share_fits, share_within, cut_none, cut_more, cut_all, cut_in_range}
+use Rattle.rtree_core.proofs.PackingLemmas.{pages_more, enumerate_next}
+use Rattle.rtree_core.proofs.PackLemmas.{share_some, share_fits, cut_more, cut_all}
 use Rattle.rtree_core.proofs.pack.nodes_of.Goals as goal
 use Rattle.rtree_core.proofs.pack.nodes_of.Goals.{In_ok-nodes, After-page_size-size}
 
@@ -49,16 +48,6 @@ node_of-node-requires g c =
       room = c.in_ok-page.ensures.page.room;
     }
 
-pub loop-place-init : goal.loop-place-init
-loop-place-init g c = record {
-  cut =
-      rw c.in_ok-nodes.ensures.items
-      (cut_none _ _ _ _ _ _ (omega (arith, counted g c, c.div_ceil-pages.ensures)));
-  pages = rw c.in_ok-nodes.ensures.items (pages_none _ _ _);
-  places = rw c.in_ok-nodes.ensures.items refl;
-  room = c.in_ok-nodes.ensures.exact;
-}
-
 pub loop-place-preserved : goal.loop-place-preserved
 loop-place-preserved g c =
     let at = (goal.at.loop-place-preserved g c).After-page_size-size in
@@ -87,69 +76,3 @@ returns-clause-nodes g c =
     let all : c.loop-place.place ≡ c.div_ceil-pages.result = omega arith in
     let pages = rw (← counted g (goal.at.returns-clause-nodes g c).In_ok-nodes) at c.div_ceil-pages.ensures in
     rw c.into_iter-rest.ensures.rest at (cut_all _ _ _ _ _ c.div_ceil-pages.result _ _ pages (rw all at c.loop-place.invariant.cut))
-
-pub returns-clause-pages : goal.returns-clause-pages
-returns-clause-pages g c =
-    let all : c.loop-place.place ≡ c.div_ceil-pages.result = omega arith in
-    let pages = rw (← counted g (goal.at.returns-clause-pages g c).In_ok-nodes) at c.div_ceil-pages.ensures in
-    rw c.into_iter-rest.ensures.rest at (pages_all _ _ c.div_ceil-pages.result _ _ pages (rw all at c.loop-place.invariant.pages))
-
-pub returns-clause-in_range : goal.returns-clause-in_range
-returns-clause-in_range g c =
-    let all : c.loop-place.place ≡ c.div_ceil-pages.result = omega arith in
-    rw c.into_iter-rest.ensures.rest at (cut_in_range _ _ _ _ _ c.div_ceil-pages.result _ _ (rw all at c.loop-place.invariant.cut))
-
-pub next_page-requires-clause-enough : goal.next_page-requires-clause-enough
-next_page-requires-clause-enough g c =
-    omega (
-      arith,
-      share_within c.page_size-size.result c.len-in-loop-place.result (c.div_ceil-pages.result - c.loop-place.place)
-          (omega arith) c.page_size-size.ensures.share,
-      c.len-in-loop-place.ensures,
-    )
-
-pub returns-clause-places : goal.returns-clause-places
-returns-clause-places g c = c.loop-place.invariant.places
-
-pub returns-in_err-nodes-clause-nodes : goal.returns-in_err-nodes-clause-nodes
-returns-in_err-nodes-clause-nodes g c = rw (err_from_is_err_and c.from_residual.result c.from_residual.ensures.1).1 tt
-
-pub returns-in_err-nodes-clause-pages : goal.returns-in_err-nodes-clause-pages
-returns-in_err-nodes-clause-pages g c = rw (err_from_is_err_and c.from_residual.result c.from_residual.ensures.1).1 tt
-
-pub returns-in_err-nodes-clause-places : goal.returns-in_err-nodes-clause-places
-returns-in_err-nodes-clause-places g c = rw (err_from_is_err_and c.from_residual.result c.from_residual.ensures.1).1 tt
-
-pub returns-in_err-nodes-clause-in_range : goal.returns-in_err-nodes-clause-in_range
-returns-in_err-nodes-clause-in_range g c = rw (err_from_is_err_and c.from_residual.result c.from_residual.ensures.1).1 tt
-
-pub returns-in_err-page-clause-nodes : goal.returns-in_err-page-clause-nodes
-returns-in_err-page-clause-nodes g c = rw (err_from_is_err_and c.from_residual-in_err-page.result c.from_residual-in_err-page.ensures.1).1 tt
-
-pub returns-in_err-page-clause-pages : goal.returns-in_err-page-clause-pages
-returns-in_err-page-clause-pages g c = rw (err_from_is_err_and c.from_residual-in_err-page.result c.from_residual-in_err-page.ensures.1).1 tt
-
-pub returns-in_err-page-clause-places : goal.returns-in_err-page-clause-places
-returns-in_err-page-clause-places g c = rw (err_from_is_err_and c.from_residual-in_err-page.result c.from_residual-in_err-page.ensures.1).1 tt
-
-pub returns-in_err-page-clause-in_range : goal.returns-in_err-page-clause-in_range
-returns-in_err-page-clause-in_range g c = rw (err_from_is_err_and c.from_residual-in_err-page.result c.from_residual-in_err-page.ensures.1).1 tt
-
-pub overflow_sub-pages : goal.overflow_sub-pages
-overflow_sub-pages g c = omega (arith, c.loop-place-test.true)
-
-pub page_size-size-requires : goal.page_size-size-requires
-page_size-size-requires g c = omega (arith, c.loop-place-test.true)
-
-pub push_reserved-requires : goal.push_reserved-requires
-push_reserved-requires g c = omega (
-  arith,
-  c.loop-place-test.true,
-  c.loop-place.invariant.room,
-  c.loop-place.invariant.cut.count,
-  c.loop-place.nodes.ok.0,
-  length-map c.loop-place.nodes.items (λ (p : Placed). p.node),
-)
-
-pub loop-place-smaller : goal.loop-place-smaller
-loop-place-smaller g c = omega (arith, c.loop-place-test.true)

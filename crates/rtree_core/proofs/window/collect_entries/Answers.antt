@@ -1,11 +1,7 @@
 use Rattle.std.proofs.lemmas.Bool.{false≢true}
-use Rattle.std.proofs.lemmas.Result.{err_from_is_err_and}
-use Rattle.rtree_core.proofs.WindowLemmas.{adds_none, adds_more_met, adds_more_missed}
+use Rattle.rtree_core.proofs.WindowLemmas.{adds_more_met, adds_more_missed}
 use Rattle.rtree_core.proofs.window.collect_entries.Goals as goal
 use Rattle.rtree_core.proofs.window.collect_entries.Goals.{then-meets+in_ok-push, else-meets}
-
-pub loop-entry-init : goal.loop-entry-init
-loop-entry-init c = adds_none c.args.window.now c.args.found.now.items
 
 pub loop-entry-preserved : goal.loop-entry-preserved
 loop-entry-preserved c =
@@ -17,6 +13,3 @@ loop-entry-preserved c =
           rw w.found-is (adds_more_missed c.args.window.now c.args.entries.now c.loop-entry.entry-index c.entry-item.result _ _ c.loop-entry-test.true
           c.entry-item.is c.loop-entry.invariant (λ m. false≢true (rw w.if-meets.false at (c.meets.ensures.1 m))))
     ]
-
-pub returns-in_err-push : goal.returns-in_err-push
-returns-in_err-push c = rw (err_from_is_err_and c.from_residual.result c.from_residual.ensures.1).1 tt

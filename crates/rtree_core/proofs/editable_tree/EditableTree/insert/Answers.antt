@@ -1,19 +1,6 @@
-use Rattle.rtree_core.specs.Nodes.{level_of}
 use Rattle.std.proofs.Common.{refl}
-use Rattle.rtree_core.proofs.NodeLemmas.{lawful_level, lawful_is}
 use Rattle.rtree_core.proofs.EditableTreeLemmas.{root_stays, root_splits}
 use Rattle.rtree_core.proofs.editable_tree.EditableTree.insert.Goals as goal
-
-pub add_level-requires-clause-first : goal.add_level-requires-clause-first
-add_level-requires-clause-first g c =
-    let two = c.in-Some-insert_into.ensures.inserted in
-    let level = lawful_level (level_of c.in-Some.root) c.in-Some-insert_into.second two.two_lawful in
-    (rw level two.one_lawful, two.one_enough)
-
-pub add_level-requires-clause-second : goal.add_level-requires-clause-second
-add_level-requires-clause-second g c =
-    let two = c.in-Some-insert_into.ensures.inserted in
-    (lawful_is _ _ two.two_lawful, two.two_enough)
 
 pub returns-in-Some-insert_into : goal.returns-in-Some-insert_into
 returns-in-Some-insert_into g c =

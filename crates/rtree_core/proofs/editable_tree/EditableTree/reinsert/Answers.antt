@@ -1,11 +1,11 @@
-use Rattle.std.proofs.Common.{arith, refl, ◌≡◌, ◌-◌, ◌+◌, ◌*◌, ◌<◌, ◌++◌, [], ◌∷◌, length, take, drop, ap, sym, ◌∙◌, get_or, drop-drop, get_or-drop, add-zero, subst}
+use Rattle.std.proofs.Common.{arith, ◌≡◌, ◌-◌, ◌+◌, ◌*◌, ◌<◌, ◌++◌, [], ◌∷◌, length, take, drop, ap, sym, ◌∙◌, get_or, drop-drop, get_or-drop, add-zero, subst}
 use Rattle.std.proofs.lemmas.Bool.Decides.{nat_tests}
 use Rattle.std.proofs.lemmas.List.{append-nil, take_more, take_all, length-drop}
 use Rattle.std.proofs.lemmas.List.Concat.{flat_map-append}
 use Rattle.std.specs.List.{flat_map}
 use Rattle.split_core.specs.Limits.{fewest}
-use Rattle.rtree_core.specs.Nodes.{entries_of, size_of, IsLawfulAt}
-use Rattle.rtree_core.proofs.EditableTreeLemmas.{can_take_less, took_none, took_both}
+use Rattle.rtree_core.specs.Nodes.{entries_of, size_of}
+use Rattle.rtree_core.proofs.EditableTreeLemmas.{can_take_less, took_both}
 use Rattle.rtree_core.proofs.editable_tree.EditableTree.reinsert.Goals as goal
 use Rattle.rtree_core.proofs.editable_tree.EditableTree.reinsert.Goals.{After-remove-node}
 
@@ -28,11 +28,6 @@ node_size c =
     let of_two : size_of c.remove-node.result + 1 ≡ fewest = subst (λ n. size_of n + 1 ≡ fewest) (sym (node_is c))
     (c.requires.are_aside c.loop-aside.level c.remove-node.result (inside c)).1 in
     omega (arith, of_two)
-
-pub reinsert_node-requires-clause-lawful : goal.reinsert_node-requires-clause-lawful
-reinsert_node-requires-clause-lawful c =
-    let at = (goal.at.reinsert_node-requires-clause-lawful c).After-remove-node in
-    subst (IsLawfulAt at.loop-aside.level) (sym (node_is at)) (at.requires.are_aside at.loop-aside.level at.remove-node.result (inside at)).0
 
 pub reinsert_node-requires-clause-can_take : goal.reinsert_node-requires-clause-can_take
 reinsert_node-requires-clause-can_take c =
@@ -62,9 +57,6 @@ loop-aside-preserved c =
           (took_both (2 * level) (size_of node) (flat_map entries_of (take level nodes)) (entries_of node) _ _ _ c.loop-aside.invariant.taken_in
           c.reinsert_node.ensures);
     }
-
-pub loop-aside-init : goal.loop-aside-init
-loop-aside-init c = record { few = omega arith; rest = refl; taken_in = took_none c.args.self.now c.requires.sound }
 
 pub returns-clause-taken_in : goal.returns-clause-taken_in
 returns-clause-taken_in c =

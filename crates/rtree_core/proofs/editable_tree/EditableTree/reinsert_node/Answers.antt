@@ -1,23 +1,10 @@
-use Rattle.std.proofs.Common.{◌≡◌, vec_len, suc, ap, sym, ◌∙◌}
+use Rattle.std.proofs.Common.{◌≡◌, vec_len, ap, sym, ◌∙◌}
 use Rattle.std.specs.List.{flat_map}
 use Rattle.rtree_core.specs.Items.{entry_alone}
 use Rattle.rtree_core.specs.Nodes.{entries_of, size_of}
-use Rattle.rtree_core.proofs.NodeLemmas.{lawful_is, lawful_level}
-use Rattle.rtree_core.proofs.ItemLemmas.{as_leaf, as_leaf_level, leaf_entries, leaf_size, each_alone, open_inner, as_inner, as_inner_level, as_inner_lawful}
-use Rattle.rtree_core.proofs.ItemLemmas.{inner_entries, inner_size, inner_fits}
+use Rattle.rtree_core.proofs.ItemLemmas.{as_leaf, leaf_entries, leaf_size, each_alone, as_inner}
+use Rattle.rtree_core.proofs.ItemLemmas.{inner_entries, inner_size}
 use Rattle.rtree_core.proofs.editable_tree.EditableTree.reinsert_node.Goals as goal
-
-pub insert_all-requires-clause-fit : goal.insert_all-requires-clause-fit
-insert_all-requires-clause-fit c = λ k d lt. sym (lawful_level c.args.level c.args.node c.requires.lawful) ∙ as_leaf_level c.args.node c.in-Entries.entries
-    c.in-Entries.is
-
-pub insert_all-requires-in-Children-clause-fit : goal.insert_all-requires-in-Children-clause-fit
-insert_all-requires-in-Children-clause-fit c =
-    let v = c.in-Children.children in
-    let o = open_inner c.args.node.cover v (as_inner_lawful c.args.node v c.in-Children.is (lawful_is c.args.level c.args.node c.requires.lawful)) in
-    let level : c.args.level ≡ suc o.level = sym (lawful_level c.args.level c.args.node c.requires.lawful) ∙ as_inner_level c.args.node v c.in-Children.is ∙
-    o.level_is in
-    rw (level, c.in-Children.children-is) (inner_fits c.args.node.cover v o)
 
 pub returns-in-Entries : goal.returns-in-Entries
 returns-in-Entries c =

@@ -1,14 +1,8 @@
 use Rattle.std.proofs.Common.{arith, ◌∷◌}
 use Rattle.split_core.specs.Collections.{Gains}
 use Rattle.rtree_core.specs.Trees.{entries_in}
-use Rattle.rtree_core.proofs.TreeLemmas.{tree_length, tree_height, tree_gains, same_length}
+use Rattle.rtree_core.proofs.TreeLemmas.{tree_gains, same_length}
 use Rattle.rtree_core.proofs.tree.RTree.insert.Goals as goal
-
-pub reserve_lists-requires-clause-small : goal.reserve_lists-requires-clause-small
-reserve_lists-requires-clause-small c = omega (arith, tree_height c.self.inside.tree.root c.self.invariant.tree, c.self.invariant.sound.height_is)
-
-pub overflow_add-self : goal.overflow_add-self
-overflow_add-self c = omega (arith, tree_length c.self.inside.tree.root c.self.invariant.tree, c.self.invariant.len)
 
 pub invariant_of-self-2 : goal.invariant_of-self-2
 invariant_of-self-2 c =
