@@ -119,12 +119,20 @@ const JOINS: [(&str, Option<&str>, (u32, u32, u32), u32); 7] = [
 ];
 
 /// Words that ask for help, and what is among it.
-const HELP: [(&str, &str); 26] = [
+const HELP: [(&str, &str); 32] = [
     ("rjoin|--help", "id,wkt"),
     ("rjoin|--help", "rjoin COMMAND --help tells more"),
+    (
+        "rjoin|--help",
+        "  0  what was asked for is written\n  1  a fault of input, output",
+    ),
+    ("rjoin|--help", "  2  the arguments are invalid"),
     ("rjoin|help", "Exit status"),
     ("rjoin|--version", "rjoin 0.2.0"),
-    ("rjoin|relate|--help", "interior, boundary and exterior"),
+    (
+        "rjoin|relate|--help",
+        "exterior of A,\neach with interior, boundary and exterior of B.",
+    ),
     (
         "rjoin|relate|--help",
         "The nine letters are those of DE-9IM",
@@ -155,6 +163,14 @@ const HELP: [(&str, &str); 26] = [
         "rjoin|join|--help",
         "  equals      they are the same set of points\n  disjoint    they share no point",
     ),
+    (
+        "rjoin|join|--help",
+        "T asks for\n0, 1 or 2, and F, 0, 1 and 2 for that letter, and * takes any.",
+    ),
+    (
+        "rjoin|join|--help",
+        "exterior of the left one, each with interior,\nboundary and exterior of the right one.",
+    ),
     ("rjoin|join|--help", "1 to 16 [default: 4]"),
     ("rjoin|help|join", "0 to 6 [default: 0]"),
     ("rjoin|draw|--help", "Writes a picture of two layers"),
@@ -166,8 +182,19 @@ const HELP: [(&str, &str); 26] = [
     ("rjoin|help|draw", "100000 features"),
     ("rjoin|window|--help", "Exit status"),
     ("rjoin|window|--help", "A feature meets the window"),
+    (
+        "rjoin|window|--help",
+        "id, and the ids in the\norder of the file",
+    ),
     ("rjoin|stats|--help", "Exit status"),
-    ("rjoin|stats|--help", "The answer has five lines"),
+    (
+        "rjoin|stats|--help",
+        "five lines: features, points, segments, rectangles and height",
+    ),
+    (
+        "rjoin|bounds|--help",
+        "id,x1,y1,x2,y2, and for each feature, in the order of the file",
+    ),
     ("rjoin|bounds|--help", "12.5 is written as 1250"),
     ("rjoin|help|bounds", "0 to 6 [default: 0]"),
 ];
