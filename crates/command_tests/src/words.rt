@@ -119,7 +119,7 @@ const JOINS: [(&str, Option<&str>, (u32, u32, u32), u32); 7] = [
 ];
 
 /// Words that ask for help, and what is among it.
-const HELP: [(&str, &str); 32] = [
+const HELP: [(&str, &str); 41] = [
     ("rjoin|--help", "id,wkt"),
     ("rjoin|--help", "rjoin COMMAND --help tells more"),
     (
@@ -137,7 +137,35 @@ const HELP: [(&str, &str); 32] = [
         "rjoin|relate|--help",
         "The nine letters are those of DE-9IM",
     ),
+    (
+        "rjoin|relate|--help",
+        "F says that the two share nothing, and 0, 1 or 2\nthat they share points, lines or areas.",
+    ),
+    (
+        "rjoin|relate|--help",
+        "<A>  First geometry, as well-known text\n  <B>  Second geometry, as well-known text",
+    ),
+    (
+        "rjoin|relate|--help",
+        "Exit status: 0 for success, 1 for a text at fault",
+    ),
     ("rjoin|join|--help", "op,layer,id,wkt"),
+    (
+        "rjoin|join|--help",
+        "<LEFT>   CSV file of the left layer\n  <RIGHT>  CSV file of the right layer",
+    ),
+    (
+        "rjoin|join|--help",
+        "CSV file of edits, which are made before the join",
+    ),
+    (
+        "rjoin|join|--help",
+        "standard input, for at most one of the files",
+    ),
+    (
+        "rjoin|join|--help",
+        "Exit status: 0 for success, 1 for a fault of a file",
+    ),
     (
         "rjoin|join|--help",
         "Writes the pairs of features of two layers",
@@ -148,7 +176,7 @@ const HELP: [(&str, &str); 32] = [
     ),
     (
         "rjoin|join|--help",
-        "  crosses     of two dimensions: their interiors share a point",
+        "share a point, and the one of the lower dimension\n              lies outside the other too; two segments: their interiors share a single point\n",
     ),
     (
         "rjoin|join|--help",
@@ -158,7 +186,10 @@ const HELP: [(&str, &str); 32] = [
         "rjoin|join|--help",
         "  contains    the right one lies in the left one",
     ),
-    ("rjoin|join|--help", "  overlaps    of one dimension"),
+    (
+        "rjoin|join|--help",
+        "of one dimension, which what the interiors share has too: each lies outside the\n              other too\n",
+    ),
     (
         "rjoin|join|--help",
         "  equals      they are the same set of points\n  disjoint    they share no point",
@@ -179,14 +210,27 @@ const HELP: [(&str, &str); 32] = [
         "rjoin|draw|--help",
         "left features in blue and\nright ones in orange",
     ),
-    ("rjoin|help|draw", "100000 features"),
-    ("rjoin|window|--help", "Exit status"),
-    ("rjoin|window|--help", "A feature meets the window"),
+    ("rjoin|draw|--help", "the second axis upwards"),
+    (
+        "rjoin|help|draw",
+        "Exit status: 0 for success, 1 for a fault of a file",
+    ),
+    (
+        "rjoin|window|--help",
+        "Exit status: 0 for success, 1 for a fault of the file",
+    ),
+    (
+        "rjoin|window|--help",
+        "A feature meets the window where they share a point.",
+    ),
     (
         "rjoin|window|--help",
         "id, and the ids in the\norder of the file",
     ),
-    ("rjoin|stats|--help", "Exit status"),
+    (
+        "rjoin|stats|--help",
+        "Exit status: 0 for success, 1 for a fault of the file",
+    ),
     (
         "rjoin|stats|--help",
         "five lines: features, points, segments, rectangles and height",
@@ -194,6 +238,10 @@ const HELP: [(&str, &str); 32] = [
     (
         "rjoin|bounds|--help",
         "id,x1,y1,x2,y2, and for each feature, in the order of the file",
+    ),
+    (
+        "rjoin|bounds|--help",
+        "its id and its\nleast and greatest coordinates",
     ),
     ("rjoin|bounds|--help", "12.5 is written as 1250"),
     ("rjoin|help|bounds", "0 to 6 [default: 0]"),
@@ -294,14 +342,24 @@ fn help_and_version(rt: HostRuntime) -> Result<(), Fail> {
 #[test]
 fn help_tells_the_limits(rt: HostRuntime) -> Result<(), Fail> {
     let alloc = rt.alloc();
-    let workers = format!(in alloc; "1 to {MAX_WORKERS} [default: {DEFAULT_WORKERS}]")?;
-    let batch = format!(in alloc; "1 to {MAX_BATCH} [default: 256]")?;
-    let cut = format!(in alloc; "0 to {MAX_CUT} [default: 2]")?;
+    let workers = format!(in alloc;
+        "Threads that join, 1 to {MAX_WORKERS} [default: {DEFAULT_WORKERS}]"
+    )?;
+    let batch = format!(in alloc; "Pairs a batch, 1 to {MAX_BATCH} [default: 256]")?;
+    let cut = format!(in alloc; "into tasks, 0 to {MAX_CUT} [default: 2]")?;
     let drawn = format!(in alloc; "more than {MAX_DRAWN} features")?;
     assert!(rt; helps(alloc, "rjoin|join|--help", workers.as_str())?);
     assert!(rt; helps(alloc, "rjoin|join|--help", batch.as_str())?);
     assert!(rt; helps(alloc, "rjoin|join|--help", cut.as_str())?);
     assert!(rt; helps(alloc, "rjoin|draw|--help", drawn.as_str())?);
+    Ok(())
+}
+
+#[test]
+fn help_tells_the_farthest_coordinate(rt: HostRuntime) -> Result<(), Fail> {
+    let limit = geom_core::LIMIT;
+    let text = format!(in rt.alloc(); "absolute value is at most {limit}.")?;
+    assert!(rt; helps(rt.alloc(), "rjoin|--help", text.as_str())?);
     Ok(())
 }
 
