@@ -18,7 +18,7 @@ impl Span {
 
     /// Whether each begins before the other ends.
     #[inline(always)]
-    fn crosses(&self, other: &Span) -> bool
+    fn interleaves(&self, other: &Span) -> bool
         ensures { IsTrue result
             ↔ ((self.now.lo <ℤ other.now.hi) × (other.now.lo <ℤ self.now.hi)) }
     {
@@ -40,7 +40,7 @@ impl Span {
     fn inner_meets(&self, other: &Span) -> bool
         ensures { IsTrue result ↔ ((u : ℤ) × IsInner self.now u × IsInner other.now u) }
     {
-        self.crosses(other) || self.is_same(other)
+        self.interleaves(other) || self.is_same(other)
     }
 }
 
