@@ -1,5 +1,5 @@
 -- Headings: how one point lies from another, and which three points lie straight.
-use Rattle.std.proofs.Common.{◌≡◌, ◌≢◌, Bool, true, false, ◌&&◌, ◌||◌, ◌⊎◌, inl, inr, refl, sym, ◌∙◌, ap, subst, ⊎_elim, arith, ℤ}
+use Rattle.std.proofs.Common.{◌≡◌, ◌≢◌, Bool, true, false, ◌&&◌, ◌||◌, ◌⊎◌, inl, inr, refl, ◌∙◌, ap, subst, ⊎_elim, arith, ℤ}
 use Rattle.std.specs.Prelude.{◌<ℤ◌, int_lt}
 use Rattle.std.specs.Ordering.{int_eq}
 use Rattle.std.proofs.lemmas.Bool.{false≢true}
@@ -7,7 +7,7 @@ use Rattle.std.proofs.lemmas.Bool.Decides.{Decides-int_eq}
 use Rattle.std.proofs.lemmas.Int.{ints, by_lt_z}
 use Rattle.wkt_core.specs.declared.position.Position.{Position}
 use Rattle.wkt_core.specs.Drawing.{Heading, East, North, West, South, Heads, is_same}
-use Rattle.wkt_core.specs.Walks.{is_inside, is_vertical, is_horizontal, is_straight}
+use Rattle.wkt_core.specs.Walks.{is_inside, is_straight}
 
 pub same_position : (p q : Position) → p.x ≡ q.x → p.y ≡ q.y → p ≡ q
 same_position p q e f = λ i. record { x = e i; y = f i }

@@ -1,4 +1,3 @@
-use Rattle.std.proofs.Common.{◌-◌}
 use Rattle.rtree_core.proofs.editable_tree.EditableTree.remove.Goals as goal
 
 pub returns-clause-held : goal.returns-clause-held
