@@ -1,8 +1,8 @@
 //! The words of the command line.
 
 use command_core::{Command, JoinRequest, WordFault, read_words, word_line, word_status};
-use relation_core::{JoinRelation, Relation};
 use join_core::{DEFAULT_WORKERS, MAX_BATCH, MAX_CUT, MAX_DRAWN, MAX_WORKERS, Options, ToWrite};
+use relation_core::{JoinRelation, Relation};
 use std::alloc::Global;
 use std::test::Fail;
 use wkt_core::Scale;

@@ -1,7 +1,7 @@
 //! The matrix of two shapes on worked examples, and the relations that hold for it.
 
-use relation_core::Relation::{Contains, Crosses, Equals, Intersects, Overlaps, Touches, Within};
 use geom_core::Shape;
+use relation_core::Relation::{Contains, Crosses, Equals, Intersects, Overlaps, Touches, Within};
 use relation_core::{Relation, relate};
 use std::process::Abort;
 use std::test::Fail;

@@ -1,9 +1,9 @@
 //! Joins of mixed, clustered and coincident features, packed and edited, beside a nested loop.
 
 use crate::layers::edited;
-use relation_core::{JoinRelation, Relation};
 use join_core::{OpenGate, Options, join};
 use layer_core::{FeatureRef, Layer};
+use relation_core::{JoinRelation, Relation};
 use std::alloc::{AllocError, Global};
 use std::random::RandomSource;
 use std::sync::Wait;

@@ -2,9 +2,9 @@
 
 use crate::layers::{layer_of, points, read_text};
 use deliver_core::Mark;
-use relation_core::{JoinRelation, Relation};
 use join_core::{Gate, JoinFault, OpenGate, Options, Outcome, join};
 use layer_core::Layer;
+use relation_core::{JoinRelation, Relation};
 use std::random::RandomSource;
 use std::sync::Wait;
 use std::sync::atomic::{AtomicU32, Ordering};

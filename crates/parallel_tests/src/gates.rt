@@ -2,8 +2,8 @@
 
 use crate::teams::{are_twenty, sees};
 use descent_core::Plan;
-use relation_core::{JoinRelation, Relation};
 use parallel_core::{Gate, MAX_WORKERS, Rows, run_workers};
+use relation_core::{JoinRelation, Relation};
 use rtree_core::RTree;
 use std::alloc::{AllocError, Global};
 use std::sync::Wait;

@@ -2,8 +2,8 @@
 
 use deliver_core::{Mark, Outcome};
 use descent_core::Plan;
-use relation_core::{JoinRelation, Relation};
 use parallel_core::{Gate, MAX_BATCH, MAX_WORKERS, OpenGate, run_workers};
+use relation_core::{JoinRelation, Relation};
 use rtree_core::RTree;
 use std::alloc::Global;
 use std::sync::Wait;

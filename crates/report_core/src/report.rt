@@ -10,8 +10,8 @@ ghost use Rattle.report_core.specs.Reports.{IsHeld, IsReport};
 ghost use Rattle.report_core.specs.Written.{joined};
 
 use crate::columns::Columns;
-use relation_core::Letters;
 use layer_core::Layer;
+use relation_core::Letters;
 use std::alloc::{AllocError, Global};
 use std::thread;
 use std::thread::Threads;

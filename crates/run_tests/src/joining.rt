@@ -3,9 +3,9 @@
 use crate::example::{EDITED, LEFT, REPORT, RIGHT};
 use crate::running::{Files, at_once, edited_example, ends, example, join};
 use file_core::ReadFault;
-use relation_core::Relation;
 use join_core::{Input, Options, RunFault};
 use layer_core::LayerFault;
+use relation_core::Relation;
 use std::random::RandomSource;
 use std::sync::Wait;
 use std::thread::Threads;

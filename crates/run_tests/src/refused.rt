@@ -3,9 +3,9 @@
 use crate::example::EDITED;
 use crate::running::{edited_example, join};
 use file_core::ReadFault;
-use relation_core::Relation;
 use join_core::{JoinFault, Options, RunFault};
 use layer_core::LayerFault;
+use relation_core::Relation;
 use std::random::RandomSource;
 use std::sync::Wait;
 use std::thread::Threads;

@@ -5,8 +5,8 @@ ghost use Rattle.report_core.specs.ToWrite.{failed_of};
 
 use crate::example::{EDITS, LEFT, RIGHT};
 use file_core::FromRead;
-use relation_core::{JoinRelation, Relation};
 use join_core::{JoinSources, OpenGate, Options, RunFault, ToWrite, run_join};
+use relation_core::{JoinRelation, Relation};
 use std::hash::RandomState;
 use std::io;
 use std::io::{ErrorKind, Read, Write};

@@ -2,8 +2,8 @@
 //! joins of the same two layers write the same bytes.
 
 use crate::running::{Files, at_once, join};
-use relation_core::Relation;
 use join_core::Options;
+use relation_core::Relation;
 use std::random::RandomSource;
 use std::sync::Wait;
 use std::thread::Threads;

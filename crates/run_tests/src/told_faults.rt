@@ -2,8 +2,8 @@
 
 use crate::example::{LEFT, RIGHT};
 use crate::running::{Files, at_once, join};
-use relation_core::Relation;
 use join_core::{Options, ToWrite, fault_line};
+use relation_core::Relation;
 use std::alloc::AllocError;
 use std::random::RandomSource;
 use std::sync::Wait;

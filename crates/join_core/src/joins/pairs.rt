@@ -9,9 +9,9 @@ ghost use Rattle.join_core.specs.Joins.{IsJoinList, HasMarks, RowsAreJoinList};
 
 use deliver_core::{Options, Outcome};
 use descent_core::Plan;
-use relation_core::JoinRelation;
 use layer_core::Layer;
 use parallel_core::{Gate, JoinFault, run_workers};
+use relation_core::JoinRelation;
 use std::alloc::{AllocError, Global};
 use std::sync::Wait;
 use std::thread::Threads;
