@@ -6,6 +6,8 @@ mod commands;
 #[cfg(test)]
 mod faults;
 #[cfg(test)]
+mod help;
+#[cfg(test)]
 mod runs;
 #[cfg(test)]
 mod shelf;

@@ -12,17 +12,18 @@ use Rattle.wkt_core.specs.ReadLists.{AreReadOf, are_in_range}
 use Rattle.wkt_core.specs.Readings.{Reads}
 use Rattle.wkt_core.specs.Spelling.{Forms, positions}
 
+-- each number is whole at the scale, and in range
 abbrev pub HasGoodNumbers : RawText → Type 0
 HasGoodNumbers raw = IsTrue raw.lists.whole × IsTrue raw.lists.in_range
 
--- of lists that this may be read of, with their numbers in range, the points draw the shape
+-- whatever lists were read so, with numbers in range, their points draw the shape
 abbrev pub Draws : RawText → Shape → Type 0
 Draws raw s = (scale : Scale) (text : List ℕ) (lists : List (List RawPoint))
     → TakesText text raw.keyword lists → AreReadOf scale raw.lists lists
     → IsTrue (list_all (are_in_range scale) lists)
     → Forms raw.keyword (positions scale lists) s
 
--- or none
+-- and here they draw no shape
 abbrev pub DrawsNone : RawText → Type 0
 DrawsNone raw = (scale : Scale) (text : List ℕ) (lists : List (List RawPoint)) (s : Shape)
     → TakesText text raw.keyword lists → AreReadOf scale raw.lists lists
