@@ -8,3 +8,4 @@ pub mod RemovalLemmas
 pub mod TakeLemmas
 pub mod PackingLemmas
 pub mod PackLemmas
+pub mod Rules

@@ -33,7 +33,7 @@ impl EditableTree {
     }
 
     /// Inserts again what a node of a level holds.
-    #[tactic(auto, using(crate::proofs::NodeLemmas::lawful_is, crate::proofs::NodeLemmas::lawful_level, crate::proofs::ItemLemmas::as_leaf_level, crate::proofs::ItemLemmas::open_inner, crate::proofs::ItemLemmas::as_inner_level, crate::proofs::ItemLemmas::as_inner_lawful, crate::proofs::ItemLemmas::inner_fits))]
+    #[tactic(auto, using(crate::proofs::Rules::reinsert_node))]
     fn reinsert_node(&mut self, node: Node, level: u32)
         requires sound { IsSound self.old }
         requires lawful { IsLawfulAt level node }
@@ -48,7 +48,7 @@ impl EditableTree {
     }
 
     /// Inserts items in turn, each into a node of a level, which the tree has.
-    #[tactic(auto, using(crate::proofs::EditableTreeLemmas::can_take_less, crate::proofs::EditableTreeLemmas::took_none))]
+    #[tactic(auto, using(crate::proofs::Rules::insert_all))]
     fn insert_all<T: Insertable>(&mut self, items: Vec<T>, level: u32)
         requires sound { IsSound self.old }
         requires fit { All (T.fits level) items.items }

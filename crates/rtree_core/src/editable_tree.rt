@@ -82,7 +82,7 @@ impl EditableTree {
     }
 
     /// Inserts an item into a node of a level, which the tree has.
-    #[tactic(auto, using(crate::proofs::NodeLemmas::lawful_level, crate::proofs::NodeLemmas::lawful_is))]
+    #[tactic(auto, using(crate::proofs::Rules::insert))]
     pub(crate) fn insert<T: Insertable>(&mut self, item: T, level: u32)
         requires sound { IsSound self.old }
         requires can_take { CanTake 1 self.old }

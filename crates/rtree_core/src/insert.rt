@@ -56,7 +56,7 @@ impl Insertable for Node {
 }
 
 /// Puts an entry at the end of a leaf's list, and gives the leaf's second half where it was split.
-#[tactic(auto, using(crate::proofs::ItemLemmas::page_list, crate::proofs::InsertionLemmas::leaf_added))]
+#[tactic(auto, using(crate::proofs::Rules::add_entry))]
 fn add_entry(
     cover: &mut Shape,
     entries: &mut Vec<Entry>,
@@ -74,7 +74,7 @@ fn add_entry(
 
 /// Puts a node at the end of its parent's list, and gives the parent's second half where it was
 /// split.
-#[tactic(auto, using(crate::proofs::ItemLemmas::page_list, crate::proofs::ItemLemmas::open_inner, crate::proofs::InsertionLemmas::child_added))]
+#[tactic(auto, using(crate::proofs::Rules::add_child))]
 fn add_child(
     cover: &mut Shape,
     children: &mut Vec<Node>,

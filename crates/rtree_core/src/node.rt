@@ -44,7 +44,7 @@ impl Node {
     ghost use Rattle.split_core.specs.Covers.{IsLeastCover};
 
     /// Whether it holds entries and no children: it is on level 0.
-    #[tactic(auto, using(crate::proofs::NodeLemmas::level_leaf, crate::proofs::NodeLemmas::level_inner, crate::proofs::NodeLemmas::holds_entries, crate::proofs::NodeLemmas::holds_children))]
+    #[tactic(auto, using(crate::proofs::Rules::is_leaf))]
     pub fn is_leaf(&self) -> bool
         ensures leaf { IsTrue result ↔ IsLeaf self.now }
         ensures level { IsTrue result ↔ (level_of self.now ≡ 0) }
@@ -65,7 +65,7 @@ impl Node {
     }
 
     /// The children of an inner node, of which there is at least one.
-    #[tactic(auto, using(crate::proofs::NodeLemmas::given_entries, crate::proofs::NodeLemmas::given_children))]
+    #[tactic(auto, using(crate::proofs::Rules::children))]
     pub fn children(&self) -> &[Node]
         requires { IsLeaf self.now → ⊥ }
         ensures children { result.now ≡ children_of self.now }

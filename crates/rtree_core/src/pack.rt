@@ -143,7 +143,7 @@ fn next_page<T: Packable>(
 }
 
 /// The nodes of a level, given what they hold, in the order of their pages.
-#[tactic(auto, using(crate::proofs::PackingLemmas::pages_none, crate::proofs::PackingLemmas::pages_all, crate::proofs::PackLemmas::share_within, crate::proofs::PackLemmas::cut_none, crate::proofs::PackLemmas::cut_in_range))]
+#[tactic(auto, using(crate::proofs::Rules::nodes_of))]
 fn nodes_of<T: Packable>(alloc: Global, items: Vec<T>) -> Result<Vec<Placed>, AllocError>
     ensures nodes { let held = map T.held items.items in
         let AreNodes = AreNodesOf T.Held.entries T.Held.fits T.Held.fits_packed held in

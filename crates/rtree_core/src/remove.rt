@@ -22,7 +22,7 @@ impl EditableTree {
     ghost use Rattle.rtree_core.specs.EditableTrees.{IsRooted, CanRemove};
 
     /// Takes an entry out, and says whether it was there.
-    #[tactic(auto, using(crate::proofs::NodeLemmas::lawful_level, crate::proofs::NodeLemmas::lawful_is, crate::proofs::EditableTreeLemmas::can_take_less, crate::proofs::EditableTreeLemmas::lone_root, crate::proofs::EditableTreeLemmas::emptied_rooted, crate::proofs::EditableTreeLemmas::lost_last, crate::proofs::EditableTreeLemmas::lost_but_back))]
+    #[tactic(auto, using(crate::proofs::Rules::remove))]
     pub(crate) fn remove(&mut self, entry: &Entry, aside: &mut Vec<Node>) -> bool
         requires { CanRemove self.old aside.old }
         ensures rooted { IsRooted self.new }

@@ -157,7 +157,7 @@ impl RTree {
     /// Inserts an entry, whose number the tree doesn't hold.
     ///
     /// An `Err` leaves the tree as it was.
-    #[tactic(auto, using(crate::proofs::TreeLemmas::tree_length, crate::proofs::TreeLemmas::tree_height))]
+    #[tactic(auto, using(crate::proofs::Rules::insert_tree))]
     pub fn insert(&mut self, entry: Entry) -> Result<(), AllocError>
         requires { IsFresh entry.number self.old }
         ensures ok { OnOk result (Gains entry (entries_in self.old) (entries_in self.new)) }
