@@ -1,15 +1,11 @@
 -- The lemmas by which the search proves a function, where it takes several.
-use Rattle.rtree_core.proofs.EditableTreeLemmas.{can_take_less, took_none, lone_root, emptied_rooted, lost_last, lost_but_back}
+use Rattle.rtree_core.proofs.EditableTreeLemmas.{can_take_less, lone_root, emptied_rooted, lost_last, lost_but_back}
 use Rattle.rtree_core.proofs.InsertionLemmas.{leaf_added, child_added}
 use Rattle.rtree_core.proofs.ItemLemmas.{as_leaf_level, open_inner, as_inner_level, as_inner_lawful, inner_fits, page_list, leaf_list, leaf_packed, inner_children, inner_packed}
 use Rattle.rtree_core.proofs.NodeLemmas.{lawful_is, lawful_level, level_leaf, level_inner, holds_entries, holds_children, given_entries, given_children}
-use Rattle.rtree_core.proofs.PackLemmas.{share_within, cut_none, cut_in_range}
-use Rattle.rtree_core.proofs.PackingLemmas.{pages_none, pages_all}
 use Rattle.rtree_core.proofs.TreeLemmas.{tree_length, tree_height}
 
 pub ruleset reinsert_node = (lawful_is, lawful_level, as_leaf_level, open_inner, as_inner_level, as_inner_lawful, inner_fits)
-
-pub ruleset insert_all = (can_take_less, took_none)
 
 pub ruleset insert = (lawful_level, lawful_is)
 
@@ -24,8 +20,6 @@ pub ruleset inner_node_of = (inner_children, inner_packed)
 pub ruleset is_leaf = (level_leaf, level_inner, holds_entries, holds_children)
 
 pub ruleset children = (given_entries, given_children)
-
-pub ruleset nodes_of = (pages_none, pages_all, share_within, cut_none, cut_in_range)
 
 pub ruleset remove = (lawful_level, lawful_is, can_take_less, lone_root, emptied_rooted, lost_last, lost_but_back)
 

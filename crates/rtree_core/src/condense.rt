@@ -48,7 +48,6 @@ impl EditableTree {
     }
 
     /// Inserts items in turn, each into a node of a level, which the tree has.
-    #[tactic(auto, using(crate::proofs::Rules::insert_all))]
     fn insert_all<T: Insertable>(&mut self, items: Vec<T>, level: u32)
         requires sound { IsSound self.old }
         requires fit { All (T.fits level) items.items }

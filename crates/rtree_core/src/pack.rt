@@ -143,7 +143,6 @@ fn next_page<T: Packable>(
 }
 
 /// The nodes of a level, given what they hold, in the order of their pages.
-#[tactic(auto, using(crate::proofs::Rules::nodes_of))]
 fn nodes_of<T: Packable>(alloc: Global, items: Vec<T>) -> Result<Vec<Placed>, AllocError>
     ensures nodes { let held = map T.held items.items in
         let AreNodes = AreNodesOf T.Held.entries T.Held.fits T.Held.fits_packed held in
@@ -167,7 +166,6 @@ fn nodes_of<T: Packable>(alloc: Global, items: Vec<T>) -> Result<Vec<Placed>, Al
 }
 
 /// The nodes of the level above some nodes.
-#[tactic(auto, using(crate::proofs::PackLemmas::level_tiles))]
 fn level_above(alloc: Global, mut nodes: Vec<Placed>) -> Result<Vec<Placed>, AllocError>
     ensures nodes { let held = map (λ p. p.node) nodes.items in
         let AreNodes = AreNodesOf entries_of FitsInner FitsPacked held in

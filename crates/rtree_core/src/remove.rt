@@ -48,7 +48,6 @@ impl EditableTree {
     }
 
     /// Empties a tree whose one entry is this one.
-    #[tactic(auto, using(crate::proofs::RemovalLemmas::other_entry))]
     fn remove_last(&mut self, entry: &Entry) -> bool
         requires leaf { IsSomeAnd self.old.root (λ n. IsLawfulAt 0 n × (size_of n ≡ 1)) }
         ensures held { IsTrue result ↔ Contains (entries_in self.old.root) entry.now }

@@ -69,7 +69,6 @@ impl RTree {
     /// and Edgington 1997).
     ///
     /// Each node below the root has 4 to 8 entries or children. An `Err` drops the list.
-    #[tactic(auto, using(crate::proofs::PackLemmas::list_tiled))]
     pub fn pack(alloc: Global, mut entries: Vec<Entry>) -> Result<RTree, AllocError>
         requires distinct { (k : ℕ) → count_by (has_number k) entries.items ≤ 1 }
         ensures entries { IfOk result (λ t. HasSame entries.items (entries_in t)) }
@@ -83,7 +82,6 @@ impl RTree {
     /// Packs entries into the same tree as `pack` does, by at most so many threads.
     ///
     /// By 0 or 1 it starts no thread. An `Err` drops the list.
-    #[tactic(auto, using(crate::proofs::PackLemmas::list_tiled))]
     pub fn pack_by_threads<R: Threads + Sync>(
         alloc: Global,
         mut entries: Vec<Entry>,

@@ -1,12 +1,12 @@
-use Rattle.std.proofs.Common.{arith, ◌≡◌, ℕ, ◌-◌, ap, sym, map, length}
+use Rattle.std.proofs.Common.{arith, ◌≡◌, ℕ, ◌-◌, ap, sym, refl, map, length}
 use Rattle.std.proofs.lemmas.List.{length-map, map-append}
 use Rattle.std.specs.Vec.Iter.{into_iter_items}
 use Rattle.rtree_core.specs.declared.pack.Placed.{Placed}
 use Rattle.rtree_core.specs.declared.node.Node.{Node}
 use Rattle.rtree_core.specs.Packed.{IsShare}
 use Rattle.split_core.specs.Tiles.{items_before}
-use Rattle.rtree_core.proofs.PackingLemmas.{pages_more, enumerate_next}
-use Rattle.rtree_core.proofs.PackLemmas.{share_some, share_fits, cut_more, cut_all}
+use Rattle.rtree_core.proofs.PackingLemmas.{pages_none, pages_more, pages_all, enumerate_next}
+use Rattle.rtree_core.proofs.PackLemmas.{share_some, share_fits, share_within, cut_none, cut_more, cut_all, cut_in_range}
 use Rattle.rtree_core.proofs.pack.nodes_of.Goals as goal
 use Rattle.rtree_core.proofs.pack.nodes_of.Goals.{In_ok-nodes, After-page_size-size}
 
@@ -48,6 +48,16 @@ node_of-node-requires g c =
       room = c.in_ok-page.ensures.page.room;
     }
 
+pub loop-place-init : goal.loop-place-init
+loop-place-init g c = record {
+  cut =
+      rw c.in_ok-nodes.ensures.items
+      (cut_none _ _ _ _ _ _ (omega (arith, counted g c, c.div_ceil-pages.ensures)));
+  pages = rw c.in_ok-nodes.ensures.items (pages_none _ _ _);
+  places = rw c.in_ok-nodes.ensures.items refl;
+  room = c.in_ok-nodes.ensures.exact;
+}
+
 pub loop-place-preserved : goal.loop-place-preserved
 loop-place-preserved g c =
     let at = (goal.at.loop-place-preserved g c).After-page_size-size in
@@ -76,3 +86,23 @@ returns-clause-nodes g c =
     let all : c.loop-place.place ≡ c.div_ceil-pages.result = omega arith in
     let pages = rw (← counted g (goal.at.returns-clause-nodes g c).In_ok-nodes) at c.div_ceil-pages.ensures in
     rw c.into_iter-rest.ensures.rest at (cut_all _ _ _ _ _ c.div_ceil-pages.result _ _ pages (rw all at c.loop-place.invariant.cut))
+
+pub returns-clause-pages : goal.returns-clause-pages
+returns-clause-pages g c =
+    let all : c.loop-place.place ≡ c.div_ceil-pages.result = omega arith in
+    let pages = rw (← counted g (goal.at.returns-clause-pages g c).In_ok-nodes) at c.div_ceil-pages.ensures in
+    rw c.into_iter-rest.ensures.rest at (pages_all _ _ c.div_ceil-pages.result _ _ pages (rw all at c.loop-place.invariant.pages))
+
+pub returns-clause-in_range : goal.returns-clause-in_range
+returns-clause-in_range g c =
+    let all : c.loop-place.place ≡ c.div_ceil-pages.result = omega arith in
+    rw c.into_iter-rest.ensures.rest at (cut_in_range _ _ _ _ _ c.div_ceil-pages.result _ _ (rw all at c.loop-place.invariant.cut))
+
+pub next_page-requires-clause-enough : goal.next_page-requires-clause-enough
+next_page-requires-clause-enough g c =
+    omega (
+      arith,
+      share_within c.page_size-size.result c.len-in-loop-place.result (c.div_ceil-pages.result - c.loop-place.place)
+          (omega arith) c.page_size-size.ensures.share,
+      c.len-in-loop-place.ensures,
+    )
