@@ -1,10 +1,12 @@
 # Proves and builds the program: its crates side by side, each once those below it are built. `./rjoin` calls it.
-#     make [CORES=N]      with N processors, and one job for each 3 GiB of free memory at most
+#     make [CORES=N]      with N processors, and one crate for each 3 GiB of free memory at most
+# Two crates more than processors are proved at a time, so that none that many wait for waits for a place itself: what
+# can be put off gives way by its priority.
 # crates.txt is the one list of crates; tools/rules makes rules of it, and tools/prove proves one crate.
 PROGRAM := rjoin
 FREE := $(shell awk '/MemAvailable/ { print int($$2 / 3145728) + 1 }' /proc/meminfo)
 CORES := $(shell nproc)
-MAKEFLAGS += --no-print-directory -j$(shell echo $$(($(CORES) < $(FREE) ? $(CORES) : $(FREE))))
+MAKEFLAGS += --no-print-directory -j$(shell echo $$(($(CORES) + 2 < $(FREE) ? $(CORES) + 2 : $(FREE))))
 export BUILD_BEGAN := $(or $(BUILD_BEGAN),$(shell date +%s))
 
 # files and folders, since a file that goes changes its folder
