@@ -26,3 +26,7 @@ four_fields (x ∷ y ∷ []) a b c d n p q r s = absurd (omega arith)
 four_fields (x ∷ y ∷ z ∷ []) a b c d n p q r s = absurd (omega arith)
 four_fields (x ∷ y ∷ z ∷ w ∷ []) a b c d n p q r s = (λ i. same-some a x p i ∷ same-some b y q i ∷ same-some c z r i ∷ same-some d w s i ∷ [])
 four_fields (x ∷ y ∷ z ∷ w ∷ v ∷ vs) a b c d n p q r s = absurd (omega arith)
+
+pub ruleset of_two = (field_missing, two_fields)
+
+pub ruleset of_four = (field_missing, four_fields)

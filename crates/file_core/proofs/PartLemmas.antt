@@ -204,3 +204,7 @@ pub header_cut : (bytes : List ℕ) (r : Option (Bor (List ℕ))) → IfSome r (
     → IfSome r (λ rest. IsUnreadFile bytes (Text rest 0))
 header_cut bytes None h = h
 header_cut bytes (Some rest) h = header-unread bytes h.line rest h.whole h.few h.headed h.plain
+
+pub ruleset plain = (plain_empty, plain_first)
+
+pub ruleset one_whole = (if_some, parts_whole, length_records_from)

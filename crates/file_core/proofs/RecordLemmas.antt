@@ -223,3 +223,5 @@ refused_or_unread a b (kind.UnequalLengths pos expected len) flexible why = let 
 refused_or_unread a b (kind.Utf8 pos err) flexible why = let text = why.0 in cc
 refused_or_unread a b (kind.Serialize text) flexible why = absurd why
 refused_or_unread a b (kind.Deserialize pos err) flexible why = absurd why
+
+pub ruleset record_read = (refused_or_unread, row_read)

@@ -66,7 +66,7 @@ pub(crate) fn is_unended(row: &ByteRecord) -> bool
 }
 
 /// Whether a text doesn't begin as a byte order mark does.
-#[tactic(auto, using(crate::proofs::PartLemmas::plain_empty, crate::proofs::PartLemmas::plain_first))]
+#[tactic(auto, using(crate::proofs::PartLemmas::plain))]
 pub(crate) fn is_plain(text: &[u8]) -> bool
     ensures { IsTrue result → IsPlain text.now }
 {

@@ -9,7 +9,7 @@ use layer_core::{Side, is_id};
 use std::str::from_utf8;
 
 /// The fields of a record that has two.
-#[tactic(auto, using(crate::proofs::FieldLemmas::field_missing, crate::proofs::FieldLemmas::two_fields))]
+#[tactic(auto, using(crate::proofs::FieldLemmas::of_two))]
 pub(crate) fn two_fields(row: &ByteRecord) -> Option<(&[u8], &[u8])>
     ensures some { IfSome result (λ f. fields_of row.now ≡ f.0.now ∷ f.1.now ∷ []) }
     ensures none { IfNone result (length (fields_of row.now) ≢ 2) }
@@ -21,7 +21,7 @@ pub(crate) fn two_fields(row: &ByteRecord) -> Option<(&[u8], &[u8])>
 }
 
 /// The fields of a record that has four.
-#[tactic(auto, using(crate::proofs::FieldLemmas::field_missing, crate::proofs::FieldLemmas::four_fields))]
+#[tactic(auto, using(crate::proofs::FieldLemmas::of_four))]
 pub(crate) fn four_fields(row: &ByteRecord) -> Option<(&[u8], &[u8], &[u8], &[u8])>
     ensures some { IfSome result
         (λ f. fields_of row.now ≡ f.0.now ∷ f.1.now ∷ f.2.now ∷ f.3.now ∷ []) }

@@ -88,7 +88,7 @@ impl<R: Threads + Sync, P: ReadParts> ReadParts for Beside<'_, R, P> {
 }
 
 /// The rows of a text that begins and ends between two records, where this is seen.
-#[tactic(auto, using(crate::proofs::PartLemmas::if_some, crate::proofs::PartLemmas::parts_whole, crate::proofs::RecordLemmas::length_records_from))]
+#[tactic(auto, using(crate::proofs::PartLemmas::one_whole))]
 fn read_whole(alloc: Global, scale: Scale, text: &[u8]) -> Option<Parts>
     ensures { IfSome result (IsParts scale text.now) }
 {

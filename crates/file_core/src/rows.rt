@@ -118,7 +118,7 @@ fn records(alloc: Global, text: &[u8]) -> Reader<&[u8]>
 }
 
 /// Reads the next record and answers true, or false where there is none left.
-#[tactic(auto, using(crate::proofs::RecordLemmas::refused_or_unread, crate::proofs::RecordLemmas::row_read))]
+#[tactic(auto, using(crate::proofs::RecordLemmas::record_read))]
 fn next_record(reader: &mut Reader<&[u8]>, row: &mut ByteRecord) -> Result<bool, AllocError>
     requires { IsBetweenRecords reader.old }
     ensures { IfOk result (λ found. MatchBool found

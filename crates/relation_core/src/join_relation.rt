@@ -89,7 +89,8 @@ impl JoinRelation {
 
 ghost use Rattle.std.specs.Prelude.{◌≡◌, ℕ, ◌<◌, ◌↔◌, IsTrue};
 ghost use Rattle.relation_core.specs.Relations.{FitsOne};
-ghost use Rattle.relation_core.specs.DisjointShapes.{FitsDisjoint, boundary_extent, disjoint_matrix};
+ghost use Rattle.relation_core.specs.DisjointShapes.{FitsDisjoint, boundary_extent};
+ghost use Rattle.relation_core.specs.DisjointShapes.{disjoint_matrix};
 ghost use Rattle.relation_core.specs.DisjointShapes.{interior_extent};
 
 /// Whether one of the relation's masks fits the matrix of disjoint shapes of some dimensions.

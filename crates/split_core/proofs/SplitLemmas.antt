@@ -225,3 +225,5 @@ are_groups cover items one two nine s =
       two_enough = enough.1;
       all = omega (arith, dealt_lengths cover s.dealt);
     }
+
+pub ruleset step_taken = (step_to_one, step_to_two)
