@@ -1,7 +1,7 @@
 # Proves and builds the program: its crates side by side, each once those below it are built. `./rjoin` calls it.
 #     make [CORES=N]      with N processors, and one crate for each 3 GiB of free memory at most
-# Two crates more than processors are proved at a time, so that none that many wait for waits for a place itself: what
-# can be put off gives way by its priority.
+# Two crates more than processors are proved at a time, so that a crate that others wait for never waits for a slot: one
+# that can be put off gives way to it by its priority.
 # crates.txt is the one list of crates; tools/rules makes rules of it, and tools/prove proves one crate.
 PROGRAM := rjoin
 FREE := $(shell awk '/MemAvailable/ { print int($$2 / 3145728) + 1 }' /proc/meminfo)

@@ -15,8 +15,6 @@ LABEL = 130
 BAR = 15
 GAP = 14
 LETTER = 12
-# A run of so many seconds tells enough, and isn't repeated.
-LONG = 10
 Runs = dict[str, Run]
 
 
@@ -54,7 +52,7 @@ def page(options: Namespace, everyone: list[Program], rows: list[Row], wrong: li
 | System | {system()} |
 | Programs | {versions} |
 | Threads | {options.workers} |
-| Runs | the best of {options.times}, or one where it takes {LONG} s |
+| Runs | the best of {options.times}, or fewer from {options.enough:g} s on |
 
 Seconds from the two files to the written pairs by {options.workers} threads, and in brackets how many times as long as rjoin:
 

@@ -1,5 +1,6 @@
 //! What no clause of `geom_core` and `relation_core` says: worked examples, and plain scans over
-//! cells written apart from their code. A crate of its own, since a crate with tests is proved twice.
+//! cells written apart from their code. A crate of its own, since a crate with tests is proved
+//! twice.
 #![tactic(auto)]
 
 #[cfg(test)]
