@@ -104,25 +104,40 @@ fn see_join<R: Threads + Wait + Sync>(
     see_ways(rt, alloc, joined, wanted.as_slice())
 }
 
-/// Sees the same of two layers in either order, of which one is mostly packed and the other mostly
-/// edits. Both trees have at least four levels.
-fn see_relation<R: Threads + Wait + Sync + RandomSource + AllocGlobal>(
+/// Sees the same of two layers in either order.
+fn see_both_orders<'a, R: Threads + Wait + Sync>(
     rt: &R,
-    name: &[u8],
+    alloc: Global,
+    layers: &'a (Layer, Layer),
+    relation: &'a JoinRelation,
 ) -> Result<(), Fail> {
-    let mut random = Random::new(1);
-    let one = &edited(rt, &mut random, 700, 140)?;
-    let two = &edited(rt, &mut random, 500, 500)?;
-    let relation = &JoinRelation::new(Relation::read(name)?)?;
+    let (one, two) = layers;
     for (left, right) in [(one, two), (two, one)] {
         let joined = Joined {
             left,
             right,
             relation,
         };
-        see_join(rt, rt.alloc(), &joined)?;
+        see_join(rt, alloc, &joined)?;
     }
     Ok(())
+}
+
+/// A layer that is mostly packed, and one that is mostly edits. Both trees have at least four
+/// levels.
+fn layers<R: RandomSource + AllocGlobal>(rt: &R) -> Result<(Layer, Layer), Fail> {
+    let mut random = Random::new(1);
+    let packed = edited(rt, &mut random, 700, 140)?;
+    Ok((packed, edited(rt, &mut random, 500, 500)?))
+}
+
+/// Sees that a join of such layers by this relation has the pairs of the nested loop.
+fn see_relation<R: Threads + Wait + Sync + RandomSource + AllocGlobal>(
+    rt: &R,
+    name: &[u8],
+) -> Result<(), Fail> {
+    let relation = JoinRelation::new(Relation::read(name)?)?;
+    see_both_orders(rt, rt.alloc(), &layers(rt)?, &relation)
 }
 
 #[test]

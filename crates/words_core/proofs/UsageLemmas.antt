@@ -1,14 +1,17 @@
 -- How a command comes to its usage.
-use Rattle.std.proofs.Common.{◌≡◌, ◌∙◌, ◌++◌, ◌∷◌, ◌||◌, [], List, Bool, true, false, refl, ap, ap₂, append_assoc, Some, option_map, Result}
-use Rattle.std.specs.Prelude.{IfOk}
-use Rattle.std.proofs.lemmas.Result.{IfOk-weaker}
+use Rattle.std.proofs.Common.{◌≡◌, ◌∙◌, ◌++◌, ◌∷◌, ◌||◌, [], List, Bool, true, false, refl, ap, ap₂, append_assoc, Some, option_map, Result, Ok, Err}
+use Rattle.std.specs.Prelude.{IfOk, IsOkAnd}
+use Rattle.std.specs.declared.alloc.AllocError.{AllocError}
 use Rattle.clap.specs.Words.{AddsArg, AddsSubcommand, App, app_of, Rule, Shape, Text, with_rule, with_subcommand}
 use Rattle.clap.specs.Simple.{app_of_fields, new_shape}
 use Rattle.clap.specs.declared.builder.arg.Arg.{Arg}
 use Rattle.clap.specs.declared.builder.command.Command.{Command}
 use Rattle.clap.specs.declared.builder.command.Command.TheOpen.{Command-F}
 use Rattle.clap.specs.declared.builder.command.Command.TheViews.{out-Command as fields_of}
-use Rattle.words_core.specs.Usage.{AddsRules, HasRules, HasUsage, IsArgument, IsBegun, with_rules}
+use Rattle.words_core.specs.Usage.{AddsRules, AddsTo, HasRules, HasUsage, IsArgument, IsBegun, with_rules}
+
+abbrev Built : Type 0
+Built = Result Command AllocError
 
 or_false : (b : Bool) → (b || false) ≡ b
 or_false true = refl
@@ -58,8 +61,26 @@ adds_command usage shape old sub new has is added = record {
   local = added.globals ∙ ap₂ (λ a b. a || b) has.local is.local;
 }
 
--- two arguments are added
-pub adds_two : {E : Type 0} (one two : Rule) (old mid : Command) (first second : Arg) (r : Result Command E) → AddsArg old first mid → IsArgument one first
-    → IsArgument two second → IfOk r (λ new. AddsArg mid second new) → IfOk r (λ new. AddsRules old (one ∷ two ∷ []) new)
-adds_two one two old mid first second r added is_first is_second more =
-    IfOk-weaker r _ _ (λ new then. adds_then (one ∷ []) (two ∷ []) old mid new (adds_one one old mid first added is_first) (adds_one two mid new second then is_second)) more
+-- the same of what may not have been made for want of memory
+pub args_to : (rule : Rule) (arg : Arg) (given r : Built) → IfOk r (λ new. IsOkAnd given (λ old. AddsArg old arg new)) → IsArgument rule arg → AddsTo given (rule ∷ []) r
+args_to rule arg (Ok old) (Ok new) added is = adds_one rule old new arg added is
+args_to rule arg (Err e) (Ok new) added is = added
+args_to rule arg given (Err e) added is = added
+
+pub adds_to_then : (rules more : List Rule) (given mid r : Built) → AddsTo given rules mid → AddsTo mid more r → AddsTo given (rules ++ more) r
+adds_to_then rules more (Ok old) (Ok mid) (Ok new) first second = adds_then rules more old mid new first second
+adds_to_then rules more (Err e) (Ok mid) (Ok new) first second = first
+adds_to_then rules more given (Err e) (Ok new) first second = absurd second
+adds_to_then rules more given mid (Err e) first second = second
+
+pub has_rules_of : (name text : Text) (rules : List Rule) (begun : Command) (r : Built) → IsBegun (new_shape name) text begun → AddsTo (Ok begun) rules r
+    → IfOk r (HasRules name rules)
+has_rules_of name text rules begun (Ok new) is added = has_rules name text rules begun new is added
+has_rules_of name text rules begun (Err e) is added = added
+
+pub commands_to : (usage : App) (shape : Shape) (given sub r : Built) → IfOk given (HasUsage usage) → IfOk sub (HasUsage (record { top = shape; subs = [] }))
+    → IfOk r (λ new. IsOkAnd given (λ old. IsOkAnd sub (λ one. AddsSubcommand old one new))) → IfOk r (HasUsage (with_subcommand usage shape))
+commands_to usage shape (Ok old) (Ok sub) (Ok new) has is added = adds_command usage shape old sub new has is added
+commands_to usage shape (Ok old) (Err e) (Ok new) has is added = absurd added
+commands_to usage shape (Err e) sub (Ok new) has is added = absurd added
+commands_to usage shape given sub (Err e) has is added = added

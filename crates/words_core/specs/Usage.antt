@@ -1,5 +1,7 @@
 -- What `clap` is told of the words: the commands, and of each what its arguments may be.
 use Rattle.std.specs.Prelude.{◌≡◌, List, [], ◌∷◌, ◌++◌, Some, codes, true, false, pos, option_map}
+use Rattle.std.specs.Prelude.{IfOk, IsOkAnd, Result}
+use Rattle.std.specs.declared.alloc.AllocError.{AllocError}
 use Rattle.clap.specs.Words.{App, Rule, Shape, Text, app_of, new_rule, rule_of}
 use Rattle.clap.specs.declared.builder.command.Command.TheViews.{out-Command as fields_of}
 use Rattle.clap.specs.Simple.{new_shape, on_top}
@@ -128,6 +130,11 @@ with_rules app rules = on_top (λ shape. record shape { rules = shape.rules ++ r
 pub record AddsRules (old : Command) (rules : List Rule) (new : Command) : Type 0 where
   pub shape : app_of new ≡ with_rules (app_of old) rules
   pub globals : (fields_of new).has_globals ≡ (fields_of old).has_globals
+
+-- the same where memory may be out: a command comes out only where one went in
+abbrev pub AddsTo : Result Command AllocError → List Rule → Result Command AllocError → Type 0
+AddsTo given rules result =
+    IfOk result (λ new. IsOkAnd given (λ old. AddsRules old rules new))
 
 -- the command has this usage, and no argument for all of its subcommands
 pub record HasUsage (usage : App) (command : Command) : Type 0 where

@@ -1,8 +1,10 @@
 //! What the program tells of its words: commands, options and help.
 
-ghost use Rattle.std.specs.Prelude.{codes, IfOk};
+ghost use Rattle.std.specs.Prelude.{codes, IfOk, IsOkAnd};
 ghost use Rattle.clap.specs.Simple.{new_shape};
-ghost use Rattle.words_core.specs.Usage.{AddsRules, HasRules, HasUsage, IsArgument, IsBegun};
+ghost use Rattle.clap.specs.Words.{AddsArg, AddsSubcommand};
+ghost use Rattle.words_core.specs.Usage.{AddsTo, AddsRules, HasRules, HasUsage, IsArgument};
+ghost use Rattle.words_core.specs.Usage.{IsBegun};
 ghost use Rattle.words_core.specs.Usage.{bounds_about, draw_about, edit_rules, edits_rule};
 ghost use Rattle.words_core.specs.Usage.{join_about, join_rules, layer_only_rules, layer_rules};
 ghost use Rattle.words_core.specs.Usage.{numeric_rule};
@@ -14,6 +16,10 @@ ghost use Rattle.words_core.specs.Usage.{window_rules};
 
 use clap::{Arg, Command, value_parser};
 use std::alloc::{AllocError, Global};
+
+/// A command, or that there was no memory for it. It is handed on as it is: each place where a
+/// function may end with a command in hand takes long to prove.
+type Built<'a> = Result<Command<'a>, AllocError>;
 
 const PROGRAM_HELP: &str = "\
 Layers are CSV files with the header id,wkt and a feature a row:
@@ -130,13 +136,12 @@ invalid arguments";
 pub fn usage<'a>(alloc: Global) -> Result<Command<'a>, AllocError>
     ensures { IfOk result (HasUsage program_usage) }
 {
-    program_begun(alloc)
-        .subcommand(relate_usage(alloc)?)?
-        .subcommand(join_usage(alloc)?)?
-        .subcommand(draw_usage(alloc)?)?
-        .subcommand(window_usage(alloc)?)?
-        .subcommand(stats_usage(alloc)?)?
-        .subcommand(bounds_usage(alloc)?)
+    let relate = with_command(Ok(program_begun(alloc)), relate_usage(alloc));
+    let join = with_command(relate, join_usage(alloc));
+    let draw = with_command(join, draw_usage(alloc));
+    let window = with_command(draw, window_usage(alloc));
+    let stats = with_command(window, stats_usage(alloc));
+    with_command(stats, bounds_usage(alloc))
 }
 
 fn program_begun<'a>(alloc: Global) -> Command<'a>
@@ -152,13 +157,13 @@ fn program_begun<'a>(alloc: Global) -> Command<'a>
     .subcommand_required(true)
 }
 
-fn relate_usage<'a>(alloc: Global) -> Result<Command<'a>, AllocError>
+fn relate_usage<'a>(alloc: Global) -> Built<'a>
     ensures { IfOk result (HasRules (codes "relate") relate_rules) }
 {
-    relate_begun(alloc)
-        .arg(positional(alloc, "A", "First geometry, as well-known text"))?
-        .arg(positional(alloc, "B", "Second geometry, as well-known text"))?
-        .arg(scale(alloc))
+    let first = positional(alloc, "A", "First geometry, as well-known text");
+    let second = positional(alloc, "B", "Second geometry, as well-known text");
+    let both = with_arg(with_arg(Ok(relate_begun(alloc)), first), second);
+    with_arg(both, scale(alloc))
 }
 
 fn relate_begun<'a>(alloc: Global) -> Command<'a>
@@ -172,7 +177,7 @@ fn relate_begun<'a>(alloc: Global) -> Command<'a>
     )
 }
 
-fn join_usage<'a>(alloc: Global) -> Result<Command<'a>, AllocError>
+fn join_usage<'a>(alloc: Global) -> Built<'a>
     ensures { IfOk result (HasRules (codes "join") join_rules) }
 {
     with_join_arguments(alloc, join_begun(alloc))
@@ -189,7 +194,7 @@ fn join_begun<'a>(alloc: Global) -> Command<'a>
     )
 }
 
-fn draw_usage<'a>(alloc: Global) -> Result<Command<'a>, AllocError>
+fn draw_usage<'a>(alloc: Global) -> Built<'a>
     ensures { IfOk result (HasRules (codes "draw") join_rules) }
 {
     with_join_arguments(alloc, draw_begun(alloc))
@@ -207,43 +212,43 @@ fn draw_begun<'a>(alloc: Global) -> Command<'a>
 }
 
 /// The command with the arguments of a join.
-fn with_join_arguments<'a>(alloc: Global, command: Command<'a>) -> Result<Command<'a>, AllocError>
+fn with_join_arguments<'a>(alloc: Global, command: Command<'a>) -> Built<'a>
     ensures { IfOk result (AddsRules command.entry join_rules) }
 {
-    with_options(alloc, with_edits(alloc, with_layers(alloc, command)?)?)
+    with_options(alloc, with_edits(alloc, with_layers(alloc, Ok(command))))
 }
 
-fn with_layers<'a>(alloc: Global, command: Command<'a>) -> Result<Command<'a>, AllocError>
-    ensures { IfOk result (AddsRules command.entry layer_rules) }
+fn with_layers<'a>(alloc: Global, command: Built<'a>) -> Built<'a>
+    ensures { AddsTo command.entry layer_rules result }
 {
-    command
-        .arg(positional(alloc, "LEFT", "CSV file of the left layer"))?
-        .arg(positional(alloc, "RIGHT", "CSV file of the right layer"))
+    let left = positional(alloc, "LEFT", "CSV file of the left layer");
+    let right = positional(alloc, "RIGHT", "CSV file of the right layer");
+    with_arg(with_arg(command, left), right)
 }
 
-fn with_edits<'a>(alloc: Global, command: Command<'a>) -> Result<Command<'a>, AllocError>
-    ensures { IfOk result (AddsRules command.entry edit_rules) }
+fn with_edits<'a>(alloc: Global, command: Built<'a>) -> Built<'a>
+    ensures { AddsTo command.entry edit_rules result }
 {
-    command.arg(relation(alloc))?.arg(edits(alloc))
+    with_arg(with_arg(command, relation(alloc)), edits(alloc))
 }
 
-fn with_options<'a>(alloc: Global, command: Command<'a>) -> Result<Command<'a>, AllocError>
-    ensures { IfOk result (AddsRules command.entry option_rules) }
+fn with_options<'a>(alloc: Global, command: Built<'a>) -> Built<'a>
+    ensures { AddsTo command.entry option_rules result }
 {
-    command
-        .arg(numeric(alloc, "workers", "Threads that join, 1 to 16", "4"))?
-        .arg(numeric(alloc, "batch", "Pairs a batch, 1 to 4096", "256"))?
-        .arg(numeric(alloc, "cut", "Rounds of cutting into tasks, 0 to 8", "2"))?
-        .arg(scale(alloc))
+    let workers = numeric(alloc, "workers", "Threads that join, 1 to 16", "4");
+    let batch = numeric(alloc, "batch", "Pairs a batch, 1 to 4096", "256");
+    let cut = numeric(alloc, "cut", "Rounds of cutting into tasks, 0 to 8", "2");
+    let three = with_arg(with_arg(with_arg(command, workers), batch), cut);
+    with_arg(three, scale(alloc))
 }
 
-fn window_usage<'a>(alloc: Global) -> Result<Command<'a>, AllocError>
+fn window_usage<'a>(alloc: Global) -> Built<'a>
     ensures { IfOk result (HasRules (codes "window") window_rules) }
 {
-    window_begun(alloc)
-        .arg(positional(alloc, "LAYER", "CSV file of the layer"))?
-        .arg(positional(alloc, "WKT", "Geometry of the window, as well-known text"))?
-        .arg(scale(alloc))
+    let layer = positional(alloc, "LAYER", "CSV file of the layer");
+    let window = positional(alloc, "WKT", "Geometry of the window, as well-known text");
+    let both = with_arg(with_arg(Ok(window_begun(alloc)), layer), window);
+    with_arg(both, scale(alloc))
 }
 
 fn window_begun<'a>(alloc: Global) -> Command<'a>
@@ -257,12 +262,11 @@ fn window_begun<'a>(alloc: Global) -> Command<'a>
     )
 }
 
-fn stats_usage<'a>(alloc: Global) -> Result<Command<'a>, AllocError>
+fn stats_usage<'a>(alloc: Global) -> Built<'a>
     ensures { IfOk result (HasRules (codes "stats") layer_only_rules) }
 {
-    stats_begun(alloc)
-        .arg(positional(alloc, "LAYER", "CSV file of the layer"))?
-        .arg(scale(alloc))
+    let layer = positional(alloc, "LAYER", "CSV file of the layer");
+    with_arg(with_arg(Ok(stats_begun(alloc)), layer), scale(alloc))
 }
 
 fn stats_begun<'a>(alloc: Global) -> Command<'a>
@@ -276,12 +280,11 @@ fn stats_begun<'a>(alloc: Global) -> Command<'a>
     )
 }
 
-fn bounds_usage<'a>(alloc: Global) -> Result<Command<'a>, AllocError>
+fn bounds_usage<'a>(alloc: Global) -> Built<'a>
     ensures { IfOk result (HasRules (codes "bounds") layer_only_rules) }
 {
-    bounds_begun(alloc)
-        .arg(positional(alloc, "LAYER", "CSV file of the layer"))?
-        .arg(scale(alloc))
+    let layer = positional(alloc, "LAYER", "CSV file of the layer");
+    with_arg(with_arg(Ok(bounds_begun(alloc)), layer), scale(alloc))
 }
 
 fn bounds_begun<'a>(alloc: Global) -> Command<'a>
@@ -293,6 +296,21 @@ fn bounds_begun<'a>(alloc: Global) -> Command<'a>
         "Writes the corners of the features of a layer",
         BOUNDS_HELP,
     )
+}
+
+/// The command with one more subcommand.
+fn with_command<'a>(command: Built<'a>, subcommand: Built<'a>) -> Built<'a>
+    ensures { IfOk result (λ new. IsOkAnd command.entry (λ old.
+        IsOkAnd subcommand.entry (λ one. AddsSubcommand old one new))) }
+{
+    command?.subcommand(subcommand?)
+}
+
+/// The command with one more argument.
+fn with_arg<'a>(command: Built<'a>, arg: Arg<'a>) -> Built<'a>
+    ensures { IfOk result (λ new. IsOkAnd command.entry (λ old. AddsArg old arg.entry new)) }
+{
+    command?.arg(arg)
 }
 
 /// A command with no argument yet.

@@ -45,11 +45,10 @@ pub(crate) fn edited_layers<R: Threads + Sync, A: Source, B: Source, E: Source>(
     ensures io { TellsFailures A.has_failed B.has_failed E.has_failed sources.new result }
 {
     let (left, right) = (&mut sources.left, &mut sources.right);
-    let layers = read_layers(rt, alloc, states, scale, left, right, workers)?;
-    let (mut left_layer, mut right_layer) = layers;
+    let mut layers = read_layers(rt, alloc, states, scale, left, right, workers)?;
     let edit_list = read_edit_list(alloc, scale, &mut sources.edits)?;
-    apply_edits(edit_list.as_slice(), &mut left_layer, &mut right_layer)?;
-    Ok((left_layer, right_layer))
+    apply_edits(edit_list.as_slice(), &mut layers.0, &mut layers.1)?;
+    Ok(layers)
 }
 
 /// The edits, if there is a file of them.

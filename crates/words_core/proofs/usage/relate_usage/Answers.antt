@@ -1,6 +1,5 @@
-use Rattle.std.proofs.Common.{codes, [], ◌∷◌, rules}
-use Rattle.std.proofs.lemmas.Result.{IfOk-weaker}
-use Rattle.words_core.proofs.UsageLemmas.{adds_one, adds_then, has_rules}
+use Rattle.std.proofs.Common.{codes, [], ◌∷◌, rules, Ok}
+use Rattle.words_core.proofs.UsageLemmas.{args_to, adds_to_then, has_rules_of}
 use Rattle.words_core.specs.Usage.{positional_rule, relate_about, relate_rules, scale_rule}
 use Rattle.words_core.proofs.usage.relate_usage.Goals as goal
 
@@ -8,8 +7,8 @@ pub returns : goal.returns
 returns c =
     let first = positional_rule (codes "A") in
     let second = positional_rule (codes "B") in
-    let third = scale_rule in
-    IfOk-weaker c.arg-3.result _ _ (λ command added. has_rules (codes "relate") relate_about relate_rules _ _ (search rules)
-    (adds_then (first ∷ second ∷ []) (third ∷ []) _ _ _
-    (adds_then (first ∷ []) (second ∷ []) _ _ _
-    (adds_one _ _ _ _ c.in_ok-arg.ensures (search rules)) (adds_one _ _ _ _ c.in_ok-arg-2.ensures (search rules))) (adds_one _ _ _ _ added (search rules)))) c.arg-3.ensures
+    has_rules_of (codes "relate") relate_about relate_rules c.relate_begun.result _ (search rules)
+    (adds_to_then (first ∷ second ∷ []) (scale_rule ∷ []) (Ok c.relate_begun.result) _ _
+    (adds_to_then (first ∷ []) (second ∷ []) (Ok c.relate_begun.result) _ _
+    (args_to first _ (Ok c.relate_begun.result) _ c.with_arg.ensures (search rules)) (args_to second _ _ _ c.with_arg-both.ensures (search rules)))
+    (args_to scale_rule _ _ _ c.with_arg-2.ensures (search rules)))

@@ -1,15 +1,14 @@
-use Rattle.std.proofs.Common.{codes, [], ◌∷◌, rules}
-use Rattle.std.proofs.lemmas.Result.{IfOk-weaker}
-use Rattle.words_core.proofs.UsageLemmas.{adds_one, adds_then, has_rules}
-use Rattle.words_core.specs.Usage.{positional_rule, scale_rule, window_about, window_rules}
+use Rattle.std.proofs.Common.{codes, [], ◌∷◌, rules, Ok}
+use Rattle.words_core.proofs.UsageLemmas.{args_to, adds_to_then, has_rules_of}
+use Rattle.words_core.specs.Usage.{positional_rule, window_about, window_rules, scale_rule}
 use Rattle.words_core.proofs.usage.window_usage.Goals as goal
 
 pub returns : goal.returns
 returns c =
     let first = positional_rule (codes "LAYER") in
     let second = positional_rule (codes "WKT") in
-    let third = scale_rule in
-    IfOk-weaker c.arg-3.result _ _ (λ command added. has_rules (codes "window") window_about window_rules _ _ (search rules)
-    (adds_then (first ∷ second ∷ []) (third ∷ []) _ _ _
-    (adds_then (first ∷ []) (second ∷ []) _ _ _
-    (adds_one _ _ _ _ c.in_ok-arg.ensures (search rules)) (adds_one _ _ _ _ c.in_ok-arg-2.ensures (search rules))) (adds_one _ _ _ _ added (search rules)))) c.arg-3.ensures
+    has_rules_of (codes "window") window_about window_rules c.window_begun.result _ (search rules)
+    (adds_to_then (first ∷ second ∷ []) (scale_rule ∷ []) (Ok c.window_begun.result) _ _
+    (adds_to_then (first ∷ []) (second ∷ []) (Ok c.window_begun.result) _ _
+    (args_to first _ (Ok c.window_begun.result) _ c.with_arg.ensures (search rules)) (args_to second _ _ _ c.with_arg-both.ensures (search rules)))
+    (args_to scale_rule _ _ _ c.with_arg-2.ensures (search rules)))
