@@ -1,10 +1,13 @@
 //! CSV files of layers.
 
-ghost use Rattle.std.specs.Prelude.{◌≡◌, ◌≢◌, ◌≤◌, ◌↔◌, false, Err, IsErrOf, IsTrue, IfSome};
+ghost use Rattle.std.specs.Prelude.{◌≡◌, ◌≢◌, ◌≤◌, ◌↔◌, false, Ok, Err, All, IsErrOf, IsTrue};
+ghost use Rattle.std.specs.Prelude.{IfOk, IfErr, IfSome};
+ghost use Rattle.file_core.specs.Batches.{HasId, IsBatch, all_rows, with_rows};
 ghost use Rattle.file_core.specs.LayerFiles.{IsLayerFile, list_read};
+ghost use Rattle.file_core.specs.Unread.{IsUnread};
 ghost use Rattle.layer_core.specs.Limits.{most_features};
 
-use crate::batch::{InTurn, Order, SideBySide};
+use crate::batch::{Batch, InTurn, Order, SideBySide};
 use crate::insertion::add_parts;
 use crate::parts::{Beside, Whole};
 use crate::read_fault::ReadFault;
@@ -110,16 +113,62 @@ fn load<O: Order>(
     ensures no_io { result ≢ Err ReadFault.Io }
 {
     let unread = Unread::open(alloc, bytes)?;
-    let mut loading = Loading::new(alloc, state, likely_rows(bytes))?;
-    let (mut unread, mut batch) = order.read(alloc, scale, unread);
-    while let Ok(true) = batch.more {
-        let (added, next) = order.add_and_read(alloc, scale, loading, batch.rows, unread);
-        loading = added?;
-        (unread, batch) = next;
+    let loading = Loading::new(alloc, state, likely_rows(bytes))?;
+    let (unread, batch) = order.read(alloc, scale, unread);
+    let mut round = Round {
+        loading,
+        unread,
+        batch,
+    };
+    while let Ok(true) = round.batch.more {
+        round = next_round(alloc, scale, round, order)?;
     }
+    let Round {
+        mut loading,
+        batch,
+        ..
+    } = round;
     add_parts(&mut loading, batch.rows)?;
     batch.more?;
     Ok(loading)
+}
+
+/// How far a file is read: the features that were inserted, the batch behind them, and the rest.
+#[derive(Drop)]
+struct Round<'a> {
+    loading: Loading,
+    batch: Batch,
+    unread: Unread<'a>,
+}
+
+/// Inserts the features of a batch, and reads the next one.
+fn next_round<'a, O: Order>(
+    alloc: Global,
+    scale: Scale,
+    round: Round<'a>,
+    order: &O,
+) -> Result<Round<'a>, ReadFault>
+    requires ids { All HasId (all_rows round.batch.rows.items) }
+    requires reading { IsUnread round.unread }
+    ensures ok { IfOk result (λ next.
+        with_rows round.entry.loading (all_rows round.entry.batch.rows.items) ≡ Ok next.loading) }
+    ensures err { IfErr result (λ fault. fault ≢ ReadFault.Memory
+        → with_rows round.entry.loading (all_rows round.entry.batch.rows.items) ≡ Err fault) }
+    ensures no_io { result ≢ Err ReadFault.Io }
+    ensures read { IfOk result (λ next. IsBatch scale round.entry.unread
+        (all_rows next.batch.rows.items) next.batch.more next.unread) }
+{
+    let Round {
+        loading,
+        batch,
+        unread,
+    } = round;
+    let (added, (unread, batch)) = order.add_and_read(alloc, scale, loading, batch.rows, unread);
+    Ok(Round {
+        loading: added?,
+        batch,
+        unread,
+    })
 }
 
 /// How many rows a file is likely to have that a layer can take, judged by its first lines. A wrong

@@ -7,8 +7,8 @@ use Rattle.file_core.proofs.BatchLemmas.{most_rounds, batch-counted, batch-ends,
 use Rattle.file_core.proofs.layer_file.load.Goals as goal
 use Rattle.file_core.proofs.layer_file.load.Goals.{in_default, in_default-2}
 
-pub loop-batch-init : goal.loop-batch-init
-loop-batch-init g c =
+pub loop-round-init : goal.loop-round-init
+loop-round-init g c =
     let opened = c.in_ok-unread.ensures.ok in (
       c.in_ok-unread.unread,
       c.read-unread.ensures,
@@ -16,78 +16,77 @@ loop-batch-init g c =
       λ answer gives. (Ok (records_unread c.in_ok-unread.unread), opened.rows, rw (opened.none_read, c.in_ok-loading.ensures) at gives),
     )
 
-pub loop-batch-preserved : goal.loop-batch-preserved
-loop-batch-preserved g c =
-    let inv = c.loop-batch.invariant in
+pub loop-round-preserved : goal.loop-round-preserved
+loop-round-preserved g c =
+    let inv = c.loop-round.invariant in
     let is = c.in-Ok-true.is in
     let test = c.in-Ok-true.field-0-is in
-    let more : c.loop-batch.batch.more ≡ Ok true = cc in
+    let more : c.loop-round.round.batch.more ≡ Ok true = cc in
     let batch = rw more at inv.1 in
-    let added = rw c.in_ok-loading-2.was at c.add_and_read-added.ensures.added in
-    let rows = all_rows c.loop-batch.batch.rows.items in
-    let given = added.0 (λ e. cc) in (
-      c.loop-batch.unread,
-      c.add_and_read-added.ensures.read,
-      batch-counted c.args.scale inv.0 c.loop-batch.unread rows c.loop-batch.loading inv.2 c.in_ok-loading-2.loading batch given,
+    let rows = all_rows c.loop-round.round.batch.rows.items in
+    let next = c.in_ok-round.round in
+    let given = c.in_ok-round.ensures.ok in (
+      c.loop-round.round.unread,
+      c.in_ok-round.ensures.read,
+      batch-counted c.args.scale inv.0 c.loop-round.round.unread rows c.loop-round.round.loading inv.2 next.loading batch given,
       λ answer gives.
           inv.3 answer
-          (batch-goes-on c.args.scale inv.0 c.loop-batch.unread rows c.loop-batch.loading inv.2 c.in_ok-loading-2.loading answer batch given gives),
+          (batch-goes-on c.args.scale inv.0 c.loop-round.round.unread rows c.loop-round.round.loading inv.2 next.loading answer batch given gives),
     )
 
-pub loop-batch-smaller : goal.loop-batch-smaller
-loop-batch-smaller g c =
+pub loop-round-smaller : goal.loop-round-smaller
+loop-round-smaller g c =
     let is = c.in-Ok-true.is in
     let test = c.in-Ok-true.field-0-is in
-    let more : c.loop-batch.batch.more ≡ Ok true = cc in
-    let next = c.add_and_read-added.result.1 in
-    let P : Result Bool ReadFault → Type 0 = λ m. suc (most_rounds next.0 next.1.more) ≤ most_rounds c.loop-batch.unread m in
+    let more : c.loop-round.round.batch.more ≡ Ok true = cc in
+    let next = c.in_ok-round.round in
+    let P : Result Bool ReadFault → Type 0 = λ m. suc (most_rounds next.unread next.batch.more) ≤ most_rounds c.loop-round.round.unread m in
     subst P (sym more)
-    (batch-smaller c.args.scale c.loop-batch.unread next.0 (all_rows next.1.rows.items) next.1.more c.add_and_read-added.ensures.read)
+    (batch-smaller c.args.scale c.loop-round.round.unread next.unread (all_rows next.batch.rows.items) next.batch.more c.in_ok-round.ensures.read)
 
-pub returns-in_err-loading-2-clause-file : goal.returns-in_err-loading-2-clause-file
-returns-in_err-loading-2-clause-file g c =
-    let inv = c.loop-batch.invariant in
-    let fault = c.in_err-loading-2.field-0.0 in
-    let added = rw c.in_err-loading-2.was at c.add_and_read-added.ensures.added in
-    let p = err_from_is_err_and c.from_residual-in_err-loading-2.result c.from_residual-in_err-loading-2.ensures.1 in
+pub returns-in_err-round-clause-file : goal.returns-in_err-round-clause-file
+returns-in_err-round-clause-file g c =
+    let inv = c.loop-round.invariant in
+    let fault = c.in_err-round.field-0.0 in
+    let p = err_from_is_err_and c.from_residual-in_err-round.result c.from_residual-in_err-round.ensures.1 in
     rw (p.1, p.2)
     (λ known.
     inv.3 (Err fault)
-    (batch-refuses c.args.scale inv.0 c.loop-batch.unread (all_rows c.loop-batch.batch.rows.items) c.loop-batch.loading inv.2
-    c.loop-batch.batch.more fault inv.1 (added.0 known)))
+    (batch-refuses c.args.scale inv.0 c.loop-round.round.unread (all_rows c.loop-round.round.batch.rows.items) c.loop-round.round.loading inv.2
+    c.loop-round.round.batch.more fault inv.1 (c.in_err-round.ensures.err (λ e. known (ap Err e)))))
 
 pub returns-in_err-add_parts-clause-file : goal.returns-in_err-add_parts-clause-file
 returns-in_err-add_parts-clause-file g c =
-    let inv = c.loop-batch.invariant in
+    let inv = c.loop-round.invariant in
     let fault = c.in_err-add_parts.field-0.0 in
     let p = err_from_is_err_and c.from_residual-in_err-add_parts.result c.from_residual-in_err-add_parts.ensures.1 in
     rw (p.1, p.2)
     (λ known.
     inv.3 (Err fault)
-    (batch-refuses c.args.scale inv.0 c.loop-batch.unread (all_rows c.loop-batch.batch.rows.items) c.loop-batch.loading inv.2
-    c.loop-batch.batch.more fault inv.1 (c.in_err-add_parts.ensures.err (λ e. known (ap Err e)))))
+    (batch-refuses c.args.scale inv.0 c.loop-round.round.unread (all_rows c.loop-round.round.batch.rows.items) c.loop-round.round.loading inv.2
+    c.loop-round.round.batch.more fault inv.1 (c.in_err-add_parts.ensures.err (λ e. known (ap Err e)))))
 
 pub returns-in_err-batch-clause-file : goal.returns-in_err-batch-clause-file
 returns-in_err-batch-clause-file g c =
-    let inv = c.loop-batch.invariant in
+    let inv = c.loop-round.invariant in
     let fault = c.in_err-batch.field-0.0 in
     let batch = rw c.in_err-batch.was at inv.1 in
     let p = err_from_is_err_and c.from_residual-in_err-batch.result c.from_residual-in_err-batch.ensures.1 in
     rw (p.1, p.2)
     (λ known.
     inv.3 (Err fault)
-    (batch-fails c.args.scale inv.0 c.loop-batch.unread (all_rows c.loop-batch.batch.rows.items) c.loop-batch.loading inv.2
+    (batch-fails c.args.scale inv.0 c.loop-round.round.unread (all_rows c.loop-round.round.batch.rows.items) c.loop-round.round.loading inv.2
     c.add_parts.new.loading fault batch (λ e. known (ap Err e)) c.in_ok-add_parts.ensures.ok))
 
 pub returns-clause-file : goal.returns-clause-file
 returns-clause-file g c known =
-    let inv = c.loop-batch.invariant in
+    let inv = c.loop-round.invariant in
     let was = c.in_ok-batch.was in
-    let last : c.loop-batch.batch.more ≡ Ok false =
-    elim c.match-batch.branch [
+    let last : c.loop-round.round.batch.more ≡ Ok false =
+    elim c.match-round.branch [
       | in_default w ↦ let is = w.in_default.is in let test = w.in_default.field-0-test in cc
       | in_default-2 w ↦ let is = w.in_default.is in absurd cc
     ] in
     inv.3 (Ok c.add_parts.new.loading)
-    (batch-ends c.args.scale inv.0 c.loop-batch.unread (all_rows c.loop-batch.batch.rows.items) c.loop-batch.loading inv.2 c.add_parts.new.loading
+    (batch-ends c.args.scale inv.0 c.loop-round.round.unread (all_rows c.loop-round.round.batch.rows.items) c.loop-round.round.loading inv.2 c.add_parts.new.loading
     (rw last at inv.1) c.in_ok-add_parts.ensures.ok)

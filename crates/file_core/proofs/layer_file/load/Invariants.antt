@@ -10,11 +10,11 @@ use Rattle.file_core.proofs.layer_file.load.Given as goal
 
 -- what the rows of the batch and those behind it give from here, the file gives, and each row before
 -- them has inserted a feature
-abbrev pub invariant-loop-batch : goal.invariant-loop-batch
-invariant-loop-batch g l =
-    (old : Unread) × IsBatch l.scale old (all_rows l.batch.rows.items) l.batch.more l.unread
-    × (count_unread old ≡ l.loading.next)
-    × ((answer : Result Contents ReadFault) → Gives l.scale old l.loading answer → IsLayerFile l.scale l.bytes answer)
+abbrev pub invariant-loop-round : goal.invariant-loop-round
+invariant-loop-round g l =
+    (old : Unread) × IsBatch l.scale old (all_rows l.round.batch.rows.items) l.round.batch.more l.round.unread
+    × (count_unread old ≡ l.round.loading.next)
+    × ((answer : Result Contents ReadFault) → Gives l.scale old l.round.loading answer → IsLayerFile l.scale l.bytes answer)
 
-abbrev pub decreases-loop-batch : goal.decreases-loop-batch
-decreases-loop-batch g l = most_rounds l.unread l.batch.more
+abbrev pub decreases-loop-round : goal.decreases-loop-round
+decreases-loop-round g l = most_rounds l.round.unread l.round.batch.more
