@@ -5,14 +5,15 @@ use super::*;
 /// How many rows a file has, so that it is read in parts.
 const ROWS: u32 = 10_000;
 
-/// What a row has before and behind its number: line feeds and quotes where a cut may come.
-const FORMS: &[(&str, &str)] = &[
-    ("\"p", "\n\",POINT (1 2)\n"),
-    ("p", ",\"POINT (1\n2)\"\n"),
-    ("x\"", ",POINT (1 2)\n"),
-    ("p", ",POINT (1 2)\r\n"),
-    ("p", ",POINT (1 2)\n\n\r"),
-    ("\u{feff}p", ",POINT (1 2)\n"),
+/// What a row has before and behind its number, line feeds and quotes where a cut may come, and the
+/// id of the last row.
+const FORMS: &[(&str, &str, &str)] = &[
+    ("\"p", "\n\",POINT (1 2)\n", "p9999\n"),
+    ("p", ",\"POINT (1\n2)\"\n", "p9999"),
+    ("x\"", ",POINT (1 2)\n", "x\"9999"),
+    ("p", ",POINT (1 2)\r\n", "p9999"),
+    ("p", ",POINT (1 2)\n\n\r", "p9999"),
+    ("\u{feff}p", ",POINT (1 2)\n", "\u{feff}p9999"),
 ];
 
 /// A layer file of rows of a form.
@@ -29,26 +30,25 @@ fn has_all(layer: &Layer, last: &str, shape: Shape) -> bool {
     layer.len() == ROWS as usize && finds(layer, last, ROWS - 1, shape)
 }
 
+/// So many threads read all rows of a file of this form.
+fn reads_form<R: Threads + Sync + RandomSource + AllocGlobal>(
+    rt: &R,
+    threads: u32,
+    (front, back, last): &(&str, &str, &str),
+) -> Result<bool, Fail> {
+    let shape = point(1, 2)?;
+    let file = file_of(rt.alloc(), front, back)?;
+    let layer = layer_by(rt, file.as_bytes(), threads)??;
+    Ok(has_all(&layer, last, shape))
+}
+
 /// The place of the first form whose file so many threads read as another layer.
 fn first_other_form<R: Threads + Sync + RandomSource + AllocGlobal>(
     rt: &R,
     threads: u32,
 ) -> Result<Option<usize>, Fail> {
-    let ids = [
-        "p9999\n",
-        "p9999",
-        "x\"9999",
-        "p9999",
-        "p9999",
-        "\u{feff}p9999",
-    ];
-    for (place, ((front, back), last)) in FORMS.iter().zip(ids).enumerate() {
-        let file = file_of(rt.alloc(), front, back)?;
-        if !has_all(
-            &layer_by(rt, file.as_bytes(), threads)??,
-            last,
-            point(1, 2)?,
-        ) {
+    for (place, form) in FORMS.iter().enumerate() {
+        if !reads_form(rt, threads, form)? {
             return Ok(Some(place));
         }
     }
