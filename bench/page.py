@@ -52,7 +52,7 @@ def page(options: Namespace, everyone: list[Program], rows: list[Row], wrong: li
 | System | {system()} |
 | Programs | {versions} |
 | Threads | {options.workers} |
-| Runs | the best of {options.times}, or fewer from {options.enough:g} s on |
+| Runs | the best of {options.times}, or of fewer where one takes {options.enough:g} s |
 
 Seconds from the two files to the written pairs by {options.workers} threads, and in brackets how many times as long as rjoin:
 
