@@ -21,7 +21,7 @@ use Rattle.words_core.specs.declared.words.Command.{Command}
 use Rattle.words_core.specs.declared.words.Command.TheVariants.{Window, Stats, Bounds}
 use Rattle.command_core.specs.Commands.{AfterOpening, CommandGives, IsCommandText, BlamesCommand, IsFoundFirst, IsFoundNext, IsFaultOf, CommandEnds}
 use Rattle.command_core.specs.Commands.{OrNoLayer, bytes_at}
-use Rattle.command_core.specs.Opening.{Files, IsAt, IsMissing}
+use Rattle.command_core.specs.Opening.{Files, IsAt, IsMissing, IsLayerUnready, no_file, no_keys}
 use Rattle.join_core.proofs.RunLemmas.{ends_as}
 use Rattle.command_core.proofs.KnownLemmas.{told_at, layer_untold, window_untold}
 use Rattle.command_core.proofs.CommandLemmas.{refused_ends, input_opened, err_is}
@@ -60,11 +60,10 @@ module _ {S : Type 0} (known : Option Files) (written : S → Option (List ℕ))
       inl ((one.gives at fault).0 (subst After (sym missing) refl))
 
   -- nothing lies at the path
-  pub layer_missing : {T : Type 0} (sink : S) (result : Result T RunFault) (f : RunFault) → has_failed sink ≡ false → IsErrAnd result (λ x. x ≡ f)
-      → f ≡ run.NoFile input.Layer → IsMissing known path → CommandEnds known written is_flushed has_failed command sink sink result
-  layer_missing sink result f fresh h named missing =
-      refused_ends known written is_flushed has_failed command sink result (run.NoFile input.Layer) fresh
-      (subst (λ (x : RunFault). IsErrAnd result (λ y. y ≡ x)) named h) (λ e. absurd cc) (is_missing known missing)
+  layer_missing : {T : Type 0} (sink : S) (result : Result T RunFault) → has_failed sink ≡ false
+      → IsErrAnd result (λ x. x ≡ run.NoFile input.Layer) → IsMissing known path → CommandEnds known written is_flushed has_failed command sink sink result
+  layer_missing sink result fresh h missing =
+      refused_ends known written is_flushed has_failed command sink result (run.NoFile input.Layer) fresh h (λ e. absurd cc) (is_missing known missing)
       (λ g found. only_missing known missing g) (λ g found keys. only_missing known missing g) (one.may_miss known)
 
   no_keys_given : (known : Option Files) → IfSome known (λ at. CommandGives at command (Err run.NoKeys) ⊎ (BlamesCommand run.NoKeys → ⊥))
@@ -81,13 +80,19 @@ module _ {S : Type 0} (known : Option Files) (written : S → Option (List ℕ))
   none_next (Some at) g keys = λ given. absurd (keys refl)
 
   -- the system gives no keys
-  pub layer_without_keys : {T : Type 0} (sink : S) (result : Result T RunFault) (f : RunFault) (l : Option (List ℕ)) → has_failed sink ≡ false
-      → IsErrAnd result (λ x. x ≡ f) → f ≡ run.NoKeys → IsAt known path l → ((g : RunFault) → IsFoundFirst command g → Gives l (Err g) → ⊥)
+  layer_without_keys : {T : Type 0} (sink : S) (result : Result T RunFault) (l : Option (List ℕ)) → has_failed sink ≡ false
+      → IsErrAnd result (λ x. x ≡ run.NoKeys) → IsAt known path l → ((g : RunFault) → IsFoundFirst command g → Gives l (Err g) → ⊥)
       → CommandEnds known written is_flushed has_failed command sink sink result
-  layer_without_keys sink result f l fresh h named is none =
-      refused_ends known written is_flushed has_failed command sink result run.NoKeys fresh
-      (subst (λ (x : RunFault). IsErrAnd result (λ y. y ≡ x)) named h) (λ e. absurd cc) (no_keys_given known)
+  layer_without_keys sink result l fresh h is none =
+      refused_ends known written is_flushed has_failed command sink result run.NoKeys fresh h (λ e. absurd cc) (no_keys_given known)
       (λ g found. none_first known l is none g run.NoKeys found) (λ g found keys. none_next known g keys) (one.may_lack_keys known)
+
+  -- the layer isn't ready, so the sink stays as it is
+  pub layer_unready : {T : Type 0} (sink : S) (result : Result T RunFault) (f : RunFault) → has_failed sink ≡ false → IsErrAnd result (λ x. x ≡ f)
+      → IsLayerUnready known path f → ((l : Option (List ℕ)) (g : RunFault) → IsFoundFirst command g → Gives l (Err g) → ⊥)
+      → CommandEnds known written is_flushed has_failed command sink sink result
+  layer_unready sink result f fresh h (no_file missing) none = layer_missing sink result fresh h missing
+  layer_unready sink result f fresh h (no_keys l is) none = layer_without_keys sink result l fresh h is (none l)
 
   text_as : (known : Option Files) (l : Option (List ℕ)) → IsAt known path l → (text : List ℕ) → Gives l (Ok text) → IsCommandText known command text
   text_as None l is text h = tt
@@ -126,6 +131,12 @@ module _ {S : Type 0} (known : Option Files) (written : S → Option (List ℕ))
     next = λ f found keys. next_as known l result is exact f found;
     faults = faults;
   }
+
+-- what `?` hands on of a layer that isn't ready
+pub handed_unready : {T : Type 0} (known : Option Files) (path : List ℕ) (out : Result T RunFault) (e f : RunFault)
+    → IsErrAnd out (λ x. x ≡ e) → e ≡ f → IsLayerUnready known path f → IfErr out (IsLayerUnready known path)
+handed_unready known path (Ok x) e f h same unready = tt
+handed_unready known path (Err x) e f h same unready = subst (IsLayerUnready known path) (let is : f ≡ x = cc in is) unready
 
 -- what a layer gives as a fault is one of its file
 gives_only : (IsTextOf : LayerState → List ℕ → Type 0) (scale : Scale) (l : Option (List ℕ)) (P : RunFault → Type 0)

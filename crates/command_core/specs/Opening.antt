@@ -1,9 +1,9 @@
 -- What opening a file answers, and what is known of the files of a join.
 use Rattle.std.specs.Prelude.{◌≡◌, ⊤, ℕ, List, Option, Some, None, Result, Ok, Err, IfSome}
 use Rattle.std.specs.Borrow.{Bor}
-use Rattle.join_core.specs.declared.fault.Input.TheVariants.{Left, Right, Edits}
+use Rattle.join_core.specs.declared.fault.Input.TheVariants.{Left, Right, Edits, Layer}
 use Rattle.join_core.specs.declared.fault.RunFault.{RunFault}
-use Rattle.join_core.specs.declared.fault.RunFault.TheVariants.{NoFile}
+use Rattle.join_core.specs.declared.fault.RunFault.TheVariants.{NoFile, NoKeys}
 use Rattle.words_core.specs.declared.words.JoinRequest.{JoinRequest}
 
 -- what lies at each path: bytes, or nothing that can be opened
@@ -34,6 +34,11 @@ AreEditsAt known (Some path) told =
 abbrev pub AreEditsMissing : Option Files → Option (Bor (List ℕ)) → Type 0
 AreEditsMissing known None = ⊥
 AreEditsMissing known (Some path) = IsMissing known path.now
+
+-- why the layer at a path can't be read: nothing lies there, or there are no keys for its ids
+pub data IsLayerUnready (known : Option Files) (path : List ℕ) : RunFault → Type 0 where
+  no_file : IsMissing known path → IsLayerUnready known path (NoFile Layer)
+  no_keys : (told : Option (List ℕ)) → IsAt known path told → IsLayerUnready known path NoKeys
 
 -- the bytes at the paths of a join, which its opened files tell
 pub record AreOpened (known : Option Files) (join : JoinRequest)

@@ -4,7 +4,7 @@ ghost use Rattle.std.specs.Prelude.{◌≡◌, false, IfOk, IfErr, IfSome};
 ghost use Rattle.join_core.specs.JoinRuns.{bytes_of};
 ghost use Rattle.command_core.specs.Commands.{CommandEnds, command_of};
 ghost use Rattle.command_core.specs.Opening.{IsAt, IsMissing, AreEditsAt, AreEditsMissing};
-ghost use Rattle.command_core.specs.Opening.{AreOpened, IsFirstMissing};
+ghost use Rattle.command_core.specs.Opening.{AreOpened, IsFirstMissing, IsLayerUnready};
 ghost use Rattle.command_core.specs.Endings.{CommandIsDone};
 
 use crate::inputs::Inputs;
@@ -70,18 +70,17 @@ fn execute<R: RandomSource + AllocGlobal + Threads + Wait + Sync, I: Inputs, O: 
         Command::Join(join) => execute_join(rt, inputs, Product::Report, join, output),
         Command::Draw(join) => execute_join(rt, inputs, Product::Picture, join, output),
         Command::Window { path, wkt, scale } => {
-            let mut layer = open_input(inputs, Input::Layer, path)?;
-            let state = hash_state(rt)?;
+            let (mut layer, state) = open_layer(rt, inputs, path)?;
             let wkt = wkt.as_bytes();
             run_window(rt, rt.alloc(), state, *scale, &mut layer, wkt, output)
         }
         Command::Stats { path, scale } => {
-            let mut layer = open_input(inputs, Input::Layer, path)?;
-            run_stats(rt, rt.alloc(), hash_state(rt)?, *scale, &mut layer, output)
+            let (mut layer, state) = open_layer(rt, inputs, path)?;
+            run_stats(rt, rt.alloc(), state, *scale, &mut layer, output)
         }
         Command::Bounds { path, scale } => {
-            let mut layer = open_input(inputs, Input::Layer, path)?;
-            run_bounds(rt, rt.alloc(), hash_state(rt)?, *scale, &mut layer, output)
+            let (mut layer, state) = open_layer(rt, inputs, path)?;
+            run_bounds(rt, rt.alloc(), state, *scale, &mut layer, output)
         }
     }
 }
@@ -99,7 +98,7 @@ fn execute_join<R: RandomSource + AllocGlobal + Threads + Wait + Sync, I: Inputs
         (command_of product join.now) output.old output.new result }
 {
     let mut sources = open_sources(inputs, join)?;
-    let states = (hash_state(rt)?, hash_state(rt)?);
+    let states = hash_states(rt)?;
     match product {
         Product::Report => run_join(
             rt,
@@ -146,6 +145,22 @@ fn open_sources<I: Inputs>(
     Ok(JoinSources { left, right, edits })
 }
 
+/// The file of a layer, and random keys by which its ids are hashed.
+fn open_layer<R: RandomSource, I: Inputs>(
+    rt: &R,
+    inputs: &I,
+    path: &str,
+) -> Result<(I::File, RandomState), RunFault>
+    ensures ok { IfOk result (λ opened.
+        IsAt (I.files inputs.now) path.now (I.File.remaining opened.0)) }
+    ensures fresh { IfOk result (λ opened. I.File.has_failed opened.0 ≡ false) }
+    ensures fault { IfErr result (IsLayerUnready (I.files inputs.now) path.now) }
+{
+    let layer = open_input(inputs, Input::Layer, path)?;
+    let state = hash_state(rt)?;
+    Ok((layer, state))
+}
+
 /// The file of an input.
 fn open_input<I: Inputs>(inputs: &I, input: Input, path: &str) -> Result<I::File, RunFault>
     ensures ok { IfOk result (λ file.
@@ -182,4 +197,11 @@ fn hash_state<R: RandomSource>(rt: &R) -> Result<RandomState, RunFault>
         Ok(state) => Ok(state),
         Err(_) => Err(RunFault::NoKeys),
     }
+}
+
+/// Random keys by which the ids of the left and of the right layer are hashed.
+fn hash_states<R: RandomSource>(rt: &R) -> Result<(RandomState, RandomState), RunFault>
+    ensures { IfErr result (λ f. f ≡ RunFault.NoKeys) }
+{
+    Ok((hash_state(rt)?, hash_state(rt)?))
 }

@@ -1,5 +1,5 @@
 -- Rows that records say in turn: more of them, and what they give a layer.
-use Rattle.std.proofs.Common.{◌≡◌, ◌≢◌, ◌∙◌, ◌+◌, ◌<◌, ℕ, Bool, true, false, List, [], ◌∷◌, ◌++◌, All, length, Option, Some, None, Result, Ok, Err, refl, sym, ap, inl, inr, arith, append_assoc}
+use Rattle.std.proofs.Common.{◌≡◌, ◌≢◌, ◌∙◌, ◌+◌, ◌<◌, ℕ, Bool, true, false, List, [], ◌∷◌, ◌++◌, All, length, Option, Some, None, Result, Ok, Err, refl, sym, subst, ap, inl, inr, arith, append_assoc}
 use Rattle.std.specs.declared.alloc.Global.{Global}
 use Rattle.std.specs.declared.vec.Vec.{Vec}
 use Rattle.geom_core.specs.declared.shape.Shape.{Shape}
@@ -11,7 +11,7 @@ use Rattle.file_core.specs.declared.read_fault.ReadFault.TheVariants.{Io, Memory
 use Rattle.file_core.specs.declared.rows.Rows.{Rows as RowsOf}
 use Rattle.file_core.specs.declared.unread.Unread.{Unread}
 use Rattle.file_core.specs.declared.unread.Unread.TheVariants.{Rows}
-use Rattle.file_core.specs.Batches.{HasFault, HasId, IsBatch, SayInTurn, all_rows, if_given, with_rows}
+use Rattle.file_core.specs.Batches.{HasFault, HasId, IsBatch, SayInTurn, after_rows, all_rows, if_given, with_rows}
 use Rattle.file_core.specs.LayerFiles.{LayerRowGives, refused_or, with_row}
 use Rattle.file_core.specs.LayerRows.{RowContent, RowSays, Says, content_of, content_with}
 use Rattle.layer_core.specs.declared.fault.LayerFault.{LayerFault}
@@ -218,3 +218,16 @@ module _ (scale : Scale) where
         -- the layer has as many features more as rows were read
         pub batch-counted : IsBatch scale old read (Ok true) new → with_rows layer read ≡ Ok next → count_unread new ≡ next.next
         batch-counted batch given = omega (arith, with_rows-next layer read next given, batch.behind.2)
+
+      -- the last batch
+      pub batch-last : (more : Result Bool ReadFault) (answer : Result Contents ReadFault) → IsBatch scale old read more new → more ≢ Ok true
+          → answer ≢ Err Memory → answer ≡ if_given (with_rows layer read) (after_rows more) → Gives old layer answer
+      batch-last more answer batch last known is = by (with_rows layer read) refl more batch last is
+        where
+          by : (given : Result Contents ReadFault) → with_rows layer read ≡ given → (more : Result Bool ReadFault) → IsBatch scale old read more new
+              → more ≢ Ok true → answer ≡ if_given given (after_rows more) → Gives old layer answer
+          by (Err fault) w more batch last is = subst (Gives old layer) (sym is) (batch-refuses more fault batch w)
+          by (Ok next) w (Ok true) batch last is = absurd (last refl)
+          by (Ok next) w (Ok false) batch last is = subst (Gives old layer) (sym is) (batch-ends next batch w)
+          by (Ok next) w (Err fault) batch last is =
+              subst (Gives old layer) (sym is) (batch-fails next fault batch (λ e. known (is ∙ ap Err e)) w)

@@ -34,6 +34,11 @@ with_rows layer [] = Ok layer
 with_rows layer (row ∷ rows) =
     if_given (with_row (layer.next + 1) layer (Ok (content_of row))) (λ l. with_rows l rows)
 
+-- a layer with rows that were read, or the fault of the row behind them
+abbrev pub after_rows : Result Bool ReadFault → Contents → Result Contents ReadFault
+after_rows (Ok more) layer = Ok layer
+after_rows (Err fault) layer = Err fault
+
 -- the rows of all parts
 abbrev pub all_rows : List (Vec ReadRow Global) → List ReadRow
 all_rows [] = []

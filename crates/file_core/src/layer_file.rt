@@ -2,7 +2,8 @@
 
 ghost use Rattle.std.specs.Prelude.{◌≡◌, ◌≢◌, ◌≤◌, ◌↔◌, false, Ok, Err, All, IsErrOf, IsTrue};
 ghost use Rattle.std.specs.Prelude.{IfOk, IfErr, IfSome};
-ghost use Rattle.file_core.specs.Batches.{HasId, IsBatch, all_rows, with_rows};
+ghost use Rattle.file_core.specs.Batches.{HasId, IsBatch, after_rows, all_rows, if_given};
+ghost use Rattle.file_core.specs.Batches.{with_rows};
 ghost use Rattle.file_core.specs.LayerFiles.{IsLayerFile, list_read};
 ghost use Rattle.file_core.specs.Unread.{IsUnread};
 ghost use Rattle.layer_core.specs.Limits.{most_features};
@@ -123,14 +124,8 @@ fn load<O: Order>(
     while let Ok(true) = round.batch.more {
         round = next_round(alloc, scale, round, order)?;
     }
-    let Round {
-        mut loading,
-        batch,
-        ..
-    } = round;
-    add_parts(&mut loading, batch.rows)?;
-    batch.more?;
-    Ok(loading)
+    let Round { loading, batch, .. } = round;
+    add_last(loading, batch)
 }
 
 /// How far a file is read: the features that were inserted, the batch behind them, and the rest.
@@ -169,6 +164,19 @@ fn next_round<'a, O: Order>(
         batch,
         unread,
     })
+}
+
+/// Inserts the features of the last batch, behind which a row has a fault or there is none.
+fn add_last(mut loading: Loading, batch: Batch) -> Result<Loading, ReadFault>
+    requires ids { All HasId (all_rows batch.rows.items) }
+    requires no_io { batch.more ≢ Err ReadFault.Io }
+    ensures rows { result ≢ Err ReadFault.Memory → result
+        ≡ if_given (with_rows loading (all_rows batch.rows.items)) (after_rows batch.more) }
+    ensures no_io { result ≢ Err ReadFault.Io }
+{
+    add_parts(&mut loading, batch.rows)?;
+    batch.more?;
+    Ok(loading)
 }
 
 /// How many rows a file is likely to have that a layer can take, judged by its first lines. A wrong

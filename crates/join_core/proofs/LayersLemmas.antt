@@ -1,6 +1,7 @@
 -- What reading two layers answers, by what was read of each and what was built of it.
-use Rattle.std.proofs.Common.{◌≡◌, ◌≢◌, ◌<◌, ℕ, List, Option, Some, None, Result, Ok, Err, IsErrAnd, IfSome, IfErr, length}
-use Rattle.std.proofs.Common.{refl, sym, subst}
+use Rattle.std.proofs.Common.{◌≡◌, ◌≢◌, ◌<◌, ◌⊎◌, ℕ, List, Option, Some, None, Result, Ok, Err, IsErrAnd, IfSome, IfErr, length}
+use Rattle.std.proofs.Common.{refl, sym, subst, inl, inr}
+use Rattle.std.specs.Result.{result_err}
 use Rattle.wkt_core.specs.declared.scale.Scale.{Scale}
 use Rattle.file_core.specs.declared.read_fault.ReadFault.{ReadFault}
 use Rattle.file_core.specs.declared.read_fault.ReadFault.TheVariants as read_faults
@@ -14,7 +15,7 @@ use Rattle.join_core.specs.declared.fault.Input.TheVariants.{First, Second, Left
 use Rattle.join_core.specs.declared.fault.RunFault.{RunFault}
 use Rattle.join_core.specs.declared.fault.RunFault.TheVariants.{NoFile, Read, Wkt, Edit, Join, TooManyToDraw, Write, Memory, NoKeys}
 use Rattle.join_core.specs.Inputs.{LayerFile, Builds, Reads, BlamesBytes, BlamesInput}
-use Rattle.join_core.specs.JoinRuns.{JoinFiles, LayersGive, left_fault, right_fault, IsLayersFault, IsJoinFault}
+use Rattle.join_core.specs.JoinRuns.{JoinFiles, LayersGive, left_fault, right_fault, first_fault, IsLayersFault, IsJoinFault}
 use Rattle.join_core.proofs.JoinRunLemmas.{handed_on, IsJoinKind}
 
 -- a source that isn't read to its end gives no layer
@@ -54,6 +55,46 @@ module _ (scale : Scale) where
   pub read_blamed : (known : Option (List ℕ)) (out : Result LayerState ReadFault) (f : ReadFault)
       → Reads scale known out → out ≡ Err f → BlamesBytes f → LayerFile scale known (Err f)
   read_blamed known out f reads is = subst (λ (r : Result LayerState ReadFault). IfErr r (λ x. BlamesBytes x → LayerFile scale known (Err x))) is reads.fault
+
+-- a fault of the right layer alone is told
+right_first : (f : ReadFault) → first_fault None f ≡ Read Right f
+right_first read_faults.Io = refl
+right_first read_faults.TooLong = refl
+right_first read_faults.Header = refl
+right_first (read_faults.Row n) = refl
+right_first (read_faults.Wkt n g) = refl
+right_first (read_faults.Layer n g) = refl
+right_first read_faults.Memory = refl
+
+-- of two faults the left one is told, where the right source didn't fail
+left_first : (g f : ReadFault) → (f ≡ read_faults.Io) ⊎ (first_fault (Some g) f ≡ Read Left g)
+left_first g read_faults.Io = inl refl
+left_first g read_faults.TooLong = inr refl
+left_first g read_faults.Header = inr refl
+left_first g (read_faults.Row n) = inr refl
+left_first g (read_faults.Wkt n h) = inr refl
+left_first g (read_faults.Layer n h) = inr refl
+left_first g read_faults.Memory = inr refl
+
+-- a fault that is told of two layers, the right one of which wasn't built, is one of their files
+told_blamed : (scale : Scale) (left right : Option (List ℕ)) (items : List ℕ) (built out : Result LayerState ReadFault) (f : ReadFault)
+    → IfSome left (λ bytes. items ≡ bytes) → Builds scale items built → Reads scale right out → out ≡ Err f
+    → IsLayersFault scale left right (first_fault (result_err built) f)
+told_blamed scale left right items (Ok layer) out f same built reads is =
+    subst (IsLayersFault scale left right) (sym (right_first f))
+    ((λ other. (layer.list, built_well scale left items (Ok layer) layer same built refl)), read_blamed scale right out f reads is)
+told_blamed scale left right items (Err g) out f same built reads is = elim (left_first g f) [
+  | inl io ↦ subst (λ (x : ReadFault). IsLayersFault scale left right (first_fault (Some g) x)) (sym io) ((λ other. absurd (other refl)), (λ blame. absurd blame))
+  | inr told ↦ subst (IsLayersFault scale left right) (sym told) (built_blamed scale left items (Err g) g same built refl)
+]
+
+pub first_blamed : (scale : Scale) (left right : Option (List ℕ)) (items : List ℕ) (built out : Result LayerState ReadFault) (f : ReadFault)
+    (given : Option ReadFault) (e : RunFault) → IfSome left (λ bytes. items ≡ bytes) → Builds scale items built → Reads scale right out → out ≡ Err f
+    → given ≡ result_err built → e ≡ first_fault given f → IsLayersFault scale left right e
+first_blamed scale left right items built out f given e same gives reads is of_left told =
+    subst (IsLayersFault scale left right) (sym told)
+    (subst (λ (x : Option ReadFault). IsLayersFault scale left right (first_fault x f)) (sym of_left)
+    (told_blamed scale left right items built out f same gives reads is))
 
 -- a fault of the two layers is what the files give
 layers_give : (files : JoinFiles) (e : RunFault) → IsLayersFault files.scale files.left files.right e → BlamesInput e

@@ -54,6 +54,13 @@ IsLayersFault scale left right (Read Right f) =
     (f ≢ Io → GivesLayer scale left) × (BlamesBytes f → LayerFile scale right (Err f))
 IsLayersFault scale left right _ = ⊥
 
+-- the fault of two layers that is told where the right one has a fault: a right source that fails
+-- comes before a fault of the left one
+abbrev pub first_fault : Option ReadFault → ReadFault → RunFault
+first_fault left Io = Read Right Io
+first_fault (Some fault) right = Read Left fault
+first_fault None right = Read Right right
+
 -- the edited layers, or the first fault of the left file, the right one, that of edits and the
 -- edits, in this order
 pub data LayersGive (files : JoinFiles) : Result Layers RunFault → Type 0 where

@@ -4,7 +4,7 @@ ghost use Rattle.std.specs.Prelude.{◌≡◌, ◌↔◌, Ok, Err, false, IsTrue
 ghost use Rattle.file_core.specs.declared.read_fault.ReadFault.{ReadFault};
 ghost use Rattle.join_core.specs.declared.fault.Input.{Input};
 ghost use Rattle.join_core.specs.Inputs.{LayerFile, Builds, Reads};
-ghost use Rattle.join_core.specs.JoinRuns.{IsLayersFault};
+ghost use Rattle.join_core.specs.JoinRuns.{IsLayersFault, first_fault};
 
 use crate::fault::{Input, RunFault};
 use crate::layer_input::{build_by_threads, read_by_threads};
@@ -51,16 +51,22 @@ pub(crate) fn read_layers<R: Threads + Sync, A: Source, B: Source>(
     let (left_built, right_built) = build_and_read(
         rt, alloc, states, scale, left_bytes, right, workers,
     );
-    if let Err(ReadFault::Io) = right_built {
-        return Err(RunFault::Read(Input::Right, ReadFault::Io));
-    }
-    let left_layer = match left_built {
-        Ok(layer) => layer,
-        Err(fault) => return Err(RunFault::Read(Input::Left, fault)),
-    };
     match right_built {
-        Ok(right_layer) => Ok((left_layer, right_layer)),
-        Err(fault) => Err(RunFault::Read(Input::Right, fault)),
+        Ok(right_layer) => match left_built {
+            Ok(left_layer) => Ok((left_layer, right_layer)),
+            Err(fault) => Err(RunFault::Read(Input::Left, fault)),
+        },
+        Err(fault) => Err(first_fault(left_built.err(), fault)),
+    }
+}
+
+/// The fault that is told where the right layer has one, and the left one may have another.
+fn first_fault(left: Option<ReadFault>, right: ReadFault) -> RunFault
+    ensures { result ≡ first_fault left right }
+{
+    match left {
+        Some(fault) if right != ReadFault::Io => RunFault::Read(Input::Left, fault),
+        _ => RunFault::Read(Input::Right, right),
     }
 }
 

@@ -1,5 +1,5 @@
 use Rattle.command_core.proofs.CommandLemmas.{relate_ends}
-use Rattle.command_core.proofs.LayerCommandLemmas.{layer_missing, layer_without_keys, window_reads_one, window_none_first, window_ran}
+use Rattle.command_core.proofs.LayerCommandLemmas.{layer_unready, window_reads_one, window_none_first, window_ran}
 use Rattle.command_core.proofs.LayerCommandLemmas.{stats_asks, bounds_asks, layer_none_first, layer_asked}
 use Rattle.command_core.proofs.command.execute.Goals as goal
 
@@ -17,54 +17,35 @@ returns-in-Draw g c = rw c.in-Draw.is c.execute_join-in-Draw.ensures
 pub returns-in_err-layer-in-Window : goal.returns-in_err-layer-in-Window
 returns-in_err-layer-in-Window g c =
     rw c.in-Window.is
-    (layer_missing _ _ _ _ _ _ _ (window_reads_one c.in-Window.scale c.in-Window.path c.in-Window.wkt) _ _ _ c.requires c.from_residual.ensures.1
-    c.in_err-layer-in-Window.ensures.fault c.in_err-layer-in-Window.ensures.missing)
-
-pub returns-in_err-state-in-Window : goal.returns-in_err-state-in-Window
-returns-in_err-state-in-Window g c =
-    rw c.in-Window.is
-    (layer_without_keys _ _ _ _ _ _ _ (window_reads_one c.in-Window.scale c.in-Window.path c.in-Window.wkt) _ _ _ _ c.requires
-    c.from_residual-in_err-state-in-Window.ensures.1
-    c.in_err-state-in-Window.ensures c.in_ok-layer-in-Window.ensures.ok (window_none_first c.in-Window.scale c.in-Window.path c.in-Window.wkt _))
-
-pub returns-in_ok-state-in-Window : goal.returns-in_ok-state-in-Window
-returns-in_ok-state-in-Window g c =
-    rw c.in-Window.is
-    (window_ran _ _ _ _ c.in-Window.scale c.in-Window.path c.in-Window.wkt _ _ _ _ _ c.as_bytes-wkt.ensures.value c.in_ok-layer-in-Window.ensures.ok
-    c.run_window.ensures.writes c.run_window.ensures.wkt c.run_window.ensures.fault c.run_window.ensures.faults)
+    (layer_unready _ _ _ _ _ _ _ (window_reads_one c.in-Window.scale c.in-Window.path c.in-Window.wkt) _ c.from_residual.result _ c.requires c.from_residual.ensures.1
+    c.in_err-layer-in-Window.ensures.fault (window_none_first c.in-Window.scale c.in-Window.path c.in-Window.wkt))
 
 pub returns-in_err-layer-in-Stats : goal.returns-in_err-layer-in-Stats
 returns-in_err-layer-in-Stats g c =
     rw c.in-Stats.is
-    (layer_missing _ _ _ _ _ _ _ (stats_asks c.in-Stats.scale c.in-Stats.path).reads _ _ _ c.requires c.from_residual-in_err-layer-in-Stats.ensures.1
-    c.in_err-layer-in-Stats.ensures.fault c.in_err-layer-in-Stats.ensures.missing)
-
-pub returns-in_err-hash_state-in-Stats : goal.returns-in_err-hash_state-in-Stats
-returns-in_err-hash_state-in-Stats g c =
-    rw c.in-Stats.is
-    (layer_without_keys _ _ _ _ _ _ _ (stats_asks c.in-Stats.scale c.in-Stats.path).reads _ _ _ _ c.requires c.from_residual-in_err-hash_state-in-Stats.ensures.1
-    c.in_err-hash_state-in-Stats.ensures c.in_ok-layer-in-Stats.ensures.ok (layer_none_first (stats_asks c.in-Stats.scale c.in-Stats.path) _))
-
-pub returns-in_ok-hash_state-in-Stats : goal.returns-in_ok-hash_state-in-Stats
-returns-in_ok-hash_state-in-Stats g c =
-    rw c.in-Stats.is
-    (layer_asked (stats_asks c.in-Stats.scale c.in-Stats.path) _ _ _ _ _ _ _ _ c.in_ok-layer-in-Stats.ensures.ok
-    c.run_stats.ensures.writes c.run_stats.ensures.fault c.run_stats.ensures.faults)
+    (layer_unready _ _ _ _ _ _ _ (stats_asks c.in-Stats.scale c.in-Stats.path).reads _ c.from_residual-in_err-layer-in-Stats.result _ c.requires c.from_residual-in_err-layer-in-Stats.ensures.1
+    c.in_err-layer-in-Stats.ensures.fault (layer_none_first (stats_asks c.in-Stats.scale c.in-Stats.path)))
 
 pub returns-in_err-layer-in-Bounds : goal.returns-in_err-layer-in-Bounds
 returns-in_err-layer-in-Bounds g c =
     rw c.in-Bounds.is
-    (layer_missing _ _ _ _ _ _ _ (bounds_asks c.in-Bounds.scale c.in-Bounds.path).reads _ _ _ c.requires c.from_residual-in_err-layer-in-Bounds.ensures.1
-    c.in_err-layer-in-Bounds.ensures.fault c.in_err-layer-in-Bounds.ensures.missing)
+    (layer_unready _ _ _ _ _ _ _ (bounds_asks c.in-Bounds.scale c.in-Bounds.path).reads _ c.from_residual-in_err-layer-in-Bounds.result _ c.requires c.from_residual-in_err-layer-in-Bounds.ensures.1
+    c.in_err-layer-in-Bounds.ensures.fault (layer_none_first (bounds_asks c.in-Bounds.scale c.in-Bounds.path)))
 
-pub returns-in_err-hash_state-in-Bounds : goal.returns-in_err-hash_state-in-Bounds
-returns-in_err-hash_state-in-Bounds g c =
-    rw c.in-Bounds.is
-    (layer_without_keys _ _ _ _ _ _ _ (bounds_asks c.in-Bounds.scale c.in-Bounds.path).reads _ _ _ _ c.requires c.from_residual-in_err-hash_state-in-Bounds.ensures.1
-    c.in_err-hash_state-in-Bounds.ensures c.in_ok-layer-in-Bounds.ensures.ok (layer_none_first (bounds_asks c.in-Bounds.scale c.in-Bounds.path) _))
+pub returns-in_ok-layer-in-Window : goal.returns-in_ok-layer-in-Window
+returns-in_ok-layer-in-Window g c =
+    rw c.in-Window.is
+    (window_ran _ _ _ _ c.in-Window.scale c.in-Window.path c.in-Window.wkt _ _ _ _ _ c.as_bytes-wkt.ensures.value c.in_ok-layer-in-Window.ensures.ok
+    c.run_window.ensures.writes c.run_window.ensures.wkt c.run_window.ensures.fault c.run_window.ensures.faults)
 
-pub returns-in_ok-hash_state-in-Bounds : goal.returns-in_ok-hash_state-in-Bounds
-returns-in_ok-hash_state-in-Bounds g c =
+pub returns-in_ok-layer-in-Stats : goal.returns-in_ok-layer-in-Stats
+returns-in_ok-layer-in-Stats g c =
+    rw c.in-Stats.is
+    (layer_asked (stats_asks c.in-Stats.scale c.in-Stats.path) _ _ _ _ _ _ _ _ c.in_ok-layer-in-Stats.ensures.ok
+    c.run_stats.ensures.writes c.run_stats.ensures.fault c.run_stats.ensures.faults)
+
+pub returns-in_ok-layer-in-Bounds : goal.returns-in_ok-layer-in-Bounds
+returns-in_ok-layer-in-Bounds g c =
     rw c.in-Bounds.is
     (layer_asked (bounds_asks c.in-Bounds.scale c.in-Bounds.path) _ _ _ _ _ _ _ _ c.in_ok-layer-in-Bounds.ensures.ok
     c.run_bounds.ensures.writes c.run_bounds.ensures.fault c.run_bounds.ensures.faults)

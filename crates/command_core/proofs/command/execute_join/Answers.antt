@@ -6,15 +6,10 @@ returns-in_err-sources g c =
     not_opened _ _ _ _ _ _ _ (product_reads c.args.product c.args.join.now) _ c.from_residual.result _ c.in_err-sources.ensures.missing c.requires
     c.from_residual.ensures.1
 
-pub returns-in_err-hash_state : goal.returns-in_err-hash_state
-returns-in_err-hash_state g c =
-    without_keys _ _ _ _ _ _ _ (product_reads c.args.product c.args.join.now) _ c.from_residual-in_err-hash_state.result _ _ _ _ c.requires
-    c.from_residual-in_err-hash_state.ensures.1 c.in_err-hash_state.ensures c.in_ok-sources.ensures.opened
-
-pub returns-in_err-hash_state-2 : goal.returns-in_err-hash_state-2
-returns-in_err-hash_state-2 g c =
-    without_keys _ _ _ _ _ _ _ (product_reads c.args.product c.args.join.now) _ c.from_residual-in_err-hash_state-2.result _ _ _ _ c.requires
-    c.from_residual-in_err-hash_state-2.ensures.1 c.in_err-hash_state-2.ensures c.in_ok-sources.ensures.opened
+pub returns-in_err-states : goal.returns-in_err-states
+returns-in_err-states g c =
+    without_keys _ _ _ _ _ _ _ (product_reads c.args.product c.args.join.now) _ c.from_residual-in_err-states.result _ _ _ _ c.requires
+    c.from_residual-in_err-states.ensures.1 c.in_err-states.ensures c.in_ok-sources.ensures.opened
 
 pub returns-in-Report : goal.returns-in-Report
 returns-in-Report g c =

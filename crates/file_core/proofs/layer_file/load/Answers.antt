@@ -1,9 +1,9 @@
-use Rattle.std.proofs.Common.{◌≡◌, ◌≤◌, ◌∙◌, suc, Bool, true, false, Result, Ok, Err, ap, subst, sym}
+use Rattle.std.proofs.Common.{◌≡◌, ◌≢◌, ◌≤◌, ◌∙◌, suc, Bool, true, Result, Ok, Err, ap, subst, sym}
 use Rattle.std.proofs.lemmas.Result.{err_from_is_err_and}
 use Rattle.file_core.specs.declared.read_fault.ReadFault.{ReadFault}
 use Rattle.file_core.specs.Batches.{all_rows}
 use Rattle.file_core.specs.Unread.{records_unread}
-use Rattle.file_core.proofs.BatchLemmas.{most_rounds, batch-counted, batch-ends, batch-fails, batch-goes-on, batch-refuses, batch-smaller}
+use Rattle.file_core.proofs.BatchLemmas.{most_rounds, batch-counted, batch-goes-on, batch-last, batch-refuses, batch-smaller}
 use Rattle.file_core.proofs.layer_file.load.Goals as goal
 use Rattle.file_core.proofs.layer_file.load.Goals.{in_default, in_default-2}
 
@@ -55,38 +55,14 @@ returns-in_err-round-clause-file g c =
     (batch-refuses c.args.scale inv.0 c.loop-round.round.unread (all_rows c.loop-round.round.batch.rows.items) c.loop-round.round.loading inv.2
     c.loop-round.round.batch.more fault inv.1 (c.in_err-round.ensures.err (λ e. known (ap Err e)))))
 
-pub returns-in_err-add_parts-clause-file : goal.returns-in_err-add_parts-clause-file
-returns-in_err-add_parts-clause-file g c =
-    let inv = c.loop-round.invariant in
-    let fault = c.in_err-add_parts.field-0.0 in
-    let p = err_from_is_err_and c.from_residual-in_err-add_parts.result c.from_residual-in_err-add_parts.ensures.1 in
-    rw (p.1, p.2)
-    (λ known.
-    inv.3 (Err fault)
-    (batch-refuses c.args.scale inv.0 c.loop-round.round.unread (all_rows c.loop-round.round.batch.rows.items) c.loop-round.round.loading inv.2
-    c.loop-round.round.batch.more fault inv.1 (c.in_err-add_parts.ensures.err (λ e. known (ap Err e)))))
-
-pub returns-in_err-batch-clause-file : goal.returns-in_err-batch-clause-file
-returns-in_err-batch-clause-file g c =
-    let inv = c.loop-round.invariant in
-    let fault = c.in_err-batch.field-0.0 in
-    let batch = rw c.in_err-batch.was at inv.1 in
-    let p = err_from_is_err_and c.from_residual-in_err-batch.result c.from_residual-in_err-batch.ensures.1 in
-    rw (p.1, p.2)
-    (λ known.
-    inv.3 (Err fault)
-    (batch-fails c.args.scale inv.0 c.loop-round.round.unread (all_rows c.loop-round.round.batch.rows.items) c.loop-round.round.loading inv.2
-    c.add_parts.new.loading fault batch (λ e. known (ap Err e)) c.in_ok-add_parts.ensures.ok))
-
 pub returns-clause-file : goal.returns-clause-file
 returns-clause-file g c known =
     let inv = c.loop-round.invariant in
-    let was = c.in_ok-batch.was in
-    let last : c.loop-round.round.batch.more ≡ Ok false =
+    let last : c.loop-round.round.batch.more ≢ Ok true =
     elim c.match-round.branch [
-      | in_default w ↦ let is = w.in_default.is in let test = w.in_default.field-0-test in cc
-      | in_default-2 w ↦ let is = w.in_default.is in absurd cc
+      | in_default w ↦ λ more. let is = w.in_default.is in let test = w.in_default.field-0-test in cc
+      | in_default-2 w ↦ λ more. let is = w.in_default.is in absurd cc
     ] in
-    inv.3 (Ok c.add_parts.new.loading)
-    (batch-ends c.args.scale inv.0 c.loop-round.round.unread (all_rows c.loop-round.round.batch.rows.items) c.loop-round.round.loading inv.2 c.add_parts.new.loading
-    (rw last at inv.1) c.in_ok-add_parts.ensures.ok)
+    inv.3 c.add_last.result
+    (batch-last c.args.scale inv.0 c.loop-round.round.unread (all_rows c.loop-round.round.batch.rows.items) c.loop-round.round.loading inv.2
+    c.loop-round.round.batch.more c.add_last.result inv.1 last known (c.add_last.ensures.rows known))
