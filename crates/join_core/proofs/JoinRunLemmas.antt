@@ -1,11 +1,11 @@
 -- The answers of a join of files.
-use Rattle.std.proofs.Common.{◌≡◌, ℕ, List, Option, Some, None, Result, Ok, Err, IsSome, IsErrAnd, IsErrOf, IsSomeAnd, IfSome, IsTrue, Bool, true, false, IfErr}
+use Rattle.std.proofs.Common.{◌≡◌, ℕ, List, Option, Some, None, Result, Ok, Err, IsSome, IsErrAnd, IsErrOf, IsSomeAnd, IfSome, IsTrue, Bool, true, false, IfErr, OnOk}
 use Rattle.std.proofs.Common.{◌↔◌, ◌≢◌, All, get_or, refl, sym, subst, ◌∙◌, map}
 use Rattle.std.specs.Prelude.{⊤}
 use Rattle.relation_core.specs.declared.relation.Relation.{Relation}
+use Rattle.wkt_core.specs.declared.scale.Scale.{Scale}
 use Rattle.layer_core.specs.declared.edit.Edit.{Edit as EditType}
 use Rattle.layer_core.specs.declared.fault.LayerFault.{LayerFault}
-use Rattle.layer_core.specs.declared.fault.LayerFault.TheVariants.{Memory as no_memory}
 use Rattle.file_core.specs.declared.read_fault.ReadFault.{ReadFault}
 use Rattle.file_core.specs.declared.read_fault.ReadFault.TheVariants.{Io}
 use Rattle.layer_core.specs.Edits.{Layers, both, content_of, edits_give}
@@ -16,7 +16,7 @@ use Rattle.join_core.specs.declared.fault.RunFault.{RunFault}
 use Rattle.join_core.specs.declared.fault.RunFault.TheVariants.{NoFile, Read, Wkt, Edit, Join, TooManyToDraw, Write, Memory, NoKeys}
 use Rattle.join_core.specs.Inputs.{LayerFile, BlamesBytes, BlamesInput}
 use Rattle.join_core.specs.JoinRuns.{JoinFiles, EditFile, LayersGive, edits_fault, edit_refused, edited, JoinGives, no_layers, IsLateFault}
-use Rattle.join_core.specs.JoinRuns.{IsJoinFault, AreMade, AreMadeTo, EndsAt}
+use Rattle.join_core.specs.JoinRuns.{IsJoinFault, AreEdited, IsEditsFault, unread, ended, EndsAt}
 use Rattle.join_core.specs.SourceStates.{FailedAt}
 use Rattle.join_core.specs.Joins.{IsJoinList}
 use Rattle.report_core.specs.Reports.{IsHeld}
@@ -44,44 +44,60 @@ handed_on J (Err x) e is h same gives =
     let whole : x ≡ is = h ∙ same in
     λ blame. subst (λ (y : RunFault). J (Err y)) (sym whole) (gives (subst BlamesInput whole blame))
 
-pub edits_blamed : {T : Type 0} (files : JoinFiles) (l r : Contents) (out : Result T RunFault) (e : RunFault)
-    → LayerFile files.scale files.left (Ok l) → LayerFile files.scale files.right (Ok r) → IsErrAnd out (λ x. x ≡ e)
-    → ((f : ReadFault) × (e ≡ Read Edits f) × (BlamesBytes f → EditFile files.scale files.edits (Err f)))
-    → IfErr out (λ x. BlamesInput x → LayersGive files (Err x))
-edits_blamed files l r out e left right h fault =
-    handed_on (LayersGive files) out e (Read Edits fault.0) h fault.1 (λ blame. edits_fault l r fault.0 left right (fault.2 blame))
+-- ---- the edits of a file
 
-pub edit_blamed : {T : Type 0} (files : JoinFiles) (l r : Contents) (list items : List EditType) (out : Result T RunFault)
-    (e : RunFault)
-    → LayerFile files.scale files.left (Ok l) → LayerFile files.scale files.right (Ok r) → EditFile files.scale files.edits (Ok (map content_of items))
-    → list ≡ items → IsErrAnd out (λ x. x ≡ e)
-    → ((row : ℕ) × (f : LayerFault) × (e ≡ Edit row f) × EndsAt row f (both l r) (map content_of list))
-    → IfErr out (λ x. BlamesInput x → LayersGive files (Err x))
-edit_blamed files l r list items out e left right edits same h fault =
-    handed_on (LayersGive files) out e (Edit fault.0 fault.1) h fault.2
-    (λ blame. edit_refused l r (map content_of items) fault.0 fault.1 left right edits
-    (subst (λ (es : List EditType). edits_give 1 (both l r) (map content_of es) ≡ Err (fault.0, fault.1)) same (fault.3.refused blame)))
+-- a fault of the edits, where both layers are good
+module _ (files : JoinFiles) (l r : Contents) (left : LayerFile files.scale files.left (Ok l)) (right : LayerFile files.scale files.right (Ok r)) where
+  edits_give_fault : (e : RunFault) → IsEditsFault files.scale files.edits (both l r) e → BlamesInput e → LayersGive files (Err e)
+  edits_give_fault e (unread f blames) blame = edits_fault l r f left right (blames blame)
+  edits_give_fault e (ended edits row f file ends) blame = edit_refused l r edits row f left right file (ends.refused blame)
 
--- the edits are made up to the one at which memory runs out
-pub made_to : (files : JoinFiles) (l r : Contents) (list items : List EditType) (row : ℕ) (f : LayerFault) → LayerFile files.scale files.left (Ok l)
-    → LayerFile files.scale files.right (Ok r) → EditFile files.scale files.edits (Ok (map content_of items)) → list ≡ items
-    → EndsAt row f (both l r) (map content_of list) → f ≡ no_memory → AreMadeTo files row
-made_to files l r list items row f left right edits same ends is = record {
-  left = l;
-  right = r;
-  edits = map content_of items;
-  left_read = left;
-  right_read = right;
-  edits_read = edits;
-  are_made = subst (λ (es : List EditType). AreMade row (both l r) (map content_of es)) same (ends.want is);
-}
+  pub edits_blamed : {T : Type 0} (out : Result T RunFault) (e : RunFault) → IsErrAnd out (λ x. x ≡ e)
+      → IsEditsFault files.scale files.edits (both l r) e → IfErr out (λ x. BlamesInput x → LayersGive files (Err x))
+  edits_blamed out e h fault = handed_on (LayersGive files) out e e h refl (edits_give_fault e fault)
 
-pub layers_edited : (files : JoinFiles) (l r : Contents) (list items : List EditType) (layers : Layers)
-    → LayerFile files.scale files.left (Ok l) → LayerFile files.scale files.right (Ok r) → EditFile files.scale files.edits (Ok (map content_of items))
-    → list ≡ items → edits_give 1 (both l r) (map content_of list) ≡ Ok layers → LayersGive files (Ok layers)
-layers_edited files l r list items layers left right edits same given =
-    edited l r (map content_of items) layers left right edits
-    (subst (λ (es : List EditType). edits_give 1 (both l r) (map content_of es) ≡ Ok layers) same given)
+  -- the edits are made up to the one at which memory runs out
+  edits_join : (e : RunFault) → IsEditsFault files.scale files.edits (both l r) e → IsJoinFault files e
+  edits_join e (unread f blames) = ((l, left), (r, right))
+  edits_join e (ended edits row f file ends) = λ is. record {
+    left = l;
+    right = r;
+    edits = edits;
+    left_read = left;
+    right_read = right;
+    edits_read = file;
+    are_made = ends.want is;
+  }
+
+  pub edits_join_fault : {T : Type 0} (out : Result T RunFault) (e : RunFault) → IsErrAnd out (λ x. x ≡ e)
+      → IsEditsFault files.scale files.edits (both l r) e → IfErr out (IsJoinFault files)
+  edits_join_fault (Ok x) e h fault = absurd h
+  edits_join_fault (Err x) e h fault = subst (IsJoinFault files) (sym h) (edits_join e fault)
+
+  pub layers_edited : (layers : Layers) → AreEdited files.scale files.edits (both l r) layers → LayersGive files (Ok layers)
+  layers_edited layers given = edited l r given.0 layers left right given.1 given.2
+
+module _ (scale : Scale) (file : Option (Option (List ℕ))) (layers : Layers) where
+  pub edits_handed_on : {T : Type 0} (out : Result T RunFault) (e : RunFault) (f : ReadFault) → IsErrAnd out (λ x. x ≡ e) → e ≡ Read Edits f
+      → (BlamesBytes f → EditFile scale file (Err f)) → IfErr out (IsEditsFault scale file layers)
+  edits_handed_on (Ok x) e f h is blames = absurd h
+  edits_handed_on (Err x) e f h is blames = subst (IsEditsFault scale file layers) (sym (h ∙ is)) (unread f blames)
+
+  pub edits_made : {T : Type 0} (out : Result T RunFault) (list items : List EditType) (after : Layers) → list ≡ items
+      → EditFile scale file (Ok (map content_of items)) → OnOk out (edits_give 1 layers (map content_of list) ≡ Ok after)
+      → OnOk out (AreEdited scale file layers after)
+  edits_made (Err x) list items after same read made = tt
+  edits_made (Ok x) list items after same read made =
+      (map content_of items, read, subst (λ (es : List EditType). edits_give 1 layers (map content_of es) ≡ Ok after) same made)
+
+  pub edits_ended : {T : Type 0} (out : Result T RunFault) (list items : List EditType) → list ≡ items
+      → EditFile scale file (Ok (map content_of items))
+      → IfErr out (λ e. (row : ℕ) × (f : LayerFault) × (e ≡ Edit row f) × EndsAt row f layers (map content_of list))
+      → IfErr out (IsEditsFault scale file layers)
+  edits_ended (Ok x) list items same read err = tt
+  edits_ended (Err x) list items same read err =
+      subst (IsEditsFault scale file layers) (sym err.2)
+      (ended (map content_of items) err.0 err.1 read (subst (λ (es : List EditType). EndsAt err.0 err.1 layers (map content_of es)) same err.3))
 
 -- a late fault blames no input, and is none of a source
 pub none_blamed : (e : RunFault) → IsLateFault e → BlamesInput e → ⊥
@@ -195,3 +211,15 @@ edits_unread F (Some s) (Err x) e fresh h other = (
   (λ q. absurd (other (let is : x ≡ Read Edits Io = cc in sym h ∙ is))),
   (λ p. absurd (let both : F s ≡ false = fresh in let bad : F s ≡ true = p in cc)),
 )
+
+-- the sources, where the layers were read and not all edits were made
+pub edits_io : {T U V : Type 0} {scale : Scale} {file : Option (Option (List ℕ))} {layers : Layers} (L R E : Type 0) (out : Result T RunFault) (e : RunFault)
+    (y : U) → IsErrAnd out (λ x. x ≡ e) → IsEditsFault scale file layers e → IsErrOf {E = RunFault} (Ok y) (Read Left Io) ↔ L
+    → IsErrOf {E = RunFault} (Ok y) (Read Right Io) ↔ R → IsErrOf {T = V} (Err e) (Read Edits Io) ↔ E
+    → (i : Input) → IsErrOf out (Read i Io) ↔ FailedAt L R E i
+edits_io L R E out e y h (unread f blames) left right edits =
+    failed_at L R E out (io_passed out Left L e e h refl (λ g q. absurd cc) y left) (io_passed out Right R e e h refl (λ g q. absurd cc) y right)
+    (io_handed_on out Edits E e h edits) (is_join_kind out e e h refl tt)
+edits_io L R E out e y h (ended list row f read ends) left right edits =
+    failed_at L R E out (io_passed out Left L e e h refl (λ g q. absurd cc) y left) (io_passed out Right R e e h refl (λ g q. absurd cc) y right)
+    (io_handed_on out Edits E e h edits) (is_join_kind out e e h refl tt)

@@ -110,6 +110,19 @@ pub record EndsAt (row : ℕ) (fault : LayerFault) (layers : Layers) (edits : Li
   pub refused : BlamesEdit fault → edits_give 1 layers edits ≡ Err (row, fault)
   pub want : fault ≡ no_memory → AreMade row layers edits
 
+-- the layers after all edits of a file
+abbrev pub AreEdited : Scale → Option (Option (List ℕ)) → Layers → Layers → Type 0
+AreEdited scale file old new =
+    (edits : List EditContent) × EditFile scale file (Ok edits) × (edits_give 1 old edits ≡ Ok new)
+
+-- why not all edits of a file are made: it can't be read, or making them ends at a row
+pub data IsEditsFault (scale : Scale) (file : Option (Option (List ℕ))) (layers : Layers)
+    : RunFault → Type 0 where
+  unread : (f : ReadFault) → (BlamesBytes f → EditFile scale file (Err f))
+      → IsEditsFault scale file layers (Read Edits f)
+  ended : (edits : List EditContent) (row : ℕ) (f : LayerFault) → EditFile scale file (Ok edits)
+      → EndsAt row f layers edits → IsEditsFault scale file layers (Edit row f)
+
 -- both files of layers are good
 abbrev pub GiveLayers : JoinFiles → Type 0
 GiveLayers files =

@@ -1,13 +1,14 @@
 //! The two layers of a join or a picture, after a file of edits.
 
 ghost use Rattle.std.specs.Prelude.{◌≡◌, ◌↔◌, ◌≤◌, Ok, Err, false, map, length, IsTrue, IfOk};
-ghost use Rattle.std.specs.Prelude.{IfErr, IfSome, IsErrOf, IsSomeAnd};
+ghost use Rattle.std.specs.Prelude.{IfErr, IfSome, IsErrOf, IsSomeAnd, OnOk};
 ghost use Rattle.file_core.specs.declared.read_fault.ReadFault.{ReadFault};
 ghost use Rattle.layer_core.specs.Edits.{both, content_of};
 ghost use Rattle.file_core.specs.Limits.{most_file_bytes};
 ghost use Rattle.join_core.specs.declared.fault.Input.{Input};
 ghost use Rattle.join_core.specs.Inputs.{BlamesBytes, BlamesInput};
 ghost use Rattle.join_core.specs.JoinRuns.{EditFile, bytes_of, files_of, LayersGive, IsJoinFault};
+ghost use Rattle.join_core.specs.JoinRuns.{AreEdited, IsEditsFault};
 ghost use Rattle.join_core.specs.SourceStates.{AreFresh, TellsFailures};
 
 use super::edits::apply_edits;
@@ -46,9 +47,27 @@ pub(crate) fn edited_layers<R: Threads + Sync, A: Source, B: Source, E: Source>(
 {
     let (left, right) = (&mut sources.left, &mut sources.right);
     let mut layers = read_layers(rt, alloc, states, scale, left, right, workers)?;
-    let edit_list = read_edit_list(alloc, scale, &mut sources.edits)?;
-    apply_edits(edit_list.as_slice(), &mut layers.0, &mut layers.1)?;
+    edit_layers(alloc, scale, &mut sources.edits, &mut layers)?;
     Ok(layers)
+}
+
+/// Makes the edits of a file in order, if there is one, up to the first that is refused.
+fn edit_layers<E: Source>(
+    alloc: Global,
+    scale: Scale,
+    edits: &mut Option<E>,
+    layers: &mut (Layer, Layer),
+) -> Result<(), RunFault>
+    requires { IfSome edits.old (λ e. E.has_failed e ≡ false) }
+    ensures ok { OnOk result (AreEdited scale (bytes_of E.remaining edits.old)
+        (both layers.old.0.list layers.old.1.list) (both layers.new.0.list layers.new.1.list)) }
+    ensures fault { IfErr result (IsEditsFault scale (bytes_of E.remaining edits.old)
+        (both layers.old.0.list layers.old.1.list)) }
+    ensures io { IsErrOf result (RunFault.Read Input.Edits ReadFault.Io)
+        ↔ IsSomeAnd edits.new (λ e. IsTrue (E.has_failed e)) }
+{
+    let edit_list = read_edit_list(alloc, scale, edits)?;
+    apply_edits(edit_list.as_slice(), &mut layers.0, &mut layers.1)
 }
 
 /// The edits, if there is a file of them.
