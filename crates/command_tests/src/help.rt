@@ -6,7 +6,7 @@ use std::alloc::Global;
 use std::test::Fail;
 
 /// Words that ask for help, and what is among it.
-const HELP: [(&str, &str); 41] = [
+const HELP: [(&str, &str); 43] = [
     ("rjoin|--help", "id,wkt"),
     ("rjoin|--help", "rjoin COMMAND --help tells more"),
     (
@@ -63,7 +63,11 @@ const HELP: [(&str, &str); 41] = [
     ),
     (
         "rjoin|join|--help",
-        "share a point, and the one of the lower dimension\n              lies outside the other too; two segments: their interiors share a single point\n",
+        "share a point, and the one of the lower dimension\n              lies outside",
+    ),
+    (
+        "rjoin|join|--help",
+        "lies outside the other too; two segments: their interiors share a single point\n",
     ),
     (
         "rjoin|join|--help",
@@ -75,7 +79,11 @@ const HELP: [(&str, &str); 41] = [
     ),
     (
         "rjoin|join|--help",
-        "of one dimension, which what the interiors share has too: each lies outside the\n              other too\n",
+        "of one dimension, which what the interiors share has too: each lies outside the\n",
+    ),
+    (
+        "rjoin|join|--help",
+        "each lies outside the\n              other too\n",
     ),
     (
         "rjoin|join|--help",

@@ -2,8 +2,9 @@
 use Rattle.std.specs.Prelude.{◌≡◌, ℕ, List, IsSomeAnd, slice_get}
 use Rattle.relation_core.specs.declared.matrix.Matrix.{Matrix}
 use Rattle.relation_core.specs.declared.meeting.Meeting.{Meeting}
-use Rattle.relation_core.specs.declared.meeting.Meeting.TheVariants.{Disjoint, Meet, Overlap, Inside}
-use Rattle.relation_core.specs.declared.meeting.Meeting.TheVariants.{CoveredBy, Contains, Covers, Equal}
+use Rattle.relation_core.specs.declared.meeting.Meeting.TheVariants.{Disjoint, Meet, Overlap}
+use Rattle.relation_core.specs.declared.meeting.Meeting.TheVariants.{Inside, CoveredBy, Contains}
+use Rattle.relation_core.specs.declared.meeting.Meeting.TheVariants.{Covers, Equal}
 use Rattle.relation_core.specs.declared.meeting.Meeting.TheVariants.{PointDisjoint, PointAtEnd}
 use Rattle.relation_core.specs.declared.meeting.Meeting.TheVariants.{PointInside, DisjointPoint}
 use Rattle.relation_core.specs.declared.meeting.Meeting.TheVariants.{EndAtPoint, ContainsPoint}

@@ -7,7 +7,8 @@ use Rattle.relation_core.specs.declared.extent.Extent.TheVariants.{Empty}
 use Rattle.relation_core.specs.declared.part.Parts.{Parts}
 use Rattle.relation_core.specs.declared.matrix.Matrix.{Matrix}
 use Rattle.relation_core.specs.declared.pattern_value.PatternValue.{PatternValue}
-use Rattle.relation_core.specs.declared.pattern_value.PatternValue.TheVariants.{Any, NotEmpty, Exactly}
+use Rattle.relation_core.specs.declared.pattern_value.PatternValue.TheVariants.{Any, NotEmpty}
+use Rattle.relation_core.specs.declared.pattern_value.PatternValue.TheVariants.{Exactly}
 use Rattle.relation_core.specs.declared.mask.Mask.{Mask}
 use Rattle.relation_core.specs.declared.mask.MaskFault.{MaskFault}
 use Rattle.relation_core.specs.declared.mask.MaskFault.TheVariants.{Letter}

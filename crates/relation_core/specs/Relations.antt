@@ -8,7 +8,8 @@ use Rattle.relation_core.specs.declared.part.Parts.{Parts}
 use Rattle.relation_core.specs.declared.matrix.Matrix.{Matrix}
 use Rattle.geom_core.specs.declared.shape.Shape.{Shape}
 use Rattle.relation_core.specs.declared.pattern_value.PatternValue.{PatternValue}
-use Rattle.relation_core.specs.declared.pattern_value.PatternValue.TheVariants.{Any, NotEmpty, Exactly}
+use Rattle.relation_core.specs.declared.pattern_value.PatternValue.TheVariants.{Any, NotEmpty}
+use Rattle.relation_core.specs.declared.pattern_value.PatternValue.TheVariants.{Exactly}
 use Rattle.relation_core.specs.declared.mask.Mask.{Mask as MaskType}
 use Rattle.relation_core.specs.declared.relation.Relation.{Relation}
 use Rattle.relation_core.specs.declared.relation.Relation.TheVariants.{Mask, Disjoint, Intersects}
