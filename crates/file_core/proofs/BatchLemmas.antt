@@ -203,12 +203,12 @@ module _ (scale : Scale) where
             say-give scale (count_unread old + 1) (count_unread new + 1) (records_unread old) read batch.left layer next answer batch.rows
             (omega arith) batch.behind.2 given (rw batch.behind.1 gives)
 
-        pub batch-ends : IsBatch scale old read (Ok false) new → with_rows layer read ≡ Ok next → Gives old layer (Ok next)
+        batch-ends : IsBatch scale old read (Ok false) new → with_rows layer read ≡ Ok next → Gives old layer (Ok next)
         batch-ends batch given =
             say-give scale (count_unread old + 1) (count_unread old + 1 + length read) (records_unread old) read batch.left layer next (Ok next)
             batch.rows (omega arith) refl given (rw batch.behind refl)
 
-        pub batch-fails : (fault : ReadFault) → IsBatch scale old read (Err fault) new → fault ≢ Memory → with_rows layer read ≡ Ok next
+        batch-fails : (fault : ReadFault) → IsBatch scale old read (Err fault) new → fault ≢ Memory → with_rows layer read ≡ Ok next
             → Gives old layer (Err fault)
         batch-fails fault batch known given =
             say-give scale (count_unread old + 1) (count_unread old + 1 + length read) (records_unread old) read batch.left layer next (Err fault)

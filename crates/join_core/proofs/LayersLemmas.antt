@@ -26,7 +26,7 @@ unread_blamed scale known f reading long blame =
 
 module _ (scale : Scale) where
   -- what is built of a source's bytes is what its file gives
-  pub built_blamed : (known : Option (List ℕ)) (items : List ℕ) (out : Result LayerState ReadFault) (f : ReadFault)
+  built_blamed : (known : Option (List ℕ)) (items : List ℕ) (out : Result LayerState ReadFault) (f : ReadFault)
       → IfSome known (λ bytes. items ≡ bytes) → Builds scale items out → out ≡ Err f → BlamesBytes f → LayerFile scale known (Err f)
   built_blamed None items out f same built is blame = tt
   built_blamed (Some bytes) items out f same built is blame =
@@ -34,7 +34,7 @@ module _ (scale : Scale) where
       let gives = subst (λ (r : Result LayerState ReadFault). IsLayerFile scale items (list_read r)) is (built.gives no_memory) in
       subst (λ (b : List ℕ). IsLayerFile scale b (Err f)) same gives
 
-  pub built_well : (known : Option (List ℕ)) (items : List ℕ) (out : Result LayerState ReadFault) (layer : LayerState)
+  built_well : (known : Option (List ℕ)) (items : List ℕ) (out : Result LayerState ReadFault) (layer : LayerState)
       → IfSome known (λ bytes. items ≡ bytes) → Builds scale items out → out ≡ Ok layer → LayerFile scale known (Ok layer.list)
   built_well None items out layer same built is = tt
   built_well (Some bytes) items out layer same built is =
@@ -52,7 +52,7 @@ module _ (scale : Scale) where
   }
 
   -- what a source is read as blames it
-  pub read_blamed : (known : Option (List ℕ)) (out : Result LayerState ReadFault) (f : ReadFault)
+  read_blamed : (known : Option (List ℕ)) (out : Result LayerState ReadFault) (f : ReadFault)
       → Reads scale known out → out ≡ Err f → BlamesBytes f → LayerFile scale known (Err f)
   read_blamed known out f reads is = subst (λ (r : Result LayerState ReadFault). IfErr r (λ x. BlamesBytes x → LayerFile scale known (Err x))) is reads.fault
 

@@ -113,7 +113,8 @@ pub record EndsAt (row : ℕ) (fault : LayerFault) (layers : Layers) (edits : Li
 -- the layers after all edits of a file
 abbrev pub AreEdited : Scale → Option (Option (List ℕ)) → Layers → Layers → Type 0
 AreEdited scale file old new =
-    (edits : List EditContent) × EditFile scale file (Ok edits) × (edits_give 1 old edits ≡ Ok new)
+    (edits : List EditContent) × EditFile scale file (Ok edits)
+    × (edits_give 1 old edits ≡ Ok new)
 
 -- why not all edits of a file are made: it can't be read, or making them ends at a row
 pub data IsEditsFault (scale : Scale) (file : Option (Option (List ℕ))) (layers : Layers)
