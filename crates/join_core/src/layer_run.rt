@@ -77,7 +77,15 @@ fn text_of<R: Threads + Sync, L: Source, T: LayerText>(
         ↔ IsTrue (L.has_failed source.new) }
 {
     match read_by_threads(rt, alloc, state, scale, source, DEFAULT_WORKERS) {
-        Ok(layer) => Ok(made.text(alloc, &layer)?),
+        Ok(layer) => text_from(alloc, &layer, made),
         Err(fault) => Err(RunFault::Read(Input::Layer, fault)),
     }
+}
+
+/// The text that is made of a layer.
+fn text_from<T: LayerText>(alloc: Global, layer: &Layer, made: &T) -> Result<Text, RunFault>
+    ensures ok { IfOk result (λ text. T.is_text_of made.now layer.now (bytes_of_text text)) }
+    ensures err { IfErr result (λ fault. fault ≡ RunFault.Memory) }
+{
+    Ok(made.text(alloc, layer)?)
 }

@@ -56,8 +56,9 @@ pub fn is_id(id: &str) -> bool
 
 impl Layer {
     ghost use Rattle.std.specs.Prelude.{◌≡◌, ◌↔◌, [], None, Some, Ok, length, IsTrue, OnOk, OnErr};
-    ghost use Rattle.std.specs.Prelude.{IfOk};
+    ghost use Rattle.std.specs.Prelude.{◌<◌, IfOk, IfNone};
     ghost use Rattle.std.specs.Option.{option_map};
+    ghost use Rattle.layer_core.specs.Limits.{most_features};
     ghost use Rattle.layer_core.specs.Layers.{empty, IsLayer, IdAndShapeAre, NumberAndShapeAre};
     ghost use Rattle.layer_core.specs.Layers.{with_id, with_number, inserted, deleted};
     ghost use Rattle.layer_core.specs.LayerTrees.{entries_for, IsTreeOf};
@@ -184,17 +185,11 @@ impl Layer {
         ensures err { OnErr result (self.new ≡ self.old) }
         ensures refused { AnswersWith (insert_refusal self.old.list id.now) result }
     {
-        if !is_id(id) {
-            return Err(LayerFault::BadId);
+        if let Some(refusal) = self.insert_refusal(id) {
+            return Err(refusal);
         }
-        if self.features.find(id).is_some() {
-            return Err(LayerFault::DoubleId);
-        }
-        if self.features.next() >= MAX_FEATURES {
-            return Err(LayerFault::LayerFull);
-        }
-        let id = self.features.owned(id)?;
         self.features.reserve()?;
+        let id = self.features.owned(id)?;
         let number = self.features.next() as u32;
         self.tree.insert(Entry { shape, number })?;
         // There is room for it, so no refusal comes after the tree has changed.
@@ -202,6 +197,25 @@ impl Layer {
             Ok(_) => Ok(()),
             Err(_) => unreachable!(),
         }
+    }
+
+    /// Why a feature with this id can't be inserted, running out of memory aside.
+    fn insert_refusal(&self, id: &str) -> Option<LayerFault>
+        ensures refusal { result ≡ insert_refusal self.now.list id.now }
+        ensures absent { IfNone result (with_id id.now self.now.list ≡ None) }
+        ensures below { IfNone result (self.now.list.next < most_features) }
+        ensures layer { IfNone result (IsLayer self.now.list) }
+    {
+        if !is_id(id) {
+            return Some(LayerFault::BadId);
+        }
+        if self.features.find(id).is_some() {
+            return Some(LayerFault::DoubleId);
+        }
+        if self.features.next() >= MAX_FEATURES {
+            return Some(LayerFault::LayerFull);
+        }
+        None
     }
 
     /// Deletes the feature with this id, and gives its shape.

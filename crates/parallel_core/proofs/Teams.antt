@@ -100,17 +100,17 @@ right_true false b is = cc
 
 module _ (shared : SharedValue) where
   -- of no workers, and of workers of which one wasn't started
-  pub none_run : (room : ℕ) (team : Team) → IsReady shared.board shared.outlet team → length team.ports.items ≡ 0 → vec_capacity team.seats ≡ room
-      → HasRun shared (length team.ports.items) room team.receiver team
-  none_run room team h none same =
-      let many = h.as_many in
+  pub none_run : (old new : Team) → IsReady shared.board shared.outlet old → length old.ports.items ≡ 0 → new.seats ≡ old.seats → IsAsBefore old new
+      → HasRun shared (length old.ports.items) (vec_capacity old.seats) old.receiver new
+  none_run old new h none seats same =
+      let many : length new.seats.items ≡ length old.ports.items = ap (λ v. length v.items) seats ∙ h.as_many in
       record {
-        receiver = continues_here shared.outlet team.receiver h.receives;
-        room_is = same;
+        receiver = subst (Continues shared.outlet old.receiver) (sym same.receiver) (continues_here shared.outlet old.receiver h.receives);
+        room_is = same.capacity;
         few = omega arith;
         shares = λ started. record {
-          count_is = h.as_many;
-          each = λ index seat is. absurd (let inside = slice_get_within team.seats.items index seat is in omega arith);
+          count_is = many;
+          each = λ index seat is. absurd (let inside = slice_get_within new.seats.items index seat is in omega arith);
         };
       }
 

@@ -111,9 +111,6 @@ comes_back shared index w before worked is all part seat at ended unmet same sen
   port = record { ended = ended; unmet = unmet; index_is = same ∙ at };
 }
 
--- a task's script was sent, or a beginning of it
-pub ruleset task_said = (says_nothing, says_one, says_part_of_one)
-
 pub seat_gains : (board : BoardValue) (old new : SeatValue) (number : ℕ) → IsSeatBelow board old → IsSeatOf board new → IsAfterNumber board old new number
     → IsSeatBelow board new
 seat_gains board old new number so_far own after = record {

@@ -67,11 +67,11 @@ impl FusedCollector {
         if !ok {
             return Err(JoinFault::Memory);
         }
-        let outcome = if workers > 1 {
-            self.collector.finish_by_threads(rt)?
+        let finished = if workers > 1 {
+            self.collector.finish_by_threads(rt)
         } else {
-            self.collector.finish()?
+            self.collector.finish()
         };
-        Ok(outcome)
+        Ok(finished?)
     }
 }

@@ -73,7 +73,7 @@ impl Team {
 }
 
 /// What a worker's thread gives back, by what it was given.
-#[derive_where(Clone, Copy)]
+#[derive(Drop)]
 struct Working<'a, P, G> {
     shared: Shared<'a, P, G>,
     index: u32,

@@ -119,7 +119,7 @@ fn process_tasks<R: Threads + Wait + Sync, P: Rows, G: Gate>(
 }
 
 /// Sends the script of one task.
-#[tactic(auto, using(crate::proofs::Workers::task_said))]
+#[tactic(auto, using(crate::proofs::Workers::says_nothing))]
 fn send_task<R: Wait, P: Rows, G>(
     rt: &R,
     alloc: Global,

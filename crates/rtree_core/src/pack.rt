@@ -120,7 +120,7 @@ fn page_size(items: usize, pages: usize) -> usize
 }
 
 /// Takes the first so many items into a list, which has room for one more than the most.
-#[tactic(auto, using(crate::proofs::PackLemmas::page_none, crate::proofs::PackLemmas::page_more))]
+#[tactic(auto, using(crate::proofs::PackLemmas::page_none))]
 fn next_page<T: Packable>(
     alloc: Global,
     items: &mut IntoIter<T, Global>,
@@ -135,9 +135,10 @@ fn next_page<T: Packable>(
 {
     let mut page = Vec::with_capacity(alloc, MOST + 1)?;
     for _ in 0..size {
-        if let Some(item) = items.next() {
-            page.push_reserved(item.into_held());
-        }
+        let Some(item) = items.next() else {
+            unreachable!()
+        };
+        page.push_reserved(item.into_held());
     }
     Ok(page)
 }

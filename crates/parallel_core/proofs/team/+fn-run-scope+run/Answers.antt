@@ -7,7 +7,7 @@ use Rattle.deliver_core.specs.Scripts.{content_of}
 use Rattle.parallel_core.specs.declared.team.Team.{Team}
 use Rattle.parallel_core.specs.Shared.{shared_by, shared_of}
 use Rattle.parallel_core.specs.Workers.{ComesBack}
-use Rattle.parallel_core.proofs.Teams.{has_run, not_started, as_begun}
+use Rattle.parallel_core.proofs.Teams.{none_run, has_run, not_started, as_begun}
 use Rattle.parallel_core.proofs.team.+fn-run-scope+run.Goals as goal
 
 pub scope-take_until_bye-requires : goal.scope-take_until_bye-requires
@@ -29,6 +29,11 @@ scope-meet-requires g t c =
       port = record { ended = back.port.ended; unmet = back.port.unmet; index_is = refl };
       bye = ap (λ n. has_bye (of_port n (taken_by c.take_until_bye.new.self.tap))) back.port.index_is ∙ c.take_until_bye.ensures.bye;
     }
+
+pub scope-push_reserved-requires : goal.scope-push_reserved-requires
+scope-push_reserved-requires g t c =
+    let run = c.run-team.ensures in
+    omega (arith, run.few, run.room_is, c.requires.beside.room, c.run-team.result.seats.ok.0)
 
 pub scope-returns-in_default : goal.scope-returns-in_default
 scope-returns-in_default g t c =
@@ -59,6 +64,11 @@ scope-returns g t c =
     (c.requires.index ∙ c.requires.beside.index) back c.take_until_bye.ensures.bye
     (ap (λ n. map content_of (of_port n (taken_by c.meet.new.self.tap))) (sym back.port.index_is) ∙ c.meet.ensures.whole)
     refl c.push_reserved.ensures.items c.push_reserved.ensures.capacity refl refl
+
+pub returns-in_default : goal.returns-in_default
+returns-in_default g t c =
+    none_run (shared_of g.P.Rows.tasks c.args.shared) c.args.team c.next.new.self c.requires.ready c.in_default.ensures.none c.in_default.ensures.seats
+    c.next.ensures.before
 
 pub scoped-requires : goal.scoped-requires
 scoped-requires g t c =

@@ -106,3 +106,17 @@ next_page-requires-clause-enough g c =
           (omega arith) c.page_size-size.ensures.share,
       c.len-in-loop-place.ensures,
     )
+
+pub push_reserved-requires : goal.push_reserved-requires
+push_reserved-requires g c =
+    let node : Placed → Node = λ p. p.node in
+    omega (
+      arith,
+      c.loop-place.invariant.room,
+      c.loop-place.invariant.cut.count,
+      length-map c.loop-place.nodes.items node,
+      c.loop-place.nodes.ok.0,
+    )
+
+pub returns-clause-places : goal.returns-clause-places
+returns-clause-places g c = c.loop-place.invariant.places
