@@ -6,7 +6,7 @@ use std::alloc::Global;
 use std::test::Fail;
 
 /// Words that ask for help, and what is among it.
-const HELP: [(&str, &str); 43] = [
+const HELP: &[(&str, &str)] = &[
     ("rjoin|--help", "id,wkt"),
     ("rjoin|--help", "rjoin COMMAND --help tells more"),
     (
@@ -142,6 +142,13 @@ const HELP: [(&str, &str); 43] = [
     ("rjoin|help|bounds", "0 to 6 [default: 0]"),
 ];
 
+/// What the help of a join has before a limit, the limit, and the default.
+const LIMITS: &[(&str, u32, u32)] = &[
+    ("Threads that join, 1 to", MAX_WORKERS, DEFAULT_WORKERS),
+    ("Pairs a batch, 1 to", MAX_BATCH, 256),
+    ("into tasks, 0 to", MAX_CUT as u32, 2),
+];
+
 /// Whether words show a text with this part, and end with success.
 fn helps(alloc: Global, words: &'static str, part: &str) -> Result<bool, Fail> {
     let (help, status) = shown(alloc, parted(alloc, words)?.as_slice())?;
@@ -150,25 +157,25 @@ fn helps(alloc: Global, words: &'static str, part: &str) -> Result<bool, Fail> {
 
 #[test]
 fn help_and_version(rt: HostRuntime) -> Result<(), Fail> {
-    for (words, part) in HELP {
+    for &(words, part) in HELP {
         assert!(rt; helps(rt.alloc(), words, part)?, "{words}");
     }
     Ok(())
 }
 
+/// Whether the help of a join has this text, followed by this limit and this default.
+fn tells_limit(alloc: Global, front: &str, limit: u32, default: u32) -> Result<bool, Fail> {
+    let part = format!(in alloc; "{front} {limit} [default: {default}]")?;
+    helps(alloc, "rjoin|join|--help", part.as_str())
+}
+
 #[test]
 fn help_tells_the_limits(rt: HostRuntime) -> Result<(), Fail> {
-    let alloc = rt.alloc();
-    let workers = format!(in alloc;
-        "Threads that join, 1 to {MAX_WORKERS} [default: {DEFAULT_WORKERS}]"
-    )?;
-    let batch = format!(in alloc; "Pairs a batch, 1 to {MAX_BATCH} [default: 256]")?;
-    let cut = format!(in alloc; "into tasks, 0 to {MAX_CUT} [default: 2]")?;
-    let drawn = format!(in alloc; "more than {MAX_DRAWN} features")?;
-    assert!(rt; helps(alloc, "rjoin|join|--help", workers.as_str())?);
-    assert!(rt; helps(alloc, "rjoin|join|--help", batch.as_str())?);
-    assert!(rt; helps(alloc, "rjoin|join|--help", cut.as_str())?);
-    assert!(rt; helps(alloc, "rjoin|draw|--help", drawn.as_str())?);
+    for &(front, limit, default) in LIMITS {
+        assert!(rt; tells_limit(rt.alloc(), front, limit, default)?, "{front}");
+    }
+    let drawn = format!(in rt.alloc(); "more than {MAX_DRAWN} features")?;
+    assert!(rt; helps(rt.alloc(), "rjoin|draw|--help", drawn.as_str())?);
     Ok(())
 }
 

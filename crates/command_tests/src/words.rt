@@ -8,7 +8,7 @@ use std::test::Fail;
 use wkt_core::Scale;
 
 /// Words, of which each follows a `|`, that don't fit the usage.
-const USAGE_FAULTS: [&str; 25] = [
+const USAGE_FAULTS: &[&str] = &[
     "rjoin",
     "rjoin|relate|x",
     "rjoin|relate|x|y|z",
@@ -37,7 +37,7 @@ const USAGE_FAULTS: [&str; 25] = [
 ];
 
 /// Words of a join behind its files, and the line of their fault.
-const OPTION_FAULTS: [(&str, &str); 14] = [
+const OPTION_FAULTS: &[(&str, &str)] = &[
     (
         "--relation|disjoint|--workers|17",
         "rjoin: --relation: disjoint features may fit\n",
@@ -98,7 +98,7 @@ const OPTION_FAULTS: [(&str, &str); 14] = [
 
 /// Words of a join within, behind its files, with the edits, the three numbers and the decimals
 /// that they ask for.
-const JOINS: [(&str, Option<&str>, (u32, u32, u32), u32); 7] = [
+const JOINS: &[(&str, Option<&str>, (u32, u32, u32), u32)] = &[
     ("--relation|within", None, (4, 256, 2), 0),
     (
         "--relation|within|--edits|e.csv",
@@ -123,14 +123,19 @@ pub(crate) fn parted(alloc: Global, words: &'static str) -> Result<Vec<&'static 
     Ok(words.split('|').collect(alloc)?)
 }
 
+/// What is shown of a fault.
+fn line_of(alloc: Global, fault: &WordFault) -> Result<Vec<u8>, Fail> {
+    let mut sink = ToWrite::new(Vec::new(alloc));
+    word_line(fault, &mut sink)?;
+    Ok(sink.into_inner())
+}
+
 /// What is shown of words that are no command, or nothing where they are one, and their status.
 pub(crate) fn shown(alloc: Global, words: &[&str]) -> Result<(Vec<u8>, u8), Fail> {
-    let mut sink = ToWrite::new(Vec::new(alloc));
-    let Err(fault) = read_words(alloc, words) else {
-        return Ok((sink.into_inner(), 0));
-    };
-    word_line(&fault, &mut sink)?;
-    Ok((sink.into_inner(), word_status(&fault)))
+    match read_words(alloc, words) {
+        Ok(_) => Ok((Vec::new(alloc), 0)),
+        Err(fault) => Ok((line_of(alloc, &fault)?, word_status(&fault))),
+    }
 }
 
 /// Whether words are read as this command.
@@ -189,7 +194,7 @@ fn usage_status(alloc: Global, words: &[&str]) -> Option<u8> {
 
 #[test]
 fn usage_faults(rt: HostRuntime) -> Result<(), Fail> {
-    for words in USAGE_FAULTS {
+    for &words in USAGE_FAULTS {
         let status = usage_status(rt.alloc(), parted(rt.alloc(), words)?.as_slice());
         assert!(rt; status == Some(2), "{words}");
     }
@@ -198,11 +203,10 @@ fn usage_faults(rt: HostRuntime) -> Result<(), Fail> {
 
 #[test]
 fn no_memory_line(rt: HostRuntime) -> Result<(), Fail> {
-    let mut sink = ToWrite::new(Vec::new(rt.alloc()));
-    word_line(&WordFault::Memory, &mut sink)?;
-    let written: Vec<u8> = sink.into_inner();
-    assert!(rt; written.as_slice() == b"rjoin: no memory\n".as_slice());
-    assert!(rt; word_status(&WordFault::Memory) == 1);
+    let fault = WordFault::Memory;
+    let line = b"rjoin: no memory\n".as_slice();
+    assert!(rt; line_of(rt.alloc(), &fault)?.as_slice() == line);
+    assert!(rt; word_status(&fault) == 1);
     Ok(())
 }
 
@@ -231,7 +235,7 @@ fn is_refused(
 
 #[test]
 fn option_faults(rt: HostRuntime) -> Result<(), Fail> {
-    for (last, line) in OPTION_FAULTS {
+    for &(last, line) in OPTION_FAULTS {
         assert!(rt; is_refused(rt.alloc(), "join", last, line)?, "join {last}");
         assert!(rt; is_refused(rt.alloc(), "draw", last, line)?, "draw {last}");
     }
@@ -250,7 +254,7 @@ fn asks(
 
 #[test]
 fn joins(rt: HostRuntime) -> Result<(), Fail> {
-    for (last, edits_path, (workers, batch, cut), decimals) in JOINS {
+    for &(last, edits_path, (workers, batch, cut), decimals) in JOINS {
         let Some(scale) = Scale::new(decimals) else {
             panic!(rt; "no scale");
         };

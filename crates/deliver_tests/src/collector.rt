@@ -180,10 +180,9 @@ fn delivers(answer: Result<Outcome, Finish>, pairs: &[(u32, u32)]) -> bool {
 fn many_pairs(rt: HostRuntime) -> Result<(), Fail> {
     let sorted = pairs_by_steps(rt.alloc(), 1)?;
     let scrambled = pairs_by_steps(rt.alloc(), STRIDE)?;
-    let alone = collector_of(rt.alloc(), scrambled.as_slice())?;
-    let shared = collector_of(rt.alloc(), scrambled.as_slice())?;
-    assert!(rt; delivers(alone.finish(), sorted.as_slice()));
-    assert!(rt; delivers(shared.finish_by_threads(&rt), sorted.as_slice()));
+    assert!(rt; delivers(collector_of(rt.alloc(), &scrambled)?.finish(), &sorted));
+    let by_threads = collector_of(rt.alloc(), &scrambled)?.finish_by_threads(&rt);
+    assert!(rt; delivers(by_threads, &sorted));
     Ok(())
 }
 

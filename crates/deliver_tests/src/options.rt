@@ -1,6 +1,7 @@
 //! The options of a join.
 
 use deliver_core::{MAX_BATCH, MAX_CUT, MAX_WORKERS, OptionFault, Options};
+use std::alloc::{AllocError, Global};
 use std::string::ToString;
 use std::test::Fail;
 
@@ -16,27 +17,36 @@ fn board_and_outlet(rt: HostRuntime) {
     assert!(rt; (options.workers(), options.batch(), options.cut()) == (16, 4096, 8));
 }
 
+const TEXTS: &[(OptionFault, &str)] = &[
+    (OptionFault::Workers, "--workers must be 1 to 16"),
+    (OptionFault::Batch, "--batch must be 1 to 4096"),
+    (OptionFault::Cut, "--cut must be 0 to 8"),
+];
+
 #[test]
 fn option_texts(rt: HostRuntime) -> Result<(), Fail> {
-    for (fault, text) in [
-        (OptionFault::Workers, "--workers must be 1 to 16"),
-        (OptionFault::Batch, "--batch must be 1 to 4096"),
-        (OptionFault::Cut, "--cut must be 0 to 8"),
-    ] {
-        let shown = fault.to_string(rt.alloc())?;
-        assert!(rt; shown.as_str() == text);
+    for &(fault, text) in TEXTS {
+        assert!(rt; fault.to_string(rt.alloc())?.as_str() == text);
     }
     Ok(())
 }
 
+/// What the text of a fault has before a limit, and the limit.
+const LIMITS: &[(OptionFault, &str, u32)] = &[
+    (OptionFault::Workers, "--workers must be 1 to", MAX_WORKERS),
+    (OptionFault::Batch, "--batch must be 1 to", MAX_BATCH),
+    (OptionFault::Cut, "--cut must be 0 to", MAX_CUT as u32),
+];
+
+/// Whether the text of a fault is this, followed by this limit.
+fn tells(alloc: Global, fault: OptionFault, front: &str, limit: u32) -> Result<bool, AllocError> {
+    Ok(format!(in alloc; "{front} {limit}")?.as_str() == fault.text())
+}
+
 #[test]
 fn texts_tell_the_limits(rt: HostRuntime) -> Result<(), Fail> {
-    let alloc = rt.alloc();
-    let workers = format!(in alloc; "--workers must be 1 to {MAX_WORKERS}")?;
-    let batch = format!(in alloc; "--batch must be 1 to {MAX_BATCH}")?;
-    let cut = format!(in alloc; "--cut must be 0 to {MAX_CUT}")?;
-    assert!(rt; OptionFault::Workers.text() == workers.as_str());
-    assert!(rt; OptionFault::Batch.text() == batch.as_str());
-    assert!(rt; OptionFault::Cut.text() == cut.as_str());
+    for &(fault, front, limit) in LIMITS {
+        assert!(rt; tells(rt.alloc(), fault, front, limit)?, "{front}");
+    }
     Ok(())
 }

@@ -33,8 +33,8 @@ fn whole() -> Result<Scale, Fail> {
     Ok(Scale::new(0).ok_or("a scale")?)
 }
 
-/// The layer that these bytes of a file stand for, as so many threads load it.
-fn layer_by<R: Threads + Sync + RandomSource + AllocGlobal>(
+/// What loading these bytes of a file answers, as so many threads do it.
+fn answer_by<R: Threads + Sync + RandomSource + AllocGlobal>(
     rt: &R,
     bytes: &[u8],
     threads: u32,
@@ -55,11 +55,20 @@ fn layer_of_copy<R: Threads + Sync + AllocGlobal>(
     layer_of_bytes(rt.alloc(), state, copy, scale, threads, rt)
 }
 
+/// The layer that these bytes of a file stand for, as so many threads load it.
+fn layer_by<R: Threads + Sync + RandomSource + AllocGlobal>(
+    rt: &R,
+    bytes: &[u8],
+    threads: u32,
+) -> Result<Layer, Fail> {
+    Ok(answer_by(rt, bytes, threads)??)
+}
+
 /// The layer that these bytes of a file stand for, as two threads load it.
 fn layer_of<R: Threads + Sync + RandomSource + AllocGlobal>(
     rt: &R,
     bytes: &[u8],
-) -> Result<Result<Layer, ReadFault>, Fail> {
+) -> Result<Layer, Fail> {
     layer_by(rt, bytes, 2)
 }
 
@@ -68,8 +77,8 @@ fn fault_of<R: Threads + Sync + RandomSource + AllocGlobal>(
     rt: &R,
     bytes: &[u8],
 ) -> Result<Option<ReadFault>, Fail> {
-    let fault = layer_by(rt, bytes, 1)?.err();
-    if layer_by(rt, bytes, 2)?.err() != fault {
+    let fault = answer_by(rt, bytes, 1)?.err();
+    if answer_by(rt, bytes, 2)?.err() != fault {
         return Err(Fail::new("two threads find another fault than one"));
     }
     Ok(fault)
@@ -92,7 +101,7 @@ fn reads_by<R: Threads + Sync + RandomSource + AllocGlobal>(
     threads: u32,
     features: &[(&str, Shape)],
 ) -> Result<bool, Fail> {
-    Ok(has_features(&layer_by(rt, bytes, threads)??, features))
+    Ok(has_features(&layer_by(rt, bytes, threads)?, features))
 }
 
 /// Whether the layer has exactly these features, in this order and numbered from 0.

@@ -52,12 +52,17 @@ fn outline(node: &Node, numbers: &mut Vec<u32>) -> Result<(), AllocError>
 }
 
 /// The outline of a tree.
-pub(crate) fn outline_of(alloc: Global, tree: &RTree) -> Result<Vec<u32>, AllocError> {
+fn outline_of(alloc: Global, tree: &RTree) -> Result<Vec<u32>, AllocError> {
     let mut numbers = Vec::new(alloc);
     if let Some(root) = tree.root() {
         outline(root, &mut numbers)?;
     }
     Ok(numbers)
+}
+
+/// The outline of the tree that one thread packs.
+pub(crate) fn packed_alone(alloc: Global, count: u32) -> Result<Vec<u32>, AllocError> {
+    outline_of(alloc, &RTree::pack(alloc, listed(alloc, count)?)?)
 }
 
 /// The outline of the tree that so many threads pack.
@@ -75,7 +80,7 @@ pub(crate) fn packed_by<R: Threads + Sync>(
 
 /// Whether up to five threads pack so many entries as one does.
 fn packs_alike<R: Threads + Sync>(rt: &R, alloc: Global, count: u32) -> Result<bool, AllocError> {
-    let plain = outline_of(alloc, &RTree::pack(alloc, listed(alloc, count)?)?)?;
+    let plain = packed_alone(alloc, count)?;
     for threads in 0..=5 {
         if packed_by(rt, alloc, count, threads)?.as_slice() != plain.as_slice() {
             return Ok(false);

@@ -120,7 +120,7 @@ fn rings_round_a_rectangle(rt: HostRuntime) -> Result<(), AllocError> {
 
 #[test]
 fn rings_and_lines(rt: HostRuntime) {
-    let shapes: [(&[u8], Corners); 5] = [
+    let shapes: &[(&[u8], Corners)] = &[
         (b"LINESTRING (0 0, 0 0, 0 1, 0 5, 0 5)", (0, 0, 0, 5)),
         (b"POLYGON ((2 0, 0 0, 0 4, 4 4, 4 0, 2 0))", (0, 0, 4, 4)),
         (b"POLYGON ((0 0, 0 0, 4 0, 4 4, 0 4, 0 0))", (0, 0, 4, 4)),
@@ -130,10 +130,10 @@ fn rings_and_lines(rt: HostRuntime) {
             (0, 0, 4, 4),
         ),
     ];
-    for (text, wanted) in shapes {
+    for &(text, wanted) in shapes {
         assert!(rt; corners(text) == Ok(wanted));
     }
-    let formless: [&[u8]; 7] = [
+    let formless: &[&[u8]] = &[
         b"LINESTRING (0 0, 2 0, 2 1)",
         b"LINESTRING (0 0, 1 0, 0 0)",
         b"POLYGON ((0 0))",
@@ -142,7 +142,7 @@ fn rings_and_lines(rt: HostRuntime) {
         b"POLYGON ((2 0, 4 0, 4 4, 0 4, 0 0))",
         b"POLYGON ((0 0, 4 0, 4 4, 0 4, 0 0, 4 0, 4 4, 0 4, 0 0))",
     ];
-    for text in formless {
+    for &text in formless {
         assert!(rt; corners(text) == Err(WktFault::Form));
     }
 }

@@ -30,7 +30,7 @@ fn reprinted(alloc: Global, text: &[u8]) -> Result<String, AllocError> {
 }
 
 /// Texts, the corners of their shapes, and how these are printed.
-const SHAPES: [(&[u8], (i64, i64, i64, i64), &str); 5] = [
+const SHAPES: &[(&[u8], (i64, i64, i64, i64), &str)] = &[
     (b"POINT (1.000 -0)", (1, 0, 1, 0), "POINT (1 0)"),
     (b" Point(+007. 2 ) ", (7, 2, 7, 2), "POINT (7 2)"),
     (
@@ -52,11 +52,11 @@ const SHAPES: [(&[u8], (i64, i64, i64, i64), &str); 5] = [
 
 #[test]
 fn wkt_readings(rt: HostRuntime) -> Result<(), AllocError> {
-    for (text, wanted, canonical) in SHAPES {
+    for &(text, wanted, canonical) in SHAPES {
         assert!(rt; corners(text) == Ok(wanted));
         assert!(rt; reprinted(rt.alloc(), text)?.as_str() == canonical);
     }
-    let faults: [(&[u8], WktFault); 13] = [
+    let faults: &[(&[u8], WktFault)] = &[
         (b"POINT (1.5 0)", WktFault::Number),
         (b"LINESTRING (0 0, 1 1.5)", WktFault::Number),
         (b"LINESTRING (0 0, 0 0)", WktFault::Form),
@@ -71,7 +71,7 @@ fn wkt_readings(rt: HostRuntime) -> Result<(), AllocError> {
         (b"POINT (1e3 0)", WktFault::Text),
         (b"POINT (.0 1)", WktFault::Text),
     ];
-    for (text, fault) in faults {
+    for &(text, fault) in faults {
         assert!(rt; corners(text) == Err(fault));
     }
     Ok(())
@@ -88,7 +88,7 @@ fn reprinted_at_last(alloc: Global, text: &[u8]) -> Result<String, AllocError> {
 /// Run with each allocation failing in turn, it ends as with ample memory.
 #[test]
 fn refused_6(rt: HostRuntime) -> Result<(), AllocError> {
-    for (text, _, canonical) in SHAPES {
+    for &(text, _, canonical) in SHAPES {
         assert!(rt; reprinted_at_last(rt.alloc(), text)?.as_str() == canonical);
     }
     Ok(())
@@ -98,11 +98,11 @@ fn refused_6(rt: HostRuntime) -> Result<(), AllocError> {
 fn white_space_and_cases(rt: HostRuntime) {
     let spread = b"\tLineString\r\n( \t-1 \n +2.0 ,-1\t00005. ) ";
     assert!(rt; corners(spread) == Ok((-1, 2, -1, 5)));
-    let texts: [&[u8]; 3] = [b"POINT (1 -2.)", b"POINT(1  -2 )", b"pOiNt (1\t-2)"];
-    for text in texts {
+    let texts: &[&[u8]] = &[b"POINT (1 -2.)", b"POINT(1  -2 )", b"pOiNt (1\t-2)"];
+    for &text in texts {
         assert!(rt; corners(text) == Ok((1, -2, 1, -2)));
     }
-    let faults: [(&[u8], WktFault); 8] = [
+    let faults: &[(&[u8], WktFault)] = &[
         (b"POINT (1-2)", WktFault::Text),
         (b"POINT (- 1 2)", WktFault::Text),
         (b"POINT (1 2, 3 4)", WktFault::Text),
@@ -118,7 +118,7 @@ fn white_space_and_cases(rt: HostRuntime) {
         (b"POLYGON ((0 0, 1 1, 1 0, 0 1, 0 0))", WktFault::Form),
         (b"POLYGON ((0 0, 1 0, 1 0, 0 0, 0 0))", WktFault::Form),
     ];
-    for (text, fault) in faults {
+    for &(text, fault) in faults {
         assert!(rt; corners(text) == Err(fault));
     }
 }

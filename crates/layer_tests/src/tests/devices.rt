@@ -101,18 +101,16 @@ fn lengths_that_are_wrong(rt: HostRuntime) -> Result<(), Fail> {
     Ok(())
 }
 
-/// Whether a layer that is read one byte at a time has exactly these features, in this order.
-fn reads_bytewise(rt: &HostRuntime, text: &[u8], features: &[(&str, Shape)]) -> Result<bool, Fail> {
+/// The layer of this text, which is read one byte at a time.
+fn layer_bytewise(rt: &HostRuntime, text: &[u8]) -> Result<Layer, Fail> {
     let mut source = FromRead::new(Device::new(text, 1, 1_000));
     let state = RandomState::new(rt)?;
-    Ok(has_features(
-        &read_layer(rt.alloc(), state, &mut source, whole()?)?,
-        features,
-    ))
+    Ok(read_layer(rt.alloc(), state, &mut source, whole()?)?)
 }
 
 #[test]
 fn layer_one_byte_at_a_time(rt: HostRuntime) -> Result<(), Fail> {
-    assert!(rt; reads_bytewise(&rt, ONE_POINT, &[("a", point(1, 2)?)])?);
+    let features = [("a", point(1, 2)?)];
+    assert!(rt; has_features(&layer_bytewise(&rt, ONE_POINT)?, &features));
     Ok(())
 }

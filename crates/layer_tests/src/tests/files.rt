@@ -158,7 +158,7 @@ fn fault_behind_million<R: Threads + Sync + RandomSource + AllocGlobal>(
 ) -> Result<Option<ReadFault>, Fail> {
     let mut file = points_file(rt.alloc(), 1_000_000)?;
     file.push_str(row)?;
-    Ok(layer_by(rt, file.as_bytes(), threads)?.err())
+    Ok(answer_by(rt, file.as_bytes(), threads)?.err())
 }
 
 #[test]
@@ -210,10 +210,10 @@ fn longest_ids_in_files(rt: HostRuntime) -> Result<(), Fail> {
 }
 
 /// The first fault of two rows is answered, wherever they stand among the batches that are read
-/// ahead, each of which has 16,384 rows.
+/// ahead, each of which has 4,096 rows.
 #[test]
 fn batched_file_double_id(rt: HostRuntime) -> Result<(), Fail> {
-    for count in [16_383, 16_384, 40_000] {
+    for count in [4_095, 4_096, 40_000] {
         let double = fault_behind(&rt, count, "p0,POINT (0 0)\nq,POINT (0\n")?;
         assert!(rt; double == Some(ReadFault::Layer(count + 1, LayerFault::DoubleId)));
     }
@@ -222,7 +222,7 @@ fn batched_file_double_id(rt: HostRuntime) -> Result<(), Fail> {
 
 #[test]
 fn batched_file_broken_row(rt: HostRuntime) -> Result<(), Fail> {
-    for count in [16_383, 16_384, 40_000] {
+    for count in [4_095, 4_096, 40_000] {
         let unread = fault_behind(&rt, count, "q,POINT (0\np0,POINT (0 0)\n")?;
         assert!(rt; unread == Some(ReadFault::Wkt(count + 1, WktFault::Text)));
     }
@@ -235,12 +235,12 @@ fn points_loaded<R: Threads + Sync + RandomSource + AllocGlobal>(
     count: u32,
 ) -> Result<usize, Fail> {
     let file = points_file(rt.alloc(), count)?;
-    Ok(layer_of(rt, file.as_bytes())??.len())
+    Ok(layer_of(rt, file.as_bytes())?.len())
 }
 
 #[test]
 fn whole_batches(rt: HostRuntime) -> Result<(), Fail> {
-    assert_eq!(rt; points_loaded(&rt, 16_384)?, 16_384);
+    assert_eq!(rt; points_loaded(&rt, 4_096)?, 4_096);
     assert_eq!(rt; points_loaded(&rt, 40_000)?, 40_000);
     Ok(())
 }

@@ -245,7 +245,7 @@ fn layer_of_list<R: Threads + Sync + RandomSource + AllocGlobal>(
     list: &[Held],
 ) -> Result<Layer, Fail> {
     let file = file_of(rt.alloc(), list).ok_or("a file")?;
-    Ok(layer_of(rt, file.as_bytes())??)
+    layer_of(rt, file.as_bytes())
 }
 
 /// Takes the feature of this name out of a list, if it is there.

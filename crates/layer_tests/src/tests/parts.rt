@@ -30,6 +30,17 @@ fn has_all(layer: &Layer, last: &str, shape: Shape) -> bool {
     layer.len() == ROWS as usize && finds(layer, last, ROWS - 1, shape)
 }
 
+/// The layer of a file of rows of a form, as so many threads load it.
+fn layer_of_form<R: Threads + Sync + RandomSource + AllocGlobal>(
+    rt: &R,
+    threads: u32,
+    front: &str,
+    back: &str,
+) -> Result<Layer, Fail> {
+    let file = file_of(rt.alloc(), front, back)?;
+    layer_by(rt, file.as_bytes(), threads)
+}
+
 /// So many threads read all rows of a file of this form.
 fn reads_form<R: Threads + Sync + RandomSource + AllocGlobal>(
     rt: &R,
@@ -37,9 +48,7 @@ fn reads_form<R: Threads + Sync + RandomSource + AllocGlobal>(
     (front, back, last): &(&str, &str, &str),
 ) -> Result<bool, Fail> {
     let shape = point(1, 2)?;
-    let file = file_of(rt.alloc(), front, back)?;
-    let layer = layer_by(rt, file.as_bytes(), threads)??;
-    Ok(has_all(&layer, last, shape))
+    Ok(has_all(&layer_of_form(rt, threads, front, back)?, last, shape))
 }
 
 /// The place of the first form whose file so many threads read as another layer.
@@ -63,17 +72,23 @@ fn forms_in_parts(rt: HostRuntime) -> Result<(), Fail> {
     Ok(())
 }
 
-/// A fault behind a cut is told with its row's number in the file, and before one of a later part.
-#[test]
-fn faults_in_parts(rt: HostRuntime) -> Result<(), Fail> {
-    let mut file = points_file(rt.alloc(), ROWS)?;
+/// A layer file with a double id behind its first half, and a row that isn't read at its end.
+fn file_with_faults(alloc: Global) -> Result<String, AllocError> {
+    let mut file = points_file(alloc, ROWS)?;
     file.push_str("p0,POINT (0 0)\n")?;
     for i in 0..ROWS {
         writeln!(file, "q{i},POINT ({i} 0)")?;
     }
     file.push_str("r,POINT (0\n")?;
+    Ok(file)
+}
+
+/// A fault behind a cut is told with its row's number in the file, and before one of a later part.
+#[test]
+fn faults_in_parts(rt: HostRuntime) -> Result<(), Fail> {
+    let file = file_with_faults(rt.alloc())?;
     for threads in [1, 2, 4] {
-        let fault = layer_by(&rt, file.as_bytes(), threads)?.err();
+        let fault = answer_by(&rt, file.as_bytes(), threads)?.err();
         assert!(rt; fault == Some(ReadFault::Layer(10_001, LayerFault::DoubleId)));
     }
     Ok(())

@@ -127,7 +127,7 @@ fn refused_3(rt: HostRuntime) -> Result<(), Fail> {
 fn loads_ten<R: Threads + Sync + RandomSource + AllocGlobal>(
     rt: &R,
 ) -> Result<Result<bool, ReadFault>, Fail> {
-    Ok(layer_of(rt, TEN)?.map(|layer| has_len(&layer, 10)))
+    Ok(answer_by(rt, TEN, 2)?.map(|layer| has_len(&layer, 10)))
 }
 
 #[test]
