@@ -20,10 +20,10 @@ use std::thread::Threads;
 use wkt_core::Scale;
 
 /// How many rows one after another a batch has where more may follow.
-const BATCH_ROWS: usize = 16_384;
+const BATCH_ROWS: usize = 4_096;
 
 /// About how many bytes a part has.
-const PART_BYTES: usize = 524_288;
+const PART_BYTES: usize = 262_144;
 
 /// How many bytes are worth more than one thread.
 pub const MIN_THREADED_BYTES: usize = 65_536;

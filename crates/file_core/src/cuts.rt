@@ -41,6 +41,16 @@ fn last_end(window: &[u8]) -> usize {
     if quoted > 0 { quoted } else { last }
 }
 
+/// How many line feeds a text has.
+pub(crate) fn line_feeds(text: &[u8]) -> usize {
+    let mut count: usize = 0;
+    for byte in text {
+        // A sum that isn't checked, so that many bytes are compared at once. It never wraps.
+        count = count.wrapping_add((*byte == b'\n').into());
+    }
+    count
+}
+
 /// Whether a text ends with a line feed.
 pub(crate) fn ends_with_feed(text: &[u8]) -> bool
     ensures { IsTrue result ↔ EndsWithFeed text.now }

@@ -9,6 +9,7 @@ ghost use Rattle.file_core.specs.Unread.{IsUnread};
 ghost use Rattle.layer_core.specs.Limits.{most_features};
 
 use crate::batch::{Batch, InTurn, Order, SideBySide};
+use crate::cuts::line_feeds;
 use crate::insertion::add_parts;
 use crate::parts::{Beside, Whole};
 use crate::read_fault::ReadFault;
@@ -187,12 +188,4 @@ fn likely_rows(bytes: &[u8]) -> usize
     let lines = line_feeds(&bytes[..bytes.len().min(SAMPLE)]);
     let samples = bytes.len() / SAMPLE + 1;
     lines.saturating_mul(samples).min(MAX_FEATURES)
-}
-
-fn line_feeds(sample: &[u8]) -> usize {
-    let mut count: usize = 0;
-    for byte in sample {
-        count = count.saturating_add((*byte == b'\n').into());
-    }
-    count
 }

@@ -4,7 +4,7 @@ ghost use Rattle.std.specs.Prelude.{◌≡◌, ◌++◌, IfSome};
 ghost use Rattle.file_core.specs.Parts.{IsBoth, IsOnePart, IsParts};
 
 use crate::batch::fill;
-use crate::cuts::{cut, ends_with_feed, is_plain};
+use crate::cuts::{cut, ends_with_feed, is_plain, line_feeds};
 use crate::layer_row::ReadRow;
 use crate::rows::Rows;
 use crate::source::MAX_FILE_BYTES;
@@ -12,9 +12,6 @@ use std::alloc::Global;
 use std::thread;
 use std::thread::Threads;
 use wkt_core::Scale;
-
-/// How few bytes a row has on average in a part that is read.
-const MIN_ROW_BYTES: usize = 8;
 
 /// The rows of a text, part by part.
 #[derive(Drop)]
@@ -97,7 +94,8 @@ fn read_whole(alloc: Global, scale: Scale, text: &[u8]) -> Option<Parts>
     }
     let mut reader = Rows::behind(alloc, text, 0);
     let mut read = Vec::new(alloc);
-    let most = text.len() / MIN_ROW_BYTES + 1;
+    // Rows that end otherwise may be more, and are read one after another.
+    let most = line_feeds(text).saturating_add(1);
     let more = fill(alloc, &mut read, &mut reader, scale, most);
     let Ok(false) = more else {
         return None;
