@@ -17,6 +17,7 @@ fn board_and_outlet(rt: HostRuntime) {
     assert!(rt; (options.workers(), options.batch(), options.cut()) == (16, 4096, 8));
 }
 
+/// The faults of options, and their texts.
 const TEXTS: &[(OptionFault, &str)] = &[
     (OptionFault::Workers, "--workers must be 1 to 16"),
     (OptionFault::Batch, "--batch must be 1 to 4096"),

@@ -67,6 +67,7 @@ fn masks_of_relations(rt: HostRuntime) -> Result<(), Fail> {
     Ok(())
 }
 
+/// Names in any case, and their relations.
 const NAMES: &[(&[u8], Relation)] = &[
     (b"disjoint", Relation::Disjoint),
     (b"INTERSECTS", Relation::Intersects),
