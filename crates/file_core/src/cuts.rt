@@ -41,9 +41,22 @@ fn last_end(window: &[u8]) -> usize {
     if quoted > 0 { quoted } else { last }
 }
 
+/// The longest text whose line feeds are counted in eight bits, in bytes: a multiple of what is
+/// compared at once, and less than 256.
+const COUNTED: usize = 224;
+
 /// How many line feeds a text has.
 pub(crate) fn line_feeds(text: &[u8]) -> usize {
     let mut count: usize = 0;
+    for chunk in text.chunks(COUNTED) {
+        count = count.wrapping_add(few_line_feeds(chunk).into());
+    }
+    count
+}
+
+/// How many line feeds a text of at most [`COUNTED`] bytes has.
+fn few_line_feeds(text: &[u8]) -> u8 {
+    let mut count: u8 = 0;
     for byte in text {
         // A sum that isn't checked, so that many bytes are compared at once. It never wraps.
         count = count.wrapping_add((*byte == b'\n').into());

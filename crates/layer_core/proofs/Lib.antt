@@ -1,4 +1,5 @@
 pub mod Lists
 pub mod SlotLemmas
 pub mod MapLemmas
+pub mod IdLemmas
 pub mod LayerTreeLemmas

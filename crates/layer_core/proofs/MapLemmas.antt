@@ -20,6 +20,7 @@ use Rattle.layer_core.specs.declared.features.Slot.{Slot}
 use Rattle.layer_core.specs.declared.id.Id.{Id}
 use Rattle.layer_core.specs.Ids.{id_bytes, id_eq}
 use Rattle.layer_core.specs.Limits.{most_features}
+use Rattle.layer_core.specs.RisingIds.{has_text}
 use Rattle.layer_core.specs.Layers.{IsLayer, NumberAndShapeAre, with_id, with_number, inserted, deleted}
 use Rattle.layer_core.specs.MapAndSlots.{AreInverse, StandForLayer, IsWalk, ids_of, places, id_of, feature_of, features_from, contents_of, IsAbsent, IsOnly}
 use Rattle.layer_core.proofs.SlotLemmas.{feature_in, find-number, find-absent, find-only, filter-absent, filter-only, features-push, features-more_ids}
@@ -115,10 +116,6 @@ module _ (numbers numbers' : List (Option ℕ)) (slots : List (Option Slot)) (p 
             others q (λ e. d (let at_p : slice_get numbers p ≡ Some (Some n) = rw (← e) old in let mine = held in cc)) ∙ old
       ]
 
--- the test by which a look-up finds an id
-abbrev pub is_id : List ℕ → Id → Bool
-is_id id key = bytes_eq id (id_bytes key)
-
 module _ (es : List (Id × Option ℕ)) (slots : List (Option Slot)) (table : AreInverse (values_of es) slots) where
   -- the entry of the map that a slot's feature names
   pub entry_of : (k : ℕ) (s : Slot) → slice_get slots k ≡ Some (Some s)
@@ -137,31 +134,31 @@ module _ (es : List (Id × Option ℕ)) (slots : List (Option Slot)) (table : Ar
       (entry.0.0, slice_get-map (λ e. e.0) es s.place ∙ ap (option_map (λ e. e.0)) entry.1, entry.2)
 
   module _ (id : List ℕ) where
-    pub absent_from_missing : position (is_id id) (keys_of es) ≡ None → IsAbsent (ids_of (keys_of es)) id slots
+    pub absent_from_missing : position (has_text id) (keys_of es) ≡ None → IsAbsent (ids_of (keys_of es)) id slots
     absent_from_missing none = record {
       differs = λ k s h.
           let key = key_of k s h in
-          ap (bytes_eq id) key.2 ∙ get-all (λ x. is_id id x ≡ false) (keys_of es) s.place key.0 (Missing-position (is_id id) es none).absent key.1;
+          ap (bytes_eq id) key.2 ∙ get-all (λ x. has_text id x ≡ false) (keys_of es) s.place key.0 (Missing-position (has_text id) es none).absent key.1;
     }
 
-    passes : (es : List (Id × Option ℕ)) (key : Id) → lookup_key (is_id id) es ≡ Some key → is_id id key ≡ true
+    passes : (es : List (Id × Option ℕ)) (key : Id) → lookup_key (has_text id) es ≡ Some key → has_text id key ≡ true
     passes [] key h = cc
-    passes (e ∷ es) key h = by (is_id id e.0) refl (λ later. passes es key later)
+    passes (e ∷ es) key h = by (has_text id e.0) refl (λ later. passes es key later)
       where
-        by : (b : Bool) → is_id id e.0 ≡ b → (lookup_key (is_id id) es ≡ Some key → is_id id key ≡ true) → is_id id key ≡ true
+        by : (b : Bool) → has_text id e.0 ≡ b → (lookup_key (has_text id) es ≡ Some key → has_text id key ≡ true) → has_text id key ≡ true
         by true t later = let same : e.0 ≡ key = let found = rw t at h in cc in rw (← same) t
         by false t later = later (rw t at h)
 
     -- a found id's key
-    first_key : (i : ℕ) → position (is_id id) (keys_of es) ≡ Some i → (key : Id) × (slice_get (keys_of es) i ≡ Some key) × (is_id id key ≡ true)
+    first_key : (i : ℕ) → position (has_text id) (keys_of es) ≡ Some i → (key : Id) × (slice_get (keys_of es) i ≡ Some key) × (has_text id key ≡ true)
     first_key i at =
-        let found = Found-position (is_id id) es i at in
+        let found = Found-position (has_text id) es i at in
         let key = get-within (keys_of es) i (let within = found.within in omega (arith, length-keys_of es)) in
         (key.0, key.1, passes es key.0 (found.key ∙ key.1))
 
     -- two keys with one id stand at one place
     one_place : IsDistinct id_eq (keys_of es) → (i j : ℕ) (a b : Id) → slice_get (keys_of es) i ≡ Some a → slice_get (keys_of es) j ≡ Some b
-        → is_id id a ≡ true → is_id id b ≡ true → i ≡ j
+        → has_text id a ≡ true → has_text id b ≡ true → i ≡ j
     one_place distinct i j a b at_i at_j is_a is_b = elim (dec_lt i j) [
       | yes below ↦ absurd (apart i j a b at_i at_j below same)
       | no above ↦ elim (dec_lt j i) [
@@ -183,14 +180,14 @@ module _ (es : List (Id × Option ℕ)) (slots : List (Option Slot)) (table : Ar
             cc
 
     -- a slot's feature that has the found id stands at its place
-    found_place : IsDistinct id_eq (keys_of es) → (i : ℕ) → position (is_id id) (keys_of es) ≡ Some i → (j : ℕ) (s : Slot)
+    found_place : IsDistinct id_eq (keys_of es) → (i : ℕ) → position (has_text id) (keys_of es) ≡ Some i → (j : ℕ) (s : Slot)
         → slice_get slots j ≡ Some (Some s) → bytes_eq id (id_of (ids_of (keys_of es)) s) ≡ true → s.place ≡ i
     found_place distinct i at j s h e =
         let key = key_of j s h in
         let first = first_key i at in
         one_place distinct s.place i key.0 first.0 key.1 first.1 (rw key.2 at e) first.2
 
-    pub absent_from_deleted : IsDistinct id_eq (keys_of es) → (i : ℕ) → position (is_id id) (keys_of es) ≡ Some i
+    pub absent_from_deleted : IsDistinct id_eq (keys_of es) → (i : ℕ) → position (has_text id) (keys_of es) ≡ Some i
         → slice_get (values_of es) i ≡ Some None → IsAbsent (ids_of (keys_of es)) id slots
     absent_from_deleted distinct i at gone = record { differs = λ k s h. by k s h (bytes_eq id (id_of (ids_of (keys_of es)) s)) refl }
       where
@@ -202,7 +199,7 @@ module _ (es : List (Id × Option ℕ)) (slots : List (Option Slot)) (table : Ar
             cc
         by k s h false e = refl
 
-    pub only_from_found : IsDistinct id_eq (keys_of es) → (i n : ℕ) (slot : Slot) → position (is_id id) (keys_of es) ≡ Some i
+    pub only_from_found : IsDistinct id_eq (keys_of es) → (i n : ℕ) (slot : Slot) → position (has_text id) (keys_of es) ≡ Some i
         → slice_get (values_of es) i ≡ Some (Some n) → slice_get slots n ≡ Some (Some slot) → IsOnly (ids_of (keys_of es)) id slots n slot
     only_from_found distinct i n slot at held here = record {
       here = here;
@@ -406,7 +403,7 @@ module _ (es : List (Id × Option ℕ)) (slots : List (Option Slot)) (count : �
       keys : keys_of (insert_entry id_eq es k v) ≡ keys_of es
       keys = ap keys_of written ∙ keys-set es i v
 
-      key : (key : Id) × (slice_get (keys_of es) i ≡ Some key) × (is_id (id_bytes k) key ≡ true)
+      key : (key : Id) × (slice_get (keys_of es) i ≡ Some key) × (has_text (id_bytes k) key ≡ true)
       key = first_key es slots kept.table (id_bytes k) i found
 
       same : id_bytes k ≡ id_bytes key.0

@@ -5,9 +5,12 @@ use Rattle.geom_core.specs.declared.shape.Shape.{Shape}
 use Rattle.geom_core.specs.contracts.shape.Shape as shape
 use Rattle.rtree_core.specs.declared.node.Node.{Node}
 use Rattle.rtree_core.specs.contracts.node.Node as node
+use Rattle.layer_core.specs.declared.id.Id.{Id}
+use Rattle.layer_core.specs.contracts.id.Id as id
 use Rattle.layer_core.specs.Layers.{Feature, Contents}
 use Rattle.layer_core.specs.LayerTrees.{LayerState}
 use Rattle.layer_core.specs.MapAndSlots.{FeaturesState}
+use Rattle.layer_core.specs.RisingIds.{IdsState}
 
 -- a feature, as its id, its number and its shape
 abbrev pub coded_feature : Coded Feature
@@ -32,5 +35,15 @@ coded_layer =
 -- the list with the room
 abbrev pub coded_features : Coded FeaturesState
 coded_features =
-    code_by (Contents × ℕ) (coded× coded_contents coded_ℕ)
-    (λ s. (s.list, s.room)) (λ p. record { list = p.0; room = p.1 }) (λ _. refl)
+    code_by (Contents × (ℕ × ℕ)) (coded× coded_contents (coded× coded_ℕ coded_ℕ))
+    (λ s. (s.list, (s.room, s.rising_room)))
+    (λ p. record { list = p.0; room = p.1.0; rising_room = p.1.1 }) (λ _. refl)
+
+-- ids and their numbers, with the room
+abbrev pub coded_ids : Coded IdsState
+coded_ids =
+    code_by (List (Id × Option ℕ) × (ℕ × ℕ))
+    (coded× (coded_list (coded× id.the_row.coded (coded_option coded_ℕ)))
+    (coded× coded_ℕ coded_ℕ))
+    (λ s. (s.entries, (s.room, s.rising_room)))
+    (λ p. record { entries = p.0; room = p.1.0; rising_room = p.1.1 }) (λ _. refl)

@@ -1,4 +1,4 @@
--- The layer that a map of ids and a list of slots stand for.
+-- The layer that ids with their numbers and a list of slots stand for.
 use Rattle.std.specs.Prelude.{◌≡◌, ◌+◌, ◌<◌, ◌≤◌, ℕ, suc, true, false, List, [], ◌∷◌, Option, Some}
 use Rattle.std.specs.Prelude.{None, map, get_or, length, slice_get, option_map}
 use Rattle.std.specs.Str.{bytes_eq}
@@ -32,10 +32,12 @@ abbrev pub contents_of : List Id → List (Option Slot) → Contents
 contents_of keys slots =
     record { features = features_from (ids_of keys) 0 slots; next = length slots }
 
--- what is seen of a layer's features: their list, and how many more need no memory
+-- what is seen of a layer's features: their list; how many more need no memory, whatever their ids
+-- are; and how many more if each id comes after all that were ever inserted
 pub record FeaturesState : Type 0 where
   pub list : Contents
   pub room : ℕ
+  pub rising_room : ℕ
 
 -- where the ids of the features stand, by number
 abbrev pub places : List (Option Slot) → List (Option ℕ)
@@ -49,7 +51,7 @@ pub record AreInverse (numbers : List (Option ℕ)) (slots : List (Option Slot))
       → slice_get numbers p ≡ Some (Some n)
   pub few : length slots ≤ most_features
 
--- the map and the slots belong together, the ids differ, and so many features are there
+-- the ids and the slots belong together, the ids differ, and so many features are there
 pub record StandForLayer
     (entries : List (Id × Option ℕ)) (slots : List (Option Slot)) (count : ℕ)
     : Type 0 where
@@ -72,7 +74,7 @@ pub record IsOnly
   pub only : (j : ℕ) (s : Slot) → slice_get slots j ≡ Some (Some s)
       → bytes_eq id (id_of ids s) ≡ true → j ≡ k
 
--- each slot names an id of the map, and the numbers of the slots are those of a layer
+-- each slot names the place of an id, and the numbers of the slots are those of a layer
 pub record IsWalk
     (entries : List (Id × Option ℕ)) (number : ℕ) (slots : List (Option Slot))
     : Type 0 where

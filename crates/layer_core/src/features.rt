@@ -1,13 +1,13 @@
 //! The features of a layer, found by id and by number.
 
 ghost use Rattle.std.specs.Prelude.{◌≡◌, Some, slice_get, IfSome, MatchOption};
-ghost use Rattle.std.specs.HashMap.{keys, values};
+ghost use Rattle.std.specs.Map.{keys_of, values_of};
 ghost use Rattle.layer_core.specs.MapAndSlots.{ids_of, IsAbsent, IsOnly, AreInverse};
 
 use crate::id::Id;
+use crate::ids::Ids;
 use crate::iter::Iter;
 use geom_core::Shape;
-use indexmap::IndexMap;
 use std::alloc::{AllocError, Global};
 use std::hash::RandomState;
 use std::marker::Model;
@@ -15,22 +15,19 @@ use std::marker::Model;
 /// How many features may ever be inserted in a layer, deleted ones included.
 pub const MAX_FEATURES: usize = 1_000_000;
 
-/// Each id that was ever inserted, with the number of its feature, if it has one now.
-pub(crate) type Ids = IndexMap<Id, Option<u32>, RandomState>;
-
 /// A feature, as its number finds it.
 #[derive(Clone, Copy)]
 pub(crate) struct Slot {
-    /// Where its id stands in the map of ids.
+    /// The place of its id.
     pub(crate) place: usize,
     pub(crate) shape: Shape,
 }
 
 /// Features by id and by number.
 ///
-/// An id that was ever inserted keeps its place in the map of ids, and has the number of its
-/// feature or, once deleted, none. The slots are in the order of numbers, and a deleted feature's
-/// slot is empty. So no edit moves anything.
+/// An id that was ever inserted keeps its place, and has the number of its feature or, once
+/// deleted, none. The slots are in the order of numbers, and a deleted feature's slot is empty. So
+/// no edit moves anything.
 #[derive(Drop)]
 pub(crate) struct Features {
     ids: Ids,
@@ -48,13 +45,13 @@ impl Model for Features {
     ghost coded = { coded_features };
 
     ghost use Rattle.std.specs.Prelude.{◌-◌, min, vec_len, vec_capacity};
-    ghost use Rattle.std.specs.HashMap.{keys};
-    ghost use Rattle.indexmap.specs.IndexMap.{spare};
+    ghost use Rattle.std.specs.Map.{keys_of};
     ghost use Rattle.layer_core.specs.MapAndSlots.{contents_of, StandForLayer};
 
     ghost view = { λ f. record {
-      list = contents_of (keys f.ids) f.slots.items;
-      room = min (spare f.ids) (vec_capacity f.slots - vec_len f.slots);
+      list = contents_of (keys_of f.ids.entries) f.slots.items;
+      room = min f.ids.room (vec_capacity f.slots - vec_len f.slots);
+      rising_room = min f.ids.rising_room (vec_capacity f.slots - vec_len f.slots);
     } };
 
     ghost invariant = { λ f. StandForLayer f.ids.entries f.slots.items f.count };
@@ -62,14 +59,15 @@ impl Model for Features {
 
 /// The number and the slot of the feature with this id.
 fn locate(ids: &Ids, slots: &[Option<Slot>], id: &str) -> Option<(u32, Slot)>
-    requires { AreInverse (values ids.now) slots.now }
+    requires { AreInverse (values_of ids.now.entries) slots.now }
     ensures found { MatchOption result
-        (IsAbsent (ids_of (keys ids.now)) id.now slots.now)
-        (λ f. IsOnly (ids_of (keys ids.now)) id.now slots.now f.0 f.1) }
-    ensures place { IfSome result (λ f. slice_get (values ids.now) f.1.place ≡ Some (Some f.0)) }
+        (IsAbsent (ids_of (keys_of ids.now.entries)) id.now slots.now)
+        (λ f. IsOnly (ids_of (keys_of ids.now.entries)) id.now slots.now f.0 f.1) }
+    ensures place { IfSome result
+        (λ f. slice_get (values_of ids.now.entries) f.1.place ≡ Some (Some f.0)) }
 {
-    let place = ids.get_index_of(id)?;
-    let number = ids[place]?;
+    let place = ids.place_of(id)?;
+    let number = ids.number(place)?;
     let slot = (*slots.get(number as usize)?)?;
     Some((number, slot))
 }
@@ -89,23 +87,23 @@ impl Features {
         ensures { result.list ≡ empty }
     {
         Features {
-            ids: IndexMap::with_hasher(alloc, state),
+            ids: Ids::new(alloc, state),
             slots: Vec::new(alloc),
             count: 0,
         }
     }
 
-    /// No features, and room for so many.
+    /// No features, and room for so many whose ids rise.
     pub(crate) fn with_room(
         alloc: Global,
         state: RandomState,
         count: usize,
     ) -> Result<Features, AllocError>
         ensures none { IfOk result (λ features. features.list ≡ empty) }
-        ensures room { IfOk result (λ features. count ≤ features.room) }
+        ensures room { IfOk result (λ features. count ≤ features.rising_room) }
     {
         Ok(Features {
-            ids: IndexMap::with_capacity_and_hasher(alloc, count, state)?,
+            ids: Ids::with_room(alloc, state, count)?,
             slots: Vec::with_capacity(alloc, count)?,
             count: 0,
         })
@@ -120,11 +118,11 @@ impl Features {
         self.count
     }
 
-    /// An id as the map will own it, by the allocator of the map.
+    /// An id as the layer will own it.
     pub(crate) fn owned(&self, id: &str) -> Result<Id, AllocError>
         ensures { IfOk result (λ own. id_bytes own ≡ id.now) }
     {
-        Id::from_str(*self.ids.allocator(), id)
+        Id::from_str(self.ids.allocator(), id)
     }
 
     /// The number that the next feature gets: how many were ever inserted.
@@ -149,7 +147,7 @@ impl Features {
         ensures layer { IsLayer self.now.list }
     {
         let slot = (*self.slots.get(number as usize)?)?;
-        let (id, _) = self.ids.get_index(slot.place)?;
+        let (id, _) = self.ids.at(slot.place)?;
         Some((id.as_str(), slot.shape))
     }
 
@@ -177,7 +175,7 @@ impl Features {
     {
         let (number, slot) = locate(&self.ids, self.slots.as_slice(), id)?;
         self.slots[number as usize] = None;
-        self.ids[slot.place] = None;
+        self.ids.set_number(slot.place, None);
         self.count -= 1;
         Some(slot.shape)
     }
@@ -188,7 +186,7 @@ impl Features {
         ensures room { OnOk result (0 < self.new.room) }
     {
         self.slots.reserve(1)?;
-        self.ids.reserve(1)?;
+        self.ids.reserve()?;
         Ok(())
     }
 
@@ -217,15 +215,15 @@ impl Features {
         ensures succeeds { 0 < self.old.room → IsOk result }
     {
         let number = self.slots.len() as u32;
-        // From here to the map's insertion nothing changes that a refusal would have to undo.
+        // From here to the insertion of the id nothing changes that a refusal would have to undo.
         if self.slots.reserve(1).is_err() {
             return self.double_or_refused(id.as_str());
         }
-        let (place, before) = self.ids.insert_full(id, Some(number))?;
+        let (place, before) = self.ids.insert(id, Some(number))?;
         match before.flatten() {
             Some(live) => {
                 // The id's feature keeps its number.
-                self.ids[place] = Some(live);
+                self.ids.set_number(place, Some(live));
                 Ok(false)
             }
             None => {

@@ -1,12 +1,13 @@
 //! The features of a layer, one after another.
 
 ghost use Rattle.std.specs.Prelude.{◌≡◌};
-ghost use Rattle.std.specs.HashMap.{keys};
 ghost use Rattle.std.specs.Iterator.{YieldsFirstBy, item_count};
+ghost use Rattle.std.specs.Map.{keys_of};
 ghost use Rattle.layer_core.specs.MapAndSlots.{features_from, ids_of, IsWalk};
 ghost use Rattle.layer_core.specs.Walks.{feature_read};
 
-use crate::features::{Ids, Slot};
+use crate::features::Slot;
+use crate::ids::Ids;
 use geom_core::Shape;
 use std::marker::Model;
 
@@ -33,10 +34,11 @@ impl<'a> Model for Iter<'a> {
 
     ghost Value = { List Feature };
 
-    ghost use Rattle.std.specs.HashMap.{keys};
+    ghost use Rattle.std.specs.Map.{keys_of};
     ghost use Rattle.layer_core.specs.MapAndSlots.{features_from, ids_of, IsWalk};
 
-    ghost view = { λ it. features_from (ids_of (keys it.ids.now)) it.number it.slots.now };
+    ghost view = { λ it.
+        features_from (ids_of (keys_of it.ids.now.entries)) it.number it.slots.now };
 
     ghost invariant = { λ it. IsWalk it.ids.now.entries it.number it.slots.now };
 }
@@ -45,7 +47,7 @@ impl<'a> Iter<'a> {
     /// The features in these slots, where the first has the number 0.
     pub(crate) fn new(ids: &'a Ids, slots: &'a [Option<Slot>]) -> Iter<'a>
         requires { IsWalk ids.now.entries 0 slots.now }
-        ensures { result ≡ features_from (ids_of (keys ids.now)) 0 slots.now }
+        ensures { result ≡ features_from (ids_of (keys_of ids.now.entries)) 0 slots.now }
     {
         Iter {
             ids,
@@ -68,7 +70,7 @@ impl<'a> Iterator for Iter<'a> {
             self.number += 1;
             self.slots = others;
             if let Some(slot) = first {
-                let (id, _) = self.ids.get_index(slot.place)?;
+                let (id, _) = self.ids.at(slot.place)?;
                 return Some(FeatureRef {
                     id: id.as_str(),
                     number,

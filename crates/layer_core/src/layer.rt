@@ -25,7 +25,8 @@ pub const MAX_ID_BYTES: usize = 64;
 ///
 /// An R-tree holds exactly these features, each as its shape with its number.
 ///
-/// Look-ups take constant time, and edits logarithmic time, amortised where the layer grows.
+/// A look-up by number takes constant time, one by id constant time, or logarithmic time where ids
+/// were inserted in rising order, and an edit logarithmic time, amortised where the layer grows.
 #[derive(Drop)]
 pub struct Layer {
     features: Features,

@@ -5,6 +5,7 @@ mod edit;
 mod fault;
 mod features;
 mod id;
+mod ids;
 mod iter;
 mod layer;
 mod loading;

@@ -18,7 +18,7 @@ const LETTERS_AND_END: usize = 10;
 /// The ids of a layer's features, as CSV fields with their commas, by number.
 ///
 /// A report asks for right features in no order. Here their ids stand together, where a layer
-/// would look at a slot, a place in its map of ids and the id.
+/// would look at a slot and at the id in its place.
 #[derive(Drop)]
 pub(crate) struct Column {
     /// Where the field of each number starts, and at last where the fields end. The field of a

@@ -6,18 +6,18 @@ use Rattle.layer_core.proofs.features.locate.Goals as goal
 
 pub returns-in_err-place-clause-found : goal.returns-in_err-place-clause-found
 returns-in_err-place-clause-found c =
-    rw c.from_residual.ensures (absent_from_missing c.args.ids.now.entries c.args.slots.now c.requires c.args.id.now (sym c.in_err-place.ensures.index))
+    rw c.from_residual.ensures (absent_from_missing c.args.ids.now.entries c.args.slots.now c.requires c.args.id.now (sym c.in_err-place.ensures.place))
 
 pub returns-in_err-number-clause-found : goal.returns-in_err-number-clause-found
 returns-in_err-number-clause-found c =
     rw c.from_residual-in_err-number.ensures
     (absent_from_deleted c.args.ids.now.entries c.args.slots.now c.requires c.args.id.now c.in_ok-place.ensures.unique c.in_ok-place.place
-    (sym c.in_ok-place.ensures.index) (c.index.ensures ∙ ap Some c.in_err-number.was))
+    (sym c.in_ok-place.ensures.place) (c.number.ensures ∙ ap Some c.in_err-number.was))
 
 pub returns-in_err-get-clause-found : goal.returns-in_err-get-clause-found
 returns-in_err-get-clause-found c =
     let slot = slot_from_number c.args.ids.now.entries c.args.slots.now c.requires c.args.id.now c.in_ok-place.place c.in_ok-number.number
-    (c.index.ensures ∙ ap Some c.in_ok-number.was) in
+    (c.number.ensures ∙ ap Some c.in_ok-number.was) in
     let none = copied-get c.args.slots.now c.in_ok-number.number None c.in_err-get.ensures.lookup in
     let some = slot.1 in
     cc
@@ -25,7 +25,7 @@ returns-in_err-get-clause-found c =
 pub returns-in_err-slot-clause-found : goal.returns-in_err-slot-clause-found
 returns-in_err-slot-clause-found c =
     let slot = slot_from_number c.args.ids.now.entries c.args.slots.now c.requires c.args.id.now c.in_ok-place.place c.in_ok-number.number
-    (c.index.ensures ∙ ap Some c.in_ok-number.was) in
+    (c.number.ensures ∙ ap Some c.in_ok-number.was) in
     let none = copied-get c.args.slots.now c.in_ok-number.number (Some c.in_ok-get.field-0) c.in_ok-get.ensures.lookup in
     let some = slot.1 in
     let empty = c.in_err-slot.was in
@@ -36,15 +36,15 @@ returns-clause-found c =
     let slot = copied-get c.args.slots.now c.in_ok-number.number (Some c.in_ok-get.field-0) c.in_ok-get.ensures.lookup in
     only_from_found c.args.ids.now.entries c.args.slots.now c.requires c.args.id.now c.in_ok-place.ensures.unique c.in_ok-place.place c.in_ok-number.number
     c.in_ok-slot.slot
-    (sym c.in_ok-place.ensures.index) (c.index.ensures ∙ ap Some c.in_ok-number.was) (sym slot ∙ ap Some c.in_ok-slot.was)
+    (sym c.in_ok-place.ensures.place) (c.number.ensures ∙ ap Some c.in_ok-number.was) (sym slot ∙ ap Some c.in_ok-slot.was)
 
 pub returns-clause-place : goal.returns-clause-place
 returns-clause-place c =
     let slot = slot_from_number c.args.ids.now.entries c.args.slots.now c.requires c.args.id.now c.in_ok-place.place c.in_ok-number.number
-    (c.index.ensures ∙ ap Some c.in_ok-number.was) in
+    (c.number.ensures ∙ ap Some c.in_ok-number.was) in
     let here = copied-get c.args.slots.now c.in_ok-number.number (Some c.in_ok-get.field-0) c.in_ok-get.ensures.lookup in
     let some = slot.1 in
     let filled = c.in_ok-slot.was in
     let same : slot.0 ≡ c.in_ok-slot.slot = cc in
     let place = ap (λ (s : Slot). s.place) same in
-    rw (sym place ∙ slot.2) (c.index.ensures ∙ ap Some c.in_ok-number.was)
+    rw (sym place ∙ slot.2) (c.number.ensures ∙ ap Some c.in_ok-number.was)

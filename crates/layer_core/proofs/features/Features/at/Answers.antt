@@ -1,5 +1,5 @@
 use Rattle.std.proofs.Common.{◌≡◌, ◌∙◌, ℕ, sym, ap, Option, Some, None, slice_get}
-use Rattle.std.specs.HashMap.{keys}
+use Rattle.std.specs.Map.{keys_of}
 use Rattle.std.specs.Option.{option_map}
 use Rattle.layer_core.specs.declared.id.Id.{Id}
 use Rattle.layer_core.specs.Ids.{id_bytes}
@@ -13,8 +13,8 @@ pub returns-in_err-get-clause-found : goal.returns-in_err-get-clause-found
 returns-in_err-get-clause-found c =
     let slots = c.self.inside.slots.items in
     let empty = copied-get c.deref.result.now c.args.number None c.in_err-get.ensures.lookup ∙ ap (λ xs. slice_get xs c.args.number) c.deref.ensures.value in
-    let none = with_number-contents (keys c.self.inside.ids) slots c.args.number
-    ∙ ap (feature_in (ids_of (keys c.self.inside.ids)) c.args.number) (sym empty) in
+    let none = with_number-contents (keys_of c.self.inside.ids.entries) slots c.args.number
+    ∙ ap (feature_in (ids_of (keys_of c.self.inside.ids.entries)) c.args.number) (sym empty) in
     rw (c.from_residual.ensures, ← c.self.view_is) (sym (ap (option_map (λ f. (f.id, f.shape))) none))
 
 pub returns-in_err-slot-clause-found : goal.returns-in_err-slot-clause-found
@@ -23,7 +23,7 @@ returns-in_err-slot-clause-found c =
     let found = copied-get c.deref.result.now c.args.number (Some c.in_ok-get.field-0) c.in_ok-get.ensures.lookup
     ∙ ap (λ xs. slice_get xs c.args.number) c.deref.ensures.value in
     let empty = sym found ∙ ap Some c.in_err-slot.was in
-    let none = with_number-contents (keys c.self.inside.ids) slots c.args.number ∙ ap (feature_in (ids_of (keys c.self.inside.ids)) c.args.number) empty in
+    let none = with_number-contents (keys_of c.self.inside.ids.entries) slots c.args.number ∙ ap (feature_in (ids_of (keys_of c.self.inside.ids.entries)) c.args.number) empty in
     rw (c.from_residual-in_err-slot.ensures, ← c.self.view_is) (sym (ap (option_map (λ f. (f.id, f.shape))) none))
 
 pub returns-in_err-id-clause-found : goal.returns-in_err-id-clause-found
@@ -46,10 +46,10 @@ returns-clause-found c =
     let entry = entry_of c.self.inside.ids.entries slots c.self.invariant.table c.args.number c.in_ok-slot.slot filled in
     let e = entry.0 in
     let given : e ≡ (c.in_ok-id.id.now, c.in_ok-id.field-0-1.now) = let here = entry.1 in let there = c.in_ok-id.ensures.entry in cc in
-    let stands : id_of (ids_of (keys c.self.inside.ids)) c.in_ok-slot.slot ≡ id_bytes c.in_ok-id.id.now = entry.2
+    let stands : id_of (ids_of (keys_of c.self.inside.ids.entries)) c.in_ok-slot.slot ≡ id_bytes c.in_ok-id.id.now = entry.2
     ∙ ap (λ (x : Id × Option ℕ). id_bytes x.0) given in
-    let id : c.as_str.result.now ≡ id_of (ids_of (keys c.self.inside.ids)) c.in_ok-slot.slot = c.as_str.ensures ∙ sym stands in
-    rw (← c.self.view_is) (id-and-shape (keys c.self.inside.ids) slots c.args.number c.in_ok-slot.slot c.as_str.result.now filled id)
+    let id : c.as_str.result.now ≡ id_of (ids_of (keys_of c.self.inside.ids.entries)) c.in_ok-slot.slot = c.as_str.ensures ∙ sym stands in
+    rw (← c.self.view_is) (id-and-shape (keys_of c.self.inside.ids.entries) slots c.args.number c.in_ok-slot.slot c.as_str.result.now filled id)
 
 pub returns-in_err-get-clause-layer : goal.returns-in_err-get-clause-layer
 returns-in_err-get-clause-layer c =

@@ -1,5 +1,5 @@
 use Rattle.std.proofs.Common.{◌∙◌, sym, ap, Some, None, set, arith}
-use Rattle.std.specs.HashMap.{keys, values}
+use Rattle.std.specs.Map.{keys_of, values_of}
 use Rattle.std.specs.Option.{option_map}
 use Rattle.std.proofs.lemmas.Option.{slice_get_within}
 use Rattle.std.proofs.lemmas.Map.Entries.{length-values_of}
@@ -10,22 +10,22 @@ use Rattle.layer_core.proofs.features.Features.delete.Goals as goal
 pub returns-in_err-number-clause-shape : goal.returns-in_err-number-clause-shape
 returns-in_err-number-clause-shape c =
     let absent = rw c.as_slice.ensures.value at c.in_err-number.ensures.found in
-    let none = with_id-absent (keys c.self.inside.ids) c.self.inside.slots.items c.args.id.now absent in
+    let none = with_id-absent (keys_of c.self.inside.ids.entries) c.self.inside.slots.items c.args.id.now absent in
     rw (c.from_residual.ensures, ← c.self.view_is) (sym (ap (option_map (λ f. f.shape)) none))
 
 pub returns-in_err-number-clause-deleted : goal.returns-in_err-number-clause-deleted
 returns-in_err-number-clause-deleted c =
     let absent = rw c.as_slice.ensures.value at c.in_err-number.ensures.found in
-    rw (← c.self.view_is) (sym (deleted-absent (keys c.self.inside.ids) c.self.inside.slots.items c.args.id.now absent))
+    rw (← c.self.view_is) (sym (deleted-absent (keys_of c.self.inside.ids.entries) c.self.inside.slots.items c.args.id.now absent))
 
 pub index_mut-requires : goal.index_mut-requires
 index_mut-requires c =
     let within = slice_get_within c.as_slice.result.now c.in_ok-number.number (Some c.in_ok-number.slot) c.in_ok-number.ensures.found.here in
     omega (arith, c.as_slice.ensures.len)
 
-pub index_mut-requires-2 : goal.index_mut-requires-2
-index_mut-requires-2 c =
-    let within = slice_get_within (values c.self.inside.ids) c.in_ok-number.slot.place (Some c.in_ok-number.number) c.in_ok-number.ensures.place in
+pub set_number-requires : goal.set_number-requires
+set_number-requires c =
+    let within = slice_get_within (values_of c.self.inside.ids.entries) c.in_ok-number.slot.place (Some c.in_ok-number.number) c.in_ok-number.ensures.place in
     omega (arith, length-values_of c.self.inside.ids.entries)
 
 pub overflow_sub-self : goal.overflow_sub-self
@@ -38,18 +38,19 @@ overflow_sub-self c =
 pub invariant_of-self : goal.invariant_of-self
 invariant_of-self c =
     let only = rw c.as_slice.ensures.value at c.in_ok-number.ensures.found in
+    rw c.set_number.ensures
     (StandForLayer-deleted c.self.inside.ids.entries c.self.inside.slots.items c.self.inside.count c.in_ok-number.number c.in_ok-number.slot
     c.self.invariant only.here c.in_ok-number.ensures.place).1
 
 pub returns-clause-shape : goal.returns-clause-shape
 returns-clause-shape c =
     let only = rw c.as_slice.ensures.value at c.in_ok-number.ensures.found in
-    let some = with_id-only (keys c.self.inside.ids) c.self.inside.slots.items c.args.id.now c.in_ok-number.number c.in_ok-number.slot only in
+    let some = with_id-only (keys_of c.self.inside.ids.entries) c.self.inside.slots.items c.args.id.now c.in_ok-number.number c.in_ok-number.slot only in
     rw (← c.self.view_is) (sym (ap (option_map (λ f. f.shape)) some))
 
 pub returns-clause-deleted : goal.returns-clause-deleted
 returns-clause-deleted c =
     let only = rw c.as_slice.ensures.value at c.in_ok-number.ensures.found in
-    let after = deleted-only (keys c.self.inside.ids) c.self.inside.slots.items c.args.id.now c.in_ok-number.number c.in_ok-number.slot only in
-    rw (← c.self.view_is) (ap (λ ks. contents_of ks (set c.self.inside.slots.items c.in_ok-number.number None))
+    let after = deleted-only (keys_of c.self.inside.ids.entries) c.self.inside.slots.items c.args.id.now c.in_ok-number.number c.in_ok-number.slot only in
+    rw (c.set_number.ensures, ← c.self.view_is) (ap (λ ks. contents_of ks (set c.self.inside.slots.items c.in_ok-number.number None))
     (keys-set c.self.inside.ids.entries c.in_ok-number.slot.place None) ∙ sym after)

@@ -1,5 +1,5 @@
 use Rattle.std.proofs.Common.{◌∙◌, sym, ap, Some, None, slice_get}
-use Rattle.std.specs.HashMap.{keys}
+use Rattle.std.specs.Map.{keys_of}
 use Rattle.std.specs.Option.{option_map}
 use Rattle.layer_core.specs.MapAndSlots.{ids_of}
 use Rattle.layer_core.proofs.Lists.{copied-get}
@@ -11,8 +11,8 @@ pub returns-in_err-get : goal.returns-in_err-get
 returns-in_err-get c =
     let slots = c.self.inside.slots.items in
     let empty = copied-get c.deref.result.now c.args.number None c.in_err-get.ensures.lookup ∙ ap (λ xs. slice_get xs c.args.number) c.deref.ensures.value in
-    let none = with_number-contents (keys c.self.inside.ids) slots c.args.number
-    ∙ ap (feature_in (ids_of (keys c.self.inside.ids)) c.args.number) (sym empty) in
+    let none = with_number-contents (keys_of c.self.inside.ids.entries) slots c.args.number
+    ∙ ap (feature_in (ids_of (keys_of c.self.inside.ids.entries)) c.args.number) (sym empty) in
     rw (c.from_residual.ensures, ← c.self.view_is) (sym (ap (option_map (λ f. f.shape)) none))
 
 pub returns-in_err-slot : goal.returns-in_err-slot
@@ -21,7 +21,7 @@ returns-in_err-slot c =
     let found = copied-get c.deref.result.now c.args.number (Some c.in_ok-get.field-0) c.in_ok-get.ensures.lookup
     ∙ ap (λ xs. slice_get xs c.args.number) c.deref.ensures.value in
     let empty = sym found ∙ ap Some c.in_err-slot.was in
-    let none = with_number-contents (keys c.self.inside.ids) slots c.args.number ∙ ap (feature_in (ids_of (keys c.self.inside.ids)) c.args.number) empty in
+    let none = with_number-contents (keys_of c.self.inside.ids.entries) slots c.args.number ∙ ap (feature_in (ids_of (keys_of c.self.inside.ids.entries)) c.args.number) empty in
     rw (c.from_residual-in_err-slot.ensures, ← c.self.view_is) (sym (ap (option_map (λ f. f.shape)) none))
 
 pub returns : goal.returns
@@ -30,5 +30,5 @@ returns c =
     let found = copied-get c.deref.result.now c.args.number (Some c.in_ok-get.field-0) c.in_ok-get.ensures.lookup
     ∙ ap (λ xs. slice_get xs c.args.number) c.deref.ensures.value in
     let filled = sym found ∙ ap Some c.in_ok-slot.was in
-    let some = with_number-contents (keys c.self.inside.ids) slots c.args.number ∙ ap (feature_in (ids_of (keys c.self.inside.ids)) c.args.number) filled in
+    let some = with_number-contents (keys_of c.self.inside.ids.entries) slots c.args.number ∙ ap (feature_in (ids_of (keys_of c.self.inside.ids.entries)) c.args.number) filled in
     rw (← c.self.view_is) (sym (ap (option_map (λ f. f.shape)) some))

@@ -1,5 +1,5 @@
 use Rattle.std.proofs.Common.{◌∙◌, ◌∷◌, ◌+◌, sym}
-use Rattle.std.specs.HashMap.{keys}
+use Rattle.std.specs.Map.{keys_of}
 use Rattle.layer_core.specs.MapAndSlots.{features_from, ids_of}
 use Rattle.layer_core.proofs.MapLemmas.{IsWalk-later, walked-some, id-placed, features-skip, features-first}
 use Rattle.layer_core.proofs.iter.IterIterator.next.Goals as goal
@@ -25,7 +25,7 @@ invariant_of-self-in-Some-first c =
 pub returns-in-Some-first-clause-steps : goal.returns-in-Some-first-clause-steps
 returns-in-Some-first-clause-steps c =
     let es = c.loop-first.self-inside.ids.now.entries in
-    let ids = ids_of (keys c.loop-first.self-inside.ids.now) in
+    let ids = ids_of (keys_of c.loop-first.self-inside.ids.now.entries) in
     let n = c.loop-first.self-inside.number in
     let left = rw (c.in-Some.ensures.cases.0, c.in-Some-first.is) at c.loop-first.invariant.0 in
     let first = features-first ids n c.in-Some-first.slot c.in-Some.others.now in
@@ -35,7 +35,7 @@ returns-in-Some-first-clause-steps c =
 
 pub loop-first-preserved : goal.loop-first-preserved
 loop-first-preserved c =
-    let ids = ids_of (keys c.loop-first.self-inside.ids.now) in
+    let ids = ids_of (keys_of c.loop-first.self-inside.ids.now.entries) in
     let left = rw (c.in-Some.ensures.cases.0, c.in_default-first.is) at c.loop-first.invariant.0 in
     let walk = rw c.in-Some.ensures.cases.0 at c.loop-first.invariant.1 in (
       features-skip ids c.loop-first.self-inside.number c.in-Some.others.now

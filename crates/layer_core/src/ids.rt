@@ -1,0 +1,238 @@
+//! The ids of a layer, each with its place and with the number of its feature.
+
+ghost use Rattle.std.specs.Prelude.{◌≡◌, ◌↔◌, ◌<◌, ◌+◌, None, IsTrue, IfOk, IsOk, OnOk, OnErr};
+ghost use Rattle.std.specs.Prelude.{length, position};
+ghost use Rattle.std.specs.Map.{keys_of, lookup};
+ghost use Rattle.indexmap.specs.IndexMap.{index_map_len, insert_entry, spare};
+ghost use Rattle.layer_core.specs.Ids.{id_bytes, id_eq};
+ghost use Rattle.layer_core.specs.RisingIds.{id_order, has_text, Rises, ComesAfter};
+ghost use Rattle.layer_core.specs.RisingIds.{place_and_number};
+
+use crate::id::Id;
+use indexmap::IndexMap;
+use std::alloc::{AllocError, Global};
+use std::cmp::Ordering;
+use std::hash::RandomState;
+use std::marker::Model;
+use std::mem;
+
+/// An id that was ever inserted, and the number of its feature, if it has one now.
+type NumberedId = (Id, Option<u32>);
+
+/// Ids with the numbers of their features, in the order of insertion.
+type Others = IndexMap<Id, Option<u32>, RandomState>;
+
+/// Where an id was inserted and, if it was there, what it had before.
+type Inserted = Result<(usize, Option<Option<u32>>), AllocError>;
+
+/// Each id that was ever inserted, with the number of its feature, if it has one now.
+///
+/// An id keeps its place, and places begin at 0 in the order of insertion. Most files have their
+/// ids in rising order, and then no hash map is needed: as long as each id comes after all before
+/// it, ids go to a list that is searched by halving. From the first that doesn't, new ids go to
+/// a map, whose places come after those of the list.
+#[derive(Drop)]
+pub(crate) struct Ids {
+    rising: Vec<NumberedId>,
+    others: Others,
+}
+
+impl Model for Ids {
+    ghost use Rattle.layer_core.specs.RisingIds.{IdsState};
+    ghost use Rattle.layer_core.specs.LayerCodes.{coded_ids};
+
+    ghost Value = { IdsState };
+
+    ghost coded = { coded_ids };
+
+    ghost use Rattle.std.specs.Prelude.{◌-◌, ◌++◌, min, vec_len, vec_capacity};
+    ghost use Rattle.indexmap.specs.IndexMap.{spare};
+    ghost use Rattle.layer_core.specs.RisingIds.{AreApart, room_before};
+
+    ghost view = { λ ids. record {
+      entries = ids.rising.items ++ ids.others.entries;
+      room = min (spare ids.others) (vec_capacity ids.rising - vec_len ids.rising);
+      rising_room = room_before ids.others.entries (vec_capacity ids.rising - vec_len ids.rising);
+    } };
+
+    ghost invariant = { λ ids. AreApart ids.rising.items ids.others.entries };
+}
+
+/// Compares an id with another text: the shorter one comes first, and of two of one length the one
+/// whose bytes do.
+fn compare(entry: &NumberedId, id: &str) -> Ordering
+    ensures { result ≡ id_order (id_bytes entry.now.0) id.now }
+{
+    let own = entry.0.as_str();
+    own.len().cmp(&id.len()).then_with(|| own.cmp(id))
+}
+
+/// Where this id stands in a list that rises.
+fn search(rising: &[NumberedId], id: &str) -> Option<usize>
+    requires { Rises rising.now }
+    ensures { result ≡ position (has_text id.now) (keys_of rising.now) }
+{
+    rising.binary_search_by(|entry| compare(entry, id)).ok()
+}
+
+/// Whether this id comes after all of a list that rises.
+fn comes_after(rising: &[NumberedId], id: &str) -> bool
+    requires { Rises rising.now }
+    ensures { IsTrue result ↔ ComesAfter rising.now id.now }
+{
+    match rising.last() {
+        Some(last) => compare(last, id) == Ordering::Less,
+        None => true,
+    }
+}
+
+/// The place of an id that has this place in the map of those behind a list.
+fn place_behind(rising: &[NumberedId], others: &Others, place: usize) -> usize
+    requires { place < index_map_len others.now }
+    ensures { result ≡ length rising.now + place }
+{
+    // That the sum fits is what the map says of its length.
+    let _len = others.len();
+    rising.len() + place
+}
+
+/// Inserts an id in the map of those behind a list, of which at least so many more are likely
+/// where it is the first.
+fn insert_other(others: &mut Others, id: Id, number: Option<u32>, likely: usize) -> Inserted
+    ensures before { IfOk result (λ r. r ≡ place_and_number id others.old.entries) }
+    ensures within { IfOk result (λ r. r.0 < index_map_len others.new) }
+    ensures after { OnOk result
+        (others.new.entries ≡ insert_entry id_eq others.old.entries id number) }
+    ensures err { OnErr result (others.new.entries ≡ others.old.entries) }
+    ensures absent { OnErr result (lookup (id_eq id) others.old.entries ≡ None) }
+    ensures succeeds { 0 < spare others.old → IsOk result }
+{
+    if others.is_empty() {
+        // A refusal costs time alone.
+        let _room = others.reserve(likely);
+    }
+    Ok(others.insert_full(id, number)?)
+}
+
+impl Ids {
+    ghost use Rattle.std.specs.Prelude.{◌≤◌, [], Some, slice_get, option_map, IfSome, IsSome};
+    ghost use Rattle.std.specs.List.{IsDistinct};
+    ghost use Rattle.std.specs.Map.{values_of};
+    ghost use Rattle.std.specs.Map.Iter.{deref_pair};
+    ghost use Rattle.indexmap.specs.IndexMap.{set_value_at};
+    ghost use Rattle.layer_core.specs.Ids.{id_eq};
+    ghost use Rattle.layer_core.specs.RisingIds.{HasRoom};
+
+    /// No ids. `state` hashes those that a map gets.
+    pub(crate) fn new(alloc: Global, state: RandomState) -> Ids
+        ensures { result.entries ≡ [] }
+    {
+        Ids {
+            rising: Vec::new(alloc),
+            others: IndexMap::with_hasher(alloc, state),
+        }
+    }
+
+    /// No ids, and room for so many that rise.
+    pub(crate) fn with_room(
+        alloc: Global,
+        state: RandomState,
+        count: usize,
+    ) -> Result<Ids, AllocError>
+        ensures none { IfOk result (λ ids. ids.entries ≡ []) }
+        ensures room { IfOk result (λ ids. count ≤ ids.rising_room) }
+    {
+        Ok(Ids {
+            rising: Vec::with_capacity(alloc, count)?,
+            others: IndexMap::with_hasher(alloc, state),
+        })
+    }
+
+    /// What the texts of ids are allocated by.
+    pub(crate) fn allocator(&self) -> Global {
+        *self.others.allocator()
+    }
+
+    /// The place of this id.
+    pub(crate) fn place_of(&self, id: &str) -> Option<usize>
+        ensures place { result ≡ position (has_text id.now) (keys_of self.now.entries) }
+        ensures within { IfSome result (λ place. place < length self.now.entries) }
+        ensures unique { IsDistinct id_eq (keys_of self.now.entries) }
+    {
+        if let Some(place) = search(self.rising.as_slice(), id) {
+            return Some(place);
+        }
+        let place = self.others.get_index_of(id)?;
+        Some(place_behind(self.rising.as_slice(), &self.others, place))
+    }
+
+    /// The id at this place, and the number of its feature.
+    pub(crate) fn at(&self, place: usize) -> Option<(&Id, &Option<u32>)>
+        ensures entry { option_map deref_pair result ≡ slice_get self.now.entries place }
+        ensures found { IsSome result ↔ (place < length self.now.entries) }
+    {
+        match self.rising.get(place) {
+            Some((id, number)) => Some((id, number)),
+            None => self.others.get_index(place - self.rising.len()),
+        }
+    }
+
+    /// The number of the feature whose id has this place, if there is one now.
+    pub(crate) fn number(&self, place: usize) -> Option<u32>
+        requires { place < length self.now.entries }
+        ensures { slice_get (values_of self.now.entries) place ≡ Some result }
+    {
+        match self.at(place) {
+            Some((_, number)) => *number,
+            None => unreachable!(),
+        }
+    }
+
+    /// Gives the id at this place another number, or none.
+    pub(crate) fn set_number(&mut self, place: usize, number: Option<u32>)
+        requires { place < length self.old.entries }
+        ensures { self.new.entries ≡ set_value_at self.old.entries place number }
+    {
+        let rising = self.rising.len();
+        if place < rising {
+            self.rising[place].1 = number;
+        } else {
+            self.others[place - rising] = number;
+        }
+    }
+
+    /// Makes room for one more id.
+    pub(crate) fn reserve(&mut self) -> Result<(), AllocError>
+        ensures same { self.new.entries ≡ self.old.entries }
+        ensures room { OnOk result (0 < self.new.room) }
+    {
+        self.rising.reserve(1)?;
+        self.others.reserve(1)?;
+        Ok(())
+    }
+
+    /// Gives an id a number, and answers its place and, if it was there, what it had before.
+    /// Memory is refused to a new id alone.
+    pub(crate) fn insert(&mut self, id: Id, number: Option<u32>) -> Inserted
+        ensures before { IfOk result (λ r. r ≡ place_and_number id self.old.entries) }
+        ensures after { OnOk result
+            (self.new.entries ≡ insert_entry id_eq self.old.entries id number) }
+        ensures unique { IsDistinct id_eq (keys_of self.new.entries) }
+        ensures err { OnErr result (self.new.entries ≡ self.old.entries) }
+        ensures absent { OnErr result (lookup (id_eq id) self.old.entries ≡ None) }
+        ensures succeeds { HasRoom self.old (id_bytes id) → IsOk result }
+    {
+        if self.others.is_empty() && comes_after(self.rising.as_slice(), id.as_str()) {
+            self.rising.push((id, number))?;
+            return Ok((self.rising.len() - 1, None));
+        }
+        if let Some(place) = search(self.rising.as_slice(), id.as_str()) {
+            let before = mem::replace(&mut self.rising[place].1, number);
+            return Ok((place, Some(before)));
+        }
+        let likely = self.rising.capacity() - self.rising.len();
+        let (place, before) = insert_other(&mut self.others, id, number, likely)?;
+        let place = place_behind(self.rising.as_slice(), &self.others, place);
+        Ok((place, before))
+    }
+}
