@@ -7,11 +7,16 @@ use layer_core::LayerFault;
 use std::alloc::Global;
 use wkt_core::WktFault;
 
-/// Whether the line of a fault says this text.
-fn has_line(alloc: Global, fault: &RunFault, text: &str) -> Option<bool> {
+/// The line of a fault.
+fn line_of(alloc: Global, fault: &RunFault) -> Option<Vec<u8>> {
     let mut sink = ToWrite::new(Vec::new(alloc));
     fault_line(fault, &mut sink).ok()?;
-    let written: Vec<u8> = sink.into_inner();
+    Some(sink.into_inner())
+}
+
+/// Whether the line of a fault says this text.
+fn has_line(alloc: Global, fault: &RunFault, text: &str) -> Option<bool> {
+    let written = line_of(alloc, fault)?;
     let line = format!(in alloc; "rjoin: {text}\n").ok()?;
     Some(written.as_slice() == line.as_bytes())
 }

@@ -1,6 +1,6 @@
 //! Joins of mixed, clustered and coincident features, packed and edited, beside a nested loop.
 
-use crate::layers::edited;
+use crate::layers::{edited, seen};
 use join_core::{OpenGate, Options, join};
 use layer_core::{FeatureRef, Layer};
 use relation_core::{JoinRelation, Relation};
@@ -41,7 +41,7 @@ fn nested_loop(
 }
 
 /// Numbers of workers, batches and cuts.
-const WAYS: [(u32, u32, u32); 5] = [
+const WAYS: &[(u32, u32, u32)] = &[
     (1, 256, 0),
     (2, 1, 1),
     (3, 7, 2),
@@ -70,7 +70,8 @@ fn has_pairs<R: Threads + Wait + Sync>(
         right,
         relation,
     } = *joined;
-    Ok(join(rt, alloc, left, right, relation, options, &OpenGate)?.pairs() == wanted)
+    let outcome = join(rt, alloc, left, right, relation, options, &OpenGate);
+    Ok(outcome.map(|outcome| outcome.pairs() == wanted)?)
 }
 
 /// Sees that a join has the wanted pairs in each of these ways.
@@ -80,7 +81,7 @@ fn see_ways<R: Threads + Wait + Sync>(
     joined: &Joined<'_>,
     wanted: &[(u32, u32)],
 ) -> Result<(), Fail> {
-    for (workers, batch, cut) in WAYS {
+    for &(workers, batch, cut) in WAYS {
         if !has_pairs(
             rt,
             alloc,
@@ -112,15 +113,18 @@ fn see_both_orders<'a, R: Threads + Wait + Sync>(
     relation: &'a JoinRelation,
 ) -> Result<(), Fail> {
     let (one, two) = layers;
-    for (left, right) in [(one, two), (two, one)] {
-        let joined = Joined {
-            left,
-            right,
-            relation,
-        };
-        see_join(rt, alloc, &joined)?;
-    }
-    Ok(())
+    let joined = Joined {
+        left: one,
+        right: two,
+        relation,
+    };
+    see_join(rt, alloc, &joined)?;
+    let turned = Joined {
+        left: two,
+        right: one,
+        relation,
+    };
+    see_join(rt, alloc, &turned)
 }
 
 /// A layer that is mostly packed, and one that is mostly edits. Both trees have at least four
@@ -128,7 +132,7 @@ fn see_both_orders<'a, R: Threads + Wait + Sync>(
 fn layers<R: RandomSource + AllocGlobal>(rt: &R) -> Result<(Layer, Layer), Fail> {
     let mut random = Random::new(1);
     let packed = edited(rt, &mut random, 700, 140)?;
-    Ok((packed, edited(rt, &mut random, 500, 500)?))
+    edited(rt, &mut random, 500, 500).map(|other| (packed, other))
 }
 
 /// Sees that a join of such layers by this relation has the pairs of the nested loop.
@@ -137,7 +141,10 @@ fn see_relation<R: Threads + Wait + Sync + RandomSource + AllocGlobal>(
     name: &[u8],
 ) -> Result<(), Fail> {
     let relation = JoinRelation::new(Relation::read(name)?)?;
-    see_both_orders(rt, rt.alloc(), &layers(rt)?, &relation)
+    seen(
+        layers(rt)?,
+        |layers| see_both_orders(rt, rt.alloc(), layers, &relation),
+    )
 }
 
 #[test]

@@ -15,13 +15,21 @@ pub(crate) fn whole() -> Result<Scale, Fail> {
     Ok(Scale::new(0).ok_or("a scale")?)
 }
 
+/// What is seen of a value. The proof of a function that drops a layer itself takes long.
+pub(crate) fn seen<V: Drop, T, F: FnOnce(&V) -> T>(value: V, see: F) -> T
+    requires { F.IsAlwaysCallable see }
+{
+    see(&value)
+}
+
 /// What a file with this text is read as.
 pub(crate) fn read_text<R: RandomSource + AllocGlobal>(
     rt: &R,
     text: &str,
 ) -> Result<Result<Layer, ReadFault>, Fail> {
+    let (state, scale) = (RandomState::new(rt)?, whole()?);
     let mut source = FromRead::new(text.as_bytes());
-    Ok(read_layer(rt.alloc(), RandomState::new(rt)?, &mut source, whole()?))
+    Ok(read_layer(rt.alloc(), state, &mut source, scale))
 }
 
 /// The layer of a file with this text.
@@ -78,6 +86,6 @@ pub(crate) fn edited<R: RandomSource + AllocGlobal>(
     edits: u32,
 ) -> Result<Layer, Fail> {
     let mut layer = packed(rt, random, count)?;
-    edit(rt.alloc(), &mut layer, random, edits).ok_or("an edit")?;
-    Ok(layer)
+    let edited = edit(rt.alloc(), &mut layer, random, edits);
+    Ok(edited.map(|()| layer).ok_or("an edit")?)
 }

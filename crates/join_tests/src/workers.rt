@@ -1,6 +1,6 @@
 //! What the workers of a join deliver, by the marks of its outcome and by the gate that they enter.
 
-use crate::layers::{layer_of, points, read_text};
+use crate::layers::{layer_of, points, read_text, seen};
 use deliver_core::Mark;
 use join_core::{Gate, JoinFault, OpenGate, Options, Outcome, join};
 use layer_core::Layer;
@@ -12,7 +12,7 @@ use std::test::Fail;
 use std::thread;
 use std::thread::Threads;
 
-const BY_THREE: [Mark; 11] = [
+const BY_THREE: &[Mark] = &[
     Mark::Batch(0, 0),
     Mark::Batch(0, 1),
     Mark::Batch(0, 2),
@@ -26,7 +26,7 @@ const BY_THREE: [Mark; 11] = [
     Mark::End(2, 2),
 ];
 
-const BY_SEVEN: [Mark; 6] = [
+const BY_SEVEN: &[Mark] = &[
     Mark::Batch(0, 0),
     Mark::End(0, 1),
     Mark::Batch(1, 0),
@@ -35,7 +35,14 @@ const BY_SEVEN: [Mark; 6] = [
     Mark::End(2, 1),
 ];
 
-const OF_NOTHING: [Mark; 3] = [Mark::End(0, 0), Mark::End(1, 0), Mark::End(2, 0)];
+const OF_NOTHING: &[Mark] = &[Mark::End(0, 0), Mark::End(1, 0), Mark::End(2, 0)];
+
+/// The marks of joins of 20 points by one worker, by these relations and with so long batches.
+const SCRIPTS: &[(Relation, u32, &[Mark])] = &[
+    (Relation::Equals, 3, BY_THREE),
+    (Relation::Equals, 7, BY_SEVEN),
+    (Relation::Touches, 7, OF_NOTHING),
+];
 
 /// How two layers are joined.
 #[derive(Clone, Copy)]
@@ -57,16 +64,7 @@ impl Points {
     /// Layers of so many points each.
     fn new<R: RandomSource + AllocGlobal>(rt: &R, count: u32) -> Result<Points, Fail> {
         let left = points(rt, count)?;
-        Points::beside(rt, left, count)
-    }
-
-    fn beside<R: RandomSource + AllocGlobal>(
-        rt: &R,
-        left: Layer,
-        count: u32,
-    ) -> Result<Points, Fail> {
-        let right = points(rt, count)?;
-        Ok(Points { left, right })
+        points(rt, count).map(|right| Points { left, right })
     }
 
     /// Joins them in this way.
@@ -129,7 +127,7 @@ fn on_points<R: RandomSource + AllocGlobal, F: FnOnce(&Points) -> Result<bool, F
 ) -> Result<bool, Fail>
     requires { F.IsAlwaysCallable see }
 {
-    see(&Points::new(rt, count)?)
+    seen(Points::new(rt, count)?, see)
 }
 
 /// Whether the pairs are (0, 0), (1, 1) and on, this many.
@@ -159,11 +157,7 @@ fn gives_scripts<R: Threads + Wait + Sync + AllocGlobal>(
     rt: &R,
     points: &Points,
 ) -> Result<bool, Fail> {
-    for (relation, batch, marks) in [
-        (Relation::Equals, 3, BY_THREE.as_slice()),
-        (Relation::Equals, 7, &BY_SEVEN),
-        (Relation::Touches, 7, &OF_NOTHING),
-    ] {
+    for &(relation, batch, marks) in SCRIPTS {
         let way = Way {
             relation,
             workers: 1,
@@ -332,7 +326,7 @@ fn crosses_at_last<R: Threads + Wait + Sync + AllocGlobal>(
 fn crosses_itself<R: Threads + Wait + Sync + RandomSource + AllocGlobal>(
     rt: &R,
 ) -> Result<Result<bool, JoinFault>, Fail> {
-    crosses_at_last(rt, &cross(rt)?)
+    seen(cross(rt)?, |layer| crosses_at_last(rt, layer))
 }
 
 /// Run with each allocation failing in turn, it ends as with ample memory.

@@ -1,7 +1,8 @@
 //! What the contracts leave open, and worked examples of what they say.
 //!
-//! The proof of a function grows with the square of its length where it owns a layer. So what is
-//! seen of a layer is told by functions that borrow it, and those that own one only call them.
+//! The proof of a function grows with the square of its length where it owns a layer, and takes two
+//! seconds where it drops one. So what is seen of a layer is told by functions that borrow it, and
+//! those that own one give it to `seen`.
 
 mod broken;
 mod devices;
@@ -31,6 +32,13 @@ fn point(x: i64, y: i64) -> Result<Shape, Fail> {
 /// The scale of whole numbers.
 fn whole() -> Result<Scale, Fail> {
     Ok(Scale::new(0).ok_or("a scale")?)
+}
+
+/// What is seen of a value.
+fn seen<V: Drop, T, F: FnOnce(&mut V) -> T>(mut value: V, see: F) -> T
+    requires { F.IsAlwaysCallable see }
+{
+    see(&mut value)
 }
 
 /// What loading these bytes of a file answers, as so many threads do it.
@@ -72,13 +80,22 @@ fn layer_of<R: Threads + Sync + RandomSource + AllocGlobal>(
     layer_by(rt, bytes, 2)
 }
 
+/// The fault of a layer's file, if it has one, as so many threads load it.
+fn fault_by<R: Threads + Sync + RandomSource + AllocGlobal>(
+    rt: &R,
+    bytes: &[u8],
+    threads: u32,
+) -> Result<Option<ReadFault>, Fail> {
+    Ok(answer_by(rt, bytes, threads)?.err())
+}
+
 /// The fault of a layer's file, if it has one, and the same by one thread as by two.
 fn fault_of<R: Threads + Sync + RandomSource + AllocGlobal>(
     rt: &R,
     bytes: &[u8],
 ) -> Result<Option<ReadFault>, Fail> {
-    let fault = answer_by(rt, bytes, 1)?.err();
-    if answer_by(rt, bytes, 2)?.err() != fault {
+    let fault = fault_by(rt, bytes, 1)?;
+    if fault_by(rt, bytes, 2)? != fault {
         return Err(Fail::new("two threads find another fault than one"));
     }
     Ok(fault)
@@ -101,7 +118,8 @@ fn reads_by<R: Threads + Sync + RandomSource + AllocGlobal>(
     threads: u32,
     features: &[(&str, Shape)],
 ) -> Result<bool, Fail> {
-    Ok(has_features(&layer_by(rt, bytes, threads)?, features))
+    let layer = layer_by(rt, bytes, threads)?;
+    Ok(seen(layer, |layer| has_features(layer, features)))
 }
 
 /// Whether the layer has exactly these features, in this order and numbered from 0.
@@ -131,7 +149,7 @@ fn on_empty<F: FnOnce(&mut Layer) -> Result<bool, Fail>>(
 ) -> Result<bool, Fail>
     requires { F.IsAlwaysCallable see }
 {
-    see(&mut empty_layer(rt)?)
+    seen(empty_layer(rt)?, see)
 }
 
 /// The bytes of a layer file of points (0 0), (1 0), .., with the ids p0, p1, ..

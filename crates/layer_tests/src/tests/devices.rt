@@ -103,14 +103,15 @@ fn lengths_that_are_wrong(rt: HostRuntime) -> Result<(), Fail> {
 
 /// The layer of this text, which is read one byte at a time.
 fn layer_bytewise(rt: &HostRuntime, text: &[u8]) -> Result<Layer, Fail> {
+    let (state, scale) = (RandomState::new(rt)?, whole()?);
     let mut source = FromRead::new(Device::new(text, 1, 1_000));
-    let state = RandomState::new(rt)?;
-    Ok(read_layer(rt.alloc(), state, &mut source, whole()?)?)
+    Ok(read_layer(rt.alloc(), state, &mut source, scale)?)
 }
 
 #[test]
 fn layer_one_byte_at_a_time(rt: HostRuntime) -> Result<(), Fail> {
     let features = [("a", point(1, 2)?)];
-    assert!(rt; has_features(&layer_bytewise(&rt, ONE_POINT)?, &features));
+    let layer = layer_bytewise(&rt, ONE_POINT)?;
+    assert!(rt; seen(layer, |layer| has_features(layer, &features)));
     Ok(())
 }

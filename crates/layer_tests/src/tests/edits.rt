@@ -32,6 +32,25 @@ const OF_MANY_LENGTHS: &[Insertion] = &[
     (LONGER, 5, Err(LayerFault::DoubleId)),
 ];
 
+/// Ids that rise, the shorter ones first, and then others.
+const IN_ANY_ORDER: &[Insertion] = &[
+    ("b", 0, Ok(())),
+    ("c", 1, Ok(())),
+    ("aa", 2, Ok(())),
+    ("ab", 3, Ok(())),
+    ("ab", 4, Err(LayerFault::DoubleId)),
+    ("a", 5, Ok(())),
+    ("b0", 6, Ok(())),
+    ("b", 7, Err(LayerFault::DoubleId)),
+    ("a", 8, Err(LayerFault::DoubleId)),
+    ("b0", 9, Err(LayerFault::DoubleId)),
+];
+
+/// Ids before, between and behind them.
+const ABSENT: &[&str] = &["0", "bb", "d", "b1"];
+
+const ONCE_MORE: &[Insertion] = &[("aa", 2, Ok(())), ("a", 5, Ok(())), ("c0", 7, Ok(()))];
+
 const INTO_FULL: &[Insertion] = &[("new", 0, Err(LayerFault::LayerFull))];
 
 const THREE: &[Insertion] = &[("a", 0, Ok(())), ("b", 1, Ok(())), ("c", 2, Ok(()))];
@@ -92,6 +111,33 @@ fn ids_of_many_lengths(rt: HostRuntime) -> Result<(), Fail> {
     Ok(())
 }
 
+/// Whether a layer has none of these ids.
+fn finds_none(layer: &Layer, ids: &[&str]) -> bool {
+    ids.iter().all(|id| layer.find(id).is_none())
+}
+
+/// Whether an empty layer takes ids in any order, finds them, and none beside them.
+fn takes_any_order(layer: &mut Layer) -> Result<bool, Fail> {
+    let listed = inserts(layer, IN_ANY_ORDER)? && finds(layer, "ab", 3, point(3, 3)?);
+    let others = finds(layer, "a", 4, point(5, 5)?) && finds(layer, "b0", 5, point(6, 6)?);
+    Ok(listed && others && finds_none(layer, ABSENT))
+}
+
+/// Whether it loses an id of each kind, and takes both again.
+fn takes_any_order_again(layer: &mut Layer) -> Result<bool, Fail> {
+    let first = takes_any_order(layer)?;
+    let removed = removes(layer, "aa", point(2, 2)?) && removes(layer, "a", point(5, 5)?);
+    let are_gone = layer.find("aa").is_none() && layer.find("a").is_none();
+    let again = inserts(layer, ONCE_MORE)? && finds(layer, "aa", 6, point(2, 2)?);
+    Ok(first && removed && are_gone && again && finds(layer, "a", 7, point(5, 5)?))
+}
+
+#[test]
+fn ids_in_any_order(rt: HostRuntime) -> Result<(), Fail> {
+    assert!(rt; on_empty(&rt, takes_any_order_again)?);
+    Ok(())
+}
+
 /// Adds the points (0 0), (1 0), .. under the ids p0, p1, ..
 fn add_points(alloc: Global, loading: &mut Loading, count: u32) -> Result<(), Fail> {
     let mut id = String::new(alloc);
@@ -125,7 +171,7 @@ fn stays_full(full: &mut Layer) -> Result<bool, Fail> {
 }
 
 fn is_full_for_good<R: RandomSource + AllocGlobal>(rt: &R) -> Result<bool, Fail> {
-    stays_full(&mut full_layer(rt)?)
+    seen(full_layer(rt)?, stays_full)
 }
 
 /// The last part of the row on edits of a layer.
@@ -218,7 +264,7 @@ fn reads_edits(alloc: Global, left: &mut Layer, right: &mut Layer) -> Result<boo
 
 /// Whether edits of a left layer and a new right one are read and made.
 fn reads_edits_of(rt: &HostRuntime, left: &mut Layer) -> Result<bool, Fail> {
-    reads_edits(rt.alloc(), left, &mut empty_layer(rt)?)
+    on_empty(rt, |right| reads_edits(rt.alloc(), left, right))
 }
 
 #[test]

@@ -158,7 +158,7 @@ fn fault_behind_million<R: Threads + Sync + RandomSource + AllocGlobal>(
 ) -> Result<Option<ReadFault>, Fail> {
     let mut file = points_file(rt.alloc(), 1_000_000)?;
     file.push_str(row)?;
-    Ok(answer_by(rt, file.as_bytes(), threads)?.err())
+    fault_by(rt, file.as_bytes(), threads)
 }
 
 #[test]
@@ -235,7 +235,7 @@ fn points_loaded<R: Threads + Sync + RandomSource + AllocGlobal>(
     count: u32,
 ) -> Result<usize, Fail> {
     let file = points_file(rt.alloc(), count)?;
-    Ok(layer_of(rt, file.as_bytes())?.len())
+    Ok(seen(layer_of(rt, file.as_bytes())?, |layer| layer.len()))
 }
 
 #[test]

@@ -229,12 +229,17 @@ fn listed(alloc: Global, random: &mut Random, count: u32) -> Result<Vec<Held>, F
     Ok(list)
 }
 
+/// Writes the row of a feature; none where there was no memory.
+fn write_row(alloc: Global, file: &mut String, held: &Held) -> Option<()> {
+    let text = wkt_core::print(alloc, &held.entry.shape, Scale::new(0)?).ok()?;
+    writeln!(file, "p{},\"{text}\"", held.name).ok()
+}
+
 /// The file of a layer that has these features; none where there was no memory.
 fn file_of(alloc: Global, list: &[Held]) -> Option<String> {
     let mut file = String::from_str(alloc, "id,wkt\n").ok()?;
     for held in list {
-        let text = wkt_core::print(alloc, &held.entry.shape, Scale::new(0)?).ok()?;
-        writeln!(file, "p{},\"{text}\"", held.name).ok()?;
+        write_row(alloc, &mut file, held)?;
     }
     Some(file)
 }
@@ -286,6 +291,6 @@ fn edit_in_turn(trial: &mut Trial, alloc: Global, random: &mut Random) -> Result
 #[test]
 fn mixed_edits(rt: HostRuntime) -> Result<(), Fail> {
     let mut random = Random::new(1);
-    let mut trial = Trial::read(&rt, &mut random, 300)?;
-    edit_in_turn(&mut trial, rt.alloc(), &mut random)
+    let trial = Trial::read(&rt, &mut random, 300)?;
+    seen(trial, |trial| edit_in_turn(trial, rt.alloc(), &mut random))
 }

@@ -48,7 +48,8 @@ fn reads_form<R: Threads + Sync + RandomSource + AllocGlobal>(
     (front, back, last): &(&str, &str, &str),
 ) -> Result<bool, Fail> {
     let shape = point(1, 2)?;
-    Ok(has_all(&layer_of_form(rt, threads, front, back)?, last, shape))
+    let layer = layer_of_form(rt, threads, front, back)?;
+    Ok(seen(layer, |layer| has_all(layer, last, shape)))
 }
 
 /// The place of the first form whose file so many threads read as another layer.
@@ -88,7 +89,7 @@ fn file_with_faults(alloc: Global) -> Result<String, AllocError> {
 fn faults_in_parts(rt: HostRuntime) -> Result<(), Fail> {
     let file = file_with_faults(rt.alloc())?;
     for threads in [1, 2, 4] {
-        let fault = answer_by(&rt, file.as_bytes(), threads)?.err();
+        let fault = fault_by(&rt, file.as_bytes(), threads)?;
         assert!(rt; fault == Some(ReadFault::Layer(10_001, LayerFault::DoubleId)));
     }
     Ok(())

@@ -69,7 +69,7 @@ fn on_layer_at_last<F: FnOnce(&mut Layer) -> Result<bool, Fail>>(
 ) -> Result<bool, Fail>
     requires { F.IsAlwaysCallable see }
 {
-    see(&mut layer_at_last(rt)?)
+    seen(layer_at_last(rt)?, see)
 }
 
 /// Inserts points in a row under these ids, and says whether each is found.
@@ -127,7 +127,7 @@ fn refused_3(rt: HostRuntime) -> Result<(), Fail> {
 fn loads_ten<R: Threads + Sync + RandomSource + AllocGlobal>(
     rt: &R,
 ) -> Result<Result<bool, ReadFault>, Fail> {
-    Ok(answer_by(rt, TEN, 2)?.map(|layer| has_len(&layer, 10)))
+    Ok(answer_by(rt, TEN, 2)?.map(|layer| seen(layer, |layer| has_len(layer, 10))))
 }
 
 #[test]

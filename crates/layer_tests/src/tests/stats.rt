@@ -24,7 +24,7 @@ fn stats_of<R: Threads + Sync + RandomSource + AllocGlobal>(
     rt: &R,
     bytes: &[u8],
 ) -> Result<Stats, Fail> {
-    Ok(layer_of(rt, bytes)?.stats())
+    Ok(seen(layer_of(rt, bytes)?, |layer| layer.stats()))
 }
 
 /// The counts of the layer of two features once they are removed.
@@ -35,7 +35,7 @@ fn stats_emptied(layer: &mut Layer) -> Result<Stats, Fail> {
 }
 
 fn stats_of_emptied<R: Threads + Sync + RandomSource + AllocGlobal>(rt: &R) -> Result<Stats, Fail> {
-    stats_emptied(&mut layer_of(rt, TWO)?)
+    seen(layer_of(rt, TWO)?, stats_emptied)
 }
 
 #[test]
