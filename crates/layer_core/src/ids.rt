@@ -86,7 +86,7 @@ fn comes_after(rising: &[NumberedId], id: &str) -> bool
     }
 }
 
-/// The place of an id that has this place in the map of those behind a list.
+/// The place, behind a list, of an id that has this place in the map.
 fn place_behind(rising: &[NumberedId], others: &Others, place: usize) -> usize
     requires { place < index_map_len others.now }
     ensures { result ≡ length rising.now + place }
@@ -96,8 +96,8 @@ fn place_behind(rising: &[NumberedId], others: &Others, place: usize) -> usize
     rising.len() + place
 }
 
-/// Inserts an id in the map of those behind a list, of which at least so many more are likely
-/// where it is the first.
+/// Inserts an id in the map behind a list. Before the first one, the map gets room for as many as
+/// are likely.
 fn insert_other(others: &mut Others, id: Id, number: Option<u32>, likely: usize) -> Inserted
     ensures before { IfOk result (λ r. r ≡ place_and_number id others.old.entries) }
     ensures within { IfOk result (λ r. r.0 < index_map_len others.new) }
