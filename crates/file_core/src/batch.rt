@@ -13,7 +13,7 @@ use crate::parts::{Parts, ReadParts};
 use crate::read_fault::ReadFault;
 use crate::rows::Rows;
 use crate::unread::Unread;
-use layer_core::Loading;
+use layer_core::FeatureList;
 use std::alloc::Global;
 use std::thread;
 use std::thread::Threads;
@@ -140,10 +140,10 @@ pub(crate) trait Order {
         &self,
         alloc: Global,
         scale: Scale,
-        loading: Loading,
+        loading: FeatureList,
         read: Vec<Vec<ReadRow>>,
         unread: Unread<'a>,
-    ) -> (Result<Loading, ReadFault>, (Unread<'a>, Batch))
+    ) -> (Result<FeatureList, ReadFault>, (Unread<'a>, Batch))
         requires ids { All HasId (all_rows read.items) }
         requires reading { IsUnread unread }
         ensures added { AnswersRows loading (all_rows read.items) result.0 }
@@ -164,10 +164,10 @@ impl Order for InTurn {
         &self,
         alloc: Global,
         scale: Scale,
-        loading: Loading,
+        loading: FeatureList,
         read: Vec<Vec<ReadRow>>,
         unread: Unread<'a>,
-    ) -> (Result<Loading, ReadFault>, (Unread<'a>, Batch)) {
+    ) -> (Result<FeatureList, ReadFault>, (Unread<'a>, Batch)) {
         let added = with_parts(loading, read);
         let next = read_batch(alloc, unread, scale);
         (added, next)
@@ -187,12 +187,12 @@ impl<R: Threads + Sync, P: ReadParts + Sync> Order for SideBySide<'_, R, P> {
         &self,
         alloc: Global,
         scale: Scale,
-        loading: Loading,
+        loading: FeatureList,
         read: Vec<Vec<ReadRow>>,
         unread: Unread<'a>,
-    ) -> (Result<Loading, ReadFault>, (Unread<'a>, Batch)) {
+    ) -> (Result<FeatureList, ReadFault>, (Unread<'a>, Batch)) {
         let SideBySide(rt, parts) = self;
-        let add = move || -> Result<Loading, ReadFault>
+        let add = move || -> Result<FeatureList, ReadFault>
             requires { All HasId (all_rows read.items) }
             ensures { AnswersRows loading (all_rows read.items) result }
         { with_parts(loading, read) };
@@ -206,7 +206,7 @@ impl<R: Threads + Sync, P: ReadParts + Sync> Order for SideBySide<'_, R, P> {
 }
 
 /// The layer with the rows of these parts.
-fn with_parts(mut loading: Loading, read: Vec<Vec<ReadRow>>) -> Result<Loading, ReadFault>
+fn with_parts(mut loading: FeatureList, read: Vec<Vec<ReadRow>>) -> Result<FeatureList, ReadFault>
     requires { All HasId (all_rows read.items) }
     ensures { AnswersRows loading (all_rows read.items) result }
 {

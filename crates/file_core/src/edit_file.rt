@@ -22,7 +22,7 @@ const COLUMNS: [&str; 4] = ["op", "layer", "id", "wkt"];
 
 /// The edits that a CSV file stands for, in the order of its rows.
 ///
-/// The file is of the same kind as that of a layer ([`crate::layer_of_bytes`]). Its header is
+/// The file is of the same kind as that of a layer ([`crate::features_of_bytes`]). Its header is
 /// `op,layer,id,wkt`. A row's `op` is `insert` or `delete`, its `layer` is `left` or `right`, and
 /// in a deletion the last field is empty. Ids are looked up by [`Edit::apply`] alone.
 ///

@@ -7,10 +7,10 @@ ghost use Rattle.file_core.specs.LayerRows.{content_of};
 
 use crate::layer_row::ReadRow;
 use crate::read_fault::ReadFault;
-use layer_core::Loading;
+use layer_core::FeatureList;
 
 /// Inserts the feature of a row, before which each row of its file has inserted one.
-pub(crate) fn add_row(loading: &mut Loading, row: ReadRow) -> Result<(), ReadFault>
+pub(crate) fn add_row(loading: &mut FeatureList, row: ReadRow) -> Result<(), ReadFault>
     requires { HasId row }
     ensures ok { OnOk result
         (with_row (loading.old.next + 1) loading.old (Ok (content_of row)) ≡ Ok loading.new) }
@@ -26,7 +26,7 @@ pub(crate) fn add_row(loading: &mut Loading, row: ReadRow) -> Result<(), ReadFau
 }
 
 /// Inserts the features of some rows in turn, up to the first that is refused.
-pub(crate) fn add_rows(loading: &mut Loading, rows: Vec<ReadRow>) -> Result<(), ReadFault>
+pub(crate) fn add_rows(loading: &mut FeatureList, rows: Vec<ReadRow>) -> Result<(), ReadFault>
     requires { All HasId rows.items }
     ensures ok { OnOk result (with_rows loading.old rows.items ≡ Ok loading.new) }
     ensures err { IfErr result (λ fault. fault ≢ ReadFault.Memory
@@ -40,7 +40,10 @@ pub(crate) fn add_rows(loading: &mut Loading, rows: Vec<ReadRow>) -> Result<(), 
 }
 
 /// Inserts the features of the rows of some parts in turn, up to the first that is refused.
-pub(crate) fn add_parts(loading: &mut Loading, parts: Vec<Vec<ReadRow>>) -> Result<(), ReadFault>
+pub(crate) fn add_parts(
+    loading: &mut FeatureList,
+    parts: Vec<Vec<ReadRow>>,
+) -> Result<(), ReadFault>
     requires { All HasId (all_rows parts.items) }
     ensures ok { OnOk result (with_rows loading.old (all_rows parts.items) ≡ Ok loading.new) }
     ensures err { IfErr result (λ fault. fault ≢ ReadFault.Memory

@@ -15,7 +15,7 @@ use crate::parts::{Beside, Whole};
 use crate::read_fault::ReadFault;
 use crate::source::{Source, read_all};
 use crate::unread::Unread;
-use layer_core::{Layer, Loading, MAX_FEATURES};
+use layer_core::{FeatureList, Layer, MAX_FEATURES};
 use std::alloc::Global;
 use std::hash::RandomState;
 use std::thread::Threads;
@@ -24,20 +24,48 @@ use wkt_core::Scale;
 /// From how many bytes at its start the number of a file's rows is guessed.
 const SAMPLE: usize = 65_536;
 
-/// The layer that a CSV file stands for. `state` hashes the ids.
+/// The features of the layer that a CSV file stands for. `state` hashes the ids.
 ///
 /// Where `threads` is more than 1, several threads read parts of the file ahead while another
 /// inserts the rows before them. The answer is the same.
 ///
 /// The file is records of comma-separated fields with double quotes where needed (RFC 4180), with
 /// line ends LF or CR LF. Its header is `id,wkt`, in any ASCII case, with or without a byte order
-/// mark before it. Each row inserts a feature, by [`Layer::insert`].
+/// mark before it. Each row inserts a feature, by [`FeatureList::add`].
 ///
 /// # Errors
 /// [`ReadFault::TooLong`] and [`ReadFault::Header`], in this order, and then the fault of the
 /// first row that has one: [`ReadFault::Row`] where it hasn't two fields, else
 /// [`LayerFault::BadId`], else [`ReadFault::Wkt`], else [`LayerFault::DoubleId`], else
 /// [`LayerFault::LayerFull`]. [`ReadFault::Memory`] may come in place of any other.
+pub fn features_of_bytes<R: Threads + Sync>(
+    alloc: Global,
+    state: RandomState,
+    bytes: &[u8],
+    scale: Scale,
+    threads: u32,
+    rt: &R,
+) -> Result<FeatureList, ReadFault>
+    ensures file { result ≢ Err ReadFault.Memory → IsLayerFile scale bytes.now result }
+    ensures no_io { result ≢ Err ReadFault.Io }
+{
+    match threads {
+        0 | 1 => load(alloc, state, bytes, scale, &InTurn),
+        2 | 3 => {
+            let two = Beside(rt, Whole);
+            load(alloc, state, bytes, scale, &SideBySide(rt, two))
+        }
+        _ => {
+            let four = Beside(rt, Beside(rt, Beside(rt, Whole)));
+            load(alloc, state, bytes, scale, &SideBySide(rt, four))
+        }
+    }
+}
+
+/// The layer that a CSV file stands for: that of its features, whose tree is packed by threads too.
+///
+/// # Errors
+/// Those of [`features_of_bytes`].
 pub fn layer_of_bytes<R: Threads + Sync>(
     alloc: Global,
     state: RandomState,
@@ -50,7 +78,7 @@ pub fn layer_of_bytes<R: Threads + Sync>(
         → IsLayerFile scale bytes.items (list_read result) }
     ensures no_io { result ≢ Err ReadFault.Io }
 {
-    let loading = load_by(alloc, state, bytes.as_slice(), scale, threads, rt)?;
+    let loading = features_of_bytes(alloc, state, bytes.as_slice(), scale, threads, rt)?;
     // The tree is packed when the file's memory is free again.
     drop(bytes);
     Ok(loading.finish_by_threads(alloc, threads, rt)?)
@@ -78,31 +106,6 @@ pub fn read_layer<S: Source>(
     Ok(loading.finish(alloc)?)
 }
 
-/// The features of a file, whose tree isn't packed yet, by one thread or by several.
-fn load_by<R: Threads + Sync>(
-    alloc: Global,
-    state: RandomState,
-    bytes: &[u8],
-    scale: Scale,
-    threads: u32,
-    rt: &R,
-) -> Result<Loading, ReadFault>
-    ensures file { result ≢ Err ReadFault.Memory → IsLayerFile scale bytes.now result }
-    ensures no_io { result ≢ Err ReadFault.Io }
-{
-    match threads {
-        0 | 1 => load(alloc, state, bytes, scale, &InTurn),
-        2 | 3 => {
-            let two = Beside(rt, Whole);
-            load(alloc, state, bytes, scale, &SideBySide(rt, two))
-        }
-        _ => {
-            let four = Beside(rt, Beside(rt, Beside(rt, Whole)));
-            load(alloc, state, bytes, scale, &SideBySide(rt, four))
-        }
-    }
-}
-
 /// The features of a file, batch by batch of its rows.
 fn load<O: Order>(
     alloc: Global,
@@ -110,12 +113,12 @@ fn load<O: Order>(
     bytes: &[u8],
     scale: Scale,
     order: &O,
-) -> Result<Loading, ReadFault>
+) -> Result<FeatureList, ReadFault>
     ensures file { result ≢ Err ReadFault.Memory → IsLayerFile scale bytes.now result }
     ensures no_io { result ≢ Err ReadFault.Io }
 {
     let unread = Unread::open(alloc, bytes)?;
-    let loading = Loading::new(alloc, state, likely_rows(bytes))?;
+    let loading = FeatureList::new(alloc, state, likely_rows(bytes))?;
     let (unread, batch) = order.read(alloc, scale, unread);
     let mut round = Round {
         loading,
@@ -132,7 +135,7 @@ fn load<O: Order>(
 /// How far a file is read: the features that were inserted, the batch behind them, and the rest.
 #[derive(Drop)]
 struct Round<'a> {
-    loading: Loading,
+    loading: FeatureList,
     batch: Batch,
     unread: Unread<'a>,
 }
@@ -168,7 +171,7 @@ fn next_round<'a, O: Order>(
 }
 
 /// Inserts the features of the last batch, behind which a row has a fault or there is none.
-fn add_last(mut loading: Loading, batch: Batch) -> Result<Loading, ReadFault>
+fn add_last(mut loading: FeatureList, batch: Batch) -> Result<FeatureList, ReadFault>
     requires ids { All HasId (all_rows batch.rows.items) }
     requires no_io { batch.more ≢ Err ReadFault.Io }
     ensures rows { result ≢ Err ReadFault.Memory → result

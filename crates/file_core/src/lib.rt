@@ -16,6 +16,6 @@ mod unread;
 
 pub use batch::MIN_THREADED_BYTES;
 pub use edit_file::{edits_of_bytes, read_edits};
-pub use layer_file::{layer_of_bytes, read_layer};
+pub use layer_file::{features_of_bytes, layer_of_bytes, read_layer};
 pub use read_fault::ReadFault;
 pub use source::{Failed, FromRead, MAX_FILE_BYTES, Source, read_all};

@@ -23,7 +23,7 @@ use Rattle.report_core.specs.Reports.{IsHeld}
 use Rattle.report_core.specs.Written.{joined}
 use Rattle.join_core.proofs.JoinLemmas.{contains_at}
 
-pub is_some_of : (o : Option Feature) (f : Feature) → o ≡ Some f → IsSome o
+is_some_of : (o : Option Feature) (f : Feature) → o ≡ Some f → IsSome o
 is_some_of None f e = absurd (let bad : None ≡ Some f = e in cc)
 is_some_of (Some g) f e = refl
 

@@ -6,15 +6,15 @@ use Rattle.wkt_core.specs.declared.scale.Scale.{Scale}
 use Rattle.file_core.specs.declared.read_fault.ReadFault.{ReadFault}
 use Rattle.file_core.specs.declared.read_fault.ReadFault.TheVariants as read_faults
 use Rattle.file_core.specs.LayerFiles.{IsLayerFile, LayerRowGives, layer_columns, list_read}
-use Rattle.layer_core.specs.Layers.{empty}
 use Rattle.layer_core.specs.LayerTrees.{LayerState}
+use Rattle.layer_core.specs.Layers.{Contents, empty}
 use Rattle.file_core.specs.Limits.{most_file_bytes}
 use Rattle.file_core.specs.Sources.{IsReadingFault}
 use Rattle.file_core.proofs.FileLemmas.{file-unread}
 use Rattle.join_core.specs.declared.fault.Input.TheVariants.{First, Second, Left, Right, Edits, Layer, Window}
 use Rattle.join_core.specs.declared.fault.RunFault.{RunFault}
 use Rattle.join_core.specs.declared.fault.RunFault.TheVariants.{NoFile, Read, Wkt, Edit, Join, TooManyToDraw, Write, Memory, NoKeys}
-use Rattle.join_core.specs.Inputs.{LayerFile, Builds, Reads, BlamesBytes, BlamesInput}
+use Rattle.join_core.specs.Inputs.{LayerFile, Builds, Reads, ReadsList, BlamesBytes, BlamesInput}
 use Rattle.join_core.specs.JoinRuns.{JoinFiles, LayersGive, left_fault, right_fault, first_fault, IsLayersFault, IsJoinFault}
 use Rattle.join_core.proofs.JoinRunLemmas.{handed_on, IsJoinKind}
 
@@ -43,10 +43,10 @@ module _ (scale : Scale) where
       subst (λ (b : List ℕ). IsLayerFile scale b (Ok layer.list)) same gives
 
   -- a source that isn't read to its end is read as a fault
-  pub unread : (known : Option (List ℕ)) (out : Result LayerState ReadFault) (f : ReadFault) → IsErrAnd out (λ x. x ≡ f) → IsReadingFault f
-      → (f ≡ read_faults.TooLong → IfSome known (λ bytes. most_file_bytes < length bytes)) → Reads scale known out
-  unread known (Ok layer) f is reading long = absurd is
-  unread known (Err g) f is reading long = record {
+  pub unread : {T : Type 0} (list : T → Contents) (known : Option (List ℕ)) (out : Result T ReadFault) (f : ReadFault) → IsErrAnd out (λ x. x ≡ f)
+      → IsReadingFault f → (f ≡ read_faults.TooLong → IfSome known (λ bytes. most_file_bytes < length bytes)) → ReadsList list scale known out
+  unread list known (Ok layer) f is reading long = absurd is
+  unread list known (Err g) f is reading long = record {
     ok = tt;
     fault = λ blame. subst (λ (x : ReadFault). LayerFile scale known (Err x)) (sym is) (unread_blamed scale known f reading long (subst BlamesBytes is blame));
   }

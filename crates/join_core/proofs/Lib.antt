@@ -8,8 +8,7 @@ pub mod LineLemmas
 pub mod ProductLemmas
 pub mod RelatingLemmas
 pub mod RunLemmas
+pub mod TreeFeatureLemmas
 pub mod TreeJoinLemmas
-pub mod TreeWindowLemmas
 pub mod WindowLemmas
 pub mod WindowRunLemmas
-pub mod WindowTextLemmas

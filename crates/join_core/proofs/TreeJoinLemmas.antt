@@ -21,7 +21,7 @@ use Rattle.pair_core.specs.Pairs.{pair_cmp}
 use Rattle.parallel_core.specs.Deliveries.{IsDelivered}
 use Rattle.join_core.specs.Joins.{StandIn, IsJoinList, RowsAreJoinList, HasMarks}
 use Rattle.join_core.proofs.JoinLemmas.{held_by_number, listed_by_number}
-use Rattle.join_core.proofs.TreeWindowLemmas.{same-contains, feature_of, entry_of}
+use Rattle.join_core.proofs.TreeFeatureLemmas.{same-contains, feature_of, entry_of}
 
 module _ (relation : Relation) (left right : Contents) (left_root right_root : Option Node)
     (left_layer : IsLayer left) (right_layer : IsLayer right) (left_tree : HoldsExactly left left_root) (right_tree : HoldsExactly right right_root) where

@@ -1,103 +1,59 @@
--- The ids of the features that meet a window, from their rising numbers.
-use Rattle.std.proofs.Common.{◌≡◌, ◌≢◌, ℕ, suc, ◌<◌, inl, inr, List, [], ◌∷◌, length, get_or, refl, sym, ap, subst, ◌∙◌, arith, AllPairs, Contains}
-use Rattle.std.specs.List.{AllZip}
-use Rattle.std.proofs.lemmas.Bool.{cases_eq}
-use Rattle.std.proofs.lemmas.Grind.{common_steps}
+-- The rows of the list of features that meet a window.
+use Rattle.std.proofs.Common.{◌≡◌, ◌↔◌, ℕ, List, [], ◌∷◌, ◌++◌, Vec, Global, Bool, true, false, map, codes, refl, sym, subst, append-nil, append_assoc}
+use Rattle.std.proofs.Common.{IsTrue}
+use Rattle.std.proofs.lemmas.List.{map-append}
+use Rattle.csv.specs.declared.writer.Writer.{Writer}
 use Rattle.geom_core.specs.declared.shape.Shape.{Shape}
 use Rattle.geom_core.specs.Cells.{Meets}
-use Rattle.layer_core.specs.Layers.{Feature}
-use Rattle.join_core.specs.Windows.{MeetingIds, none, met, missed}
-use Rattle.join_core.proofs.JoinLemmas.{contains_here, contains_later, contains_cases}
+use Rattle.layer_core.specs.Layers.{Feature, Contents}
+use Rattle.report_core.specs.CsvTexts.{csv_text}
+use Rattle.report_core.specs.CsvWriting.{HasRows, AddsRow}
+use Rattle.join_core.specs.Windows.{MeetingIds, none, met, missed, IsWindowList}
 
--- a feature of this list with this number and id, whose shape meets the window
-pub record Listed (window : Shape) (features : List Feature) (number : ℕ) (id : List ℕ) : Type 0 where
-  pub feature : Feature
-  pub listed : Contains features feature
-  pub number_is : feature.number ≡ number
-  pub id_is : feature.id ≡ id
-  pub meets : Meets feature.shape window
+abbrev window_rows : List (List ℕ) → List (List (List ℕ))
+window_rows ids = (codes "id" ∷ []) ∷ map (λ id. id ∷ []) ids
 
-above_head : (f g : Feature) (fs : List Feature) → AllPairs (λ a b. a.number < b.number) (f ∷ fs) → Contains fs g → f.number < g.number
-above_head f g fs rising c =
-    let at_g : get_or fs c.0 g ≡ g = c.2 in
-    subst (λ (h : Feature). f.number < h.number) at_g (rising 0 (suc c.0) g (omega arith) (let within : c.0 < length fs = c.1 in grind (arith, common_steps)))
+-- a writer has the header and these ids, behind which those of the features that are left make the list
+pub record HasFront (window : Shape) (writer : Writer (Vec ℕ Global)) (left features : List Feature) : Type 0 where
+  pub ids : List (List ℕ)
+  pub written : HasRows writer (window_rows ids)
+  pub all : (later : List (List ℕ)) → MeetingIds window left later → MeetingIds window features (ids ++ later)
 
-rising_rest : {X : Type 0} (R : X → X → Type 0) (x : X) (xs : List X) → AllPairs R (x ∷ xs) → AllPairs R xs
-rising_rest R x xs rising = λ i j d lt within. rising (suc i) (suc j) d (omega arith) (omega arith)
+module _ (window : Shape) (old writer : Writer (Vec ℕ Global)) where
+  pub header_written : (left features : List Feature) → HasRows old [] → AddsRow old writer (codes "id" ∷ []) → left ≡ features
+      → HasFront window writer left features
+  header_written left features empty more same = record {
+    ids = [];
+    written = more [] empty;
+    all = λ later meeting. subst (λ (fs : List Feature). MeetingIds window fs later) same meeting;
+  }
 
--- a feature that has another number than the first one's stands behind it
-behind : (window : Shape) (f : Feature) (fs : List Feature) (number : ℕ) (id : List ℕ) → f.number ≢ number → Listed window (f ∷ fs) number id
-    → Listed window fs number id
-behind window f fs number id other l = record {
-  feature = l.feature;
-  listed = elim (contains_cases f fs l.feature l.listed) [
-    | inl same ↦ absurd (other (ap (λ (h : Feature). h.number) same ∙ l.number_is))
-    | inr later ↦ later
-  ];
-  number_is = l.number_is;
-  id_is = l.id_is;
-  meets = l.meets;
-}
+  -- a feature that meets the window gets a row
+  pub id_written : (left left' features : List Feature) (f : Feature) → HasFront window old left features → left ≡ f ∷ left'
+      → Meets f.shape window → AddsRow old writer (f.id ∷ []) → HasFront window writer left' features
+  id_written left left' features f front is meets more = record {
+    ids = front.ids ++ f.id ∷ [];
+    written = subst (λ (rows : List (List (List ℕ))). HasRows writer ((codes "id" ∷ []) ∷ rows)) (sym (map-append (λ id. id ∷ []) front.ids (f.id ∷ [])))
+        (more (window_rows front.ids) front.written);
+    all = λ later meeting. rw (append_assoc front.ids (f.id ∷ []) later)
+        (front.all (f.id ∷ later) (subst (λ (fs : List Feature). MeetingIds window fs (f.id ∷ later)) (sym is) (met meets meeting)));
+  }
 
--- a feature that has the first one's number is the first one
-is_first : (f g : Feature) (fs : List Feature) → AllPairs (λ a b. a.number < b.number) (f ∷ fs) → Contains (f ∷ fs) g → g.number ≡ f.number → f ≡ g
-is_first f g fs rising c same = elim (contains_cases f fs g c) [
-  | inl e ↦ e
-  | inr later ↦ absurd (omega (arith, above_head f g fs rising later))
-]
+module _ (window : Shape) (writer : Writer (Vec ℕ Global)) where
+  -- and one that doesn't gets none
+  pub none_written : (left left' features : List Feature) (f : Feature) → HasFront window writer left features → left ≡ f ∷ left'
+      → ¬ (Meets f.shape window) → HasFront window writer left' features
+  none_written left left' features f front is misses = record {
+    ids = front.ids;
+    written = front.written;
+    all = λ later meeting. front.all later (subst (λ (fs : List Feature). MeetingIds window fs later) (sym is) (missed misses meeting));
+  }
 
-all_behind : (window : Shape) (f : Feature) (fs : List Feature) (numbers : List ℕ) (ids : List (List ℕ))
-    → ((k : ℕ) → Contains numbers k → f.number ≢ k) → AllZip (Listed window (f ∷ fs)) numbers ids → AllZip (Listed window fs) numbers ids
-all_behind window f fs [] [] other h = tt
-all_behind window f fs [] (id ∷ ids) other h = absurd h
-all_behind window f fs (n ∷ numbers) [] other h = absurd h
-all_behind window f fs (n ∷ numbers) (id ∷ ids) other h = (
-  behind window f fs n id (other n (contains_here n numbers)) h.0,
-  all_behind window f fs numbers ids (λ k c. other k (contains_later n numbers k c)) h.1,
-)
-
--- numbers that rise, of all features that meet the window, have these features' ids in order
-pub meeting_ids : (window : Shape) (fs : List Feature) (numbers : List ℕ) (ids : List (List ℕ))
-    → AllPairs (λ a b. a.number < b.number) fs → AllPairs (λ a b. a < b) numbers → AllZip (Listed window fs) numbers ids
-    → ((f : Feature) → Contains fs f → Meets f.shape window → Contains numbers f.number) → MeetingIds window fs ids
-meeting_ids window [] [] [] rising increasing are all = none
-meeting_ids window [] [] (id ∷ ids) rising increasing are all = absurd are
-meeting_ids window [] (n ∷ numbers) [] rising increasing are all = absurd are
-meeting_ids window [] (n ∷ numbers) (id ∷ ids) rising increasing are all = absurd (let none_there = are.0.listed.1 in omega arith)
-meeting_ids window (f ∷ fs) [] (id ∷ ids) rising increasing are all = absurd are
-meeting_ids window (f ∷ fs) [] [] rising increasing are all =
-    missed (λ h. absurd (let none_there = (all f (contains_here f fs) h).1 in omega arith))
-    (meeting_ids window fs [] [] (rising_rest (λ a b. a.number < b.number) f fs rising) increasing tt (λ g c h. all g (contains_later f fs g c) h))
-meeting_ids window (f ∷ fs) (n ∷ numbers) [] rising increasing are all = absurd are
-meeting_ids window (f ∷ fs) (n ∷ numbers) (id ∷ ids) rising increasing are all = elim (cases_eq f.number n) [
-  | inl same ↦
-      let first : f ≡ are.0.feature = is_first f are.0.feature fs rising are.0.listed (are.0.number_is ∙ sym same) in
-      let above : (k : ℕ) → Contains numbers k → f.number ≢ k = λ k c e.
-      absurd (omega (arith, above_first n k numbers increasing c)) in
-      let rest : (g : Feature) → Contains fs g → Meets g.shape window → Contains numbers g.number = λ g c h.
-      elim (contains_cases n numbers g.number (all g (contains_later f fs g c) h)) [
-        | inl e ↦ absurd (omega (arith, above_head f g fs rising c))
-        | inr later ↦ later
-      ] in
-      subst (λ (i : List ℕ). MeetingIds window (f ∷ fs) (i ∷ ids)) (ap (λ (h : Feature). h.id) first ∙ are.0.id_is)
-      (met (subst (λ (h : Feature). Meets h.shape window) (sym first) are.0.meets)
-      (meeting_ids window fs numbers ids (rising_rest (λ a b. a.number < b.number) f fs rising) (rising_rest (λ a b. a < b) n numbers increasing)
-      (all_behind window f fs numbers ids above are.1) rest))
-  | inr differs ↦
-      let head = behind window f fs n id differs are.0 in
-      let higher : f.number < n = subst (λ k. f.number < k) head.number_is (above_head f head.feature fs rising head.listed) in
-      let above : (k : ℕ) → Contains (n ∷ numbers) k → f.number ≢ k = λ k c e.
-      elim (contains_cases n numbers k c) [
-        | inl is ↦ absurd (omega arith)
-        | inr later ↦ absurd (omega (arith, above_first n k numbers increasing later))
-      ] in
-      missed (λ h. above f.number (all f (contains_here f fs) h) refl)
-      (meeting_ids window fs (n ∷ numbers) (id ∷ ids) (rising_rest (λ a b. a.number < b.number) f fs rising) increasing
-      (all_behind window f fs (n ∷ numbers) (id ∷ ids) above are)
-      (λ g c h. all g (contains_later f fs g c) h))
-]
-  where
-    above_first : (n k : ℕ) (numbers : List ℕ) → AllPairs (λ a b. a < b) (n ∷ numbers) → Contains numbers k → n < k
-    above_first n k numbers increasing c =
-        let at_k : get_or numbers c.0 k ≡ k = c.2 in
-        subst (λ (m : ℕ). n < m) at_k (increasing 0 (suc c.0) k (omega arith) (let within : c.0 < length numbers = c.1 in grind (arith, common_steps)))
+  -- no feature is left
+  pub all_written : (layer : Contents) (left : List Feature) (text : List ℕ) → HasFront window writer left layer.features → left ≡ []
+      → ((rows : List (List (List ℕ))) → HasRows writer rows → text ≡ csv_text rows) → IsWindowList window layer text
+  all_written layer left text front is kept = record {
+    ids = front.ids;
+    meeting = rw (sym (append-nil front.ids)) (front.all [] (subst (λ (fs : List Feature). MeetingIds window fs []) (sym is) none));
+    written = kept (window_rows front.ids) front.written;
+  }

@@ -13,7 +13,7 @@ use Rattle.join_core.specs.Jobs.{OnlyAt}
 use Rattle.join_core.specs.LayerRuns.{LayerGives, IsLayerRunFault}
 use Rattle.join_core.specs.Runs.{NoTextFault, RunEnds}
 use Rattle.join_core.specs.WindowRuns.{WindowGives, looked_up, HasWindowFault, IsWindowFault}
-use Rattle.join_core.specs.Windows.{AreMeeting}
+use Rattle.join_core.specs.Windows.{IsWindowList}
 use Rattle.join_core.proofs.RelatingLemmas.{ReadsOnly}
 use Rattle.join_core.proofs.RunLemmas.{ends_as, not_begun}
 
@@ -59,7 +59,7 @@ module _ {S : Type 0} (written : S → Option (List ℕ)) (is_flushed has_failed
   -- what the look-up of a window that is spelled gives
   pub window_looked_up : {T : Type 0} (s : Shape) (HasFailed : Input → Type 0) (old new : S) (result : Result T RunFault) → Reads scale wkt (Ok s)
       → ReadsOnly scale wkt (Ok s)
-      → RunEnds (LayerGives (AreMeeting s) scale file) NoTextFault (IsLayerRunFault scale file) HasFailed written is_flushed has_failed old new result
+      → RunEnds (LayerGives (IsWindowList s) scale file) NoTextFault (IsLayerRunFault scale file) HasFailed written is_flushed has_failed old new result
       → RunEnds (WindowGives scale wkt file) (HasWindowFault scale wkt) (IsWindowFault scale wkt file) HasFailed written is_flushed has_failed old new result
   window_looked_up s HasFailed old new result spelled only ends = record {
     writes = ends_as _ _ written is_flushed has_failed old new result (λ text given. looked_up s (Ok text) spelled given) ends.writes;

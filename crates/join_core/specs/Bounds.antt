@@ -2,8 +2,7 @@
 use Rattle.std.specs.Fmt.{signed_decimal}
 use Rattle.std.specs.Prelude.{◌≡◌, ℕ, List, [], ◌∷◌, codes, map}
 use Rattle.geom_core.specs.Shapes.{x1, y1, x2, y2}
-use Rattle.layer_core.specs.Layers.{Feature}
-use Rattle.layer_core.specs.LayerTrees.{LayerState}
+use Rattle.layer_core.specs.Layers.{Feature, Contents}
 use Rattle.report_core.specs.CsvTexts.{csv_text}
 
 abbrev pub bounds_header : List (List ℕ)
@@ -20,5 +19,5 @@ abbrev pub bounds_text : List Feature → List ℕ
 bounds_text features = csv_text (bounds_header ∷ map bounds_row features)
 
 -- the corners of the features of a layer, in units of the last decimal
-abbrev pub ListsCorners : LayerState → List ℕ → Type 0
-ListsCorners layer text = text ≡ bounds_text layer.list.features
+abbrev pub ListsCorners : Contents → List ℕ → Type 0
+ListsCorners layer text = text ≡ bounds_text layer.features

@@ -31,11 +31,19 @@ BlamesBytes read_faults.Io = ⊥
 BlamesBytes read_faults.Memory = ⊥
 BlamesBytes _ = ⊤
 
--- the answer is what a layer's file gives at a scale, a fault of a device, or that memory ran out
-pub record Reads (scale : Scale) (known : Option (List ℕ)) (answer : Result LayerState ReadFault)
-    : Type 0 where
-  pub ok : IfOk answer (λ layer. LayerFile scale known (Ok layer.list))
+-- the answer, of which this is the list of a layer, is what the layer's file gives at a scale, a
+-- fault of a device, or that memory ran out
+pub record ReadsList {T : Type 0} (list : T → Contents) (scale : Scale) (known : Option (List ℕ))
+    (answer : Result T ReadFault) : Type 0 where
+  pub ok : IfOk answer (λ layer. LayerFile scale known (Ok (list layer)))
   pub fault : IfErr answer (λ f. BlamesBytes f → LayerFile scale known (Err f))
+
+-- the same of a layer, and of its features alone
+abbrev pub Reads : Scale → Option (List ℕ) → Result LayerState ReadFault → Type 0
+Reads = ReadsList (λ layer. layer.list)
+
+abbrev pub ReadsFeatures : Scale → Option (List ℕ) → Result Contents ReadFault → Type 0
+ReadsFeatures = ReadsList (λ features. features)
 
 abbrev pub BlamesEdit : LayerFault → Type 0
 BlamesEdit layer_faults.Memory = ⊥

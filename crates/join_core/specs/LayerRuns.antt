@@ -2,18 +2,18 @@
 use Rattle.std.specs.Prelude.{⊤, ℕ, List, Option, Result, Ok, Err}
 use Rattle.wkt_core.specs.declared.scale.Scale.{Scale}
 use Rattle.file_core.specs.declared.read_fault.ReadFault.{ReadFault}
-use Rattle.layer_core.specs.LayerTrees.{LayerState}
+use Rattle.layer_core.specs.Layers.{Contents}
 use Rattle.join_core.specs.declared.fault.Input.TheVariants as input
 use Rattle.join_core.specs.declared.fault.RunFault.{RunFault}
 use Rattle.join_core.specs.declared.fault.RunFault.TheVariants.{Read, Memory}
 use Rattle.join_core.specs.Inputs.{GivesLayer, LayerFile}
 
 -- a text of this kind, of the layer that the file gives, or the fault of the file
-pub data LayerGives (IsTextOf : LayerState → List ℕ → Type 0) (scale : Scale)
+pub data LayerGives (IsTextOf : Contents → List ℕ → Type 0) (scale : Scale)
     (file : Option (List ℕ)) : Result (List ℕ) RunFault → Type 0 where
   layer_fault : (f : ReadFault) → LayerFile scale file (Err f)
       → LayerGives IsTextOf scale file (Err (Read input.Layer f))
-  made : (layer : LayerState) (text : List ℕ) → LayerFile scale file (Ok layer.list)
+  made : (layer : Contents) (text : List ℕ) → LayerFile scale file (Ok layer)
       → IsTextOf layer text → LayerGives IsTextOf scale file (Ok text)
 
 -- a fault that such a run may have, that of its sink aside: one of the layer, or out of memory

@@ -1,8 +1,9 @@
 -- Counts as lines of text.
-use Rattle.std.specs.Prelude.{◌≡◌, ℕ, List, [], ◌∷◌, ◌++◌, codes, decimal}
+use Rattle.std.specs.Prelude.{◌≡◌, ℕ, List, [], ◌∷◌, ◌++◌, codes, decimal, length}
+use Rattle.rtree_core.specs.Packings.{IsPackedHeight}
 use Rattle.layer_core.specs.declared.stats.Stats.{Stats}
-use Rattle.layer_core.specs.LayerTrees.{LayerState, IsTreeOf}
-use Rattle.layer_core.specs.Statistics.{stats_of}
+use Rattle.layer_core.specs.Layers.{Contents}
+use Rattle.layer_core.specs.Statistics.{counts_of}
 
 -- a word, a space, a number in decimal digits and a line feed
 abbrev pub count_line : List ℕ → ℕ → List ℕ
@@ -16,8 +17,8 @@ stats_text stats =
     ++ count_line (codes "rectangles") stats.rectangles
     ++ count_line (codes "height") stats.height
 
--- the counts of a layer, with the height of its tree, which is lawful and holds exactly its
--- features
-abbrev pub AreCounts : LayerState → List ℕ → Type 0
+-- the counts of a layer, with the height of the tree that is packed from its features
+abbrev pub AreCounts : Contents → List ℕ → Type 0
 AreCounts layer text =
-    IsTreeOf layer.list layer.root × (text ≡ stats_text (stats_of layer))
+    (height : ℕ) × IsPackedHeight (length layer.features) height
+    × (text ≡ stats_text (counts_of layer height))

@@ -9,7 +9,7 @@ use Rattle.join_core.specs.declared.fault.Input.TheVariants as input
 use Rattle.join_core.specs.declared.fault.RunFault.{RunFault}
 use Rattle.join_core.specs.declared.fault.RunFault.TheVariants.{Wkt}
 use Rattle.join_core.specs.LayerRuns.{LayerGives, IsLayerRunFault}
-use Rattle.join_core.specs.Windows.{AreMeeting}
+use Rattle.join_core.specs.Windows.{IsWindowList}
 
 -- the list of the features that meet the window, or the first fault of its text and the layer's
 -- file, in this order
@@ -18,7 +18,7 @@ pub data WindowGives (scale : Scale) (wkt : List ℕ) (file : Option (List ℕ))
   text_fault : (f : WktFault) → Reads scale wkt (Err f)
       → WindowGives scale wkt file (Err (Wkt input.Window f))
   looked_up : (window : Shape) (answer : Result (List ℕ) RunFault) → Reads scale wkt (Ok window)
-      → LayerGives (AreMeeting window) scale file answer → WindowGives scale wkt file answer
+      → LayerGives (IsWindowList window) scale file answer → WindowGives scale wkt file answer
 
 -- what is wrong with the window's text
 abbrev pub HasWindowFault : Scale → List ℕ → Input → WktFault → Type 0

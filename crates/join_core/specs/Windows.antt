@@ -1,9 +1,8 @@
 -- The features of a layer that meet a window.
-use Rattle.std.specs.Prelude.{◌≡◌, ℕ, List, [], ◌∷◌, Some, codes, map}
+use Rattle.std.specs.Prelude.{◌≡◌, ℕ, List, [], ◌∷◌, codes, map}
 use Rattle.geom_core.specs.declared.shape.Shape.{Shape}
 use Rattle.geom_core.specs.Cells.{Meets}
-use Rattle.layer_core.specs.Layers.{Feature, Contents, with_number}
-use Rattle.layer_core.specs.LayerTrees.{LayerState}
+use Rattle.layer_core.specs.Layers.{Feature, Contents}
 use Rattle.report_core.specs.CsvTexts.{csv_text}
 
 -- the ids of the features whose shapes meet the window, in the order of the features
@@ -23,13 +22,3 @@ pub record IsWindowList (window : Shape) (layer : Contents) (text : List ℕ) : 
   pub ids : List (List ℕ)
   pub meeting : MeetingIds window layer.features ids
   pub written : text ≡ csv_text ((codes "id" ∷ []) ∷ map (λ id. id ∷ []) ids)
-
--- the ids of a layer's features that meet the window
-abbrev pub AreMeeting : Shape → LayerState → List ℕ → Type 0
-AreMeeting window layer text = IsWindowList window layer.list text
-
--- the layer holds a feature with this number, whose shape meets the window
-pub record MeetsAt (window : Shape) (layer : Contents) (number : ℕ) : Type 0 where
-  pub feature : Feature
-  pub held : with_number number layer ≡ Some feature
-  pub meets : Meets feature.shape window

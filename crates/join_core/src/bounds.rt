@@ -15,7 +15,7 @@ use crate::text::Text;
 use csv::Writer;
 use file_core::Source;
 use itoa::Buffer;
-use layer_core::{FeatureRef, Layer};
+use layer_core::{FeatureList, FeatureRef};
 use report_core::{Sink, new_rows, push_row, rows_text};
 use std::alloc::{AllocError, Global};
 use std::hash::RandomState;
@@ -53,18 +53,18 @@ struct Corners;
 impl LayerText for Corners {
     ghost is_text_of = { λ _. ListsCorners };
 
-    fn text(&self, alloc: Global, layer: &Layer) -> Result<Text, AllocError> {
-        Ok(Text::Rows(bounds_text(alloc, layer)?))
+    fn text(&self, alloc: Global, features: &FeatureList) -> Result<Text, AllocError> {
+        Ok(Text::Rows(bounds_text(alloc, features)?))
     }
 }
 
 /// The corners of the features, as CSV.
-fn bounds_text(alloc: Global, layer: &Layer) -> Result<Vec<u8>, AllocError>
-    ensures { IfOk result (λ text. text.items ≡ bounds_text layer.now.list.features) }
+fn bounds_text(alloc: Global, features: &FeatureList) -> Result<Vec<u8>, AllocError>
+    ensures { IfOk result (λ text. text.items ≡ bounds_text features.now.features) }
 {
     let mut writer = new_rows(alloc);
     push_row(&mut writer, &[b"id", b"x1", b"y1", b"x2", b"y2"])?;
-    for feature in layer.iter() {
+    for feature in features.iter() {
         push_bounds(&mut writer, &feature)?;
     }
     rows_text(writer)

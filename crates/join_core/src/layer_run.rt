@@ -1,8 +1,8 @@
-//! Runs over one layer: it is read, and a text that is made of it is written.
+//! Runs over one layer: its features are read, and a text that is made of them is written.
 
 ghost use Rattle.std.specs.Prelude.{◌≡◌, ◌↔◌, ℕ, List, Ok, Err, false, IsTrue, IsErrOf, IfErr};
 ghost use Rattle.std.specs.Prelude.{IfOk};
-ghost use Rattle.layer_core.specs.LayerTrees.{LayerState};
+ghost use Rattle.layer_core.specs.Layers.{Contents};
 ghost use Rattle.join_core.specs.declared.fault.Input.{Input};
 ghost use Rattle.join_core.specs.Inputs.{BlamesInput};
 ghost use Rattle.join_core.specs.Jobs.{OnlyAt};
@@ -11,10 +11,10 @@ ghost use Rattle.join_core.specs.Runs.{NoTextFault, RunEnds};
 ghost use Rattle.join_core.specs.Texts.{bytes_of_text};
 
 use crate::fault::{Input, RunFault};
-use crate::layer_input::read_by_threads;
+use crate::layer_input::read_features;
 use crate::text::Text;
 use file_core::{ReadFault, Source};
-use layer_core::Layer;
+use layer_core::FeatureList;
 use report_core::Sink;
 use std::alloc::{AllocError, Global};
 use std::hash::RandomState;
@@ -24,13 +24,13 @@ use wkt_core::Scale;
 /// How many workers a join has where none are asked for, and how many threads read one layer.
 pub const DEFAULT_WORKERS: u32 = 4;
 
-/// What a run makes of a layer.
+/// What a run makes of a layer's features. None needs the layer's tree, so none is packed.
 pub(crate) trait LayerText {
-    ghost is_text_of: { Self → LayerState → List ℕ → Type 0 };
+    ghost is_text_of: { Self → Contents → List ℕ → Type 0 };
 
-    /// The text of a layer.
-    fn text(&self, alloc: Global, layer: &Layer) -> Result<Text, AllocError>
-        ensures { IfOk result (λ text. is_text_of self.now layer.now (bytes_of_text text)) };
+    /// The text of a layer, given its features.
+    fn text(&self, alloc: Global, features: &FeatureList) -> Result<Text, AllocError>
+        ensures { IfOk result (λ text. is_text_of self.now features.now (bytes_of_text text)) };
 }
 
 /// Reads a layer, whose ids `state` hashes, and writes the text that is made of it. After a fault
@@ -76,16 +76,20 @@ fn text_of<R: Threads + Sync, L: Source, T: LayerText>(
     ensures io { IsErrOf result (RunFault.Read Input.Layer ReadFault.Io)
         ↔ IsTrue (L.has_failed source.new) }
 {
-    match read_by_threads(rt, alloc, state, scale, source, DEFAULT_WORKERS) {
-        Ok(layer) => text_from(alloc, &layer, made),
+    match read_features(rt, alloc, state, scale, source, DEFAULT_WORKERS) {
+        Ok(features) => text_from(alloc, &features, made),
         Err(fault) => Err(RunFault::Read(Input::Layer, fault)),
     }
 }
 
-/// The text that is made of a layer.
-fn text_from<T: LayerText>(alloc: Global, layer: &Layer, made: &T) -> Result<Text, RunFault>
-    ensures ok { IfOk result (λ text. T.is_text_of made.now layer.now (bytes_of_text text)) }
+/// The text that is made of a layer's features.
+fn text_from<T: LayerText>(
+    alloc: Global,
+    features: &FeatureList,
+    made: &T,
+) -> Result<Text, RunFault>
+    ensures ok { IfOk result (λ text. T.is_text_of made.now features.now (bytes_of_text text)) }
     ensures err { IfErr result (λ fault. fault ≡ RunFault.Memory) }
 {
-    Ok(made.text(alloc, layer)?)
+    Ok(made.text(alloc, features)?)
 }

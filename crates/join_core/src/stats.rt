@@ -11,7 +11,7 @@ use crate::fault::RunFault;
 use crate::layer_run::{LayerText, run_on_layer};
 use crate::text::Text;
 use file_core::Source;
-use layer_core::{Layer, Stats};
+use layer_core::{FeatureList, Stats};
 use report_core::{ROOM, ShortText, Sink};
 use std::alloc::{AllocError, Global};
 use std::hash::RandomState;
@@ -19,7 +19,7 @@ use std::thread::Threads;
 use wkt_core::Scale;
 
 /// Writes how many features a layer has, how many of them are points, segments and rectangles, and
-/// how high its tree is: five lines, each a word, a space and a number.
+/// how high a tree is that is packed from them: five lines, each a word, a space and a number.
 ///
 /// Several threads read the layer. `state` hashes the ids. A fault of the layer is answered, and
 /// then nothing is written.
@@ -48,10 +48,8 @@ struct Counts;
 impl LayerText for Counts {
     ghost is_text_of = { λ _. AreCounts };
 
-    fn text(&self, _: Global, layer: &Layer) -> Result<Text, AllocError> {
-        // The tree says that it is lawful, and holds exactly the features.
-        let _tree = layer.tree();
-        Ok(Text::Lines(stats_lines(&layer.stats())))
+    fn text(&self, _: Global, features: &FeatureList) -> Result<Text, AllocError> {
+        Ok(Text::Lines(stats_lines(&features.stats())))
     }
 }
 

@@ -1,23 +1,18 @@
 //! The features of a layer that meet a window.
 
-ghost use Rattle.std.specs.Prelude.{◌≡◌, ◌↔◌, [], ◌∷◌, List, ℕ, Some, false, Contains, IsSome};
-ghost use Rattle.std.specs.Prelude.{IsTrue, IfOk, OnOk, AllPairs, ◌<◌};
-ghost use Rattle.std.specs.Option.{option_map};
-ghost use Rattle.layer_core.specs.Layers.{IsLayer, with_number};
+ghost use Rattle.std.specs.Prelude.{◌≡◌, false, IsTrue, IfOk};
 ghost use Rattle.join_core.specs.declared.fault.Input.{Input};
-ghost use Rattle.report_core.specs.CsvWriting.{AddsRow};
 ghost use Rattle.join_core.specs.Jobs.{OnlyAt};
 ghost use Rattle.join_core.specs.Runs.{RunEnds};
 ghost use Rattle.join_core.specs.WindowRuns.{WindowGives, HasWindowFault, IsWindowFault};
-ghost use Rattle.join_core.specs.Windows.{AreMeeting, IsWindowList, MeetsAt};
+ghost use Rattle.join_core.specs.Windows.{IsWindowList};
 
 use crate::fault::{Input, RunFault};
 use crate::layer_run::{LayerText, run_on_layer};
 use crate::text::Text;
-use csv::Writer;
 use file_core::Source;
 use geom_core::Shape;
-use layer_core::Layer;
+use layer_core::FeatureList;
 use report_core::{Sink, new_rows, push_row, rows_text};
 use std::alloc::{AllocError, Global};
 use std::hash::RandomState;
@@ -28,7 +23,8 @@ use wkt_core::Scale;
 /// each feature whose shape shares a point with the window's, in layer order.
 ///
 /// The text of the window is read first, then the layer, by several threads; `state` hashes its
-/// ids. The first fault is answered, and then nothing is written.
+/// ids. Each feature is looked at once, which takes less time than packing a tree for one question.
+/// The first fault is answered, and then nothing is written.
 pub fn run_window<R: Threads + Sync, L: Source, S: Sink>(
     rt: &R,
     alloc: Global,
@@ -58,45 +54,23 @@ struct Meeting {
 }
 
 impl LayerText for Meeting {
-    ghost is_text_of = { λ meeting. AreMeeting meeting.window };
+    ghost is_text_of = { λ meeting. IsWindowList meeting.window };
 
-    fn text(&self, alloc: Global, layer: &Layer) -> Result<Text, AllocError> {
-        Ok(Text::Rows(window_text(alloc, layer, &self.window)?))
+    fn text(&self, alloc: Global, features: &FeatureList) -> Result<Text, AllocError> {
+        Ok(Text::Rows(window_text(alloc, features, &self.window)?))
     }
 }
 
 /// The ids of the features that meet the window, as CSV.
-fn window_text(alloc: Global, layer: &Layer, window: &Shape) -> Result<Vec<u8>, AllocError>
-    ensures { IfOk result (λ text. IsWindowList window.now layer.now.list text.items) }
+fn window_text(alloc: Global, features: &FeatureList, window: &Shape) -> Result<Vec<u8>, AllocError>
+    ensures { IfOk result (λ text. IsWindowList window.now features.now text.items) }
 {
-    let numbers = numbers_meeting(alloc, layer, window)?;
     let mut writer = new_rows(alloc);
     push_row(&mut writer, &[b"id"])?;
-    for number in &numbers {
-        push_id(&mut writer, layer, *number)?;
+    for feature in features.iter() {
+        if feature.shape.meets(window) {
+            push_row(&mut writer, &[feature.id.as_bytes()])?;
+        }
     }
     rows_text(writer)
-}
-
-/// Writes the id of the feature with this number.
-fn push_id(writer: &mut Writer<Vec<u8>>, layer: &Layer, number: u32) -> Result<(), AllocError>
-    requires { IsSome (with_number number layer.now.list) }
-    ensures { OnOk result ((id : List ℕ)
-        × (option_map (λ f. f.id) (with_number number layer.now.list) ≡ Some id)
-        × AddsRow writer.old writer.new (id ∷ [])) }
-{
-    let (id, _) = layer.at(number).unwrap();
-    push_row(writer, &[id.as_bytes()])
-}
-
-/// The numbers of the features that meet the window, in layer order.
-fn numbers_meeting(alloc: Global, layer: &Layer, window: &Shape) -> Result<Vec<u32>, AllocError>
-    ensures layer { IsLayer layer.now.list }
-    ensures rising { IfOk result (λ numbers. AllPairs (λ a b. a < b) numbers.items) }
-    ensures exact { IfOk result (λ numbers. (k : ℕ) →
-        Contains numbers.items k ↔ MeetsAt window.now layer.now.list k) }
-{
-    // That numbers rise is what the layer says of itself.
-    let _len = layer.len();
-    layer.tree().window(alloc, window)
 }

@@ -3,7 +3,7 @@ use Rattle.std.specs.Prelude.{ℕ, ◌+◌, ◌^◌, ◌<◌, ◌==◌, List, Bo
 use Rattle.geom_core.specs.Shapes.{dim_of}
 use Rattle.rtree_core.specs.Trees.{height_of}
 use Rattle.layer_core.specs.declared.stats.Stats.{Stats}
-use Rattle.layer_core.specs.Layers.{Feature}
+use Rattle.layer_core.specs.Layers.{Feature, Contents}
 use Rattle.layer_core.specs.LayerTrees.{LayerState}
 
 abbrev pub has_dim : ℕ → Feature → Bool
@@ -13,14 +13,19 @@ has_dim dim f = dim_of f.shape == dim
 abbrev pub count_of_dim : ℕ → List Feature → ℕ
 count_of_dim dim features = count_by (has_dim dim) features
 
-abbrev pub stats_of : LayerState → Stats
-stats_of layer = record {
-  features = length layer.list.features;
-  points = count_of_dim 0 layer.list.features;
-  segments = count_of_dim 1 layer.list.features;
-  rectangles = count_of_dim 2 layer.list.features;
-  height = height_of layer.root;
+-- the counts of a layer's features, beside a height
+abbrev pub counts_of : Contents → ℕ → Stats
+counts_of layer height = record {
+  features = length layer.features;
+  points = count_of_dim 0 layer.features;
+  segments = count_of_dim 1 layer.features;
+  rectangles = count_of_dim 2 layer.features;
+  height = height;
 }
+
+-- and beside that of its tree
+abbrev pub stats_of : LayerState → Stats
+stats_of layer = counts_of layer.list (height_of layer.root)
 
 -- one more of any dimension can be counted
 pub record CanCount (s : Stats) : Type 0 where

@@ -7,6 +7,7 @@ ghost use Rattle.layer_core.specs.MapAndSlots.{ids_of, IsAbsent, IsOnly, AreInve
 use crate::id::Id;
 use crate::ids::Ids;
 use crate::iter::Iter;
+use crate::stats::Stats;
 use geom_core::Shape;
 use std::alloc::{AllocError, Global};
 use std::hash::RandomState;
@@ -81,6 +82,7 @@ impl Features {
     ghost use Rattle.layer_core.specs.Layers.{with_id, with_number, inserted, deleted};
     ghost use Rattle.layer_core.specs.Ids.{id_bytes};
     ghost use Rattle.layer_core.specs.Limits.{most_features};
+    ghost use Rattle.layer_core.specs.Statistics.{counts_of};
 
     /// No features. `state` hashes the ids.
     pub(crate) fn new(alloc: Global, state: RandomState) -> Features
@@ -165,6 +167,23 @@ impl Features {
         ensures layer { IsLayer self.now.list }
     {
         Iter::new(&self.ids, self.slots.as_slice())
+    }
+
+    /// How many features there are, in all and of each dimension, beside this height.
+    pub(crate) fn stats(&self, height: u32) -> Stats
+        ensures { result ≡ counts_of self.now.list height }
+    {
+        let mut stats = Stats {
+            features: self.len() as u32,
+            points: 0,
+            segments: 0,
+            rectangles: 0,
+            height,
+        };
+        for feature in self.iter() {
+            stats.count(feature.shape.dim());
+        }
+        stats
     }
 
     /// Deletes the feature with this id, and gives its shape.

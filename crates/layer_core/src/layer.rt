@@ -59,6 +59,8 @@ impl Layer {
     ghost use Rattle.std.specs.Prelude.{◌≡◌, ◌↔◌, [], None, Some, Ok, length, IsTrue, OnOk, OnErr};
     ghost use Rattle.std.specs.Prelude.{◌<◌, IfOk, IfNone};
     ghost use Rattle.std.specs.Option.{option_map};
+    ghost use Rattle.rtree_core.specs.Packings.{IsPackedHeight};
+    ghost use Rattle.rtree_core.specs.Trees.{height_of};
     ghost use Rattle.layer_core.specs.Limits.{most_features};
     ghost use Rattle.layer_core.specs.Layers.{empty, IsLayer, IdAndShapeAre, NumberAndShapeAre};
     ghost use Rattle.layer_core.specs.Layers.{with_id, with_number, inserted, deleted};
@@ -83,7 +85,9 @@ impl Layer {
         entries: Vec<Entry>,
     ) -> Result<Layer, AllocError>
         requires { entries.items ≡ entries_for features.list }
-        ensures { IfOk result (λ layer. layer.list ≡ features.list) }
+        ensures list { IfOk result (λ layer. layer.list ≡ features.list) }
+        ensures height { IfOk result
+            (λ layer. IsPackedHeight (length features.list.features) (height_of layer.root)) }
     {
         // That numbers differ, which packing asks for, is what the features say of themselves.
         let _len = features.len();
@@ -102,7 +106,9 @@ impl Layer {
         rt: &R,
     ) -> Result<Layer, AllocError>
         requires { entries.items ≡ entries_for features.list }
-        ensures { IfOk result (λ layer. layer.list ≡ features.list) }
+        ensures list { IfOk result (λ layer. layer.list ≡ features.list) }
+        ensures height { IfOk result
+            (λ layer. IsPackedHeight (length features.list.features) (height_of layer.root)) }
     {
         let _len = features.len();
         Ok(Layer {
@@ -131,17 +137,7 @@ impl Layer {
     pub fn stats(&self) -> Stats
         ensures { result ≡ stats_of self.now }
     {
-        let mut stats = Stats {
-            features: self.features.len() as u32,
-            points: 0,
-            segments: 0,
-            rectangles: 0,
-            height: self.tree.height(),
-        };
-        for feature in self.features.iter() {
-            stats.count(feature.shape.dim());
-        }
-        stats
+        self.features.stats(self.tree.height())
     }
 
     /// The tree, whose entries are the features' shapes with their numbers.

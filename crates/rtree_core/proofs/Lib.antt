@@ -7,5 +7,6 @@ pub mod WindowLemmas
 pub mod RemovalLemmas
 pub mod TakeLemmas
 pub mod PackingLemmas
+pub mod HeightLemmas
 pub mod PackLemmas
 pub mod Rules

@@ -1,5 +1,6 @@
 -- The tree that Sort-Tile-Recursive makes of a list (Leutenegger, Lopez and Edgington 1997, 2.2).
-use Rattle.std.specs.Prelude.{◌≡◌, ℕ, zero, suc, ◌+◌, ◌≤◌, List, [], ◌∷◌, map, length, take, drop}
+use Rattle.std.specs.Prelude.{◌≡◌, ◌↔◌, ℕ, zero, suc, ◌+◌, ◌^◌, ◌≤◌, List, [], ◌∷◌, map, length, take}
+use Rattle.std.specs.Prelude.{drop}
 use Rattle.std.specs.Int.{div_ceil}
 use Rattle.std.specs.List.{enumerate_from, range_with_len}
 use Rattle.std.specs.List.Sorted.{IsPermutation}
@@ -49,3 +50,10 @@ IsPackedLevel entries (suc level) nodes =
 -- the root of that tree: the only node of its level
 abbrev pub IsPackingOf : List Entry → Node → Type 0
 IsPackingOf entries root = IsPackedLevel entries (level_of root) (root ∷ [])
+
+-- the height of that tree of so many entries: as few levels as can hold them, where a node holds as
+-- many as it may, and none where there is no entry
+pub record IsPackedHeight (entries height : ℕ) : Type 0 where
+  pub none : (height ≡ 0) ↔ (entries ≡ 0)
+  pub enough : entries ≤ most ^ height
+  pub least : (levels : ℕ) → entries ≤ most ^ suc levels → height ≤ suc levels

@@ -9,6 +9,7 @@ use crate::node::{Entry, Node};
 use crate::pack::pack_entries;
 use crate::window::collect;
 use geom_core::Shape;
+use split_core::split::MOST;
 use split_core::tile::{tile, tile_by_threads};
 use std::alloc::{AllocError, Global};
 use std::marker::Model;
@@ -49,7 +50,7 @@ impl RTree {
     ghost use Rattle.split_core.specs.Collections.{HasSame, Gains};
     ghost use Rattle.split_core.specs.Tiles.{IsTileOrder};
     ghost use Rattle.rtree_core.specs.Packed.{IsPacked};
-    ghost use Rattle.rtree_core.specs.Packings.{IsPackingOf};
+    ghost use Rattle.rtree_core.specs.Packings.{IsPackingOf, IsPackedHeight};
     ghost use Rattle.rtree_core.specs.Trees.{entries_in, height_of, has_number, IsTree, IsFresh};
     ghost use Rattle.rtree_core.specs.Windows.{AllMet, AllFound};
     ghost use Rattle.std.specs.List.Sorted.{IsStrictlyIncreasing};
@@ -74,6 +75,7 @@ impl RTree {
         ensures entries { IfOk result (λ t. HasSame entries.items (entries_in t)) }
         ensures packing { IfOk result (λ t. IfSome t (IsPackingOf entries.items)) }
         ensures packed { IfOk result (λ t. IfSome t IsPacked) }
+        ensures height { IfOk result (λ t. IsPackedHeight (length entries.items) (height_of t)) }
     {
         tile(&mut entries);
         RTree::from_pages(alloc, entries)
@@ -92,9 +94,27 @@ impl RTree {
         ensures entries { IfOk result (λ t. HasSame entries.items (entries_in t)) }
         ensures packing { IfOk result (λ t. IfSome t (IsPackingOf entries.items)) }
         ensures packed { IfOk result (λ t. IfSome t IsPacked) }
+        ensures height { IfOk result (λ t. IsPackedHeight (length entries.items) (height_of t)) }
     {
         tile_by_threads(rt, threads, &mut entries);
         RTree::from_pages(alloc, entries)
+    }
+
+    /// The height of the tree into which so many entries are packed.
+    pub fn packed_height(entries: u32) -> u32
+        ensures { IsPackedHeight entries result }
+    {
+        if entries == 0 {
+            return 0;
+        }
+        let mut height = 1;
+        // How many entries so many levels can hold.
+        let mut room = MOST as u64;
+        while room < u64::from(entries) {
+            room *= MOST as u64;
+            height += 1;
+        }
+        height
     }
 
     /// The packed tree of entries that are in the order of their pages.
@@ -105,6 +125,7 @@ impl RTree {
         ensures entries { IfOk result (λ t. HasSame entries.items (entries_in t)) }
         ensures packing { IfOk result (λ t. IfSome t (IsPackingOf entries.items)) }
         ensures packed { IfOk result (λ t. IfSome t IsPacked) }
+        ensures height { IfOk result (λ t. IsPackedHeight (length entries.items) (height_of t)) }
     {
         if entries.is_empty() {
             return Ok(RTree::new(alloc));

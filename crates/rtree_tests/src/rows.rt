@@ -42,6 +42,19 @@ const PACKED_SEVEN_LEFT: Leaves = &[&[0, 1, 2, 3, 4, 7, 8]];
 /// The corners of a window, and the numbers that it meets.
 type Window = (i64, i64, i64, i64, &'static [u32]);
 
+/// How many entries, and the height of a tree that is packed from so many.
+const HEIGHTS: &[(u32, u32)] = &[
+    (0, 0),
+    (1, 1),
+    (8, 1),
+    (9, 2),
+    (64, 2),
+    (65, 3),
+    (262_145, 7),
+    (1_000_000, 7),
+    (4_294_967_295, 11),
+];
+
 const IN_CROWD: &[Window] = &[(4, 0, 6, 0, &[4, 5, 6, 9]), (9, 1, 10, 2, &[])];
 
 const IN_TWENTY: &[Window] = &[(5, 0, 8, 0, &[5, 6, 7, 8]), (20, 0, 21, 5, &[])];
@@ -254,5 +267,13 @@ fn packed_zigzag(rt: HostRuntime) -> Result<(), Fail> {
 fn packed_backward(rt: HostRuntime) -> Result<(), Fail> {
     let leaves: [&[u32]; 2] = [&[0, 1, 2, 3, 4, 5, 6, 7], &[8, 9, 10, 11, 12, 13, 14, 15]];
     assert!(rt; packs_into(rt.alloc(), Squares::Backward, 16, &leaves)?);
+    Ok(())
+}
+
+#[test]
+fn packed_heights(rt: HostRuntime) -> Result<(), Fail> {
+    for (entries, height) in HEIGHTS {
+        assert!(rt; RTree::packed_height(*entries) == *height);
+    }
     Ok(())
 }

@@ -139,7 +139,7 @@ fn ids_in_any_order(rt: HostRuntime) -> Result<(), Fail> {
 }
 
 /// Adds the points (0 0), (1 0), .. under the ids p0, p1, ..
-fn add_points(alloc: Global, loading: &mut Loading, count: u32) -> Result<(), Fail> {
+fn add_points(alloc: Global, loading: &mut FeatureList, count: u32) -> Result<(), Fail> {
     let mut id = String::new(alloc);
     for i in 0..count {
         id.clear();
@@ -149,7 +149,7 @@ fn add_points(alloc: Global, loading: &mut Loading, count: u32) -> Result<(), Fa
     Ok(())
 }
 
-fn add_point(alloc: Global, loading: &mut Loading, id: &str, x: i64) -> Result<(), Fail> {
+fn add_point(alloc: Global, loading: &mut FeatureList, id: &str, x: i64) -> Result<(), Fail> {
     if !is_id(id) {
         return Err(Fail::new("an id of another length"));
     }
@@ -159,7 +159,7 @@ fn add_point(alloc: Global, loading: &mut Loading, id: &str, x: i64) -> Result<(
 
 /// A layer that has had all its features. It is loaded without a file, which takes less time.
 fn full_layer<R: RandomSource + AllocGlobal>(rt: &R) -> Result<Layer, Fail> {
-    let mut loading = Loading::new(rt.alloc(), RandomState::new(rt)?, MAX_FEATURES)?;
+    let mut loading = FeatureList::new(rt.alloc(), RandomState::new(rt)?, MAX_FEATURES)?;
     add_points(rt.alloc(), &mut loading, 1_000_000)?;
     Ok(loading.finish(rt.alloc())?)
 }

@@ -27,6 +27,22 @@ fn stats_of<R: Threads + Sync + RandomSource + AllocGlobal>(
     Ok(seen(layer_of(rt, bytes)?, |layer| layer.stats()))
 }
 
+/// The features that these bytes of a file stand for.
+fn features_of<R: Threads + Sync + RandomSource + AllocGlobal>(
+    rt: &R,
+    bytes: &[u8],
+) -> Result<FeatureList, Fail> {
+    let state = RandomState::new(rt)?;
+    Ok(features_of_bytes(rt.alloc(), state, bytes, whole()?, 2, rt)?)
+}
+
+/// The counts of features that have no tree, if the first of them is the point a at (4 4).
+fn stats_from_a(features: &mut FeatureList) -> Result<Option<Stats>, Fail> {
+    let first = features.iter().next().ok_or("a first feature")?;
+    let is_a = first.id == "a" && first.shape == point(4, 4)?;
+    Ok(is_a.then_some(features.stats()))
+}
+
 /// The counts of the layer of two features once they are removed.
 fn stats_emptied(layer: &mut Layer) -> Result<Stats, Fail> {
     layer.remove("a")?;
@@ -43,5 +59,34 @@ fn stats_extra(rt: HostRuntime) -> Result<(), Fail> {
     assert!(rt; stats_of(&rt, TWO)? == STATS_OF_TWO);
     assert!(rt; stats_of_emptied(&rt)? == NOTHING);
     assert!(rt; stats_of(&rt, b"id,wkt\n")? == NOTHING);
+    Ok(())
+}
+
+/// Nine points, of which eight would fill a leaf.
+const NINE: &[u8] = b"id,wkt
+a,POINT (4 4)
+b,POINT (0 1)
+c,POINT (0 2)
+d,POINT (0 3)
+e,POINT (0 4)
+f,POINT (0 5)
+g,POINT (0 6)
+h,POINT (0 7)
+i,POINT (0 8)
+";
+
+const STATS_OF_NINE: Stats = Stats {
+    features: 9,
+    points: 9,
+    segments: 0,
+    rectangles: 0,
+    height: 2,
+};
+
+#[test]
+fn stats_without_tree(rt: HostRuntime) -> Result<(), Fail> {
+    let counted = seen(features_of(&rt, NINE)?, stats_from_a)?;
+    assert!(rt; counted == Some(STATS_OF_NINE));
+    assert!(rt; stats_of(&rt, NINE)? == STATS_OF_NINE);
     Ok(())
 }

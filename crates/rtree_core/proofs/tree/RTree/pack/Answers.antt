@@ -1,4 +1,5 @@
 use Rattle.std.proofs.Common.{rules}
+use Rattle.rtree_core.proofs.HeightLemmas.{packed_height}
 use Rattle.rtree_core.proofs.PackLemmas.{list_distinct, list_tiled, tree_same, tree_packed}
 use Rattle.rtree_core.proofs.tree.RTree.pack.Goals as goal
 
@@ -14,3 +15,6 @@ returns-clause-entries c = tree_same c.args.entries.len c.args.entries.items c.d
 
 pub returns-clause-packing : goal.returns-clause-packing
 returns-clause-packing c = tree_packed c.args.entries.len c.args.entries.items c.deref_mut.result.now c.tile.new.items _ c.deref_mut.ensures.value c.deref_mut.ensures.len c.tile.ensures.items (search rules)
+
+pub returns-clause-height : goal.returns-clause-height
+returns-clause-height c = packed_height _ _ (returns-clause-entries c) (returns-clause-packing c)

@@ -1,6 +1,6 @@
 use Rattle.std.proofs.Common.{◌≡◌, ◌+◌}
 use Rattle.layer_core.specs.Statistics.{count_of_dim}
-use Rattle.layer_core.proofs.layer.Layer.stats.Given as goal
+use Rattle.layer_core.proofs.features.Features.stats.Given as goal
 
 abbrev pub invariant-loop-feature : goal.invariant-loop-feature
 invariant-loop-feature l =

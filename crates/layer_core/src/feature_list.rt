@@ -1,4 +1,5 @@
-//! A layer while it is loaded: its features go in one by one, and at the end its tree is packed.
+//! The features of a layer without a tree: they go in one by one, and then a tree is packed, if one
+//! is asked for.
 
 ghost use Rattle.std.specs.Prelude.{◌≡◌, IfOk};
 ghost use Rattle.layer_core.specs.LayerTrees.{entries_for};
@@ -6,21 +7,23 @@ ghost use Rattle.layer_core.specs.LayerTrees.{entries_for};
 use crate::fault::LayerFault;
 use crate::features::{Features, MAX_FEATURES};
 use crate::id::Id;
+use crate::iter::Iter;
 use crate::layer::Layer;
+use crate::stats::Stats;
 use geom_core::Shape;
-use rtree_core::Entry;
+use rtree_core::{Entry, RTree};
 use std::alloc::{AllocError, Global};
 use std::hash::RandomState;
 use std::marker::Model;
 use std::thread::Threads;
 
-/// A layer that has no tree yet.
+/// The features of a layer, which has no tree.
 #[derive(Drop)]
-pub struct Loading {
+pub struct FeatureList {
     features: Features,
 }
 
-impl Model for Loading {
+impl Model for FeatureList {
     ghost use Rattle.layer_core.specs.Layers.{Contents};
     ghost use Rattle.layer_core.specs.LayerCodes.{coded_contents};
 
@@ -31,18 +34,21 @@ impl Model for Loading {
     ghost view = { λ l. l.features.list };
 }
 
-impl Loading {
-    ghost use Rattle.std.specs.Prelude.{◌≡◌, ◌≤◌, IsTrue, OnOk, OnErr, IfOk};
+impl FeatureList {
+    ghost use Rattle.std.specs.Prelude.{◌≡◌, ◌≤◌, length, IsTrue, OnOk, OnErr, IfOk};
+    ghost use Rattle.rtree_core.specs.Packings.{IsPackedHeight};
+    ghost use Rattle.rtree_core.specs.Trees.{height_of};
     ghost use Rattle.layer_core.specs.Ids.{id_bytes};
-    ghost use Rattle.layer_core.specs.Layers.{empty, inserted};
+    ghost use Rattle.layer_core.specs.Layers.{empty, inserted, IsLayer};
     ghost use Rattle.layer_core.specs.Limits.{most_features};
     ghost use Rattle.layer_core.specs.Refusals.{is_id, AnswersWith, insert_refusal};
+    ghost use Rattle.layer_core.specs.Statistics.{counts_of};
 
     /// No features, and room for so many. `state` hashes the ids.
-    pub fn new(alloc: Global, state: RandomState, room: usize) -> Result<Loading, AllocError>
+    pub fn new(alloc: Global, state: RandomState, room: usize) -> Result<FeatureList, AllocError>
         ensures { IfOk result (λ loading. loading ≡ empty) }
     {
-        Ok(Loading {
+        Ok(FeatureList {
             features: Features::with_room(alloc, state, room)?,
         })
     }
@@ -78,22 +84,44 @@ impl Loading {
         }
     }
 
-    /// The layer of all features that were inserted.
+    /// The features in layer order.
+    pub fn iter(&self) -> Iter<'_>
+        ensures features { result ≡ self.now.features }
+        ensures layer { IsLayer self.now }
+    {
+        self.features.iter()
+    }
+
+    /// How many features there are of each dimension, and how high a tree is that is packed from
+    /// them. It goes over all features, and packs none.
+    pub fn stats(&self) -> Stats
+        ensures counts { result ≡ counts_of self.now result.height }
+        ensures height { IsPackedHeight (length self.now.features) result.height }
+    {
+        self.features
+            .stats(RTree::packed_height(self.features.len() as u32))
+    }
+
+    /// The layer of these features.
     pub fn finish(self, alloc: Global) -> Result<Layer, AllocError>
-        ensures { IfOk result (λ layer. layer.list ≡ self) }
+        ensures list { IfOk result (λ layer. layer.list ≡ self) }
+        ensures height { IfOk result
+            (λ layer. IsPackedHeight (length self.features) (height_of layer.root)) }
     {
         let entries = entries_of(alloc, &self.features)?;
         Layer::pack(alloc, self.features, entries)
     }
 
-    /// The layer of all features that were inserted, built by at most so many threads.
+    /// The layer of these features, whose tree is packed by at most so many threads.
     pub fn finish_by_threads<R: Threads + Sync>(
         self,
         alloc: Global,
         threads: u32,
         rt: &R,
     ) -> Result<Layer, AllocError>
-        ensures { IfOk result (λ layer. layer.list ≡ self) }
+        ensures list { IfOk result (λ layer. layer.list ≡ self) }
+        ensures height { IfOk result
+            (λ layer. IsPackedHeight (length self.features) (height_of layer.root)) }
     {
         let entries = entries_of(alloc, &self.features)?;
         Layer::pack_by_threads(alloc, self.features, entries, threads, rt)
