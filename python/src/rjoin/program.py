@@ -13,7 +13,7 @@ Word = Union[str, "os.PathLike[str]"]
 
 # How the C library should take memory for large layers: as the repository's launcher has it.
 TUNABLES = ":".join("glibc.malloc." + setting for setting in (
-    "hugetlb=1", "arena_max=2", "top_pad=16777216", "mmap_threshold=8388608",
+    "hugetlb=1", "arena_max=2", "top_pad=4194304", "mmap_threshold=4194304",
     "trim_threshold=4294967296"))
 
 

@@ -26,8 +26,8 @@ TUNABLES = ":".join(
     for tunable in (
         "hugetlb=1",
         "arena_max=2",
-        "top_pad=16777216",
-        "mmap_threshold=8388608",
+        "top_pad=4194304",
+        "mmap_threshold=4194304",
         "trim_threshold=4294967296",
     )
 )
