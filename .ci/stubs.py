@@ -1,0 +1,68 @@
+"""Stubs of functions: each has the contract of its function and no body, and a hole in place of a proof."""
+import os
+import re
+from collections.abc import Iterator
+from glob import glob
+
+from edits import Texts, read
+
+# A function that stands by itself or in an `impl` of its type, from its attributes to the brace below its first letter.
+FUNCTION = r"(?m)^(?:%s#\[.*\]\n)*^(%s)(?:pub(?:\(\w+\))? )?fn (\w+)\b(?:.*{}\n|(?:.*\n)+?%s{?}\n)"
+FREE = re.compile(FUNCTION % (("",) * 3))
+METHOD = re.compile(FUNCTION % ((" {4}",) * 3))
+IMPL = re.compile(r"(?m)^impl(?:<.*>)? (\w+)(?:<.*>)? {\n(?:.*\n)+?}\n")
+TYPE = re.compile(r"(?m)^(?:pub(?:\(\w+\))? )?(?:struct|enum) (\w+)")
+PROOF = """use Rattle.{crate}.proofs.{path}.Statement.{{statement}}
+
+pub {name}_spec : {{M : Type 1}} → statement M
+{name}_spec = ?
+"""
+
+
+def module_of(file: str) -> list[str]:
+    """The path of the module that is the file src/PATH."""
+    path = file.removeprefix("src/").removesuffix(".rt").split("/")
+    return [] if path in (["lib"], ["main"]) else path
+
+
+def functions(folder: str, texts: Texts) -> Iterator[tuple[list[str], str, str, str]]:
+    """Yields a crate's functions and its types' own methods, each by its path, its file, its indent and its text."""
+    files = glob("src/**/*.rt", root_dir=folder, recursive=True)
+    sources = {it: texts.get(it) or read(f"{folder}/{it}") for it in files}
+    module_of_type = {name: module_of(file) for file, text in sources.items() for name in TYPE.findall(text)}
+    for file, text in sources.items():
+        for found in FREE.finditer(text):
+            yield [*module_of(file), found[2]], file, found[1], found[0]
+        for block in IMPL.finditer(text):
+            for found in METHOD.finditer(block[0]):
+                yield [*module_of_type[block[1]], block[1], found[2]], file, found[1], found[0]
+
+
+def stub(function: str, indent: str) -> str:
+    """The text of a function, each line behind this indent at least, with a body that costs the prover next to nothing.
+    A body stands behind its contract, on a line of its own, or behind the head where there is no contract."""
+    body = re.search(rf"(?m)^{indent}{{}}?$", function) or re.search(r"(?m){}?$", function)
+    assert body, function
+    head = re.sub(r"(?m)^ *#\[tactic.*\]\n", "", function[:body.start()])
+    return f"{head}{{ loop {{}} }}\n"
+
+
+def is_fixed(folder: str, path: list[str], function: str) -> bool:
+    """Whether a function can't be a stub: a constant may call it, or it is in a cycle of calls, which has one proof."""
+    cycles = glob(f"{folder}/proofs/{'/'.join(path[:-1])}/+*")
+    return "const fn" in function or "#[cycle" in function or any(path[-1] in it.split("+") for it in cycles)
+
+
+def stubbed(folder: str, texts: Texts, written_out: set[str]) -> tuple[Texts, list[str]]:
+    """Returns the texts of a crate's files with a stub for each function that isn't written out and can have one, and
+    these functions."""
+    texts, stubs, crate = dict(texts), [], os.path.basename(folder)
+    for path, file, indent, function in functions(folder, texts):
+        text, name = texts.get(file) or read(f"{folder}/{file}"), "::".join(path)
+        if name in written_out or is_fixed(folder, path, function) or text.count(function) != 1:
+            continue
+        texts[file] = text.replace(function, stub(function, indent))
+        proof = PROOF.format(crate=crate, path=".".join(path), name=path[-1])
+        texts[f"proofs/{'/'.join(path)}/Proof.antt"] = proof
+        stubs.append(name)
+    return texts, stubs
