@@ -53,11 +53,11 @@ FileGives columns RowGives start bytes answer =
 
 -- the fields of the row that was read last
 abbrev pub last_row : Rows → Record
-last_row rows = fields_of rows.row
+last_row rows = fields_of rows.records.value.last
 
 -- the rows that are left
 abbrev pub rows_left : Rows → List Record
-rows_left rows = records_left rows.reader
+rows_left rows = records_left rows.records.value.reader
 
 -- no row has a greater number
 abbrev pub most_rows : ℕ
@@ -65,7 +65,7 @@ most_rows = 4294967295
 
 -- the reader stands between two rows, and those that are left can be numbered
 pub record IsReading (rows : Rows) : Type 0 where
-  pub reader : IsBetweenRecords rows.reader
+  pub reader : IsBetweenRecords rows.records.value.reader
   pub few : rows.count + length (rows_left rows) ≤ most_rows
 
 -- the rows of a file of these columns, none of which was read, behind this header

@@ -1,6 +1,6 @@
 //! Batches of rows, which are read ahead of their insertion.
 
-ghost use Rattle.std.specs.Prelude.{◌≡◌, ◌<◌, [], false, All, IfSome, Ok};
+ghost use Rattle.std.specs.Prelude.{◌≡◌, ◌<◌, [], false, All, IfOk, IfSome, Ok};
 ghost use Rattle.file_core.specs.Batches.{HasId, AnswersRows, IsBatch, all_rows};
 ghost use Rattle.file_core.specs.Cuts.{IsClosed};
 ghost use Rattle.file_core.specs.Rows.{IsReading, rows_left};
@@ -14,7 +14,7 @@ use crate::read_fault::ReadFault;
 use crate::rows::Rows;
 use crate::unread::Unread;
 use layer_core::FeatureList;
-use std::alloc::Global;
+use std::alloc::{AllocError, Global};
 use std::thread;
 use std::thread::Threads;
 use wkt_core::Scale;
@@ -41,16 +41,35 @@ fn read_batch<'a>(alloc: Global, unread: Unread<'a>, scale: Scale) -> (Unread<'a
     requires { IsUnread unread }
     ensures { IsBatch scale unread.entry (all_rows result.1.rows.items) result.1.more result.0 }
 {
-    let mut rows = unread.into_rows(alloc);
-    let mut parts = Vec::new(alloc);
-    if parts.reserve(1).is_err() {
-        let more = Err(ReadFault::Memory);
-        return (Unread::Rows(rows), Batch { rows: parts, more });
+    match read_rows(alloc, unread, scale) {
+        Ok(read) => read,
+        Err(_) => {
+            let batch = Batch {
+                rows: Vec::new(alloc),
+                more: Err(ReadFault::Memory),
+            };
+            // Nothing is read behind a fault.
+            (Unread::Text(b"".as_slice(), 0), batch)
+        }
     }
+}
+
+/// The next rows, read one after another, or none where memory is refused.
+fn read_rows<'a>(
+    alloc: Global,
+    unread: Unread<'a>,
+    scale: Scale,
+) -> Result<(Unread<'a>, Batch), AllocError>
+    requires { IsUnread unread }
+    ensures { IfOk result (λ read.
+        IsBatch scale unread.entry (all_rows read.1.rows.items) read.1.more read.0) }
+{
+    let mut rows = unread.into_rows(alloc)?;
     let mut read = Vec::new(alloc);
     let more = fill(alloc, &mut read, &mut rows, scale, BATCH_ROWS);
-    parts.push_reserved(read);
-    (Unread::Rows(rows), Batch { rows: parts, more })
+    let mut parts = Vec::new(alloc);
+    parts.push(read)?;
+    Ok((Unread::Rows(rows), Batch { rows: parts, more }))
 }
 
 /// Reads the next rows, at most so many, into a list that is empty, and says whether there may be

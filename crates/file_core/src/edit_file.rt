@@ -40,10 +40,9 @@ pub fn edits_of_bytes(alloc: Global, bytes: &[u8], scale: Scale) -> Result<Vec<E
     let mut rows = Rows::open(alloc, bytes, &COLUMNS)?;
     let mut edits = Vec::new(alloc);
     while let Some(number) = rows.next()? {
+        edits.reserve(1)?;
         let edit = edit_of_row(alloc, number, rows.row(), scale)?;
-        if edits.push(edit).is_err() {
-            return Err(ReadFault::Memory);
-        }
+        edits.push_reserved(edit);
     }
     Ok(edits)
 }

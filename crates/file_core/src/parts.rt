@@ -92,18 +92,16 @@ fn read_whole(alloc: Global, scale: Scale, text: &[u8]) -> Option<Parts>
     if text.len() > MAX_FILE_BYTES || !is_plain(text) || !ends_with_feed(text) {
         return None;
     }
-    let mut reader = Rows::behind(alloc, text, 0);
+    let Ok(mut reader) = Rows::behind(alloc, text, 0) else {
+        return None;
+    };
     let mut read = Vec::new(alloc);
     // Rows that end otherwise may be more, and are read one after another.
     let most = line_feeds(text).saturating_add(1);
-    let more = fill(alloc, &mut read, &mut reader, scale, most);
-    let Ok(false) = more else {
-        return None;
-    };
-    if reader.has_unended() {
-        return None;
+    match fill(alloc, &mut read, &mut reader, scale, most) {
+        Ok(false) if !reader.has_unended() => one_part(alloc, read),
+        _ => None,
     }
-    one_part(alloc, read)
 }
 
 /// These rows as one part.

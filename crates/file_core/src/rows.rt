@@ -17,13 +17,20 @@ use std::alloc::{AllocError, Global};
 /// The rows of a file, in turn.
 #[derive(Drop)]
 pub(crate) struct Rows<'a> {
-    reader: Reader<&'a [u8]>,
-    /// The row that was read last.
-    row: ByteRecord,
+    /// Boxed, so that rows are moved and dropped as one pointer.
+    records: Box<TextRecords<'a>>,
     /// How many rows were read.
     count: u32,
     /// Whether a record was read whose last field ends with a line feed.
     unended: bool,
+}
+
+/// The records that are left of a text.
+#[derive(Drop)]
+struct TextRecords<'a> {
+    reader: Reader<&'a [u8]>,
+    /// The record that was read last.
+    last: ByteRecord,
 }
 
 impl<'a> Rows<'a> {
@@ -47,34 +54,32 @@ impl<'a> Rows<'a> {
         if file.len() > MAX_FILE_BYTES {
             return Err(ReadFault::TooLong);
         }
-        let mut reader = records(alloc, file);
-        let mut row = ByteRecord::new(alloc);
-        if !next_record(&mut reader, &mut row)? || !is_header(&row, columns) {
+        let mut records = records(alloc, file)?;
+        let first = &mut *records;
+        if !next_record(first)? || !is_header(&first.last, columns) {
             return Err(ReadFault::Header);
         }
-        let unended = is_unended(&row);
+        let unended = is_unended(&first.last);
         Ok(Rows {
-            reader,
-            row,
+            records,
             count: 0,
             unended,
         })
     }
 
     /// All records of a text as rows, behind so many others.
-    pub(crate) fn behind(alloc: Global, text: &'a [u8], count: u32) -> Rows<'a>
+    pub(crate) fn behind(alloc: Global, text: &'a [u8], count: u32) -> Result<Rows<'a>, AllocError>
         requires plain { IsPlain text.now }
         requires few { count + length (records default_config text.now) ≤ most_rows }
-        ensures reading { IsReading result }
-        ensures rows { rows_left result ≡ records default_config text.now }
-        ensures count { result.count ≡ count }
+        ensures reading { IfOk result IsReading }
+        ensures rows { IfOk result (λ rows. rows_left rows ≡ records default_config text.now) }
+        ensures count { IfOk result (λ rows. rows.count ≡ count) }
     {
-        Rows {
-            reader: records(alloc, text),
-            row: ByteRecord::new(alloc),
+        Ok(Rows {
+            records: records(alloc, text)?,
             count,
             unended: false,
-        }
+        })
     }
 
     /// Whether a record was read whose last field ends with a line feed.
@@ -90,11 +95,12 @@ impl<'a> Rows<'a> {
         ensures { IfOk result (λ row. MatchOption row
             (IsEnded self.old self.new) (λ n. ReadsRow self.old n self.new)) }
     {
-        if !next_record(&mut self.reader, &mut self.row)? {
+        let records = &mut *self.records;
+        if !next_record(records)? {
             return Ok(None);
         }
         self.count += 1;
-        self.unended |= is_unended(&self.row);
+        self.unended |= is_unended(&records.last);
         Ok(Some(self.count))
     }
 
@@ -102,29 +108,33 @@ impl<'a> Rows<'a> {
     pub(crate) fn row(&self) -> &ByteRecord
         ensures { fields_of result.now ≡ last_row self.now }
     {
-        &self.row
+        &self.records.last
     }
 }
 
-/// A reader of all records of the text. They may differ in length, and the first is like any other.
-fn records(alloc: Global, text: &[u8]) -> Reader<&[u8]>
-    ensures reading { IsBetweenRecords result }
-    ensures records { records_left result ≡ records_of text.now }
+/// All records of the text. They may differ in length, and the first is like any other.
+fn records(alloc: Global, text: &[u8]) -> Result<Box<TextRecords<'_>>, AllocError>
+    ensures reading { IfOk result (λ all. IsBetweenRecords all.value.reader) }
+    ensures records { IfOk result (λ all. records_left all.value.reader ≡ records_of text.now) }
 {
-    ReaderBuilder::new()
+    let reader = ReaderBuilder::new()
         .has_headers(false)
         .flexible(true)
-        .from_reader(alloc, text)
+        .from_reader(alloc, text);
+    let last = ByteRecord::new(alloc);
+    Ok(Box::new(alloc, TextRecords { reader, last })?)
 }
 
 /// Reads the next record and answers true, or false where there is none left.
 #[tactic(auto, using(crate::proofs::RecordLemmas::record_read))]
-fn next_record(reader: &mut Reader<&[u8]>, row: &mut ByteRecord) -> Result<bool, AllocError>
-    requires { IsBetweenRecords reader.old }
+fn next_record(records: &mut TextRecords) -> Result<bool, AllocError>
+    requires { IsBetweenRecords records.old.reader }
     ensures { IfOk result (λ found. MatchBool found
-        (TakesRecord reader.old (fields_of row.new) reader.new) (records_left reader.old ≡ [])) }
+        (TakesRecord records.old.reader (fields_of records.new.last) records.new.reader)
+        (records_left records.old.reader ≡ [])) }
 {
-    match reader.read_byte_record(row) {
+    let TextRecords { reader, last } = records;
+    match reader.read_byte_record(last) {
         Ok(found) => Ok(found),
         Err(error) => Err(want_of_memory(error)),
     }

@@ -10,7 +10,7 @@ use crate::cuts::{ends_with_feed, is_plain};
 use crate::read_fault::ReadFault;
 use crate::rows::Rows;
 use crate::source::MAX_FILE_BYTES;
-use std::alloc::Global;
+use std::alloc::{AllocError, Global};
 
 /// The columns of a layer's file.
 pub(crate) const COLUMNS: [&str; 2] = ["id", "wkt"];
@@ -42,15 +42,15 @@ impl<'a> Unread<'a> {
     }
 
     /// A reader of the rows.
-    pub(crate) fn into_rows(self, alloc: Global) -> Rows<'a>
+    pub(crate) fn into_rows(self, alloc: Global) -> Result<Rows<'a>, AllocError>
         requires { IsUnread self }
-        ensures reading { IsReading result }
-        ensures rows { rows_left result ≡ records_unread self.entry }
-        ensures count { result.count ≡ count_unread self.entry }
+        ensures reading { IfOk result IsReading }
+        ensures rows { IfOk result (λ rows. rows_left rows ≡ records_unread self.entry) }
+        ensures count { IfOk result (λ rows. rows.count ≡ count_unread self.entry) }
     {
         match self {
             Unread::Text(text, count) => Rows::behind(alloc, text, count),
-            Unread::Rows(rows) => rows,
+            Unread::Rows(rows) => Ok(rows),
         }
     }
 }
@@ -88,11 +88,5 @@ fn is_header_line(alloc: Global, line: &[u8]) -> bool
     let Ok(mut rows) = Rows::open(alloc, line, &COLUMNS) else {
         return false;
     };
-    if rows.has_unended() {
-        return false;
-    }
-    let Ok(None) = rows.next() else {
-        return false;
-    };
-    true
+    !rows.has_unended() && matches!(rows.next(), Ok(None))
 }

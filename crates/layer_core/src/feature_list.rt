@@ -17,10 +17,10 @@ use std::hash::RandomState;
 use std::marker::Model;
 use std::thread::Threads;
 
-/// The features of a layer, which has no tree.
+/// The features of a layer, which has no tree. They are boxed, as they are in a layer.
 #[derive(Drop)]
 pub struct FeatureList {
-    features: Features,
+    features: Box<Features>,
 }
 
 impl Model for FeatureList {
@@ -31,7 +31,7 @@ impl Model for FeatureList {
 
     ghost coded = { coded_contents };
 
-    ghost view = { λ l. l.features.list };
+    ghost view = { λ l. l.features.value.list };
 }
 
 impl FeatureList {
@@ -49,7 +49,7 @@ impl FeatureList {
         ensures { IfOk result (λ loading. loading ≡ empty) }
     {
         Ok(FeatureList {
-            features: Features::with_room(alloc, state, room)?,
+            features: Box::new(alloc, Features::with_room(alloc, state, room)?)?,
         })
     }
 

@@ -23,14 +23,15 @@ pub const MAX_ID_BYTES: usize = 64;
 /// is deleted and inserted again goes to the end. An id has 1 to [`MAX_ID_BYTES`] bytes of UTF-8,
 /// and ids are compared by bytes. At most [`MAX_FEATURES`] features are ever inserted.
 ///
-/// An R-tree holds exactly these features, each as its shape with its number.
+/// An R-tree holds exactly these features, each as its shape with its number. Both are boxed, so
+/// that a layer is moved and dropped as two pointers.
 ///
 /// A look-up by number takes constant time, one by id constant time, or logarithmic time where ids
 /// were inserted in rising order, and an edit logarithmic time, amortised where the layer grows.
 #[derive(Drop)]
 pub struct Layer {
-    features: Features,
-    tree: RTree,
+    features: Box<Features>,
+    tree: Box<RTree>,
 }
 
 impl Model for Layer {
@@ -43,9 +44,9 @@ impl Model for Layer {
 
     ghost use Rattle.layer_core.specs.LayerTrees.{HoldsExactly};
 
-    ghost view = { λ layer. record { list = layer.features.list; root = layer.tree } };
+    ghost view = { λ layer. record { list = layer.features.value.list; root = layer.tree.value } };
 
-    ghost invariant = { λ layer. HoldsExactly layer.features.list layer.tree };
+    ghost invariant = { λ layer. HoldsExactly layer.features.value.list layer.tree.value };
 }
 
 /// Whether a text has 1 to [`MAX_ID_BYTES`] bytes, as an id has.
@@ -56,7 +57,7 @@ pub fn is_id(id: &str) -> bool
 }
 
 impl Layer {
-    ghost use Rattle.std.specs.Prelude.{◌≡◌, ◌↔◌, [], None, Some, Ok, length, IsTrue, OnOk, OnErr};
+    ghost use Rattle.std.specs.Prelude.{◌≡◌, ◌↔◌, [], None, Some, length, IsTrue, OnOk, OnErr};
     ghost use Rattle.std.specs.Prelude.{◌<◌, IfOk, IfNone};
     ghost use Rattle.std.specs.Option.{option_map};
     ghost use Rattle.rtree_core.specs.Packings.{IsPackedHeight};
@@ -70,50 +71,50 @@ impl Layer {
 
     /// A layer with no features. `state` hashes the ids.
     pub fn new(alloc: Global, state: RandomState) -> Result<Layer, AllocError>
-        ensures { result ≡ Ok (record { list = empty; root = None }) }
+        ensures { IfOk result (λ layer. layer ≡ record { list = empty; root = None }) }
     {
         Ok(Layer {
-            features: Features::new(alloc, state),
-            tree: RTree::new(alloc),
+            features: Box::new(alloc, Features::new(alloc, state))?,
+            tree: Box::new(alloc, RTree::new(alloc))?,
         })
     }
 
     /// The layer of these features, whose tree is packed from their entries.
     pub(crate) fn pack(
         alloc: Global,
-        features: Features,
+        features: Box<Features>,
         entries: Vec<Entry>,
     ) -> Result<Layer, AllocError>
-        requires { entries.items ≡ entries_for features.list }
-        ensures list { IfOk result (λ layer. layer.list ≡ features.list) }
+        requires { entries.items ≡ entries_for features.value.list }
+        ensures list { IfOk result (λ layer. layer.list ≡ features.value.list) }
         ensures height { IfOk result
-            (λ layer. IsPackedHeight (length features.list.features) (height_of layer.root)) }
+            (λ layer. IsPackedHeight (length features.value.list.features) (height_of layer.root)) }
     {
         // That numbers differ, which packing asks for, is what the features say of themselves.
         let _len = features.len();
         Ok(Layer {
             features,
-            tree: RTree::pack(alloc, entries)?,
+            tree: Box::new(alloc, RTree::pack(alloc, entries)?)?,
         })
     }
 
     /// The layer of these features, whose tree is packed by at most so many threads.
     pub(crate) fn pack_by_threads<R: Threads + Sync>(
         alloc: Global,
-        features: Features,
+        features: Box<Features>,
         entries: Vec<Entry>,
         threads: u32,
         rt: &R,
     ) -> Result<Layer, AllocError>
-        requires { entries.items ≡ entries_for features.list }
-        ensures list { IfOk result (λ layer. layer.list ≡ features.list) }
+        requires { entries.items ≡ entries_for features.value.list }
+        ensures list { IfOk result (λ layer. layer.list ≡ features.value.list) }
         ensures height { IfOk result
-            (λ layer. IsPackedHeight (length features.list.features) (height_of layer.root)) }
+            (λ layer. IsPackedHeight (length features.value.list.features) (height_of layer.root)) }
     {
         let _len = features.len();
         Ok(Layer {
             features,
-            tree: RTree::pack_by_threads(alloc, entries, threads, rt)?,
+            tree: Box::new(alloc, RTree::pack_by_threads(alloc, entries, threads, rt)?)?,
         })
     }
 

@@ -1,5 +1,4 @@
-use Rattle.std.proofs.Common.{◌≡◌, ◌∙◌, ◌∷◌, [], length, map, ap, arith, rules, refl, true, Ok, Err, length-append}
-use Rattle.std.specs.Result.{is_ok}
+use Rattle.std.proofs.Common.{◌∙◌, ◌∷◌, ◌++◌, [], length, map, ap, arith, refl, Ok, Err, length-append}
 use Rattle.std.proofs.lemmas.List.{map-append}
 use Rattle.std.proofs.lemmas.Result.{err_from_is_err_and}
 use Rattle.layer_core.specs.Edits.{content_of}
@@ -18,8 +17,7 @@ returns-in_err-edit-clause-file c =
 pub loop-edits-preserved : goal.loop-edits-preserved
 loop-edits-preserved c =
     let reads = rw c.in-Some.is at c.in_ok-number.ensures in
-    let good : is_ok c.push.result ≡ true = search rules in
-    let items = rw good at c.push.ensures.items in
+    let items = c.push_reserved.ensures.items ∙ ap (λ edits. edits ++ (c.in_ok-edit.edit ∷ [])) c.reserve.ensures.items in
     let edits = ap (map content_of) items ∙ map-append content_of c.loop-edits.edits.items (c.in_ok-edit.edit ∷ []) in
     let row_gives = rw (reads.numbered, c.row.ensures) at c.in_ok-edit.ensures.ok in (
       reads.reading,
@@ -27,5 +25,5 @@ loop-edits-preserved c =
       λ answer gives.
           let later = rw (reads.counted ∙ reads.numbered) at gives in
           c.loop-edits.invariant.2 answer
-          (rw reads.row (Ok (map content_of c.push.new.self.items), (Ok (content_of c.in_ok-edit.edit), row_gives, ap Ok edits), later)),
+          (rw reads.row (Ok (map content_of c.push_reserved.new.self.items), (Ok (content_of c.in_ok-edit.edit), row_gives, ap Ok edits), later)),
     )

@@ -7,14 +7,14 @@ use Rattle.file_core.proofs.rows.Rows.open.Goals as goal
 pub returns-clause-ok : goal.returns-clause-ok
 returns-clause-ok c =
     let takes = rw c.if-not-branch.false at c.in_ok-next_record.ensures in
-    let records = sym c.records-reader.ensures.records ∙ takes.records in
+    let records = sym c.in_ok-records.ensures.records ∙ (λ i. records_left (sym c.deref_mut-first.ensures.value i).reader) ∙ takes.records in
     let columns = map (λ col. col.now) c.args.columns.now in
     let header = c.is_header.ensures.0 c.if-not-is_header.false in
     record {
       behind_header =
-          rows-headed columns c.args.file.now c.if-file-gt-MAX_FILE_BYTES.false (fields_of c.next_record.new.row)
-          (records_left c.next_record.new.reader) records header;
-      header = fields_of c.next_record.new.row;
+          rows-headed columns c.args.file.now c.if-file-gt-MAX_FILE_BYTES.false (fields_of c.next_record.new.records.last)
+          (records_left c.next_record.new.records.reader) records header;
+      header = fields_of c.next_record.new.records.last;
       headed = header;
       records = records;
       closed = c.is_unended-unended.ensures;
