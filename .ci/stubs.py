@@ -39,8 +39,8 @@ def functions(folder: str, texts: Texts) -> Iterator[tuple[list[str], str, str, 
 
 
 def stub(function: str, indent: str) -> str:
-    """The text of a function, each line behind this indent at least, with a body that costs the prover next to nothing.
-    A body stands behind its contract, on a line of its own, or behind the head where there is no contract."""
+    """The text of a function at this indent with a body that costs the prover next to nothing. The brace of the body it
+    had stands on a line by itself below a contract, and at the end of the head where there is none."""
     body = re.search(rf"(?m)^{indent}{{}}?$", function) or re.search(r"(?m){}?$", function)
     assert body, function
     head = re.sub(r"(?m)^ *#\[tactic.*\]\n", "", function[:body.start()])
