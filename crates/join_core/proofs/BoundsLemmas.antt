@@ -3,7 +3,7 @@ use Rattle.std.proofs.Common.{◌≡◌, ℕ, List, [], ◌∷◌, ◌++◌, Vec
 use Rattle.csv.specs.declared.writer.Writer.{Writer}
 use Rattle.layer_core.specs.Layers.{Feature}
 use Rattle.report_core.specs.CsvTexts.{csv_text}
-use Rattle.report_core.specs.CsvWriting.{HasRows, AddsRow}
+use Rattle.join_core.specs.CsvWriting.{HasRows, AddsRow}
 use Rattle.join_core.specs.Bounds.{bounds_header, bounds_row, bounds_text}
 
 -- the rows that a writer has, and those of the features that are left, are those of these features

@@ -1,4 +1,5 @@
 pub mod BoundsLemmas
+pub mod CsvLemmas
 pub mod DrawRunLemmas
 pub mod EditsLemmas
 pub mod JoinLemmas

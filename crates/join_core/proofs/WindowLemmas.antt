@@ -7,7 +7,7 @@ use Rattle.geom_core.specs.declared.shape.Shape.{Shape}
 use Rattle.geom_core.specs.Cells.{Meets}
 use Rattle.layer_core.specs.Layers.{Feature, Contents}
 use Rattle.report_core.specs.CsvTexts.{csv_text}
-use Rattle.report_core.specs.CsvWriting.{HasRows, AddsRow}
+use Rattle.join_core.specs.CsvWriting.{HasRows, AddsRow}
 use Rattle.join_core.specs.Windows.{MeetingIds, none, met, missed, IsWindowList}
 
 abbrev window_rows : List (List ℕ) → List (List (List ℕ))

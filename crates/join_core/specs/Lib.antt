@@ -1,4 +1,5 @@
 pub mod Bounds
+pub mod CsvWriting
 pub mod DrawRuns
 pub mod FaultTexts
 pub mod Inputs

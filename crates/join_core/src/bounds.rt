@@ -2,13 +2,14 @@
 
 ghost use Rattle.std.specs.Prelude.{◌≡◌, false, IsTrue, IfOk, OnOk};
 ghost use Rattle.layer_core.specs.Walks.{feature_read};
-ghost use Rattle.report_core.specs.CsvWriting.{AddsRow};
+ghost use Rattle.join_core.specs.CsvWriting.{AddsRow};
 ghost use Rattle.join_core.specs.declared.fault.Input.{Input};
 ghost use Rattle.join_core.specs.Bounds.{ListsCorners, bounds_row, bounds_text};
 ghost use Rattle.join_core.specs.Jobs.{OnlyAt};
 ghost use Rattle.join_core.specs.LayerRuns.{LayerGives, IsLayerRunFault};
 ghost use Rattle.join_core.specs.Runs.{NoTextFault, RunEnds};
 
+use crate::csv_rows::{new_rows, push_row, rows_text};
 use crate::fault::RunFault;
 use crate::layer_run::{LayerText, run_on_layer};
 use crate::text::Text;
@@ -16,7 +17,7 @@ use csv::Writer;
 use file_core::Source;
 use itoa::Buffer;
 use layer_core::{FeatureList, FeatureRef};
-use report_core::{Sink, new_rows, push_row, rows_text};
+use report_core::Sink;
 use std::alloc::{AllocError, Global};
 use std::hash::RandomState;
 use std::thread::Threads;

@@ -3,6 +3,7 @@
 #![tactic(auto)]
 
 mod bounds;
+mod csv_rows;
 mod fault;
 mod fault_text;
 mod joins;

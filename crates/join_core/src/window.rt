@@ -7,13 +7,14 @@ ghost use Rattle.join_core.specs.Runs.{RunEnds};
 ghost use Rattle.join_core.specs.WindowRuns.{WindowGives, HasWindowFault, IsWindowFault};
 ghost use Rattle.join_core.specs.Windows.{IsWindowList};
 
+use crate::csv_rows::{new_rows, push_row, rows_text};
 use crate::fault::{Input, RunFault};
 use crate::layer_run::{LayerText, run_on_layer};
 use crate::text::Text;
 use file_core::Source;
 use geom_core::Shape;
 use layer_core::FeatureList;
-use report_core::{Sink, new_rows, push_row, rows_text};
+use report_core::Sink;
 use std::alloc::{AllocError, Global};
 use std::hash::RandomState;
 use std::thread::Threads;

@@ -88,6 +88,7 @@ impl JoinRelation {
 }
 
 ghost use Rattle.std.specs.Prelude.{◌≡◌, ℕ, ◌<◌, ◌↔◌, IsTrue};
+ghost use Rattle.std.specs.List.{filter_map};
 ghost use Rattle.relation_core.specs.Relations.{FitsOne};
 ghost use Rattle.relation_core.specs.DisjointShapes.{FitsDisjoint, boundary_extent};
 ghost use Rattle.relation_core.specs.DisjointShapes.{disjoint_matrix};
@@ -122,10 +123,13 @@ fn allows_disjoint_after(relation: &Relation, first_dim: u8) -> bool
 }
 
 /// Whether one of the masks fits.
-fn one_fits(masks: &[Mask], matrix: &Matrix) -> bool
-    ensures { IsTrue result ↔ FitsOne masks.now matrix.now }
+fn one_fits(masks: &[Option<Mask>; 4], matrix: &Matrix) -> bool
+    ensures { IsTrue result ↔ FitsOne (filter_map (λ given. given) masks.now) matrix.now }
 {
-    masks.iter().any(|mask| mask.fits(matrix))
+    masks
+        .iter()
+        .filter_map(|mask| *mask)
+        .any(|mask| mask.fits(matrix))
 }
 
 /// The matrix of two disjoint shapes of these dimensions: each part of one lies in the exterior

@@ -6,7 +6,6 @@ use crate::matrix::Matrix;
 use crate::part::Parts;
 use crate::pattern_value::PatternValue;
 use crate::relate;
-use arrayvec::ArrayVec;
 use geom_core::Shape;
 use std::cmp::Ordering;
 
@@ -52,6 +51,7 @@ pub enum Relation {
 
 impl Relation {
     ghost use Rattle.std.specs.Prelude.{◌≡◌, ◌≢◌, ◌≤◌, ℕ, ◌↔◌, length, IsTrue};
+    ghost use Rattle.std.specs.List.{filter_map};
     ghost use Rattle.relation_core.specs.Masks.{HasBadLetter};
     ghost use Rattle.relation_core.specs.Relations.{Holds, Spells, SpellsNothing, masks};
     ghost use Rattle.relation_core.specs.Relations.{HoldsOfSets};
@@ -74,37 +74,49 @@ impl Relation {
     }
 
     /// The masks of which one has to fit, for shapes of these two dimensions (OGC 06-103r4,
-    /// 6.1.15.3). No masks mean that the relation doesn't hold.
-    pub fn masks(&self, first_dim: u8, second_dim: u8) -> ArrayVec<Mask, 4>
+    /// 6.1.15.3), in order, with `None` at the places behind them. No masks mean that the relation
+    /// doesn't hold.
+    pub fn masks(&self, first_dim: u8, second_dim: u8) -> [Option<Mask>; 4]
         requires first { first_dim ≤ 2 }
         requires second { second_dim ≤ 2 }
-        ensures { result.items ≡ masks self.now first_dim second_dim }
+        ensures { filter_map (λ given. given) result ≡ masks self.now first_dim second_dim }
     {
         let anything = row(ANY, ANY, ANY);
         match self {
-            Relation::Mask(mask) => list(&[*mask]),
-            Relation::Disjoint => list(&[mask(row(F, F, ANY), row(F, F, ANY), anything)]),
-            Relation::Intersects => list(&[
-                mask(row(T, ANY, ANY), anything, anything),
-                mask(row(ANY, T, ANY), anything, anything),
-                mask(anything, row(T, ANY, ANY), anything),
-                mask(anything, row(ANY, T, ANY), anything),
-            ]),
-            Relation::Touches if first_dim == 0 && second_dim == 0 => list(&[]),
-            Relation::Touches => list(&[
-                mask(row(F, T, ANY), anything, anything),
-                mask(row(F, ANY, ANY), row(T, ANY, ANY), anything),
-                mask(row(F, ANY, ANY), row(ANY, T, ANY), anything),
-            ]),
+            Relation::Mask(mask) => at_most_one(Some(*mask)),
+            Relation::Disjoint => at_most_one(Some(mask(row(F, F, ANY), row(F, F, ANY), anything))),
+            Relation::Intersects => [
+                Some(mask(row(T, ANY, ANY), anything, anything)),
+                Some(mask(row(ANY, T, ANY), anything, anything)),
+                Some(mask(anything, row(T, ANY, ANY), anything)),
+                Some(mask(anything, row(ANY, T, ANY), anything)),
+            ],
+            Relation::Touches if first_dim == 0 && second_dim == 0 => at_most_one(None),
+            Relation::Touches => [
+                Some(mask(row(F, T, ANY), anything, anything)),
+                Some(mask(row(F, ANY, ANY), row(T, ANY, ANY), anything)),
+                Some(mask(row(F, ANY, ANY), row(ANY, T, ANY), anything)),
+                None,
+            ],
             Relation::Crosses => crosses_masks(first_dim, second_dim),
-            Relation::Within => list(&[mask(row(T, ANY, F), row(ANY, ANY, F), anything)]),
-            Relation::Contains => list(&[mask(row(T, ANY, ANY), anything, row(F, F, ANY))]),
-            Relation::Overlaps if first_dim != second_dim => list(&[]),
+            Relation::Within => at_most_one(Some(mask(row(T, ANY, F), row(ANY, ANY, F), anything))),
+            Relation::Contains => at_most_one(Some(mask(
+                row(T, ANY, ANY),
+                anything,
+                row(F, F, ANY),
+            ))),
+            Relation::Overlaps if first_dim != second_dim => at_most_one(None),
             Relation::Overlaps if first_dim == 1 => {
-                list(&[mask(row(ONE, ANY, T), anything, row(T, ANY, ANY))])
+                at_most_one(Some(mask(row(ONE, ANY, T), anything, row(T, ANY, ANY))))
             }
-            Relation::Overlaps => list(&[mask(row(T, ANY, T), anything, row(T, ANY, ANY))]),
-            Relation::Equals => { list(&[mask(row(T, ANY, F), row(ANY, ANY, F), row(F, F, ANY))]) }
+            Relation::Overlaps => at_most_one(Some(mask(
+                row(T, ANY, T),
+                anything,
+                row(T, ANY, ANY),
+            ))),
+            Relation::Equals => {
+                at_most_one(Some(mask(row(T, ANY, F), row(ANY, ANY, F), row(F, F, ANY))))
+            }
         }
     }
 
@@ -129,7 +141,8 @@ impl Relation {
     }
 }
 
-ghost use Rattle.std.specs.Prelude.{◌≡◌, ◌≤◌, ◌↔◌, length, IfSome, IfNone, IsTrue};
+ghost use Rattle.std.specs.Prelude.{◌≡◌, ◌↔◌, ◌∷◌, [], None, length, IfSome, IfNone, IsTrue};
+ghost use Rattle.std.specs.List.{filter_map};
 ghost use Rattle.relation_core.specs.Masks.{row};
 ghost use Rattle.relation_core.specs.Relations.{FitsOne, IsNamed, Spells, mask, masks};
 
@@ -161,17 +174,17 @@ fn named(text: &[u8]) -> Option<Relation>
 }
 
 /// The masks of `Crosses`.
-fn crosses_masks(first_dim: u8, second_dim: u8) -> ArrayVec<Mask, 4>
-    ensures { result.items ≡ masks Relation.Crosses first_dim second_dim }
+fn crosses_masks(first_dim: u8, second_dim: u8) -> [Option<Mask>; 4]
+    ensures { filter_map (λ given. given) result ≡ masks Relation.Crosses first_dim second_dim }
 {
     let anything = row(ANY, ANY, ANY);
     match first_dim.cmp(&second_dim) {
-        Ordering::Less => list(&[mask(row(T, ANY, T), anything, anything)]),
-        Ordering::Greater => list(&[mask(row(T, ANY, ANY), anything, row(T, ANY, ANY))]),
+        Ordering::Less => at_most_one(Some(mask(row(T, ANY, T), anything, anything))),
+        Ordering::Greater => at_most_one(Some(mask(row(T, ANY, ANY), anything, row(T, ANY, ANY)))),
         Ordering::Equal if first_dim == 1 => {
-            list(&[mask(row(ZERO, ANY, ANY), anything, anything)])
+            at_most_one(Some(mask(row(ZERO, ANY, ANY), anything, anything)))
         }
-        Ordering::Equal => list(&[]),
+        Ordering::Equal => at_most_one(None),
     }
 }
 
@@ -242,12 +255,9 @@ fn mask(
     }
 }
 
-/// The masks as a list that takes no memory.
-fn list(masks: &[Mask]) -> ArrayVec<Mask, 4>
-    requires { length masks.now ≤ 4 }
-    ensures { result.items ≡ masks.now }
+/// At most one mask.
+fn at_most_one(mask: Option<Mask>) -> [Option<Mask>; 4]
+    ensures { result ≡ mask ∷ None ∷ None ∷ None ∷ [] }
 {
-    let mut list = ArrayVec::new();
-    list.try_extend_from_slice(masks).unwrap();
-    list
+    [mask, None, None, None]
 }

@@ -1,6 +1,5 @@
 pub mod Columns
 pub mod CsvTexts
-pub mod CsvWriting
 pub mod ReportRows
 pub mod Reports
 pub mod ToWrite

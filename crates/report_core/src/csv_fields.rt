@@ -4,7 +4,7 @@ ghost use Rattle.std.specs.Prelude.{◌≡◌, ◌++◌, IfOk, OnOk};
 ghost use Rattle.csv.specs.Writing.{default_writer, field_text, needs_quotes};
 ghost use Rattle.report_core.specs.CsvTexts.{leading_field};
 
-use crate::csv_rows::new_rows;
+use csv::Writer;
 use std::alloc::{AllocError, Global};
 
 /// Adds a field to a text, and the comma behind it.
@@ -46,7 +46,7 @@ fn needs_quotes(field: &[u8]) -> bool
 fn field_text(alloc: Global, field: &[u8]) -> Result<Vec<u8>, AllocError>
     ensures { IfOk result (λ text. text.items ≡ field_text default_writer field.now) }
 {
-    let mut writer = new_rows(alloc);
+    let mut writer = Writer::from_writer(Vec::new(alloc));
     match writer.write_field(field) {
         Ok(()) => match writer.into_inner() {
             Ok(text) => Ok(text),

@@ -2,13 +2,13 @@
 
 ghost use Rattle.std.specs.Prelude.{◌≡◌, [], List, ℕ, IfOk, OnOk, map};
 ghost use Rattle.report_core.specs.CsvTexts.{csv_text};
-ghost use Rattle.report_core.specs.CsvWriting.{HasRows, AddsRow};
+ghost use Rattle.join_core.specs.CsvWriting.{HasRows, AddsRow};
 
 use csv::Writer;
 use std::alloc::{AllocError, Global};
 
 /// A writer over memory that has written no row.
-pub fn new_rows(alloc: Global) -> Writer<Vec<u8>>
+pub(crate) fn new_rows(alloc: Global) -> Writer<Vec<u8>>
     ensures { HasRows result [] }
 {
     Writer::from_writer(Vec::new(alloc))
@@ -19,7 +19,7 @@ pub fn new_rows(alloc: Global) -> Writer<Vec<u8>>
 /// # Errors
 /// Only where memory runs out: a writer over memory fails for nothing else.
 #[tactic(auto, using(crate::proofs::CsvLemmas::row_pushed))]
-pub fn push_row(writer: &mut Writer<Vec<u8>>, row: &[&[u8]]) -> Result<(), AllocError>
+pub(crate) fn push_row(writer: &mut Writer<Vec<u8>>, row: &[&[u8]]) -> Result<(), AllocError>
     ensures { OnOk result (AddsRow writer.old writer.new (map (λ field. field.now) row.now)) }
 {
     match writer.write_fields(row) {
@@ -32,7 +32,7 @@ pub fn push_row(writer: &mut Writer<Vec<u8>>, row: &[&[u8]]) -> Result<(), Alloc
 ///
 /// # Errors
 /// Only where memory runs out.
-pub fn rows_text(writer: Writer<Vec<u8>>) -> Result<Vec<u8>, AllocError>
+pub(crate) fn rows_text(writer: Writer<Vec<u8>>) -> Result<Vec<u8>, AllocError>
     ensures { IfOk result (λ text. (rows : List (List (List ℕ))) → HasRows writer rows
         → text.items ≡ csv_text rows) }
 {

@@ -7,7 +7,7 @@ use Rattle.csv.specs.declared.writer.QuoteStyle.TheVariants.{NonNumeric}
 use Rattle.csv.specs.declared.writer.Writer.{Writer}
 use Rattle.csv.specs.declared.writer.WriterBuilder.{WriterBuilder}
 use Rattle.report_core.specs.CsvTexts.{csv_text}
-use Rattle.report_core.specs.CsvWriting.{contents_of, HasRows, AddsRow}
+use Rattle.join_core.specs.CsvWriting.{contents_of, HasRows, AddsRow}
 
 appended : (old new : Option (List ℕ)) (before more : List ℕ) → old ≡ Some before → Appends old new more → new ≡ Some (before ++ more)
 appended None new before more p h = absurd (let bad : None ≡ Some before = p in cc)
