@@ -1,8 +1,12 @@
-//! What no clause of `geom_core` and `relation_core` says: worked examples, and plain scans over
-//! cells written apart from their code. A crate of its own, since a crate with tests is proved
-//! twice.
+//! What no clause of `geom_core`, `relation_core` and `wkt_core` says: worked examples, readings and
+//! spellings, texts of any length, and plain scans over cells written apart from their code. A crate
+//! of its own, since a crate with tests is proved twice.
 #![tactic(auto)]
 
+#[cfg(test)]
+mod drawings;
+#[cfg(test)]
+mod long_texts;
 #[cfg(test)]
 mod masks;
 #[cfg(test)]
@@ -10,6 +14,14 @@ mod matrices;
 #[cfg(test)]
 mod matrix_scan;
 #[cfg(test)]
+mod plain;
+#[cfg(test)]
+mod readings;
+#[cfg(test)]
+mod related;
+#[cfg(test)]
 mod relation_scan;
+#[cfg(test)]
+mod scales;
 #[cfg(test)]
 mod shapes;

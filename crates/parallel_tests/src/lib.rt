@@ -1,7 +1,11 @@
-//! Tests of `parallel_core` from outside: what one worker sends, and what
-//! several deliver.
+//! Tests of `descent_core` and `parallel_core` from outside: plans and the rows of their tasks, what
+//! one worker sends, and what several deliver.
 #![tactic(auto)]
 
+#[cfg(test)]
+mod descent_refused;
+#[cfg(test)]
+mod descent_rows;
 #[cfg(test)]
 mod expected;
 #[cfg(test)]

@@ -1,6 +1,7 @@
-//! Whichever growth is refused, the same call is done with memory, and gives what it would have.
+//! Plans and rows of tasks: whichever growth is refused, the same call is done with memory, and
+//! gives what it would have.
 
-use crate::rows::are_diagonal;
+use crate::descent_rows::are_diagonal;
 use descent_core::{Plan, row};
 use relation_core::{JoinRelation, Relation};
 use rtree_core::RTree;

@@ -1,4 +1,4 @@
-//! The worked rows.
+//! The worked rows of plans and of the rows of their tasks.
 
 use descent_core::{Plan, row};
 use relation_core::{JoinRelation, Relation};
