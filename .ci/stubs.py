@@ -1,4 +1,5 @@
-"""Stubs of functions: each has the contract of its function and no body, and a hole in place of a proof."""
+"""Stubs, by which what `rt ci` proves isn't proved once more: a stub of a function has its contract and no body, and a
+lemma is taken as it is stated."""
 import os
 import re
 from collections.abc import Iterator
@@ -12,10 +13,18 @@ FREE = re.compile(FUNCTION % (("",) * 3))
 METHOD = re.compile(FUNCTION % ((" {4}",) * 3))
 IMPL = re.compile(r"(?m)^impl(?:<.*>)? (\w+)(?:<.*>)? {\n(?:.*\n)+?}\n")
 TYPE = re.compile(r"(?m)^(?:pub(?:\(\w+\))? )?(?:struct|enum) (\w+)")
-PROOF = """use Rattle.{crate}.proofs.{path}.Statement.{{statement}}
+# A lemma with a proof: the indent, the statement, the name, and then the clauses of its proof with what is below them.
+LEMMA = re.compile(r"(?m)^( *)((?:pub )?(\S+) :(?: .*)?\n(?:\1 .*\n|\1unfolding .*\n)*)"
+                   r"(?:\1\3 .*\n(?:\1[] })].*\n|\n(?=\1 ))*)+")
+# The one hole that stubs and lemmas rest on: a goal for each would be worked out and printed.
+ADMITTED = """pub admitted {ℓ} : {A : Type ℓ} → A
+admitted = ?
+"""
+PROOF = """use Rattle.{crate}.proofs.Admitted.{{admitted}}
+use Rattle.{crate}.proofs.{path}.Statement.{{statement}}
 
 pub {name}_spec : {{M : Type 1}} → statement M
-{name}_spec = ?
+{name}_spec = admitted
 """
 
 
@@ -53,10 +62,28 @@ def is_fixed(folder: str, path: list[str], function: str) -> bool:
     return "const fn" in function or "#[cycle" in function or any(path[-1] in it.split("+") for it in cycles)
 
 
+def hole_of(crate: str) -> str:
+    """The hole that stubs and lemmas rest on, by the prover's name."""
+    return f"Rattle.{crate}.proofs.Admitted.admitted"
+
+
+def admitted(folder: str) -> Texts:
+    """Returns the texts of a crate's files of lemmas where each lemma is taken as it is stated."""
+    texts = {}
+    for file in glob("proofs/*.antt", root_dir=folder):
+        text, count = LEMMA.subn(r"\1\2\1\3 = admitted\n", read(f"{folder}/{file}"))
+        if count:
+            texts[file] = f"use Rattle.{os.path.basename(folder)}.proofs.Admitted.{{admitted}}\n{text}"
+    return texts
+
+
 def stubbed(folder: str, texts: Texts, written_out: set[str]) -> tuple[Texts, list[str]]:
     """Returns the texts of a crate's files with a stub for each function that isn't written out and can have one, and
     these functions."""
     texts, stubs, crate = dict(texts), [], os.path.basename(folder)
+    modules = f"{folder}/proofs/Lib.antt"
+    texts["proofs/Lib.antt"] = "pub mod Admitted\n" + (read(modules) if os.path.isfile(modules) else "")
+    texts["proofs/Admitted.antt"] = ADMITTED
     for path, file, indent, function in functions(folder, texts):
         text, name = texts.get(file) or read(f"{folder}/{file}"), "::".join(path)
         if name in written_out or is_fixed(folder, path, function) or text.count(function) != 1:
