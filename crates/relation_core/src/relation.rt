@@ -74,8 +74,8 @@ impl Relation {
     }
 
     /// The masks of which one has to fit, for shapes of these two dimensions (OGC 06-103r4,
-    /// 6.1.15.3), in order; a place that has none is `None`. No masks mean that the relation doesn't
-    /// hold.
+    /// 6.1.15.3), in order; a place that has none is `None`. No masks mean that the relation
+    /// doesn't hold.
     pub fn masks(&self, first_dim: u8, second_dim: u8) -> [Option<Mask>; 4]
         requires first { first_dim ≤ 2 }
         requires second { second_dim ≤ 2 }
