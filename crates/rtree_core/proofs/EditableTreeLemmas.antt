@@ -1,5 +1,5 @@
 -- What insertions into a tree do, one after another.
-use Rattle.std.proofs.Common.{arith, ◌≡◌, ℕ, zero, suc, ◌+◌, ◌*◌, ◌<◌, ◌≤◌, Bool, true, false, cond, List, [], ◌∷◌, ◌++◌, refl, ◌∙◌, ap, append-nil}
+use Rattle.std.proofs.Common.{arith, ◌≡◌, ℕ, zero, suc, ◌+◌, ◌*◌, ◌<◌, ◌≤◌, Bool, true, false, cond, List, [], ◌∷◌, ◌++◌, refl, ◌∙◌, ap, append-nil, length, ◌^◌}
 use Rattle.std.specs.Prelude.{vec_len, Option, None, Some, IsSomeAnd}
 use Rattle.std.proofs.lemmas.Nat.{mul-le}
 use Rattle.std.proofs.lemmas.List.Elements.{All-push, All-cons, All-nil}
@@ -16,9 +16,10 @@ use Rattle.rtree_core.specs.Nodes.{entries_of, level_of, size_of, IsLawfulAt}
 use Rattle.rtree_core.specs.FreeLists.{AreFree, IsFree, IsSpent}
 use Rattle.split_core.specs.Collections.{HasSame}
 use Rattle.split_core.specs.Splits.{IsRoom}
-use Rattle.rtree_core.specs.Trees.{entries_in, height_of, IsRoot}
+use Rattle.rtree_core.specs.Trees.{entries_in, height_of, IsFresh, IsRoot, IsTree}
 use Rattle.rtree_core.specs.EditableTrees.{IsSound, IsRooted, CanTake, HasTakenIn, HasGrownBy}
 use Rattle.rtree_core.proofs.NodeLemmas.{leaf_some, lawful_level, lawful_is}
+use Rattle.rtree_core.proofs.TreeLemmas.{tree_gains, same_length}
 
 -- lists for more insertions are enough for fewer
 pub can_take_less : (m n : ℕ) (t : EditableTree) → m ≤ n → CanTake n t → CanTake m t
@@ -230,3 +231,20 @@ took_both i j xs ys r q p first second = record {
   spent = λ n e. second.spent n (first.spent (j + n) (can_take_less (i + (j + n)) ((i + j) + n) r (omega arith) e));
   rooted = λ h. second.rooted (first.rooted h);
 }
+
+-- a tree whose root had not changed took an entry in
+pub tree_takes : (x : Entry) (root : Option Node) (old new : EditableTree) →
+    x.number < 2 ^ 32 →
+    IsFresh x.number root →
+    IsTree root →
+    old.root ≡ root →
+    HasTakenIn 1 (x ∷ []) old new →
+    IsTree new.root
+tree_takes x root old new small fresh tree is took =
+    tree_gains x root new.root small fresh tree (rw is at took.gains) (took.rooted (rw is tree.lawful))
+
+pub takes_length : (x : Entry) (root : Option Node) (old new : EditableTree) →
+    old.root ≡ root →
+    HasTakenIn 1 (x ∷ []) old new →
+    length (entries_in root) + 1 ≡ length (entries_in new.root)
+takes_length x root old new is took = omega (arith, same_length (x ∷ entries_in root) (entries_in new.root) (rw is at took.gains))

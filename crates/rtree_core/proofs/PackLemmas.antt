@@ -11,7 +11,7 @@ use Rattle.std.proofs.Math.Nat.{mul-le-mul_left}
 use Rattle.std.proofs.lemmas.Bool.{cases_lt}
 use Rattle.std.proofs.lemmas.Bool.Decides.{nat_tests}
 use Rattle.std.proofs.lemmas.Result.{IfOk-weaker}
-use Rattle.std.proofs.lemmas.List.{flat_map_more}
+use Rattle.std.proofs.lemmas.List.{flat_map_more, length-map}
 use Rattle.std.proofs.lemmas.List.Concat.{flat_map-append}
 use Rattle.std.proofs.lemmas.List.Elements.{All-nil, All-head, All-tail, All-push, All-append}
 use Rattle.std.proofs.lemmas.List.Sorted.{All-permutation, sum_by-IsPermutation, length_permutation, IsPermutation-map}
@@ -343,6 +343,24 @@ level_tiles n old slice new above all len perm order pages = record {
   pages = pages;
 }
 
+-- the same of what a level was made into, if there was memory for it
+pub above_made : {E : Type 0} (n : ℕ) (old slice new : List Placed) (made : Result (Vec Placed Global) E) →
+    slice ≡ old →
+    length slice ≡ n →
+    IsPermutation slice new →
+    IfOk made (λ v. AreNodesOf entries_of FitsInner FitsPacked (map (λ p. p.node) (take n (new ++ drop (length new) old))) (map (λ p. p.node) v.items)) →
+    IfOk made (λ v. AreNodesOf entries_of FitsInner FitsPacked (map (λ p. p.node) old) (map (λ p. p.node) v.items))
+above_made n old slice new made all len perm = IfOk-weaker made _ _ (λ v h. level_nodes n old slice new _ all len perm h)
+
+pub above_tiled : {E : Type 0} (n : ℕ) (old slice new : List Placed) (made : Result (Vec Placed Global) E) →
+    slice ≡ old →
+    length slice ≡ n →
+    IsPermutation slice new →
+    IsTileOrder (λ p. p.node.cover) (λ p. p.place) new →
+    IfOk made (λ v. map children_of (map (λ p. p.node) v.items) ≡ pages_of (map (λ p. p.node) (take n (new ++ drop (length new) old)))) →
+    IfOk made (λ v. AreTilesOf (λ p. p.node.cover) (λ p. p.place) (λ p. p.node) children_of old (map (λ p. p.node) v.items))
+above_tiled n old slice new made all len perm order = IfOk-weaker made _ _ (λ v h. level_tiles n old slice new _ all len perm order h)
+
 -- all nodes of a level of the tree, with the height of the tree up to it
 pub record IsRow (all : List Entry) (nodes : List Node) (height : ℕ) : Type 0 where
   pub level : ℕ
@@ -442,3 +460,29 @@ row_root all n height distinct small row =
       packing = subst (λ l. IsPackedLevel all l (n ∷ [])) (sym level) row.packing;
       height_is = omega (arith, row.height_is, level);
     }
+
+-- the same of a node that was told to be this one
+pub row_root_is : (all : List Entry) (n m : Node) (height : ℕ) →
+    m ≡ n →
+    ((k : ℕ) → count_by (has_number k) all ≤ 1) →
+    All HasU32 all →
+    IsRow all (n ∷ []) height →
+    IsPackedTree all m height
+row_root_is all n m height is distinct small row = rw is (row_root all n height distinct small row)
+
+-- a level above is higher by one, and has fewer nodes
+pub small_above : (height : ℕ) (below above : Vec Placed Global) →
+    2 ≤ length (map (λ p. p.node) below.items) →
+    AreNodesOf entries_of FitsInner FitsPacked (map (λ p. p.node) below.items) (map (λ p. p.node) above.items) →
+    height + vec_len below ≤ 2 ^ 31 →
+    height + 1 + vec_len above ≤ 2 ^ 31
+small_above height below above many made small =
+    let node : Placed → Node = λ p. p.node in
+    omega (
+      arith,
+      fewer_above _ _ many made,
+      below.ok.0,
+      above.ok.0,
+      length-map below.items node,
+      length-map above.items node,
+    )

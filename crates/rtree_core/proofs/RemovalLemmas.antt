@@ -4,9 +4,9 @@ use Rattle.std.specs.Vec.{with_items}
 use Rattle.std.specs.declared.alloc.Global.{Global}
 use Rattle.std.specs.declared.vec.Vec.{Vec}
 use Rattle.std.proofs.Props.{props}
-use Rattle.std.proofs.Common.{arith, ◌≡◌, ℕ, zero, suc, ◌+◌, ◌<◌, ◌≤◌, Bool, true, false, List, [], ◌∷◌, length, get_or, refl, sym, ◌∙◌, ap, subst, inl, inr}
+use Rattle.std.proofs.Common.{arith, ◌≡◌, ℕ, zero, suc, ◌+◌, ◌<◌, ◌≤◌, Bool, true, false, List, [], ◌∷◌, length, get_or, refl, sym, ◌∙◌, ap, subst, ◌⊎◌, inl, inr}
 use Rattle.std.proofs.Common.{below_more}
-use Rattle.std.specs.Prelude.{Contains, Option, Some, ◌&&◌, not, nat_eq, ℤ}
+use Rattle.std.specs.Prelude.{◌↔◌, IsTrue, IsSomeAnd, Contains, Option, Some, ◌&&◌, not, nat_eq, ℤ}
 use Rattle.std.specs.List.{flat_map}
 use Rattle.std.specs.Ordering.{int_eq}
 use Rattle.std.proofs.lemmas.List.Elements.{Contains-append_left, Contains-append_right, Contains-append_cases, All-contains}
@@ -67,6 +67,16 @@ entry_same a b h =
 pub entry_itself : (a : Entry) → eq-value.it a a ≡ true
 entry_itself a = grind (arith, nat_tests, ints)
 
+tested : (a b : Entry) (t : Bool) → eq-value.it a b ≡ t → (t ≡ false) ⊎ (a ≡ b)
+tested a b true h = inr (entry_same a b h)
+tested a b false h = inl refl
+
+-- what the test of two entries says
+pub same_or_not : (a b : Entry) → (eq-value.it a b ≡ false) ⊎ (a ≡ b)
+same_or_not a b = tested a b _ refl
+
+pub ruleset entry_tests = (same_or_not, entry_itself)
+
 pub differ_not : (a b : Entry) → not (eq-value.it a b) ≡ false → a ≡ b
 differ_not a b h = entry_same a b (grind (arith, h))
 
@@ -113,8 +123,39 @@ other_entry root leaf x e es is one held there differs h =
     let equal : eq-value.it x e ≡ true = ap (λ z. eq-value.it x z) same ∙ entry_itself x in
     false≢true (ap not (sym equal) ∙ differs)
 
-pub found_at : (es : List Entry) (e : Entry) (p : ℕ) (x : Entry) → p < length es → x ≡ get_or es p x → x ≡ e → IsPlaceOf es e p
-found_at es e p x lt at same = record { inside = lt; there = subst (λ z. get_or es p z ≡ z) same (sym at) }
+-- what the test of the one entry of a root that is a leaf says
+pub only_there : (root : Option Node) (leaf : Node) (x e : Entry) (es : List Entry) (differs : Bool) →
+    root ≡ Some leaf →
+    IsSomeAnd root (λ n. IsLawfulAt 0 n × (size_of n ≡ 1)) →
+    es ≡ entries_of leaf →
+    x ≡ get_or es 0 x →
+    differs ≡ not (eq-value.it x e) →
+    differs ≡ false →
+    entries_in root ≡ e ∷ []
+only_there root leaf x e es differs is one held there test same =
+    the_entry root leaf x e es is (rw is at one) held there (differ_not x e (sym test ∙ same))
+
+pub only_holds : (root : Option Node) (leaf : Node) (x e : Entry) (es : List Entry) (differs : Bool) →
+    root ≡ Some leaf →
+    IsSomeAnd root (λ n. IsLawfulAt 0 n × (size_of n ≡ 1)) →
+    es ≡ entries_of leaf →
+    x ≡ get_or es 0 x →
+    differs ≡ not (eq-value.it x e) →
+    differs ≡ false →
+    IsTrue true ↔ Contains (entries_in root) e
+only_holds root leaf x e es differs is one held there test same =
+    (λ h. holds_only _ _ (only_there root leaf x e es differs is one held there test same), λ h. refl)
+
+pub other_there : (root : Option Node) (leaf : Node) (x e : Entry) (es : List Entry) (differs : Bool) →
+    root ≡ Some leaf →
+    IsSomeAnd root (λ n. IsLawfulAt 0 n × (size_of n ≡ 1)) →
+    es ≡ entries_of leaf →
+    x ≡ get_or es 0 x →
+    differs ≡ not (eq-value.it x e) →
+    differs ≡ true →
+    IsTrue false ↔ Contains (entries_in root) e
+other_there root leaf x e es differs is one held there test other =
+    (λ h. absurd (false≢true h), λ h. absurd (other_entry root leaf x e es is (rw is at one) held there (sym test ∙ other) h))
 
 pub not_there : (es : List Entry) (e : Entry) (p : ℕ) (x : Entry) → p < length es → x ≡ get_or es p x → eq-value.it x e ≡ false → get_or es p e ≡ e → ⊥
 not_there es e p x lt at differ there =

@@ -159,3 +159,10 @@ tree_loses x old new tree loses lawful = record {
   distinct = λ k. omega (arith, tree.distinct k, loses (has_number k), sum_by-cons (λ y. cond {A = ℕ} (has_number k y) 1 0) x (entries_in new));
   in_range = λ k h. omega (arith, tree.in_range k h, loses (has_number k), sum_by-cons (λ y. cond {A = ℕ} (has_number k y) 1 0) x (entries_in new));
 }
+
+-- the same of a tree whose root was this one
+pub tree_loses_of : (x : Entry) (root old new : Option Node) → old ≡ root → IsTree root → Gains x (entries_in new) (entries_in old) → IfSome new IsRoot → IsTree new
+tree_loses_of x root old new is tree loses lawful = tree_loses x root new tree (rw is at loses) lawful
+
+pub loses_length : (x : Entry) (root old new : Option Node) → old ≡ root → Gains x (entries_in new) (entries_in old) → length (entries_in new) + 1 ≡ length (entries_in root)
+loses_length x root old new is loses = omega (arith, same_length (x ∷ entries_in new) (entries_in root) (rw is at loses))

@@ -1,7 +1,7 @@
 -- The search for the entries that meet a window, piece by piece.
 use Rattle.std.proofs.Common.{arith, ◌≡◌, ℕ, zero, suc, ◌+◌, ◌<◌, ◌≤◌, cond, List, [], ◌∷◌, ◌++◌, length, get_or, take, refl, sym, ◌∙◌, ap, subst, append_assoc}
 use Rattle.std.proofs.Common.{inl, inr}
-use Rattle.std.specs.Prelude.{All, Any, Contains, count_by, nat_eq}
+use Rattle.std.specs.Prelude.{All, Any, Contains, count_by, nat_eq, Option, Some}
 use Rattle.std.specs.List.{flat_map}
 use Rattle.std.specs.List.Sorted.{IsStrictlyIncreasing, IsNonDecreasing, IsPermutation}
 use Rattle.std.proofs.lemmas.Bool.{cases_eq}
@@ -17,7 +17,7 @@ use Rattle.rtree_core.specs.declared.node.Entry.{Entry}
 use Rattle.rtree_core.specs.declared.node.Node.{Node}
 use Rattle.split_core.specs.Covers.{IsLeastCover}
 use Rattle.rtree_core.specs.Nodes.{entries_of, children_of, IsLawfulAt}
-use Rattle.rtree_core.specs.Trees.{has_number}
+use Rattle.rtree_core.specs.Trees.{entries_in, has_number}
 use Rattle.rtree_core.specs.Windows.{AllMet, AllFound, Picks, none, met, missed, Adds}
 use Rattle.split_core.proofs.CoverLemmas.{in_trans, All-front, All-back}
 use Rattle.rtree_core.proofs.NodeLemmas.{HasChildren, has_children, has_entries}
@@ -98,6 +98,11 @@ pub adds_more_child : (w : Shape) (xs : List Node) (i : ℕ) (n : Node) (a b c :
     i < length xs → n ≡ get_or xs i n → Adds w (flat_map entries_of (take i xs)) a b → Adds w (entries_of n) b c → Adds w
     (flat_map entries_of (take (i + 1) xs)) a c
 adds_more_child w xs i n a b c lt at p q = rw (below_more xs i n lt at) (adds_append w (flat_map entries_of (take i xs)) (entries_of n) a b c p q)
+
+-- what was added to an empty list for a root
+pub found_in : (w : Shape) (root : Option Node) (n : Node) (old found : List ℕ) →
+    root ≡ Some n → old ≡ [] → Adds w (entries_of n) old found → Adds w (entries_in root) [] found
+found_in w root n old found is empty p = rw (is, ← empty) p
 
 -- no entry meets a window that its node's cover doesn't meet
 pub adds_pruned : (w : Shape) (l : ℕ) (n : Node) (old : List ℕ) → IsLawfulAt l n → (Meets n.cover w → ⊥) → Adds w (entries_of n) old old

@@ -94,7 +94,8 @@ impl EditableTree {
         match &mut self.root {
             None => unreachable!(),
             Some(root) => {
-                if let Some(second) = insert_into(root, item, steps, &mut self.free) {
+                let split = insert_into(root, item, steps, &mut self.free);
+                if let Some(second) = split {
                     self.add_level(second);
                 }
             }

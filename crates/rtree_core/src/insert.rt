@@ -127,9 +127,10 @@ fn halve<T: Item>(list: &mut Vec<T>, free: &mut Vec<Vec<T>>) -> Node
     let mut one = take_list(free);
     let mut two = take_list(free);
     split(list, &mut one, &mut two);
+    let second = T::node_of(two);
     let emptied = mem::replace(list, one);
     free.push_reserved(emptied);
-    T::node_of(two)
+    second
 }
 
 /// Puts an item into a node that is so many levels below this one, or into this one, and gives the
@@ -177,7 +178,9 @@ fn insert_below<T: Insertable>(
 {
     let shape = item.cover();
     let place = choose(children, &shape);
-    match insert_into(&mut children[place], item, steps, free) {
+    let child = &mut children[place];
+    let split = insert_into(child, item, steps, free);
+    match split {
         None => {
             *cover = cover.cover(&shape);
             None

@@ -138,7 +138,8 @@ fn next_page<T: Packable>(
         let Some(item) = items.next() else {
             unreachable!()
         };
-        page.push_reserved(item.into_held());
+        let held = item.into_held();
+        page.push_reserved(held);
     }
     Ok(page)
 }
@@ -154,11 +155,13 @@ fn nodes_of<T: Packable>(alloc: Global, items: Vec<T>) -> Result<Vec<Placed>, Al
         map (λ p. (p.place, p.node)) v.items ≡ enumerate_from 0 (map (λ p. p.node) v.items)) }
     ensures in_range { OnOk result (All T.in_range (map T.held items.items)) }
 {
-    let pages = items.len().div_ceil(MOST);
+    let count = items.len();
+    let pages = count.div_ceil(MOST);
     let mut rest = items.into_iter();
     let mut nodes = Vec::with_capacity(alloc, pages)?;
     for place in 0..pages {
-        let size = page_size(rest.len(), pages - place);
+        let left = rest.len();
+        let size = page_size(left, pages - place);
         let page = next_page(alloc, &mut rest, size)?;
         let node = T::Held::node_of(page);
         nodes.push_reserved(Placed { node, place });
@@ -191,7 +194,8 @@ pub(crate) fn pack_entries(alloc: Global, entries: Vec<Entry>) -> Result<(Node, 
     let mut nodes = nodes_of(alloc, entries)?;
     let mut height = 1;
     while nodes.len() > 1 {
-        nodes = level_above(alloc, nodes)?;
+        let above = level_above(alloc, nodes)?;
+        nodes = above;
         height += 1;
     }
     match nodes.pop() {

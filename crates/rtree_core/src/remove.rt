@@ -48,6 +48,7 @@ impl EditableTree {
     }
 
     /// Empties a tree whose one entry is this one.
+    #[tactic(auto, using(crate::proofs::Rules::remove_last))]
     fn remove_last(&mut self, entry: &Entry) -> bool
         requires leaf { IsSomeAnd self.old.root (λ n. IsLawfulAt 0 n × (size_of n ≡ 1)) }
         ensures held { IsTrue result ↔ Contains (entries_in self.old.root) entry.now }
@@ -123,10 +124,13 @@ fn take_from_inner(
         (cover.new ≡ cover.old) × (children.new ≡ children.old) × (aside.new.items ≡ []) }
     ensures capacity { vec_capacity aside.new ≡ vec_capacity aside.old }
 {
-    let Some(place) = take_from_one(children, entry, aside) else {
+    let found = take_from_one(children, entry, aside);
+    let Some(place) = found else {
         return false;
     };
-    if children[place].size() < FEWEST {
+    let node = &children[place];
+    let is_short = node.size() < FEWEST;
+    if is_short {
         let child = children.remove(place);
         aside.push_reserved(child);
     }
@@ -145,7 +149,8 @@ fn take_from_one(nodes: &mut [Node], entry: &Entry, aside: &mut Vec<Node>) -> Op
     ensures capacity { vec_capacity aside.new ≡ vec_capacity aside.old }
 {
     for (place, node) in nodes.iter_mut().enumerate() {
-        if entry.shape.is_in(&node.cover) && take_out(node, entry, aside) {
+        let may_hold = entry.shape.is_in(&node.cover);
+        if may_hold && take_out(node, entry, aside) {
             return Some(place);
         }
     }
@@ -153,7 +158,7 @@ fn take_from_one(nodes: &mut [Node], entry: &Entry, aside: &mut Vec<Node>) -> Op
 }
 
 /// The place of an entry in a list.
-#[tactic(auto, using(crate::proofs::RemovalLemmas::not_there))]
+#[tactic(auto, using(crate::proofs::Rules::place_of))]
 fn place_of(entries: &[Entry], entry: &Entry) -> Option<usize>
     ensures found { IfSome result (IsPlaceOf entries.now entry.now) }
     ensures none { IfNone result (Contains entries.now entry.now → ⊥) }

@@ -70,6 +70,7 @@ impl RTree {
     /// and Edgington 1997).
     ///
     /// Each node below the root has 4 to 8 entries or children. An `Err` drops the list.
+    #[tactic(auto, using(crate::proofs::PackLemmas::list_tiled))]
     pub fn pack(alloc: Global, mut entries: Vec<Entry>) -> Result<RTree, AllocError>
         requires distinct { (k : ℕ) → count_by (has_number k) entries.items ≤ 1 }
         ensures entries { IfOk result (λ t. HasSame entries.items (entries_in t)) }
@@ -84,6 +85,7 @@ impl RTree {
     /// Packs entries into the same tree as `pack` does, by at most so many threads.
     ///
     /// By 0 or 1 it starts no thread. An `Err` drops the list.
+    #[tactic(auto, using(crate::proofs::PackLemmas::list_tiled))]
     pub fn pack_by_threads<R: Threads + Sync>(
         alloc: Global,
         mut entries: Vec<Entry>,
@@ -118,7 +120,7 @@ impl RTree {
     }
 
     /// The packed tree of entries that are in the order of their pages.
-    #[tactic(auto, using(crate::proofs::TreeLemmas::same_length))]
+    #[tactic(auto, using(crate::proofs::Rules::from_pages))]
     fn from_pages(alloc: Global, entries: Vec<Entry>) -> Result<RTree, AllocError>
         requires distinct { (k : ℕ) → count_by (has_number k) entries.items ≤ 1 }
         requires order { IsTileOrder (λ e. e.shape) (λ e. e.number) entries.items }
@@ -217,9 +219,10 @@ impl RTree {
         ensures all { IfOk result (λ v. AllFound window.now (entries_in self.now) v.items) }
     {
         let mut found = Vec::new(alloc);
-        if let Some(root) = &self.tree.root {
-            collect(root, window, &mut found)?;
-        }
+        let Some(root) = &self.tree.root else {
+            return Ok(found);
+        };
+        collect(root, window, &mut found)?;
         found.sort_unstable();
         Ok(found)
     }

@@ -33,7 +33,8 @@ fn collect_children(
         OnOk result (Adds window.now entries found.old.items found.new.items) }
 {
     for child in children {
-        if child.cover.meets(window) {
+        let meets = child.cover.meets(window);
+        if meets {
             collect(child, window, found)?;
         }
     }
@@ -50,7 +51,8 @@ fn collect_entries(
     ensures { OnOk result (Adds window.now entries.now found.old.items found.new.items) }
 {
     for entry in entries {
-        if entry.shape.meets(window) {
+        let meets = entry.shape.meets(window);
+        if meets {
             found.push(entry.number)?;
         }
     }

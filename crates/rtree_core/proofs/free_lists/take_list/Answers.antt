@@ -7,8 +7,8 @@ use Rattle.rtree_core.proofs.free_lists.take_list.Goals as goal
 pub returns-clause-list : goal.returns-clause-list
 returns-clause-list g c =
     All-head (λ v. IsRoom v) c.in-Some.list []
-    (All-back (λ v. IsRoom v) c.pop.new.self.items (c.in-Some.list ∷ []) (rw c.in-Some.ensures.items at c.requires.free))
+    (All-back (λ v. IsRoom v) _ (c.in-Some.list ∷ []) (rw c.in-Some.ensures.items at c.requires.free))
 
 pub returns-clause-free : goal.returns-clause-free
 returns-clause-free g c =
-    All-front (λ v. IsRoom v) c.pop.new.self.items (c.in-Some.list ∷ []) (rw c.in-Some.ensures.items at c.requires.free)
+    All-front (λ v. IsRoom v) _ (c.in-Some.list ∷ []) (rw c.in-Some.ensures.items at c.requires.free)

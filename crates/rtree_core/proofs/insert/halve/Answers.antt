@@ -10,8 +10,8 @@ split-requires g c = record {
   two_room = c.take_list-two.ensures.list;
 }
 
-pub node_of-requires : goal.node_of-requires
-node_of-requires g c =
+pub node_of-second-requires : goal.node_of-second-requires
+node_of-second-requires g c =
     let groups = c.split.ensures.groups in
     record {
       some = omega (arith, groups.two_enough, c.split.new.two.ok.0);
@@ -23,7 +23,7 @@ pub returns-clause-halved : goal.returns-clause-halved
 returns-clause-halved g c = record {
   two = c.split.new.two.items;
   groups = rw c.replace-emptied.ensures.after c.split.ensures.groups;
-  node = c.node_of.ensures.node;
+  node = c.node_of-second.ensures.node;
 }
 
 pub take_list-one-requires-clause-some : goal.take_list-one-requires-clause-some

@@ -1,10 +1,9 @@
 use Rattle.std.proofs.Common.{rules}
-use Rattle.std.proofs.lemmas.Result.{IfOk-weaker}
-use Rattle.rtree_core.proofs.PackLemmas.{level_nodes, level_tiles}
+use Rattle.rtree_core.proofs.PackLemmas.{above_made, above_tiled}
 use Rattle.rtree_core.proofs.pack.level_above.Goals as goal
 
 pub returns-clause-nodes : goal.returns-clause-nodes
-returns-clause-nodes c = IfOk-weaker c.nodes_of.result _ _ (λ above made. search (rules, level_nodes)) c.nodes_of.ensures.nodes
+returns-clause-nodes c = above_made c.args.nodes.len c.args.nodes.items c.deref_mut.result.now c.tile.new.items _ c.deref_mut.ensures.value c.deref_mut.ensures.len c.tile.ensures.items (search rules)
 
 pub returns-clause-tiles : goal.returns-clause-tiles
-returns-clause-tiles c = IfOk-weaker c.nodes_of.result _ _ (λ above pages. search (rules, level_tiles)) c.nodes_of.ensures.pages
+returns-clause-tiles c = above_tiled c.args.nodes.len c.args.nodes.items c.deref_mut.result.now c.tile.new.items _ c.deref_mut.ensures.value c.deref_mut.ensures.len c.tile.ensures.items c.tile.ensures.order (search rules)

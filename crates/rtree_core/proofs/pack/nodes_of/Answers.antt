@@ -10,8 +10,8 @@ use Rattle.rtree_core.proofs.PackLemmas.{share_some, share_fits, share_within, c
 use Rattle.rtree_core.proofs.pack.nodes_of.Goals as goal
 use Rattle.rtree_core.proofs.pack.nodes_of.Goals.{In_ok-nodes, After-page_size-size}
 
-left : (g : _) (c : After-page_size-size g) → length (map g.T.Packable.held (into_iter_items c.loop-place.rest)) ≡ c.len-in-loop-place.result
-left g c = omega (arith, c.len-in-loop-place.ensures, c.loop-place.rest.rest.ok.0, length-map (into_iter_items c.loop-place.rest) g.T.Packable.held)
+left : (g : _) (c : After-page_size-size g) → length (map g.T.Packable.held (into_iter_items c.loop-place.rest)) ≡ c.len-left.result
+left g c = omega (arith, c.len-left.ensures, c.loop-place.rest.rest.ok.0, length-map (into_iter_items c.loop-place.rest) g.T.Packable.held)
 
 share : (g : _) (c : After-page_size-size g) →
     IsShare c.page_size-size.result (length (map g.T.Packable.held (into_iter_items c.loop-place.rest))) (c.div_ceil-pages.result - c.loop-place.place)
@@ -27,13 +27,13 @@ next_page-requires-clause-few g c =
     let at = (goal.at.next_page-requires-clause-few g c).After-page_size-size in
     share_fits _ _ _ _ _ _ _ _ _ _ c.loop-place-test.true c.loop-place.invariant.cut (share g at)
 
-counted : (g : _) (c : In_ok-nodes g) → length (map g.T.Packable.held (into_iter_items c.into_iter-rest.result)) ≡ c.len.result
+counted : (g : _) (c : In_ok-nodes g) → length (map g.T.Packable.held (into_iter_items c.into_iter-rest.result)) ≡ c.len-count.result
 counted g c = omega (
   arith,
   length-map (into_iter_items c.into_iter-rest.result) g.T.Packable.held,
   ap length c.into_iter-rest.ensures.rest,
   c.args.items.ok.0,
-  c.len.ensures,
+  c.len-count.ensures,
 )
 
 pub node_of-node-requires : goal.node_of-node-requires
@@ -102,9 +102,9 @@ pub next_page-requires-clause-enough : goal.next_page-requires-clause-enough
 next_page-requires-clause-enough g c =
     omega (
       arith,
-      share_within c.page_size-size.result c.len-in-loop-place.result (c.div_ceil-pages.result - c.loop-place.place)
+      share_within c.page_size-size.result c.len-left.result (c.div_ceil-pages.result - c.loop-place.place)
           (omega arith) c.page_size-size.ensures.share,
-      c.len-in-loop-place.ensures,
+      c.len-left.ensures,
     )
 
 pub push_reserved-requires : goal.push_reserved-requires

@@ -2,7 +2,7 @@ use Rattle.std.proofs.Common.{arith, ◌≡◌, ◌≤◌, [], ◌∷◌, map, l
 use Rattle.std.proofs.lemmas.List.{length-map, map-id}
 use Rattle.rtree_core.specs.declared.pack.Placed.{Placed}
 use Rattle.rtree_core.proofs.PackingLemmas.{leaves_of, nodes_above}
-use Rattle.rtree_core.proofs.PackLemmas.{row_first, row_next, row_root, fewer_above, only_one, few_entries}
+use Rattle.rtree_core.proofs.PackLemmas.{row_first, row_next, row_root_is, small_above, only_one, few_entries}
 use Rattle.rtree_core.proofs.pack.pack_entries.Goals as goal
 
 pub loop-alloc-init : goal.loop-alloc-init
@@ -19,26 +19,14 @@ loop-alloc-init c =
 pub loop-alloc-preserved : goal.loop-alloc-preserved
 loop-alloc-preserved c =
     let many : 2 ≤ length (map (λ (p : Placed). p.node) c.loop-alloc.nodes.items) = omega
-    (arith, c.len.ensures, c.loop-alloc-test.true, c.loop-alloc.nodes.ok.0, length-map c.loop-alloc.nodes.items (λ (p : Placed). p.node)) in
-    let fewer = fewer_above _ _ many c.in_ok-nodes-2.ensures.nodes in
+    (arith, c.loop-alloc-test.true, c.loop-alloc.nodes.ok.0, length-map c.loop-alloc.nodes.items (λ (p : Placed). p.node)) in
     record {
-      row = row_next _ _ _ _ many c.loop-alloc.invariant.row c.in_ok-nodes-2.ensures.nodes
-          (nodes_above _ _ _ c.loop-alloc.invariant.places c.in_ok-nodes-2.ensures.tiles);
-      places = c.in_ok-nodes-2.ensures.places;
-      small = omega (
-        arith,
-        fewer,
-        c.loop-alloc.invariant.small,
-        c.loop-alloc.nodes.ok.0,
-        c.in_ok-nodes-2.nodes.ok.0,
-        length-map c.loop-alloc.nodes.items
-            (λ (p : Placed). p.node),
-        length-map c.in_ok-nodes-2.nodes.items (λ (p : Placed). p.node),
-      );
+      row = row_next _ _ _ _ many c.loop-alloc.invariant.row c.in_ok-above.ensures.nodes (nodes_above _ _ _ c.loop-alloc.invariant.places c.in_ok-above.ensures.tiles);
+      places = c.in_ok-above.ensures.places;
+      small = small_above _ c.loop-alloc.nodes c.in_ok-above.above many c.in_ok-above.ensures.nodes c.loop-alloc.invariant.small;
     }
 
 pub returns : goal.returns
 returns c =
-    let one : c.loop-alloc.nodes.items ≡ c.in-Some.root ∷ [] = only_one _ _ _ c.in-Some.ensures.items
-    (omega (arith, c.len.ensures, c.loop-alloc-test.false, c.loop-alloc.nodes.ok.0)) in
-    rw c.into_held.ensures.held (row_root _ _ _ c.requires.distinct (rw map-id at c.in_ok-nodes.ensures.in_range) (rw one at c.loop-alloc.invariant.row))
+    let one : c.loop-alloc.nodes.items ≡ c.in-Some.root ∷ [] = only_one _ _ _ c.in-Some.ensures.items (omega (arith, c.loop-alloc-test.false, c.loop-alloc.nodes.ok.0)) in
+    row_root_is _ c.in-Some.root.node _ _ (cc) c.requires.distinct (rw map-id at c.in_ok-nodes.ensures.in_range) (rw one at c.loop-alloc.invariant.row)

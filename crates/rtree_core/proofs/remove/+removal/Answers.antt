@@ -2,6 +2,7 @@ use Rattle.std.proofs.Common.{arith, ◌≡◌, ◌<◌, ◌≤◌, ◌+◌, ℕ
 use Rattle.std.specs.Prelude.{All, Contains, remove}
 use Rattle.std.specs.Vec.{with_items}
 use Rattle.std.proofs.lemmas.Bool.{false≢true}
+use Rattle.std.proofs.lemmas.Bool.Decides.{nat_tests}
 use Rattle.std.proofs.lemmas.List.{get_or_default, set-get_or}
 use Rattle.std.proofs.lemmas.List.Elements.{All-weaker}
 use Rattle.geom_core.specs.Cells.{IsIn}
@@ -12,20 +13,19 @@ use Rattle.rtree_core.specs.declared.node.Node.{Node}
 use Rattle.std.specs.declared.alloc.Global.{Global}
 use Rattle.std.specs.declared.vec.Vec.{Vec}
 use Rattle.rtree_core.specs.declared.node.Entry.{Entry}
-use Rattle.split_core.specs.Covers.{IsLeastCover}
 use Rattle.rtree_core.specs.Items.{leaf_node, inner_node}
 use Rattle.rtree_core.specs.Removals.{CanTakeOut}
 use Rattle.rtree_core.specs.Nodes.{entries_of, level_of, size_of, IsLawful, IsLawfulAt}
 use Rattle.rtree_core.proofs.NodeLemmas.{level_inner, lawful_level, lawful_is, top_level, level-le-top}
-use Rattle.rtree_core.proofs.ItemLemmas.{Opened, open_inner, child_level, inner_size, inner_entries}
+use Rattle.rtree_core.proofs.ItemLemmas.{cover_of_items, Opened, open_inner, child_level, inner_size, inner_entries}
 use Rattle.rtree_core.proofs.RemovalLemmas.{contains_joined, cover_holds, none_above, none_so_far, list_as_it_was}
 use Rattle.rtree_core.proofs.TakeLemmas.{Written, written, child_kept, child_aside}
 use Rattle.rtree_core.proofs.remove.+removal.Goals as goal
-use Rattle.rtree_core.proofs.remove.+removal.Goals.{take_from_inner-After-index, take_from_inner-then-size-lt-FEWEST, take_from_inner-else-size-lt-FEWEST}
-use Rattle.rtree_core.proofs.remove.+removal.Goals.{take_from_one-else-is_in-via-then-is_in+else-take_out, take_from_one-else-is_in-via-else-is_in}
+use Rattle.rtree_core.proofs.remove.+removal.Goals.{take_from_inner-After-index-node, take_from_inner-then-is_short, take_from_inner-else-is_short}
+use Rattle.rtree_core.proofs.remove.+removal.Goals.{take_from_one-else-may_hold-via-then-may_hold+else-take_out, take_from_one-else-may_hold-via-else-may_hold}
 
-pub take_from_inner-take_from_one-requires : goal.take_from_inner-take_from_one-requires
-take_from_inner-take_from_one-requires t c =
+pub take_from_inner-take_from_one-found-requires : goal.take_from_inner-take_from_one-found-requires
+take_from_inner-take_from_one-found-requires t c =
     let v = c.args.children.now in
     let o = open_inner c.args.cover.now v c.requires.can_take_out.lawful in
     let level : level_of (inner_node c.args.cover.now v) ≡ top_level v.items + 1 = level_inner (inner_node c.args.cover.now v) v (outs-Children v) in
@@ -46,33 +46,33 @@ pub take_from_inner-returns-in_default-clause-unchanged : goal.take_from_inner-r
 take_from_inner-returns-in_default-clause-unchanged t c =
     λ h. (
       refl,
-      list_as_it_was c.args.children.now c.take_from_one.new.nodes
+      list_as_it_was c.args.children.now c.take_from_one-found.new.nodes
           (c.in_default.ensures.unchanged.0 ∙ c.deref_mut.ensures.value),
       c.in_default.ensures.unchanged.1,
     )
 
-opened : (t : ℕ) (c : take_from_inner-After-index t) → Opened c.args.cover.now c.args.children.now
+opened : (t : ℕ) (c : take_from_inner-After-index-node t) → Opened c.args.cover.now c.args.children.now
 opened t c = open_inner c.args.cover.now c.args.children.now c.requires.can_take_out.lawful
 
-child : (t : ℕ) (c : take_from_inner-After-index t) →
-    Written c.args.entry.now c.args.children.now (with_items c.args.children.now c.take_from_one.new.nodes) c.take_from_one.new.aside.items c.in-Some.place
-    c.index.result.now
-child t c = written c.args.entry.now c.args.children.now c.deref_mut.result.now c.take_from_one.new.nodes c.take_from_one.new.aside.items c.in-Some.place
-    c.index.result.now c.deref_mut.ensures.value c.in-Some.ensures.taken c.index.ensures
+child : (t : ℕ) (c : take_from_inner-After-index-node t) →
+    Written c.args.entry.now c.args.children.now (with_items c.args.children.now c.take_from_one-found.new.nodes) c.take_from_one-found.new.aside.items c.in-Some.place
+    c.index-node.result.now
+child t c = written c.args.entry.now c.args.children.now c.deref_mut.result.now c.take_from_one-found.new.nodes c.take_from_one-found.new.aside.items c.in-Some.place
+    c.index-node.result.now c.deref_mut.ensures.value c.in-Some.ensures.taken c.index-node.ensures
 
-child_level_is : (t : ℕ) (c : take_from_inner-After-index t) → level_of (get_or c.args.children.now.items c.in-Some.place c.index.result.now) ≡
+child_level_is : (t : ℕ) (c : take_from_inner-After-index-node t) → level_of (get_or c.args.children.now.items c.in-Some.place c.index-node.result.now) ≡
     (opened t c).level
 child_level_is t c =
-    let before = get_or c.args.children.now.items c.in-Some.place c.index.result.now in
+    let before = get_or c.args.children.now.items c.in-Some.place c.index-node.result.now in
     lawful_level (opened t c).level before (child_level c.args.cover.now c.args.children.now (opened t c) c.in-Some.place before (child t c).inside
     (child t c).at)
 
 pub take_from_inner-push_reserved-requires : goal.take_from_inner-push_reserved-requires
 take_from_inner-push_reserved-requires t c =
-    let at = (goal.at.take_from_inner-push_reserved-requires t c).After-index in
+    let at = (goal.at.take_from_inner-push_reserved-requires t c).After-index-node in
     omega (
       arith,
-      c.take_from_one.new.aside.ok.0,
+      c.take_from_one-found.new.aside.ok.0,
       (child t at).taken.few,
       c.in-Some.ensures.capacity,
       c.requires.can_take_out.low,
@@ -88,33 +88,32 @@ take_from_inner-returns-clause-held t c =
 
 pub take_from_inner-returns-clause-taken : goal.take_from_inner-returns-clause-taken
 take_from_inner-returns-clause-taken t c =
-    let at = (goal.at.take_from_inner-returns-clause-taken t c).After-index in
+    let at = (goal.at.take_from_inner-returns-clause-taken t c).After-index-node in
     let v = c.args.children.now in
-    let w = with_items v c.take_from_one.new.nodes in
+    let w = with_items v c.take_from_one-found.new.nodes in
     let place = c.in-Some.place in
-    let y = c.index.result.now in
+    let y = c.index-node.result.now in
     let x = get_or v.items place y in
-    let aside = c.take_from_one.new.aside.items in
-    let tight : IsLeastCover (λ n. n.cover) c.if-size-lt-FEWEST.children.items c.cover_all.result = rw c.deref.ensures.value at c.cover_all.ensures in
+    let aside = c.take_from_one-found.new.aside.items in
     let inside : place < length w.items = omega (arith, (child t at).inside, ap length (child t at).items, length-set v.items place y) in
-    λ h. elim c.if-size-lt-FEWEST.branch [
-      | take_from_inner-then-size-lt-FEWEST b ↦
+    λ h. elim c.if-is_short.branch [
+      | take_from_inner-then-is_short b ↦
           let removed : b.remove-child.result ≡ y = b.remove-child.ensures.value ∙ get_or_default w.items place b.remove-child.result y inside ∙ sym
-          c.index.ensures in
+          c.index-node.ensures in
           rw (b.children-is, b.aside-is, b.push_reserved.ensures.items, removed)
-          (child_aside c.args.entry.now c.args.cover.now c.cover_all.result v b.remove-child.new.self (opened t at) place x y aside (child t at).inside
+          (child_aside c.args.entry.now c.args.cover.now _ v b.remove-child.new.self (opened t at) place x y aside (child t at).inside
           (child t at).at (child t at).taken
-          (rw b.children-is at tight)
+          (rw (← b.children-is) (search cover_of_items))
           (omega (arith, b.remove-child.ensures.capacity, (opened t at).inner.page.room))
           (b.remove-child.ensures.items ∙ ap (λ zs. remove zs place) (child t at).items) b.remove-child.ensures.len
-          (omega (arith, c.requires.can_take_out.two, inner_size c.args.cover.now v)) (omega (arith, b.if-size-lt-FEWEST.true, c.size.ensures)))
-      | take_from_inner-else-size-lt-FEWEST b ↦
+          (omega (arith, c.requires.can_take_out.two, inner_size c.args.cover.now v)) (grind (arith, nat_tests, b.if-is_short.true)))
+      | take_from_inner-else-is_short b ↦
           rw (b.children-is, b.aside-is)
-          (child_kept c.args.entry.now c.args.cover.now c.cover_all.result v w (opened t at) place x y aside (child t at).inside
+          (child_kept c.args.entry.now c.args.cover.now _ v w (opened t at) place x y aside (child t at).inside
           (child t at).at (child t at).taken
-          (rw b.children-is at tight)
+          (cover_of_items _ c.deref.result.now _ _ (c.deref.ensures.value ∙ ap (λ (z : Vec Node Global). z.items) b.children-is) (search))
           (opened t at).inner.page.room
-          (child t at).items refl (omega (arith, b.if-size-lt-FEWEST.false, c.size.ensures)))
+          (child t at).items refl (grind (arith, nat_tests, b.if-is_short.false)))
     ]
 
 pub take_from_one-take_out-requires : goal.take_from_one-take_out-requires
@@ -150,8 +149,8 @@ take_from_one-loop-place-preserved t c =
     let lt = c.loop-place-test.true in
     let at : node ≡ get_or c.args.nodes.now p node = c.index-nodes-place.is ∙ ap (λ xs. get_or xs p node) i.same in
     let lawful : IsLawful node = subst IsLawful (sym at) (c.requires.can_take_out p node lt).lawful in
-    elim c.else-is_in.branch [
-      | take_from_one-else-is_in-via-then-is_in+else-take_out w ↦
+    elim c.else-may_hold.branch [
+      | take_from_one-else-may_hold-via-then-may_hold+else-take_out w ↦
           let kept = w.take_out.ensures.unchanged w.if-take_out.false in
           record {
             same = w.nodes-is ∙ ap (set c.loop-place.nodes p) kept.0 ∙ set-get_or c.loop-place.nodes p node ∙ i.same;
@@ -161,12 +160,12 @@ take_from_one-loop-place-preserved t c =
                 (λ h. false≢true (sym w.if-take_out.false ∙ w.take_out.ensures.held.1
                 (subst (λ n. Contains (entries_of n) c.args.entry.now) c.index-nodes-place.is h)));
           }
-      | take_from_one-else-is_in-via-else-is_in w ↦ record {
+      | take_from_one-else-may_hold-via-else-may_hold w ↦ record {
         same = w.nodes-is ∙ set-get_or c.loop-place.nodes p node ∙ i.same;
         none_aside = rw w.aside-is i.none_aside;
         capacity = ap vec_capacity w.aside-is ∙ i.capacity;
         none = none_so_far c.args.nodes.now c.args.entry.now p node lt at i.none
-            (λ h. false≢true (sym w.if-is_in.false ∙ c.is_in.ensures.1
+            (λ h. false≢true (sym w.if-may_hold.false ∙ c.is_in-may_hold.ensures.1
             (subst (λ n. IsIn c.args.entry.now.shape n.cover) c.index-nodes-place.is (cover_holds node c.args.entry.now lawful h))));
       }
     ]
@@ -177,8 +176,8 @@ take_from_one-returns-clause-held t c =
     (omega (arith, c.loop-place-test.false, ap length c.loop-place.invariant.same)) in
     (λ h. absurd (false≢true h), λ h. absurd (none h))
 
-pub take_from_inner-index-requires : goal.take_from_inner-index-requires
-take_from_inner-index-requires t c = omega (arith, c.in-Some.ensures.taken.inside, c.deref_mut.ensures.len)
+pub take_from_inner-index-node-requires : goal.take_from_inner-index-node-requires
+take_from_inner-index-node-requires t c = omega (arith, c.in-Some.ensures.taken.inside, c.deref_mut.ensures.len)
 
 pub take_from_inner-remove-child-requires : goal.take_from_inner-remove-child-requires
 take_from_inner-remove-child-requires t c = omega (arith, c.in-Some.ensures.taken.inside, c.deref_mut.ensures.len)
@@ -187,11 +186,11 @@ pub take_from_inner-cover_all-requires : goal.take_from_inner-cover_all-requires
 take_from_inner-cover_all-requires t c =
     let two = c.requires.can_take_out.two in
     let size = inner_size c.args.cover.now c.args.children.now in
-    let kept = c.if-size-lt-FEWEST.children in
-    elim c.if-size-lt-FEWEST.branch [
-      | take_from_inner-then-size-lt-FEWEST b ↦
+    let kept = c.if-is_short.children in
+    elim c.if-is_short.branch [
+      | take_from_inner-then-is_short b ↦
           omega (arith, ap length c.deref.ensures.value, ap vec_len b.children-is, b.remove-child.ensures.len, two, size, kept.ok.0)
-      | take_from_inner-else-size-lt-FEWEST b ↦ omega (arith, ap length c.deref.ensures.value, ap vec_len b.children-is, two, size, kept.ok.0)
+      | take_from_inner-else-is_short b ↦ omega (arith, ap length c.deref.ensures.value, ap vec_len b.children-is, two, size, kept.ok.0)
     ]
 
 pub take_from_inner-returns-clause-unchanged : goal.take_from_inner-returns-clause-unchanged
@@ -199,9 +198,9 @@ take_from_inner-returns-clause-unchanged t c = λ e. absurd (false≢true (sym e
 
 pub take_from_inner-returns-clause-capacity : goal.take_from_inner-returns-clause-capacity
 take_from_inner-returns-clause-capacity t c =
-    elim c.if-size-lt-FEWEST.branch [
-      | take_from_inner-then-size-lt-FEWEST b ↦ ap vec_capacity b.aside-is ∙ b.push_reserved.ensures.capacity ∙ c.in-Some.ensures.capacity
-      | take_from_inner-else-size-lt-FEWEST b ↦ ap vec_capacity b.aside-is ∙ c.in-Some.ensures.capacity
+    elim c.if-is_short.branch [
+      | take_from_inner-then-is_short b ↦ ap vec_capacity b.aside-is ∙ b.push_reserved.ensures.capacity ∙ c.in-Some.ensures.capacity
+      | take_from_inner-else-is_short b ↦ ap vec_capacity b.aside-is ∙ c.in-Some.ensures.capacity
     ]
 
 -- a node is made of its cover and its list

@@ -22,7 +22,7 @@ collect-returns-in-Children t c =
       entries_inner c.args.node.now c.in-Children.children (ap out-Below c.in-Children.is ∙ outs-Children c.in-Children.children),
       ←
           c.deref-in-Children.ensures.value,
-    ) c.collect_children.ensures
+    ) (search)
 
 pub collect_children-loop-child-init : goal.collect_children-loop-child-init
 collect_children-loop-child-init t c = adds_none c.args.window.now c.args.found.now.items
@@ -37,7 +37,7 @@ collect_children-loop-child-preserved t c =
           rw w.found-is (adds_more_child c.args.window.now c.args.children.now c.loop-child.child-index c.child-item.result _ _ _ c.loop-child-test.true
           c.child-item.is c.loop-child.invariant (adds_pruned c.args.window.now (level_of c.child-item.result) c.child-item.result _
           (rw (sym c.child-item.is) at (c.requires c.loop-child.child-index c.child-item.result c.loop-child-test.true))
-          (λ m. false≢true (rw w.if-meets.false at (c.meets.ensures.1 m)))))
+          (λ m. false≢true (rw w.if-meets.false at (c.meets-meets.ensures.1 m)))))
     ]
 
 pub collect_children-collect-requires : goal.collect_children-collect-requires

@@ -8,8 +8,8 @@ loop-entry-preserved c =
     elim c.if-meets.branch [
       | then-meets+in_ok-push w ↦
           rw w.found-is (adds_more_met c.args.window.now c.args.entries.now c.loop-entry.entry-index c.entry-item.result _ _ _ c.loop-entry-test.true
-          c.entry-item.is c.loop-entry.invariant (c.meets.ensures.0 w.if-meets.true) w.in_ok-push.ensures.items)
+          c.entry-item.is c.loop-entry.invariant (c.meets-meets.ensures.0 w.if-meets.true) w.in_ok-push.ensures.items)
       | else-meets w ↦
           rw w.found-is (adds_more_missed c.args.window.now c.args.entries.now c.loop-entry.entry-index c.entry-item.result _ _ c.loop-entry-test.true
-          c.entry-item.is c.loop-entry.invariant (λ m. false≢true (rw w.if-meets.false at (c.meets.ensures.1 m))))
+          c.entry-item.is c.loop-entry.invariant (λ m. false≢true (rw w.if-meets.false at (c.meets-meets.ensures.1 m))))
     ]

@@ -1,5 +1,6 @@
-use Rattle.rtree_core.proofs.ItemLemmas.{leaf_made}
+use Rattle.std.proofs.Common.{rules}
+use Rattle.rtree_core.proofs.ItemLemmas.{cover_of_items, leaf_made}
 use Rattle.rtree_core.proofs.item.EntryItem.node_of.Goals as goal
 
 pub returns-clause-node : goal.returns-clause-node
-returns-clause-node c = leaf_made c.cover_all.result c.args.page c.requires (rw c.deref.ensures.value at c.cover_all.ensures)
+returns-clause-node c = leaf_made _ c.args.page c.requires (search (rules, cover_of_items))
