@@ -14,7 +14,6 @@ use Rattle.std.proofs.lemmas.Bool.{false≢true}
 use Rattle.std.proofs.lemmas.Bool.Decides.{nat_tests}
 use Rattle.std.proofs.lemmas.Int.{ints}
 use Rattle.std.proofs.lemmas.List.{get_or_default, with_items_is}
-use Rattle.rtree_core.specs.Removals.{IsPlaceOf}
 use Rattle.geom_core.specs.Joined.{same_ends}
 use Rattle.geom_core.specs.Cells.{IsIn}
 use Rattle.rtree_core.specs.declared.node.Entry.{Entry}

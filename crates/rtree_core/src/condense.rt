@@ -41,7 +41,8 @@ impl EditableTree {
         requires can_take { CanTake (size_of node) self.old }
         ensures { HasTakenIn (size_of node) (entries_of node) self.old self.new }
     {
-        match node.below {
+        let below = node.below;
+        match below {
             Below::Entries(entries) => self.insert_all(entries, level),
             Below::Children(children) => self.insert_all(children, level),
         }

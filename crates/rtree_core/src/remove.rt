@@ -106,6 +106,7 @@ fn take_from_leaf(cover: &mut Shape, entries: &mut Vec<Entry>, entry: &Entry) ->
 /// Takes an entry out of the subtree of one of a node's children, and that child out of the list
 /// where it is left with fewer than three. Says whether the entry was there.
 #[cycle(removal)]
+#[tactic(auto, using(crate::proofs::ItemLemmas::inner_size))]
 fn take_from_inner(
     cover: &mut Shape,
     children: &mut Vec<Node>,

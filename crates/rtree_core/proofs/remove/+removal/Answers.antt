@@ -1,4 +1,4 @@
-use Rattle.std.proofs.Common.{arith, ◌≡◌, ◌<◌, ◌≤◌, ◌+◌, ℕ, length, get_or, set, refl, sym, ◌∙◌, ap, subst, vec_capacity, vec_len, length-set}
+use Rattle.std.proofs.Common.{arith, ◌≡◌, ◌<◌, ◌≤◌, ◌+◌, ℕ, length, get_or, set, refl, sym, ◌∙◌, ap, subst, vec_capacity, length-set}
 use Rattle.std.specs.Prelude.{All, Contains, remove}
 use Rattle.std.specs.Vec.{with_items}
 use Rattle.std.proofs.lemmas.Bool.{false≢true}
@@ -175,23 +175,6 @@ take_from_one-returns-clause-held t c =
     let none = none_above c.args.nodes.now c.args.entry.now c.loop-place.place c.loop-place.invariant.none
     (omega (arith, c.loop-place-test.false, ap length c.loop-place.invariant.same)) in
     (λ h. absurd (false≢true h), λ h. absurd (none h))
-
-pub take_from_inner-index-node-requires : goal.take_from_inner-index-node-requires
-take_from_inner-index-node-requires t c = omega (arith, c.in-Some.ensures.taken.inside, c.deref_mut.ensures.len)
-
-pub take_from_inner-remove-child-requires : goal.take_from_inner-remove-child-requires
-take_from_inner-remove-child-requires t c = omega (arith, c.in-Some.ensures.taken.inside, c.deref_mut.ensures.len)
-
-pub take_from_inner-cover_all-requires : goal.take_from_inner-cover_all-requires
-take_from_inner-cover_all-requires t c =
-    let two = c.requires.can_take_out.two in
-    let size = inner_size c.args.cover.now c.args.children.now in
-    let kept = c.if-is_short.children in
-    elim c.if-is_short.branch [
-      | take_from_inner-then-is_short b ↦
-          omega (arith, ap length c.deref.ensures.value, ap vec_len b.children-is, b.remove-child.ensures.len, two, size, kept.ok.0)
-      | take_from_inner-else-is_short b ↦ omega (arith, ap length c.deref.ensures.value, ap vec_len b.children-is, two, size, kept.ok.0)
-    ]
 
 pub take_from_inner-returns-clause-unchanged : goal.take_from_inner-returns-clause-unchanged
 take_from_inner-returns-clause-unchanged t c = λ e. absurd (false≢true (sym e))

@@ -12,7 +12,7 @@ returns-in-Entries c =
     let size : size_of c.args.node ≡ vec_len v = ap size_of (as_leaf c.args.node v c.in-Entries.is) ∙ leaf_size c.args.node.cover v in
     let entries : entries_of c.args.node ≡ flat_map entry_alone v.items = ap entries_of (as_leaf c.args.node v c.in-Entries.is) ∙ leaf_entries
     c.args.node.cover v ∙ sym (each_alone v.items) in
-    rw (size, entries) (rw c.in-Entries.entries-is at c.insert_all.ensures)
+    rw (size, entries) c.insert_all.ensures
 
 pub returns-in-Children : goal.returns-in-Children
 returns-in-Children c =
@@ -20,4 +20,4 @@ returns-in-Children c =
     let size : size_of c.args.node ≡ vec_len v = ap size_of (as_inner c.args.node v c.in-Children.is) ∙ inner_size c.args.node.cover v in
     let entries : entries_of c.args.node ≡ flat_map entries_of v.items = ap entries_of (as_inner c.args.node v c.in-Children.is) ∙ inner_entries
     c.args.node.cover v in
-    rw (size, entries) (rw c.in-Children.children-is at c.insert_all-in-Children.ensures)
+    rw (size, entries) c.insert_all-in-Children.ensures
