@@ -17,8 +17,10 @@ pub fn choose<T: Covered>(items: &[T], shape: &Shape) -> usize
     let mut best = 0;
     let mut least = Need::of(&items[0].cover(), shape);
     for place in 1..items.len() {
-        let need = Need::of(&items[place].cover(), shape);
-        if need.is_less(&least) {
+        let cover = items[place].cover();
+        let need = Need::of(&cover, shape);
+        let is_less = need.is_less(&least);
+        if is_less {
             best = place;
             least = need;
         }
@@ -37,8 +39,10 @@ pub fn pick_next<T: Covered>(rest: &[T], one: &Shape, two: &Shape) -> usize
     let mut best = 0;
     let mut greatest = difference(one, two, &rest[0].cover());
     for place in 1..rest.len() {
-        let difference = difference(one, two, &rest[place].cover());
-        if difference > greatest {
+        let cover = rest[place].cover();
+        let difference = difference(one, two, &cover);
+        let is_greater = difference > greatest;
+        if is_greater {
             best = place;
             greatest = difference;
         }
@@ -108,7 +112,8 @@ fn best_of_row<T: Covered>(items: &[T], first: usize, mut best: Seeds) -> Seeds
     ensures { IsBestBefore T.cover items.now (first + 1) 0 result }
 {
     for second in first + 1..items.len() {
-        best = best.or_better(Seeds::at(items, first, second));
+        let other = Seeds::at(items, first, second);
+        best = best.or_better(other);
     }
     best
 }

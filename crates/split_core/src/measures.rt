@@ -50,7 +50,9 @@ pub fn enlargement(cover: &Shape, shape: &Shape) -> Area
 pub fn waste(one: &Shape, two: &Shape) -> AreaDifference
     ensures { result ≡ choices.waste one.now two.now }
 {
-    enlargement(one, two) as AreaDifference - two.area() as AreaDifference
+    let growth = enlargement(one, two);
+    let area = two.area();
+    growth as AreaDifference - area as AreaDifference
 }
 
 /// How far apart two covers are in what they grow to take in a shape.

@@ -95,7 +95,8 @@ fn deal<T: Covered>(rest: &mut Vec<T>, one: &mut Vec<T>, two: &mut Vec<T>, mut c
     while can_choose(rest.len(), one.len(), two.len()) {
         deal_next(rest, one, two, &mut covers);
     }
-    if one.len() + rest.len() == FEWEST {
+    let one_needs_all = one.len() + rest.len() == FEWEST;
+    if one_needs_all {
         append_reserved(one, rest);
     } else {
         append_reserved(two, rest);

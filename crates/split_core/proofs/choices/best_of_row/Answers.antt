@@ -7,7 +7,7 @@ loop-second-init g c = best_row g.T.Covered.cover c.args.items.now c.args.first 
 
 pub loop-second-preserved : goal.loop-second-preserved
 loop-second-preserved g c =
-    best_pair g.T.Covered.cover c.args.items.now c.args.first c.loop-second.second c.loop-second.best _ _ c.or_better-best.ensures c.loop-second.invariant
+    best_pair g.T.Covered.cover c.args.items.now c.args.first c.loop-second.second c.loop-second.best c.at-other.result _ (search) c.loop-second.invariant
     (search rules) (search rules) (omega arith) c.loop-second-test.true (search rules)
 
 pub returns : goal.returns

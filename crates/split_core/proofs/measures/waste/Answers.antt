@@ -5,15 +5,12 @@ use Rattle.std.proofs.lemmas.Int.{ints, to_z-of_z, to_z_pos}
 use Rattle.split_core.proofs.Areas.{waste_is}
 use Rattle.split_core.proofs.measures.waste.Goals as goal
 
-pub overflow_sub-result : goal.overflow_sub-result
-overflow_sub-result c = omega (arith, ints)
-
 pub returns : goal.returns
 returns c =
     rw (
-      to_z_pos w128 c.enlargement.result (omega arith),
-      to_z_pos w128 c.area.result (omega arith),
+      to_z_pos w128 c.enlargement-growth.result (omega arith),
+      to_z_pos w128 c.area-area.result (omega arith),
       to_z-of_z w128
-          (pos c.enlargement.result -ℤ pos c.area.result) (omega (arith, ints)),
+          (pos c.enlargement-growth.result -ℤ pos c.area-area.result) (omega (arith, ints)),
     )
-    (waste_is c.args.one.now c.args.two.now _ _ c.enlargement.ensures.growth c.area.ensures.product)
+    (waste_is c.args.one.now c.args.two.now _ _ c.enlargement-growth.ensures.growth c.area-area.ensures.product)
