@@ -52,9 +52,10 @@ fn collect_entries(
 {
     for entry in entries {
         let meets = entry.shape.meets(window);
-        if meets {
-            found.push(entry.number)?;
+        if !meets {
+            continue;
         }
+        found.push(entry.number)?;
     }
     Ok(())
 }
