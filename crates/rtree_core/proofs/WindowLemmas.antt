@@ -1,7 +1,9 @@
 -- The search for the entries that meet a window, piece by piece.
 use Rattle.std.proofs.Common.{arith, ◌≡◌, ℕ, zero, suc, ◌+◌, ◌<◌, ◌≤◌, cond, List, [], ◌∷◌, ◌++◌, length, get_or, take, refl, sym, ◌∙◌, ap, subst, append_assoc}
 use Rattle.std.proofs.Common.{inl, inr}
-use Rattle.std.specs.Prelude.{All, Any, Contains, count_by, nat_eq, Option, Some}
+use Rattle.std.proofs.Common.{ControlFlow, Continue}
+use Rattle.std.specs.Result.{result_from_control_flow}
+use Rattle.std.specs.Prelude.{Result, Ok, OnOk, All, Any, Contains, count_by, nat_eq, Option, Some}
 use Rattle.std.specs.List.{flat_map}
 use Rattle.std.specs.List.Sorted.{IsStrictlyIncreasing, IsNonDecreasing, IsPermutation}
 use Rattle.std.proofs.lemmas.Bool.{cases_eq}
@@ -98,6 +100,16 @@ pub adds_more_child : (w : Shape) (xs : List Node) (i : ℕ) (n : Node) (a b c :
     i < length xs → n ≡ get_or xs i n → Adds w (flat_map entries_of (take i xs)) a b → Adds w (entries_of n) b c → Adds w
     (flat_map entries_of (take (i + 1) xs)) a c
 adds_more_child w xs i n a b c lt at p q = rw (below_more xs i n lt at) (adds_append w (flat_map entries_of (take i xs)) (entries_of n) a b c p q)
+
+-- what a search that had memory added
+pub ran : {E : Type 0} (w : Shape) (es : List Entry) (old found : List ℕ) (r : Result (Unit {0}) E) (b : ControlFlow _ (Unit {0})) (u : Unit {0}) →
+    r ≡ result_from_control_flow b →
+    b ≡ Continue u →
+    OnOk r (Adds w es old found) →
+    Adds w es old found
+ran w es old found r b u told went p =
+    let ok : r ≡ Ok u = rw went at told in
+    rw ok at p
 
 -- what was added to an empty list for a root
 pub found_in : (w : Shape) (root : Option Node) (n : Node) (old found : List ℕ) →

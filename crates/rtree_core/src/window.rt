@@ -34,9 +34,10 @@ fn collect_children(
 {
     for child in children {
         let meets = child.cover.meets(window);
-        if meets {
-            collect(child, window, found)?;
+        if !meets {
+            continue;
         }
+        collect(child, window, found)?;
     }
     Ok(())
 }

@@ -4,9 +4,8 @@ use Rattle.rtree_core.specs.declared.node.Below.{out-Below}
 use Rattle.rtree_core.specs.declared.node.Below.TheVariants.{outs-Children}
 use Rattle.rtree_core.specs.Nodes.{level_of}
 use Rattle.rtree_core.proofs.NodeLemmas.{entries_inner, level_inner, top_level, level-le-top, children_lawful}
-use Rattle.rtree_core.proofs.WindowLemmas.{adds_none, adds_more_child, adds_pruned}
+use Rattle.rtree_core.proofs.WindowLemmas.{adds_none, adds_more_child, adds_pruned, ran}
 use Rattle.rtree_core.proofs.window.+window.Goals as goal
-use Rattle.rtree_core.proofs.window.+window.Goals.{collect_children-then-meets+in_ok-collect, collect_children-else-meets}
 
 pub collect-collect_children-requires : goal.collect-collect_children-requires
 collect-collect_children-requires t c =
@@ -27,18 +26,17 @@ collect-returns-in-Children t c =
 pub collect_children-loop-child-init : goal.collect_children-loop-child-init
 collect_children-loop-child-init t c = adds_none c.args.window.now c.args.found.now.items
 
+pub collect_children-loop-child-preserved-then-not-meets : goal.collect_children-loop-child-preserved-then-not-meets
+collect_children-loop-child-preserved-then-not-meets t c =
+    adds_more_child c.args.window.now c.args.children.now c.loop-child.child-index c.child-item.result _ _ _ c.loop-child-test.true c.child-item.is
+    c.loop-child.invariant (adds_pruned c.args.window.now (level_of c.child-item.result) c.child-item.result _
+    (rw (sym c.child-item.is) at (c.requires c.loop-child.child-index c.child-item.result c.loop-child-test.true))
+    (λ m. cc (c.meets-meets.ensures.1 m)))
+
 pub collect_children-loop-child-preserved : goal.collect_children-loop-child-preserved
 collect_children-loop-child-preserved t c =
-    elim c.if-meets.branch [
-      | collect_children-then-meets+in_ok-collect w ↦
-          rw w.found-is (adds_more_child c.args.window.now c.args.children.now c.loop-child.child-index c.child-item.result _ _ _ c.loop-child-test.true
-          c.child-item.is c.loop-child.invariant w.in_ok-collect.ensures)
-      | collect_children-else-meets w ↦
-          rw w.found-is (adds_more_child c.args.window.now c.args.children.now c.loop-child.child-index c.child-item.result _ _ _ c.loop-child-test.true
-          c.child-item.is c.loop-child.invariant (adds_pruned c.args.window.now (level_of c.child-item.result) c.child-item.result _
-          (rw (sym c.child-item.is) at (c.requires c.loop-child.child-index c.child-item.result c.loop-child-test.true))
-          (λ m. false≢true (rw w.if-meets.false at (c.meets-meets.ensures.1 m)))))
-    ]
+    adds_more_child c.args.window.now c.args.children.now c.loop-child.child-index c.child-item.result _ c.loop-child.found.items _ c.loop-child-test.true
+    c.child-item.is c.loop-child.invariant (search ran)
 
 pub collect_children-collect-requires : goal.collect_children-collect-requires
 collect_children-collect-requires t c =
