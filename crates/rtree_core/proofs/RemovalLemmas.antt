@@ -74,10 +74,10 @@ tested a b false h = inl refl
 pub same_or_not : (a b : Entry) → (eq-value.it a b ≡ false) ⊎ (a ≡ b)
 same_or_not a b = tested a b _ refl
 
-pub ruleset entry_tests = (same_or_not, entry_itself)
+pub test_turned : (a b : Entry) → eq-value.it a b ≡ eq-value.it b a
+test_turned a b = grind (arith, nat_tests, ints, same_or_not, entry_itself)
 
-pub differ_not : (a b : Entry) → not (eq-value.it a b) ≡ false → a ≡ b
-differ_not a b h = entry_same a b (grind (arith, h))
+pub ruleset entry_tests = (same_or_not, entry_itself, test_turned)
 
 -- a list of one item
 only : {T : Type 0} (xs : List T) (x : T) → length xs ≡ 1 → x ≡ get_or xs 0 x → xs ≡ x ∷ []
@@ -122,39 +122,25 @@ other_entry root leaf x e es is one held there differs h =
     let equal : eq-value.it x e ≡ true = ap (λ z. eq-value.it x z) same ∙ entry_itself x in
     false≢true (ap not (sym equal) ∙ differs)
 
--- what the test of the one entry of a root that is a leaf says
-pub only_there : (root : Option Node) (leaf : Node) (x e : Entry) (es : List Entry) (differs : Bool) →
+-- the one entry of a root that is a leaf is this one, or another
+pub only_there : (root : Option Node) (leaf : Node) (x e : Entry) (es : List Entry) →
     root ≡ Some leaf →
     IsSomeAnd root (λ n. IsLawfulAt 0 n × (size_of n ≡ 1)) →
     es ≡ entries_of leaf →
     x ≡ get_or es 0 x →
-    differs ≡ not (eq-value.it x e) →
-    differs ≡ false →
+    eq-value.it x e ≡ true →
     entries_in root ≡ e ∷ []
-only_there root leaf x e es differs is one held there test same =
-    the_entry root leaf x e es is (rw is at one) held there (differ_not x e (sym test ∙ same))
+only_there root leaf x e es is one held there same = the_entry root leaf x e es is (rw is at one) held there (entry_same x e same)
 
-pub only_holds : (root : Option Node) (leaf : Node) (x e : Entry) (es : List Entry) (differs : Bool) →
+pub other_there : (root : Option Node) (leaf : Node) (x e : Entry) (es : List Entry) →
     root ≡ Some leaf →
     IsSomeAnd root (λ n. IsLawfulAt 0 n × (size_of n ≡ 1)) →
     es ≡ entries_of leaf →
     x ≡ get_or es 0 x →
-    differs ≡ not (eq-value.it x e) →
-    differs ≡ false →
-    IsTrue true ↔ Contains (entries_in root) e
-only_holds root leaf x e es differs is one held there test same =
-    (λ h. holds_only _ _ (only_there root leaf x e es differs is one held there test same), λ h. refl)
-
-pub other_there : (root : Option Node) (leaf : Node) (x e : Entry) (es : List Entry) (differs : Bool) →
-    root ≡ Some leaf →
-    IsSomeAnd root (λ n. IsLawfulAt 0 n × (size_of n ≡ 1)) →
-    es ≡ entries_of leaf →
-    x ≡ get_or es 0 x →
-    differs ≡ not (eq-value.it x e) →
-    differs ≡ true →
+    eq-value.it x e ≡ false →
     IsTrue false ↔ Contains (entries_in root) e
-other_there root leaf x e es differs is one held there test other =
-    (λ h. absurd (false≢true h), λ h. absurd (other_entry root leaf x e es is (rw is at one) held there (sym test ∙ other) h))
+other_there root leaf x e es is one held there other =
+    (λ h. absurd (false≢true h), λ h. absurd (other_entry root leaf x e es is (rw is at one) held there (ap not other) h))
 
 pub not_there : (es : List Entry) (e : Entry) (p : ℕ) (x : Entry) → p < length es → x ≡ get_or es p x → eq-value.it x e ≡ false → get_or es p e ≡ e → ⊥
 not_there es e p x lt at differ there =

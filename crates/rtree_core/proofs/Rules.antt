@@ -4,7 +4,7 @@ use Rattle.rtree_core.proofs.InsertionLemmas.{leaf_added, child_added}
 use Rattle.rtree_core.proofs.ItemLemmas.{as_leaf_level, open_inner, as_inner_level, as_inner_lawful, inner_fits, page_list, leaf_list, leaf_packed, inner_children, inner_packed}
 use Rattle.rtree_core.proofs.NodeLemmas.{lawful_is, lawful_level, level_leaf, level_inner, holds_entries, holds_children, given_entries, given_children}
 use Rattle.rtree_core.proofs.HeightLemmas.{root_height}
-use Rattle.rtree_core.proofs.RemovalLemmas.{entry_tests, not_there, only_there, only_holds, other_there}
+use Rattle.rtree_core.proofs.RemovalLemmas.{entry_tests, not_there, only_there, other_there}
 use Rattle.rtree_core.proofs.TreeLemmas.{tree_length, tree_height, same_length}
 
 pub ruleset reinsert_node = (lawful_is, lawful_level, as_leaf_level, open_inner, as_inner_level, as_inner_lawful, inner_fits)
@@ -31,4 +31,4 @@ pub ruleset from_pages = (same_length, root_height)
 
 pub ruleset place_of = (not_there, entry_tests)
 
-pub ruleset remove_last = (only_there, only_holds, other_there)
+pub ruleset remove_last = (only_there, other_there, entry_tests)
