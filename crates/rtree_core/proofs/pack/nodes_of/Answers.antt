@@ -1,5 +1,8 @@
 use Rattle.std.proofs.Common.{arith, ◌≡◌, ℕ, ◌-◌, ap, sym, refl, map, length}
 use Rattle.std.proofs.lemmas.List.{length-map, map-append}
+use Rattle.std.specs.declared.alloc.Global.{Global}
+use Rattle.std.specs.declared.vec.Vec.{Vec}
+use Rattle.std.specs.Prelude.{List, vec_len}
 use Rattle.std.specs.Vec.Iter.{into_iter_items}
 use Rattle.rtree_core.specs.declared.pack.Placed.{Placed}
 use Rattle.rtree_core.specs.declared.node.Node.{Node}
@@ -8,7 +11,7 @@ use Rattle.split_core.specs.Tiles.{items_before}
 use Rattle.rtree_core.proofs.PackingLemmas.{pages_none, pages_more, pages_all, enumerate_next}
 use Rattle.rtree_core.proofs.PackLemmas.{share_some, share_fits, share_within, cut_none, cut_more, cut_all, cut_in_range}
 use Rattle.rtree_core.proofs.pack.nodes_of.Goals as goal
-use Rattle.rtree_core.proofs.pack.nodes_of.Goals.{In_ok-nodes, After-page_size-size}
+use Rattle.rtree_core.proofs.pack.nodes_of.Goals.{After-page_size-size}
 
 left : (g : _) (c : After-page_size-size g) → length (map g.T.Packable.held (into_iter_items c.loop-place.rest)) ≡ c.len-left.result
 left g c = omega (arith, c.len-left.ensures, c.loop-place.rest.rest.ok.0, length-map (into_iter_items c.loop-place.rest) g.T.Packable.held)
@@ -27,20 +30,16 @@ next_page-requires-clause-few g c =
     let at = (goal.at.next_page-requires-clause-few g c).After-page_size-size in
     share_fits _ _ _ _ _ _ _ _ _ _ c.loop-place-test.true c.loop-place.invariant.cut (share g at)
 
-counted : (g : _) (c : In_ok-nodes g) → length (map g.T.Packable.held (into_iter_items c.into_iter-rest.result)) ≡ c.len-count.result
-counted g c = omega (
-  arith,
-  length-map (into_iter_items c.into_iter-rest.result) g.T.Packable.held,
-  ap length c.into_iter-rest.ensures.rest,
-  c.args.items.ok.0,
-  c.len-count.ensures,
-)
+-- how many items there are, as they were counted and as they are taken
+counted : {T S : Type 0} (held : T → S) (items : Vec T Global) (rest : List T) (count : ℕ) → rest ≡ items.items → count ≡ vec_len items →
+    length (map held rest) ≡ count
+counted held items rest count taken told = omega (arith, length-map rest held, ap length taken, items.ok.0, told)
 
 pub node_of-node-requires : goal.node_of-node-requires
 node_of-node-requires g c =
     let at = (goal.at.node_of-node-requires g c).After-page_size-size in
     let some = share_some _ _ _ _ _ _ _ _ _ _ c.loop-place-test.true
-    (omega (arith, counted g (goal.at.node_of-node-requires g c).In_ok-nodes, c.div_ceil-pages.ensures)) c.loop-place.invariant.cut (share g at) in
+    (omega (arith, counted g.T.Packable.held c.args.items _ _ c.into_iter-rest.ensures.rest c.len-count.ensures, c.div_ceil-pages.ensures)) c.loop-place.invariant.cut (share g at) in
     let few = share_fits _ _ _ _ _ _ _ _ _ _ c.loop-place-test.true c.loop-place.invariant.cut (share g at) in
     record {
       some = omega (arith, c.in_ok-page.ensures.page.len, some);
@@ -52,7 +51,7 @@ pub loop-place-init : goal.loop-place-init
 loop-place-init g c = record {
   cut =
       rw c.in_ok-nodes.ensures.items
-      (cut_none _ _ _ _ _ _ (omega (arith, counted g c, c.div_ceil-pages.ensures)));
+      (cut_none _ _ _ _ _ _ (omega (arith, counted g.T.Packable.held c.args.items _ _ c.into_iter-rest.ensures.rest c.len-count.ensures, c.div_ceil-pages.ensures)));
   pages = rw c.in_ok-nodes.ensures.items (pages_none _ _ _);
   places = rw c.in_ok-nodes.ensures.items refl;
   room = c.in_ok-nodes.ensures.exact;
@@ -84,13 +83,13 @@ loop-place-preserved g c =
 pub returns-clause-nodes : goal.returns-clause-nodes
 returns-clause-nodes g c =
     let all : c.loop-place.place ≡ c.div_ceil-pages.result = omega arith in
-    let pages = rw (← counted g (goal.at.returns-clause-nodes g c).In_ok-nodes) at c.div_ceil-pages.ensures in
+    let pages = rw (← counted g.T.Packable.held c.args.items _ _ c.into_iter-rest.ensures.rest c.len-count.ensures) at c.div_ceil-pages.ensures in
     rw c.into_iter-rest.ensures.rest at (cut_all _ _ _ _ _ c.div_ceil-pages.result _ _ pages (rw all at c.loop-place.invariant.cut))
 
 pub returns-clause-pages : goal.returns-clause-pages
 returns-clause-pages g c =
     let all : c.loop-place.place ≡ c.div_ceil-pages.result = omega arith in
-    let pages = rw (← counted g (goal.at.returns-clause-pages g c).In_ok-nodes) at c.div_ceil-pages.ensures in
+    let pages = rw (← counted g.T.Packable.held c.args.items _ _ c.into_iter-rest.ensures.rest c.len-count.ensures) at c.div_ceil-pages.ensures in
     rw c.into_iter-rest.ensures.rest at (pages_all _ _ c.div_ceil-pages.result _ _ pages (rw all at c.loop-place.invariant.pages))
 
 pub returns-clause-in_range : goal.returns-clause-in_range
