@@ -11,6 +11,7 @@ use std::alloc::AllocError;
 
 /// Adds the numbers of a node's entries that meet the window, from left to right.
 #[cycle(window)]
+#[tactic(auto, using(crate::proofs::WindowLemmas::list_step))]
 pub(crate) fn collect(node: &Node, window: &Shape, found: &mut Vec<u32>) -> Result<(), AllocError>
     requires { IsLawful node.now }
     ensures { OnOk result (Adds window.now (entries_of node.now) found.old.items found.new.items) }
@@ -23,6 +24,7 @@ pub(crate) fn collect(node: &Node, window: &Shape, found: &mut Vec<u32>) -> Resu
 
 /// Goes down into the children whose covers meet the window.
 #[cycle(window)]
+#[tactic(auto, using(crate::proofs::WindowLemmas::child_step))]
 fn collect_children(
     children: &[Node],
     window: &Shape,

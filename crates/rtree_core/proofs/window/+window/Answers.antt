@@ -7,14 +7,6 @@ use Rattle.rtree_core.proofs.NodeLemmas.{entries_inner, level_inner, top_level, 
 use Rattle.rtree_core.proofs.WindowLemmas.{adds_none, adds_more_child, adds_pruned, ran}
 use Rattle.rtree_core.proofs.window.+window.Goals as goal
 
-pub collect-collect_children-requires : goal.collect-collect_children-requires
-collect-collect_children-requires t c =
-    let level = level_inner c.args.node.now c.in-Children.children (ap out-Below c.in-Children.is ∙ outs-Children c.in-Children.children) in (
-      omega (arith, c.decreases, level, ap top_level c.deref-in-Children.ensures.value),
-      rw c.deref-in-Children.ensures.value
-          (children_lawful c.args.node.now c.in-Children.children c.in-Children.is c.requires),
-    )
-
 pub collect-returns-in-Children : goal.collect-returns-in-Children
 collect-returns-in-Children t c =
     rw (
@@ -37,8 +29,3 @@ pub collect_children-loop-child-preserved : goal.collect_children-loop-child-pre
 collect_children-loop-child-preserved t c =
     adds_more_child c.args.window.now c.args.children.now c.loop-child.child-index c.child-item.result _ c.loop-child.found.items _ c.loop-child-test.true
     c.child-item.is c.loop-child.invariant (search ran)
-
-pub collect_children-collect-requires : goal.collect_children-collect-requires
-collect_children-collect-requires t c =
-    let level = level-le-top c.args.children.now c.loop-child.child-index c.child-item.result c.loop-child-test.true c.child-item.is in
-    (omega (arith, c.decreases, level), rw (sym c.child-item.is) at (c.requires c.loop-child.child-index c.child-item.result c.loop-child-test.true))
