@@ -145,6 +145,7 @@ fn next_page<T: Packable>(
 }
 
 /// The nodes of a level, given what they hold, in the order of their pages.
+#[tactic(auto, using(crate::proofs::PackLemmas::shares))]
 fn nodes_of<T: Packable>(alloc: Global, items: Vec<T>) -> Result<Vec<Placed>, AllocError>
     ensures nodes { let held = map T.held items.items in
         let AreNodes = AreNodesOf T.Held.entries T.Held.fits T.Held.fits_packed held in

@@ -25,11 +25,6 @@ sized : (g : _) (c : After-page_size-size g) →
     items_before 1 (c.div_ceil-pages.result - c.loop-place.place) (length (map g.T.Packable.held (into_iter_items c.loop-place.rest)))
 sized g c = rw (left g c) c.page_size-size.ensures.value
 
-pub next_page-requires-clause-few : goal.next_page-requires-clause-few
-next_page-requires-clause-few g c =
-    let at = (goal.at.next_page-requires-clause-few g c).After-page_size-size in
-    share_fits _ _ _ _ _ _ _ _ _ _ c.loop-place-test.true c.loop-place.invariant.cut (share g at)
-
 -- how many items there are, as they were counted and as they are taken
 counted : {T S : Type 0} (held : T → S) (items : Vec T Global) (rest : List T) (count : ℕ) → rest ≡ items.items → count ≡ vec_len items →
     length (map held rest) ≡ count
@@ -96,15 +91,6 @@ pub returns-clause-in_range : goal.returns-clause-in_range
 returns-clause-in_range g c =
     let all : c.loop-place.place ≡ c.div_ceil-pages.result = omega arith in
     rw c.into_iter-rest.ensures.rest at (cut_in_range _ _ _ _ _ c.div_ceil-pages.result _ _ (rw all at c.loop-place.invariant.cut))
-
-pub next_page-requires-clause-enough : goal.next_page-requires-clause-enough
-next_page-requires-clause-enough g c =
-    omega (
-      arith,
-      share_within c.page_size-size.result c.len-left.result (c.div_ceil-pages.result - c.loop-place.place)
-          (omega arith) c.page_size-size.ensures.share,
-      c.len-left.ensures,
-    )
 
 pub push_reserved-requires : goal.push_reserved-requires
 push_reserved-requires g c =
