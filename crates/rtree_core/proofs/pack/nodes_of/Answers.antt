@@ -9,7 +9,7 @@ use Rattle.rtree_core.specs.declared.node.Node.{Node}
 use Rattle.rtree_core.specs.Packed.{IsShare}
 use Rattle.split_core.specs.Tiles.{items_before}
 use Rattle.rtree_core.proofs.PackingLemmas.{pages_none, pages_more, pages_all, enumerate_next}
-use Rattle.rtree_core.proofs.PackLemmas.{share_some, share_fits, share_within, cut_none, cut_more, cut_all, cut_in_range}
+use Rattle.rtree_core.proofs.PackLemmas.{share_some, share_fits, cut_none, cut_more, cut_all, cut_in_range}
 use Rattle.rtree_core.proofs.pack.nodes_of.Goals as goal
 use Rattle.rtree_core.proofs.pack.nodes_of.Goals.{After-page_size-size}
 

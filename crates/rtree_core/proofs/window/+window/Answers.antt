@@ -1,9 +1,8 @@
-use Rattle.std.proofs.Common.{arith, ap, sym, ◌∙◌}
-use Rattle.std.proofs.lemmas.Bool.{false≢true}
+use Rattle.std.proofs.Common.{ap, sym, ◌∙◌}
 use Rattle.rtree_core.specs.declared.node.Below.{out-Below}
 use Rattle.rtree_core.specs.declared.node.Below.TheVariants.{outs-Children}
 use Rattle.rtree_core.specs.Nodes.{level_of}
-use Rattle.rtree_core.proofs.NodeLemmas.{entries_inner, level_inner, top_level, level-le-top, children_lawful}
+use Rattle.rtree_core.proofs.NodeLemmas.{entries_inner}
 use Rattle.rtree_core.proofs.WindowLemmas.{adds_none, adds_more_child, adds_pruned, ran}
 use Rattle.rtree_core.proofs.window.+window.Goals as goal
 
