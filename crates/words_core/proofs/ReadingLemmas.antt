@@ -31,7 +31,7 @@ use Rattle.relation_core.specs.declared.mask.MaskFault.TheVariants as mask
 use Rattle.relation_core.specs.declared.relation.Relation.{Relation}
 use Rattle.words_core.specs.Readings.{found_in, hint_names, hint_of, is_near, missing_text, number_at, number_of, share_input, shared_text, text_in, AreOptionsIn, HasJoinFault, HasScaleFault}
 use Rattle.words_core.specs.Readings.{IsNoRelation, IsRangeFault, IsRelationFault, Needs, NeedsOneInput, NeedsOptions, NeedsRelation, Says}
-use Rattle.words_core.specs.Readings.{HasCommandFault, HasFault, HasMetFault, IsMetAs, IsUsageFault, Met, ReadAs, met_in, refusals_of}
+use Rattle.words_core.specs.Readings.{of_none, HasCommandFault, HasFault, HasMetFault, IsMetAs, IsUsageFault, Met, ReadAs, met_in, refusals_of}
 use Rattle.words_core.specs.Usage.{HasUsage, program_usage}
 use Rattle.words_core.specs.declared.words.Command.{Command}
 use Rattle.words_core.specs.declared.words.WordFault.{WordFault}
@@ -176,8 +176,8 @@ module _ (rows : List Row) (left right : Text) (edits : Option Text) (f : WordFa
       (subst (λ (e : Option Text). NeedsOneInput left right e f (NeedsRelation rows f (NeedsOptions rows f (HasScaleFault rows f)))) (sym are_edits) h))
 
   -- two files are standard input
-  pub join_shares : share_input left right edits ≡ true → Says shared_text f → HasJoinFault rows f
-  join_shares e says = join_from (when_true (share_input left right edits) _ _ e says)
+  pub join_shares : share_input left right edits ≡ true → (f ≢ fault.Memory → Says shared_text f) → f ≢ fault.Memory → HasJoinFault rows f
+  join_shares e says known = join_from (when_true (share_input left right edits) _ _ e (says known))
 
   -- no relation is given
   pub join_misses : share_input left right edits ≡ false → first_of (codes "relation") rows ≡ None → Says (missing_text (codes "relation")) f → HasJoinFault rows f
@@ -215,20 +215,20 @@ abbrev pub met_of : Bor Text × Bor ArgMatches → Text × List Row
 met_of p = (p.0.now, found_in p.1.now)
 
 -- the subcommand that was met, by the name and the matches that are read of it
-met_is : (m : ArgMatches) (r : Option (Bor Text × Bor ArgMatches)) → option_map (λ p. p.0.now) r ≡ subcommand_name_of m
+pub met_is : (m : ArgMatches) (r : Option (Bor Text × Bor ArgMatches)) → option_map (λ p. p.0.now) r ≡ subcommand_name_of m
     → option_map (λ p. rows_of (found_of p.1.now)) r ≡ option_map (λ (p : Text × List Row). p.1) (subcommand_rows_of m)
     → subcommand_rows_of m ≡ option_map met_of r
 met_is m r names rows =
     pair_is (λ b. (out-SubCommand (box_value b)).name.now) (λ b. rows_of (found_of (out-SubCommand (box_value b)).matches))
     (λ p. p.0.now) (λ p. found_in p.1.now) (out-ArgMatches m).subcommand r names rows
 
-pub as_met : (P : Met → Type 0) (m : ArgMatches) (r o : Option (Bor Text × Bor ArgMatches)) → option_map (λ p. p.0.now) r ≡ subcommand_name_of m
-    → option_map (λ p. rows_of (found_of p.1.now)) r ≡ option_map (λ (p : Text × List Row). p.1) (subcommand_rows_of m)
-    → r ≡ o → P (option_map met_of o) → P (subcommand_rows_of m)
-as_met P m r o names rows is h = subst P (sym (met_is m r names rows ∙ ap (option_map met_of) is)) h
-
 pub named : (rows : List Row) (f : WordFault) (known name : Text) → name ≡ known → HasCommandFault rows f known → HasCommandFault rows f name
 named rows f known name e h = subst (λ (n : Text). HasCommandFault rows f n) (sym e) h
+
+pub unnamed : (rows : List Row) (f : WordFault) (name : Text) → name ≢ codes "relate" → name ≢ codes "join" → name ≢ codes "draw" → name ≢ codes "window"
+    → name ≢ codes "stats" → name ≢ codes "bounds" → (f ≢ fault.Memory → Says (missing_text (codes "COMMAND")) f) → f ≢ fault.Memory
+    → HasCommandFault rows f name
+unnamed rows f name relate join draw window stats bounds says known = of_none name relate join draw window stats bounds (says known)
 
 is_simple_usage : is_simple program_usage ≡ true
 is_simple_usage = refl

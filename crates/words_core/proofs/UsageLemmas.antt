@@ -1,17 +1,15 @@
 -- How a command comes to its usage.
-use Rattle.std.proofs.Common.{◌≡◌, ◌∙◌, ◌++◌, ◌∷◌, ◌||◌, [], List, Bool, true, false, refl, ap, ap₂, append_assoc, Some, option_map, Result, Ok, Err}
-use Rattle.std.specs.Prelude.{IfOk, IsOkAnd}
-use Rattle.std.specs.declared.alloc.AllocError.{AllocError}
-use Rattle.clap.specs.Words.{AddsArg, AddsSubcommand, App, app_of, Rule, Shape, Text, with_rule, with_subcommand}
-use Rattle.clap.specs.Simple.{app_of_fields, new_shape}
+use Rattle.std.proofs.Common.{ℕ, Bool, true, false, List, [], ◌∷◌, ◌++◌, ◌+◌, ◌<◌, ◌≤◌, ◌≡◌, ◌∙◌, ◌||◌, add-one, ap, ap₂, append_assoc, drop, get_or, length, map, refl, sym}
+use Rattle.std.proofs.Math.Seq.{drop-cons}
+use Rattle.std.proofs.lemmas.List.{at_drop_all}
+use Rattle.clap.specs.Words.{AddsArg, AddsSubcommand, App, Rule, Shape, Text, app_of, with_rule, with_subcommand}
 use Rattle.clap.specs.declared.builder.arg.Arg.{Arg}
 use Rattle.clap.specs.declared.builder.command.Command.{Command}
-use Rattle.clap.specs.declared.builder.command.Command.TheOpen.{Command-F}
 use Rattle.clap.specs.declared.builder.command.Command.TheViews.{out-Command as fields_of}
-use Rattle.words_core.specs.Usage.{AddsRules, AddsTo, HasRules, HasUsage, IsArgument, IsBegun, with_rules}
-
-abbrev Built : Type 0
-Built = Result Command AllocError
+use Rattle.words_core.specs.Tables.{argument_rule, shape_told}
+use Rattle.words_core.specs.Usage.{AddsRules, HasUsage, IsArgument, IsBegun, program_shape, program_usage, subcommand_shapes, with_rules}
+use Rattle.words_core.specs.declared.usage.Argument.{Argument}
+use Rattle.words_core.specs.declared.usage.Subcommand.{Subcommand}
 
 or_false : (b : Bool) → (b || false) ≡ b
 or_false true = refl
@@ -36,51 +34,46 @@ adds_then rules more old mid new first second = record {
     with_all : App → List Rule → App
     with_all a rs = record a { top = record a.top { rules = rs } }
 
--- a new command is begun when help says something of it
-pub is_begun : (begun : Shape) (new said shown : Command) (about help : _) → app_of new ≡ record { top = begun; subs = [] } → (fields_of new).has_globals ≡ false
-    → fields_of said ≡ record (fields_of new) { about = Some about } → fields_of shown ≡ record (fields_of said) { after_help = Some help }
-    → IsBegun begun about.now shown
-is_begun begun new said shown about help shape local is_said is_shown =
-    let shown_fields = is_shown ∙ ap (λ (f : Command-F Command). record f { after_help = Some help }) is_said in
+-- the next of the arguments is added, and then the others
+pub adds_next : (arguments : List Argument) (i : ℕ) (d : Argument) (old mid new : Command) (arg : Arg) → i < length arguments → AddsArg old arg mid
+    → IsArgument (argument_rule (get_or arguments i d)) arg → AddsRules mid (map argument_rule (drop (i + 1) arguments)) new
+    → AddsRules old (map argument_rule (drop i arguments)) new
+adds_next arguments i d old mid new arg within added is others =
+    let first = argument_rule (get_or arguments i d) in
+    let left : drop i arguments ≡ get_or arguments i d ∷ drop (i + 1) arguments = rw add-one (drop-cons arguments i d within) in
+    rw left (adds_then (first ∷ []) (map argument_rule (drop (i + 1) arguments)) old mid new (adds_one first old mid arg added is) others)
+
+abbrev pub with_subcommands : App → List Shape → App
+with_subcommands usage [] = usage
+with_subcommands usage (shape ∷ more) = with_subcommands (with_subcommand usage shape) more
+
+-- the command has this usage once commands of these shapes are added
+pub record LeavesUsage (command : Command) (shapes : List Shape) (usage : App) : Type 0 where
+  pub shape : with_subcommands (app_of command) shapes ≡ usage
+  pub local : (fields_of command).has_globals ≡ false
+
+-- the next of the commands is added
+pub adds_command : (commands : List Subcommand) (i : ℕ) (d : Subcommand) (usage : App) (old sub new : Command) → i < length commands
+    → HasUsage (record { top = shape_told (get_or commands i d); subs = [] }) sub → AddsSubcommand old sub new
+    → LeavesUsage old (map shape_told (drop i commands)) usage → LeavesUsage new (map shape_told (drop (i + 1) commands)) usage
+adds_command commands i d usage old sub new within is added leaves =
+    let first = shape_told (get_or commands i d) in
+    let rest = map shape_told (drop (i + 1) commands) in
+    let left : drop i commands ≡ get_or commands i d ∷ drop (i + 1) commands = rw add-one (drop-cons commands i d within) in
+    let grown : app_of new ≡ with_subcommand (app_of old) first = added.shape is.local ∙ ap (λ (a : App). with_subcommand (app_of old) a.top) is.shape in
+    let before : with_subcommands (with_subcommand (app_of old) first) rest ≡ usage = rw left at leaves.shape in
     record {
-      shape = ap app_of_fields shown_fields ∙ shape;
-      about = ap (λ (f : Command-F Command). option_map (λ about. about.now) f.about) shown_fields;
-      local = ap (λ (f : Command-F Command). f.has_globals) shown_fields ∙ local;
+      shape = ap (λ a. with_subcommands a rest) grown ∙ before;
+      local = added.globals ∙ ap₂ (λ a b. a || b) leaves.local is.local;
     }
 
--- a begun command has the arguments that were added
-pub has_rules : (name text : Text) (rules : List Rule) (begun new : Command) → IsBegun (new_shape name) text begun → AddsRules begun rules new → HasRules name rules new
-has_rules name text rules begun new is added =
-    record { shape = added.shape ∙ ap (λ a. with_rules a rules) is.shape; local = added.globals ∙ is.local }
+-- all commands are left to add
+pub leaves_all : (about : Text) (begun : Command) (shapes : List Shape) → IsBegun program_shape about begun → shapes ≡ subcommand_shapes
+    → LeavesUsage begun shapes program_usage
+leaves_all about begun shapes is same = record { shape = ap₂ with_subcommands is.shape same; local = is.local }
 
--- one subcommand is added
-pub adds_command : (usage : App) (shape : Shape) (old sub new : Command) → HasUsage usage old → HasUsage (record { top = shape; subs = [] }) sub
-    → AddsSubcommand old sub new → HasUsage (with_subcommand usage shape) new
-adds_command usage shape old sub new has is added = record {
-  shape = added.shape is.local ∙ ap₂ with_subcommand has.shape (ap (λ (a : App). a.top) is.shape);
-  local = added.globals ∙ ap₂ (λ a b. a || b) has.local is.local;
-}
-
--- the same of what may not have been made for want of memory
-pub args_to : (rule : Rule) (arg : Arg) (given r : Built) → IfOk r (λ new. IsOkAnd given (λ old. AddsArg old arg new)) → IsArgument rule arg → AddsTo given (rule ∷ []) r
-args_to rule arg (Ok old) (Ok new) added is = adds_one rule old new arg added is
-args_to rule arg (Err e) (Ok new) added is = added
-args_to rule arg given (Err e) added is = added
-
-pub adds_to_then : (rules more : List Rule) (given mid r : Built) → AddsTo given rules mid → AddsTo mid more r → AddsTo given (rules ++ more) r
-adds_to_then rules more (Ok old) (Ok mid) (Ok new) first second = adds_then rules more old mid new first second
-adds_to_then rules more (Err e) (Ok mid) (Ok new) first second = first
-adds_to_then rules more given (Err e) (Ok new) first second = absurd second
-adds_to_then rules more given mid (Err e) first second = second
-
-pub has_rules_of : (name text : Text) (rules : List Rule) (begun : Command) (r : Built) → IsBegun (new_shape name) text begun → AddsTo (Ok begun) rules r
-    → IfOk r (HasRules name rules)
-has_rules_of name text rules begun (Ok new) is added = has_rules name text rules begun new is added
-has_rules_of name text rules begun (Err e) is added = added
-
-pub commands_to : (usage : App) (shape : Shape) (given sub r : Built) → IfOk given (HasUsage usage) → IfOk sub (HasUsage (record { top = shape; subs = [] }))
-    → IfOk r (λ new. IsOkAnd given (λ old. IsOkAnd sub (λ one. AddsSubcommand old one new))) → IfOk r (HasUsage (with_subcommand usage shape))
-commands_to usage shape (Ok old) (Ok sub) (Ok new) has is added = adds_command usage shape old sub new has is added
-commands_to usage shape (Ok old) (Err e) (Ok new) has is added = absurd added
-commands_to usage shape (Err e) sub (Ok new) has is added = absurd added
-commands_to usage shape given sub (Err e) has is added = added
+-- no command is left
+pub leaves_none : (commands : List Subcommand) (i : ℕ) (usage : App) (command : Command) → length commands ≤ i
+    → LeavesUsage command (map shape_told (drop i commands)) usage → HasUsage usage command
+leaves_none commands i usage command past leaves =
+    record { shape = sym (at_drop_all (λ left. with_subcommands (app_of command) (map shape_told left)) commands i past) ∙ leaves.shape; local = leaves.local }

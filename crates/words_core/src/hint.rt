@@ -24,7 +24,8 @@ const MOST_TYPOS: usize = 2;
 pub fn nearest_relation(alloc: Global, word: &str) -> Result<Option<&'static str>, AllocError>
     ensures { IfOk result (λ found. text_in found ≡ hint_of word.now) }
 {
-    nearest(alloc, word, NAMES.as_slice())
+    let names = NAMES.as_slice();
+    nearest(alloc, word, names)
 }
 
 /// The first of the names that differs from the word in few letters, if there is one.

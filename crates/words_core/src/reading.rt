@@ -45,8 +45,14 @@ fn read_named<'a>(
 {
     match name {
         "relate" => read_relate(alloc, given),
-        "join" => Ok(Command::Join(read_join(alloc, given)?)),
-        "draw" => Ok(Command::Draw(read_join(alloc, given)?)),
+        "join" => {
+            let join = read_join(alloc, given)?;
+            Ok(Command::Join(join))
+        }
+        "draw" => {
+            let draw = read_join(alloc, given)?;
+            Ok(Command::Draw(draw))
+        }
         "window" => read_window(alloc, given),
         "stats" => read_stats(alloc, given),
         "bounds" => read_bounds(alloc, given),
@@ -71,8 +77,12 @@ fn read_join<'a>(alloc: Global, given: &ArgMatches<'a>) -> Result<JoinRequest<'a
     let left_path = required(alloc, given, "LEFT")?;
     let right_path = required(alloc, given, "RIGHT")?;
     let edits_path = given.get_str("edits");
-    refuse_shared_input(alloc, left_path, right_path, edits_path)?;
-    let relation = read_relation(alloc, required(alloc, given, "relation")?)?;
+    let is_shared = shares_input(left_path, right_path, edits_path);
+    if is_shared {
+        return Err(shared_input(alloc));
+    }
+    let word = required(alloc, given, "relation")?;
+    let relation = read_relation(alloc, word)?;
     let options = read_options(alloc, given)?;
     let scale = read_scale(alloc, given)?;
     Ok(JoinRequest {
@@ -111,27 +121,18 @@ fn relation_fault(alloc: Global, word: &str, fault: MaskFault) -> Result<WordFau
     })
 }
 
-/// Refuses two files that are both to be read from standard input, which can be read only once.
-fn refuse_shared_input(
-    alloc: Global,
-    left: &str,
-    right: &str,
-    edits: Option<&str>,
-) -> Result<(), WordFault>
-    ensures ok { IfOk result (λ _. share_input left.now right.now (text_in edits.entry) ≡ false) }
-    ensures err { IfErr result (λ f. f ≢ WordFault.Memory → Says shared_text f
-        × (share_input left.now right.now (text_in edits.entry) ≡ true)) }
+/// The fault of two files that are both to be read from standard input, which can be read only once.
+fn shared_input(alloc: Global) -> WordFault
+    ensures { result ≢ WordFault.Memory → Says shared_text result }
 {
-    if !shares_input(left, right, edits) {
-        return Ok(());
+    let text = String::from_str(
+        alloc,
+        "error: only one of LEFT, RIGHT and --edits can be -\n",
+    );
+    match text {
+        Ok(text) => WordFault::Usage { text, help: false },
+        Err(AllocError) => WordFault::Memory,
     }
-    Err(WordFault::Usage {
-        text: String::from_str(
-            alloc,
-            "error: only one of LEFT, RIGHT and --edits can be -\n",
-        )?,
-        help: false,
-    })
 }
 
 /// Whether two of the files of a join are to be read from standard input.
@@ -182,7 +183,8 @@ fn read_options(alloc: Global, given: &ArgMatches<'_>) -> Result<Options, WordFa
     let workers = number(alloc, given, "workers")?;
     let batch = number(alloc, given, "batch")?;
     let cut = number(alloc, given, "cut")?;
-    Ok(Options::new(workers, batch, cut)?)
+    let options = Options::new(workers, batch, cut)?;
+    Ok(options)
 }
 
 fn read_scale(alloc: Global, given: &ArgMatches<'_>) -> Result<Scale, WordFault>

@@ -1,18 +1,13 @@
 //! What the program tells of its words: commands, options and help.
 
-ghost use Rattle.std.specs.Prelude.{codes, IfOk, IsOkAnd};
+ghost use Rattle.std.specs.Prelude.{◌≡◌, [], map, IfOk};
 ghost use Rattle.clap.specs.Simple.{new_shape};
-ghost use Rattle.clap.specs.Words.{AddsArg, AddsSubcommand};
-ghost use Rattle.words_core.specs.Usage.{AddsTo, AddsRules, HasRules, HasUsage, IsArgument};
-ghost use Rattle.words_core.specs.Usage.{IsBegun};
-ghost use Rattle.words_core.specs.Usage.{bounds_about, draw_about, edit_rules, edits_rule};
-ghost use Rattle.words_core.specs.Usage.{join_about, join_rules, layer_only_rules, layer_rules};
-ghost use Rattle.words_core.specs.Usage.{numeric_rule};
-ghost use Rattle.words_core.specs.Usage.{option_rules, positional_rule, program_about};
-ghost use Rattle.words_core.specs.Usage.{relation_rule};
-ghost use Rattle.words_core.specs.Usage.{program_shape, program_usage, relate_about};
-ghost use Rattle.words_core.specs.Usage.{relate_rules, scale_rule, stats_about, window_about};
-ghost use Rattle.words_core.specs.Usage.{window_rules};
+ghost use Rattle.words_core.specs.Tables.{about_told, argument_rule, shape_told};
+ghost use Rattle.words_core.specs.Tables.{subcommand_abouts};
+ghost use Rattle.words_core.specs.Usage.{AddsRules, HasUsage, IsArgument, IsBegun};
+ghost use Rattle.words_core.specs.Usage.{edits_rule, numeric_rule, positional_rule};
+ghost use Rattle.words_core.specs.Usage.{program_about, program_shape, program_usage};
+ghost use Rattle.words_core.specs.Usage.{relation_rule, subcommand_shapes};
 
 use clap::{Arg, Command, value_parser};
 use std::alloc::{AllocError, Global};
@@ -20,6 +15,137 @@ use std::alloc::{AllocError, Global};
 /// A command, or that there was no memory for it. It is handed on as it is: each place where a
 /// function may end with a command in hand takes long to prove.
 type Built<'a> = Result<Command<'a>, AllocError>;
+
+/// An argument of a command.
+#[derive(Clone, Copy)]
+enum Argument {
+    /// It has to be given, by its place.
+    Positional {
+        name: &'static str,
+        help: &'static str,
+    },
+    /// An option that is a whole number.
+    Number {
+        name: &'static str,
+        help: &'static str,
+        default: &'static str,
+    },
+    Relation,
+    Edits,
+}
+
+/// A command of the program, as help tells it.
+struct Subcommand {
+    name: &'static str,
+    about: &'static str,
+    help: &'static str,
+    arguments: &'static [Argument],
+}
+
+const SUBCOMMANDS: [Subcommand; 6] = [
+    Subcommand {
+        name: "relate",
+        about: "Writes the DE-9IM matrix of two geometries",
+        help: RELATE_HELP,
+        arguments: &RELATE_ARGUMENTS,
+    },
+    Subcommand {
+        name: "join",
+        about: "Writes the pairs of features of two layers that stand in a relation",
+        help: JOIN_HELP,
+        arguments: &JOIN_ARGUMENTS,
+    },
+    Subcommand {
+        name: "draw",
+        about: "Writes a picture of two layers and of the pairs that stand in a relation, as SVG",
+        help: DRAW_HELP,
+        arguments: &JOIN_ARGUMENTS,
+    },
+    Subcommand {
+        name: "window",
+        about: "Writes the ids of the features of a layer that meet a geometry",
+        help: WINDOW_HELP,
+        arguments: &WINDOW_ARGUMENTS,
+    },
+    Subcommand {
+        name: "stats",
+        about: "Counts the features of a layer by kind, and the levels of its tree",
+        help: STATS_HELP,
+        arguments: &LAYER_ARGUMENTS,
+    },
+    Subcommand {
+        name: "bounds",
+        about: "Writes the corners of the features of a layer",
+        help: BOUNDS_HELP,
+        arguments: &LAYER_ARGUMENTS,
+    },
+];
+
+const RELATE_ARGUMENTS: [Argument; 3] = [
+    Argument::Positional {
+        name: "A",
+        help: "First geometry, as well-known text",
+    },
+    Argument::Positional {
+        name: "B",
+        help: "Second geometry, as well-known text",
+    },
+    SCALE,
+];
+
+/// The arguments of `join` and of `draw`.
+const JOIN_ARGUMENTS: [Argument; 8] = [
+    Argument::Positional {
+        name: "LEFT",
+        help: "CSV file of the left layer",
+    },
+    Argument::Positional {
+        name: "RIGHT",
+        help: "CSV file of the right layer",
+    },
+    Argument::Relation,
+    Argument::Edits,
+    Argument::Number {
+        name: "workers",
+        help: "Threads that join, 1 to 16",
+        default: "4",
+    },
+    Argument::Number {
+        name: "batch",
+        help: "Pairs a batch, 1 to 4096",
+        default: "256",
+    },
+    Argument::Number {
+        name: "cut",
+        help: "Rounds of cutting into tasks, 0 to 8",
+        default: "2",
+    },
+    SCALE,
+];
+
+const WINDOW_ARGUMENTS: [Argument; 3] = [
+    LAYER,
+    Argument::Positional {
+        name: "WKT",
+        help: "Geometry of the window, as well-known text",
+    },
+    SCALE,
+];
+
+/// The arguments of `stats` and of `bounds`.
+const LAYER_ARGUMENTS: [Argument; 2] = [LAYER, SCALE];
+
+const LAYER: Argument = Argument::Positional {
+    name: "LAYER",
+    help: "CSV file of the layer",
+};
+
+/// The option of every command: decimals of all coordinates.
+const SCALE: Argument = Argument::Number {
+    name: "scale",
+    help: "Decimals that a coordinate may have, 0 to 6",
+    default: "0",
+};
 
 const PROGRAM_HELP: &str = "\
 Layers are CSV files with the header id,wkt and a feature a row:
@@ -136,12 +262,21 @@ invalid arguments";
 pub fn usage<'a>(alloc: Global) -> Result<Command<'a>, AllocError>
     ensures { IfOk result (HasUsage program_usage) }
 {
-    let relate = with_command(Ok(program_begun(alloc)), relate_usage(alloc));
-    let join = with_command(relate, join_usage(alloc));
-    let draw = with_command(join, draw_usage(alloc));
-    let window = with_command(draw, window_usage(alloc));
-    let stats = with_command(window, stats_usage(alloc));
-    with_command(stats, bounds_usage(alloc))
+    let subcommands = subcommands();
+    let mut program = program_begun(alloc);
+    for subcommand in subcommands {
+        let command = declared_command(alloc, subcommand)?;
+        program = program.subcommand(command)?;
+    }
+    Ok(program)
+}
+
+/// The commands of the program.
+fn subcommands() -> &'static [Subcommand]
+    ensures shapes { map shape_told result.now ≡ subcommand_shapes }
+    ensures abouts { map about_told result.now ≡ subcommand_abouts }
+{
+    SUBCOMMANDS.as_slice()
 }
 
 fn program_begun<'a>(alloc: Global) -> Command<'a>
@@ -157,160 +292,40 @@ fn program_begun<'a>(alloc: Global) -> Command<'a>
     .subcommand_required(true)
 }
 
-fn relate_usage<'a>(alloc: Global) -> Built<'a>
-    ensures { IfOk result (HasRules (codes "relate") relate_rules) }
+/// What `clap` is told of a command.
+fn declared_command<'a>(alloc: Global, command: &Subcommand) -> Built<'a>
+    ensures { IfOk result (HasUsage (record { top = shape_told command.now; subs = [] })) }
 {
-    let first = positional(alloc, "A", "First geometry, as well-known text");
-    let second = positional(alloc, "B", "Second geometry, as well-known text");
-    let both = with_arg(with_arg(Ok(relate_begun(alloc)), first), second);
-    with_arg(both, scale(alloc))
+    let begun = begun(alloc, command.name, command.about, command.help);
+    with_arguments(alloc, begun, command.arguments)
 }
 
-fn relate_begun<'a>(alloc: Global) -> Command<'a>
-    ensures { IsBegun (new_shape (codes "relate")) relate_about result }
+/// The command with these arguments more.
+fn with_arguments<'a>(alloc: Global, command: Command<'a>, arguments: &[Argument]) -> Built<'a>
+    ensures { IfOk result (AddsRules command.entry (map argument_rule arguments.now)) }
 {
-    begun(
-        alloc,
-        "relate",
-        "Writes the DE-9IM matrix of two geometries",
-        RELATE_HELP,
-    )
+    let mut command = command;
+    for argument in arguments {
+        let arg = declared_argument(alloc, *argument);
+        command = command.arg(arg)?;
+    }
+    Ok(command)
 }
 
-fn join_usage<'a>(alloc: Global) -> Built<'a>
-    ensures { IfOk result (HasRules (codes "join") join_rules) }
+/// What `clap` is told of the argument.
+fn declared_argument<'a>(alloc: Global, argument: Argument) -> Arg<'a>
+    ensures { IsArgument (argument_rule argument) result }
 {
-    with_join_arguments(alloc, join_begun(alloc))
-}
-
-fn join_begun<'a>(alloc: Global) -> Command<'a>
-    ensures { IsBegun (new_shape (codes "join")) join_about result }
-{
-    begun(
-        alloc,
-        "join",
-        "Writes the pairs of features of two layers that stand in a relation",
-        JOIN_HELP,
-    )
-}
-
-fn draw_usage<'a>(alloc: Global) -> Built<'a>
-    ensures { IfOk result (HasRules (codes "draw") join_rules) }
-{
-    with_join_arguments(alloc, draw_begun(alloc))
-}
-
-fn draw_begun<'a>(alloc: Global) -> Command<'a>
-    ensures { IsBegun (new_shape (codes "draw")) draw_about result }
-{
-    begun(
-        alloc,
-        "draw",
-        "Writes a picture of two layers and of the pairs that stand in a relation, as SVG",
-        DRAW_HELP,
-    )
-}
-
-/// The command with the arguments of a join.
-fn with_join_arguments<'a>(alloc: Global, command: Command<'a>) -> Built<'a>
-    ensures { IfOk result (AddsRules command.entry join_rules) }
-{
-    with_options(alloc, with_edits(alloc, with_layers(alloc, Ok(command))))
-}
-
-fn with_layers<'a>(alloc: Global, command: Built<'a>) -> Built<'a>
-    ensures { AddsTo command.entry layer_rules result }
-{
-    let left = positional(alloc, "LEFT", "CSV file of the left layer");
-    let right = positional(alloc, "RIGHT", "CSV file of the right layer");
-    with_arg(with_arg(command, left), right)
-}
-
-fn with_edits<'a>(alloc: Global, command: Built<'a>) -> Built<'a>
-    ensures { AddsTo command.entry edit_rules result }
-{
-    with_arg(with_arg(command, relation(alloc)), edits(alloc))
-}
-
-fn with_options<'a>(alloc: Global, command: Built<'a>) -> Built<'a>
-    ensures { AddsTo command.entry option_rules result }
-{
-    let workers = numeric(alloc, "workers", "Threads that join, 1 to 16", "4");
-    let batch = numeric(alloc, "batch", "Pairs a batch, 1 to 4096", "256");
-    let cut = numeric(alloc, "cut", "Rounds of cutting into tasks, 0 to 8", "2");
-    let three = with_arg(with_arg(with_arg(command, workers), batch), cut);
-    with_arg(three, scale(alloc))
-}
-
-fn window_usage<'a>(alloc: Global) -> Built<'a>
-    ensures { IfOk result (HasRules (codes "window") window_rules) }
-{
-    let layer = positional(alloc, "LAYER", "CSV file of the layer");
-    let window = positional(alloc, "WKT", "Geometry of the window, as well-known text");
-    let both = with_arg(with_arg(Ok(window_begun(alloc)), layer), window);
-    with_arg(both, scale(alloc))
-}
-
-fn window_begun<'a>(alloc: Global) -> Command<'a>
-    ensures { IsBegun (new_shape (codes "window")) window_about result }
-{
-    begun(
-        alloc,
-        "window",
-        "Writes the ids of the features of a layer that meet a geometry",
-        WINDOW_HELP,
-    )
-}
-
-fn stats_usage<'a>(alloc: Global) -> Built<'a>
-    ensures { IfOk result (HasRules (codes "stats") layer_only_rules) }
-{
-    let layer = positional(alloc, "LAYER", "CSV file of the layer");
-    with_arg(with_arg(Ok(stats_begun(alloc)), layer), scale(alloc))
-}
-
-fn stats_begun<'a>(alloc: Global) -> Command<'a>
-    ensures { IsBegun (new_shape (codes "stats")) stats_about result }
-{
-    begun(
-        alloc,
-        "stats",
-        "Counts the features of a layer by kind, and the levels of its tree",
-        STATS_HELP,
-    )
-}
-
-fn bounds_usage<'a>(alloc: Global) -> Built<'a>
-    ensures { IfOk result (HasRules (codes "bounds") layer_only_rules) }
-{
-    let layer = positional(alloc, "LAYER", "CSV file of the layer");
-    with_arg(with_arg(Ok(bounds_begun(alloc)), layer), scale(alloc))
-}
-
-fn bounds_begun<'a>(alloc: Global) -> Command<'a>
-    ensures { IsBegun (new_shape (codes "bounds")) bounds_about result }
-{
-    begun(
-        alloc,
-        "bounds",
-        "Writes the corners of the features of a layer",
-        BOUNDS_HELP,
-    )
-}
-
-/// The command with one more subcommand.
-fn with_command<'a>(command: Built<'a>, subcommand: Built<'a>) -> Built<'a>
-    ensures { IfOk result (λ new. IsOkAnd command.entry (λ old.
-        IsOkAnd subcommand.entry (λ one. AddsSubcommand old one new))) }
-{
-    command?.subcommand(subcommand?)
-}
-
-/// The command with one more argument.
-fn with_arg<'a>(command: Built<'a>, arg: Arg<'a>) -> Built<'a>
-    ensures { IfOk result (λ new. IsOkAnd command.entry (λ old. AddsArg old arg.entry new)) }
-{
-    command?.arg(arg)
+    match argument {
+        Argument::Positional { name, help } => positional(alloc, name, help),
+        Argument::Number {
+            name,
+            help,
+            default,
+        } => numeric(alloc, name, help, default),
+        Argument::Relation => relation(alloc),
+        Argument::Edits => edits(alloc),
+    }
 }
 
 /// A command with no argument yet.
@@ -353,16 +368,4 @@ fn edits<'a>(alloc: Global) -> Arg<'a>
     Arg::new(alloc, "edits")
         .long("edits")
         .help("CSV file of edits, which are made before the join")
-}
-
-/// The option of every command: decimals of all coordinates.
-fn scale<'a>(alloc: Global) -> Arg<'a>
-    ensures { IsArgument scale_rule result }
-{
-    numeric(
-        alloc,
-        "scale",
-        "Decimals that a coordinate may have, 0 to 6",
-        "0",
-    )
 }

@@ -108,7 +108,8 @@ impl From<AllocError> for WordFault {
 pub fn read_words<'a>(alloc: Global, words: &'a [&'a str]) -> Result<Command<'a>, WordFault>
     ensures { ReadAs (map (λ word. word.now) words.now) result }
 {
-    match usage(alloc)?.try_get_matches_from(words) {
+    let program = usage(alloc)?;
+    match program.try_get_matches_from(words) {
         Ok(matches) => read_command(alloc, &matches),
         Err(error) => Err(usage_fault(alloc, &error)),
     }

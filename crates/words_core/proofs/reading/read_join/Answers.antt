@@ -1,42 +1,41 @@
-use Rattle.std.proofs.Common.{codes}
+use Rattle.std.proofs.Common.{codes, sym, ◌∙◌}
 use Rattle.words_core.specs.Readings.{found_in, HasScaleFault}
 use Rattle.words_core.proofs.ReadingLemmas.{fault_as, join_shares, join_misses, join_refuses, join_passes, options_passed, options_weaker, text_found}
 use Rattle.words_core.proofs.reading.read_join.Goals as goal
 
-pub returns-in_err-refuse_shared_input-clause-err : goal.returns-in_err-refuse_shared_input-clause-err
-returns-in_err-refuse_shared_input-clause-err c =
-    fault_as _ _ _ c.from_residual-in_err-refuse_shared_input.ensures.1 (λ known. let h = c.in_err-refuse_shared_input.ensures.err known in
+pub returns-then-is_shared-clause-err : goal.returns-then-is_shared-clause-err
+returns-then-is_shared-clause-err c =
     join_shares (found_in c.args.given.now) _ _ _ _ c.in_ok-left_path.ensures.ok c.in_ok-right_path.ensures.ok
-    (text_found c.args.given.now (codes "edits") _ c.get_str-edits_path.ensures) h.1 h.0)
+    (text_found c.args.given.now (codes "edits") _ c.get_str-edits_path.ensures) (sym c.shares_input-is_shared.ensures ∙ c.if-is_shared.true) (search)
 
-pub returns-in_err-required-clause-err : goal.returns-in_err-required-clause-err
-returns-in_err-required-clause-err c =
-    fault_as _ _ _ c.from_residual-in_err-required.ensures.1 (λ known.
+pub returns-in_err-word-clause-err : goal.returns-in_err-word-clause-err
+returns-in_err-word-clause-err c =
+    fault_as _ _ _ c.from_residual-in_err-word.ensures.1 (λ known.
     join_misses (found_in c.args.given.now) _ _ _ _ c.in_ok-left_path.ensures.ok c.in_ok-right_path.ensures.ok
-    (text_found c.args.given.now (codes "edits") _ c.get_str-edits_path.ensures) c.in_ok-refuse_shared_input.ensures.ok
-    c.in_err-required.ensures.none (c.in_err-required.ensures.told known))
+    (text_found c.args.given.now (codes "edits") _ c.get_str-edits_path.ensures) (sym c.shares_input-is_shared.ensures ∙ c.if-is_shared.false)
+    c.in_err-word.ensures.none (c.in_err-word.ensures.told known))
 
 pub returns-in_err-relation-clause-err : goal.returns-in_err-relation-clause-err
 returns-in_err-relation-clause-err c =
     fault_as _ _ _ c.from_residual-in_err-relation.ensures.1 (λ known.
     join_refuses (found_in c.args.given.now) _ _ _ _ c.in_ok-left_path.ensures.ok c.in_ok-right_path.ensures.ok
-    (text_found c.args.given.now (codes "edits") _ c.get_str-edits_path.ensures) c.in_ok-refuse_shared_input.ensures.ok
-    _ c.in_ok-required.ensures.ok (c.in_err-relation.ensures.err known))
+    (text_found c.args.given.now (codes "edits") _ c.get_str-edits_path.ensures) (sym c.shares_input-is_shared.ensures ∙ c.if-is_shared.false)
+    _ c.in_ok-word.ensures.ok (c.in_err-relation.ensures.err known))
 
 pub returns-in_err-options-clause-err : goal.returns-in_err-options-clause-err
 returns-in_err-options-clause-err c =
     fault_as _ _ _ c.from_residual-in_err-options.ensures.1 (λ known.
     join_passes (found_in c.args.given.now) _ _ _ _ c.in_ok-left_path.ensures.ok c.in_ok-right_path.ensures.ok
-    (text_found c.args.given.now (codes "edits") _ c.get_str-edits_path.ensures) c.in_ok-refuse_shared_input.ensures.ok
-    _ c.in_ok-relation.relation c.in_ok-required.ensures.ok c.in_ok-relation.ensures.ok (options_weaker (found_in c.args.given.now) c.in_err-options.field-0.0 (HasScaleFault (found_in c.args.given.now) c.in_err-options.field-0.0)
+    (text_found c.args.given.now (codes "edits") _ c.get_str-edits_path.ensures) (sym c.shares_input-is_shared.ensures ∙ c.if-is_shared.false)
+    _ c.in_ok-relation.relation c.in_ok-word.ensures.ok c.in_ok-relation.ensures.ok (options_weaker (found_in c.args.given.now) c.in_err-options.field-0.0 (HasScaleFault (found_in c.args.given.now) c.in_err-options.field-0.0)
     (c.in_err-options.ensures.err known)))
 
 pub returns-in_err-scale-clause-err : goal.returns-in_err-scale-clause-err
 returns-in_err-scale-clause-err c =
     fault_as _ _ _ c.from_residual-in_err-scale.ensures.1 (λ known.
     join_passes (found_in c.args.given.now) _ _ _ _ c.in_ok-left_path.ensures.ok c.in_ok-right_path.ensures.ok
-    (text_found c.args.given.now (codes "edits") _ c.get_str-edits_path.ensures) c.in_ok-refuse_shared_input.ensures.ok
-    _ c.in_ok-relation.relation c.in_ok-required.ensures.ok c.in_ok-relation.ensures.ok
+    (text_found c.args.given.now (codes "edits") _ c.get_str-edits_path.ensures) (sym c.shares_input-is_shared.ensures ∙ c.if-is_shared.false)
+    _ c.in_ok-relation.relation c.in_ok-word.ensures.ok c.in_ok-relation.ensures.ok
     (options_passed _ c.in_ok-options.options _ _ c.in_ok-options.ensures.ok (c.in_err-scale.ensures.err known)))
 
 pub returns-clause-ok : goal.returns-clause-ok
@@ -44,8 +43,8 @@ returns-clause-ok c = record {
   left = c.in_ok-left_path.ensures.ok;
   right = c.in_ok-right_path.ensures.ok;
   edits = text_found c.args.given.now (codes "edits") _ c.get_str-edits_path.ensures;
-  one_input = c.in_ok-refuse_shared_input.ensures.ok;
-  relation = (_, c.in_ok-required.ensures.ok, c.in_ok-relation.ensures.ok);
+  one_input = sym c.shares_input-is_shared.ensures ∙ c.if-is_shared.false;
+  relation = (_, c.in_ok-word.ensures.ok, c.in_ok-relation.ensures.ok);
   options = c.in_ok-options.ensures.ok;
   scale = c.in_ok-scale.ensures.ok;
 }

@@ -1,29 +1,29 @@
-use Rattle.words_core.specs.Readings.{of_relate, of_join, of_draw, of_window, of_stats, of_bounds, of_none}
-use Rattle.words_core.proofs.ReadingLemmas.{fault_as, fault_weaker, named}
+use Rattle.words_core.specs.Readings.{of_relate, of_join, of_draw, of_window, of_stats, of_bounds}
+use Rattle.words_core.proofs.ReadingLemmas.{fault_as, fault_weaker, named, unnamed}
 use Rattle.words_core.proofs.reading.read_named.Goals as goal
 
-pub returns-in_err-read_join-in-join-clause-err : goal.returns-in_err-read_join-in-join-clause-err
-returns-in_err-read_join-in-join-clause-err c =
-    fault_as _ _ _ c.from_residual.ensures.1 (λ known. named _ _ _ _ c.in-join.is (of_join (c.in_err-read_join-in-join.ensures.err known)))
+pub returns-in_err-join-in-join-clause-err : goal.returns-in_err-join-in-join-clause-err
+returns-in_err-join-in-join-clause-err c =
+    fault_as _ _ _ c.from_residual.ensures.1 (λ known. named _ _ _ _ c.in-join.is (of_join (c.in_err-join-in-join.ensures.err known)))
 
-pub returns-in_err-read_join-in-draw-clause-err : goal.returns-in_err-read_join-in-draw-clause-err
-returns-in_err-read_join-in-draw-clause-err c =
-    fault_as _ _ _ c.from_residual-in_err-read_join-in-draw.ensures.1
-    (λ known. named _ _ _ _ c.in-draw.is (of_draw (c.in_err-read_join-in-draw.ensures.err known)))
+pub returns-in_err-draw-in-draw-clause-err : goal.returns-in_err-draw-in-draw-clause-err
+returns-in_err-draw-in-draw-clause-err c =
+    fault_as _ _ _ c.from_residual-in_err-draw-in-draw.ensures.1
+    (λ known. named _ _ _ _ c.in-draw.is (of_draw (c.in_err-draw-in-draw.ensures.err known)))
 
 pub returns-in-relate-clause-err : goal.returns-in-relate-clause-err
-returns-in-relate-clause-err c = fault_weaker c.read_relate.result _ _ (λ f h. named _ f _ _ c.in-relate.is (of_relate h)) c.read_relate.ensures.err
+returns-in-relate-clause-err c = fault_weaker _ _ _ (λ f h. named _ f _ _ c.in-relate.is (of_relate h)) (search)
 
 pub returns-in-window-clause-err : goal.returns-in-window-clause-err
-returns-in-window-clause-err c = fault_weaker c.read_window.result _ _ (λ f h. named _ f _ _ c.in-window.is (of_window h)) c.read_window.ensures.err
+returns-in-window-clause-err c = fault_weaker _ _ _ (λ f h. named _ f _ _ c.in-window.is (of_window h)) (search)
 
 pub returns-in-stats-clause-err : goal.returns-in-stats-clause-err
-returns-in-stats-clause-err c = fault_weaker c.read_stats.result _ _ (λ f h. named _ f _ _ c.in-stats.is (of_stats h)) c.read_stats.ensures.err
+returns-in-stats-clause-err c = fault_weaker _ _ _ (λ f h. named _ f _ _ c.in-stats.is (of_stats h)) (search)
 
 pub returns-in-bounds-clause-err : goal.returns-in-bounds-clause-err
-returns-in-bounds-clause-err c = fault_weaker c.read_bounds.result _ _ (λ f h. named _ f _ _ c.in-bounds.is (of_bounds h)) c.read_bounds.ensures.err
+returns-in-bounds-clause-err c = fault_weaker _ _ _ (λ f h. named _ f _ _ c.in-bounds.is (of_bounds h)) (search)
 
 pub returns-in_default-clause-err : goal.returns-in_default-clause-err
-returns-in_default-clause-err c = λ known.
-    of_none c.args.name.now c.in_default.not-relate c.in_default.not-join c.in_default.not-draw c.in_default.not-window c.in_default.not-stats
-    c.in_default.not-bounds (c.missing.ensures known)
+returns-in_default-clause-err c =
+    unnamed _ _ _ c.in_default.not-relate c.in_default.not-join c.in_default.not-draw c.in_default.not-window c.in_default.not-stats
+    c.in_default.not-bounds (search)

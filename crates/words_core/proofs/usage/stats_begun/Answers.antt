@@ -1,4 +1,0 @@
-use Rattle.words_core.proofs.usage.stats_begun.Goals as goal
-
-pub returns : goal.returns
-returns c = c.begun.ensures

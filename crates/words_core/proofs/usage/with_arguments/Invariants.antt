@@ -1,0 +1,10 @@
+use Rattle.std.proofs.Common.{map, drop}
+use Rattle.words_core.specs.Tables.{argument_rule}
+use Rattle.words_core.specs.Usage.{AddsRules}
+use Rattle.words_core.proofs.usage.with_arguments.Given as goal
+
+-- a command that comes of the arguments that are left comes of all
+abbrev pub invariant-loop-argument : goal.invariant-loop-argument
+invariant-loop-argument l =
+    (new : _) → AddsRules l.command (map argument_rule (drop l.argument-index l.arguments)) new
+    → AddsRules l.fn.command (map argument_rule l.arguments) new

@@ -1,0 +1,26 @@
+-- What the tables of commands and arguments declare.
+use Rattle.std.specs.Prelude.{List, [], ◌∷◌, map}
+use Rattle.clap.specs.Words.{Rule, Shape, Text}
+use Rattle.words_core.specs.Usage.{bounds_about, draw_about, join_about, relate_about, stats_about}
+use Rattle.words_core.specs.Usage.{window_about, edits_rule, numeric_rule, positional_rule}
+use Rattle.words_core.specs.Usage.{relation_rule, subcommand_shape}
+use Rattle.words_core.specs.declared.usage.Argument.{Argument}
+use Rattle.words_core.specs.declared.usage.Argument.TheVariants.{Positional, Number, Relation}
+use Rattle.words_core.specs.declared.usage.Argument.TheVariants.{Edits}
+use Rattle.words_core.specs.declared.usage.Subcommand.{Subcommand}
+
+abbrev pub argument_rule : Argument → Rule
+argument_rule (Positional name help) = positional_rule name.now
+argument_rule (Number name help default) = numeric_rule name.now default.now
+argument_rule Relation = relation_rule
+argument_rule Edits = edits_rule
+
+abbrev pub shape_told : Subcommand → Shape
+shape_told command = subcommand_shape command.name.now (map argument_rule command.arguments.now)
+
+abbrev pub about_told : Subcommand → Text
+about_told command = command.about.now
+
+abbrev pub subcommand_abouts : List Text
+subcommand_abouts =
+    relate_about ∷ join_about ∷ draw_about ∷ window_about ∷ stats_about ∷ bounds_about ∷ []
