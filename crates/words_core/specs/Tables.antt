@@ -1,9 +1,8 @@
 -- What the tables of commands and arguments declare.
-use Rattle.std.specs.Prelude.{List, [], ◌∷◌, map}
+use Rattle.std.specs.Prelude.{map}
 use Rattle.clap.specs.Words.{Rule, Shape, Text}
-use Rattle.words_core.specs.Usage.{bounds_about, draw_about, join_about, relate_about, stats_about}
-use Rattle.words_core.specs.Usage.{window_about, edits_rule, numeric_rule, positional_rule}
-use Rattle.words_core.specs.Usage.{relation_rule, subcommand_shape}
+use Rattle.words_core.specs.Usage.{edits_rule, numeric_rule, positional_rule, relation_rule}
+use Rattle.words_core.specs.Usage.{subcommand_shape}
 use Rattle.words_core.specs.declared.usage.Argument.{Argument}
 use Rattle.words_core.specs.declared.usage.Argument.TheVariants.{Positional, Number, Relation}
 use Rattle.words_core.specs.declared.usage.Argument.TheVariants.{Edits}
@@ -20,7 +19,3 @@ shape_told command = subcommand_shape command.name.now (map argument_rule comman
 
 abbrev pub about_told : Subcommand → Text
 about_told command = command.about.now
-
-abbrev pub subcommand_abouts : List Text
-subcommand_abouts =
-    relate_about ∷ join_about ∷ draw_about ∷ window_about ∷ stats_about ∷ bounds_about ∷ []

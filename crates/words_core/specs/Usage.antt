@@ -1,7 +1,5 @@
 -- What `clap` is told of the words: the commands, and of each what its arguments may be.
 use Rattle.std.specs.Prelude.{◌≡◌, List, [], ◌∷◌, ◌++◌, Some, codes, true, false, pos, option_map}
-use Rattle.std.specs.Prelude.{IfOk, IsOkAnd, Result}
-use Rattle.std.specs.declared.alloc.AllocError.{AllocError}
 use Rattle.clap.specs.Words.{App, Rule, Shape, Text, app_of, new_rule, rule_of}
 use Rattle.clap.specs.declared.builder.command.Command.TheViews.{out-Command as fields_of}
 use Rattle.clap.specs.Simple.{new_shape, on_top}
@@ -131,16 +129,7 @@ pub record AddsRules (old : Command) (rules : List Rule) (new : Command) : Type 
   pub shape : app_of new ≡ with_rules (app_of old) rules
   pub globals : (fields_of new).has_globals ≡ (fields_of old).has_globals
 
--- the same where memory may be out: a command comes out only where one went in
-abbrev pub AddsTo : Result Command AllocError → List Rule → Result Command AllocError → Type 0
-AddsTo given rules result =
-    IfOk result (λ new. IsOkAnd given (λ old. AddsRules old rules new))
-
 -- the command has this usage, and no argument for all of its subcommands
 pub record HasUsage (usage : App) (command : Command) : Type 0 where
   pub shape : app_of command ≡ usage
   pub local : (fields_of command).has_globals ≡ false
-
--- the same of a command without subcommands
-abbrev pub HasRules : Text → List Rule → Command → Type 0
-HasRules name rules = HasUsage (record { top = subcommand_shape name rules; subs = [] })

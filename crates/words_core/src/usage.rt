@@ -1,13 +1,15 @@
 //! What the program tells of its words: commands, options and help.
 
-ghost use Rattle.std.specs.Prelude.{◌≡◌, [], map, IfOk};
+ghost use Rattle.std.specs.Prelude.{◌≡◌, [], codes, map, IfOk};
 ghost use Rattle.clap.specs.Simple.{new_shape};
 ghost use Rattle.words_core.specs.Tables.{about_told, argument_rule, shape_told};
-ghost use Rattle.words_core.specs.Tables.{subcommand_abouts};
 ghost use Rattle.words_core.specs.Usage.{AddsRules, HasUsage, IsArgument, IsBegun};
-ghost use Rattle.words_core.specs.Usage.{edits_rule, numeric_rule, positional_rule};
-ghost use Rattle.words_core.specs.Usage.{program_about, program_shape, program_usage};
-ghost use Rattle.words_core.specs.Usage.{relation_rule, subcommand_shapes};
+ghost use Rattle.words_core.specs.Usage.{bounds_about, draw_about, edits_rule, join_about};
+ghost use Rattle.words_core.specs.Usage.{join_rules, layer_only_rules, numeric_rule};
+ghost use Rattle.words_core.specs.Usage.{positional_rule, program_about, program_shape};
+ghost use Rattle.words_core.specs.Usage.{program_usage, relate_about, relate_rules};
+ghost use Rattle.words_core.specs.Usage.{relation_rule, stats_about, subcommand_shape};
+ghost use Rattle.words_core.specs.Usage.{subcommand_shapes, window_about, window_rules};
 
 use clap::{Arg, Command, value_parser};
 use std::alloc::{AllocError, Global};
@@ -35,51 +37,13 @@ enum Argument {
 }
 
 /// A command of the program, as help tells it.
+#[derive(Clone, Copy)]
 struct Subcommand {
     name: &'static str,
     about: &'static str,
     help: &'static str,
     arguments: &'static [Argument],
 }
-
-const SUBCOMMANDS: [Subcommand; 6] = [
-    Subcommand {
-        name: "relate",
-        about: "Writes the DE-9IM matrix of two geometries",
-        help: RELATE_HELP,
-        arguments: &RELATE_ARGUMENTS,
-    },
-    Subcommand {
-        name: "join",
-        about: "Writes the pairs of features of two layers that stand in a relation",
-        help: JOIN_HELP,
-        arguments: &JOIN_ARGUMENTS,
-    },
-    Subcommand {
-        name: "draw",
-        about: "Writes a picture of two layers and of the pairs that stand in a relation, as SVG",
-        help: DRAW_HELP,
-        arguments: &JOIN_ARGUMENTS,
-    },
-    Subcommand {
-        name: "window",
-        about: "Writes the ids of the features of a layer that meet a geometry",
-        help: WINDOW_HELP,
-        arguments: &WINDOW_ARGUMENTS,
-    },
-    Subcommand {
-        name: "stats",
-        about: "Counts the features of a layer by kind, and the levels of its tree",
-        help: STATS_HELP,
-        arguments: &LAYER_ARGUMENTS,
-    },
-    Subcommand {
-        name: "bounds",
-        about: "Writes the corners of the features of a layer",
-        help: BOUNDS_HELP,
-        arguments: &LAYER_ARGUMENTS,
-    },
-];
 
 const RELATE_ARGUMENTS: [Argument; 3] = [
     Argument::Positional {
@@ -262,7 +226,8 @@ invalid arguments";
 pub fn usage<'a>(alloc: Global) -> Result<Command<'a>, AllocError>
     ensures { IfOk result (HasUsage program_usage) }
 {
-    let subcommands = subcommands();
+    let table = subcommands();
+    let subcommands = table.as_slice();
     let mut program = program_begun(alloc);
     for subcommand in subcommands {
         let command = declared_command(alloc, subcommand)?;
@@ -272,11 +237,82 @@ pub fn usage<'a>(alloc: Global) -> Result<Command<'a>, AllocError>
 }
 
 /// The commands of the program.
-fn subcommands() -> &'static [Subcommand]
-    ensures shapes { map shape_told result.now ≡ subcommand_shapes }
-    ensures abouts { map about_told result.now ≡ subcommand_abouts }
+fn subcommands() -> [Subcommand; 6]
+    ensures { map shape_told result ≡ subcommand_shapes }
 {
-    SUBCOMMANDS.as_slice()
+    [relate(), join(), draw(), window(), stats(), bounds()]
+}
+
+fn relate() -> Subcommand
+    ensures shape { shape_told result ≡ subcommand_shape (codes "relate") relate_rules }
+    ensures about { about_told result ≡ relate_about }
+{
+    Subcommand {
+        name: "relate",
+        about: "Writes the DE-9IM matrix of two geometries",
+        help: RELATE_HELP,
+        arguments: &RELATE_ARGUMENTS,
+    }
+}
+
+fn join() -> Subcommand
+    ensures shape { shape_told result ≡ subcommand_shape (codes "join") join_rules }
+    ensures about { about_told result ≡ join_about }
+{
+    Subcommand {
+        name: "join",
+        about: "Writes the pairs of features of two layers that stand in a relation",
+        help: JOIN_HELP,
+        arguments: &JOIN_ARGUMENTS,
+    }
+}
+
+fn draw() -> Subcommand
+    ensures shape { shape_told result ≡ subcommand_shape (codes "draw") join_rules }
+    ensures about { about_told result ≡ draw_about }
+{
+    Subcommand {
+        name: "draw",
+        about: "Writes a picture of two layers and of the pairs that stand in a relation, as SVG",
+        help: DRAW_HELP,
+        arguments: &JOIN_ARGUMENTS,
+    }
+}
+
+fn window() -> Subcommand
+    ensures shape { shape_told result ≡ subcommand_shape (codes "window") window_rules }
+    ensures about { about_told result ≡ window_about }
+{
+    Subcommand {
+        name: "window",
+        about: "Writes the ids of the features of a layer that meet a geometry",
+        help: WINDOW_HELP,
+        arguments: &WINDOW_ARGUMENTS,
+    }
+}
+
+fn stats() -> Subcommand
+    ensures shape { shape_told result ≡ subcommand_shape (codes "stats") layer_only_rules }
+    ensures about { about_told result ≡ stats_about }
+{
+    Subcommand {
+        name: "stats",
+        about: "Counts the features of a layer by kind, and the levels of its tree",
+        help: STATS_HELP,
+        arguments: &LAYER_ARGUMENTS,
+    }
+}
+
+fn bounds() -> Subcommand
+    ensures shape { shape_told result ≡ subcommand_shape (codes "bounds") layer_only_rules }
+    ensures about { about_told result ≡ bounds_about }
+{
+    Subcommand {
+        name: "bounds",
+        about: "Writes the corners of the features of a layer",
+        help: BOUNDS_HELP,
+        arguments: &LAYER_ARGUMENTS,
+    }
 }
 
 fn program_begun<'a>(alloc: Global) -> Command<'a>
