@@ -1,7 +1,6 @@
 -- What the readings of words follow from.
-use Rattle.std.proofs.Common.{◌≡◌, ◌≢◌, ◌↔◌, length, find, map, IfOk, IfErr, IsErrAnd, ◌<◌, ◌≤◌, ◌^◌, ◌∙◌, ℕ, Bool, true, false, List, Option, Some, None, Result, Ok, Err, inl, inr, refl, sym, ap, ap₂, subst, arith, [], ◌∷◌}
-use Rattle.std.specs.Prelude.{if◌then◌else◌, unwrap_or, nat_le, codes, option_map, option_and_then}
-use Rattle.std.proofs.lemmas.Bool.{leb-true, le-leb}
+use Rattle.std.proofs.Common.{◌≡◌, ◌≢◌, ◌↔◌, length, find, map, IfOk, IfErr, IsErrAnd, ◌<◌, ◌^◌, ◌∙◌, ℕ, Bool, true, false, List, Option, Some, None, Result, Ok, Err, inl, inr, refl, sym, ap, ap₂, subst, arith, [], ◌∷◌}
+use Rattle.std.specs.Prelude.{if◌then◌else◌, unwrap_or, codes, option_map, option_and_then}
 use Rattle.std.specs.Bool.{MatchBool}
 use Rattle.std.specs.Borrow.{Bor}
 use Rattle.std.specs.Str.Parse.{ParsesUnsigned, IsNumeral, digits_value, without_leading_plus}
@@ -17,7 +16,6 @@ use Rattle.clap.specs.declared.builder.value_parser.ValueParser.TheVariants.{Uns
 use Rattle.clap.specs.declared.parser.matches.ArgMatches.{ArgMatches}
 use Rattle.clap.proofs.ValueTestLemmas.{accepts-Accepts, Accepts-accepts}
 use Rattle.clap.proofs.WalkLemmas.{first_value-rows, one_text-rows}
-use Rattle.deliver_core.specs.Limits.{most_workers, most_batch, most_cut}
 use Rattle.deliver_core.specs.Options.{workers_of, batch_of, cut_of, AreWorkers, IsBatch, IsCut}
 use Rattle.deliver_core.specs.declared.options.Options.{Options}
 use Rattle.deliver_core.specs.declared.options.OptionFault.{OptionFault}
@@ -82,22 +80,6 @@ pub needs_some : {X : Type 0} (name : Text) (o : Option X) (x : X) (f : WordFaul
 needs_some name o x f Then e h = subst (λ (p : Option _). Needs name p f Then) (sym e) h
 
 -- ---- options
-
-is_at_most : (n most : ℕ) → ¬ (¬ (n ≤ most)) → n ≤ most
-is_at_most n most h = go (nat_le n most) refl
-  where
-    go : (b : Bool) → nat_le n most ≡ b → n ≤ most
-    go true e = leb-true _ _ e
-    go false e = absurd (h (λ le. let yes = le-leb _ _ le in absurd cc))
-
-pub are_workers : (n : ℕ) → ¬ (¬ (AreWorkers n)) → AreWorkers n
-are_workers n h = (is_at_most 1 n (λ isnt. h (λ are. isnt are.0)), is_at_most n most_workers (λ isnt. h (λ are. isnt are.1)))
-
-pub is_batch : (n : ℕ) → ¬ (¬ (IsBatch n)) → IsBatch n
-is_batch n h = (is_at_most 1 n (λ isnt. h (λ are. isnt are.0)), is_at_most n most_batch (λ isnt. h (λ are. isnt are.1)))
-
-pub is_cut : (n : ℕ) → ¬ (¬ (IsCut n)) → IsCut n
-is_cut n h = is_at_most n most_cut h
 
 -- what `Options::new` tells of a fault
 pub options_refused : (rows : List Row) (workers batch cut : ℕ) (reason : OptionFault) (f : WordFault)

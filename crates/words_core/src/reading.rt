@@ -121,7 +121,7 @@ fn relation_fault(alloc: Global, word: &str, fault: MaskFault) -> Result<WordFau
     })
 }
 
-/// The fault of two files that are both to be read from standard input, which can be read only once.
+/// The fault of two files that are both to be standard input, which can be read only once.
 fn shared_input(alloc: Global) -> WordFault
     ensures { result ≢ WordFault.Memory → Says shared_text result }
 {

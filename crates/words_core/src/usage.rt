@@ -14,8 +14,7 @@ ghost use Rattle.words_core.specs.Usage.{subcommand_shapes, window_about, window
 use clap::{Arg, Command, value_parser};
 use std::alloc::{AllocError, Global};
 
-/// A command, or that there was no memory for it. It is handed on as it is: each place where a
-/// function may end with a command in hand takes long to prove.
+/// A command, or that there was no memory for it.
 type Built<'a> = Result<Command<'a>, AllocError>;
 
 /// An argument of a command.
