@@ -89,12 +89,10 @@ told_blamed scale left right items (Err g) out f same built reads is = elim (lef
 ]
 
 pub first_blamed : (scale : Scale) (left right : Option (List ℕ)) (items : List ℕ) (built out : Result LayerState ReadFault) (f : ReadFault)
-    (given : Option ReadFault) (e : RunFault) → IfSome left (λ bytes. items ≡ bytes) → Builds scale items built → Reads scale right out → out ≡ Err f
-    → given ≡ result_err built → e ≡ first_fault given f → IsLayersFault scale left right e
-first_blamed scale left right items built out f given e same gives reads is of_left told =
-    subst (IsLayersFault scale left right) (sym told)
-    (subst (λ (x : Option ReadFault). IsLayersFault scale left right (first_fault x f)) (sym of_left)
-    (told_blamed scale left right items built out f same gives reads is))
+    (e : RunFault) → IfSome left (λ bytes. items ≡ bytes) → Builds scale items built → Reads scale right out → out ≡ Err f
+    → e ≡ first_fault (result_err built) f → IsLayersFault scale left right e
+first_blamed scale left right items built out f e same gives reads is told =
+    subst (IsLayersFault scale left right) (sym told) (told_blamed scale left right items built out f same gives reads is)
 
 -- a fault of the two layers is what the files give
 layers_give : (files : JoinFiles) (e : RunFault) → IsLayersFault files.scale files.left files.right e → BlamesInput e

@@ -29,12 +29,12 @@ module _ (window : Shape) (old writer : Writer (Vec ℕ Global)) where
   }
 
   -- a feature that meets the window gets a row
-  pub id_written : (left left' features : List Feature) (f : Feature) → HasFront window old left features → left ≡ f ∷ left'
-      → Meets f.shape window → AddsRow old writer (f.id ∷ []) → HasFront window writer left' features
-  id_written left left' features f front is meets more = record {
+  pub id_written : (left left' features : List Feature) (f : Feature) (id : List ℕ) → HasFront window old left features → left ≡ f ∷ left'
+      → Meets f.shape window → id ≡ f.id → AddsRow old writer (id ∷ []) → HasFront window writer left' features
+  id_written left left' features f id front is meets same more = record {
     ids = front.ids ++ f.id ∷ [];
     written = subst (λ (rows : List (List (List ℕ))). HasRows writer ((codes "id" ∷ []) ∷ rows)) (sym (map-append (λ id. id ∷ []) front.ids (f.id ∷ [])))
-        (more (window_rows front.ids) front.written);
+        (subst (λ (s : List ℕ). AddsRow old writer (s ∷ [])) same more (window_rows front.ids) front.written);
     all = λ later meeting. rw (append_assoc front.ids (f.id ∷ []) later)
         (front.all (f.id ∷ later) (subst (λ (fs : List Feature). MeetingIds window fs (f.id ∷ later)) (sym is) (met meets meeting)));
   }

@@ -36,11 +36,13 @@ fn related(scale: Scale, a: &[u8], b: &[u8]) -> Result<[u8; LINE], RunFault>
         (result ≡ Err (RunFault.Wkt i f)) ↔ HasFirstFault scale a.now b.now i f }
     ensures faults { IfErr result IsTextFault }
 {
-    let first = match wkt_core::read(a, scale) {
+    let first_read = wkt_core::read(a, scale);
+    let first = match first_read {
         Ok(shape) => shape,
         Err(fault) => return Err(RunFault::Wkt(Input::First, fault)),
     };
-    let second = match wkt_core::read(b, scale) {
+    let second_read = wkt_core::read(b, scale);
+    let second = match second_read {
         Ok(shape) => shape,
         Err(fault) => return Err(RunFault::Wkt(Input::Second, fault)),
     };

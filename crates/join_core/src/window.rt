@@ -69,8 +69,10 @@ fn window_text(alloc: Global, features: &FeatureList, window: &Shape) -> Result<
     let mut writer = new_rows(alloc);
     push_row(&mut writer, &[b"id"])?;
     for feature in features.iter() {
-        if feature.shape.meets(window) {
-            push_row(&mut writer, &[feature.id.as_bytes()])?;
+        let meets = feature.shape.meets(window);
+        if meets {
+            let id = feature.id.as_bytes();
+            push_row(&mut writer, &[id])?;
         }
     }
     rows_text(writer)

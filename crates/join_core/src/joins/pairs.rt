@@ -58,5 +58,7 @@ fn plan_of<'a>(
 {
     // That numbers rise along a layer is what the layer says of itself.
     let _lens = (left.len(), right.len());
-    Plan::new(alloc, left.tree(), right.tree(), cut)
+    let left_tree = left.tree();
+    let right_tree = right.tree();
+    Plan::new(alloc, left_tree, right_tree, cut)
 }

@@ -211,9 +211,10 @@ fn report_of<R: Threads + Wait + Sync, G: Gate + Sync>(
     ensures err { IfErr result IsLateFault }
 {
     let outcome = join(rt, alloc, left, right, relation, options, gate)?;
+    let pairs = outcome.pairs();
     let workers = options.workers();
-    let texts = report_texts(alloc, left, right, outcome.pairs(), workers, rt)?;
-    Ok(Text::Report(texts))
+    let reported = report_texts(alloc, left, right, pairs, workers, rt);
+    Ok(Text::Report(reported?))
 }
 
 /// The picture of two layers.
@@ -236,5 +237,7 @@ fn drawing_of<R: Threads + Wait + Sync, G: Gate + Sync>(
         return Err(RunFault::TooManyToDraw);
     }
     let outcome = join(rt, alloc, left, right, relation, options, gate)?;
-    Ok(Text::Picture(picture(alloc, left, right, outcome.pairs())?))
+    let pairs = outcome.pairs();
+    let drawn = picture(alloc, left, right, pairs)?;
+    Ok(Text::Picture(drawn))
 }

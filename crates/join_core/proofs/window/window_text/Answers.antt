@@ -1,21 +1,18 @@
-use Rattle.std.proofs.Common.{◌∙◌}
 use Rattle.std.proofs.lemmas.Result.{IfOk-weaker}
 use Rattle.join_core.proofs.WindowLemmas.{header_written, id_written, none_written, all_written}
 use Rattle.join_core.proofs.window.window_text.Goals as goal
 
 pub loop-feature-init : goal.loop-feature-init
-loop-feature-init c =
-    header_written _ _ _ _ _ c.new_rows-writer.ensures c.in_ok-push_row.ensures
-    (c.into_iter-feature-iterator.ensures.into_iter_gives ∙ c.iter-feature-items.ensures.features)
+loop-feature-init c = header_written _ _ _ _ _ c.new_rows-writer.ensures c.in_ok-push_row.ensures cc
 
 pub loop-feature-preserved-in-Continue-branch-2 : goal.loop-feature-preserved-in-Continue-branch-2
 loop-feature-preserved-in-Continue-branch-2 c =
-    id_written _ _ _ _ _ _ _ c.loop-feature.invariant c.in-Some.ensures.steps (c.meets.ensures.0 c.if-meets.true)
-    (rw c.as_bytes.ensures.value at c.in_ok-push_row-2.ensures)
+    id_written _ _ _ _ _ _ _ _ c.loop-feature.invariant c.in-Some.ensures.steps (c.meets-meets.ensures.0 (search)) c.as_bytes-id.ensures.value
+    c.in_ok-push_row-2.ensures
 
 pub loop-feature-preserved : goal.loop-feature-preserved
 loop-feature-preserved c =
-    none_written _ _ _ _ _ _ c.loop-feature.invariant c.in-Some.ensures.steps (λ meets. let met = c.meets.ensures.1 meets in cc)
+    none_written _ _ _ _ _ _ c.loop-feature.invariant c.in-Some.ensures.steps (λ meets. let met = c.meets-meets.ensures.1 meets in cc)
 
 pub returns : goal.returns
-returns c = IfOk-weaker c.rows_text.result _ _ (λ text kept. all_written _ _ _ _ _ c.loop-feature.invariant c.in-None.ensures.steps.0 kept) c.rows_text.ensures
+returns c = IfOk-weaker _ _ _ (λ text kept. all_written _ _ _ _ _ c.loop-feature.invariant c.in-None.ensures.steps.0 kept) (search)

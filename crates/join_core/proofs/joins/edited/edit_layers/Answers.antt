@@ -7,7 +7,7 @@ returns-in_err-edit_list-clause-fault g c =
     edits_handed_on _ _ _ c.from_residual.result _ fault.0 c.from_residual.ensures.1 fault.1 fault.2
 
 pub returns-clause-ok : goal.returns-clause-ok
-returns-clause-ok g c = edits_made _ _ _ c.apply_edits.result _ _ _ c.as_slice.ensures.value c.in_ok-edit_list.ensures.ok c.apply_edits.ensures.ok
+returns-clause-ok g c = edits_made _ _ _ _ _ _ _ c.deref.ensures.value c.in_ok-edit_list.ensures.ok (search)
 
 pub returns-clause-fault : goal.returns-clause-fault
-returns-clause-fault g c = edits_ended _ _ _ c.apply_edits.result _ _ c.as_slice.ensures.value c.in_ok-edit_list.ensures.ok c.apply_edits.ensures.err
+returns-clause-fault g c = edits_ended _ _ _ _ _ _ c.deref.ensures.value c.in_ok-edit_list.ensures.ok (search)

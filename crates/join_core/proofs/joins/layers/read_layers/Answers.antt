@@ -7,5 +7,5 @@ returns-in-Err-clause-fault g c = unread_blamed c.args.scale _ _ c.in-Err.ensure
 
 pub returns-in-Err-right_built-clause-fault : goal.returns-in-Err-right_built-clause-fault
 returns-in-Err-right_built-clause-fault g c =
-    let both = c.build_and_read-left_built.ensures in
-    first_blamed c.args.scale _ _ _ _ _ _ _ _ c.in-Ok.ensures.bytes both.left both.right c.in-Err-right_built.is c.err.ensures.value c.first_fault.ensures
+    first_blamed c.args.scale _ _ _ _ _ _ _ c.in-Ok.ensures.bytes c.build_and_read-left_built.ensures.left c.build_and_read-left_built.ensures.right
+    c.in-Err-right_built.is cc

@@ -3,6 +3,6 @@ use Rattle.join_core.proofs.joins.pairs.plan_of.Goals as goal
 
 pub returns-clause-rows : goal.returns-clause-rows
 returns-clause-rows c =
-    rows_are_list c.args.left.now.list c.args.right.now.list c.args.left.now.root c.args.right.now.root c.tree.result.now c.tree-2.result.now
-    c.new.result c.len.ensures.layer c.len-2.ensures.layer c.tree.ensures.exact.same c.tree-2.ensures.exact.same c.tree.ensures.root
-    c.tree-2.ensures.root c.new.ensures.join
+    let left_tree = c.tree-left_tree.ensures in
+    let right_tree = c.tree-right_tree.ensures in
+    rows_are_list _ _ _ _ _ _ _ (search) (search) left_tree.exact.same right_tree.exact.same left_tree.root right_tree.root (search)

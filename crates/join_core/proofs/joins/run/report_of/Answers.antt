@@ -3,8 +3,8 @@ use Rattle.report_core.specs.Reports.{IsHeld}
 use Rattle.join_core.proofs.JoinRunLemmas.{pairs_held}
 use Rattle.join_core.proofs.joins.run.report_of.Goals as goal
 
-pub report_texts-requires : goal.report_texts-requires
-report_texts-requires g c =
-    let held : All (IsHeld c.args.left.now.list c.args.right.now.list) c.pairs.result.now =
-    pairs_held _ _ _ _ _ c.pairs.ensures c.in_ok-outcome.ensures.pairs in
+pub report_texts-reported-requires : goal.report_texts-reported-requires
+report_texts-reported-requires g c =
+    let held : All (IsHeld c.args.left.now.list c.args.right.now.list) c.pairs-pairs.result.now =
+    pairs_held _ _ _ _ _ c.pairs-pairs.ensures c.in_ok-outcome.ensures.pairs in
     search rules
