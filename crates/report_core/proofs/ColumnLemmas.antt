@@ -34,11 +34,11 @@ new_field text feature = record {
 }
 
 -- where the last field starts
-pub last_start : (starts : List ℕ) (end n : ℕ) → length starts ≡ n + 1 → get_or (starts ++ end ∷ []) (n + 1) 0 ≡ end
+last_start : (starts : List ℕ) (end n : ℕ) → length starts ≡ n + 1 → get_or (starts ++ end ∷ []) (n + 1) 0 ≡ end
 last_start starts end n len = subst (λ (j : ℕ). get_or (starts ++ end ∷ []) j 0 ≡ end) len (get_or-append_seam starts end [] 0)
 
 -- one field more
-pub field_added : (layer : Contents) (starts text new : List ℕ) (n : ℕ) → IsColumn layer starts text → length starts ≡ n + 1 → get_or starts n 0 ≡ length text
+field_added : (layer : Contents) (starts text new : List ℕ) (n : ℕ) → IsColumn layer starts text → length starts ≡ n + 1 → get_or starts n 0 ≡ length text
     → new ≡ text ++ field_for (with_number n layer) → IsColumn layer (starts ++ length new ∷ []) new
 field_added layer starts text new n column len last is = subst (λ (t : List ℕ). IsColumn layer (starts ++ length t ∷ []) t) (sym is) (record {
   each = λ k h. ⊎_elim (λ early. at_start k (omega arith) (early_field k early))
@@ -70,3 +70,20 @@ field_added layer starts text new n column len last is = subst (λ (t : List ℕ
     late_field = at_start n (omega arith)
         (subst (λ (b : ℕ). HasField grown (get_or starts n 0) b (with_number n layer)) (sym (last_start starts end n len))
         (subst (λ (a : ℕ). HasField grown a end (with_number n layer)) (sym last) (new_field text (with_number n layer))))
+
+-- where one field more ends
+pub one_start_more : (starts starts' : List ℕ) (n end : ℕ) → length starts ≡ n + 1 → starts' ≡ starts ++ end ∷ [] → length starts' ≡ n + 1 + 1
+one_start_more starts starts' n end len grown = ap length grown ∙ length-append starts (end ∷ []) ∙ ap (λ (k : ℕ). k + 1) len
+
+module _ (layer : Contents) (starts text starts' text' : List ℕ) (n end : ℕ) (len : length starts ≡ n + 1) (end_is : end ≡ length text')
+    (grown : starts' ≡ starts ++ end ∷ []) where
+  starts_are : starts' ≡ starts ++ length text' ∷ []
+  starts_are = grown ∙ ap (λ (k : ℕ). starts ++ k ∷ []) end_is
+
+  pub one_field_more : IsColumn layer starts text → get_or starts n 0 ≡ length text → text' ≡ text ++ field_for (with_number n layer)
+      → IsColumn layer starts' text'
+  one_field_more column last is =
+      subst (λ (ns : List ℕ). IsColumn layer ns text') (sym starts_are) (field_added layer starts text text' n column len last is)
+
+  pub next_start : get_or starts' (n + 1) 0 ≡ length text'
+  next_start = ap (λ (ns : List ℕ). get_or ns (n + 1) 0) starts_are ∙ last_start starts (length text') n len

@@ -131,13 +131,13 @@ one_more n old new x parts part so_far grown =
     rw grown (simp length-append (omega arith))
 
 -- the header, and a text for each chunk
-pub few_texts : (old mid new : List (Vec ℕ Global)) (header : Vec ℕ Global) (parts : List (Result (Vec ℕ Global) AllocError)) (len size workers : ℕ)
-    → mid ≡ old ++ header ∷ [] → length parts ≡ div_ceil len size → 0 < workers → 0 < size → div_ceil len workers ≤ size
-    → length new ≡ length mid + length parts → length new ≤ length old + (workers + 1)
-few_texts old mid new header parts len size workers grown count some sized large added =
-    let few : length parts ≤ workers = subst (λ n. n ≤ workers) (sym count) (few_chunks len size workers some sized large) in
+pub few_pushed : {T E : Type 0} (out : Result T E) (old mid new : List (Vec ℕ Global)) (header : Vec ℕ Global) (parts : List (Result (Vec ℕ Global) AllocError))
+    (workers : ℕ) → mid ≡ old ++ header ∷ [] → length parts ≤ workers → OnOk out (length new ≡ length mid + length parts)
+    → OnOk out (length new ≤ length old + (workers + 1))
+few_pushed (Ok t) old mid new header parts workers grown few added =
     let first : length mid ≡ length old + 1 = ap length grown ∙ length-append old (header ∷ []) in
     omega arith
+few_pushed (Err e) old mid new header parts workers grown few added = tt
 
 -- the header, and then the records of all chunks
 pub chunks_added : (left right : Contents) (pairs : List (ℕ × ℕ)) (old mid new : List (Vec ℕ Global)) (header : Vec ℕ Global) (line : List ℕ)
@@ -150,6 +150,15 @@ chunks_added left right pairs old mid new header line parts grown is rows all = 
       (ap joined grown ∙ sym (flat_map_more (λ t. t.items) [] old header) ∙ ap (λ l. joined old ++ l) is);
 }
 
+-- the header is pushed, and then the records of all chunks, unless memory was refused to one of them
+pub chunks_pushed : {T E : Type 0} (out : Result T E) (left right : Contents) (pairs : List (ℕ × ℕ)) (old mid new : List (Vec ℕ Global)) (header : Vec ℕ Global)
+    (line : List ℕ) (parts : List (Result (Vec ℕ Global) AllocError)) → mid ≡ old ++ header ∷ [] → header.items ≡ line
+    → (All IsOk parts → AreRows left right pairs (flat_map text_or_none parts)) → OnOk out (All IsOk parts)
+    → OnOk out (joined new ≡ joined mid ++ flat_map text_or_none parts) → OnOk out (AddsRows left right pairs (joined old ++ line) (joined new))
+chunks_pushed (Ok t) left right pairs old mid new header line parts grown is rows ok all =
+    chunks_added left right pairs old mid new header line parts grown is (rows ok) all
+chunks_pushed (Err e) left right pairs old mid new header line parts grown is rows ok all = tt
+
 -- what stands for the texts past the last one
 pub no_text : Result (Vec ℕ Global) AllocError
 no_text = Err (record {})
@@ -158,7 +167,3 @@ no_text = Err (record {})
 pub from_both : {T E : Type 0} (r : Result T E) (P Q S : T → Type 0) → IfOk r P → IfOk r Q → ((t : T) → P t → Q t → S t) → IfOk r S
 from_both (Ok t) P Q S p q s = s t p q
 from_both (Err e) P Q S p q s = tt
-
-pub on_both : {T E : Type 0} (r : Result T E) (P Q S : Type 0) → OnOk r P → OnOk r Q → (P → Q → S) → OnOk r S
-on_both (Ok t) P Q S p q s = s p q
-on_both (Err e) P Q S p q s = tt

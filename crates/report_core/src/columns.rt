@@ -48,7 +48,8 @@ impl Column {
         starts.push(0)?;
         for number in 0..bound {
             push_field(alloc, &mut text, layer, number as u32)?;
-            starts.push(text.len())?;
+            let end = text.len();
+            starts.push(end)?;
         }
         Ok(Column { starts, text })
     }

@@ -118,7 +118,8 @@ fn push_texts<R: Threads + Sync>(
     let size = pairs.len().div_ceil(workers as usize).max(1);
     let columns = Columns::side_by_side(alloc, left, right, pairs, rt)?;
     let chunks = chunk_rows(alloc, left, right, &columns, pairs, size, rt)?;
-    texts.push(header_text(alloc)?)?;
+    let header = header_text(alloc)?;
+    texts.push(header)?;
     push_all(texts, chunks)
 }
 
@@ -188,16 +189,14 @@ fn push_rows(
         make_room(text, right, columns, pairs, place)?;
         let pair = pairs[place];
         // Looked up first, so that the processor fetches ids and shapes at the same time.
-        let left_id = columns.left.at(pair.0).unwrap();
-        let right_id = columns.right.at(pair.1).unwrap();
+        let left_field = columns.left.at(pair.0);
+        let right_field = columns.right.at(pair.1);
+        let left_id = left_field.unwrap();
+        let right_id = right_field.unwrap();
         let left_shape = left.shape(pair.0).unwrap();
         let right_shape = right.shape(pair.1).unwrap();
-        push_row(
-            text,
-            left_id,
-            right_id,
-            letters.of(&left_shape, &right_shape),
-        )?;
+        let matrix = letters.of(&left_shape, &right_shape);
+        push_row(text, left_id, right_id, matrix)?;
     }
     Ok(())
 }
@@ -265,7 +264,8 @@ fn push_all(
         (length texts.new.items ≡ length texts.old.items + length parts.items) }
 {
     for part in parts {
-        texts.push(part?)?;
+        let text = part?;
+        texts.push(text)?;
     }
     Ok(())
 }

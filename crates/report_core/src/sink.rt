@@ -67,7 +67,8 @@ pub fn write_texts<S: Sink>(sink: &mut S, texts: &[Vec<u8>]) -> Result<(), Write
     ensures failed { IsErr result ↔ IsTrue (S.has_failed sink.new) }
 {
     for text in texts {
-        write_all(sink, text.as_slice())?;
+        let bytes = text.as_slice();
+        write_all(sink, bytes)?;
     }
     sink.flush()
 }

@@ -1,4 +1,4 @@
-use Rattle.std.proofs.Common.{◌∷◌, [], IsOk, refl, ◌∙◌, append_assoc}
+use Rattle.std.proofs.Common.{◌∷◌, [], IsOk, refl, ◌∙◌, append_assoc, rules}
 use Rattle.std.proofs.lemmas.List.Elements.{All-push}
 use Rattle.report_core.proofs.ReportChunkLemmas.{one_more, text_added}
 use Rattle.report_core.proofs.report.push_all.Goals as goal
@@ -10,8 +10,7 @@ loop-part-preserved c =
     let yielded = c.loop-part.yielded in
     record {
       parts = append_assoc yielded (part ∷ []) _ ∙ rw (← c.in-Some.ensures.steps.0) before.parts;
-      all = All-push IsOk yielded part before.all (rw c.in_ok-part.was refl);
-      texts = text_added c.args.texts.now.items c.loop-part.texts.items c.push.new.self.items yielded part c.in_ok-part.field-0 before.texts
-          c.in_ok-push.ensures.items c.in_ok-part.was;
-      count = one_more _ _ _ _ _ _ before.count c.in_ok-push.ensures.items;
+      all = All-push IsOk yielded part before.all (rw c.in_ok-text.was refl);
+      texts = search (text_added, rules);
+      count = one_more _ c.loop-part.texts.items _ c.in_ok-text.text yielded part before.count (search rules);
     }
