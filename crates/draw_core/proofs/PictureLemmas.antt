@@ -1,7 +1,7 @@
 -- Texts that grow by pieces, groups of the same features, and sets that grow by a number.
-use Rattle.std.proofs.Common.{◌≡◌, ℕ, ℤ, pos, ◌-ℤ◌, ◌+ℤ◌, ◌≤ℤ◌, ◌<◌, ◌+◌, ◌==◌, Bool, true, List, [], ◌∷◌, ◌++◌, refl, ap, ◌∙◌, take, codes, length, get_or}
+use Rattle.std.proofs.Common.{◌≡◌, ℕ, ℤ, pos, ◌-ℤ◌, ◌+ℤ◌, ◌<◌, ◌+◌, ◌==◌, Bool, true, List, [], ◌∷◌, ◌++◌, refl, sym, ap, ◌∙◌, take, codes, length, get_or}
 use Rattle.std.proofs.Common.{Result, Ok, Err, is_ok, OnOk, if◌then◌else◌}
-use Rattle.std.proofs.Common.{append_assoc, flat_map, neg_ℤ, ◌≤◌, ◌*◌, unsigned_abs, to_z, of_z, w64, arith}
+use Rattle.std.proofs.Common.{append_assoc, flat_map, ◌≤◌, ◌*◌, unsigned_abs, to_z, of_z, w64, arith}
 use Rattle.std.proofs.lemmas.Grind.{common_steps}
 use Rattle.std.proofs.lemmas.List.Folds.{list_any_more}
 use Rattle.std.proofs.lemmas.Int.{ints, to_z_pos}
@@ -74,7 +74,7 @@ pub around_is : (a b c d l t : ℤ) (w h m : ℕ) → w ≡ unsigned_abs (c -ℤ
 around_is a b c d l t w h m width height margin left top = rw (left, top, margin, width, height) refl
 
 -- the group of the features that the pairs highlight, at the view of the layers
-pub group_is : (side : List ℕ) (v w : View) (f g : ℕ → Bool) (layer : Contents) (t u : List ℕ) → v ≡ w → ((n : ℕ) → f n ≡ g n)
+group_is : (side : List ℕ) (v w : View) (f g : ℕ → Bool) (layer : Contents) (t u : List ℕ) → v ≡ w → ((n : ℕ) → f n ≡ g n)
     → u ≡ t ++ group side v f layer → u ≡ t ++ group side w g layer
 group_is side v w f g layer t u view same more =
     more ∙ ap (λ l. t ++ l) (group_same side v f g layer same ∙ ap (λ x. group side x g layer) view)
@@ -85,16 +85,27 @@ on_push (Ok x) t u s e = e
 on_push (Err e) t u s h = tt
 
 -- a text to which three pieces were added, and four
-pub three_pieces : (a b c t0 t1 t2 t3 : List ℕ) → t1 ≡ t0 ++ a → t2 ≡ t1 ++ b → t3 ≡ t2 ++ c → t3 ≡ t0 ++ (a ++ (b ++ c))
+three_pieces : (a b c t0 t1 t2 t3 : List ℕ) → t1 ≡ t0 ++ a → t2 ≡ t1 ++ b → t3 ≡ t2 ++ c → t3 ≡ t0 ++ (a ++ (b ++ c))
 three_pieces a b c t0 t1 t2 t3 e1 e2 e3 = chain t0 t1 t3 a (b ++ c) e1 (chain t1 t2 t3 b c e2 e3)
 
-pub four_pieces : (a b c d t0 t1 t2 t3 t4 : List ℕ) → t1 ≡ t0 ++ a → t2 ≡ t1 ++ b → t3 ≡ t2 ++ c → t4 ≡ t3 ++ d
+four_pieces : (a b c d t0 t1 t2 t3 t4 : List ℕ) → t1 ≡ t0 ++ a → t2 ≡ t1 ++ b → t3 ≡ t2 ++ c → t4 ≡ t3 ++ d
     → t4 ≡ t0 ++ (a ++ (b ++ (c ++ d)))
 four_pieces a b c d t0 t1 t2 t3 t4 e1 e2 e3 e4 =
     chain t0 t1 t4 a (b ++ (c ++ d)) e1 (three_pieces b c d t1 t2 t3 t4 e2 e3 e4)
 
+-- the last of three pieces was pushed, and of four
+pub third_pushed : {T E : Type 0} (r : Result T E) (a b c whole t0 t1 t2 t3 : List ℕ) → t1 ≡ t0 ++ a → t2 ≡ t1 ++ b
+    → t3 ≡ (if is_ok r then t2 ++ c else t2) → whole ≡ a ++ (b ++ c) → OnOk r (t3 ≡ t0 ++ whole)
+third_pushed (Ok x) a b c whole t0 t1 t2 t3 e1 e2 e3 is = three_pieces a b c t0 t1 t2 t3 e1 e2 e3 ∙ ap (λ w. t0 ++ w) (sym is)
+third_pushed (Err e) a b c whole t0 t1 t2 t3 e1 e2 e3 is = tt
+
+pub fourth_pushed : {T E : Type 0} (r : Result T E) (a b c d whole t0 t1 t2 t3 t4 : List ℕ) → t1 ≡ t0 ++ a → t2 ≡ t1 ++ b → t3 ≡ t2 ++ c
+    → t4 ≡ (if is_ok r then t3 ++ d else t3) → whole ≡ a ++ (b ++ (c ++ d)) → OnOk r (t4 ≡ t0 ++ whole)
+fourth_pushed (Ok x) a b c d whole t0 t1 t2 t3 t4 e1 e2 e3 e4 is = four_pieces a b c d t0 t1 t2 t3 t4 e1 e2 e3 e4 ∙ ap (λ w. t0 ++ w) (sym is)
+fourth_pushed (Err e) a b c d whole t0 t1 t2 t3 t4 e1 e2 e3 e4 is = tt
+
 -- a text of six pieces
-pub six_pieces : (a b c d e f t0 t1 t2 t3 t4 t5 t6 : List ℕ) → t0 ≡ [] → t1 ≡ t0 ++ a → t2 ≡ t1 ++ b → t3 ≡ t2 ++ c
+six_pieces : (a b c d e f t0 t1 t2 t3 t4 t5 t6 : List ℕ) → t0 ≡ [] → t1 ≡ t0 ++ a → t2 ≡ t1 ++ b → t3 ≡ t2 ++ c
     → t4 ≡ t3 ++ d → t5 ≡ t4 ++ e → t6 ≡ t5 ++ f → t6 ≡ a ++ (b ++ (c ++ (d ++ (e ++ f))))
 six_pieces a b c d e f t0 t1 t2 t3 t4 t5 t6 e0 e1 e2 e3 e4 e5 e6 =
     let last = four_pieces c d e f t2 t3 t4 t5 t6 e3 e4 e5 e6 in
@@ -102,15 +113,21 @@ six_pieces a b c d e f t0 t1 t2 t3 t4 t5 t6 e0 e1 e2 e3 e4 e5 e6 =
     chain t0 t1 t6 a (b ++ rest) e1 (chain t1 t2 t6 b rest e2 last) ∙ ap (λ l. l ++ (a ++ (b ++ rest))) e0
 
 -- the picture from its pieces
-pub assembled : (left right : Contents) (pairs : List (ℕ × ℕ)) (v : View) (h : ℕ) (t0 t1 t2 t3 t4 t5 t6 : List ℕ)
-    → v ≡ view_of left right → h ≡ drawn_height (view_of left right) → t0 ≡ [] → t1 ≡ t0 ++ opening (h + 40)
-    → t2 ≡ t1 ++ legend (length left.features) (length right.features) (length pairs) → t3 ≡ t2 ++ canvas h v
-    → t4 ≡ t3 ++ group (codes "left") (view_of left right) (has_left pairs) left
-    → t5 ≡ t4 ++ group (codes "right") (view_of left right) (has_right pairs) right → t6 ≡ t5 ++ closing → t6 ≡ picture_of left right pairs
-assembled left right pairs v h t0 t1 t2 t3 t4 t5 t6 view height e0 e1 e2 e3 e4 e5 e6 =
+pub assembled : (left right : Contents) (pairs : List (ℕ × ℕ)) (v : View) (h l r p : ℕ) (f g : ℕ → Bool) (t0 t1 t2 t3 t4 t5 t6 : List ℕ)
+    → v ≡ view_of left right → l ≡ length left.features → r ≡ length right.features → p ≡ length pairs → h ≡ drawn_height v → ((n : ℕ) → f n ≡ has_left pairs n) → ((n : ℕ) → g n ≡ has_right pairs n) → t0 ≡ []
+    → t1 ≡ t0 ++ opening (h + 40)
+    → t2 ≡ t1 ++ legend l r p → t3 ≡ t2 ++ canvas h v
+    → t4 ≡ t3 ++ group (codes "left") v f left
+    → t5 ≡ t4 ++ group (codes "right") v g right → t6 ≡ t5 ++ closing → t6 ≡ picture_of left right pairs
+assembled left right pairs v h l r p f g t0 t1 t2 t3 t4 t5 t6 view left_len right_len pairs_len drawn lefts rights e0 e1 e2 e3 h4 h5 e6 =
+    let height : h ≡ drawn_height (view_of left right) = drawn ∙ ap drawn_height view in
+    let e4 = group_is (codes "left") v (view_of left right) f (has_left pairs) left t3 t4 view lefts h4 in
+    let e5 = group_is (codes "right") v (view_of left right) g (has_right pairs) right t4 t5 view rights h5 in
     let w = view_of left right in
     let k = drawn_height w in
     six_pieces (opening (k + 40)) (legend (length left.features) (length right.features) (length pairs)) (canvas k w)
     (group (codes "left") w (has_left pairs) left) (group (codes "right") w (has_right pairs) right) closing
-    t0 t1 t2 t3 t4 t5 t6 e0 (e1 ∙ ap (λ x. t0 ++ opening (x + 40)) height) e2
+    t0 t1 t2 t3 t4 t5 t6 e0 (e1 ∙ ap (λ x. t0 ++ opening (x + 40)) height)
+    (e2 ∙ ap (λ x. t1 ++ legend x r p) left_len ∙ ap (λ x. t1 ++ legend (length left.features) x p) right_len
+    ∙ ap (λ x. t1 ++ legend (length left.features) (length right.features) x) pairs_len)
     (e3 ∙ ap (λ x. t2 ++ canvas h x) view ∙ ap (λ x. t2 ++ canvas x w) height) e4 e5 e6

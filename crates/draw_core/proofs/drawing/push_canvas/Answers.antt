@@ -1,7 +1,6 @@
-use Rattle.std.proofs.Common.{◌≡◌, ◌++◌, codes, string_bytes}
-use Rattle.std.proofs.lemmas.Result.{on_ok_weaker}
+use Rattle.std.proofs.Common.{◌≡◌, ◌++◌, codes, refl, string_bytes}
 use Rattle.draw_core.specs.Pictures.{counted}
-use Rattle.draw_core.proofs.PictureLemmas.{on_push, four_pieces}
+use Rattle.draw_core.proofs.PictureLemmas.{fourth_pushed}
 use Rattle.draw_core.proofs.drawing.push_canvas.Goals as goal
 
 pub returns : goal.returns
@@ -14,5 +13,4 @@ returns c =
     let height = counted (codes " ") view.height in
     let wider : wide ≡ before ++ width = cc c.in_ok-push_counted-2.ensures in
     let higher : high ≡ wide ++ height = cc c.in_ok-push_counted-3.ensures in
-    on_ok_weaker c.push_str.result (λ e. four_pieces _ _ _ _ _ _ _ _ _ c.in_ok-push_counted.ensures wider higher e)
-    (on_push c.push_str.result high _ (codes "\">\n") c.push_str.ensures.bytes)
+    fourth_pushed _ _ _ _ (codes "\">\n") _ _ _ _ _ _ c.in_ok-push_counted.ensures wider higher (search) refl
