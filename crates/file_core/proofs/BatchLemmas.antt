@@ -1,5 +1,6 @@
 -- Rows that records say in turn: more of them, and what they give a layer.
 use Rattle.std.proofs.Common.{◌≡◌, ◌≢◌, ◌∙◌, ◌+◌, ◌<◌, ℕ, Bool, true, false, List, [], ◌∷◌, ◌++◌, All, length, Option, Some, None, Result, Ok, Err, refl, sym, subst, ap, inl, inr, arith, append_assoc}
+use Rattle.std.proofs.lemmas.List.Elements.{All-nil}
 use Rattle.std.specs.declared.alloc.Global.{Global}
 use Rattle.std.specs.declared.vec.Vec.{Vec}
 use Rattle.geom_core.specs.declared.shape.Shape.{Shape}
@@ -158,6 +159,10 @@ module _ (scale : Scale) (old new : Unread) (read : List ReadRow) (left : List R
   pub batch-faulty : (fault : ReadFault) → fault ≢ Io → (fault ≢ Memory → HasFault scale (count_unread old + 1 + length read) left fault)
       → IsBatch scale old read (Err fault) new
   batch-faulty fault no_io has = record { left = left; rows = say; behind = has; ids = ids; no_io = λ e. no_io cc }
+
+-- memory was refused before a row was read
+pub batch-none : (scale : Scale) (old new : Unread) (rows : List (Vec ReadRow Global)) → rows ≡ [] → IsBatch scale old (all_rows rows) (Err Memory) new
+batch-none scale old new rows none = rw none (batch-refused scale old new [] (records_unread old) refl (All-nil HasId))
 
 -- rows that a reader reads are those that were left
 pub batch-begun : (scale : Scale) (old : Unread) (first new : RowsOf) (read : List ReadRow) (more : Result Bool ReadFault)

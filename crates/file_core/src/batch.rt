@@ -44,8 +44,9 @@ fn read_batch<'a>(alloc: Global, unread: Unread<'a>, scale: Scale) -> (Unread<'a
     match read_rows(alloc, unread, scale) {
         Ok(read) => read,
         Err(_) => {
+            let no_rows = Vec::new(alloc);
             let batch = Batch {
-                rows: Vec::new(alloc),
+                rows: no_rows,
                 more: Err(ReadFault::Memory),
             };
             // Nothing is read behind a fault.
@@ -91,10 +92,13 @@ pub(crate) fn fill(
 {
     read.reserve(most)?;
     for _ in 0..most {
-        let Some(number) = rows.next()? else {
+        let next = rows.next()?;
+        let Some(number) = next else {
             return Ok(false);
         };
-        read.push_reserved(read_row(alloc, number, rows.row(), scale)?);
+        let record = rows.row();
+        let row = read_row(alloc, number, record, scale)?;
+        read.push_reserved(row);
     }
     Ok(true)
 }

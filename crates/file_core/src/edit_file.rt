@@ -41,7 +41,8 @@ pub fn edits_of_bytes(alloc: Global, bytes: &[u8], scale: Scale) -> Result<Vec<E
     let mut edits = Vec::new(alloc);
     while let Some(number) = rows.next()? {
         edits.reserve(1)?;
-        let edit = edit_of_row(alloc, number, rows.row(), scale)?;
+        let record = rows.row();
+        let edit = edit_of_row(alloc, number, record, scale)?;
         edits.push_reserved(edit);
     }
     Ok(edits)

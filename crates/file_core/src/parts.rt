@@ -112,6 +112,7 @@ fn one_part(alloc: Global, read: Vec<ReadRow>) -> Option<Parts>
         return None;
     };
     let mut rows = Vec::new(alloc);
-    rows.push(read).ok()?;
+    let pushed = rows.push(read);
+    pushed.ok()?;
     Some(Parts { rows, count })
 }

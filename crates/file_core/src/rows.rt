@@ -56,7 +56,8 @@ impl<'a> Rows<'a> {
         }
         let mut records = records(alloc, file)?;
         let first = &mut *records;
-        if !next_record(first)? || !is_header(&first.last, columns) {
+        let found = next_record(first)?;
+        if !found || !is_header(&first.last, columns) {
             return Err(ReadFault::Header);
         }
         let unended = is_unended(&first.last);
@@ -158,7 +159,9 @@ fn is_header(row: &ByteRecord, columns: &[&str]) -> bool
         let Some(field) = row.get(i) else {
             return false;
         };
-        if !field.eq_ignore_ascii_case(column.as_bytes()) {
+        let name = column.as_bytes();
+        let same = field.eq_ignore_ascii_case(name);
+        if !same {
             return false;
         }
     }

@@ -5,7 +5,7 @@ use Rattle.file_core.specs.declared.unread.Unread.TheVariants.{Rows}
 use Rattle.file_core.specs.Batches.{HasId}
 use Rattle.file_core.specs.Cuts.{IsClosed}
 use Rattle.file_core.specs.LayerRows.{content_of}
-use Rattle.file_core.specs.Rows.{last_row, rows_left}
+use Rattle.file_core.specs.Rows.{rows_left}
 use Rattle.file_core.proofs.BatchLemmas.{say-push, says-any, batch-refused, batch-ended, batch-faulty}
 use Rattle.file_core.proofs.batch.fill.Goals as goal
 
@@ -29,50 +29,50 @@ loop-init c =
       filled = omega (arith, few, c.reserve.new.self.ok.0);
     }
 
-pub returns-in_err-number-clause-batch : goal.returns-in_err-number-clause-batch
-returns-in_err-number-clause-batch c =
-    let p = err_from_is_err_and c.from_residual-in_err-number.result c.from_residual-in_err-number.ensures.1 in
+pub returns-in_err-next-clause-batch : goal.returns-in_err-next-clause-batch
+returns-in_err-next-clause-batch c =
+    let p = err_from_is_err_and c.from_residual-in_err-next.result c.from_residual-in_err-next.ensures.1 in
     rw (p.1, p.2)
-    (batch-refused c.args.scale (Rows c.args.rows.now) (Rows c.next.new.self) c.loop.read.items (rows_left c.loop.rows) c.loop.invariant.rows
+    (batch-refused c.args.scale (Rows c.args.rows.now) _ c.loop.read.items (rows_left c.loop.rows) c.loop.invariant.rows
     c.loop.invariant.ids)
 
 pub returns-in_default-clause-batch : goal.returns-in_default-clause-batch
 returns-in_default-clause-batch c =
-    batch-ended c.args.scale (Rows c.args.rows.now) (Rows c.next.new.self) c.loop.read.items (rows_left c.loop.rows) c.loop.invariant.rows
-    c.loop.invariant.ids (rw c.in_default.is at c.in_ok-number.ensures).none_left
+    batch-ended c.args.scale (Rows c.args.rows.now) _ c.loop.read.items (rows_left c.loop.rows) c.loop.invariant.rows
+    c.loop.invariant.ids (rw c.in_default.is at c.in_ok-next.ensures).none_left
 
 pub returns-in_default-clause-closed : goal.returns-in_default-clause-closed
 returns-in_default-clause-closed c done unended =
-    let ended = rw c.in_default.is at c.in_ok-number.ensures in
+    let ended = rw c.in_default.is at c.in_ok-next.ensures in
     c.loop.invariant.closed (sym ended.same ∙ unended) (rw ended.none_left (All-nil IsClosed))
 
-pub returns-in_err-read_row-clause-batch : goal.returns-in_err-read_row-clause-batch
-returns-in_err-read_row-clause-batch c =
-    let reads = rw c.in-Some.is at c.in_ok-number.ensures in
-    let fault = c.in_err-read_row.field-0.0 in
-    let p = err_from_is_err_and c.from_residual-in_err-read_row.result c.from_residual-in_err-read_row.ensures.1 in
+pub returns-in_err-row-clause-batch : goal.returns-in_err-row-clause-batch
+returns-in_err-row-clause-batch c =
+    let reads = rw c.in-Some.is at c.in_ok-next.ensures in
+    let fault = c.in_err-row.field-0.0 in
+    let p = err_from_is_err_and c.from_residual-in_err-row.result c.from_residual-in_err-row.ensures.1 in
     let at : c.in-Some.number ≡ c.args.rows.now.count + 1 + length c.loop.read.items =
     omega (arith, reads.numbered, c.loop.invariant.counted, c.loop.read.ok.0) in
     rw (p.1, p.2)
-    (batch-faulty c.args.scale (Rows c.args.rows.now) (Rows c.next.new.self) c.loop.read.items (rows_left c.loop.rows) c.loop.invariant.rows
-    c.loop.invariant.ids fault (λ e. c.in_err-read_row.ensures.no_io (ap Err e))
-    (λ known. rw (reads.row, ← at, ← c.row.ensures) (c.in_err-read_row.ensures.fault known)))
+    (batch-faulty c.args.scale (Rows c.args.rows.now) _ c.loop.read.items (rows_left c.loop.rows) c.loop.invariant.rows
+    c.loop.invariant.ids fault (λ e. c.in_err-row.ensures.no_io (ap Err e))
+    (λ known. rw (reads.row, ← at, ← c.row-record.ensures) (c.in_err-row.ensures.fault known)))
 
 pub loop-preserved : goal.loop-preserved
 loop-preserved c =
-    let reads = rw c.in-Some.is at c.in_ok-number.ensures in
+    let reads = rw c.in-Some.is at c.in_ok-next.ensures in
     let say = rw reads.row at c.loop.invariant.rows in
-    let row = c.in_ok-read_row.field-0 in
+    let row = c.in_ok-row.row in
     record {
       reading = reads.reading;
       rows = rw c.push_reserved.ensures.items
-          (say-push c.args.scale (rows_left c.args.rows.now) c.loop.read.items (last_row c.next.new.self) row
-          (rows_left c.next.new.self) say
-          (says-any c.args.scale c.in-Some.number (last_row c.next.new.self) (content_of row) (rw (← c.row.ensures) c.in_ok-read_row.ensures.says)));
+          (say-push c.args.scale (rows_left c.args.rows.now) c.loop.read.items _ row
+          _ say
+          (says-any c.args.scale c.in-Some.number _ (content_of row) (rw (← c.row-record.ensures) c.in_ok-row.ensures.says)));
       counted = omega (arith, reads.numbered, reads.counted, c.loop.invariant.counted, c.push_reserved.ensures.len);
-      ids = rw c.push_reserved.ensures.items (All-push HasId c.loop.read.items row c.loop.invariant.ids c.in_ok-read_row.ensures.id);
+      ids = rw c.push_reserved.ensures.items (All-push HasId c.loop.read.items row c.loop.invariant.ids c.in_ok-row.ensures.id);
       closed = λ unended all. c.loop.invariant.closed (reads.closed unended).0
-          (rw reads.row (All-cons IsClosed (last_row c.next.new.self) (rows_left c.next.new.self) (reads.closed unended).1 all));
+          (rw reads.row (All-cons IsClosed _ _ (reads.closed unended).1 all));
       room = omega (arith, c.loop.invariant.room, c.push_reserved.ensures.capacity);
       filled = omega (arith, c.loop.invariant.filled, c.push_reserved.ensures.len);
     }

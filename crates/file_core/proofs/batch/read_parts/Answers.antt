@@ -6,6 +6,6 @@ pub returns : goal.returns
 returns g c =
     let unread = rw c.in-Text.is at c.requires in
     rw c.in-Text.is
-    (parts-batch c.args.scale c.in-Text.text c.cut.result.1 c.in-Text.count c.in_ok-behind.behind c.cut.result.0.now c.in_ok-rows.field-0 unread
-    c.cut.ensures c.in_ok-rows.ensures (c.is_plain.ensures c.if-not-is_plain.false) (omega (arith, c.in_ok-behind.ensures, c.in_ok-rows.read-is))
-    (omega (arith, c.if-read-eq0.false, c.in_ok-rows.read-is)))
+    (parts-batch c.args.scale c.in-Text.text _ c.in-Text.count c.in_ok-behind.behind _ c.in_ok-rows.field-0 unread
+    (search) c.in_ok-rows.ensures (c.is_plain.ensures (search)) (omega (arith, c.in_ok-behind.ensures, c.in_ok-rows.read-is))
+    (omega (arith, c.in_ok-rows.read-is)))

@@ -1,4 +1,4 @@
-use Rattle.std.proofs.Common.{◌∙◌, ◌∷◌, ◌++◌, [], length, map, ap, arith, refl, Ok, Err, length-append}
+use Rattle.std.proofs.Common.{◌≡◌, ◌∙◌, ◌∷◌, ◌++◌, [], length, map, ap, arith, refl, Ok, Err, length-append}
 use Rattle.std.proofs.lemmas.List.{map-append}
 use Rattle.std.proofs.lemmas.Result.{err_from_is_err_and}
 use Rattle.layer_core.specs.Edits.{content_of}
@@ -11,15 +11,15 @@ returns-in_err-edit-clause-file c =
     let p = err_from_is_err_and c.from_residual-in_err-edit.result c.from_residual-in_err-edit.ensures.1 in
     rw (p.1, p.2)
     (λ known.
-    let gives = rw (reads.numbered, c.row.ensures) at (c.in_err-edit.ensures.err (λ e. known (ap Err e))) in
+    let gives = rw (reads.numbered, c.row-record.ensures) at (c.in_err-edit.ensures.err (λ e. known (ap Err e))) in
     c.loop-edits.invariant.2 (Err fault) (rw reads.row (Err fault, (Err fault, gives, refl), refl)))
 
 pub loop-edits-preserved : goal.loop-edits-preserved
 loop-edits-preserved c =
     let reads = rw c.in-Some.is at c.in_ok-number.ensures in
-    let items = c.push_reserved.ensures.items ∙ ap (λ edits. edits ++ (c.in_ok-edit.edit ∷ [])) c.reserve.ensures.items in
+    let items : c.push_reserved.new.self.items ≡ c.loop-edits.edits.items ++ (c.in_ok-edit.edit ∷ []) = cc in
     let edits = ap (map content_of) items ∙ map-append content_of c.loop-edits.edits.items (c.in_ok-edit.edit ∷ []) in
-    let row_gives = rw (reads.numbered, c.row.ensures) at c.in_ok-edit.ensures.ok in (
+    let row_gives = rw (reads.numbered, c.row-record.ensures) at c.in_ok-edit.ensures.ok in (
       reads.reading,
       omega (arith, c.loop-edits.invariant.1, ap length items, length-append c.loop-edits.edits.items (c.in_ok-edit.edit ∷ []), ap length reads.row),
       λ answer gives.

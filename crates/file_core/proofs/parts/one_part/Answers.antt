@@ -6,9 +6,9 @@ use Rattle.file_core.proofs.parts.one_part.Goals as goal
 
 pub returns : goal.returns
 returns c =
-    let good : is_ok c.push.result ≡ true = search rules in
-    let items = rw good at c.push.ensures.items in
+    let good : is_ok c.push-pushed.result ≡ true = search rules in
+    let items = rw good at c.push-pushed.ensures.items in
     record {
       rows = ap all_rows (items ∙ ap (λ front. front ++ c.args.read ∷ []) c.new-rows.ensures.items) ∙ append-nil c.args.read.items;
-      count = omega (arith, c.in-Ok.ensures, c.len.ensures);
+      count = omega (arith, c.in-Ok.ensures);
     }
