@@ -1,5 +1,5 @@
 -- The rows of a list of corners.
-use Rattle.std.proofs.Common.{◌≡◌, ℕ, List, [], ◌∷◌, ◌++◌, Vec, Global, map, sym, ap, ◌∙◌, append-nil, append_assoc}
+use Rattle.std.proofs.Common.{◌≡◌, ℕ, List, [], ◌∷◌, ◌++◌, Vec, Global, Result, Ok, Err, OnOk, map, sym, ap, ◌∙◌, append-nil, append_assoc}
 use Rattle.csv.specs.declared.writer.Writer.{Writer}
 use Rattle.layer_core.specs.Layers.{Feature}
 use Rattle.report_core.specs.CsvTexts.{csv_text}
@@ -12,7 +12,7 @@ pub record HasFront (writer : Writer (Vec ℕ Global)) (left features : List Fea
   pub written : HasRows writer rows
   pub all : rows ++ map bounds_row left ≡ bounds_header ∷ map bounds_row features
 
-pub header_written : (old writer : Writer (Vec ℕ Global)) (left features : List Feature) → HasRows old [] → AddsRow old writer bounds_header
+header_written : (old writer : Writer (Vec ℕ Global)) (left features : List Feature) → HasRows old [] → AddsRow old writer bounds_header
     → left ≡ features → HasFront writer left features
 header_written old writer left features empty more same = record {
   rows = bounds_header ∷ [];
@@ -28,6 +28,12 @@ row_written old writer left left' features f front is more = record {
   written = more front.rows front.written;
   all = append_assoc front.rows (bounds_row f ∷ []) (map bounds_row left') ∙ ap (λ fs. front.rows ++ map bounds_row fs) (sym is) ∙ front.all;
 }
+
+-- the header was pushed
+pub header_pushed : {T E : Type 0} (r : Result T E) (x : T) (old writer : Writer (Vec ℕ Global)) (left features : List Feature)
+    → OnOk r (AddsRow old writer bounds_header) → r ≡ Ok x → HasRows old [] → left ≡ features → HasFront writer left features
+header_pushed (Ok y) x old writer left features more ok empty same = header_written old writer left features empty more same
+header_pushed (Err e) x old writer left features more ok empty same = absurd cc
 
 -- no feature is left
 pub all_written : (writer : Writer (Vec ℕ Global)) (left features : List Feature) (text : List ℕ) → HasFront writer left features → left ≡ []

@@ -1,6 +1,5 @@
 -- The rows of the list of features that meet a window.
-use Rattle.std.proofs.Common.{◌≡◌, ◌↔◌, ℕ, List, [], ◌∷◌, ◌++◌, Vec, Global, Bool, true, false, map, codes, refl, sym, subst, append-nil, append_assoc}
-use Rattle.std.proofs.Common.{IsTrue}
+use Rattle.std.proofs.Common.{◌≡◌, ℕ, List, [], ◌∷◌, ◌++◌, Vec, Global, Result, Ok, Err, OnOk, map, codes, sym, subst, append-nil, append_assoc}
 use Rattle.std.proofs.lemmas.List.{map-append}
 use Rattle.csv.specs.declared.writer.Writer.{Writer}
 use Rattle.geom_core.specs.declared.shape.Shape.{Shape}
@@ -20,7 +19,7 @@ pub record HasFront (window : Shape) (writer : Writer (Vec ℕ Global)) (left fe
   pub all : (later : List (List ℕ)) → MeetingIds window left later → MeetingIds window features (ids ++ later)
 
 module _ (window : Shape) (old writer : Writer (Vec ℕ Global)) where
-  pub header_written : (left features : List Feature) → HasRows old [] → AddsRow old writer (codes "id" ∷ []) → left ≡ features
+  header_written : (left features : List Feature) → HasRows old [] → AddsRow old writer (codes "id" ∷ []) → left ≡ features
       → HasFront window writer left features
   header_written left features empty more same = record {
     ids = [];
@@ -29,7 +28,7 @@ module _ (window : Shape) (old writer : Writer (Vec ℕ Global)) where
   }
 
   -- a feature that meets the window gets a row
-  pub id_written : (left left' features : List Feature) (f : Feature) (id : List ℕ) → HasFront window old left features → left ≡ f ∷ left'
+  id_written : (left left' features : List Feature) (f : Feature) (id : List ℕ) → HasFront window old left features → left ≡ f ∷ left'
       → Meets f.shape window → id ≡ f.id → AddsRow old writer (id ∷ []) → HasFront window writer left' features
   id_written left left' features f id front is meets same more = record {
     ids = front.ids ++ f.id ∷ [];
@@ -38,6 +37,20 @@ module _ (window : Shape) (old writer : Writer (Vec ℕ Global)) where
     all = λ later meeting. rw (append_assoc front.ids (f.id ∷ []) later)
         (front.all (f.id ∷ later) (subst (λ (fs : List Feature). MeetingIds window fs (f.id ∷ later)) (sym is) (met meets meeting)));
   }
+
+-- the header was pushed, and an id
+pub header_pushed : {T E : Type 0} (r : Result T E) (x : T) (window : Shape) (old writer : Writer (Vec ℕ Global)) (left features : List Feature)
+    → OnOk r (AddsRow old writer (codes "id" ∷ [])) → r ≡ Ok x → HasRows old [] → left ≡ features → HasFront window writer left features
+header_pushed (Ok y) x window old writer left features more ok empty same = header_written window old writer left features empty more same
+header_pushed (Err e) x window old writer left features more ok empty same = absurd cc
+
+pub id_pushed : (window : Shape) (old : Writer (Vec ℕ Global)) (left left' features : List Feature) (f : Feature) (id : List ℕ)
+    → HasFront window old left features → left ≡ f ∷ left' → Meets f.shape window → id ≡ f.id
+    → {T E : Type 0} (r : Result T E) (x : T) (writer : Writer (Vec ℕ Global)) → OnOk r (AddsRow old writer (id ∷ [])) → r ≡ Ok x
+    → HasFront window writer left' features
+id_pushed window old left left' features f id front is meets same (Ok y) x writer more ok =
+    id_written window old writer left left' features f id front is meets same more
+id_pushed window old left left' features f id front is meets same (Err e) x writer more ok = absurd cc
 
 module _ (window : Shape) (writer : Writer (Vec ℕ Global)) where
   -- and one that doesn't gets none

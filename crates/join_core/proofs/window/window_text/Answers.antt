@@ -1,14 +1,14 @@
+use Rattle.std.proofs.Common.{rules}
 use Rattle.std.proofs.lemmas.Result.{IfOk-weaker}
-use Rattle.join_core.proofs.WindowLemmas.{header_written, id_written, none_written, all_written}
+use Rattle.join_core.proofs.WindowLemmas.{header_pushed, id_pushed, none_written, all_written}
 use Rattle.join_core.proofs.window.window_text.Goals as goal
 
 pub loop-feature-init : goal.loop-feature-init
-loop-feature-init c = header_written _ _ _ _ _ c.new_rows-writer.ensures c.in_ok-push_row.ensures cc
+loop-feature-init c = search (header_pushed, rules)
 
 pub loop-feature-preserved-in-Continue-branch-2 : goal.loop-feature-preserved-in-Continue-branch-2
 loop-feature-preserved-in-Continue-branch-2 c =
-    id_written _ _ _ _ _ _ _ _ c.loop-feature.invariant c.in-Some.ensures.steps (c.meets-meets.ensures.0 (search)) c.as_bytes-id.ensures.value
-    c.in_ok-push_row-2.ensures
+    search (id_pushed _ _ _ _ _ _ _ c.loop-feature.invariant c.in-Some.ensures.steps (c.meets-meets.ensures.0 (search)) c.as_bytes-id.ensures.value, rules)
 
 pub loop-feature-preserved : goal.loop-feature-preserved
 loop-feature-preserved c =
