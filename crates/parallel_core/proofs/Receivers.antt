@@ -11,7 +11,7 @@ use Rattle.deliver_core.specs.Byes.{is_bye, has_bye}
 use Rattle.deliver_core.specs.OutletCalls.{IsAfterTaking}
 use Rattle.deliver_core.specs.Outlets.{of_port}
 use Rattle.deliver_core.specs.Ports.{taken_by, port_count, IsTapOf}
-use Rattle.deliver_core.specs.Scripts.{content_of}
+use Rattle.deliver_core.specs.Scripts.{Content, content_of}
 use Rattle.parallel_core.specs.declared.receiver.Receiver.{Receiver}
 use Rattle.parallel_core.specs.Receivers.{ReceivesFrom, Continues}
 use Rattle.parallel_core.specs.FusedCollectors.{HasTakenIn}
@@ -26,6 +26,8 @@ continues_on outlet a b c one two = record {
   tasks = two.tasks ∙ one.tasks;
   final = λ port bye. two.final port (ap has_bye (one.final port bye) ∙ bye) ∙ one.final port bye;
 }
+
+pub ruleset goes_on = (continues_here, continues_on)
 
 -- the same was taken
 pub continues_same : (outlet : Outlet) (a b : Receiver) → ReceivesFrom outlet a → IsTapOf outlet b.tap → port_count b.tap ≡ port_count a.tap
@@ -83,7 +85,8 @@ pub continues_with : (outlet : Outlet) (a b : Receiver) (m : Message) → Receiv
     → IsAfterTaking a.tap b.tap m → length b.ended.items ≡ length a.ended.items
     → ((port : ℕ) → slice_get b.ended.items port ≡ Some true → (slice_get a.ended.items port ≡ Some true) ⊎ ((m.port ≡ port) × (is_bye m ≡ true)))
     → b.fused.collector.tasks ≡ a.fused.collector.tasks
-    → HasTakenIn (map content_of (taken_by a.tap) ++ content_of m ∷ []) b.fused.collector b.fused.accepted
+    → ((contents : List Content) → HasTakenIn contents a.fused.collector a.fused.accepted
+    → let next = content_of m ∷ [] in HasTakenIn (contents ++ next) b.fused.collector b.fused.accepted)
     → Continues outlet a b
 continues_with outlet a b m h own ports after lengths noted tasks taken_in = record {
   receives = record {
@@ -95,7 +98,7 @@ continues_with outlet a b m h own ports after lengths noted tasks taken_in = rec
           | inl before ↦ bye_stays port (taken_by a.tap) m (h.ended port before)
           | inr now ↦ bye_comes port (taken_by a.tap) m now.0 now.1
         ]);
-    taken_in = rw (after.taken, map-append content_of (taken_by a.tap) (m ∷ [])) taken_in;
+    taken_in = rw (after.taken, map-append content_of (taken_by a.tap) (m ∷ [])) (taken_in (map content_of (taken_by a.tap)) h.taken_in);
   };
   ports = ports;
   tasks = tasks;

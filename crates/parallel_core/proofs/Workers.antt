@@ -73,15 +73,17 @@ module _ (relation : Relation) (plan : List (Node × Node)) (size : ℕ) where
     says = says.2;
   }
 
+  pub ruleset one_task = (says_nothing, says_one, says_part_of_one)
+
   -- what a port has said, once it says more
-  pub said_more : (drawn drawn' ms : List ℕ) (old new : Port) → drawn' ≡ drawn ++ ms → AreScripts relation plan size drawn (said_by old)
-      → SaysScripts relation plan size ms old new → AreScripts relation plan size drawn' (said_by new)
-  said_more drawn drawn' ms old new grown so_far more =
+  pub said_more : (drawn drawn' ms : List ℕ) (old new : Port) → SaysScripts relation plan size ms old new → drawn' ≡ drawn ++ ms
+      → AreScripts relation plan size drawn (said_by old) → AreScripts relation plan size drawn' (said_by new)
+  said_more drawn drawn' ms old new more grown so_far =
       rw (grown, more.says) (join_scripts drawn ms (said_by old) more.more so_far more.scripts)
 
-  pub said_part : (drawn drawn' ms : List ℕ) (old new : Port) → drawn' ≡ drawn ++ ms → AreScripts relation plan size drawn (said_by old)
-      → SaysBeginning relation plan size ms old new → BeginScripts relation plan size drawn' (said_by new)
-  said_part drawn drawn' ms old new grown so_far more =
+  pub said_part : (drawn drawn' ms : List ℕ) (old new : Port) → SaysBeginning relation plan size ms old new → drawn' ≡ drawn ++ ms
+      → AreScripts relation plan size drawn (said_by old) → BeginScripts relation plan size drawn' (said_by new)
+  said_part drawn drawn' ms old new more grown so_far =
       rw (grown, more.says) (join_beginning drawn ms (said_by old) more.more so_far more.scripts)
 
   -- what it has said besides its Bye, by how its work ended
@@ -111,9 +113,9 @@ comes_back shared index w before worked is all part seat at ended unmet same sen
   port = record { ended = ended; unmet = unmet; index_is = same ∙ at };
 }
 
-pub seat_gains : (board : BoardValue) (old new : SeatValue) (number : ℕ) → IsSeatBelow board old → IsSeatOf board new → IsAfterNumber board old new number
+pub seat_gains : (board : BoardValue) (old new : SeatValue) (number : ℕ) → IsAfterNumber board old new number → IsSeatBelow board old → IsSeatOf board new
     → IsSeatBelow board new
-seat_gains board old new number so_far own after = record {
+seat_gains board old new number after so_far own = record {
   own = own;
   below = rw after.drawn (All-push (λ n. n < board.tasks) old.drawn number so_far.below after.task);
 }

@@ -49,13 +49,14 @@ pub fn run_workers<'a, R: Threads + Wait + Sync, P: Rows + Sync, G: Gate + Sync>
         outlet: &outlet,
     };
     let team = Team::new(seats, ports, receiver);
+    let ended = run(rt, alloc, shared, team);
     let Team {
         seats,
         ports: _,
         receiver,
         all_started,
         all_ok,
-    } = run(rt, alloc, shared, team);
+    } = ended;
     are_started(all_started)?;
     owners_law();
     board.close(seats);

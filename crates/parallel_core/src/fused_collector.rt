@@ -33,6 +33,7 @@ impl FusedCollector {
     }
 
     /// Offers a message to the collector, or drops it where a message was refused before.
+    #[tactic(auto, using(crate::proofs::TakingIn::not_ok))]
     pub(crate) fn take_in(&mut self, message: Message)
         ensures tasks { self.new.collector.tasks ≡ self.old.collector.tasks }
         ensures more { (contents : List Content)

@@ -49,6 +49,7 @@ impl Receiver {
     }
 
     /// Takes in messages until the Bye of this port was taken.
+    #[tactic(auto, using(crate::proofs::Receivers::goes_on))]
     pub(crate) fn take_until_bye<R: Wait>(&mut self, rt: &R, outlet: &Outlet, port: u32)
         requires receives { ReceivesFrom outlet.now self.old }
         requires port { port < port_count self.old.tap }
@@ -70,6 +71,7 @@ impl Receiver {
     }
 
     /// Ties what was taken of a port to what it sent.
+    #[tactic(auto, using(crate::proofs::Receivers::continues_same))]
     pub(crate) fn meet<R: Wait>(&mut self, rt: &R, outlet: &Outlet, port: Port)
         requires receives { ReceivesFrom outlet.now self.old }
         requires port { IsReadyToMeet outlet.now (index_of port) port }

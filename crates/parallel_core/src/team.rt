@@ -164,7 +164,8 @@ pub(crate) fn run<'a, R: Threads + Wait + Sync, P: Rows + Sync, G: Gate + Sync>(
             };
             let mut team = run(rt, alloc, shared, team);
             team.receiver.take_until_bye(rt, outlet, index);
-            let Worked { seat, port, ok } = child.join(rt);
+            let worked = child.join(rt);
+            let Worked { seat, port, ok } = worked;
             team.receiver.meet(rt, outlet, port);
             team.seats.push_reserved(seat);
             team.all_ok &= ok;

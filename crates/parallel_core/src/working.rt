@@ -89,6 +89,7 @@ pub(crate) fn work<R: Threads + Wait + Sync, P: Rows, G: Gate>(
 }
 
 /// Processes tasks until the seat meets the end of them.
+#[tactic(auto, using(crate::proofs::Workers::said_part))]
 fn process_tasks<R: Threads + Wait + Sync, P: Rows, G: Gate>(
     rt: &R,
     alloc: Global,
@@ -109,7 +110,8 @@ fn process_tasks<R: Threads + Wait + Sync, P: Rows, G: Gate>(
         IfErr result (λ _. BeginScripts it.relation it.plan it.size drawn (said_by port.new)) }
 {
     for _ in rt.forever() {
-        let Some(task) = shared.board.claim(seat) else {
+        let drawn = shared.board.claim(seat);
+        let Some(task) = drawn else {
             return Ok(());
         };
         shared.gate.enter(rt, task);
@@ -119,7 +121,7 @@ fn process_tasks<R: Threads + Wait + Sync, P: Rows, G: Gate>(
 }
 
 /// Sends the script of one task.
-#[tactic(auto, using(crate::proofs::Workers::says_nothing))]
+#[tactic(auto, using(crate::proofs::Workers::one_task))]
 fn send_task<R: Wait, P: Rows, G>(
     rt: &R,
     alloc: Global,

@@ -1,11 +1,11 @@
-use Rattle.std.proofs.Common.{◌≡◌, length, map, vec_capacity, sym, ap, ◌∙◌, arith}
+use Rattle.std.proofs.Common.{◌≡◌, length, map, vec_capacity, sym, ap, ◌∙◌, arith, rules}
 use Rattle.relation_core.specs.JoinRelations.{relation_of}
 use Rattle.deliver_core.specs.Ports.{index_of, port_count}
 use Rattle.parallel_core.proofs.TeamEndings.{first_ready, all_own, all_end}
 use Rattle.parallel_core.proofs.delivery.run_workers.Goals as goal
 
-pub run-seats-requires-clause-ready : goal.run-seats-requires-clause-ready
-run-seats-requires-clause-ready g c κs within =
+pub run-ended-requires-clause-ready : goal.run-ended-requires-clause-ready
+run-ended-requires-clause-ready g c κs within =
     let count = c.in_ok-outlet.ensures.count.0 in
     let fits = c.in_ok-outlet.ports.ok in
     let many : length c.new-team.result.ports.items ≡ c.args.workers = ap (λ v. length v.items) c.new-team.ensures.lists.1 ∙ omega arith in
@@ -19,7 +19,7 @@ run-seats-requires-clause-ready g c κs within =
 pub close-requires-clause-own : goal.close-requires-clause-own
 close-requires-clause-own g c =
     all_own (relation_of c.args.relation.now) (g.P.Rows.tasks c.args.plan.now) c.args.batch (length c.new-team.result.ports.items) c.in_ok-board.board
-    c.run-seats.result (c.run-seats.ensures.shares c.in_ok-are_started.ensures.ok)
+    c.run-ended.result (c.run-ended.ensures.shares (search rules))
 
 pub returns-clause-ok : goal.returns-clause-ok
 returns-clause-ok g c =
@@ -32,22 +32,9 @@ returns-clause-ok g c =
     let some = c.requires.workers.0 in
     (all_end (relation_of c.args.relation.now) (g.P.Rows.tasks c.args.plan.now) c.args.batch (length c.new-team.result.ports.items)
     (vec_capacity c.new-team.result.seats)
-    c.in_ok-board.board c.in_ok-outlet.outlet c.new-team.result.receiver c.run-seats.result c.finish.result (omega arith) c.requires.batch.0
-    (c.in_ok-board.ensures.board.0 ∙ c.len-tasks.ensures.len) (ports ∙ sym many) tasks c.run-seats.ensures c.in_ok-are_started.ensures.ok
-    c.close.ensures.numbers
-    (record {
-      accepted = c.owners_law.ensures.accepted;
-      closed = c.owners_law.ensures.closed;
-      scripts = c.owners_law.ensures.scripts;
-      pairs = c.owners_law.ensures.pairs;
-    })
-    (record {
-      refused = c.finish.ensures.refused;
-      want = c.finish.ensures.want;
-      closed = c.finish.ensures.closed;
-      all = c.finish.ensures.all;
-      pairs = c.finish.ensures.pairs;
-    })).0
+    c.in_ok-board.board c.in_ok-outlet.outlet c.new-team.result.receiver c.run-ended.result _ (omega arith) c.requires.batch.0
+    (c.in_ok-board.ensures.board.0 ∙ c.len-tasks.ensures.len) (ports ∙ sym many) tasks c.run-ended.ensures (search rules) (search rules)
+    (search rules) (search rules)).0
 
 pub returns-clause-err : goal.returns-clause-err
 returns-clause-err g c =
@@ -60,19 +47,6 @@ returns-clause-err g c =
     let some = c.requires.workers.0 in
     (all_end (relation_of c.args.relation.now) (g.P.Rows.tasks c.args.plan.now) c.args.batch (length c.new-team.result.ports.items)
     (vec_capacity c.new-team.result.seats)
-    c.in_ok-board.board c.in_ok-outlet.outlet c.new-team.result.receiver c.run-seats.result c.finish.result (omega arith) c.requires.batch.0
-    (c.in_ok-board.ensures.board.0 ∙ c.len-tasks.ensures.len) (ports ∙ sym many) tasks c.run-seats.ensures c.in_ok-are_started.ensures.ok
-    c.close.ensures.numbers
-    (record {
-      accepted = c.owners_law.ensures.accepted;
-      closed = c.owners_law.ensures.closed;
-      scripts = c.owners_law.ensures.scripts;
-      pairs = c.owners_law.ensures.pairs;
-    })
-    (record {
-      refused = c.finish.ensures.refused;
-      want = c.finish.ensures.want;
-      closed = c.finish.ensures.closed;
-      all = c.finish.ensures.all;
-      pairs = c.finish.ensures.pairs;
-    })).1
+    c.in_ok-board.board c.in_ok-outlet.outlet c.new-team.result.receiver c.run-ended.result _ (omega arith) c.requires.batch.0
+    (c.in_ok-board.ensures.board.0 ∙ c.len-tasks.ensures.len) (ports ∙ sym many) tasks c.run-ended.ensures (search rules) (search rules)
+    (search rules) (search rules)).1

@@ -22,8 +22,8 @@ pub scope-meet-requires : goal.scope-meet-requires
 scope-meet-requires g t c =
     let shared = shared_by (relation_of c.captures.relation.now) (g.P.Rows.tasks c.captures.plan.now)
     c.captures.batch c.captures.board.now c.captures.outlet.now in
-    let back : ComesBack shared c.captures.index c.join-seat.result =
-    rw c.in-Ok.ensures.ok at c.join-seat.ensures in
+    let back : ComesBack shared c.captures.index c.join-worked.result =
+    rw c.in-Ok.ensures.ok at c.join-worked.ensures in
     record {
       receives = c.take_until_bye.ensures.continues.receives;
       port = record { ended = back.port.ended; unmet = back.port.unmet; index_is = refl };
@@ -48,18 +48,18 @@ pub scope-returns : goal.scope-returns
 scope-returns g t c =
     let shared = shared_by (relation_of c.captures.relation.now) (g.P.Rows.tasks c.captures.plan.now)
     c.captures.batch c.captures.board.now c.captures.outlet.now in
-    let back : ComesBack shared c.captures.index c.join-seat.result =
-    rw c.in-Ok.ensures.ok at c.join-seat.ensures in
+    let back : ComesBack shared c.captures.index c.join-worked.result =
+    rw c.in-Ok.ensures.ok at c.join-worked.ensures in
     let team : Team = record {
       seats = c.push_reserved.new.self;
       ports = c.run-team.result.ports;
       receiver = c.meet.new.self;
       all_started = c.run-team.result.all_started;
-      all_ok = c.run-team.result.all_ok && c.join-seat.result.ok;
+      all_ok = c.run-team.result.all_ok && c.join-worked.result.ok;
     } in
     has_run shared (length c.captures.team.ports.items)
     (vec_capacity c.captures.team.seats) c.captures.index
-    c.captures.team.receiver c.run-team.result c.take_until_bye.new.self c.meet.new.self c.join-seat.result team
+    c.captures.team.receiver c.run-team.result c.take_until_bye.new.self c.meet.new.self c.join-worked.result team
     c.run-team.ensures c.take_until_bye.ensures.continues c.meet.ensures.continues
     (c.requires.index ∙ c.requires.beside.index) back c.take_until_bye.ensures.bye
     (ap (λ n. map content_of (of_port n (taken_by c.meet.new.self.tap))) (sym back.port.index_is) ∙ c.meet.ensures.whole)
@@ -67,8 +67,8 @@ scope-returns g t c =
 
 pub returns-in_default : goal.returns-in_default
 returns-in_default g t c =
-    none_run (shared_of g.P.Rows.tasks c.args.shared) c.args.team c.next.new.self c.requires.ready c.in_default.ensures.none c.in_default.ensures.seats
-    c.next.ensures.before
+    none_run (shared_of g.P.Rows.tasks c.args.shared) c.args.team _ c.requires.ready c.in_default.ensures.none c.in_default.ensures.seats
+    c.in_default.ensures.before
 
 pub scoped-requires : goal.scoped-requires
 scoped-requires g t c =
@@ -78,5 +78,4 @@ scoped-requires g t c =
 
 pub returns : goal.returns
 returns g t c =
-    as_begun (shared_of g.P.Rows.tasks c.args.shared) c.args.team c.next.new.self c.scoped.result
-    c.in-Some.ensures.count c.next.ensures.before c.scoped.ensures.1
+    as_begun (shared_of g.P.Rows.tasks c.args.shared) c.args.team _ _ c.in-Some.ensures.count c.in-Some.ensures.before (search rules)
