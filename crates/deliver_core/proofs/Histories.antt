@@ -130,6 +130,9 @@ module _ (progress : List Progress) (marks : List Mark) (tells : Tells progress 
         );
   }
 
+  pub history_of : (tasks : ℕ) (seen : List Mark) → length progress ≡ tasks → seen ≡ marks → IsLegalHistory tasks seen
+  history_of tasks seen many same = rw (← many, same) Tells-history
+
   has_end-at : (b : Bool) (task : ℕ) → task < length progress → HoldsAt (λ p. p.ended ≡ b) progress task → has_end task marks ≡ b
   has_end-at b task inside ended =
       let start : Progress = record { next = 0; ended = false } in

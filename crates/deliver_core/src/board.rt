@@ -53,7 +53,8 @@ impl Board {
         let mut given = Vec::with_capacity(alloc, seats as usize)?;
         let (table, mut first) = Table::of_words(alloc, &[0], &Size { tasks, seats })?;
         for _ in 1..seats {
-            given.push_reserved(BoardSeat::fresh(table.shared.split_seat::<SplitSeat>(&mut first)));
+            let place = table.shared.split_seat::<SplitSeat>(&mut first);
+            given.push_reserved(BoardSeat::fresh(place));
         }
         given.push_reserved(BoardSeat::fresh(first));
         Ok((Board { table, tasks }, given))
@@ -63,6 +64,7 @@ impl Board {
     ///
     /// It is one `fetch_add` of 1 on the board's word, or no step at all where the seat has met the
     /// end before. It takes no memory, waits for nobody and always returns.
+    #[tactic(auto, using(crate::proofs::BoardMoves::word_bound))]
     pub fn claim(&self, seat: &mut BoardSeat) -> Option<u32>
         requires { IsSeatOf self.now seat.old }
         ensures seat { IsSeatOf self.now seat.new }
@@ -109,12 +111,14 @@ impl Board {
         ensures spent { result.items ≡ map spent_seat seats.items }
     {
         let Board { table, tasks: _ } = self;
+        let count = seats.len();
         let mut all = seats[0].retire();
-        for i in 1..seats.len() {
+        for i in 1..count {
             let place = seats[i].retire();
             table.shared.join_seat::<JoinSeats>(&mut all, place);
         }
-        table.close_with(all).free();
+        let closed = table.close_with(all);
+        closed.free();
         seats
     }
 }

@@ -149,7 +149,8 @@ impl Collector {
             marks,
             pairs,
         } = self;
-        if let Some(task) = first_open(progress.as_slice()) {
+        let tasks = progress.as_slice();
+        if let Some(task) = first_open(tasks) {
             return Err(Finish::Open(task as u32));
         }
         Ok(Outcome { marks, pairs })

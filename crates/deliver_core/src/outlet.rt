@@ -41,6 +41,7 @@ impl Outlet {
 
     /// An outlet, in which [`MAX_WAITING`] messages may wait, its ports, in the order of their
     /// indexes, and its tap. It fails only where memory runs out.
+    #[tactic(auto, using(crate::proofs::OutletRule::begins))]
     pub fn new(alloc: Global, ports: u32) -> Result<(Outlet, Vec<Port>, Tap), AllocError>
         requires ports { (1 ≤ ports) × (ports ≤ most_workers) }
         ensures count { IfOk result (λ r. (vec_len r.1 ≡ ports) × (ports ≤ most_workers)) }
@@ -52,7 +53,9 @@ impl Outlet {
         let mut all = Vec::with_capacity(alloc, ports as usize)?;
         let (queue, mut pass) = Queue::ruled(alloc, MAX_WAITING)?;
         for index in 0..ports {
-            all.push_reserved(Port::new(index, queue.another::<Make>(&mut pass)));
+            let own = queue.another::<Make>(&mut pass);
+            let port = Port::new(index, own);
+            all.push_reserved(port);
         }
         Ok((Outlet { queue }, all, Tap { pass }))
     }
@@ -134,7 +137,8 @@ impl Outlet {
         ensures sent { IsAfterSend message (view pass.old) (view pass.new) }
     {
         for _ in rt.forever() {
-            match self.queue.push_as::<Put, R>(rt, pass, message) {
+            let pushed = self.queue.push_as::<Put, R>(rt, pass, message);
+            match pushed {
                 Ok(()) => return,
                 Err(back) => message = back,
             }
@@ -144,6 +148,7 @@ impl Outlet {
     }
 
     /// Pops a message, if one waits.
+    #[tactic(auto, using(crate::proofs::OutletCalls::begins_after))]
     fn receive<R: Wait>(&self, rt: &R, pass: &mut Pass<Message, PassView>) -> Option<Message>
         requires queue { IsPassOf self.now.queue pass.old }
         requires receiver { is_receiver (view pass.old) ≡ true }

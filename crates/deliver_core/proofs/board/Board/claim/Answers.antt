@@ -1,4 +1,4 @@
-use Rattle.std.proofs.Common.{ℕ, ◌+◌, ◌<◌, List, [], ◌∷◌, ◌++◌, All, Bool, false, sym, ap, ◌∙◌, subst, refl, arith}
+use Rattle.std.proofs.Common.{◌≡◌, ℕ, ◌+◌, ◌<◌, List, [], ◌∷◌, ◌++◌, All, Bool, false, sym, ap, ◌∙◌, subst, refl, arith}
 use Rattle.deliver_core.specs.Boards.{BoardValue, size_of, IsCounted}
 use Rattle.deliver_core.proofs.BoardMoves.{word_bound, draws}
 use Rattle.deliver_core.proofs.BoardClaims.{board_at, counted_at, drawn_at, over_at, done_at, NumberDrawn, number_drawn, EndMet, end_met}
@@ -9,16 +9,10 @@ use Rattle.deliver_core.proofs.board.Board.claim.Goals.{Then-word-from, Else-wor
 pub returns-then-seat-clause-word_bound : goal.returns-then-seat-clause-word_bound
 returns-then-seat-clause-word_bound c = word_bound (size_of c.args.self.now)
 
-pub returns-then-word-from-clause-word_bound : goal.returns-then-word-from-clause-word_bound
-returns-then-word-from-clause-word_bound c = word_bound (size_of c.args.self.now)
-
-pub returns-else-word-from-clause-word_bound : goal.returns-else-word-from-clause-word_bound
-returns-else-word-from-clause-word_bound c = word_bound (size_of c.args.self.now)
-
 pub fetch_add-word-requires : goal.fetch_add-word-requires
 fetch_add-word-requires c =
     let own = board_at _ _ _ c.in-Some.place c.in-Some.is c.args.seat.now c.args.self.now c.seat.view_is c.requires in
-    let counts = counted_at _ _ _ c.in-Some.place c.in-Some.is false c.if-seat.false c.seat.invariant in
+    let counts = counted_at _ _ _ c.in-Some.place c.in-Some.is false (search) c.seat.invariant in
     let words = c.self.invariant.words in
     let tasks = c.self.invariant.few_tasks in
     let seats = c.self.invariant.few_seats in (
@@ -33,7 +27,7 @@ fetch_add-word-requires c =
 number : (c : Then-word-from) → NumberDrawn c.in-Some.place c.fetch_add-word.new.seat c.seat.inside.count c.fetch_add-word.result
 number c =
     let own = board_at _ _ _ c.in-Some.place c.in-Some.is c.args.seat.now c.args.self.now c.seat.view_is c.requires in
-    let counts = counted_at _ _ _ c.in-Some.place c.in-Some.is false c.if-seat.false c.seat.invariant in
+    let counts = counted_at _ _ _ c.in-Some.place c.in-Some.is false (search) c.seat.invariant in
     let h = c.fetch_add-word.ensures in
     let tasks = ap (λ (b : BoardValue). b.tasks) (own ∙ sym c.self.view_is) in
     number_drawn c.in-Some.place c.fetch_add-word.new.seat c.seat.inside.count c.fetch_add-word.result counts h.0 h.2 (omega arith)
@@ -42,7 +36,7 @@ number c =
 past : (c : Else-word-from) → EndMet c.in-Some.place c.fetch_add-word.new.seat c.seat.inside.count
 past c =
     let own = board_at _ _ _ c.in-Some.place c.in-Some.is c.args.seat.now c.args.self.now c.seat.view_is c.requires in
-    let counts = counted_at _ _ _ c.in-Some.place c.in-Some.is false c.if-seat.false c.seat.invariant in
+    let counts = counted_at _ _ _ c.in-Some.place c.in-Some.is false (search) c.seat.invariant in
     let h = c.fetch_add-word.ensures in
     let tasks = ap (λ (b : BoardValue). b.tasks) (own ∙ sym c.self.view_is) in
     end_met c.in-Some.place c.fetch_add-word.new.seat c.seat.inside.count c.fetch_add-word.result counts h.0 h.2 (omega arith)
@@ -55,7 +49,9 @@ overflow_add-seat c =
     omega arith
 
 pub invariant_of-seat : goal.invariant_of-seat
-invariant_of-seat c = subst (λ (d : Bool). IsCounted c.fetch_add-word.new.seat (c.seat.inside.count + 1) d) (sym c.if-seat.false)
+invariant_of-seat c =
+    let going : false ≡ c.seat.inside.done = cc in
+    subst (λ (d : Bool). IsCounted c.fetch_add-word.new.seat (c.seat.inside.count + 1) d) going
     (number (goal.at.invariant_of-seat c).Then-word-from).counted
 
 pub invariant_of-seat-else-word-from : goal.invariant_of-seat-else-word-from
@@ -70,14 +66,14 @@ returns-then-word-from-clause-number c =
       task = omega arith;
       above = subst (λ (xs : List ℕ). All (λ k. k < c.fetch_add-word.result) xs) drawn now.above;
       drawn = now.drawn ∙ ap (λ (xs : List ℕ). xs ++ c.fetch_add-word.result ∷ []) drawn;
-      before = sym done ∙ c.if-seat.false;
-      after = c.if-seat.false;
+      before = cc;
+      after = search;
     }
 
 pub returns-then-word-from-clause-draw : goal.returns-then-word-from-clause-draw
 returns-then-word-from-clause-draw c fresh =
     let own = board_at _ _ _ c.in-Some.place c.in-Some.is c.args.seat.now c.args.self.now c.seat.view_is c.requires in
-    let counts = counted_at _ _ _ c.in-Some.place c.in-Some.is false c.if-seat.false c.seat.invariant in
+    let counts = counted_at _ _ _ c.in-Some.place c.in-Some.is false (search) c.seat.invariant in
     let drawn = drawn_at _ _ _ c.in-Some.place c.in-Some.is c.args.seat.now c.seat.view_is in
     let over = over_at _ _ _ c.in-Some.place c.in-Some.is c.args.seat.now c.seat.view_is in
     let tasks = ap (λ (b : BoardValue). b.tasks) own in
@@ -102,7 +98,7 @@ returns-else-word-from-clause-none c = record {
 pub returns-else-word-from-clause-draw : goal.returns-else-word-from-clause-draw
 returns-else-word-from-clause-draw c fresh =
     let own = board_at _ _ _ c.in-Some.place c.in-Some.is c.args.seat.now c.args.self.now c.seat.view_is c.requires in
-    let counts = counted_at _ _ _ c.in-Some.place c.in-Some.is false c.if-seat.false c.seat.invariant in
+    let counts = counted_at _ _ _ c.in-Some.place c.in-Some.is false (search) c.seat.invariant in
     let drawn = drawn_at _ _ _ c.in-Some.place c.in-Some.is c.args.seat.now c.seat.view_is in
     let over = over_at _ _ _ c.in-Some.place c.in-Some.is c.args.seat.now c.seat.view_is in
     let tasks = ap (λ (b : BoardValue). b.tasks) own in

@@ -13,7 +13,7 @@ use Rattle.deliver_core.proofs.board.Board.close.Goals as goal
 pub retire-place-requires : goal.retire-place-requires
 retire-place-requires c =
     let len = c.args.seats.ok.0 in
-    let end = c.len-i-end.ensures in
+    let end = c.len-count.ensures in
     let inside : c.loop-i.i < length c.args.seats.items = omega arith in
     let same = c.index_mut-in-loop-i.ensures.value
     ∙ untouched spent_seat c.args.seats.items c.loop-i.seats.items c.loop-i.i c.index_mut-in-loop-i.result.now inside c.loop-i.invariant.spent in
@@ -24,7 +24,7 @@ retire-place-requires c =
 pub join_seat-requires : goal.join_seat-requires
 join_seat-requires c =
     let len = c.args.seats.ok.0 in
-    let end = c.len-i-end.ensures in
+    let end = c.len-count.ensures in
     let inside : c.loop-i.i < length c.args.seats.items = omega arith in
     let same = c.index_mut-in-loop-i.ensures.value
     ∙ untouched spent_seat c.args.seats.items c.loop-i.seats.items c.loop-i.i c.index_mut-in-loop-i.result.now inside c.loop-i.invariant.spent in
@@ -48,7 +48,7 @@ join_seat-requires c =
 pub loop-i-preserved : goal.loop-i-preserved
 loop-i-preserved c =
     let len = c.args.seats.ok.0 in
-    let end = c.len-i-end.ensures in
+    let end = c.len-count.ensures in
     let inside : c.loop-i.i < length c.args.seats.items = omega arith in
     let same = c.index_mut-in-loop-i.ensures.value
     ∙ untouched spent_seat c.args.seats.items c.loop-i.seats.items c.loop-i.i c.index_mut-in-loop-i.result.now inside c.loop-i.invariant.spent in
@@ -69,12 +69,12 @@ loop-i-preserved c =
 pub returns-clause-numbers : goal.returns-clause-numbers
 returns-clause-numbers c =
     let xs = c.args.seats.items in
-    let end = c.len-i-end.ensures in
+    let end = c.len-count.ensures in
     let len = c.args.seats.ok.0 in
     let stop = c.loop-i-test.false in
     let whole : take c.loop-i.i xs ≡ xs = take_all c.loop-i.i xs (omega arith) in
     let g = subst (λ (l : List SeatValue). IsGathered c.args.self l c.loop-i.all) whole c.loop-i.invariant.gathered in
-    let final = c.close_with.ensures.values.2 in
+    let final = c.close_with-closed.ensures.values.2 in
     let key = c.self.inside.table.shared.key in
     let word = slice_index final.0.words 0 in
     let all : c.loop-i.all.me.0.parts ≡ key.seats = g.parts ∙ (c.requires.all ∙ ap (λ (b : BoardValue). b.seats) (sym c.self.view_is)) in
@@ -90,7 +90,7 @@ returns-clause-numbers c =
 
 pub returns-clause-counted : goal.returns-clause-counted
 returns-clause-counted c =
-    let end = c.len-i-end.ensures in
+    let end = c.len-count.ensures in
     let len = c.args.seats.ok.0 in
     let stop = c.loop-i-test.false in
     subst (All IsCountRight) (take_all c.loop-i.i c.args.seats.items (omega arith)) c.loop-i.invariant.counted

@@ -3,8 +3,8 @@ use Rattle.deliver_core.specs.declared.board.rule.SeatView.{SeatView}
 use Rattle.deliver_core.proofs.BoardMoves.{splits}
 use Rattle.deliver_core.proofs.board.Board.new.Goals as goal
 
-pub split_seat-requires : goal.split_seat-requires
-split_seat-requires c =
+pub split_seat-place-requires : goal.split_seat-place-requires
+split_seat-place-requires c =
     let first = c.loop.invariant in
     let made = c.in_ok-table.ensures in
     let parts = ap (λ (v : SeatView). v.parts) first.view in

@@ -1,4 +1,4 @@
-use Rattle.std.proofs.Common.{◌≡◌, Ok, arith}
+use Rattle.std.proofs.Common.{◌≡◌, Ok, arith, rules}
 use Rattle.std.proofs.lemmas.Grind.{common_steps}
 use Rattle.deliver_core.specs.Collectors.{awaited}
 use Rattle.deliver_core.proofs.Histories.{next-le-length, Tells-batch}
@@ -18,4 +18,4 @@ invariant_of-self-2 c =
     let a = c.self.inside in
     let taking : Ok c.in_ok-next.next ≡ awaited c.args.self.now c.args.task = cc c.in_ok-next.ensures in
     Tells-batch a.progress.items a.marks.items c.self.invariant a.pairs.items c.args.self.now c.self.view_is c.args.task c.in_ok-next.next taking
-    c.index_mut.result.now c.index_mut.ensures.value c.args.number (omega arith) c.push_reserved.new.self.items (cc)
+    _ (search rules) c.args.number (omega arith) _ (cc)

@@ -11,9 +11,9 @@ least_open c =
     let a = c.self.inside in
     rw (← c.self.view_is)
     (IsLeastOpen-tells a.progress.items a.marks.items c.self.invariant a.pairs.items c.in-Some.task
-    (rw c.as_slice.ensures.value at c.in-Some.ensures.within)
-    (rw c.as_slice.ensures.value at c.in-Some.ensures.not_ended)
-    (rw c.as_slice.ensures.value at c.in-Some.ensures.first))
+    (rw c.as_slice-tasks.ensures.value at c.in-Some.ensures.within)
+    (rw c.as_slice-tasks.ensures.value at c.in-Some.ensures.not_ended)
+    (rw c.as_slice-tasks.ensures.value at c.in-Some.ensures.first))
 
 pub returns-in-Some-clause-least_open : goal.returns-in-Some-clause-least_open
 returns-in-Some-clause-least_open c = least_open c
@@ -27,7 +27,7 @@ pub returns-clause-closed : goal.returns-clause-closed
 returns-clause-closed c =
     let a = c.self.inside in
     rw (← c.self.view_is)
-    (λ _. IsClosed-tells a.progress.items a.marks.items c.self.invariant (rw c.as_slice.ensures.value at c.in_default.ensures.none), λ _. refl)
+    (λ _. IsClosed-tells a.progress.items a.marks.items c.self.invariant (rw c.as_slice-tasks.ensures.value at c.in_default.ensures.none), λ _. refl)
 
 pub returns-clause-history : goal.returns-clause-history
 returns-clause-history c =

@@ -1,6 +1,8 @@
-use Rattle.deliver_core.proofs.Histories.{Tells-history}
+use Rattle.std.proofs.Common.{rules, ap}
+use Rattle.deliver_core.specs.Collectors.{Collection}
+use Rattle.deliver_core.proofs.Histories.{history_of}
 use Rattle.deliver_core.proofs.collector.Collector.taken.Goals as goal
 
 pub returns-clause-history : goal.returns-clause-history
 returns-clause-history c =
-    rw (c.as_slice.ensures.value, ← c.self.view_is) (Tells-history c.self.inside.progress.items c.self.inside.marks.items c.self.invariant)
+    history_of _ _ c.self.invariant _ _ (ap (λ (it : Collection). it.tasks) c.self.view_is) (search rules)
