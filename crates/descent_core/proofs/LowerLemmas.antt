@@ -4,20 +4,20 @@ use Rattle.std.specs.Prelude.{◌↔◌, All, IsTrue}
 use Rattle.std.specs.List.{flat_map, fold}
 use Rattle.std.proofs.lemmas.Bool.{false≢true}
 use Rattle.std.proofs.lemmas.List.Elements.{All-head, All-tail, All-weaker}
-use Rattle.geom_core.specs.Cells.{IsIn}
 use Rattle.rtree_core.specs.declared.node.Node.{Node}
-use Rattle.rtree_core.specs.Nodes.{entries_of, level_of, node_cover, IsLawful}
+use Rattle.rtree_core.specs.Nodes.{entries_of, level_of, IsLawful, AreLawfulChildren}
 use Rattle.rtree_core.proofs.NodeLemmas.{top_level}
 use Rattle.descent_core.specs.Steps.{IsOneLower}
 
-pub inner_step : (n : Node) (cs : List Node) → entries_of n ≡ flat_map entries_of cs → All IsLawful cs → All (λ m. level_of m + 1 ≡ level_of n) cs →
-    All (λ m. IsIn (node_cover m) (node_cover n)) cs → IsOneLower n cs
-inner_step n cs entries lawful levels covers = record {
-  entries = entries;
-  lawful = lawful;
-  levels = All-weaker (λ m. level_of m + 1 ≡ level_of n) (λ m. level_of m ≡ level_of n - 1) (λ m h. omega arith) cs levels;
-  covers = covers;
-}
+pub inner_step : (n : Node) (cs : List Node) → entries_of n ≡ flat_map entries_of cs → IsLawful n → (IsLawful n → AreLawfulChildren n cs) → IsOneLower n cs
+inner_step n cs entries lawful children =
+    let cs_are = children lawful in
+    record {
+      entries = entries;
+      lawful = cs_are.lawful;
+      levels = All-weaker (λ m. level_of m + 1 ≡ level_of n) (λ m. level_of m ≡ level_of n - 1) (λ m h. omega arith) cs cs_are.levels;
+      covers = cs_are.covers;
+    }
 
 fold_max-le : (n a : ℕ) (xs : List Node) → a ≤ n → All (λ m. level_of m ≤ n) xs → fold max a (map level_of xs) ≤ n
 fold_max-le n a [] low h = low

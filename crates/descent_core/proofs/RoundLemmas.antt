@@ -96,17 +96,18 @@ pub alone_all : (left : Node) (rights : List Node) → flat_map (alone left) rig
 alone_all left rights = flat_map_single (λ right. (left, right)) rights
 
 -- a pair whose covers meet comes to the end
-pub takes_one : (left right : Node) (old new : List (Bor Node × Bor Node)) (l r : Bor Node) → l.now ≡ left → r.now ≡ right → CoversMeet (left, right) →
-    length (nodes_of old) ≤ most_tasks → length (nodes_of old) ≢ most_tasks → new ≡ old ++ (l, r) ∷ [] →
-    AreTaken (alone left right) (nodes_of old) (nodes_of new)
-takes_one left right old new l r at_left at_right meet few more items =
-    let pushed : nodes_of new ≡ nodes_of old ++ (left, right) ∷ [] =
-    ap nodes_of items ∙ map-append nodes old ((l, r) ∷ []) ∙ ap (λ p. nodes_of old ++ p ∷ []) (λ i. (at_left i, at_right i)) in
+pub nodes_pushed : (old new : List (Bor Node × Bor Node)) (t : Bor Node × Bor Node) (pair : Node × Node) → new ≡ old ++ t ∷ [] → nodes t ≡ pair →
+    nodes_of new ≡ nodes_of old ++ pair ∷ []
+nodes_pushed old new t pair items same = ap nodes_of items ∙ map-append nodes old (t ∷ []) ∙ ap (λ p. nodes_of old ++ p ∷ []) same
+
+pub takes_pushed : (left right : Node) (old new : List (Node × Node)) → CoversMeet (left, right) → length old ≤ most_tasks → length old ≢ most_tasks →
+    new ≡ old ++ (left, right) ∷ [] → AreTaken (alone left right) old new
+takes_pushed left right old new meet few more pushed =
     record {
       met = (left, right) ∷ [];
       kept = kept meet none;
       items = pushed;
-      few = omega (arith, ap length pushed, length-append (nodes_of old) ((left, right) ∷ []));
+      few = omega (arith, ap length pushed, length-append old ((left, right) ∷ []));
     }
 
 pub takes_not_one : (left right : Node) (old : List (Node × Node)) → ¬ (CoversMeet (left, right)) → length old ≤ most_tasks →

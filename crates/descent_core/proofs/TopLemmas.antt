@@ -1,5 +1,5 @@
 -- The roots of two trees, and the tasks of the plan below them.
-use Rattle.std.proofs.Common.{arith, ◌≡◌, ℕ, List, [], ◌∷◌, length, refl, sym, ap, subst}
+use Rattle.std.proofs.Common.{arith, ◌≡◌, ℕ, Bor, List, [], ◌∷◌, ◌++◌, length, refl, sym, ap, subst}
 use Rattle.std.specs.Prelude.{All, Option, Some, None, IfSome, Contains}
 use Rattle.std.proofs.lemmas.List.{append-nil}
 use Rattle.std.proofs.lemmas.List.Elements.{All-nil, All-cons}
@@ -10,7 +10,7 @@ use Rattle.rtree_core.specs.Trees.{entries_in, IsTree, IsRoot}
 use Rattle.descent_core.specs.Lists.{IsKept, none, kept, left_out}
 use Rattle.descent_core.specs.Depths.{at_depth}
 use Rattle.descent_core.specs.Plans.{roots, CoversMeet, AreAt, AreDeepest, IsPlan}
-use Rattle.descent_core.specs.Steps.{AreMeeting, AreTop, AreTasks}
+use Rattle.descent_core.specs.Steps.{nodes_of, AreMeeting, AreTop, AreTasks}
 use Rattle.descent_core.proofs.DepthLemmas.{AreLawful}
 use Rattle.descent_core.proofs.FindLemmas.{contains_none}
 use Rattle.descent_core.proofs.GoingLemmas.{deepest_kept}
@@ -54,7 +54,7 @@ root_lawful root n tree e =
     let is_root : IsRoot n = subst (λ t. IfSome t IsRoot) (sym e) tree.lawful in
     is_root.lawful
 
-pub top_met : (left right : Option Node) (a b : Node) → IsTree left → IsTree right → Some a ≡ left → Some b ≡ right → CoversMeet (a, b) →
+top_met : (left right : Option Node) (a b : Node) → IsTree left → IsTree right → Some a ≡ left → Some b ≡ right → CoversMeet (a, b) →
     AreTop left right ((a, b) ∷ [])
 top_met left right a b l r e f meet = record {
   left_tree = l;
@@ -65,6 +65,10 @@ top_met left right a b l r e f meet = record {
       (record { left = root_lawful left a l e; right = root_lawful right b r f; meet = meet }) (All-nil AreMeeting);
   one = omega arith;
 }
+
+pub top_pushed : (left right : Option Node) (a b : Bor Node) (old new : List (Bor Node × Bor Node)) → IsTree left → IsTree right → Some a.now ≡ left →
+    Some b.now ≡ right → CoversMeet (a.now, b.now) → old ≡ [] → new ≡ old ++ (a, b) ∷ [] → AreTop left right (nodes_of new)
+top_pushed left right a b old new l r e f meet empty items = rw (items, empty) (top_met left right a.now b.now l r e f meet)
 
 roots_lawful : (left right : Option Node) → IsTree left → IsTree right → All AreLawful (roots left right)
 roots_lawful None right l r = All-nil AreLawful

@@ -16,7 +16,8 @@ pub(crate) fn lower(node: &Node) -> &[Node]
     ensures nodes { result.now ≡ lower node.now }
     ensures step { IsOneLower node.now result.now }
 {
-    if node.is_leaf() {
+    let leaf = node.is_leaf();
+    if leaf {
         slice::from_ref(node)
     } else {
         node.children()

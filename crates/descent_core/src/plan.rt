@@ -46,6 +46,7 @@ impl<'a> Plan<'a> {
     /// At depth 0 stand the roots. A leaf takes part in greater depths, as itself. Only pairs whose
     /// covers meet are tasks, in the order of the trees: by the places on the two paths from the
     /// roots, taken in turn, left first.
+    #[tactic(auto, using(crate::proofs::TaskLemmas::length_nodes))]
     pub fn new(
         alloc: Global,
         left: &'a RTree,
@@ -60,9 +61,8 @@ impl<'a> Plan<'a> {
             → RowsJoin relation es fs plan) }
     {
         let top = meeting_roots(alloc, left, right)?;
-        Ok(Plan {
-            tasks: go_down(alloc, top, cut)?,
-        })
+        let tasks = go_down(alloc, top, cut)?;
+        Ok(Plan { tasks })
     }
 
     /// The number of tasks.
@@ -109,8 +109,11 @@ fn meeting_roots<'a>(
     let Some(right_root) = right_root else {
         return Ok(top);
     };
-    if left_root.cover().meets(&right_root.cover()) {
-        top.push((left_root, right_root))?;
+    let (left_cover, right_cover) = (left_root.cover(), right_root.cover());
+    let meet = left_cover.meets(&right_cover);
+    if !meet {
+        return Ok(top);
     }
+    top.push((left_root, right_root))?;
     Ok(top)
 }

@@ -29,7 +29,8 @@ pub(crate) fn go_down<'a>(
         IfOk result (λ v. AreDeepest above rounds (nodes_of v.items)) }
 {
     for _ in 0..rounds {
-        match next_round(alloc, &tasks)? {
+        let below = next_round(alloc, &tasks)?;
+        match below {
             Some(next) => tasks = next,
             None => return Ok(tasks),
         }
@@ -45,7 +46,8 @@ fn next_round<'a>(alloc: Global, tasks: &[Task<'a>]) -> Result<Option<Vec<Task<'
 {
     let mut next = Vec::with_capacity(alloc, tasks.len())?;
     for task in tasks {
-        if !push_below(task, &mut next)? {
+        let fits = push_below(task, &mut next)?;
+        if !fits {
             return Ok(None);
         }
     }
@@ -73,7 +75,8 @@ fn push_lower<'a>(
         IfOk result (TakesIn offered (nodes_of next.old.items) (nodes_of next.new.items)) }
 {
     for left in lefts {
-        if !push_beside(left, rights, next)? {
+        let fits = push_beside(left, rights, next)?;
+        if !fits {
             return Ok(false);
         }
     }
@@ -91,12 +94,16 @@ fn push_beside<'a>(
         IfOk result (TakesIn offered (nodes_of next.old.items) (nodes_of next.new.items)) }
 {
     for right in rights {
-        if left.cover().meets(&right.cover()) {
-            if next.len() == MAX_TASKS {
-                return Ok(false);
-            }
-            next.push((left, right))?;
+        let (left_cover, right_cover) = (left.cover(), right.cover());
+        let meet = left_cover.meets(&right_cover);
+        if !meet {
+            continue;
         }
+        let count = next.len();
+        if count == MAX_TASKS {
+            return Ok(false);
+        }
+        next.push((left, right))?;
     }
     Ok(true)
 }

@@ -33,7 +33,8 @@ pub fn row(
     let (left, right) = plan.task(k);
     let mut found = Vec::new(alloc);
     descend(left, right, relation, &mut found)?;
-    Ok(sorted(found))
+    let pairs = sorted(found);
+    Ok(pairs)
 }
 
 /// These pairs in ascending order.
@@ -62,11 +63,14 @@ fn descend(
     if left.is_leaf() && right.is_leaf() {
         return push_entries(left.entries(), right, relation, found);
     }
-    let rights = lower(right);
-    for child in lower(left) {
-        if child.cover().meets(&right.cover()) {
-            descend_beside(child, rights, relation, found)?;
+    let (lefts, rights) = (lower(left), lower(right));
+    for child in lefts {
+        let (child_cover, right_cover) = (child.cover(), right.cover());
+        let meet = child_cover.meets(&right_cover);
+        if !meet {
+            continue;
         }
+        descend_beside(child, rights, relation, found)?;
     }
     Ok(())
 }
@@ -85,9 +89,12 @@ fn descend_beside(
         OnOk result (Adds (relation_of relation.now) es fs found.old.items found.new.items) }
 {
     for right in rights {
-        if left.cover().meets(&right.cover()) {
-            descend(left, right, relation, found)?;
+        let (left_cover, right_cover) = (left.cover(), right.cover());
+        let meet = left_cover.meets(&right_cover);
+        if !meet {
+            continue;
         }
+        descend(left, right, relation, found)?;
     }
     Ok(())
 }
@@ -105,9 +112,12 @@ fn push_entries(
         OnOk result (Adds (relation_of relation.now) lefts.now fs found.old.items found.new.items) }
 {
     for left in lefts {
-        if left.shape.meets(&right.cover()) {
-            push_beside(left, right.entries(), relation, found)?;
+        let meet = left.shape.meets(&right.cover());
+        if !meet {
+            continue;
         }
+        let rights = right.entries();
+        push_beside(left, rights, relation, found)?;
     }
     Ok(())
 }
@@ -123,9 +133,11 @@ fn push_beside(
         OnOk result (Adds (relation_of relation.now) es fs found.old.items found.new.items) }
 {
     for right in rights {
-        if relation.holds(&left.shape, &right.shape) {
-            found.push((left.number, right.number))?;
+        let holds = relation.holds(&left.shape, &right.shape);
+        if !holds {
+            continue;
         }
+        found.push((left.number, right.number))?;
     }
     Ok(())
 }

@@ -14,12 +14,12 @@ next_round-requires c =
 pub returns-in-None : goal.returns-in-None
 returns-in-None c =
     reached_full (nodes_of c.args.tasks.items) c.loop.counter c.args.rounds (nodes_of c.loop.tasks.items) c.loop.invariant c.loop-test.true
-    (rw (c.in-None.is, c.deref.ensures.value) at c.in_ok-next.ensures)
+    (rw (c.in-None.is, c.deref.ensures.value) at c.in_ok-below.ensures)
 
 pub loop-preserved : goal.loop-preserved
 loop-preserved c =
     reached_next (nodes_of c.args.tasks.items) c.loop.counter (nodes_of c.loop.tasks.items) (nodes_of c.in-Some.next.items) c.loop.invariant
-    (rw (c.in-Some.is, c.deref.ensures.value) at c.in_ok-next.ensures)
+    (rw (c.in-Some.is, c.deref.ensures.value) at c.in_ok-below.ensures)
 
 pub returns : goal.returns
 returns c =

@@ -8,7 +8,7 @@ use Rattle.descent_core.proofs.rows.+descent.Given as goal
 
 abbrev pub invariant-descend-loop-child : goal.invariant-descend-loop-child
 invariant-descend-loop-child l =
-    Adds (relation_of l.relation) (flat_map entries_of (take l.child-index l.child-items)) (entries_of l.right) l.initial.found.items l.found.items
+    Adds (relation_of l.relation) (flat_map entries_of (take l.child-index l.lefts)) (entries_of l.right) l.initial.found.items l.found.items
 
 abbrev pub invariant-descend_beside-loop-right : goal.invariant-descend_beside-loop-right
 invariant-descend_beside-loop-right l =

@@ -4,4 +4,4 @@ use Rattle.descent_core.proofs.rows.row.Goals as goal
 
 pub returns : goal.returns
 returns c =
-    rw c.task.ensures.task (sorted_row _ _ _ _ _ c.task.ensures.lawful (search rules) c.in_ok-descend.ensures (search rules) (search rules))
+    rw c.task.ensures.task (sorted_row _ _ c.new-found.result.items _ _ c.task.ensures.lawful (search rules) (search rules) c.sorted-pairs.ensures.as_often (search rules))
