@@ -99,8 +99,8 @@ fn push_beside<'a>(
         if !meet {
             continue;
         }
-        let count = next.len();
-        if count == MAX_TASKS {
+        let full = next.len() == MAX_TASKS;
+        if full {
             return Ok(false);
         }
         next.push((left, right))?;
