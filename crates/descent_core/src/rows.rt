@@ -60,7 +60,8 @@ fn descend(
     ensures { let es = entries_of left.now in let fs = entries_of right.now in
         OnOk result (Adds (relation_of relation.now) es fs found.old.items found.new.items) }
 {
-    if left.is_leaf() && right.is_leaf() {
+    let (left_leaf, right_leaf) = (left.is_leaf(), right.is_leaf());
+    if left_leaf && right_leaf {
         return push_entries(left.entries(), right, relation, found);
     }
     let (lefts, rights) = (lower(left), lower(right));

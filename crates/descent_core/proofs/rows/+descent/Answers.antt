@@ -1,12 +1,12 @@
 use Rattle.std.proofs.Common.{arith, ◌≡◌, ◌+◌, ◌-◌, ◌<◌, rules}
 use Rattle.std.proofs.lemmas.Bool.{false≢true}
+use Rattle.std.proofs.lemmas.Grind.{common_steps}
 use Rattle.relation_core.specs.JoinRelations.{relation_of}
 use Rattle.rtree_core.specs.Nodes.{entries_of, level_of, node_cover, IsLawful}
 use Rattle.rtree_core.proofs.NodeLemmas.{level-le-top}
 use Rattle.descent_core.proofs.FindLemmas.{adds_no_lefts, adds_no_rights, adds_node_left, adds_node_right, adds_apart, entries_in_cover}
 use Rattle.descent_core.proofs.LowerLemmas.{top_lower, above_zero, at_place}
 use Rattle.descent_core.proofs.rows.+descent.Goals as goal
-use Rattle.descent_core.proofs.rows.+descent.Goals.{descend-else-is_leaf-via-then-is_leaf+else-is_leaf-2, descend-else-is_leaf-via-else-is_leaf}
 
 pub descend-loop-child-init : goal.descend-loop-child-init
 descend-loop-child-init t c = adds_no_lefts (relation_of c.args.relation.now) (entries_of c.args.right.now) c.args.found.now.items
@@ -37,11 +37,7 @@ descend-descend_beside-requires t c =
     let child = c.child-item.result in
     let lefts = c.lower-lefts.result.now in
     let step = c.lower-lefts.ensures.step in
-    let some : 0 < level_of left + level_of right = elim c.else-is_leaf.branch [
-      | descend-else-is_leaf-via-then-is_leaf+else-is_leaf-2 w ↦
-          omega (arith, above_zero (level_of right) w.is_leaf-then-is_leaf.result w.if-is_leaf-2.false w.is_leaf-then-is_leaf.ensures.level)
-      | descend-else-is_leaf-via-else-is_leaf w ↦ omega (arith, above_zero (level_of left) c.is_leaf.result w.if-is_leaf.false c.is_leaf.ensures.level)
-    ] in
+    let some : 0 < level_of left + level_of right = grind (arith, common_steps, above_zero) in
     let level = at_place (λ m. level_of m ≡ level_of left - 1) lefts c.loop-child.child-index child step.levels c.loop-child-test.true c.child-item.is in
     let top = top_lower right c.lower-rights.result.now c.lower-rights.ensures.step in (
       omega (arith, c.decreases, some, level, top),
