@@ -120,5 +120,8 @@ seat_gains board old new number after so_far own = record {
   below = rw after.drawn (All-push (λ n. n < board.tasks) old.drawn number so_far.below after.task);
 }
 
+-- of a worker that stops at a task
+pub ruleset stopped = (seat_gains, said_part)
+
 pub stays_on : (outlet : Outlet) (a b c : Port) → StaysOpen outlet a b → StaysOpen outlet b c → StaysOpen outlet a c
 stays_on outlet a b c one two = record { ready = two.ready; index = two.index ∙ one.index }

@@ -89,7 +89,7 @@ pub(crate) fn work<R: Threads + Wait + Sync, P: Rows, G: Gate>(
 }
 
 /// Processes tasks until the seat meets the end of them.
-#[tactic(auto, using(crate::proofs::Workers::said_part))]
+#[tactic(auto, using(crate::proofs::Workers::stopped))]
 fn process_tasks<R: Threads + Wait + Sync, P: Rows, G: Gate>(
     rt: &R,
     alloc: Global,

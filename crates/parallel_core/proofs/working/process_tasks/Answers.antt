@@ -10,7 +10,3 @@ loop-preserved g c =
       port = search (rules, stays_on);
       said = search (rules, said_more, number.drawn);
     }
-
-pub returns-in_err-send_task-clause-seat : goal.returns-in_err-send_task-clause-seat
-returns-in_err-send_task-clause-seat g c =
-    seat_gains _ _ _ _ c.in-Some-drawn.ensures.number c.loop.invariant.seat (search)
