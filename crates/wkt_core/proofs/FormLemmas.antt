@@ -1,10 +1,11 @@
 -- The points of a text and the shapes that they draw.
 use Rattle.std.proofs.Common.{◌≡◌, ◌≢◌, ℕ, zero, suc, ◌<◌, ◌≤◌, true, length, List, [], ◌∷◌, ◌⊎◌, inl, inr, get_or, reverse, sym, ◌∙◌, ap, subst, ⊎_elim, arith}
-use Rattle.std.proofs.Common.{ℤ}
+use Rattle.std.proofs.Common.{ℤ, pos}
 use Rattle.std.specs.Prelude.{◌<ℤ◌, ◌≤ℤ◌, ◌↔◌, Option, Some, None, IsSome, IfSome, IfNone}
 use Rattle.std.specs.Int.{int_min, int_max}
 use Rattle.std.proofs.lemmas.Bool.{false≢true}
 use Rattle.std.proofs.lemmas.Int.{ints, clamps, by_lt_z}
+use Rattle.std.proofs.lemmas.Option.{IfSome_then}
 use Rattle.geom_core.specs.declared.shape.Shape.{Shape}
 use Rattle.geom_core.specs.Shapes.{x1, y1, x2, y2, HasCorners}
 use Rattle.wkt_core.specs.declared.position.Position.{Position}
@@ -355,3 +356,42 @@ pub drawn_at : (keyword kind : Keyword) (turns xs : List Position) (last : Optio
     → Some p ≡ last → IsDrawnBy keyword turns last s → DrawnBy kind xs p s
 drawn_at keyword kind turns xs last p s e f g h =
     subst (λ k. DrawnBy k xs p s) e (subst (λ t. DrawnBy keyword t p s) (sym f) (subst (λ o. IsDrawnBy keyword turns o s) (sym g) h))
+
+-- ---- what is answered for turns of the right count
+
+-- what a place past the end would read as
+abbrev pub origin : Position
+origin = record { x = pos 0; y = pos 0 }
+
+module _ (r : Option Shape) (xs : List Position) (e : Position) where
+  pub some_four : 4 ≤ length xs → length xs < 5 → e ≡ get_or xs 0 origin
+      → IfSome r (λ s. IsRectangle (get_or xs 0 origin) (get_or xs 1 origin) (get_or xs 2 origin) (get_or xs 3 origin) s)
+      → IfSome r (λ s. DrawnBy Polygon xs e s)
+  some_four l u closed some = IfSome_then r some (λ s h. four_drawn origin xs e s l u closed h)
+
+  pub none_four : 4 ≤ length xs → length xs < 5
+      → IfNone r ((s : Shape) → IsRectangle (get_or xs 0 origin) (get_or xs 1 origin) (get_or xs 2 origin) (get_or xs 3 origin) s → ⊥)
+      → IfNone r ((s : Shape) → DrawnBy Polygon xs e s → ⊥)
+  none_four l u none = none_weaker r none (λ no s h. no s (drawn_four origin xs e s l u h))
+
+  pub some_five : 5 ≤ length xs → length xs < 6 → e ≡ get_or xs 0 origin
+      → is_straight (get_or xs 4 origin) (get_or xs 0 origin) (get_or xs 1 origin) ≡ true
+      → IfSome r (λ s. IsRectangle (get_or xs 1 origin) (get_or xs 2 origin) (get_or xs 3 origin) (get_or xs 4 origin) s)
+      → IfSome r (λ s. DrawnBy Polygon xs e s)
+  some_five l u closed straight some = IfSome_then r some (λ s h. five_drawn origin xs e s l u closed straight h)
+
+  pub none_five : 5 ≤ length xs → length xs < 6
+      → IfNone r ((s : Shape) → IsRectangle (get_or xs 1 origin) (get_or xs 2 origin) (get_or xs 3 origin) (get_or xs 4 origin) s → ⊥)
+      → IfNone r ((s : Shape) → DrawnBy Polygon xs e s → ⊥)
+  none_five l u none = none_weaker r none (λ no s h. no s (drawn_five origin xs e s l u h))
+
+module _ (r : Option Shape) (keyword : Keyword) (turns xs : List Position) (last : Option Position) (p : Position) where
+  pub none_point : keyword ≡ Point → xs ≡ turns → Some p ≡ last → length xs < 1 → IfNone r ((s : Shape) → IsSpanned p p s → ⊥)
+      → IfNone r ((s : Shape) → IsDrawnBy keyword turns last s → ⊥)
+  none_point e f g few none =
+      none_weaker r none (λ no s h. no s (drawn_point origin xs p s few (drawn_at keyword Point turns xs last p s e f g h)))
+
+  pub none_segment : keyword ≡ LineString → xs ≡ turns → Some p ≡ last → 1 ≤ length xs
+      → IfNone r ((s : Shape) → IsSegment (get_or xs 0 origin) p s → ⊥) → IfNone r ((s : Shape) → IsDrawnBy keyword turns last s → ⊥)
+  none_segment e f g some none =
+      none_weaker r none (λ no s h. no s (drawn_segment origin xs p s some (drawn_at keyword LineString turns xs last p s e f g h)))

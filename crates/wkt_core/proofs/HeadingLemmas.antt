@@ -4,6 +4,7 @@ use Rattle.std.specs.Prelude.{◌<ℤ◌, int_lt}
 use Rattle.std.specs.Ordering.{int_eq}
 use Rattle.std.proofs.lemmas.Bool.{false≢true}
 use Rattle.std.proofs.lemmas.Bool.Decides.{Decides-int_eq}
+use Rattle.std.proofs.lemmas.Cmp.{int_eq_equiv}
 use Rattle.std.proofs.lemmas.Int.{ints, by_lt_z}
 use Rattle.wkt_core.specs.declared.position.Position.{Position}
 use Rattle.wkt_core.specs.Drawing.{Heading, East, North, West, South, Heads, is_same}
@@ -21,6 +22,10 @@ by_bool false f g = g refl
 pub both_parts : (a b : Bool) → (a && b) ≡ true → (a ≡ true) × (b ≡ true)
 both_parts true b h = (refl, h)
 both_parts false b h = absurd (false≢true h)
+
+-- two positions are the same in either order
+pub same_turned : (p q : Position) → is_same p q ≡ is_same q p
+same_turned p q = rw (int_eq_equiv.symm p.x q.x, int_eq_equiv.symm p.y q.y) refl
 
 and_true : (a b : Bool) → a ≡ true → b ≡ true → (a && b) ≡ true
 and_true true b e f = f

@@ -6,6 +6,7 @@ pub mod PointLemmas
 pub mod ReadListLemmas
 pub mod ListGrammar
 pub mod TextLemmas
+pub mod WordLemmas
 pub mod HeadingLemmas
 pub mod HeldLemmas
 pub mod RunLemmas

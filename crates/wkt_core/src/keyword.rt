@@ -32,13 +32,16 @@ impl Keyword {
     fn read_capitals(text: &[u8]) -> Option<(Keyword, &[u8])>
         ensures { IfSome result (λ r. TakesWord text.now r.0 r.1.now) }
     {
-        if let Some(rest) = text.strip_prefix(b"POINT") {
+        let point = text.strip_prefix(b"POINT");
+        if let Some(rest) = point {
             return Some((Keyword::Point, rest));
         }
-        if let Some(rest) = text.strip_prefix(b"POLYGON") {
+        let polygon = text.strip_prefix(b"POLYGON");
+        if let Some(rest) = polygon {
             return Some((Keyword::Polygon, rest));
         }
-        if let Some(rest) = text.strip_prefix(b"LINESTRING") {
+        let line_string = text.strip_prefix(b"LINESTRING");
+        if let Some(rest) = line_string {
             return Some((Keyword::LineString, rest));
         }
         None

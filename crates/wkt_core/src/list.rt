@@ -21,9 +21,11 @@ pub(crate) fn read_points<'a>(text: &'a [u8], scale: Scale, list: &mut ReadList)
 {
     let mut rest = skip_symbol(text, b'(')?;
     loop {
-        let (point, after) = read_point(skip_blanks(rest), scale)?;
+        let start = skip_blanks(rest);
+        let (point, after) = read_point(start, scale)?;
         list.push(point);
-        match read_next(after)? {
+        let next = read_next(after)?;
+        match next {
             Next::Item(behind) => rest = behind,
             Next::End(behind) => return Some(behind),
         }
@@ -63,13 +65,16 @@ pub(crate) fn read_lists<'a>(
         ((found : List (List RawPoint)) (rest : List ℕ) → TakesLists text.now found rest → ⊥) }
 {
     let rest = skip_symbol(text, b'(')?;
-    let mut after = read_points(skip_blanks(rest), scale, &mut lists.first)?;
+    let first = skip_blanks(rest);
+    let mut after = read_points(first, scale, &mut lists.first)?;
     lists.first_was_read();
     loop {
-        match read_next(after)? {
+        let next = read_next(after)?;
+        match next {
             Next::Item(behind) => {
                 let mut further = ReadList::new();
-                let rest = read_points(skip_blanks(behind), scale, &mut further)?;
+                let start = skip_blanks(behind);
+                let rest = read_points(start, scale, &mut further)?;
                 lists.push(further);
                 after = rest;
             }

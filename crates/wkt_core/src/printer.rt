@@ -28,7 +28,8 @@ fn push_decimals(text: &mut String, units: u64, scale: Scale) -> Result<(), Allo
     let mut rest = units;
     while rest > 0 {
         place /= 10;
-        text.push_str(digits.format(rest / place))?;
+        let digit = digits.format(rest / place);
+        text.push_str(digit)?;
         rest %= place;
     }
     Ok(())

@@ -62,10 +62,13 @@ impl RawText {
         ensures none { IfNone result ((keyword : Keyword) (lists : List (List RawPoint))
             → TakesText text.now keyword lists → ⊥) }
     {
-        let (keyword, rest) = Keyword::read(skip_blanks(text))?;
+        let start = skip_blanks(text);
+        let (keyword, rest) = Keyword::read(start)?;
         let mut lists = ReadLists::new();
-        let rest = RawText::read_body(keyword, skip_blanks(rest), scale, &mut lists)?;
-        match skip_blanks(rest) {
+        let body = skip_blanks(rest);
+        let rest = RawText::read_body(keyword, body, scale, &mut lists)?;
+        let end = skip_blanks(rest);
+        match end {
             [] => Some(RawText { keyword, lists }),
             _ => None,
         }

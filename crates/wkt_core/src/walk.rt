@@ -88,10 +88,12 @@ impl Walk {
             → IsKeptOf self.old (way_of ps) → IsKeptOf self.new (way_of (ps ++ point ∷ [])) }
     {
         if let Some(last) = self.last {
-            if last == point {
+            let stays = last == point;
+            if stays {
                 return;
             }
-            if !self.goes_on(&last, &point) {
+            let straight_on = self.goes_on(&last, &point);
+            if !straight_on {
                 let _ = self.turns.try_push(last);
             }
         }

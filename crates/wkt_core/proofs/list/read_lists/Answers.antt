@@ -9,10 +9,10 @@ use Rattle.wkt_core.proofs.list.read_lists.Goals as goal
 pub returns-in_err-after-clause-none : goal.returns-in_err-after-clause-none
 returns-in_err-after-clause-none c =
     if_none _ (no_item_follows TakesPoints lists_exact c.in_ok-rest.rest.now c.in_ok-rest.rest.now [] refl _
-    (symbol_begins 40 _ _ (sym c.in_ok-rest.ensures)) (rw c.skip_blanks.ensures at c.in_err-after.ensures.none))
+    (symbol_begins 40 _ _ (sym c.in_ok-rest.ensures)) (rw c.skip_blanks-first.ensures at c.in_err-after.ensures.none))
 
-pub loop-behind-init : goal.loop-behind-init
-loop-behind-init c =
+pub loop-next-init : goal.loop-next-init
+loop-next-init c =
     let (ps, taken, firsts) = c.in_ok-after.ensures.some in
     record {
       start = c.in_ok-rest.rest.now;
@@ -21,42 +21,39 @@ loop-behind-init c =
       last = ps;
       rest = c.in_ok-rest.rest.now;
       begun = refl;
-      taken = rw c.skip_blanks.ensures at taken;
+      taken = rw c.skip_blanks-first.ensures at taken;
       firsts = c.first_was_read.ensures c.args.scale ps firsts;
     }
 
-pub returns-in_err-behind-clause-none : goal.returns-in_err-behind-clause-none
-returns-in_err-behind-clause-none c = if_none _ (no_lists_end c.args.scale _ _ _ c.loop-behind.invariant c.in_err-behind.ensures)
+pub returns-in_err-next-clause-none : goal.returns-in_err-next-clause-none
+returns-in_err-next-clause-none c = if_none _ (no_lists_end c.args.scale _ _ _ c.loop-next.invariant c.in_err-next.ensures)
 
 pub returns-in_err-rest-in-Item-clause-none : goal.returns-in_err-rest-in-Item-clause-none
 returns-in_err-rest-in-Item-clause-none c =
-    let next : skip c.loop-behind.after.now ≡ 44 ∷ c.in-Item.behind.now = rw c.in-Item.is at c.in_ok-behind.ensures in
-    if_none _ (no_list_follows c.args.scale _ _ c.in-Item.behind.now _ c.loop-behind.invariant next
-    (rw c.skip_blanks-in-Item.ensures at c.in_err-rest-in-Item.ensures.none))
+    let next : skip c.loop-next.after.now ≡ 44 ∷ c.in-Item.behind.now = rw c.in-Item.is at c.in_ok-next.ensures in
+    if_none _ (no_list_follows c.args.scale _ _ c.in-Item.behind.now _ c.loop-next.invariant next
+    (rw c.skip_blanks-start.ensures at c.in_err-rest-in-Item.ensures.none))
 
-pub loop-behind-preserved : goal.loop-behind-preserved
-loop-behind-preserved c =
-    let next : skip c.loop-behind.after.now ≡ 44 ∷ c.in-Item.behind.now = rw c.in-Item.is at c.in_ok-behind.ensures in
+pub loop-next-preserved : goal.loop-next-preserved
+loop-next-preserved c =
+    let next : skip c.loop-next.after.now ≡ 44 ∷ c.in-Item.behind.now = rw c.in-Item.is at c.in_ok-next.ensures in
     let (ps, taken, firsts) = c.in_ok-rest-in-Item.ensures.some in
-    list_more c.args.scale _ _ c.in-Item.behind.now _ _ _ c.loop-behind.invariant ps next (rw c.skip_blanks-in-Item.ensures at taken)
+    list_more c.args.scale _ _ c.in-Item.behind.now _ _ _ c.loop-next.invariant ps next (rw c.skip_blanks-start.ensures at taken)
     (λ lists first. c.push.ensures c.args.scale lists ps first firsts)
 
-pub loop-behind-smaller : goal.loop-behind-smaller
-loop-behind-smaller c =
-    let next : skip c.loop-behind.after.now ≡ 44 ∷ c.in-Item.behind.now = rw c.in-Item.is at c.in_ok-behind.ensures in
+pub loop-next-smaller : goal.loop-next-smaller
+loop-next-smaller c =
+    let next : skip c.loop-next.after.now ≡ 44 ∷ c.in-Item.behind.now = rw c.in-Item.is at c.in_ok-next.ensures in
     let (ps, taken, firsts) = c.in_ok-rest-in-Item.ensures.some in
     let shorter = lists_exact.shorter _ ps _ taken in
     let skipped = length-skip c.in-Item.behind.now in
-    let before = length-skip c.loop-behind.after.now in
-    omega (arith, shorter, ap length next, ap length c.skip_blanks-in-Item.ensures)
+    let before = length-skip c.loop-next.after.now in
+    omega (arith, shorter, ap length next, ap length c.skip_blanks-start.ensures)
 
 pub returns-in-End-clause-some : goal.returns-in-End-clause-some
 returns-in-End-clause-some c =
-    let next : skip c.loop-behind.after.now ≡ 41 ∷ c.in-End.behind.now = rw c.in-End.is at c.in_ok-behind.ensures in
-    lists_ended c.args.scale _ _ _ _ c.loop-behind.invariant next
-
-pub read_points-requires : goal.read_points-requires
-read_points-requires c = c.requires
+    let next : skip c.loop-next.after.now ≡ 41 ∷ c.in-End.behind.now = rw c.in-End.is at c.in_ok-next.ensures in
+    lists_ended c.args.scale _ _ _ _ c.loop-next.invariant next
 
 pub read_points-requires-in-Item : goal.read_points-requires-in-Item
 read_points-requires-in-Item c = c.new-further.ensures c.args.scale

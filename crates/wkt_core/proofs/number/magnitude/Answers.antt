@@ -1,4 +1,4 @@
-use Rattle.std.proofs.Common.{◌≡◌, ℕ, ◌-◌, List, length, take, drop, ◌∙◌, refl, inl, arith}
+use Rattle.std.proofs.Common.{◌≡◌, ℕ, ◌-◌, List, length, take, drop, arith, rules}
 use Rattle.std.proofs.lemmas.List.{take_all, length-drop}
 use Rattle.wkt_core.proofs.number.magnitude.Goals as goal
 
@@ -9,9 +9,12 @@ pub returns-clause-value : goal.returns-clause-value
 returns-clause-value c =
     let e : c.loop-i.i ≡ 6 = omega arith in
     let same = rw e at c.loop-i.invariant.sum in
-    rw same at (rw (behind c.args.text.now) at (c.with_digits-2.ensures.value c.loop-i.sum (inl refl)))
+    let tail = behind c.args.text.now in
+    search rules
 
 pub returns-clause-rest : goal.returns-clause-rest
 returns-clause-rest c =
     let e : c.loop-i.i ≡ 6 = omega arith in
-    (rw (behind c.args.text.now) at c.with_digits-2.ensures.rest) ∙ (rw e at c.loop-i.invariant.rest)
+    let same = rw e at c.loop-i.invariant.rest in
+    let tail = behind c.args.text.now in
+    cc

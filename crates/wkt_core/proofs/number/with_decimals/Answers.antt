@@ -18,7 +18,7 @@ loop-preserved c =
     record {
       digits = c.next_decimal-digit.ensures.digits ∙ ap (drop 1) c.loop.invariant.digits ∙ drop-drop 1 c.loop.counter _;
       rest = c.next_decimal-digit.ensures.rest ∙ c.loop.invariant.rest;
-      sum = λ total h. leads_on _ _ _ _ _ _ c.with_digit-sum.ensures more (c.loop.invariant.sum total h);
+      sum = λ total h. leads_on _ _ _ _ _ _ (search) more (c.loop.invariant.sum total h);
     }
 
 pub returns-clause-value : goal.returns-clause-value

@@ -11,7 +11,7 @@ loop-rest-preserved c =
     let (digits, after) = digit_taken c.loop-rest.rest.now (omega arith) (omega arith) (omega arith) in
     record {
       rest = sym after ∙ c.loop-rest.invariant.rest;
-      sum = λ total h. leads_on _ _ _ _ _ _ c.with_digit-sum.ensures digits (c.loop-rest.invariant.sum total h);
+      sum = λ total h. leads_on _ _ _ _ _ _ (search) digits (c.loop-rest.invariant.sum total h);
     }
 
 pub returns-clause-value : goal.returns-clause-value

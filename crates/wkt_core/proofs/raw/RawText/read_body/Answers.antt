@@ -23,4 +23,4 @@ returns-in_ok-rest-in-Point-clause-some c =
     ((p ∷ []) ∷ [], rw c.in-Point.is taken, c.first_was_read.ensures c.args.scale (p ∷ []) firsts)
 
 pub returns-in-Polygon-clause-none : goal.returns-in-Polygon-clause-none
-returns-in-Polygon-clause-none c = rw c.in-Polygon.is c.read_lists.ensures.none
+returns-in-Polygon-clause-none c = rw c.in-Polygon.is (search)
