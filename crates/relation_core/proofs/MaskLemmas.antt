@@ -149,20 +149,20 @@ pub bad_first : (text : List ℕ) (first : ℕ) (fault : MaskFault) → TellsBad
 bad_first text first fault bad = sooner text first (first + 1) (first + 3) fault (omega arith) bad
 
 -- and so is one behind one letter or two
-pub bad_second : (text : List ℕ) (first : ℕ) (v : PatternValue) (fault : MaskFault) → IsLetterOf v (slice_index text first) →
-    TellsBad text (first + 1) (first + 1 + 1) fault → TellsBad text first (first + 3) fault
-bad_second text first v fault good bad =
+pub bad_second : (text : List ℕ) (first second : ℕ) (v : PatternValue) (fault : MaskFault) → second ≡ first + 1 →
+    IsLetterOf v (slice_index text first) → TellsBad text second (second + 1) fault → TellsBad text first (first + 3) fault
+bad_second text first second v fault at good bad =
     let L : ℕ → Type 0 = λ k. IsLetter (slice_index text k) in
-    behind_letters text first (first + 1) (first + 1 + 1) (first + 3) fault (omega arith) (omega arith)
+    behind_letters text first second (second + 1) (first + 3) fault (omega arith) (omega arith)
     (λ k from below. let e : first ≡ k = omega arith in subst L e (v, good)) bad
 
-pub bad_third : (text : List ℕ) (first : ℕ) (v w : PatternValue) (fault : MaskFault) →
-    IsLetterOf v (slice_index text first) → IsLetterOf w (slice_index text (first + 1)) →
-    TellsBad text (first + 2) (first + 2 + 1) fault → TellsBad text first (first + 3) fault
-bad_third text first v w fault good next bad =
+pub bad_third : (text : List ℕ) (first second third : ℕ) (v w : PatternValue) (fault : MaskFault) → second ≡ first + 1 → third ≡ first + 2 →
+    IsLetterOf v (slice_index text first) → IsLetterOf w (slice_index text second) →
+    TellsBad text third (third + 1) fault → TellsBad text first (first + 3) fault
+bad_third text first second third v w fault at behind good next bad =
     let L : ℕ → Type 0 = λ k. IsLetter (slice_index text k) in
-    behind_letters text first (first + 2) (first + 2 + 1) (first + 3) fault (omega arith) (omega arith)
-    (λ k from below. below_more (λ j. first ≤ j → L j) (first + 1)
+    behind_letters text first third (third + 1) (first + 3) fault (omega arith) (omega arith)
+    (λ k from below. below_more (λ j. first ≤ j → L j) second
     (λ j h g. let e : first ≡ j = omega arith in subst L e (v, good)) (λ _. (w, next)) k (omega arith) from) bad
 
 -- behind a row that was read the first bad byte is that of the longer piece

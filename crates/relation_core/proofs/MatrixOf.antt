@@ -1,5 +1,5 @@
 -- Each two shapes have a matrix, so a relation says the same of their matrix and of the two sets.
-use Rattle.std.proofs.Common.{◌≡◌, ◌↔◌, Bool, true, arith, inl, inr}
+use Rattle.std.proofs.Common.{◌≡◌, ◌↔◌, ℕ, Bool, true, arith, inl, inr}
 use Rattle.std.specs.Prelude.{ℤ, ◌<ℤ◌}
 use Rattle.std.proofs.lemmas.Int.{ints, by_lt_z}
 use Rattle.geom_core.specs.declared.span.Span.{Span}
@@ -130,8 +130,21 @@ by_matrix r a b m answer is test =
       sets = (λ e. law.0 (fits.0 (test.0 e)), λ s. test.1 (fits.1 (law.1 s)));
     }
 
+-- the same, for the two dimensions
+pub by_dims : (r : Relation) (a b : Shape) (m : Matrix) (answer : Bool) (da db : ℕ) → IsMatrix a b m → da ≡ dim_of a → db ≡ dim_of b →
+    (answer ≡ true) ↔ FitsOne (masks r da db) m → Tells r a b answer
+by_dims r a b m answer da db is e f test = by_matrix r a b m answer is (rw (e, f) at test)
+
 -- a test of one mask
 pub by_mask : (mask : Mask) (a b : Shape) (m : Matrix) (answer : Bool) → IsMatrix a b m →
     (answer ≡ true) ↔ Fits mask m → Tells (relations.Mask mask) a b answer
 by_mask mask a b m answer is test =
     by_matrix (relations.Mask mask) a b m answer is (λ e. inl (test.0 e), λ f. elim f [ inl k ↦ test.1 k | inr x ↦ absurd x ])
+
+-- what a test that tells a relation says, of the masks and of the two sets
+module _ (r : Relation) (a b : Shape) (answer : Bool) (told : Tells r a b answer) where
+  pub masks_told : (answer ≡ true) ↔ Holds r a b
+  masks_told = told.masks
+
+  pub sets_told : (answer ≡ true) ↔ HoldsOfSets r a b
+  sets_told = told.sets

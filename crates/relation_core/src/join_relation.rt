@@ -62,10 +62,12 @@ impl JoinRelation {
         ensures same { IfOk result (λ join. relation_of join ≡ relation) }
         ensures err { OnErr result (HoldsForDisjoint relation) }
     {
-        if allows_disjoint(&relation) {
+        let allowed = allows_disjoint(&relation);
+        if allowed {
             Err(AllowsDisjoint)
         } else {
-            Ok(JoinRelation { relation })
+            let join = JoinRelation { relation };
+            Ok(join)
         }
     }
 
@@ -83,7 +85,8 @@ impl JoinRelation {
         ensures holds { IsTrue result ↔ Holds (relation_of self.now) a.now b.now }
         ensures meet { IsTrue result → Meets a.now b.now }
     {
-        a.meets(b) && self.relation.holds(a, b)
+        let meets = a.meets(b);
+        meets && self.relation.holds(a, b)
     }
 }
 

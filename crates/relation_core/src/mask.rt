@@ -144,10 +144,13 @@ fn read_rows(text: &[u8]) -> Result<Parts<Parts<PatternValue>>, MaskFault>
     ensures ok { IfOk result (SpellsRows text.now) }
     ensures err { IfErr result (TellsBad text.now 0 9) }
 {
+    let interior = read_row(text, 0)?;
+    let boundary = read_row(text, 3)?;
+    let exterior = read_row(text, 6)?;
     Ok(Parts {
-        interior: read_row(text, 0)?,
-        boundary: read_row(text, 3)?,
-        exterior: read_row(text, 6)?,
+        interior,
+        boundary,
+        exterior,
     })
 }
 
@@ -158,10 +161,13 @@ fn read_row(text: &[u8], first: u32) -> Result<Parts<PatternValue>, MaskFault>
     ensures ok { IfOk result (SpellsRow text.now first) }
     ensures err { IfErr result (TellsBad text.now first (first + 3)) }
 {
+    let interior = read_value(text, first)?;
+    let boundary = read_value(text, first + 1)?;
+    let exterior = read_value(text, first + 2)?;
     Ok(Parts {
-        interior: read_value(text, first)?,
-        boundary: read_value(text, first + 1)?,
-        exterior: read_value(text, first + 2)?,
+        interior,
+        boundary,
+        exterior,
     })
 }
 

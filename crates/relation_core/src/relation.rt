@@ -69,7 +69,10 @@ impl Relation {
     {
         match named(text) {
             Some(relation) => Ok(relation),
-            None => Ok(Relation::Mask(Mask::read(text)?)),
+            None => {
+                let mask = Mask::read(text)?;
+                Ok(Relation::Mask(mask))
+            }
         }
     }
 

@@ -1,80 +1,58 @@
 use Rattle.std.proofs.lemmas.Bool.Decides.{Decides-not}
 use Rattle.relation_core.specs.declared.relation.Relation.TheVariants as relations
-use Rattle.relation_core.proofs.MatrixOf.{by_mask, by_matrix, by_sets}
+use Rattle.relation_core.proofs.MatrixOf.{by_mask, by_dims, by_sets, masks_told, sets_told}
 use Rattle.relation_core.proofs.relation.Relation.holds.Goals as goal
 
 pub returns-in-Mask-clause-masks : goal.returns-in-Mask-clause-masks
-returns-in-Mask-clause-masks c =
-    rw c.in-Mask.is (by_mask c.in-Mask.mask c.args.a.now c.args.b.now c.relate.result _ c.relate.ensures c.fits.ensures).masks
+returns-in-Mask-clause-masks c = rw c.in-Mask.is (masks_told (relations.Mask c.in-Mask.mask) c.args.a.now c.args.b.now _ (search by_mask))
 
 pub returns-in-Mask-clause-sets : goal.returns-in-Mask-clause-sets
-returns-in-Mask-clause-sets c =
-    rw c.in-Mask.is (by_mask c.in-Mask.mask c.args.a.now c.args.b.now c.relate.result _ c.relate.ensures c.fits.ensures).sets
+returns-in-Mask-clause-sets c = rw c.in-Mask.is (sets_told (relations.Mask c.in-Mask.mask) c.args.a.now c.args.b.now _ (search by_mask))
 
 pub returns-in-Disjoint-clause-masks : goal.returns-in-Disjoint-clause-masks
-returns-in-Disjoint-clause-masks c =
-    rw c.in-Disjoint.is (by_sets relations.Disjoint c.args.a.now c.args.b.now _ (Decides-not c.meets.result c.meets.ensures)).masks
+returns-in-Disjoint-clause-masks c = rw c.in-Disjoint.is (masks_told relations.Disjoint c.args.a.now c.args.b.now _ (by_sets _ _ _ _ (Decides-not _ (search))))
 
 pub returns-in-Disjoint-clause-sets : goal.returns-in-Disjoint-clause-sets
-returns-in-Disjoint-clause-sets c =
-    rw c.in-Disjoint.is (by_sets relations.Disjoint c.args.a.now c.args.b.now _ (Decides-not c.meets.result c.meets.ensures)).sets
+returns-in-Disjoint-clause-sets c = rw c.in-Disjoint.is (sets_told relations.Disjoint c.args.a.now c.args.b.now _ (by_sets _ _ _ _ (Decides-not _ (search))))
 
 pub returns-in-Intersects-clause-masks : goal.returns-in-Intersects-clause-masks
-returns-in-Intersects-clause-masks c =
-    rw c.in-Intersects.is (by_sets relations.Intersects c.args.a.now c.args.b.now _ c.meets-in-Intersects.ensures).masks
+returns-in-Intersects-clause-masks c = rw c.in-Intersects.is (masks_told relations.Intersects c.args.a.now c.args.b.now _ (search by_sets))
 
 pub returns-in-Intersects-clause-sets : goal.returns-in-Intersects-clause-sets
-returns-in-Intersects-clause-sets c =
-    rw c.in-Intersects.is (by_sets relations.Intersects c.args.a.now c.args.b.now _ c.meets-in-Intersects.ensures).sets
+returns-in-Intersects-clause-sets c = rw c.in-Intersects.is (sets_told relations.Intersects c.args.a.now c.args.b.now _ (search by_sets))
 
 pub returns-in-Touches-clause-masks : goal.returns-in-Touches-clause-masks
-returns-in-Touches-clause-masks c =
-    rw c.in-Touches.is (by_sets relations.Touches c.args.a.now c.args.b.now _ c.touches.ensures).masks
+returns-in-Touches-clause-masks c = rw c.in-Touches.is (masks_told relations.Touches c.args.a.now c.args.b.now _ (search by_sets))
 
 pub returns-in-Touches-clause-sets : goal.returns-in-Touches-clause-sets
-returns-in-Touches-clause-sets c =
-    rw c.in-Touches.is (by_sets relations.Touches c.args.a.now c.args.b.now _ c.touches.ensures).sets
+returns-in-Touches-clause-sets c = rw c.in-Touches.is (sets_told relations.Touches c.args.a.now c.args.b.now _ (search by_sets))
 
 pub returns-in-Crosses-clause-masks : goal.returns-in-Crosses-clause-masks
-returns-in-Crosses-clause-masks c =
-    let test = rw (c.dim.ensures, c.dim-in-Crosses.ensures) at c.crosses.ensures in
-    rw c.in-Crosses.is (by_matrix relations.Crosses c.args.a.now c.args.b.now c.relate-in-Crosses.result _ c.relate-in-Crosses.ensures test).masks
+returns-in-Crosses-clause-masks c = rw c.in-Crosses.is (masks_told relations.Crosses c.args.a.now c.args.b.now _ (search by_dims))
 
 pub returns-in-Crosses-clause-sets : goal.returns-in-Crosses-clause-sets
-returns-in-Crosses-clause-sets c =
-    let test = rw (c.dim.ensures, c.dim-in-Crosses.ensures) at c.crosses.ensures in
-    rw c.in-Crosses.is (by_matrix relations.Crosses c.args.a.now c.args.b.now c.relate-in-Crosses.result _ c.relate-in-Crosses.ensures test).sets
+returns-in-Crosses-clause-sets c = rw c.in-Crosses.is (sets_told relations.Crosses c.args.a.now c.args.b.now _ (search by_dims))
 
 pub returns-in-Within-clause-masks : goal.returns-in-Within-clause-masks
-returns-in-Within-clause-masks c =
-    rw c.in-Within.is (by_sets relations.Within c.args.a.now c.args.b.now _ c.is_within.ensures).masks
+returns-in-Within-clause-masks c = rw c.in-Within.is (masks_told relations.Within c.args.a.now c.args.b.now _ (search by_sets))
 
 pub returns-in-Within-clause-sets : goal.returns-in-Within-clause-sets
-returns-in-Within-clause-sets c =
-    rw c.in-Within.is (by_sets relations.Within c.args.a.now c.args.b.now _ c.is_within.ensures).sets
+returns-in-Within-clause-sets c = rw c.in-Within.is (sets_told relations.Within c.args.a.now c.args.b.now _ (search by_sets))
 
 pub returns-in-Contains-clause-masks : goal.returns-in-Contains-clause-masks
-returns-in-Contains-clause-masks c =
-    rw c.in-Contains.is (by_sets relations.Contains c.args.a.now c.args.b.now _ c.is_within-in-Contains.ensures).masks
+returns-in-Contains-clause-masks c = rw c.in-Contains.is (masks_told relations.Contains c.args.a.now c.args.b.now _ (search by_sets))
 
 pub returns-in-Contains-clause-sets : goal.returns-in-Contains-clause-sets
-returns-in-Contains-clause-sets c =
-    rw c.in-Contains.is (by_sets relations.Contains c.args.a.now c.args.b.now _ c.is_within-in-Contains.ensures).sets
+returns-in-Contains-clause-sets c = rw c.in-Contains.is (sets_told relations.Contains c.args.a.now c.args.b.now _ (search by_sets))
 
 pub returns-in-Overlaps-clause-masks : goal.returns-in-Overlaps-clause-masks
-returns-in-Overlaps-clause-masks c =
-    let test = rw (c.dim-in-Overlaps.ensures, c.dim-in-Overlaps-2.ensures) at c.overlaps.ensures in
-    rw c.in-Overlaps.is (by_matrix relations.Overlaps c.args.a.now c.args.b.now c.relate-in-Overlaps.result _ c.relate-in-Overlaps.ensures test).masks
+returns-in-Overlaps-clause-masks c = rw c.in-Overlaps.is (masks_told relations.Overlaps c.args.a.now c.args.b.now _ (search by_dims))
 
 pub returns-in-Overlaps-clause-sets : goal.returns-in-Overlaps-clause-sets
-returns-in-Overlaps-clause-sets c =
-    let test = rw (c.dim-in-Overlaps.ensures, c.dim-in-Overlaps-2.ensures) at c.overlaps.ensures in
-    rw c.in-Overlaps.is (by_matrix relations.Overlaps c.args.a.now c.args.b.now c.relate-in-Overlaps.result _ c.relate-in-Overlaps.ensures test).sets
+returns-in-Overlaps-clause-sets c = rw c.in-Overlaps.is (sets_told relations.Overlaps c.args.a.now c.args.b.now _ (search by_dims))
 
 pub returns-in-Equals-clause-masks : goal.returns-in-Equals-clause-masks
-returns-in-Equals-clause-masks c =
-    rw c.in-Equals.is (by_sets relations.Equals c.args.a.now c.args.b.now _ c.is_same_set.ensures).masks
+returns-in-Equals-clause-masks c = rw c.in-Equals.is (masks_told relations.Equals c.args.a.now c.args.b.now _ (search by_sets))
 
 pub returns-in-Equals-clause-sets : goal.returns-in-Equals-clause-sets
-returns-in-Equals-clause-sets c =
-    rw c.in-Equals.is (by_sets relations.Equals c.args.a.now c.args.b.now _ c.is_same_set.ensures).sets
+returns-in-Equals-clause-sets c = rw c.in-Equals.is (sets_told relations.Equals c.args.a.now c.args.b.now _ (search by_sets))
