@@ -1,5 +1,5 @@
 -- When intervals share a number, when one lies in another, and when their inner parts meet.
-use Rattle.std.proofs.Common.{◌≡◌, true, refl, subst, arith, inl, inr, ◌⊎◌, to_z, of_z, w64}
+use Rattle.std.proofs.Common.{◌≡◌, ◌↔◌, IsTrue, Bool, true, refl, subst, arith, inl, inr, ◌⊎◌, to_z, of_z, w64}
 use Rattle.std.specs.Prelude.{ℤ, pos, ◌+ℤ◌, ◌≤ℤ◌, ◌<ℤ◌, int_le}
 use Rattle.std.proofs.lemmas.Int.{ints, by_lt_z}
 use Rattle.geom_core.specs.declared.span.Span.{Span}
@@ -8,6 +8,10 @@ use Rattle.geom_core.specs.Cells.{line, IsWithin, IsInner, IsIn}
 use Rattle.geom_core.specs.Joined.{same_ends}
 use Rattle.geom_core.proofs.HeldLemmas.{begins_within, within_begins, no_later_lo, no_later_hi, lo_no_later, hi_no_later}
 use Rattle.geom_core.proofs.SpanLemmas.{common_line, common_order, within_ends}
+
+-- a test behind one that was passed
+pub both_hold : {P Q : Type 0} (t r : Bool) → t ≡ true → IsTrue t ↔ P → IsTrue r ↔ Q → IsTrue r ↔ (P × Q)
+both_hold t r e p q = (λ f. (p.0 e, q.0 f), λ h. q.1 h.1)
 
 -- an interval has an inner place
 pub some_inner : (s : Span) → (u : ℤ) × IsInner s u

@@ -1,6 +1,6 @@
 -- Intervals that share a number, and the smallest interval that contains two.
 use Rattle.std.proofs.Common.{arith}
-use Rattle.std.specs.Prelude.{◌≤◌, ◌*◌, ◌-ℤ◌, nat_abs, ℤ, ◌≤ℤ◌}
+use Rattle.std.specs.Prelude.{◌≡◌, ℕ, ◌≤◌, ◌*◌, ◌-ℤ◌, nat_abs, ℤ, ◌≤ℤ◌}
 use Rattle.std.proofs.lemmas.Int.{ints, clamps, by_lt_z}
 use Rattle.geom_core.specs.declared.span.Span.{Span}
 use Rattle.geom_core.specs.Limits.{greatest_coordinate}
@@ -27,6 +27,9 @@ within_joined_least a b s u p q r t h = (omega (arith, ints, clamps), omega (ari
 -- no interval is longer than the whole range
 pub length_bound : (a : Span) → nat_abs (a.hi -ℤ a.lo) ≤ 2 * greatest_coordinate
 length_bound a = omega (arith, ints)
+
+pub length_held : (a : Span) (n : ℕ) → n ≡ nat_abs (a.hi -ℤ a.lo) → n ≤ 2 * greatest_coordinate
+length_held a n e = rw e (length_bound a)
 
 -- where a number is in two intervals, each begins no later than the other ends
 pub common_order : (a b : Span) (u : ℤ) → IsWithin a u → IsWithin b u → a.lo ≤ℤ b.hi

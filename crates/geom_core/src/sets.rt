@@ -62,7 +62,8 @@ impl Shape {
     pub fn is_within(&self, other: &Shape) -> bool
         ensures { IsTrue result ↔ LiesWithin self.now other.now }
     {
-        self.is_in(other) && self.interiors_meet(other)
+        let inside = self.is_in(other);
+        inside && self.interiors_meet(other)
     }
 
     /// Whether each of the two closed shapes lies in the other.
@@ -70,7 +71,8 @@ impl Shape {
     pub fn is_same_set(&self, other: &Shape) -> bool
         ensures { IsTrue result ↔ AreSameSet self.now other.now }
     {
-        self.is_in(other) && other.is_in(self)
+        let inside = self.is_in(other);
+        inside && other.is_in(self)
     }
 
     /// Whether each point of the closed shape is one of the other.

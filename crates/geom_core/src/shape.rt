@@ -99,10 +99,9 @@ impl Shape {
         ensures least { (s : Shape) → IsIn self.now s → IsIn other.now s → IsIn result s }
         ensures corners { result ≡ cover_of self.now other.now }
     {
-        Shape {
-            x: self.x.joined(&other.x),
-            y: self.y.joined(&other.y),
-        }
+        let x = self.x.joined(&other.x);
+        let y = self.y.joined(&other.y);
+        Shape { x, y }
     }
 
     /// Width times height, which is 0 for a point and for a segment.

@@ -58,10 +58,9 @@ impl Span {
     pub fn joined(&self, other: &Span) -> Span
         ensures { result ≡ joined self.now other.now }
     {
-        Span {
-            lo: self.lo.min(other.lo),
-            hi: self.hi.max(other.hi),
-        }
+        let lo = self.lo.min(other.lo);
+        let hi = self.hi.max(other.hi);
+        Span { lo, hi }
     }
 
     /// How far the end is from the beginning.

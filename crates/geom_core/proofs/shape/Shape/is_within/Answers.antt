@@ -1,4 +1,5 @@
+use Rattle.geom_core.proofs.SetLaws.{both_hold}
 use Rattle.geom_core.proofs.shape.Shape.is_within.Goals as goal
 
-pub returns-then-is_in : goal.returns-then-is_in
-returns-then-is_in c = (λ e. (c.is_in.ensures.0 c.if-is_in.true, c.interiors_meet.ensures.0 e), λ w. c.interiors_meet.ensures.1 w.1)
+pub returns-then-inside : goal.returns-then-inside
+returns-then-inside c = both_hold c.is_in-inside.result _ c.if-inside.true c.is_in-inside.ensures (search)

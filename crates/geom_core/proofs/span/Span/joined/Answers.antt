@@ -10,8 +10,8 @@ pub invariant_of-result : goal.invariant_of-result
 invariant_of-result c =
     let a = c.args.self.now in
     let b = c.args.other.now in
-    let lo : to_z w64 (of_z w64 c.min.result) ≡ int_min a.lo b.lo = held_by int_min c.min.result _ _ (search rules) (held_lo a) (held_lo b) c.min.ensures.value in
-    let hi : to_z w64 (of_z w64 c.max.result) ≡ int_max a.hi b.hi = held_by int_max c.max.result _ _ (search rules) (held_hi a) (held_hi b) c.max.ensures.value in
+    let lo : to_z w64 (of_z w64 c.min-lo.result) ≡ int_min a.lo b.lo = held_by int_min c.min-lo.result _ _ (search rules) (held_lo a) (held_lo b) c.min-lo.ensures.value in
+    let hi : to_z w64 (of_z w64 c.max-hi.result) ≡ int_max a.hi b.hi = held_by int_max c.max-hi.result _ _ (search rules) (held_hi a) (held_hi b) c.max-hi.ensures.value in
     record {
       ordered = rw (lo, hi) (joined_ordered a b);
       above = subst (λ z. neg_ℤ (pos greatest_coordinate) ≤ℤ z) (sym lo) (joined_above a b);
@@ -23,5 +23,5 @@ returns c =
     let a = c.args.self.now in
     let b = c.args.other.now in
     same_ends _ _
-    (held_by int_min c.min.result _ _ (search rules) (held_lo a) (held_lo b) c.min.ensures.value)
-    (held_by int_max c.max.result _ _ (search rules) (held_hi a) (held_hi b) c.max.ensures.value)
+    (held_by int_min c.min-lo.result _ _ (search rules) (held_lo a) (held_lo b) c.min-lo.ensures.value)
+    (held_by int_max c.max-hi.result _ _ (search rules) (held_hi a) (held_hi b) c.max-hi.ensures.value)
