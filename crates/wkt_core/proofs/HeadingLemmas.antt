@@ -1,5 +1,5 @@
 -- Headings: how one point lies from another, and which three points lie straight.
-use Rattle.std.proofs.Common.{◌≡◌, ◌≢◌, Bool, true, false, ◌&&◌, ◌||◌, ◌⊎◌, inl, inr, refl, ◌∙◌, ap, subst, ⊎_elim, arith, ℤ}
+use Rattle.std.proofs.Common.{◌≡◌, ◌≢◌, Bool, true, false, ◌&&◌, ◌||◌, ◌⊎◌, inl, inr, refl, sym, ◌∙◌, ap, subst, ⊎_elim, arith, ℤ}
 use Rattle.std.specs.Prelude.{◌<ℤ◌, int_lt}
 use Rattle.std.specs.Ordering.{int_eq}
 use Rattle.std.proofs.lemmas.Bool.{false≢true}
@@ -23,9 +23,14 @@ pub both_parts : (a b : Bool) → (a && b) ≡ true → (a ≡ true) × (b ≡ t
 both_parts true b h = (refl, h)
 both_parts false b h = absurd (false≢true h)
 
--- two positions are the same in either order
-pub same_turned : (p q : Position) → is_same p q ≡ is_same q p
-same_turned p q = rw (int_eq_equiv.symm p.x q.x, int_eq_equiv.symm p.y q.y) refl
+-- what a test of two positions tells, in either order
+pub told_same : (p q : Position) (test answer : Bool) → test ≡ is_same p q → test ≡ answer → is_same p q ≡ answer
+told_same p q test answer e f = sym e ∙ f
+
+pub told_turned : (p q : Position) (test answer : Bool) → test ≡ is_same q p → test ≡ answer → is_same p q ≡ answer
+told_turned p q test answer e f = rw (int_eq_equiv.symm p.x q.x, int_eq_equiv.symm p.y q.y) (sym e ∙ f)
+
+pub ruleset same_told = (told_same, told_turned)
 
 and_true : (a b : Bool) → a ≡ true → b ≡ true → (a && b) ≡ true
 and_true true b e f = f

@@ -87,7 +87,8 @@ impl Walk {
         ensures { (ps : List Position)
             → IsKeptOf self.old (way_of ps) → IsKeptOf self.new (way_of (ps ++ point ∷ [])) }
     {
-        if let Some(last) = self.last {
+        let before = self.last;
+        if let Some(last) = before {
             let stays = last == point;
             if stays {
                 return;
