@@ -1,6 +1,6 @@
 -- The value of digits, one digit on.
 use Rattle.std.proofs.Common.{◌≡◌, Bool, true, false, cond, ℕ, suc, ◌+◌, ◌-◌, ◌*◌, ◌<◌, ◌≤◌, List, [], ◌∷◌}
-use Rattle.std.proofs.Common.{◌++◌, length, get_or, take, drop, refl, sym, ap, ◌∙◌, inl, inr, arith}
+use Rattle.std.proofs.Common.{◌++◌, length, get_or, take, drop, drop-drop, refl, sym, ap, ◌∙◌, inl, inr, arith}
 use Rattle.std.proofs.Math.Seq.{take-nil, take-length}
 use Rattle.std.specs.Prelude.{◌==◌, ℤ, Option, Some}
 use Rattle.std.specs.Char.{digit_value, is_ascii_digit}
@@ -9,6 +9,7 @@ use Rattle.std.specs.Str.Parse.{digits_value, digits_value_after}
 use Rattle.std.proofs.lemmas.Bool.Decides.{nat_tests}
 use Rattle.wkt_core.specs.declared.number.ReadNumber.{ReadNumber}
 use Rattle.wkt_core.specs.declared.scale.Scale.{Scale}
+use Rattle.wkt_core.specs.Grammar.{IsDigit}
 use Rattle.wkt_core.specs.Scales.{digits_of}
 use Rattle.wkt_core.specs.Spelling.{kept}
 use Rattle.wkt_core.specs.NumberSteps.{digits_at, after_digits, sign_at, decimals_at, number_at, number_answer, IsCapped, ranged}
@@ -69,6 +70,27 @@ leads_on sum next digit total ds es step e l = record {
 
 pub led : (sum total : ℕ) (ds : List ℕ) → ds ≡ [] → LeadsTo sum ds total → IsCapped sum total
 led sum total ds e l = let same : l.so_far ≡ total = ap (digits_value_after 10 l.so_far) (sym e) ∙ l.whole in rw same at l.capped
+
+-- one decimal on
+pub next_dropped : (i : ℕ) (ds rest after : List ℕ) → after ≡ drop 1 rest → rest ≡ drop i ds → after ≡ drop (i + 1) ds
+next_dropped i ds rest after e f = e ∙ ap (drop 1) f ∙ drop-drop 1 i ds
+
+-- a number takes a decimal from the front of a text
+pub record Takes (sum next : ℕ) (rest after : List ℕ) : Type 0 where
+  pub digit : ℕ
+  pub step : (n : ℕ) → IsCapped sum n → IsCapped next (n * 10 + digit_value digit)
+  pub more : (k : ℕ) → kept (suc k) rest ≡ digit ∷ kept k after
+
+pub next_taken : (sum next digit : ℕ) (rest after : List ℕ) → IsDigit digit → ((n : ℕ) → IsCapped sum n → IsCapped next (n * 10 + digit_value digit))
+    → ((k : ℕ) → kept (suc k) rest ≡ digit ∷ kept k after) → Takes sum next rest after
+next_taken sum next digit rest after is step more = record { digit = digit; step = step; more = more }
+
+pub decimal_led : (count i sum next : ℕ) (total : ℕ) (rest after : List ℕ) → i < count → LeadsTo sum (kept (count - i) (digits_at rest)) total
+    → Takes sum next (digits_at rest) (digits_at after) → LeadsTo next (kept (count - (i + 1)) (digits_at after)) total
+decimal_led count i sum next total rest after some l t =
+    let e : count - i ≡ suc (count - (i + 1)) = omega arith in
+    leads_on sum next t.digit total (kept (count - i) (digits_at rest)) (kept (count - (i + 1)) (digits_at after)) t.step
+    (ap (λ k. kept k (digits_at rest)) e ∙ t.more (count - (i + 1))) l
 
 pub ranged_capped : (negative : Bool) (sum total : ℕ) → IsCapped sum total → ranged negative sum ≡ ranged negative total
 ranged_capped negative sum total (inl e) = ap (ranged negative) e

@@ -1,7 +1,7 @@
-use Rattle.std.proofs.Common.{◌≡◌, ◌-◌, ◌+◌, ◌∷◌, suc, ◌∙◌, refl, ap, drop, drop-drop, arith}
+use Rattle.std.proofs.Common.{rules, ◌≡◌, ◌-◌, ◌∙◌, refl, ap, drop, arith}
 use Rattle.wkt_core.specs.Spelling.{kept}
 use Rattle.wkt_core.specs.NumberSteps.{digits_at}
-use Rattle.wkt_core.proofs.NumberLemmas.{kept-none, leads_on, led}
+use Rattle.wkt_core.proofs.NumberLemmas.{kept-none, led, next_dropped, next_taken, decimal_led}
 use Rattle.wkt_core.proofs.number.with_decimals.Goals as goal
 
 pub loop-init : goal.loop-init
@@ -10,16 +10,11 @@ loop-init c =
     record { digits = refl; rest = refl; sum = λ total h. record { so_far = total; capped = h; whole = rw e refl } }
 
 pub loop-preserved : goal.loop-preserved
-loop-preserved c =
-    let e : c.args.count - c.loop.counter ≡ suc (c.args.count - (c.loop.counter + 1)) = omega arith in
-    let more : kept (c.args.count - c.loop.counter) (digits_at c.loop.rest.now)
-    ≡ c.next_decimal-digit.result.0 ∷ kept (c.args.count - (c.loop.counter + 1)) (digits_at c.next_decimal-digit.result.1.now) =
-    ap (λ k. kept k (digits_at c.loop.rest.now)) e ∙ c.next_decimal-digit.ensures.kept (c.args.count - (c.loop.counter + 1)) in
-    record {
-      digits = c.next_decimal-digit.ensures.digits ∙ ap (drop 1) c.loop.invariant.digits ∙ drop-drop 1 c.loop.counter _;
-      rest = c.next_decimal-digit.ensures.rest ∙ c.loop.invariant.rest;
-      sum = λ total h. leads_on _ _ _ _ _ _ (search) more (c.loop.invariant.sum total h);
-    }
+loop-preserved c = record {
+  digits = search (rules, next_dropped);
+  rest = search rules;
+  sum = λ total h. let before = c.loop.invariant.sum total h in search (arith, decimal_led, next_taken);
+}
 
 pub returns-clause-value : goal.returns-clause-value
 returns-clause-value c = λ total h.
