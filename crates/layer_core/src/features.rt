@@ -69,7 +69,8 @@ fn locate(ids: &Ids, slots: &[Option<Slot>], id: &str) -> Option<(u32, Slot)>
 {
     let place = ids.place_of(id)?;
     let number = ids.number(place)?;
-    let slot = (*slots.get(number as usize)?)?;
+    let entry = slots.get(number as usize)?;
+    let slot = (*entry)?;
     Some((number, slot))
 }
 
@@ -140,7 +141,9 @@ impl Features {
         ensures found { NumberAndShapeAre result (with_id id.now self.now.list) }
         ensures layer { IsLayer self.now.list }
     {
-        locate(&self.ids, self.slots.as_slice(), id).map(|(number, slot)| (number, slot.shape))
+        let slots = self.slots.as_slice();
+        let (number, slot) = locate(&self.ids, slots, id)?;
+        Some((number, slot.shape))
     }
 
     /// The id and the shape of the feature with this number.
@@ -148,16 +151,19 @@ impl Features {
         ensures found { IdAndShapeAre result (with_number number self.now.list) }
         ensures layer { IsLayer self.now.list }
     {
-        let slot = (*self.slots.get(number as usize)?)?;
+        let entry = self.slots.get(number as usize)?;
+        let slot = (*entry)?;
         let (id, _) = self.ids.at(slot.place)?;
-        Some((id.as_str(), slot.shape))
+        let text = id.as_str();
+        Some((text, slot.shape))
     }
 
     /// The shape of the feature with this number, which is found without its id.
     pub(crate) fn shape(&self, number: u32) -> Option<Shape>
         ensures { result ≡ option_map (λ f. f.shape) (with_number number self.now.list) }
     {
-        let slot = (*self.slots.get(number as usize)?)?;
+        let entry = self.slots.get(number as usize)?;
+        let slot = (*entry)?;
         Some(slot.shape)
     }
 
@@ -166,7 +172,8 @@ impl Features {
         ensures features { result ≡ self.now.list.features }
         ensures layer { IsLayer self.now.list }
     {
-        Iter::new(&self.ids, self.slots.as_slice())
+        let slots = self.slots.as_slice();
+        Iter::new(&self.ids, slots)
     }
 
     /// How many features there are, in all and of each dimension, beside this height.
@@ -192,7 +199,8 @@ impl Features {
         ensures deleted { self.new.list ≡ deleted self.old.list id.now }
         ensures none { IfNone result (self.new.list ≡ self.old.list) }
     {
-        let (number, slot) = locate(&self.ids, self.slots.as_slice(), id)?;
+        let slots = self.slots.as_slice();
+        let (number, slot) = locate(&self.ids, slots, id)?;
         self.slots[number as usize] = None;
         self.ids.set_number(slot.place, None);
         self.count -= 1;
@@ -235,7 +243,8 @@ impl Features {
     {
         let number = self.slots.len() as u32;
         // From here to the insertion of the id nothing changes that a refusal would have to undo.
-        if self.slots.reserve(1).is_err() {
+        let reserved = self.slots.reserve(1);
+        if reserved.is_err() {
             return self.double_or_refused(id.as_str());
         }
         let (place, before) = self.ids.insert(id, Some(number))?;

@@ -72,7 +72,8 @@ fn search(rising: &[NumberedId], id: &str) -> Option<usize>
     requires { Rises rising.now }
     ensures { result ≡ position (has_text id.now) (keys_of rising.now) }
 {
-    rising.binary_search_by(|entry| compare(entry, id)).ok()
+    let found = rising.binary_search_by(|entry| compare(entry, id));
+    found.ok()
 }
 
 /// Whether this id comes after all of a list that rises.
@@ -124,6 +125,7 @@ impl Ids {
     ghost use Rattle.layer_core.specs.RisingIds.{HasRoom};
 
     /// No ids. `state` hashes those that a map gets.
+    #[tactic(auto, using(crate::proofs::Rules::no_ids))]
     pub(crate) fn new(alloc: Global, state: RandomState) -> Ids
         ensures { result.entries ≡ [] }
     {
@@ -134,6 +136,7 @@ impl Ids {
     }
 
     /// No ids, and room for so many that rise.
+    #[tactic(auto, using(crate::proofs::Rules::no_ids))]
     pub(crate) fn with_room(
         alloc: Global,
         state: RandomState,
@@ -189,6 +192,7 @@ impl Ids {
     }
 
     /// Gives the id at this place another number, or none.
+    #[tactic(auto, using(crate::proofs::Rules::set_number))]
     pub(crate) fn set_number(&mut self, place: usize, number: Option<u32>)
         requires { place < length self.old.entries }
         ensures { self.new.entries ≡ set_value_at self.old.entries place number }

@@ -71,8 +71,9 @@ impl<'a> Iterator for Iter<'a> {
             self.slots = others;
             if let Some(slot) = first {
                 let (id, _) = self.ids.at(slot.place)?;
+                let text = id.as_str();
                 return Some(FeatureRef {
-                    id: id.as_str(),
+                    id: text,
                     number,
                     shape: slot.shape,
                 });

@@ -230,7 +230,8 @@ impl Layer {
         if !is_id(id) {
             return Err(LayerFault::BadId);
         }
-        let (number, shape) = self.features.find(id).ok_or(LayerFault::NoSuchId)?;
+        let found = self.features.find(id);
+        let (number, shape) = found.ok_or(LayerFault::NoSuchId)?;
         // The tree holds an entry for each feature, so it always answers true.
         let _held = self.tree.remove(&Entry { shape, number })?;
         let _shape = self.features.delete(id);

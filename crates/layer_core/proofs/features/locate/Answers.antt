@@ -12,39 +12,39 @@ pub returns-in_err-number-clause-found : goal.returns-in_err-number-clause-found
 returns-in_err-number-clause-found c =
     rw c.from_residual-in_err-number.ensures
     (absent_from_deleted c.args.ids.now.entries c.args.slots.now c.requires c.args.id.now c.in_ok-place.ensures.unique c.in_ok-place.place
-    (sym c.in_ok-place.ensures.place) (c.number.ensures ∙ ap Some c.in_err-number.was))
+    (sym c.in_ok-place.ensures.place) c.in_err-number.ensures)
 
-pub returns-in_err-get-clause-found : goal.returns-in_err-get-clause-found
-returns-in_err-get-clause-found c =
+pub returns-in_err-entry-clause-found : goal.returns-in_err-entry-clause-found
+returns-in_err-entry-clause-found c =
     let slot = slot_from_number c.args.ids.now.entries c.args.slots.now c.requires c.args.id.now c.in_ok-place.place c.in_ok-number.number
-    (c.number.ensures ∙ ap Some c.in_ok-number.was) in
-    let none = copied-get c.args.slots.now c.in_ok-number.number None c.in_err-get.ensures.lookup in
+    c.in_ok-number.ensures in
+    let none = copied-get c.args.slots.now c.in_ok-number.number None c.in_err-entry.ensures.lookup in
     let some = slot.1 in
     cc
 
 pub returns-in_err-slot-clause-found : goal.returns-in_err-slot-clause-found
 returns-in_err-slot-clause-found c =
     let slot = slot_from_number c.args.ids.now.entries c.args.slots.now c.requires c.args.id.now c.in_ok-place.place c.in_ok-number.number
-    (c.number.ensures ∙ ap Some c.in_ok-number.was) in
-    let none = copied-get c.args.slots.now c.in_ok-number.number (Some c.in_ok-get.field-0) c.in_ok-get.ensures.lookup in
+    c.in_ok-number.ensures in
+    let none = copied-get c.args.slots.now c.in_ok-number.number (Some c.in_ok-entry.entry) c.in_ok-entry.ensures.lookup in
     let some = slot.1 in
     let empty = c.in_err-slot.was in
     cc
 
 pub returns-clause-found : goal.returns-clause-found
 returns-clause-found c =
-    let slot = copied-get c.args.slots.now c.in_ok-number.number (Some c.in_ok-get.field-0) c.in_ok-get.ensures.lookup in
+    let slot = copied-get c.args.slots.now c.in_ok-number.number (Some c.in_ok-entry.entry) c.in_ok-entry.ensures.lookup in
     only_from_found c.args.ids.now.entries c.args.slots.now c.requires c.args.id.now c.in_ok-place.ensures.unique c.in_ok-place.place c.in_ok-number.number
     c.in_ok-slot.slot
-    (sym c.in_ok-place.ensures.place) (c.number.ensures ∙ ap Some c.in_ok-number.was) (sym slot ∙ ap Some c.in_ok-slot.was)
+    (sym c.in_ok-place.ensures.place) c.in_ok-number.ensures (sym slot ∙ ap Some c.in_ok-slot.was)
 
 pub returns-clause-place : goal.returns-clause-place
 returns-clause-place c =
     let slot = slot_from_number c.args.ids.now.entries c.args.slots.now c.requires c.args.id.now c.in_ok-place.place c.in_ok-number.number
-    (c.number.ensures ∙ ap Some c.in_ok-number.was) in
-    let here = copied-get c.args.slots.now c.in_ok-number.number (Some c.in_ok-get.field-0) c.in_ok-get.ensures.lookup in
+    c.in_ok-number.ensures in
+    let here = copied-get c.args.slots.now c.in_ok-number.number (Some c.in_ok-entry.entry) c.in_ok-entry.ensures.lookup in
     let some = slot.1 in
     let filled = c.in_ok-slot.was in
     let same : slot.0 ≡ c.in_ok-slot.slot = cc in
     let place = ap (λ (s : Slot). s.place) same in
-    rw (sym place ∙ slot.2) (c.number.ensures ∙ ap Some c.in_ok-number.was)
+    rw (sym place ∙ slot.2) c.in_ok-number.ensures

@@ -9,19 +9,19 @@ use Rattle.layer_core.proofs.features.Features.delete.Goals as goal
 
 pub returns-in_err-number-clause-shape : goal.returns-in_err-number-clause-shape
 returns-in_err-number-clause-shape c =
-    let absent = rw c.as_slice.ensures.value at c.in_err-number.ensures.found in
+    let absent = rw c.as_slice-slots.ensures.value at c.in_err-number.ensures.found in
     let none = with_id-absent (keys_of c.self.inside.ids.entries) c.self.inside.slots.items c.args.id.now absent in
     rw (c.from_residual.ensures, ← c.self.view_is) (sym (ap (option_map (λ f. f.shape)) none))
 
 pub returns-in_err-number-clause-deleted : goal.returns-in_err-number-clause-deleted
 returns-in_err-number-clause-deleted c =
-    let absent = rw c.as_slice.ensures.value at c.in_err-number.ensures.found in
+    let absent = rw c.as_slice-slots.ensures.value at c.in_err-number.ensures.found in
     rw (← c.self.view_is) (sym (deleted-absent (keys_of c.self.inside.ids.entries) c.self.inside.slots.items c.args.id.now absent))
 
 pub index_mut-requires : goal.index_mut-requires
 index_mut-requires c =
-    let within = slice_get_within c.as_slice.result.now c.in_ok-number.number (Some c.in_ok-number.slot) c.in_ok-number.ensures.found.here in
-    omega (arith, c.as_slice.ensures.len)
+    let within = slice_get_within c.as_slice-slots.result.now c.in_ok-number.number (Some c.in_ok-number.slot) c.in_ok-number.ensures.found.here in
+    omega (arith, c.as_slice-slots.ensures.len)
 
 pub set_number-requires : goal.set_number-requires
 set_number-requires c =
@@ -30,27 +30,27 @@ set_number-requires c =
 
 pub overflow_sub-self : goal.overflow_sub-self
 overflow_sub-self c =
-    let only = rw c.as_slice.ensures.value at c.in_ok-number.ensures.found in
+    let only = rw c.as_slice-slots.ensures.value at c.in_ok-number.ensures.found in
     let some = (StandForLayer-deleted c.self.inside.ids.entries c.self.inside.slots.items c.self.inside.count c.in_ok-number.number c.in_ok-number.slot
     c.self.invariant only.here c.in_ok-number.ensures.place).0 in
     omega arith
 
 pub invariant_of-self : goal.invariant_of-self
 invariant_of-self c =
-    let only = rw c.as_slice.ensures.value at c.in_ok-number.ensures.found in
+    let only = rw c.as_slice-slots.ensures.value at c.in_ok-number.ensures.found in
     rw c.set_number.ensures
     (StandForLayer-deleted c.self.inside.ids.entries c.self.inside.slots.items c.self.inside.count c.in_ok-number.number c.in_ok-number.slot
     c.self.invariant only.here c.in_ok-number.ensures.place).1
 
 pub returns-clause-shape : goal.returns-clause-shape
 returns-clause-shape c =
-    let only = rw c.as_slice.ensures.value at c.in_ok-number.ensures.found in
+    let only = rw c.as_slice-slots.ensures.value at c.in_ok-number.ensures.found in
     let some = with_id-only (keys_of c.self.inside.ids.entries) c.self.inside.slots.items c.args.id.now c.in_ok-number.number c.in_ok-number.slot only in
     rw (← c.self.view_is) (sym (ap (option_map (λ f. f.shape)) some))
 
 pub returns-clause-deleted : goal.returns-clause-deleted
 returns-clause-deleted c =
-    let only = rw c.as_slice.ensures.value at c.in_ok-number.ensures.found in
+    let only = rw c.as_slice-slots.ensures.value at c.in_ok-number.ensures.found in
     let after = deleted-only (keys_of c.self.inside.ids.entries) c.self.inside.slots.items c.args.id.now c.in_ok-number.number c.in_ok-number.slot only in
     rw (c.set_number.ensures, ← c.self.view_is) (ap (λ ks. contents_of ks (set c.self.inside.slots.items c.in_ok-number.number None))
     (keys-set c.self.inside.ids.entries c.in_ok-number.slot.place None) ∙ sym after)

@@ -1,8 +1,13 @@
-use Rattle.std.proofs.Common.{◌≡◌, ◌∙◌, ◌<◌, not, sym, ap, Some, None, length, is_some, arith, rules}
-use Rattle.layer_core.specs.Ids.{id_bytes}
+use Rattle.std.proofs.Common.{◌≡◌, ◌∙◌, ◌<◌, ℕ, true, List, Option, not, refl, sym, ap, Some, None, length, is_some, arith, rules}
+use Rattle.indexmap.specs.IndexMap.{insert_entry, set_value_at}
+use Rattle.layer_core.specs.declared.id.Id.{Id}
+use Rattle.layer_core.specs.Ids.{id_bytes, id_eq}
 use Rattle.layer_core.specs.Layers.{with_id}
 use Rattle.layer_core.specs.Limits.{most_features}
+use Rattle.std.specs.Map.{keys_of}
 use Rattle.std.specs.Option.{option_flatten}
+use Rattle.layer_core.specs.MapAndSlots.{StandForLayer, contents_of}
+use Rattle.layer_core.specs.RisingIds.{place_and_number}
 use Rattle.layer_core.specs.declared.features.Slot.{Slot}
 use Rattle.layer_core.proofs.IdLemmas.{inserted_within}
 use Rattle.layer_core.proofs.MapLemmas.{InsertsNew, count-le, inserts_new, inserts_double, with_id-missing}
@@ -11,34 +16,36 @@ use Rattle.layer_core.proofs.features.Features.insert.Goals as goal
 pub set_number-requires : goal.set_number-requires
 set_number-requires c =
     let done = c.in_ok-place.ensures in
-    rw (ap (λ r. r.0) done.before, done.after) (inserted_within c.self.inside.ids.entries c.args.id (Some c.len-number.result))
+    rw (ap (λ r. r.0) done.before, done.after) (inserted_within c.self.inside.ids.entries c.args.id _)
+
+-- what it does, where the id has a feature
+has_feature : (es entries : List (Id × Option ℕ)) (slots : List (Option Slot)) (count : ℕ) → StandForLayer es slots count → (k : Id) (slot : Slot)
+    (number live : ℕ) (before : Option (Option ℕ)) → entries ≡ insert_entry id_eq es k (Some number)
+    → (slot.place, before) ≡ place_and_number k es → Some live ≡ option_flatten before
+    → (set_value_at entries slot.place (Some live) ≡ es) × (is_some (with_id (id_bytes k) (contents_of (keys_of es) slots)) ≡ true)
+has_feature es entries slots count kept k slot number live before after inserted held =
+    rw after (inserts_double es slots count kept k slot (Some number) live (ap (λ r. r.0) inserted) (rw (ap (λ r. r.1) inserted) at held))
 
 pub invariant_of-self-in-Some : goal.invariant_of-self-in-Some
 invariant_of-self-in-Some c =
     let done = c.in_ok-place.ensures in
     let slot : Slot = record { place = c.in_ok-place.place; shape = c.args.shape } in
-    let held = rw (ap (λ r. r.1) done.before) at c.in-Some.ensures in
-    let back = (inserts_double c.self.inside.ids.entries c.self.inside.slots.items c.self.inside.count c.self.invariant c.args.id slot
-    (Some c.len-number.result) c.in-Some.live (ap (λ r. r.0) done.before) held).0 in
-    rw (c.set_number.ensures, done.after, back, c.reserve.ensures.items) c.self.invariant
+    let back = (has_feature _ _ _ _ c.self.invariant c.args.id slot _ c.in-Some.live _ done.after done.before c.in-Some.ensures).0 in
+    rw (c.set_number.ensures, back, c.reserve-reserved.ensures.items) c.self.invariant
 
 pub returns-in-Some-clause-absent : goal.returns-in-Some-clause-absent
 returns-in-Some-clause-absent c =
     let done = c.in_ok-place.ensures in
     let slot : Slot = record { place = c.in_ok-place.place; shape = c.args.shape } in
-    let held = rw (ap (λ r. r.1) done.before) at c.in-Some.ensures in
-    let there = (inserts_double c.self.inside.ids.entries c.self.inside.slots.items c.self.inside.count c.self.invariant c.args.id slot
-    (Some c.len-number.result) c.in-Some.live (ap (λ r. r.0) done.before) held).1 in
+    let there = (has_feature _ _ _ _ c.self.invariant c.args.id slot _ c.in-Some.live _ done.after done.before c.in-Some.ensures).1 in
     rw (← c.self.view_is) (sym (ap not there))
 
 pub returns-in-Some-clause-inserted : goal.returns-in-Some-clause-inserted
 returns-in-Some-clause-inserted c =
     let done = c.in_ok-place.ensures in
     let slot : Slot = record { place = c.in_ok-place.place; shape = c.args.shape } in
-    let held = rw (ap (λ r. r.1) done.before) at c.in-Some.ensures in
-    let back = (inserts_double c.self.inside.ids.entries c.self.inside.slots.items c.self.inside.count c.self.invariant c.args.id slot
-    (Some c.len-number.result) c.in-Some.live (ap (λ r. r.0) done.before) held).0 in
-    rw (c.set_number.ensures, done.after, back, c.reserve.ensures.items) (ap (λ f. f.list) c.self.view_is)
+    let back = (has_feature _ _ _ _ c.self.invariant c.args.id slot _ c.in-Some.live _ done.after done.before c.in-Some.ensures).0 in
+    rw (c.set_number.ensures, back, c.reserve-reserved.ensures.items) (ap (λ f. f.list) c.self.view_is)
 
 pub returns-in_err-place-clause-refused : goal.returns-in_err-place-clause-refused
 returns-in_err-place-clause-refused c =
@@ -47,27 +54,38 @@ returns-in_err-place-clause-refused c =
     let absent = ap (λ f. with_id (id_bytes c.args.id) f.list) (sym c.self.view_is) ∙ none in
     search rules
 
+-- the entries, where the number that was inserted is the next one
+numbered : (es : List (Id × Option ℕ)) (entries : List (Id × Option ℕ)) (k : Id) (number next : ℕ) → entries ≡ insert_entry id_eq es k (Some number)
+    → number ≡ next → entries ≡ insert_entry id_eq es k (Some next)
+numbered es entries k number next after is = after ∙ ap (λ n. insert_entry id_eq es k (Some n)) is
+
 -- what the insertion does, where the id had no feature
 new_feature :
-    (c : goal.After-self-1) → InsertsNew c.self.inside.ids.entries c.insert.new.self.entries c.self.inside.slots.items c.self.inside.count
-    (id_bytes c.args.id) (record { place = c.in_ok-place.place; shape = c.args.shape })
+    (c : goal.After-self-1) → InsertsNew c.self.inside.ids.entries (insert_entry id_eq c.self.inside.ids.entries c.args.id (Some (length c.self.inside.slots.items)))
+    c.self.inside.slots.items c.self.inside.count (id_bytes c.args.id) (record { place = c.in_ok-place.place; shape = c.args.shape })
 new_feature c =
     let done = c.in_ok-place.ensures in
     let slot : Slot = record { place = c.in_ok-place.place; shape = c.args.shape } in
-    let none : option_flatten c.in_ok-place.before ≡ None = sym c.flatten.ensures ∙ c.in-None.is in
-    let number : c.len-number.result ≡ length c.self.inside.slots.items = search rules in
+    let after = numbered c.self.inside.ids.entries _ c.args.id _ (length c.self.inside.slots.items) done.after (search rules) in
+    let none : option_flatten c.in_ok-place.before ≡ None = sym c.in-None.ensures in
     let room : length c.self.inside.slots.items < most_features = let few = rw (← c.self.view_is) at c.requires in few in
-    rw done.after (inserts_new c.self.inside.ids.entries c.self.inside.slots.items c.self.inside.count c.self.invariant c.args.id slot
-    (Some c.len-number.result) (ap Some number) (ap (λ r. r.0) done.before) (rw done.after at done.unique) (rw (ap (λ r. r.1) done.before) at none) room)
+    inserts_new c.self.inside.ids.entries c.self.inside.slots.items c.self.inside.count c.self.invariant c.args.id slot
+    _ refl (ap (λ r. r.0) done.before) (rw after at done.unique) (rw (ap (λ r. r.1) done.before) at none) room
 
 pub invariant_of-self-in-None : goal.invariant_of-self-in-None
-invariant_of-self-in-None c = rw (c.push_reserved.ensures.items, c.reserve.ensures.items) (new_feature c).kept
+invariant_of-self-in-None c =
+    let done = c.in_ok-place.ensures in
+    let after = numbered c.self.inside.ids.entries _ c.args.id _ (length c.self.inside.slots.items) done.after (search rules) in
+    rw (c.push_reserved.ensures.items, c.reserve-reserved.ensures.items, after) (new_feature c).kept
 
 pub returns-in-None-clause-absent : goal.returns-in-None-clause-absent
 returns-in-None-clause-absent c = rw (← c.self.view_is) (sym (ap (λ f. not (is_some f)) (new_feature c).absent))
 
 pub returns-in-None-clause-inserted : goal.returns-in-None-clause-inserted
-returns-in-None-clause-inserted c = rw (← c.self.view_is, c.push_reserved.ensures.items, c.reserve.ensures.items) (new_feature c).grows
+returns-in-None-clause-inserted c =
+    let done = c.in_ok-place.ensures in
+    let after = numbered c.self.inside.ids.entries _ c.args.id _ (length c.self.inside.slots.items) done.after (search rules) in
+    rw (← c.self.view_is, c.push_reserved.ensures.items, c.reserve-reserved.ensures.items, after) (new_feature c).grows
 
 pub overflow_add-self : goal.overflow_add-self
 overflow_add-self c =

@@ -3,7 +3,7 @@ use Rattle.layer_core.proofs.features.Features.iter.Goals as goal
 
 pub new-requires : goal.new-requires
 new-requires c =
-    rw c.as_slice.ensures.value (IsWalk-contents c.self.inside.ids.entries c.self.inside.slots.items c.self.inside.count c.self.invariant)
+    rw c.as_slice-slots.ensures.value (IsWalk-contents c.self.inside.ids.entries c.self.inside.slots.items c.self.inside.count c.self.invariant)
 
 pub returns-clause-layer : goal.returns-clause-layer
 returns-clause-layer c =

@@ -7,10 +7,10 @@ use Rattle.layer_core.proofs.SlotLemmas.{feature_in}
 use Rattle.layer_core.proofs.MapLemmas.{with_number-contents}
 use Rattle.layer_core.proofs.features.Features.shape.Goals as goal
 
-pub returns-in_err-get : goal.returns-in_err-get
-returns-in_err-get c =
+pub returns-in_err-entry : goal.returns-in_err-entry
+returns-in_err-entry c =
     let slots = c.self.inside.slots.items in
-    let empty = copied-get c.deref.result.now c.args.number None c.in_err-get.ensures.lookup ∙ ap (λ xs. slice_get xs c.args.number) c.deref.ensures.value in
+    let empty = copied-get c.deref.result.now c.args.number None c.in_err-entry.ensures.lookup ∙ ap (λ xs. slice_get xs c.args.number) c.deref.ensures.value in
     let none = with_number-contents (keys_of c.self.inside.ids.entries) slots c.args.number
     ∙ ap (feature_in (ids_of (keys_of c.self.inside.ids.entries)) c.args.number) (sym empty) in
     rw (c.from_residual.ensures, ← c.self.view_is) (sym (ap (option_map (λ f. f.shape)) none))
@@ -18,7 +18,7 @@ returns-in_err-get c =
 pub returns-in_err-slot : goal.returns-in_err-slot
 returns-in_err-slot c =
     let slots = c.self.inside.slots.items in
-    let found = copied-get c.deref.result.now c.args.number (Some c.in_ok-get.field-0) c.in_ok-get.ensures.lookup
+    let found = copied-get c.deref.result.now c.args.number (Some c.in_ok-entry.entry) c.in_ok-entry.ensures.lookup
     ∙ ap (λ xs. slice_get xs c.args.number) c.deref.ensures.value in
     let empty = sym found ∙ ap Some c.in_err-slot.was in
     let none = with_number-contents (keys_of c.self.inside.ids.entries) slots c.args.number ∙ ap (feature_in (ids_of (keys_of c.self.inside.ids.entries)) c.args.number) empty in
@@ -27,7 +27,7 @@ returns-in_err-slot c =
 pub returns : goal.returns
 returns c =
     let slots = c.self.inside.slots.items in
-    let found = copied-get c.deref.result.now c.args.number (Some c.in_ok-get.field-0) c.in_ok-get.ensures.lookup
+    let found = copied-get c.deref.result.now c.args.number (Some c.in_ok-entry.entry) c.in_ok-entry.ensures.lookup
     ∙ ap (λ xs. slice_get xs c.args.number) c.deref.ensures.value in
     let filled = sym found ∙ ap Some c.in_ok-slot.was in
     let some = with_number-contents (keys_of c.self.inside.ids.entries) slots c.args.number ∙ ap (feature_in (ids_of (keys_of c.self.inside.ids.entries)) c.args.number) filled in

@@ -29,7 +29,7 @@ returns-in-Some-first-clause-steps c =
     let n = c.loop-first.self-inside.number in
     let left = rw (c.in-Some.ensures.cases.0, c.in-Some-first.is) at c.loop-first.invariant.0 in
     let first = features-first ids n c.in-Some-first.slot c.in-Some.others.now in
-    let id = c.as_str.ensures ∙ sym (id-placed es c.in-Some-first.slot.place c.in_ok-id.id.now c.in_ok-id.field-0-1.now c.in_ok-id.ensures.entry) in
+    let id = c.as_str-text.ensures ∙ sym (id-placed es c.in-Some-first.slot.place c.in_ok-id.id.now c.in_ok-id.field-0-1.now c.in_ok-id.ensures.entry) in
     rw (← c.self.view_is) (sym left ∙ first
     ∙ (λ i. record { id = sym id i; number = n; shape = c.in-Some-first.slot.shape } ∷ features_from ids (n + 1) c.in-Some.others.now))
 

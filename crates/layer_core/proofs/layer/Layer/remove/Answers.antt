@@ -6,12 +6,12 @@ pub invariant_of-self-2 : goal.invariant_of-self-2
 invariant_of-self-2 c =
     let list = c.self.inside.features.value.list in
     let root = c.self.inside.tree.value in
-    let is_layer = rw c.deref.ensures at c.find.ensures.layer in
-    let told : c.find.result ≡ Some (c.in_ok-number.number, c.in_ok-number.shape) = search rules in
-    let found = rw (told, c.deref.ensures) at c.find.ensures.found in
+    let is_layer = rw c.deref.ensures at c.find-found.ensures.layer in
+    let told : c.find-found.result ≡ Some (c.in_ok-number.number, c.in_ok-number.shape) = search rules in
+    let found = rw (told, c.deref.ensures) at c.find-found.ensures.found in
     let there = found-contains list root c.args.id.now c.in_ok-number.number c.in_ok-number.shape is_layer c.self.invariant found in
     let held = rw c.deref_mut.ensures.value at c.in_ok-_held.ensures.held in
     let loses = rw c.deref_mut.ensures.value at c.in_ok-_held.ensures.loses in
     rw (c.delete-shape.ensures.deleted, c.deref_mut-2.ensures.value)
-    (deleted-exact list root c.args.id.now c.in_ok-number.number c.in_ok-number.shape is_layer c.self.invariant found c.remove.new.self
+    (deleted-exact list root c.args.id.now c.in_ok-number.number c.in_ok-number.shape is_layer c.self.invariant found _
     (loses (held.1 there)))
