@@ -1,10 +1,14 @@
 -- The lemmas by which the search proves a function, where it takes several.
-use Rattle.std.proofs.Common.{◌≡◌, ℕ, ◌+◌, ◌<◌, List, [], ◌++◌, Option, set, get_or, length, refl, sym}
+use Rattle.std.proofs.Common.{◌≡◌, ℕ, ◌+◌, ◌<◌, List, [], ◌++◌, Option, Some, set, get_or, slice_get, length, refl, sym}
 use Rattle.std.specs.List.{IsDistinct}
-use Rattle.std.specs.Map.{keys_of}
+use Rattle.std.specs.Map.{keys_of, values_of}
+use Rattle.std.proofs.lemmas.Option.{slice_get_within}
 use Rattle.indexmap.specs.IndexMap.{set_value_at}
 use Rattle.layer_core.proofs.IdLemmas.{AreApart-empty, AreApart-set_sooner, AreApart-set_later, set-entry, set-sooner, set-later}
+use Rattle.layer_core.proofs.MapLemmas.{entry_of}
+use Rattle.layer_core.specs.declared.features.Slot.{Slot}
 use Rattle.layer_core.specs.declared.id.Id.{Id}
+use Rattle.layer_core.specs.MapAndSlots.{AreInverse}
 use Rattle.layer_core.specs.Ids.{id_eq}
 use Rattle.layer_core.specs.RisingIds.{AreApart, Rises}
 
@@ -32,3 +36,10 @@ pub both_later : (xs ys es : List (Id × Option ℕ)) (i j : ℕ) (w : Option �
 both_later xs ys es i j w are at = rw (← are, ← at) (sym (set-later xs ys j w))
 
 pub ruleset set_number = (rises_sooner, distinct_sooner, both_sooner, AreApart-set_later, both_later)
+
+-- the slots of a table name places of ids
+pub walk_placed : (es : List (Id × Option ℕ)) (slots : List (Option Slot)) → AreInverse (values_of es) slots → (k : ℕ) (slot : Slot)
+    → slice_get slots k ≡ Some (Some slot) → slot.place < length es
+walk_placed es slots table k slot here = let entry = entry_of es slots table k slot here in slice_get_within es slot.place entry.0 entry.1
+
+pub ruleset iter = (walk_placed)

@@ -168,6 +168,7 @@ impl Features {
     }
 
     /// The features in the order of their numbers.
+    #[tactic(auto, using(crate::proofs::Rules::iter))]
     pub(crate) fn iter(&self) -> Iter<'_>
         ensures features { result ≡ self.now.list.features }
         ensures layer { IsLayer self.now.list }

@@ -82,7 +82,7 @@ fn comes_after(rising: &[NumberedId], id: &str) -> bool
     ensures { IsTrue result ↔ ComesAfter rising.now id.now }
 {
     match rising.last() {
-        Some(last) => compare(last, id) == Ordering::Less,
+        Some(last) => compare(last, id).is_lt(),
         None => true,
     }
 }
@@ -227,8 +227,9 @@ impl Ids {
         ensures succeeds { HasRoom self.old (id_bytes id) → IsOk result }
     {
         if self.others.is_empty() && comes_after(self.rising.as_slice(), id.as_str()) {
+            let place = self.rising.len();
             self.rising.push((id, number))?;
-            return Ok((self.rising.len() - 1, None));
+            return Ok((place, None));
         }
         if let Some(place) = search(self.rising.as_slice(), id.as_str()) {
             let before = mem::replace(&mut self.rising[place].1, number);

@@ -4,6 +4,7 @@ use Rattle.layer_core.specs.declared.id.Id.{Id}
 use Rattle.layer_core.specs.Ids.{id_bytes, id_eq}
 use Rattle.layer_core.specs.Layers.{with_id}
 use Rattle.layer_core.specs.Limits.{most_features}
+use Rattle.std.specs.List.{IsDistinct}
 use Rattle.std.specs.Map.{keys_of}
 use Rattle.std.specs.Option.{option_flatten}
 use Rattle.layer_core.specs.MapAndSlots.{StandForLayer, contents_of}
@@ -54,38 +55,39 @@ returns-in_err-place-clause-refused c =
     let absent = ap (λ f. with_id (id_bytes c.args.id) f.list) (sym c.self.view_is) ∙ none in
     search rules
 
--- the entries, where the number that was inserted is the next one
-numbered : (es : List (Id × Option ℕ)) (entries : List (Id × Option ℕ)) (k : Id) (number next : ℕ) → entries ≡ insert_entry id_eq es k (Some number)
-    → number ≡ next → entries ≡ insert_entry id_eq es k (Some next)
-numbered es entries k number next after is = after ∙ ap (λ n. insert_entry id_eq es k (Some n)) is
-
 -- what the insertion does, where the id had no feature
-new_feature :
-    (c : goal.After-self-1) → InsertsNew c.self.inside.ids.entries (insert_entry id_eq c.self.inside.ids.entries c.args.id (Some (length c.self.inside.slots.items)))
-    c.self.inside.slots.items c.self.inside.count (id_bytes c.args.id) (record { place = c.in_ok-place.place; shape = c.args.shape })
-new_feature c =
-    let done = c.in_ok-place.ensures in
-    let slot : Slot = record { place = c.in_ok-place.place; shape = c.args.shape } in
-    let after = numbered c.self.inside.ids.entries _ c.args.id _ (length c.self.inside.slots.items) done.after (search rules) in
-    let none : option_flatten c.in_ok-place.before ≡ None = sym c.in-None.ensures in
-    let room : length c.self.inside.slots.items < most_features = let few = rw (← c.self.view_is) at c.requires in few in
-    inserts_new c.self.inside.ids.entries c.self.inside.slots.items c.self.inside.count c.self.invariant c.args.id slot
-    _ refl (ap (λ r. r.0) done.before) (rw after at done.unique) (rw (ap (λ r. r.1) done.before) at none) room
+new_feature : (es entries : List (Id × Option ℕ)) (slots : List (Option Slot)) (count : ℕ) → StandForLayer es slots count → (k : Id) (slot : Slot)
+    (number : ℕ) (before : Option (Option ℕ)) → entries ≡ insert_entry id_eq es k (Some number) → number ≡ length slots
+    → IsDistinct id_eq (keys_of entries) → (slot.place, before) ≡ place_and_number k es → None ≡ option_flatten before → length slots < most_features
+    → InsertsNew es entries slots count (id_bytes k) slot
+new_feature es entries slots count kept k slot number before after is distinct inserted none few =
+    rw after
+    (inserts_new es slots count kept k slot (Some number) (ap Some is) (ap (λ r. r.0) inserted) (rw after at distinct)
+    (sym (none ∙ ap option_flatten (ap (λ r. r.1) inserted))) few)
 
 pub invariant_of-self-in-None : goal.invariant_of-self-in-None
 invariant_of-self-in-None c =
     let done = c.in_ok-place.ensures in
-    let after = numbered c.self.inside.ids.entries _ c.args.id _ (length c.self.inside.slots.items) done.after (search rules) in
-    rw (c.push_reserved.ensures.items, c.reserve-reserved.ensures.items, after) (new_feature c).kept
+    let slot : Slot = record { place = c.in_ok-place.place; shape = c.args.shape } in
+    let few = rw (← c.self.view_is) at c.requires in
+    let new = new_feature _ _ _ _ c.self.invariant c.args.id slot _ _ done.after (search rules) done.unique done.before c.in-None.ensures few in
+    rw (c.push_reserved.ensures.items, c.reserve-reserved.ensures.items) new.kept
 
 pub returns-in-None-clause-absent : goal.returns-in-None-clause-absent
-returns-in-None-clause-absent c = rw (← c.self.view_is) (sym (ap (λ f. not (is_some f)) (new_feature c).absent))
+returns-in-None-clause-absent c =
+    let done = c.in_ok-place.ensures in
+    let slot : Slot = record { place = c.in_ok-place.place; shape = c.args.shape } in
+    let few = rw (← c.self.view_is) at c.requires in
+    let new = new_feature _ _ _ _ c.self.invariant c.args.id slot _ _ done.after (search rules) done.unique done.before c.in-None.ensures few in
+    rw (← c.self.view_is) (sym (ap (λ f. not (is_some f)) new.absent))
 
 pub returns-in-None-clause-inserted : goal.returns-in-None-clause-inserted
 returns-in-None-clause-inserted c =
     let done = c.in_ok-place.ensures in
-    let after = numbered c.self.inside.ids.entries _ c.args.id _ (length c.self.inside.slots.items) done.after (search rules) in
-    rw (← c.self.view_is, c.push_reserved.ensures.items, c.reserve-reserved.ensures.items, after) (new_feature c).grows
+    let slot : Slot = record { place = c.in_ok-place.place; shape = c.args.shape } in
+    let few = rw (← c.self.view_is) at c.requires in
+    let new = new_feature _ _ _ _ c.self.invariant c.args.id slot _ _ done.after (search rules) done.unique done.before c.in-None.ensures few in
+    rw (← c.self.view_is, c.push_reserved.ensures.items, c.reserve-reserved.ensures.items) new.grows
 
 pub overflow_add-self : goal.overflow_add-self
 overflow_add-self c =

@@ -1,9 +1,5 @@
-use Rattle.layer_core.proofs.MapLemmas.{IsLayer-contents, IsWalk-contents}
+use Rattle.layer_core.proofs.MapLemmas.{IsLayer-contents}
 use Rattle.layer_core.proofs.features.Features.iter.Goals as goal
-
-pub new-requires : goal.new-requires
-new-requires c =
-    rw c.as_slice-slots.ensures.value (IsWalk-contents c.self.inside.ids.entries c.self.inside.slots.items c.self.inside.count c.self.invariant)
 
 pub returns-clause-layer : goal.returns-clause-layer
 returns-clause-layer c =
