@@ -65,7 +65,9 @@ fn execute<R: RandomSource + AllocGlobal + Threads + Wait + Sync, I: Inputs, O: 
 {
     match command {
         Command::Relate { a, b, scale } => {
-            run_relate(*scale, a.as_bytes(), b.as_bytes(), output)
+            let a = a.as_bytes();
+            let b = b.as_bytes();
+            run_relate(*scale, a, b, output)
         }
         Command::Join(join) => execute_join(rt, inputs, Product::Report, join, output),
         Command::Draw(join) => execute_join(rt, inputs, Product::Picture, join, output),

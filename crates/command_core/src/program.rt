@@ -31,7 +31,7 @@ pub fn run_program<
         E.written E.has_failed errors.old errors.new result }
 {
     match given_words(rt) {
-        Ok(words) => run_words(rt, words.as_slice(), inputs, output, errors),
+        Ok(words) => run_words(rt, &words, inputs, output, errors),
         Err(fault) => show_word_fault(&fault, output, errors),
     }
 }
@@ -64,7 +64,7 @@ pub fn run_words<
         E.written E.has_failed errors.old errors.new result }
 {
     match texts_of(rt.alloc(), words) {
-        Ok(words) => run_read(rt, words.as_slice(), inputs, output, errors),
+        Ok(words) => run_read(rt, &words, inputs, output, errors),
         Err(AllocError) => show_word_fault(&WordFault::Memory, output, errors),
     }
 }

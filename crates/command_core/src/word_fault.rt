@@ -46,9 +46,13 @@ pub fn word_line<S: Sink>(fault: &WordFault, sink: &mut S) -> Result<(), WriteFa
         }
         WordFault::AllowsDisjoint => {
             line.push("--relation: ");
-            line.push(AllowsDisjoint.text());
+            let text = AllowsDisjoint.text();
+            line.push(text);
         }
-        WordFault::Options(fault) => line.push(fault.text()),
+        WordFault::Options(fault) => {
+            let text = fault.text();
+            line.push(text);
+        }
         WordFault::Scale => line.push("--scale must be 0 to 6"),
         WordFault::Memory => line.push("no memory"),
     }

@@ -1,3 +1,4 @@
+use Rattle.std.proofs.Common.{rules}
 use Rattle.command_core.proofs.CommandLemmas.{relate_ends}
 use Rattle.command_core.proofs.LayerCommandLemmas.{layer_unready, window_reads_one, window_none_first, window_ran}
 use Rattle.command_core.proofs.LayerCommandLemmas.{stats_asks, bounds_asks, layer_none_first, layer_asked}
@@ -5,14 +6,14 @@ use Rattle.command_core.proofs.command.execute.Goals as goal
 
 pub returns-in-Relate : goal.returns-in-Relate
 returns-in-Relate g c =
-    relate_ends _ _ _ _ _ _ _ _ _ _ _ _ _ c.in-Relate.is c.as_bytes.ensures.value c.as_bytes-in-Relate.ensures.value
-    c.run_relate.ensures.writes c.run_relate.ensures.wkt c.run_relate.ensures.faults
+    relate_ends _ _ _ _ _ _ _ _ _ _ _ _ _ c.in-Relate.is c.as_bytes-a.ensures.value c.as_bytes-b.ensures.value (search rules) (search rules)
+    (search rules)
 
 pub returns-in-Join : goal.returns-in-Join
-returns-in-Join g c = rw c.in-Join.is c.execute_join.ensures
+returns-in-Join g c = rw c.in-Join.is (search rules)
 
 pub returns-in-Draw : goal.returns-in-Draw
-returns-in-Draw g c = rw c.in-Draw.is c.execute_join-in-Draw.ensures
+returns-in-Draw g c = rw c.in-Draw.is (search rules)
 
 pub returns-in_err-layer-in-Window : goal.returns-in_err-layer-in-Window
 returns-in_err-layer-in-Window g c =
@@ -36,16 +37,16 @@ pub returns-in_ok-layer-in-Window : goal.returns-in_ok-layer-in-Window
 returns-in_ok-layer-in-Window g c =
     rw c.in-Window.is
     (window_ran _ _ _ _ c.in-Window.scale c.in-Window.path c.in-Window.wkt _ _ _ _ _ c.as_bytes-wkt.ensures.value c.in_ok-layer-in-Window.ensures.ok
-    c.run_window.ensures.writes c.run_window.ensures.wkt c.run_window.ensures.fault c.run_window.ensures.faults)
+    (search rules) (search rules) (search rules) (search rules))
 
 pub returns-in_ok-layer-in-Stats : goal.returns-in_ok-layer-in-Stats
 returns-in_ok-layer-in-Stats g c =
     rw c.in-Stats.is
     (layer_asked (stats_asks c.in-Stats.scale c.in-Stats.path) _ _ _ _ _ _ _ _ c.in_ok-layer-in-Stats.ensures.ok
-    c.run_stats.ensures.writes c.run_stats.ensures.fault c.run_stats.ensures.faults)
+    (search rules) (search rules) (search rules))
 
 pub returns-in_ok-layer-in-Bounds : goal.returns-in_ok-layer-in-Bounds
 returns-in_ok-layer-in-Bounds g c =
     rw c.in-Bounds.is
     (layer_asked (bounds_asks c.in-Bounds.scale c.in-Bounds.path) _ _ _ _ _ _ _ _ c.in_ok-layer-in-Bounds.ensures.ok
-    c.run_bounds.ensures.writes c.run_bounds.ensures.fault c.run_bounds.ensures.faults)
+    (search rules) (search rules) (search rules))

@@ -1,3 +1,4 @@
+use Rattle.std.proofs.Common.{rules}
 use Rattle.command_core.proofs.JoinCommandLemmas.{not_opened, without_keys, product_reads, join_ran, draw_ran}
 use Rattle.command_core.proofs.command.execute_join.Goals as goal
 
@@ -14,11 +15,9 @@ returns-in_err-states g c =
 pub returns-in-Report : goal.returns-in-Report
 returns-in-Report g c =
     rw c.in-Report.is
-    (join_ran _ _ _ _ c.args.join.now _ _ _ _ _ c.run_join.result c.in_ok-sources.ensures.opened
-    c.run_join.ensures.writes c.run_join.ensures.fault c.run_join.ensures.faults)
+    (join_ran _ _ _ _ c.args.join.now _ _ _ _ _ _ c.in_ok-sources.ensures.opened (search rules) (search rules) (search rules))
 
 pub returns : goal.returns
 returns g c =
     rw c.in-Picture.is
-    (draw_ran _ _ _ _ c.args.join.now _ _ _ _ _ c.run_draw.result c.in_ok-sources.ensures.opened
-    c.run_draw.ensures.writes c.run_draw.ensures.fault c.run_draw.ensures.faults)
+    (draw_ran _ _ _ _ c.args.join.now _ _ _ _ _ _ c.in_ok-sources.ensures.opened (search rules) (search rules) (search rules))

@@ -1,4 +1,4 @@
-use Rattle.std.proofs.Common.{◌≡◌, ◌++◌, ◌∷◌, [], ap, codes, ◌∙◌}
+use Rattle.std.proofs.Common.{◌≡◌, ◌++◌, ◌∷◌, [], ap, codes, rules, ◌∙◌}
 use Rattle.join_core.specs.Lines.{line_of}
 use Rattle.command_core.specs.WordFaults.{word_fault_line}
 use Rattle.command_core.proofs.WordLemmas.{one_piece, two_pieces, ok_as, err_as}
@@ -11,13 +11,13 @@ returns-clause-ok g c =
       | in-Relation w ↦ rw (w.in-Relation.is, w.line-is) (two_pieces _ _ _ _ _ c.begun-line.ensures.text w.push.ensures.text w.push_mask_text.ensures.text)
       | in-AllowsDisjoint w ↦ rw (w.in-AllowsDisjoint.is, w.line-is)
           (two_pieces _ _ _ _ _ c.begun-line.ensures.text w.push-in-AllowsDisjoint.ensures.text w.push-in-AllowsDisjoint-2.ensures.text ∙ ap (λ t. line_of
-          (codes "--relation: " ++ t)) w.text.ensures)
-      | in-Options w ↦ rw (w.in-Options.is, w.line-is, ← w.text-in-Options.ensures.text)
+          (codes "--relation: " ++ t)) w.text-text.ensures)
+      | in-Options w ↦ rw (w.in-Options.is, w.line-is, ← w.text-text-in-Options.ensures.text)
           (one_piece _ _ _ c.begun-line.ensures.text w.push-in-Options.ensures.text)
       | in-Scale w ↦ rw (w.in-Scale.is, w.line-is) (one_piece _ _ _ c.begun-line.ensures.text w.push-in-Scale.ensures.text)
       | in-Memory w ↦ rw (w.in-Memory.is, w.line-is) (one_piece _ _ _ c.begun-line.ensures.text w.push-in-Memory.ensures.text)
     ] in
-    ok_as _ _ _ _ _ said c.write.ensures.ok
+    ok_as _ _ _ _ _ said (search rules)
 
 pub returns-clause-err : goal.returns-clause-err
 returns-clause-err g c =
@@ -25,10 +25,10 @@ returns-clause-err g c =
       | in-Relation w ↦ rw (w.in-Relation.is, w.line-is) (two_pieces _ _ _ _ _ c.begun-line.ensures.text w.push.ensures.text w.push_mask_text.ensures.text)
       | in-AllowsDisjoint w ↦ rw (w.in-AllowsDisjoint.is, w.line-is)
           (two_pieces _ _ _ _ _ c.begun-line.ensures.text w.push-in-AllowsDisjoint.ensures.text w.push-in-AllowsDisjoint-2.ensures.text ∙ ap (λ t. line_of
-          (codes "--relation: " ++ t)) w.text.ensures)
-      | in-Options w ↦ rw (w.in-Options.is, w.line-is, ← w.text-in-Options.ensures.text)
+          (codes "--relation: " ++ t)) w.text-text.ensures)
+      | in-Options w ↦ rw (w.in-Options.is, w.line-is, ← w.text-text-in-Options.ensures.text)
           (one_piece _ _ _ c.begun-line.ensures.text w.push-in-Options.ensures.text)
       | in-Scale w ↦ rw (w.in-Scale.is, w.line-is) (one_piece _ _ _ c.begun-line.ensures.text w.push-in-Scale.ensures.text)
       | in-Memory w ↦ rw (w.in-Memory.is, w.line-is) (one_piece _ _ _ c.begun-line.ensures.text w.push-in-Memory.ensures.text)
     ] in
-    err_as _ _ _ _ _ said c.write.ensures.err
+    err_as _ _ _ _ _ said (search rules)
