@@ -92,9 +92,10 @@ impl Layer {
     {
         // That numbers differ, which packing asks for, is what the features say of themselves.
         let _len = features.len();
+        let packed = RTree::pack(alloc, entries);
         Ok(Layer {
             features,
-            tree: Box::new(alloc, RTree::pack(alloc, entries)?)?,
+            tree: Box::new(alloc, packed?)?,
         })
     }
 
@@ -112,9 +113,10 @@ impl Layer {
             (λ layer. IsPackedHeight (length features.value.list.features) (height_of layer.root)) }
     {
         let _len = features.len();
+        let packed = RTree::pack_by_threads(alloc, entries, threads, rt);
         Ok(Layer {
             features,
-            tree: Box::new(alloc, RTree::pack_by_threads(alloc, entries, threads, rt)?)?,
+            tree: Box::new(alloc, packed?)?,
         })
     }
 

@@ -1,4 +1,4 @@
-use Rattle.std.proofs.Common.{◌≡◌, ◌∙◌, ◌<◌, ℕ, true, List, Option, not, refl, sym, ap, Some, None, length, is_some, arith, rules}
+use Rattle.std.proofs.Common.{◌≡◌, ◌∙◌, ◌<◌, ℕ, true, List, Option, not, sym, ap, Some, None, length, is_some, arith, rules}
 use Rattle.indexmap.specs.IndexMap.{insert_entry, set_value_at}
 use Rattle.layer_core.specs.declared.id.Id.{Id}
 use Rattle.layer_core.specs.Ids.{id_bytes, id_eq}

@@ -1,11 +1,16 @@
-use Rattle.std.proofs.Common.{rules, ◌≡◌}
+use Rattle.std.proofs.Common.{rules, ◌≡◌, ℕ, Option}
+use Rattle.rtree_core.specs.declared.node.Node.{Node}
+use Rattle.rtree_core.specs.Trees.{IsFresh}
+use Rattle.layer_core.specs.Layers.{Contents, IsLayer}
+use Rattle.layer_core.specs.LayerTrees.{HoldsExactly}
 use Rattle.layer_core.proofs.LayerTreeLemmas.{next-fresh}
 use Rattle.layer_core.proofs.layer.Layer.insert.Goals as goal
+
+fresh_next : (list : Contents) (held root : Option Node) (number : ℕ) → IsLayer list → HoldsExactly list held → root ≡ held → number ≡ list.next
+    → IsFresh number root
+fresh_next list held root number is_layer holds same next = rw (same, next) (next-fresh list held is_layer holds)
 
 pub insert-requires : goal.insert-requires
 insert-requires c =
     let is_layer = rw (← c.self.view_is) at c.in_default.ensures.layer in
-    let list = c.self.inside.features.value.list in
-    let same : c.deref-2.result.now.list ≡ list = search rules in
-    let fresh = next-fresh list c.self.inside.tree.value is_layer c.self.invariant in
-    rw c.deref_mut-2.ensures.value (search (rules, fresh))
+    fresh_next c.self.inside.features.value.list c.self.inside.tree.value _ _ is_layer c.self.invariant (search rules) (search rules)
