@@ -3,7 +3,7 @@ use Rattle.std.proofs.Common.{◌≡◌, ◌≢◌, ℕ, zero, suc, ◌+◌, ◌
 use Rattle.std.proofs.Common.{Option, Some, None, is_some, refl, sym, ap, ◌∙◌, inl, inr, arith, zero-add, add-one}
 use Rattle.std.specs.List.{IsDistinct}
 use Rattle.std.specs.Map.{keys_of, values_of, lookup, lookup_key}
-use Rattle.std.specs.Option.{IsSomeAnd, MatchOption, option_map, option_flatten}
+use Rattle.std.specs.Option.{option_map, option_flatten}
 use Rattle.std.specs.Str.{bytes_eq}
 use Rattle.std.proofs.lemmas.List.{length-map, length-append, length-set, map-append, map-set, append-nil}
 use Rattle.std.proofs.Math.Seq.{get_or-append_seam}
@@ -21,7 +21,7 @@ use Rattle.layer_core.specs.declared.id.Id.{Id}
 use Rattle.layer_core.specs.Ids.{id_bytes, id_eq}
 use Rattle.layer_core.specs.Limits.{most_features}
 use Rattle.layer_core.specs.RisingIds.{has_text}
-use Rattle.layer_core.specs.Layers.{IsLayer, NumberAndShapeAre, with_id, with_number, inserted, deleted}
+use Rattle.layer_core.specs.Layers.{IsLayer, with_id, with_number, inserted, deleted}
 use Rattle.layer_core.specs.MapAndSlots.{AreInverse, StandForLayer, IsWalk, ids_of, places, id_of, feature_of, features_from, contents_of, IsAbsent, IsOnly}
 use Rattle.layer_core.proofs.SlotLemmas.{feature_in, find-number, find-absent, find-only, filter-absent, filter-only, features-push, features-more_ids}
 use Rattle.layer_core.proofs.SlotLemmas.{features-rising, numbers-below, features-distinct, length-features_without, length-features-le}
@@ -267,17 +267,6 @@ with_id-absent keys slots id absent = find-absent (ids_of keys) id 0 slots absen
 pub with_id-only : (keys : List Id) (slots : List (Option Slot)) (id : List ℕ) (k : ℕ) (slot : Slot) → IsOnly (ids_of keys) id slots k slot
     → with_id id (contents_of keys slots) ≡ Some (feature_of (ids_of keys) k slot)
 with_id-only keys slots id k slot only = find-only (ids_of keys) id 0 slots k slot only ∙ ap (λ n. Some (feature_of (ids_of keys) n slot)) (zero-add k)
-
--- what a look-up by id answers, which is made of the number and the slot that were found
-pub found_by_id : (keys : List Id) (slice slots : List (Option Slot)) (id : List ℕ) (found : Option (ℕ × Slot)) (answer : Option (ℕ × Shape))
-    (Makes : ℕ × Slot → ℕ × Shape → Type 0) → ((f : ℕ × Slot) (made : ℕ × Shape) → Makes f made → made ≡ (f.0, f.1.shape)) → slice ≡ slots
-    → MatchOption found (IsAbsent (ids_of keys) id slice) (λ f. IsOnly (ids_of keys) id slice f.0 f.1)
-    → MatchOption found (answer ≡ None) (λ f. IsSomeAnd answer (Makes f)) → NumberAndShapeAre answer (with_id id (contents_of keys slots))
-found_by_id keys slice slots id None answer Makes makes same absent none =
-    none ∙ sym (ap (option_map (λ f. (f.number, f.shape))) (with_id-absent keys slots id (rw same at absent)))
-found_by_id keys slice slots id (Some f) (Some made) Makes makes same only is =
-    ap Some (makes f made is) ∙ sym (ap (option_map (λ f. (f.number, f.shape))) (with_id-only keys slots id f.0 f.1 (rw same at only)))
-found_by_id keys slice slots id (Some f) None Makes makes same only is = absurd is
 
 -- a deletion by id
 pub deleted-absent : (keys : List Id) (slots : List (Option Slot)) (id : List ℕ) → IsAbsent (ids_of keys) id slots
