@@ -2,6 +2,7 @@
 //! they are read as, or the fault.
 #![tactic(auto)]
 
+mod help;
 mod hint;
 mod reading;
 mod standard_input;
