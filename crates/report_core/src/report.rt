@@ -190,8 +190,8 @@ fn push_rows(
         let pair = pairs[place];
         // Looked up first, so that the processor fetches ids and shapes at the same time.
         let left_field = columns.left.at(pair.0);
-        let right_field = columns.right.at(pair.1);
         let left_id = left_field.unwrap();
+        let right_field = columns.right.at(pair.1);
         let right_id = right_field.unwrap();
         let left_shape = left.shape(pair.0).unwrap();
         let right_shape = right.shape(pair.1).unwrap();
