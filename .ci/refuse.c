@@ -1,23 +1,34 @@
 /* Loaded before a program's other libraries, this refuses its calls of one kind.
  *
- *     REFUSE_KIND   memory, read, write, open, thread or keys (random bytes)
+ *     REFUSE_KIND   memory, read, write, open, thread or keys (random bytes); or what is counted and not refused:
+ *                   growth (a list of 64 KiB or more made larger), yield, nap (a wait that ends by itself),
+ *                   long (such a wait of a millisecond or more)
  *     REFUSE_HOW    once: the call REFUSE_AT fails; on: that one and all after it fail; short: it moves one byte;
  *                   bytes: that one and all after it move one byte; none: it moves no byte; signal: it is interrupted
  *     REFUSE_AT     a number from 1
  *     REFUSE_TELL   a descriptor; it gets a byte when a call is refused
  *
  * What runs before the program's own constructors isn't counted, nor is the memory that the C library takes to
- * start a thread. */
+ * start a thread. The program waits by a call of the system that goes through no library, so a filter stops these
+ * calls where they are counted. */
 #define _GNU_SOURCE
 #include <dlfcn.h>
 #include <errno.h>
 #include <fcntl.h>
+#include <linux/filter.h>
+#include <linux/futex.h>
+#include <linux/seccomp.h>
 #include <pthread.h>
+#include <signal.h>
 #include <stdarg.h>
+#include <stddef.h>
 #include <stdlib.h>
 #include <string.h>
+#include <sys/prctl.h>
 #include <sys/syscall.h>
 #include <sys/uio.h>
+#include <time.h>
+#include <ucontext.h>
 #include <unistd.h>
 
 void *__libc_malloc(size_t), *__libc_calloc(size_t, size_t);
@@ -29,12 +40,15 @@ static int tell = -1, told;
 
 static int is(const char *word, const char *wanted) { return strcmp(word, wanted) == 0; }
 
+static void stop_naps(void);
+
 __attribute__((constructor)) static void begin(void) {
     if (!getenv("REFUSE_KIND")) return;
     how = getenv("REFUSE_HOW");
     at = atol(getenv("REFUSE_AT"));
     tell = atoi(getenv("REFUSE_TELL"));
     kind = getenv("REFUSE_KIND");
+    if (is(kind, "nap") || is(kind, "long")) stop_naps();
 }
 
 /* Whether this call of the kind is one to refuse. */
@@ -46,13 +60,20 @@ static int refused(const char *of) {
     return 1;
 }
 
+enum { LARGE = 65536, BILLION = 1000000000, MILLISECOND = 1000000 };
+
 static __thread int starting;
 
 static int no_memory(void) { return !starting && refused("memory") ? (errno = ENOMEM) : 0; }
 
 void *malloc(size_t size) { return no_memory() ? NULL : __libc_malloc(size); }
 void *calloc(size_t count, size_t size) { return no_memory() ? NULL : __libc_calloc(count, size); }
-void *realloc(void *old, size_t size) { return no_memory() ? NULL : __libc_realloc(old, size); }
+
+void *realloc(void *old, size_t size) {
+    if (old && size >= LARGE) refused("growth");
+    return no_memory() ? NULL : __libc_realloc(old, size);
+}
+
 void *memalign(size_t to, size_t size) { return no_memory() ? NULL : __libc_memalign(to, size); }
 void *aligned_alloc(size_t to, size_t size) { return memalign(to, size); }
 int posix_memalign(void **made, size_t to, size_t size) { return (*made = memalign(to, size)) ? 0 : ENOMEM; }
@@ -112,4 +133,44 @@ int pthread_create(pthread_t *thread, const pthread_attr_t *attr, void *(*start)
     int answer = real(thread, attr, start, given);
     starting = 0;
     return answer;
+}
+
+int sched_yield(void) {
+    refused("yield");
+    return syscall(SYS_sched_yield);
+}
+
+/* Counts a wait that was stopped, and waits in another form, up to a time and not for one, which is let pass. */
+static void on_wait(int number, siginfo_t *about, void *context) {
+    (void)number, (void)about;
+    greg_t *at = ((ucontext_t *)context)->uc_mcontext.gregs;
+    const struct timespec *most = (const struct timespec *)at[REG_R10];
+    int ends = most->tv_sec < BILLION, before = errno;
+    if (ends) refused("nap");
+    if (ends && (most->tv_sec || most->tv_nsec >= MILLISECOND)) refused("long");
+    struct timespec end;
+    clock_gettime(CLOCK_MONOTONIC, &end);
+    end.tv_sec += most->tv_sec + (end.tv_nsec + most->tv_nsec) / BILLION;
+    end.tv_nsec = (end.tv_nsec + most->tv_nsec) % BILLION;
+    long how = (at[REG_RSI] & ~FUTEX_CMD_MASK) | FUTEX_WAIT_BITSET;
+    long answer = syscall(SYS_futex, at[REG_RDI], how, at[REG_RDX], ends ? &end : NULL, NULL, FUTEX_BITSET_MATCH_ANY);
+    at[REG_RAX] = answer < 0 ? -errno : answer;
+    errno = before;
+}
+
+#define LOAD(part) BPF_STMT(BPF_LD | BPF_W | BPF_ABS, offsetof(struct seccomp_data, part))
+#define UNLESS(value, skip) BPF_JUMP(BPF_JMP | BPF_JEQ | BPF_K, value, 0, skip)
+
+/* Stops each wait on a word of memory that has a length. */
+static void stop_naps(void) {
+    struct sock_filter steps[] = {
+        LOAD(nr), UNLESS(SYS_futex, 5),
+        LOAD(args[1]), BPF_STMT(BPF_ALU | BPF_AND | BPF_K, (unsigned)FUTEX_CMD_MASK), UNLESS(FUTEX_WAIT, 2),
+        LOAD(args[3]), BPF_JUMP(BPF_JMP | BPF_JEQ | BPF_K, 0, 0, 1),
+        BPF_STMT(BPF_RET | BPF_K, SECCOMP_RET_ALLOW), BPF_STMT(BPF_RET | BPF_K, SECCOMP_RET_TRAP),
+    };
+    struct sock_fprog filter = {sizeof steps / sizeof *steps, steps};
+    struct sigaction action = {.sa_sigaction = on_wait, .sa_flags = SA_SIGINFO | SA_NODEFER};
+    if (sigaction(SIGSYS, &action, NULL) || prctl(PR_SET_NO_NEW_PRIVS, 1, 0, 0, 0)) abort();
+    if (prctl(PR_SET_SECCOMP, SECCOMP_MODE_FILTER, &filter)) abort();
 }

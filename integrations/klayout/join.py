@@ -4,8 +4,9 @@
         -rd relation=overlaps -rd output=pairs.lyrdb
 
 `-rd others=envelope` takes the bounding boxes of shapes that aren't boxes, `others=skip` lists
-them in a category of their own; without it the first one ends the run. `-rd cell=NAME` takes
-another cell than the top cell. It prints the number of items of each category.
+them in a category of their own; without it the first one ends the run. `-rd merged=1` merges the
+shapes of each layer first. `-rd cell=NAME` takes another cell than the top cell. It prints the
+number of items of each category, and of pairs that rest on a bounding box.
 """
 from __future__ import annotations
 
@@ -19,8 +20,12 @@ import pya
 
 sys.path.insert(0, str(Path(__file__).resolve().parent / "python"))
 
-from rjoin_klayout.join import ERROR, JoinError, Request, join_layers  # noqa: E402
-from rjoin_klayout.program import ProgramError  # noqa: E402
+from rjoin_klayout.found import VERSION  # noqa: E402
+from rjoin_klayout.join import ENVELOPE, ERROR, INEXACT, JoinError, Request  # noqa: E402
+from rjoin_klayout.join import join_layers  # noqa: E402
+from rjoin_klayout.program import ProgramError, staleness  # noqa: E402
+
+SWITCH = {"0": False, "1": True}
 
 
 def word(given: Dict[str, object], name: str, default: str | None = None) -> str:
@@ -71,16 +76,33 @@ def counts(database: pya.ReportDatabase) -> Iterator[str]:
         yield f"{database.category_by_id(identifier).path()}: {count}"
 
 
+def inexact(database: pya.ReportDatabase) -> int:
+    """How many pairs rest on a bounding box."""
+    return sum(any(value.is_string() and value.string() == INEXACT for value in item.each_value())
+               for item in database.each_item())
+
+
 def join(given: Dict[str, object]) -> None:
     """Joins as the variables of the command line say."""
+    if "version" in given:
+        print(f"rjoin for KLayout {VERSION}")
+        return
+    merged = word(given, "merged", "0")
+    if merged not in SWITCH:
+        raise JoinError("merged must be 0 or 1")
     request = Request(word(given, "left"), word(given, "right"), word(given, "relation"),
-                      word(given, "others", ERROR))
+                      word(given, "others", ERROR), SWITCH[merged])
+    stale = staleness()
+    if stale:
+        print(f"join.py: warning: {stale}", file=sys.stderr)
     output = word(given, "output")
     layout = read(word(given, "file"))
     database = join_layers(layout, cell_of(layout, word(given, "cell", "")), request)
     save(database, output)
     for line in counts(database):
         print(line)
+    if request.others == ENVELOPE:
+        print(f"pairs that rest on a bounding box: {inexact(database)}")
 
 
 def main(given: Dict[str, object]) -> int:

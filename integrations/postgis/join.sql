@@ -1,7 +1,7 @@
--- Joins two tables by rjoin in one transaction. `rjoin-postgis` runs it by psql, in an empty folder, with
--- the variables left, right (tables), left_id, right_id, left_geometry, right_geometry (columns, or empty),
+-- Joins two tables by rjoin in one transaction, which it leaves open. `rjoin-postgis` runs it by psql, in an empty
+-- folder, with the variables left, right (tables), left_id, right_id, left_geometry, right_geometry (columns, or empty),
 -- others (error, envelope, skip), decimals (0 to 6, or empty), into and skipped (new tables), and with RJOIN,
--- RJOIN_RELATION and RJOIN_WORKERS in the environment.
+-- RJOIN_RELATION and RJOIN_WORKERS in the environment. At the end it writes a line `ready`.
 \set ON_ERROR_STOP on
 \set VERBOSITY terse
 \set SHOW_CONTEXT never
@@ -9,6 +9,15 @@
 \pset format unaligned
 set client_min_messages = warning;
 begin isolation level repeatable read;
+
+-- PostGIS may be in a schema off the search path; new tables go into the first schema of the path, as before.
+select set_config('search_path', current_setting('search_path') || ', ' || quote_ident(nspname), true)
+from pg_extension join pg_namespace on pg_namespace.oid = extnamespace where extname = 'postgis' \g /dev/null
+do $$ begin
+    if to_regtype('geometry') is null then
+        raise exception 'the database has no PostGIS: create extension postgis';
+    end if;
+end $$;
 
 -- The column that is named, or else the only one of the primary key.
 create function pg_temp.rjoin_id(source regclass, named text) returns name language plpgsql as $$
@@ -101,13 +110,13 @@ create function pg_temp.rjoin_wkt(x1 bigint, y1 bigint, x2 bigint, y2 bigint) re
         else 'POINT(' || x1 || ' ' || y1 || ')'
     end $$;
 
--- Numbers the rows of a table into a temporary one, with id, bounds, number of decimals, and the fault of those
--- that aren't boxes.
+-- Numbers the rows of a table into a temporary one, with id, bounds, number of decimals, the fault of those that
+-- aren't boxes, and whether the bounds are the geometry itself.
 create function pg_temp.rjoin_read(source regclass, id name, geometry name, target name) returns void
 language plpgsql as $$
 begin
     execute format('create temporary table %I on commit drop as
-        select row_number() over () as n, id, srid, fault, x1, y1, x2, y2,
+        select row_number() over () as n, id, srid, fault, fault is null as exact, x1, y1, x2, y2,
             greatest(pg_temp.rjoin_decimals(x1), pg_temp.rjoin_decimals(y1),
                      pg_temp.rjoin_decimals(x2), pg_temp.rjoin_decimals(y2)) as decimals
         from (
@@ -212,7 +221,7 @@ select :'left'::regclass as left, :'right'::regclass as right,
 select pg_temp.rjoin_id(:'left', :'left_id') as left_id, pg_temp.rjoin_id(:'right', :'right_id') as right_id,
     pg_temp.rjoin_geometry(:'left', :'left_geometry') as left_geometry,
     pg_temp.rjoin_geometry(:'right', :'right_geometry') as right_geometry,
-    :'others' <> 'error' as lists \gset
+    :'others' <> 'error' as lists, :'others' = 'envelope' as envelopes \gset
 
 -- The results first: a name that is taken ends the run before anything is read.
 create table :into as
@@ -221,6 +230,9 @@ create table :into as
 -- With its schema, since a temporary table of its name would go first.
 select format('%I.%I', nspname, relname) as pairs
 from pg_class join pg_namespace on pg_namespace.oid = relnamespace where pg_class.oid = :'into'::regclass \gset
+\if :envelopes
+    alter table :pairs add column exact boolean not null;
+\endif
 \if :lists
     create table :skipped (side text not null, id text, reason text not null);
     create temporary view rjoin_skipped as select * from :skipped;
@@ -242,13 +254,13 @@ select pg_temp.rjoin_write('rjoin_left', :'left', :decimals, 'rjoin_left_file'),
 
 create temporary table rjoin_pairs (left_n bigint, right_n bigint, matrix character(9)) on commit drop;
 \copy rjoin_pairs from program 'exec "$RJOIN" join left.csv right.csv --relation="$RJOIN_RELATION" --workers "$RJOIN_WORKERS"' csv header
-insert into :pairs (left_id, right_id, matrix)
-    select l.id, r.id, p.matrix
+create temporary view rjoin_named_pairs as
+    select l.id as left_id, r.id as right_id, p.matrix, l.exact and r.exact as exact
     from rjoin_pairs p join rjoin_left l on l.n = p.left_n join rjoin_right r on r.n = p.right_n
     order by p.left_n, p.right_n;
-commit;
-
-select 'pairs in ' || :'into' || ': ' || count(*) from :pairs;
-\if :lists
-    select 'rows listed in ' || :'skipped' || ': ' || count(*) from :skipped;
+\if :envelopes
+    insert into :pairs (left_id, right_id, matrix, exact) select left_id, right_id, matrix, exact from rjoin_named_pairs;
+\else
+    insert into :pairs (left_id, right_id, matrix) select left_id, right_id, matrix from rjoin_named_pairs;
 \endif
+\echo ready

@@ -1,8 +1,9 @@
 """Joins layers inside one KLayout in batch mode, and asks KLayout itself of each pair of boxes.
 
 `folder` (-rd) has the file `requests`, a JSON list with `layout`, `left`, `right`, `relation`,
-perhaps `others` and `asked`. It gets a report database for each and the file `answers`: `error`,
-`database`, and in `asked` the pairs of boxes that stand in the relation by KLayout's own methods.
+perhaps `others`, `merged` and `asked`. It gets a report database for each and the file `answers`:
+`error`, `database`, and in `asked` the pairs of boxes that stand in the relation by KLayout's own
+methods.
 """
 from __future__ import annotations
 
@@ -59,6 +60,26 @@ def others() -> pya.Layout:
     return layout
 
 
+def metal() -> pya.Layout:
+    """Metal that is cut up, with vias: in one piece of it, across two, and at a corner of it."""
+    layout = pya.Layout()
+    top, cell = layout.create_cell("TOP"), layout.create_cell("CELL")
+    pieces, vias = top.shapes(layout.layer(1, 0)), top.shapes(layout.layer(2, 0))
+    for left, right in ((0, 50), (50, 100), (90, 300)):
+        pieces.insert(pya.Box(left, 0, right, 100))
+    cell.shapes(layout.layer(1, 0)).insert(pya.Box(0, 0, 100, 50))
+    for place in (0, 50):
+        top.insert(pya.CellInstArray(cell.cell_index(), pya.Trans(300, 100 + place)))
+    for x, y in ((10, 10), (40, 40), (290, 90)):
+        vias.insert(pya.Box(x, y, x + 20, y + 20))
+    pieces.insert(pya.Box(400, 0, 400, 100))
+    layout.layer(3, 0)
+    angled = top.shapes(layout.layer(4, 0))
+    angled.insert(pya.Box(0, 0, 100, 20))
+    angled.insert(pya.Box(0, 0, 20, 100))
+    return layout
+
+
 def town() -> pya.Layout:
     """The town, from its file."""
     layout = pya.Layout()
@@ -100,7 +121,7 @@ def asked(layout: pya.Layout, request: Dict[str, Any]) -> List[Tuple[str, str]]:
 def answer(layout: pya.Layout, request: Dict[str, Any], path: Path) -> Dict[str, Any]:
     """What comes of one request."""
     words = Request(request["left"], request["right"], request["relation"],
-                    request.get("others", "error"))
+                    request.get("others", "error"), request.get("merged", False))
     try:
         join_layers(layout, layout.top_cell(), words).save(str(path))
     except (JoinError, ProgramError) as fault:
@@ -111,7 +132,7 @@ def answer(layout: pya.Layout, request: Dict[str, Any], path: Path) -> Dict[str,
 
 def main(folder: Path) -> None:
     """Works the requests off."""
-    layouts = {"chip": chip(), "others": others(), "town": town()}
+    layouts = {"chip": chip(), "others": others(), "town": town(), "metal": metal()}
     requests = json.loads((folder / "requests").read_text(encoding="utf-8"))
     answers = [answer(layouts[request["layout"]], request, folder / f"{number}.lyrdb")
                for number, request in enumerate(requests)]

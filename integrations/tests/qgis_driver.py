@@ -3,7 +3,8 @@
 Each line of standard input is a JSON list of runs, each with `algorithm`, `parameters` and perhaps
 `cancel_at`, a progress at which to cancel, and `program`, the value of RJOIN. Standard output gets
 a line for it, a list of the same length: `results`, the text of an `error`, `progress`, `log`, and
-in `rows` the attributes and the well-known text of each feature of every output layer.
+in `rows` the attributes and the well-known text of each feature of every output layer, and in
+`systems` its reference system.
 """
 from __future__ import annotations
 
@@ -52,13 +53,16 @@ def row(names: List[str], feature: QgsFeature) -> Dict[str, Any]:
     return {**dict(zip(names, values)), "geometry": None if geometry.isNull() else geometry.asWkt()}
 
 
-def rows_of(result: Any, context: QgsProcessingContext) -> List[Dict[str, Any]] | None:
-    """The features of an output layer."""
+def layer_of(result: Any, context: QgsProcessingContext) -> QgsVectorLayer | None:
+    """An output layer."""
     layer = result if isinstance(result, QgsVectorLayer) else context.getMapLayer(str(result))
     if layer is None and isinstance(result, str) and os.path.exists(result):
         layer = QgsVectorLayer(result, "output", "ogr")
-    if layer is None or not layer.isValid():
-        return None
+    return layer if layer is not None and layer.isValid() else None
+
+
+def rows_of(layer: QgsVectorLayer) -> List[Dict[str, Any]]:
+    """The features of a layer."""
     names = [field.name() for field in layer.fields()]
     return [row(names, feature) for feature in layer.getFeatures()]
 
@@ -74,7 +78,10 @@ def run(request: Dict[str, Any]) -> Dict[str, Any]:
         os.environ["RJOIN"] = request.get("program", program)
         results = processing.run(request["algorithm"], request["parameters"], context=context,
                                  feedback=feedback)
-        answer["rows"] = {name: rows_of(value, context) for name, value in results.items()}
+        layers = {name: layer_of(value, context) for name, value in results.items()}
+        answer["rows"] = {name: layer and rows_of(layer) for name, layer in layers.items()}
+        answer["systems"] = {name: layer and layer.crs().authid()
+                             for name, layer in layers.items()}
         answer["results"] = {name: value for name, value in results.items()
                              if isinstance(value, (int, float, str))}
     except QgsProcessingException as fault:

@@ -35,6 +35,13 @@ FAULTS = {
 }
 
 
+METAL = [{"layout": "metal", "left": left, "right": right, "relation": relation, "others": others,
+          "merged": merged} for merged in (False, True) for left, right, relation, others in (
+              ("2/0", "1/0", "within", "error"), ("1/0", "1/0", "equals", "error"),
+              ("4/0", "2/0", "intersects", "error"), ("4/0", "2/0", "intersects", "envelope"),
+              ("4/0", "3/0", "intersects", "skip"))]
+
+
 def klayout_run(words: List[str], variables: Dict[str, str], **environment: str
                 ) -> subprocess.CompletedProcess[str]:
     """Runs KLayout without a display."""
@@ -72,6 +79,7 @@ def joined(klayout: Any, town: Path, tmp_path_factory: pytest.TempPathFactory) -
                  "asked": True} for layout, left, right, relation in COMPARED]
     requests += [{"layout": "others", "left": "1/0", "right": "2/0", "relation": "contains",
                   "others": others} for others in ("error", "skip", "envelope")]
+    requests += METAL
     for words in FAULTS:
         left, relation, right, *others = words.split()
         requests.append({"layout": "chip", "left": left, "right": right, "relation": relation,
@@ -85,8 +93,9 @@ def joined(klayout: Any, town: Path, tmp_path_factory: pytest.TempPathFactory) -
 
 
 def key_of(request: Dict[str, Any]) -> str:
-    return " ".join(str(request[name]) for name in ("layout", "left", "relation", "right")
-                    ) + f" {request.get('others', 'error')}"
+    words = [str(request[name]) for name in ("layout", "left", "relation", "right")]
+    words += [request.get("others", "error"), *["merged"] * request.get("merged", False)]
+    return " ".join(words)
 
 
 def bounds(text: str) -> Bounds:
@@ -137,7 +146,33 @@ def test_other_shapes(joined: Dict[str, Any]) -> None:
     path_with_a_width, path_without = (0.01, 0.04, 0.09, 0.06), (0.01, 0.05, 0.09, 0.05)
     assert Counter(pair[1] for pair in pairs_of(listed)) == Counter(
         [path_with_a_width, path_without])
-    assert pairs_of(joined[f"{words} envelope"]).total() == 8
+    boxes = joined[f"{words} envelope"]
+    assert pairs_of(boxes).total() == 8
+    text = Path(boxes["database"]).read_text(encoding="utf-8")
+    assert "pairs that rest on a bounding box: 6 of 8" in text
+    assert (text.count("exact: false"), text.count("exact: true")) == (6, 2)
+    assert "exact:" not in Path(listed["database"]).read_text(encoding="utf-8")
+
+
+def test_areas_that_are_cut_up(joined: Dict[str, Any]) -> None:
+    """A via that lies across two pieces is within none, and within their union."""
+    drawn, merged = (pairs_of(joined[f"metal 2/0 within 1/0 error{more}"])
+                     for more in ("", " merged"))
+    whole = (0.0, 0.0, 0.3, 0.1)
+    assert drawn == Counter([((0.01, 0.01, 0.03, 0.03), (0.0, 0.0, 0.05, 0.1))])
+    assert merged == Counter([((0.01, 0.01, 0.03, 0.03), whole), ((0.04, 0.04, 0.06, 0.06), whole)])
+    own = pairs_of(joined["metal 1/0 equals 1/0 error merged"])
+    corner, line = (0.3, 0.1, 0.4, 0.2), (0.4, 0.0, 0.4, 0.1)
+    assert own == Counter((one, one) for one in (whole, corner, line))
+    words = "metal 4/0 intersects 2/0"
+    assert pairs_of(joined[f"{words} error"]).total() == 2
+    told = joined[f"{words} error merged"]["error"]
+    assert "layer 4/0, cell TOP: not a box, edge or point, but not a rectangle, once merged" in told
+    text = Path(joined[f"{words} envelope merged"]["database"]).read_text(encoding="utf-8")
+    assert text.count("exact: false") == 2 and "left: TOP merged" in text
+    gone = items(Path(joined["metal 4/0 intersects 3/0 skip merged"]["database"]))
+    assert {name: len(shapes) for name, shapes in gone.items()} == {
+        "'left out of layer 4/0'.'not a rectangle'": 1}
 
 
 @pytest.mark.parametrize("words, text", FAULTS.items())
@@ -155,6 +190,20 @@ def test_batch_mode(klayout: Any, town: Path, tmp_path: Path) -> None:
     assert ended.returncode == 0, ended.stderr
     assert ended.stdout.strip() == "'stations (3/0) equals stations'.'0FFFFFFF2': 16"
     assert sum(map(len, items(output).values())) == 16
+
+
+def test_batch_mode_merges_and_tells_bounding_boxes(klayout: Any, town: Path, tmp_path: Path
+                                                    ) -> None:
+    """The town's parcels, which lie side by side, are merged to rectangles too."""
+    words = {"file": str(town), "left": "1/0", "right": "3/0", "relation": "contains",
+             "output": str(tmp_path / "pairs.lyrdb"), "merged": "1"}
+    ended = klayout(PACKAGE / "join.py", others="envelope", **words)
+    assert ended.returncode == 0, ended.stderr
+    lines = ended.stdout.splitlines()
+    assert lines[0].startswith("'1/0 contains 3/0, merged'.")
+    assert lines[-1] == "pairs that rest on a bounding box: 0"
+    wrong = klayout(PACKAGE / "join.py", **{**words, "merged": "yes"})
+    assert wrong.returncode == 1 and "merged must be 0 or 1" in wrong.stderr
 
 
 def test_batch_mode_fails_with_a_status(klayout: Any, town: Path, tmp_path: Path) -> None:
@@ -179,7 +228,10 @@ try:
     view = pya.LayoutView.current()
     asked = dialog.JoinDialog(window, ["1/0", "4/0"])
     asked.relation.setCurrentText("overlaps")
+    print(asked.merged.text, asked.merged.checked)
+    asked.merged.checked = True
     print(asked.request())
+    asked.merged.checked = False
     print(dialog.show(view, asked.request()), view.num_rdbs())
 except Exception:
     traceback.print_exc()
@@ -198,7 +250,9 @@ def test_package_with_its_dialog(klayout: Any, town: Path, tmp_path: Path) -> No
                         KLAYOUT_HOME=str(tmp_path / "home"))
     assert ended.stdout.splitlines() == [
         "Join layers by relation",
-        "Request(left='1/0', right='4/0', relation='overlaps', others='error')", "20 1"
+        "Merge the shapes of each layer first False",
+        "Request(left='1/0', right='4/0', relation='overlaps', others='error', merged=True)",
+        "20 1"
     ], ended.stderr
 
 

@@ -5,14 +5,16 @@ import csv
 import io
 import os
 import shutil
+import signal
 import subprocess
 import sys
+import time
 from pathlib import Path
-from typing import Dict, Iterator, List
+from typing import Any, Callable, Dict, Iterator, List, Tuple
 
 import pytest
 
-from town import JOINS, ROOT, TOWN, Join
+from town import JOINS, ROOT, TOWN, VERSION, Join, stand_in
 
 sys.path.insert(0, str(ROOT / "bench"))
 import layers as made_layers  # noqa: E402
@@ -77,7 +79,8 @@ def done(server: Dict[str, str], *words: str) -> str:
 def refused(server: Dict[str, str], *words: str, **variables: str) -> str:
     ended = command(server, *words, **variables)
     assert ended.returncode == 1 and ended.stderr.startswith("rjoin-postgis: ")
-    assert ended.stderr.count("\n") == 1, ended.stderr
+    lines = ended.stderr.splitlines()
+    assert len(lines) == 1 or len(lines) == 2 and lines[1].startswith("did you mean"), ended.stderr
     return ended.stderr
 
 
@@ -153,10 +156,16 @@ def test_other_geometries_and_ids_of_any_type(server: Dict[str, str]) -> None:
         server, own.format('"The Shape"', kept))
     assert psql(server, 'select pg_typeof(left_id), pg_typeof(right_id) from odd."Pairs" limit 1'
                 ) == [["uuid", "text"]]
-    done(server, *words, "odd.boxes", "--others", "envelope", "--skipped", "odd.gone")
+    told = done(server, *words, "odd.boxes", "--others", "envelope", "--skipped", "odd.gone")
     assert psql(server, "select left_id, right_id from odd.boxes order by 1, 2") == psql(
         server, own.format('ST_Envelope("The Shape")', ""))
     assert len(psql(server, "select * from odd.gone")) == 2
+    boxes = [text for text, reason in SHAPES.items() if reason is None]
+    rows = psql(server, 'select text, exact from odd.boxes join odd."Shapes" on "Key" = left_id')
+    assert {exact for _, exact in rows} == {"t", "f"}
+    assert all((exact == "t") == (text in boxes) for text, exact in rows)
+    inexact = [exact for _, exact in rows].count("f")
+    assert f"pairs that rest on an envelope, where exact is false: {inexact}\n" in told
 
 
 def test_ids_and_names_are_never_read_as_sql(server: Dict[str, str]) -> None:
@@ -224,16 +233,145 @@ def test_faults_leave_nothing(server: Dict[str, str], words: List[str], text: st
 
 def test_a_failing_program_leaves_nothing(server: Dict[str, str], tmp_path: Path) -> None:
     """A program that dies after a part of its answer."""
-    program = tmp_path / "rjoin"
-    program.write_text('#!/bin/sh\n[ "$2" = /dev/null ] && exit 1\necho left,right,matrix\n'
-                       "echo 1,1,2FFF1FFF2\nexit 1\n", encoding="utf-8")
-    program.chmod(0o755)
+    program = stand_in(tmp_path / "rjoin", '[ "$2" = /dev/null ] && exit 1\n'
+                       "echo left,right,matrix\necho 1,1,2FFF1FFF2\nexit 1")
     before = tables(server)
     assert "rjoin: child process exited with exit code 1" in refused(
         server, "parcels", "zones", "--relation", "within", "--into", "never", RJOIN=str(program))
     assert tables(server) == before
-    assert "RJOIN is set to /nowhere" in refused(
-        server, "parcels", "zones", "--relation", "within", "--into", "never", RJOIN="/nowhere")
+    for path, told in (("/nowhere", "RJOIN is '/nowhere'"), ("/bin/true", "is not the program")):
+        assert told in refused(server, "parcels", "zones", "--relation", "within", "--into",
+                               "never", RJOIN=path)
+    assert tables(server) == before
+
+
+Begun = Tuple["subprocess.Popen[str]", Path]
+
+
+@pytest.fixture()
+def begun(server: Dict[str, str], tmp_path: Path) -> Iterator[Begun]:
+    """A run whose program has told its number and never ends, and its folder of temporary files."""
+    program = stand_in(tmp_path / "rjoin", '[ "$2" = /dev/null ] && exit 0\n'
+                       f"echo $$ >{tmp_path}/new; mv {tmp_path}/new {tmp_path}/number\n"
+                       "exec sleep 1000")
+    (tmp_path / "tmp").mkdir()
+    words = [str(COMMAND), "parcels", "zones", "--relation", "within", "--into", "never"]
+    environment = {**server, "RJOIN": str(program), "TMPDIR": str(tmp_path / "tmp")}
+    with subprocess.Popen(words, env=environment, stdout=subprocess.PIPE, stderr=subprocess.PIPE,
+                          text=True, preexec_fn=hear_signals) as process:
+        try:
+            wait_until((tmp_path / "number").exists)
+            yield process, tmp_path
+        finally:
+            process.kill()
+
+
+def hear_signals() -> None:
+    """What runs in the background may ignore some of them, and what it starts too."""
+    for ending in (signal.SIGHUP, signal.SIGINT, signal.SIGTERM):
+        signal.signal(ending, signal.SIG_DFL)
+
+
+def wait_until(holds: Callable[[], bool]) -> None:
+    for _ in range(1000):
+        if holds():
+            return
+        time.sleep(0.02)
+    raise AssertionError("not within 20 s")
+
+
+def running(server: Dict[str, str]) -> int:
+    """How many clients beside this one are connected."""
+    ((count,),) = psql(server, "select count(*) from pg_stat_activity where pid <> pg_backend_pid()"
+                       " and backend_type = 'client backend'")
+    return int(count)
+
+
+def is_alive(number: int) -> bool:
+    try:
+        os.kill(number, 0)
+    except ProcessLookupError:
+        return False
+    return True
+
+
+@pytest.mark.parametrize("ending", (signal.SIGTERM, signal.SIGINT, signal.SIGHUP))
+def test_an_end_by_a_signal_leaves_nothing(server: Dict[str, str], begun: Begun, ending: Any
+                                           ) -> None:
+    process, folder = begun
+    before = tables(server)
+    process.send_signal(ending)
+    output, errors = process.communicate(timeout=20)
+    assert (process.returncode, output) == (128 + ending, "")
+    assert errors == f"rjoin-postgis: ended by {ending.name}; no table was made\n"
+    assert os.listdir(folder / "tmp") == []
+    wait_until(lambda: not is_alive(int((folder / "number").read_text())))
+    wait_until(lambda: running(server) == 0)
+    assert tables(server) == before
+
+
+def test_a_run_that_is_killed_makes_nothing(server: Dict[str, str], begun: Begun) -> None:
+    """Nothing can be told then, and psql goes on, but not to a table."""
+    process, folder = begun
+    before = tables(server)
+    process.kill()
+    process.communicate(timeout=20)
+    os.kill(int((folder / "number").read_text()), signal.SIGTERM)
+    wait_until(lambda: running(server) == 0)
+    assert tables(server) == before
+
+
+def test_nothing_is_made_before_the_command_commits(server: Dict[str, str], tmp_path: Path
+                                                    ) -> None:
+    """By a psql that hears no more of the command, as where that is killed at the end."""
+    deaf = tmp_path / "psql"
+    deaf.write_text(f'#!/bin/sh\nexec {shutil.which("psql")} "$@" </dev/null\n', encoding="utf-8")
+    deaf.chmod(0o755)
+    before = tables(server)
+    assert "told of no table" in refused(server, "parcels", "zones", "--relation", "overlaps",
+                                         "--into", "never", PATH=f"{tmp_path}:{server['PATH']}")
+    assert tables(server) == before
+
+
+def test_a_query_of_the_server_is_ended_too(server: Dict[str, str]) -> None:
+    psql(server, "create view slow as select id, geom from zones, pg_sleep(1000)")
+    words = [str(COMMAND), "slow", "zones", "--relation", "within", "--into", "never",
+             "--left-id", "id"]
+    before = tables(server)
+    with subprocess.Popen(words, env=server, stderr=subprocess.PIPE, text=True,
+                          preexec_fn=hear_signals) as process:
+        try:
+            wait_until(lambda: running(server) == 1)
+            time.sleep(1)
+            process.terminate()
+            _, errors = process.communicate(timeout=20)
+        finally:
+            process.kill()
+    assert errors == "rjoin-postgis: ended by SIGTERM; no table was made\n"
+    wait_until(lambda: running(server) == 0)
+    assert tables(server) == before
+
+
+def test_postgis_in_a_schema_off_the_search_path(server: Dict[str, str]) -> None:
+    """Tables too; then without PostGIS."""
+    psql(server, "create database apart")
+    apart = {**server, "PGDATABASE": "apart"}
+    words = ["land.parcels", "land.zones", "--relation", "overlaps", "--into"]
+    assert "has no PostGIS: create extension postgis" in refused(apart, *words, "pairs")
+    psql(apart, "create schema extensions", "create extension postgis schema extensions",
+         "create schema land", "create schema results")
+    for name in ("parcels", "zones"):
+        psql(apart, f"create table land.{name} (id text primary key, geom extensions.geometry)",
+             f"\\copy land.{name} from '{TOWN}/{name}.csv' csv header")
+    for into in ("pairs", "results.pairs"):
+        assert f"pairs in {into}: 20\n" in done(apart, *words, into, "--others", "envelope")
+    schemas = psql(apart, "select schemaname from pg_tables where tablename = 'pairs' order by 1")
+    assert schemas == [["public"], ["results"]]
+
+
+def test_version() -> None:
+    ended = subprocess.run([str(COMMAND), "--version"], capture_output=True, text=True, check=True)
+    assert ended.stdout == f"rjoin-postgis {VERSION}\n"
 
 
 def test_empty_tables(server: Dict[str, str]) -> None:

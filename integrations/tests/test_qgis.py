@@ -23,6 +23,7 @@ RELATIONS = ["intersects", "touches", "crosses", "within", "contains", "overlaps
 NATIVE = {name: number for number, name in enumerate(
     ["intersects", "contains", "equals", "touches", "overlaps", "within", "crosses"])}
 STOP, ENVELOPE, LEAVE_OUT = 0, 1, 2
+MARK = 1
 Run = Dict[str, Any]
 Pairs = List[Tuple[str, str]]
 
@@ -218,11 +219,61 @@ def test_other_geometries(runs: Any, tmp_path: Path) -> None:
     assert pairs(envelopes) == pairs(natives_own)
     assert [row["id"] for row in envelopes["rows"]["INPUT_LEFT_OUT"]] == ["none"]
     assert "others: features replaced by their envelopes: 3" in envelopes["log"]
+    exact = [(row["id"], row["exact"]) for row in envelopes["rows"]["OUTPUT"]]
+    assert all(flag == (id in ("box", "part")) for id, flag in exact)
+    assert {flag for _, flag in exact} == {True, False}
+    inexact = f"{[flag for _, flag in exact].count(False)} of {len(exact)}"
+    assert f"Pairs that rest on an envelope, where the field exact is false: {inexact}" in (
+        envelopes["log"])
     gone = {row["id"]: row["reason"] for row in left_out["rows"]["INPUT_LEFT_OUT"]}
     assert gone == {"triangle": "not a rectangle", "parts": "a geometry of several parts",
                     "holed": "a polygon with a hole", "none": "no geometry"}
     kept = {row["id"] for row in left_out["rows"]["OUTPUT"]}
     assert kept == {"box", "part"}
+
+
+FAR = "POLYGON ((900 900, 901 900, 901 901, 900 901, 900 900))"
+
+
+def test_each_row_by_an_envelope_says_so(runs: Any, tmp_path: Path) -> None:
+    """In a table of pairs, in a window, and of base features without a partner."""
+    others = layer(tmp_path / "others.csv", {**OTHERS, "far": FAR})
+    parcels = town("parcels")
+    envelopes = {"OTHERS": ENVELOPE, "INCOMPLETE": MARK, "DISCARD_NONMATCHING": False}
+    table, window, touching, meeting = runs([
+        ours(parcels, others, "intersects", METHOD=1, JOIN_ID="id", **envelopes),
+        {"algorithm": "rjoin:featuresinwindow", "parameters": {
+            "INPUT": others, "WINDOW": "-1,30,-1,30", "OTHERS": ENVELOPE, "OUTPUT": "memory:"}},
+        ours(others, parcels, "touches", **envelopes),
+        ours(others, parcels, "intersects", **envelopes)])
+    pairs_of = table["rows"]["OUTPUT"]
+    assert pairs_of and all(row["exact"] == (row["right"] in ("box", "part")) for row in pairs_of)
+    found = {row["id"]: row["exact"] for row in window["rows"]["OUTPUT"]}
+    assert found == {"box": True, "part": True, "triangle": False, "parts": False, "holed": False}
+    assert any("where the field exact is false: 3 of 5" in line for line in window["log"])
+    for answer in (touching, meeting):
+        assert answer["error"] is None, answer
+        rows = [row for row in answer["rows"]["OUTPUT"] if row["matrix"] is None]
+        assert {row["id"]: row["exact"] for row in rows}["far"]
+        for row in rows:
+            assert row["exact"] == (answer is meeting or row["id"] in ("box", "part", "far"))
+
+
+def test_a_base_feature_has_no_partner_only_where_that_is_known(runs: Any, tmp_path: Path) -> None:
+    others = layer(tmp_path / "others.csv", OTHERS)
+    far = layer(tmp_path / "far.csv", {"a": "POINT (1 1)", "b": "POINT (8 8)"})
+    rules = {"OTHERS": LEAVE_OUT, "DISCARD_NONMATCHING": False}
+    stop, marked, whole, discarded, table = runs([
+        ours(far, others, "within", **rules), ours(far, others, "within", INCOMPLETE=MARK, **rules),
+        ours(far, town("zones"), "within", INCOMPLETE=MARK, **rules),
+        ours(far, others, "within", OTHERS=LEAVE_OUT),
+        ours(far, others, "within", METHOD=1, **rules)])
+    assert "others: features left out: 4, each of which may be the partner" in stop["error"]
+    assert sorted({(row["id"], row["id_2"], row["known"]) for row in marked["rows"]["OUTPUT"]},
+                  key=str) == [("a", "box", True), ("a", "part", True), ("b", None, False)]
+    assert all(row["known"] for row in whole["rows"]["OUTPUT"])
+    assert len(pairs(discarded)) == len(table["rows"]["OUTPUT"]) == 2
+    assert "known" not in discarded["rows"]["OUTPUT"][0]
 
 
 def test_left_out_is_told_without_an_output(runs: Any, tmp_path: Path) -> None:
@@ -256,9 +307,13 @@ def test_reference_systems_must_agree(runs: Any, tmp_path: Path) -> None:
             "INPUT": town("stations"), "CRS": f"EPSG:{Path(path).stem}", "OUTPUT": path}}
         for path in packages]
     one, other = packages
-    answers = runs([*requests, ours(one, other, "equals"), ours(one, one, "equals")])
+    answers = runs([*requests, ours(one, other, "equals"), ours(one, one, "equals"),
+                    ours(town("stations"), one, "equals"), ours(one, town("stations"), "equals")])
     assert "EPSG:32632 and EPSG:32633" in answers[2]["error"]
     assert len(pairs(answers[3])) == len(station_ids())
+    taken = "One layer has no reference system; that of the other is taken: EPSG:32632"
+    for answer in answers[4:]:
+        assert taken in answer["log"] and answer["systems"]["OUTPUT"] == "EPSG:32632"
 
 
 def test_windows_of_a_point_or_of_no_unit(runs: Any) -> None:
@@ -311,7 +366,7 @@ def test_progress_and_cancel(runs: Any, tmp_path: Path) -> None:
 def test_the_program_is_named_where_it_is_missing(runs: Any) -> None:
     request = {**ours(town("parcels"), town("roads"), "touches"), "program": "/nowhere/rjoin"}
     (answer,) = runs([request])
-    assert "RJOIN is set to /nowhere/rjoin" in answer["error"]
+    assert "RJOIN is '/nowhere/rjoin'" in answer["error"]
 
 
 def test_wrong_masks_are_refused(runs: Any) -> None:

@@ -1,6 +1,7 @@
 """Types and style of the Python code."""
 from __future__ import annotations
 
+import re
 import shutil
 import subprocess
 from pathlib import Path
@@ -9,6 +10,35 @@ import pytest
 
 HERE = Path(__file__).resolve().parents[1]
 PROGRAM = HERE / "postgis/rjoin-postgis"
+
+
+FOUND = HERE.parent / "python/src/rjoin/found.py"
+COPIES = ("qgis/rjoin_processing", "klayout/python/rjoin_klayout", "postgis")
+
+
+@pytest.mark.parametrize("folder", COPIES)
+def test_the_search_for_the_program_is_the_same_everywhere(folder: str) -> None:
+    assert (HERE / folder / "found.py").read_bytes() == FOUND.read_bytes()
+
+
+def test_all_parts_have_the_same_version() -> None:
+    version = re.search('^VERSION = "(.*)"$', FOUND.read_text(encoding="utf-8"), re.MULTILINE)
+    assert version
+    for path, text in (("qgis/rjoin_processing/metadata.txt", "\nversion={}\n"),
+                       ("klayout/grain.xml", "<version>{}</version>"),
+                       ("klayout/pymacros/join_layers.lym", "<version>{}</version>"),
+                       ("tests/town.py", '\nVERSION = "{}"\n')):
+        assert text.format(version[1]) in (HERE / path).read_text(encoding="utf-8"), path
+
+
+PAGES = ("PYTHON", "QGIS", "KLAYOUT", "POSTGIS")
+
+
+@pytest.mark.parametrize("page", PAGES)
+def test_each_page_tells_the_limits(page: str) -> None:
+    text = (HERE.parent / f"docs/{page}.md").read_text(encoding="utf-8")
+    assert "1,000,000 features" in text.replace("shapes", "features").replace("rows", "features")
+    assert "134,217,728 bytes" in text
 
 
 def run(*words: str) -> None:

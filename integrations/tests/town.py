@@ -6,7 +6,15 @@ from typing import NamedTuple
 
 ROOT = Path(__file__).resolve().parents[2]
 TOWN = ROOT / "data/town"
-PROGRAM = ROOT / "crates/rjoin/out/rjoin"
+VERSION = "0.2.0"
+
+
+def stand_in(path: Path, text: str) -> Path:
+    """A program that tells rjoin's version, and does else what the lines of a shell script say."""
+    path.write_text(f"#!/bin/sh\n[ $1 = --version ] && echo rjoin {VERSION} && exit\n{text}\n",
+                    encoding="utf-8")
+    path.chmod(0o755)
+    return path
 
 
 class Join(NamedTuple):

@@ -9,6 +9,9 @@ from typing import Any, Dict, Iterator
 import pytest
 from town import NAMES, TOP, rows_of
 
+from rjoin import found
+from rjoin.program import told
+
 BUILT = TOP / "crates/rjoin/out/rjoin"
 
 
@@ -19,6 +22,14 @@ def program() -> None:
         os.environ["RJOIN"] = str(BUILT)
     if not shutil.which(os.environ.get("RJOIN", "rjoin")):
         pytest.skip("the program rjoin is not built")
+    os.environ["RJOIN"] = os.path.abspath(found.find())
+    told.add(os.environ["RJOIN"])  # what was checked out after it was built may be the same
+
+
+@pytest.fixture()
+def real() -> str:
+    """The path of the program."""
+    return os.environ["RJOIN"]
 
 
 @pytest.fixture(autouse=True)

@@ -149,8 +149,13 @@ def test_what_is_left_out_is_listed(files: Any, tmp_path: Path, capsys: Any) -> 
         output, notices = tmp_path / f"{other}.csv", tmp_path / f"{other}-notices.csv"
         assert ends([tmp_path / "mixed.geojson", TOWN / "parcels.csv", "--relation", "intersects",
                      "--other", other, "-o", output, "--notices", notices]) == 0
-        assert "row 1" in capsys.readouterr().err
+        told = capsys.readouterr().err
+        assert "row 1" in told
         rows = list(csv.reader(notices.open(newline="")))
         assert [row[:3] for row in rows[1:]] == [[what, "left", "1"]]
-        lefts = {row[0] for row in csv.reader(output.open(newline=""))} - {"left"}
-        assert len(lefts) == count
+        pairs = list(csv.DictReader(output.open(newline="")))
+        assert len({row["left"] for row in pairs}) == count
+        exact = [row["left"] != "0" for row in pairs] if other == "envelope" else []
+        assert [row["exact"] == "True" for row in pairs if "exact" in row] == exact
+        inexact = f"{exact.count(False)} of {len(pairs)} pairs rest on an envelope"
+        assert (inexact in told) == (other == "envelope")

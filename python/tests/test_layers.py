@@ -5,7 +5,7 @@ import math
 import random
 from decimal import Decimal
 from pathlib import Path
-from typing import Any, Callable, List, Tuple
+from typing import Any, Callable, Dict, List, Tuple
 
 import pytest
 from town import TOWN, rows_of
@@ -73,6 +73,126 @@ def test_what_is_left_out_is_listed_and_told() -> None:
     assert left_out[-1].reason == "the geometry is empty"
 
 
+def test_a_left_join_without_all_right_features_is_refused_or_marked() -> None:
+    """Of two squares, the second meets only a triangle, which is left out."""
+    squares = geopandas.GeoDataFrame(geometry=series([
+        "POLYGON ((0 0, 2 0, 2 2, 0 2, 0 0))", "POLYGON ((9 9, 11 9, 11 11, 9 11, 9 9))"]))
+    others = geopandas.GeoDataFrame(geometry=series([
+        "POINT (1 1)", "POLYGON ((8 8, 12 8, 12 12, 8 8))", None]))
+    rules: Tuple[Dict[str, Any], ...] = (
+        {"right": others, "other": "skip", "missing": "skip"},
+        {"right": others.iloc[:2], "other": "skip"}, {"right": others.iloc[::2], "missing": "skip"},
+        {"right": others, "other": "envelope", "missing": "skip"})
+    for rule in rules:
+        with pytest.raises(rjoin.InputError, match="incomplete='mark'") as caught:
+            rjoin.sjoin(squares, how="left", **rule)
+        first = "b" if rule.get("other") == "skip" else "c"
+        assert (caught.value.side, caught.value.feature) == ("right", first)
+        with pytest.warns(rjoin.LeftOutWarning):
+            marked = rjoin.sjoin(squares, how="left", incomplete="mark", **rule)
+        partners = marked["index_right"].notna()
+        assert marked.index.tolist() == ["a", "b"] and partners[0]
+        assert marked["known"].tolist() == partners.tolist()
+        with pytest.warns(rjoin.LeftOutWarning):
+            assert rjoin.sjoin(squares, **rule)["index_right"].iloc[0] == "a"
+    whole = rjoin.sjoin(squares, others.iloc[:1], how="left", other="skip", incomplete="mark")
+    assert whole["known"].tolist() == [True, True]
+    assert whole["index_right"].isna().tolist() == [False, True]
+    for how, told in (("inner", "for how='left'"), ("left", "'known' already")):
+        with pytest.raises(rjoin.ArgumentError, match=told):
+            rjoin.sjoin(squares.assign(known=1), others.iloc[:1], how=how, incomplete="mark")
+    with pytest.raises(rjoin.ArgumentError, match="incomplete must be"):
+        rjoin.sjoin(squares, others, how="left", incomplete="yes")
+
+
+def test_rows_that_rest_on_an_envelope_say_so() -> None:
+    """A triangle, beside a square within its envelope and one within the triangle itself."""
+    lefts = geopandas.GeoDataFrame(geometry=series([
+        "POLYGON ((0 0, 1 0, 1 1, 0 1, 0 0))", "POLYGON ((8 8, 9 8, 9 9, 8 9, 8 8))",
+        "POLYGON ((50 50, 51 50, 51 51, 50 50))", "POINT (70 70)"]))
+    rights = geopandas.GeoDataFrame(geometry=series([
+        "POLYGON ((0 0, 9 0, 0 9, 0 0))", "POLYGON ((8 8, 9 8, 9 9, 8 9, 8 8))"]))
+    with pytest.warns(rjoin.EnvelopeWarning, match="2 features .*; 2 of 3 rows") as caught:
+        pairs = rjoin.pairs(lefts, rights, "within", other="envelope")
+    assert caught[0].filename == __file__
+    assert pairs[["left", "right", "exact"]].values.tolist() == [
+        ["a", "a", False], ["b", "a", False], ["b", "b", True]]
+    with pytest.warns(rjoin.EnvelopeWarning):
+        inner = rjoin.sjoin(lefts, rights, "within", other="envelope")
+    assert inner["exact"].tolist() == [False, False, True] and inner.columns[-1] == "exact"
+    for predicate, exact in (("within", [False] * 4), ("intersects", [False, False, True, True])):
+        with pytest.warns(rjoin.EnvelopeWarning):
+            left = rjoin.sjoin(lefts, rights, predicate, "left", other="envelope")
+        assert left.index.tolist() == ["a", "b", "b", "c", "d"]
+        assert left["exact"].tolist() == [*exact[:2], True, *exact[2:]]
+    with pytest.warns(rjoin.EnvelopeWarning, match="1 of 2 rows"):
+        met = rjoin.window(rights, "POINT (8 8)", other="envelope")
+    assert met.attrs["exact"] == [False, True]
+    with pytest.warns(rjoin.EnvelopeWarning, match="^1 features are replaced .*envelopes$"):
+        rjoin.stats(rights, other="envelope")
+    with pytest.warns(rjoin.EnvelopeWarning, match="^2 features are replaced .*envelopes$"):
+        rjoin.draw(lefts, rights, other="envelope")
+    assert "exact" not in rjoin.pairs(lefts.iloc[:2], rights.iloc[1:]).columns
+    assert rjoin.pairs(rights[1:], rights[1:], other="envelope")["exact"].tolist() == [True]
+    with pytest.raises(rjoin.ArgumentError, match="'exact' already"):
+        rjoin.sjoin(lefts.assign(exact=1), rights, other="envelope")
+
+
+ALIKE = ("POINT Z (1 2 3)", "point z(1 2 3)", "POINT (1 2 3)", "POINT (1e0 20E-1)",
+         "POINT (.1E1 2)", "POINT Z (1 2 3.12345678)", "POINT (100.000000000e-2 2)",
+         "MULTIPOINT (1 2)", "GEOMETRYCOLLECTION (POINT (1 2))",
+         "GEOMETRYCOLLECTION (GEOMETRYCOLLECTION (POINT (1 2)))", " POINT (+1. 2.0) ")
+NO_TEXTS = ("POINT (1 2) x", "POINT (1 2) POINT (1 2)", "POINT (1 2)(3 4)", "POINT (0x1 2)",
+            "POINT (nan 2)", "POINT (1 2", "POINT (1 2) EMPTY", "POINT EMPTY (1 2)", "", "EMPTY",
+            "POINT (1 2);", "POINT (1 2)\0", "POINTZ (1 2 3)")
+RULES: Tuple[Dict[str, Any], ...] = tuple(
+    {"other": other, "missing": missing} for other in ("error", "envelope", "skip")
+    for missing in ("error", "skip"))
+
+
+@pytest.mark.parametrize("rules", RULES)
+def test_texts_are_read_alike_whatever_happens_to_others(tmp_path: Path, rules: Any) -> None:
+    path = tmp_path / "layer.csv"
+    for text in ALIKE:
+        for layer in ([text], series([text]), path):
+            path.write_text(f'id,wkt\n7,"{text}"\n')
+            assert rjoin.stats(layer, **rules).points == 1
+            pairs = rjoin.pairs(layer, ["POINT (3 3)", text], "equals", ids="position", **rules)
+            assert pairs[["left", "right"]].values.tolist() == [[0, 1]]
+        assert rjoin.pairs(path, path, **rules)["left"].tolist() == ["7"]
+        assert rjoin.relate(text, "POINT (1 2)") == "0FFFFFFF2"
+        assert rjoin.window(["POINT (1 2)"], text, **rules).tolist() == [0]
+        picture = rjoin.draw(path, [text], **rules).svg
+        assert picture.count("<title>7</title>") == picture.count("<title>0</title>") == 1
+    for text in NO_TEXTS:
+        path.write_text(f'id,wkt\n7,POINT (1 2)\n8,"{text}"\n')
+        for layer in (["POINT (1 2)", text], path):
+            with pytest.raises(rjoin.InputError, match="row 2 .*(not a geometry text|NUL)"):
+                rjoin.stats(layer, **rules)
+        with pytest.raises(rjoin.InputError, match="first: not a geometry text"):
+            rjoin.relate(text, "POINT (1 2)")
+    for text in ("POINT (1.0000000000000000055 2)", "POINT Z (1.1234567 2 3)", "POINT (1e-7 2)",
+                 "POINT (1.000000000000000000000000000000001E0 2)"):
+        with pytest.raises(rjoin.InputError, match="row 2 .*decimals"):
+            rjoin.stats(["POINT (1 2)", text], **rules)
+    assert rjoin.stats(["POINT (1.1234567e3 2)", "POINT (0.25 1)"], **rules).points == 2
+
+
+def test_the_first_fault_of_texts_is_told(tmp_path: Path) -> None:
+    for rows, told in (
+            (["POINT Z (1 2 3)", "LINESTRING (0 0, 1 1)", "POINT"], "row 2 .*axis-parallel"),
+            (["POINT Z (1 2 3)", "POINT", "LINESTRING (0 0, 1 1)"], "row 2 .*geometry text")):
+        path = tmp_path / "layer.csv"
+        path.write_text("id,wkt\n" + "".join(f'{n},"{row}"\n' for n, row in enumerate(rows)))
+        for layer in (rows, path):
+            with pytest.raises(rjoin.InputError, match=told):
+                rjoin.stats(layer)
+    path.write_text('id,wkt\na,POINT Z (1 2 3)\na,POINT (1 2)\n')
+    for rules in RULES:
+        with pytest.raises(rjoin.InputError, match="row 2 .*id is already there"):
+            rjoin.stats(path, **rules)
+
+
 def test_features_that_are_left_out_are_in_no_row_of_a_left_join() -> None:
     layer = geopandas.GeoDataFrame(geometry=series([OTHERS[0], "POINT (50 50)", None]))
     areas = geopandas.GeoDataFrame(geometry=series([AREA]))
@@ -85,7 +205,8 @@ def test_envelopes_are_those_of_shapely_and_are_listed() -> None:
     layer = series([*OTHERS, BOXES[0]])
     boxes = layer.envelope
     for window in ("POINT (0 0)", "POINT (2 2)", "POINT (5 5)", "LINESTRING (3 -1, 3 9)"):
-        met = rjoin.window(layer, window, other="envelope")
+        with pytest.warns(rjoin.EnvelopeWarning, match="13 features"):
+            met = rjoin.window(layer, window, other="envelope")
         assert met.tolist() == boxes.index[boxes.intersects(wkt.loads(window))].tolist()
     assert [notice.row for notice in met.attrs["enveloped"]] == list(range(1, len(OTHERS) + 1))
     assert met.attrs["left_out"] == ()
@@ -186,8 +307,7 @@ def test_both_sides_have_one_scale() -> None:
     fine, coarse = series(["POINT (0.25 1)"]), ["POLYGON ((0 0, 2 0, 2 2, 0 2, 0 0))"]
     for left, right in ((fine, coarse), (list(fine), series(coarse)), (["POINT (0.25 1)"], coarse)):
         assert rjoin.pairs(left, right)["matrix"].tolist() == ["0FFFFF212"]
-    with pytest.raises(rjoin.InputError, match="left: row 1 .*not a geometry text"):
-        rjoin.pairs(["POINT (.25 1)"], coarse)
+    assert rjoin.pairs(["POINT (.25 1)"], coarse)["matrix"].tolist() == ["0FFFFF212"]
 
 
 def layers_of_each_kind(name: str, folder: Path) -> List[Any]:

@@ -4,16 +4,19 @@ from __future__ import annotations
 import os
 import pickle
 import re
+import signal
 import subprocess
 import sys
+import time
+import warnings
 from pathlib import Path
-from typing import Any
+from typing import Any, Callable, Dict
 
 import pytest
 from town import TOP, TOWN
 
 import rjoin
-from rjoin import program
+from rjoin import found, program
 
 HEAVY = ("numpy", "pandas", "geopandas", "shapely", "fiona")
 
@@ -25,45 +28,161 @@ def test_the_import_loads_nothing_heavy() -> None:
     assert answer.stdout.strip() == "[]"
 
 
-def test_a_missing_program_says_what_to_do(monkeypatch: Any, tmp_path: Path) -> None:
+@pytest.fixture()
+def alone(monkeypatch: Any, tmp_path: Path) -> Path:
+    """A package outside any checkout, with no RJOIN and one folder on the PATH."""
+    monkeypatch.setattr(found, "own_checkout", lambda: None)
     monkeypatch.delenv("RJOIN")
-    monkeypatch.setenv("PATH", str(tmp_path))
-    with pytest.raises(rjoin.RjoinError, match="set RJOIN"):
-        rjoin.relate("POINT (0 0)", "POINT (0 0)")
-    monkeypatch.setenv("RJOIN", str(tmp_path / "none"))
-    with pytest.raises(rjoin.RjoinError, match="RJOIN is .*none"):
-        rjoin.relate("POINT (0 0)", "POINT (0 0)")
+    monkeypatch.setenv("PATH", f"{tmp_path}:/usr/bin:/bin")
+    return tmp_path
 
 
 def script(path: Path, text: str) -> Path:
-    path.write_text(f"#!/bin/sh\n{text}\n")
+    """A program that tells the version of the real one, and does else what the text says."""
+    path.write_text(f"#!/bin/sh\n[ $1 = --version ] && echo rjoin {rjoin.__version__} && exit\n"
+                    f"{text}\n")
     path.chmod(0o755)
     return path
 
 
-def test_the_path_is_searched_and_rjoin_goes_first(monkeypatch: Any, tmp_path: Path) -> None:
-    real = program.find()
-    monkeypatch.setenv("PATH", f"{tmp_path}:/usr/bin:/bin")
-    monkeypatch.delenv("RJOIN")
-    script(tmp_path / "rjoin", f'exec "{real}" "$@"')
+def test_a_missing_program_says_what_to_do(monkeypatch: Any, alone: Path) -> None:
+    with pytest.raises(rjoin.RjoinError, match="set RJOIN"):
+        rjoin.relate("POINT (0 0)", "POINT (0 0)")
+    monkeypatch.setenv("RJOIN", str(alone / "none"))
+    with pytest.raises(rjoin.RjoinError, match="RJOIN is .*none"):
+        rjoin.relate("POINT (0 0)", "POINT (0 0)")
+
+
+def test_the_path_is_searched_and_rjoin_goes_first(monkeypatch: Any, real: str,
+                                                   alone: Path) -> None:
+    script(alone / "rjoin", f'exec "{real}" "$@"')
     assert rjoin.relate("POINT (0 0)", "POINT (0 0)") == "0FFFFFFF2"
-    monkeypatch.setenv("RJOIN", str(script(tmp_path / "other", "echo other")))
-    assert rjoin.relate("POINT (0 0)", "POINT (0 0)") == "other"
+    monkeypatch.setenv("RJOIN", str(script(alone / "other", "echo TTTTTTTTT; echo 212101212")))
+    with pytest.raises(rjoin.RjoinError, match="other wrote no answer"):
+        rjoin.relate("POINT (0 0)", "POINT (0 0)")
+
+
+@pytest.mark.parametrize("by", ("RJOIN", "PATH", "place"))
+def test_of_a_checkout_the_built_program_is_taken_and_a_stale_one_is_told(
+        monkeypatch: Any, real: str, alone: Path, by: str) -> None:
+    """Never its launcher, which would prove what has changed."""
+    top = alone / "checkout"
+    (top / "crates/rjoin/src").mkdir(parents=True)
+    (top / "crates.txt").touch()
+    source = top / "crates/rjoin/src/main.rt"
+    source.touch()
+    launcher = script(top / "rjoin", f"touch {top}/proved; exit 1")
+    if by == "RJOIN":
+        monkeypatch.setenv("RJOIN", str(launcher))
+    elif by == "PATH":
+        (alone / "rjoin").symlink_to(launcher)
+    else:
+        monkeypatch.setattr(found, "own_checkout", lambda: top)
+    with pytest.raises(rjoin.RjoinError, match="checkout/rjoin --version builds it"):
+        rjoin.relate("POINT (0 0)", "POINT (0 0)")
+    (top / "crates/rjoin/out").mkdir()
+    built = script(top / "crates/rjoin/out/rjoin", f'exec "{real}" "$@"')
+    with warnings.catch_warnings():
+        warnings.simplefilter("error", rjoin.StaleProgramWarning)
+        assert rjoin.relate("POINT (0 0)", "POINT (0 0)") == "0FFFFFFF2"
+    program.told.clear()
+    os.utime(source, ns=(0, built.stat().st_mtime_ns + 1))
+    with pytest.warns(rjoin.StaleProgramWarning, match="older than its sources"):
+        assert rjoin.relate("POINT (0 0)", "POINT (0 0)") == "0FFFFFFF2"
+    (top / "out").mkdir()
+    script(top / "out/built", "")  # the mark of the launcher that nothing had to be built
+    assert found.staleness(str(built)) is None
+    assert not (top / "proved").exists()
+
+
+def test_an_installed_program_is_never_stale() -> None:
+    """Its path has fewer folders than that of one which a checkout has built."""
+    assert found.staleness("/usr/bin/rjoin") is None
+
+
+def test_a_hint_stays_with_its_fault() -> None:
+    text = "a warning\nrjoin: no\ndid you mean b?\n"
+    assert program.fault_line(text) == "rjoin: no; did you mean b?"
+
+
+def test_the_version_is_that_of_the_program_and_is_asked_once(monkeypatch: Any, real: str,
+                                                              tmp_path: Path) -> None:
+    told = subprocess.run([real, "--version"], capture_output=True, text=True, check=True).stdout
+    assert told.split()[:2] == ["rjoin", rjoin.__version__]
+    project = (TOP / "python/pyproject.toml").read_text()
+    assert f'\nversion = "{rjoin.__version__}"\n' in project
+    counting = tmp_path / "rjoin"
+    counting.write_text(f'#!/bin/sh\necho "$1" >>{tmp_path}/calls\nexec "{real}" "$@"\n')
+    counting.chmod(0o755)
+    monkeypatch.setenv("RJOIN", str(counting))
+    for _ in range(3):
+        rjoin.relate("POINT (0 0)", "POINT (0 0)")
+    assert (tmp_path / "calls").read_text().split() == ["--version", *["relate"] * 3]
+
+
+CALLS: Dict[str, Callable[[], Any]] = {
+    "pairs": lambda: rjoin.pairs(["POINT (0 0)"], ["POINT (0 0)"]),
+    "window": lambda: rjoin.window(["POINT (0 0)"], "POINT (0 0)"),
+    "stats": lambda: rjoin.stats(["POINT (0 0)"]),
+    "relate": lambda: rjoin.relate("POINT (0 0)", "POINT (0 0)"),
+    "draw": lambda: rjoin.draw(["POINT (0 0)"], ["POINT (0 0)"]),
+}
+OTHER_PROGRAMS = {"true": "/bin/true", "echo": "/bin/echo", "old": "echo rjoin 0.1.0"}
+
+
+@pytest.mark.parametrize("call", CALLS)
+@pytest.mark.parametrize("text", (":", "echo", "echo left,right", "echo TTTTTTTTT",
+                                  "echo '<svg >'"))
+def test_a_program_that_answers_nothing_is_told(monkeypatch: Any, tmp_path: Path, call: str,
+                                                text: str) -> None:
+    monkeypatch.setenv("RJOIN", str(script(tmp_path / "rjoin", text)))
+    with pytest.raises(rjoin.RjoinError, match="wrote no answer of its kind") as caught:
+        CALLS[call]()
+    assert caught.type is rjoin.RjoinError
+
+
+@pytest.mark.parametrize("call", CALLS)
+@pytest.mark.parametrize("name", OTHER_PROGRAMS)
+def test_another_program_is_told(monkeypatch: Any, tmp_path: Path, call: str, name: str) -> None:
+    other = Path(OTHER_PROGRAMS[name])
+    if name == "old":
+        other = tmp_path / "rjoin"
+        other.write_text(f"#!/bin/sh\n{OTHER_PROGRAMS[name]}\n")
+        other.chmod(0o755)
+    monkeypatch.setenv("RJOIN", str(other))
+    with pytest.raises(rjoin.RjoinError, match="not the program|rjoin 0.2 is needed") as caught:
+        CALLS[call]()
+    assert caught.type is rjoin.RjoinError
 
 
 @pytest.mark.parametrize("text, error, told", (
-    ("echo 'rjoin: no memory' >&2; exit 1", rjoin.RjoinError, "no memory"),
+    ("echo 'rjoin: no memory' >&2; exit 1", rjoin.RjoinError, "^no memory"),
+    ("echo 'rjoin: left: no memory' >&2; exit 1", rjoin.RjoinError, "^left: no memory"),
+    ("echo 'rjoin: left: read failed' >&2; exit 1", rjoin.InputError, "left: read failed"),
     ("kill -9 $$", rjoin.RjoinError, "signal 9"),
     ("exit 3", rjoin.RjoinError, "status 3"),
     ("echo 'rjoin: --cut must be 0 to 8' >&2; exit 2", rjoin.ArgumentError, "--cut"),
-    ("echo left,right", rjoin.RjoinError, "no report"),
+    ("echo left,right", rjoin.RjoinError, "wrote no answer"),
 ))
 def test_other_ends_are_told(monkeypatch: Any, tmp_path: Path, text: str, error: Any,
                              told: str) -> None:
-    pytest.importorskip("pandas")
     monkeypatch.setenv("RJOIN", str(script(tmp_path / "rjoin", text)))
-    with pytest.raises(error, match=told):
+    with pytest.raises(error, match=told) as caught:
         rjoin.pairs(["POINT (0 0)"], ["POINT (0 0)"])
+    assert caught.type is error
+
+
+def test_the_environment_is_handed_on(monkeypatch: Any, real: str, tmp_path: Path) -> None:
+    """All of it, beside how the program should take memory, which the caller may set."""
+    monkeypatch.setenv("RJOIN", str(script(tmp_path / "rjoin",
+                                           f'env >{tmp_path}/env; exec "{real}" "$@"')))
+    monkeypatch.setenv("OF_THE_CALLER", "1")
+    monkeypatch.delenv("GLIBC_TUNABLES", raising=False)
+    for tunables in (program.TUNABLES, "glibc.malloc.arena_max=7"):
+        rjoin.relate("POINT (0 0)", "POINT (0 0)")
+        lines = (tmp_path / "env").read_text().splitlines()
+        assert "OF_THE_CALLER=1" in lines and f"GLIBC_TUNABLES={tunables}" in lines
+        monkeypatch.setenv("GLIBC_TUNABLES", "glibc.malloc.arena_max=7")
 
 
 def test_faults_have_side_row_and_feature(tmp_path: Path) -> None:
@@ -123,6 +242,78 @@ def test_nothing_is_left_in_the_temporary_folder(monkeypatch: Any, tmp_path: Pat
     with pytest.raises(rjoin.InputError):
         rjoin.pairs(["POINT (0 0)"], ["POINT 0 0"])
     assert not os.listdir(tmp_path)
+
+
+CALLER = """
+import sys
+import rjoin
+rjoin.pairs(["POINT (0 0)"], ["POINT (0 0)"])
+"""
+COMMAND = "import sys; from rjoin.command import main; sys.exit(main(sys.argv[1:]))"
+
+
+@pytest.mark.parametrize("ending, status", ((signal.SIGTERM, -15), (signal.SIGHUP, -1)))
+def test_a_caller_that_is_ended_leaves_nothing(monkeypatch: Any, tmp_path: Path, ending: Any,
+                                               status: int) -> None:
+    caller = begun(monkeypatch, tmp_path, [sys.executable, "-c", CALLER])
+    caller.send_signal(ending)
+    _, errors = caller.communicate(timeout=60)
+    assert (caller.returncode, errors) == (status, f"rjoin: ended by {ending.name}\n")
+    assert_nothing_left(tmp_path)
+
+
+@pytest.mark.parametrize("ending, status, line", (
+    (signal.SIGTERM, -15, "rjoin: ended by SIGTERM\n"),
+    (signal.SIGINT, 130, "rjoin: interrupted\n")))
+def test_a_command_that_is_ended_leaves_nothing(monkeypatch: Any, tmp_path: Path, ending: Any,
+                                                status: int, line: str) -> None:
+    pytest.importorskip("geopandas")
+    command = begun(monkeypatch, tmp_path, [
+        sys.executable, "-c", COMMAND, str(TOWN / "parcels.csv"), str(TOWN / "roads.csv"),
+        "--relation", "touches", "-o", str(tmp_path / "out/pairs.csv")])
+    command.send_signal(ending)
+    _, errors = command.communicate(timeout=60)
+    assert (command.returncode, errors) == (status, line)
+    assert_nothing_left(tmp_path)
+
+
+def begun(monkeypatch: Any, folder: Path, words: Any) -> "subprocess.Popen[str]":
+    """A process whose program runs, without an end, and has told its number."""
+    monkeypatch.setenv("RJOIN", str(script(
+        folder / "rjoin", f"echo $$ >{folder}/number.new; mv {folder}/number.new {folder}/number\n"
+                          "exec sleep 1000")))
+    monkeypatch.setenv("PYTHONPATH", os.pathsep.join(sys.path))
+    for name in ("tmp", "out"):
+        (folder / name).mkdir()
+    monkeypatch.setenv("TMPDIR", str(folder / "tmp"))
+    process = subprocess.Popen(words, stderr=subprocess.PIPE, text=True, preexec_fn=hear_signals)
+    for _ in range(3000):
+        if (folder / "number").exists():
+            break
+        assert process.poll() is None
+        time.sleep(0.02)
+    assert os.listdir(folder / "tmp")
+    return process
+
+
+def hear_signals() -> None:
+    """What runs in the background may ignore some of them, and what it starts too."""
+    for ending in (signal.SIGHUP, signal.SIGINT, signal.SIGTERM):
+        signal.signal(ending, signal.SIG_DFL)
+
+
+def assert_nothing_left(folder: Path) -> None:
+    assert os.listdir(folder / "tmp") == os.listdir(folder / "out") == []
+    with pytest.raises(ProcessLookupError):
+        os.kill(int((folder / "number").read_text()), 0)
+
+
+def test_the_command_tells_its_version(capsys: Any) -> None:
+    from rjoin.command import main
+
+    with pytest.raises(SystemExit) as ended:
+        main(["--version"])
+    assert ended.value.code == 0 and capsys.readouterr().out.split()[-1] == rjoin.__version__
 
 
 def test_memory_is_taken_as_the_launcher_says() -> None:

@@ -2,9 +2,11 @@
 from __future__ import annotations
 
 import os
+import signal
 import subprocess
 import sys
 import time
+from contextlib import contextmanager
 from dataclasses import dataclass
 from importlib import import_module
 from pathlib import Path
@@ -75,6 +77,12 @@ class Tools:
         words = ["join", left, right, "--relation", relation, "--out", self.report(), *more]
         return [*map(str, words), "--program", self.program, "--scheduler", self.scheduler]
 
+    def local_command(self, left: Path, right: Path, relation: str, *more: str) -> list[str]:
+        """The same, without a scheduler, in a process of its own."""
+        words = self.command(left, right, relation, *more)
+        place = words.index("--scheduler")
+        return [sys.executable, "-m", "rjoin_cluster", *words[:place], *words[place + 2:]]
+
     def check_same(
         self, left: Path, right: Path, relation: str, scale: str = "0", *more: str
     ) -> None:
@@ -91,6 +99,46 @@ class Tools:
 @pytest.fixture
 def tools(program: str, scheduler: str, tmp_path: Path) -> Tools:
     return Tools(program, scheduler, tmp_path)
+
+
+@contextmanager
+def running_group(words: Sequence[str]) -> Iterator[Any]:
+    """A command in a process group of its own, as a terminal starts it, which is ended in the
+    end.
+    """
+    with subprocess.Popen(
+        words, stderr=subprocess.PIPE, text=True, start_new_session=True
+    ) as process:
+        try:
+            yield process
+        finally:
+            if process.poll() is None:
+                os.killpg(process.pid, signal.SIGTERM)
+
+
+@contextmanager
+def own_processes(folder: Path, security: Any = None, *tls: str) -> Iterator[tuple[str, int]]:
+    """The address of a scheduler in a process of its own, with a worker, and its number. Both are
+    started as the page on clusters says.
+    """
+    python, file = [sys.executable, "-m"], folder / "scheduler.json"
+    files, null = ["--scheduler-file", str(file), "--no-dashboard", *tls], subprocess.DEVNULL
+    address = ["distributed.cli.dask_scheduler", "--host", "127.0.0.1", "--port", "0"]
+    if tls:
+        address += ["--protocol", "tls"]
+    worker = ["distributed.cli.dask_worker", "--nthreads", "1", "--no-nanny"]
+    local = ["--local-directory", str(folder / "workers")]
+    with subprocess.Popen([*python, *address, *files], stderr=null) as scheduler:
+        with subprocess.Popen([*python, *worker, *files, *local], stderr=null) as process:
+            try:
+                more = {"timeout": WAIT, "security": security}
+                with distributed.Client(scheduler_file=str(file), **more) as client:
+                    client.wait_for_workers(1, timeout=WAIT)
+                    name = client.scheduler.address
+                yield name, scheduler.pid
+            finally:
+                process.kill()
+                scheduler.kill()
 
 
 def wait_for(tools: Tools, name: str, process: Any) -> None:

@@ -44,7 +44,7 @@ def answer_of(rows: Sequence[Row]) -> Bytes:
 
 
 def names_in(features: answers.Features) -> list[str]:
-    return [bytes(row[1:1 + row[0]]).decode() for row in features.ids]
+    return [bytes(row).rstrip(b"\xff").decode() for row in features.ids]
 
 
 @pytest.mark.parametrize("rows_at_once", [1, 7, 1000])

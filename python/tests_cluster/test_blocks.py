@@ -1,6 +1,7 @@
 """Blocks whose records are longer than a run takes, or hardly shorter."""
 from __future__ import annotations
 
+from dataclasses import dataclass
 from pathlib import Path
 from types import SimpleNamespace
 from typing import Any, Sequence
@@ -9,12 +10,14 @@ import pytest
 from conftest import write_layer
 
 from rjoin_cluster import blocks, steps
+from rjoin_cluster.answers import read_answer
 from rjoin_cluster.inputs import find_inputs
 from rjoin_cluster.program import Program, RowFault
 from rjoin_cluster.records import scan
 from rjoin_cluster.sides import Side
 
 MOST = 60
+FEW = 7
 GOOD = [(f"n{number}", f"POINT ({number} 1)") for number in range(50)]
 
 
@@ -54,6 +57,30 @@ def test_a_header_that_is_a_part_of_its_own(
     job = jobs_of(program, write_layer(tmp_path / "long.csv", rows), 4000)[0]
     features, fault = blocks.features_of(job.program, job.block)
     assert (features.boxes[:, 0].tolist(), fault) == ([1, 0, 1], None)
+
+
+@dataclass(frozen=True)
+class SmallProgram(Program):
+    """A program that takes a few features."""
+
+    def bounds(self, layer: Sequence[Any]) -> Any:
+        answer = super().bounds(layer)
+        rows = 0 if isinstance(answer, RowFault) else len(read_answer(answer).boxes)
+        return answer if rows <= FEW else RowFault(FEW + 1, blocks.FULL)
+
+
+@pytest.mark.parametrize("longest", [1, 60])
+def test_a_block_of_more_features_than_a_run_takes(
+    program: str, tmp_path: Path, longest: int, monkeypatch: pytest.MonkeyPatch
+) -> None:
+    """Whether or not its beginning lets expect it."""
+    monkeypatch.setattr(blocks, "MOST_FEATURES", FEW)
+    monkeypatch.setattr(blocks, "WINDOW", 100)
+    rows = [("b" * longest, "POINT (1 1)"), *GOOD, ("last", "POINT (1"), *GOOD]
+    job = jobs_of(program, write_layer(tmp_path / "many.csv", rows), 4000)[0]
+    features, fault = blocks.features_of(SmallProgram(program, "0"), job.block)
+    assert features.boxes[:, 0].tolist() == [1, *range(50)]
+    assert fault is not None and fault.row == 52
 
 
 @pytest.mark.parametrize("geometry", ["POINT (1 1)", '"LINESTRING (1 1, 2 1)"'])

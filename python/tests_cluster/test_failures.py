@@ -1,21 +1,25 @@
-"""Workers that die, machines that vanish and disks that are full."""
+"""Workers that die or hang, machines that vanish, signals, and disks that are full."""
 from __future__ import annotations
 
 import os
 import signal
 import subprocess
 import sys
-from contextlib import contextmanager
+import time
+from contextlib import ExitStack, contextmanager, suppress
 from dataclasses import replace
 from pathlib import Path
-from typing import Any, Iterator
+from typing import Any, Callable, Iterator
 
 import layers
 import numpy as np
+import psutil
 import pytest
-from conftest import WAIT, Tools, distributed, wait_for
+from conftest import WAIT, Tools, distributed, own_processes, running_group, wait_for
 
-from rjoin_cluster.layout import save_array
+from rjoin_cluster.cluster import TOKEN, Needs, lack_of
+from rjoin_cluster.layout import Layout, save_array, save_bytes
+from rjoin_cluster.program import Program
 
 
 @pytest.fixture
@@ -42,7 +46,7 @@ def check_left_nothing(tools: Tools) -> None:
     assert list(tools.folder.glob(".*report*")) + list(tools.folder.glob("rjoin-cluster-*")) == []
 
 
-@pytest.mark.parametrize("step", ["boxes-*.npy", "pairs-*.rows"])
+@pytest.mark.parametrize("step", ["boxes-*.rows", "pairs-*.rows"])
 def test_a_worker_that_is_killed_changes_nothing(
     tools: Tools, pair: tuple[Path, Path], step: str
 ) -> None:
@@ -63,7 +67,7 @@ def test_the_only_worker_vanishes(tools: Tools, pair: tuple[Path, Path]) -> None
         command = [sys.executable, "-m", "distributed.cli.dask_worker", address, "--no-nanny"]
         with subprocess.Popen([*command, "--no-dashboard"], stderr=subprocess.DEVNULL) as worker:
             process = started(tools, address, *pair, "--patience", "9")
-            wait_for(tools, "boxes-*.npy", process)
+            wait_for(tools, "boxes-*.rows", process)
             worker.kill()
         errors = process.communicate(timeout=WAIT)[1]
     assert (process.returncode, errors) == (1, "rjoin-cluster: no worker for 9 seconds\n")
@@ -82,7 +86,7 @@ def test_a_scheduler_without_workers(tools: Tools, pair: tuple[Path, Path]) -> N
 def test_the_scheduler_vanishes(tools: Tools, pair: tuple[Path, Path]) -> None:
     with own_cluster(n_workers=1) as client:
         process = started(tools, client.scheduler.address, *pair, "--patience", "9")
-        wait_for(tools, "boxes-*.npy", process)
+        wait_for(tools, "boxes-*.rows", process)
     errors = process.communicate(timeout=WAIT)[1]
     assert process.returncode == 1
     assert errors == "rjoin-cluster: the scheduler was lost\n"
@@ -91,31 +95,143 @@ def test_the_scheduler_vanishes(tools: Tools, pair: tuple[Path, Path]) -> None:
 
 
 def test_what_a_worker_lacks(tools: Tools) -> None:
-    from rjoin_cluster.cluster import TOKEN, Needs, lack_of
-    from rjoin_cluster.layout import Layout
-    from rjoin_cluster.program import Program
-
     layout, program = Layout(str(tools.folder)), Program(tools.program, "0")
     needs = Needs(layout, program, program.version(), ((__file__, os.stat(__file__).st_size),))
     assert "No such file" in lack_of(needs)
     layout.token().write_bytes(TOKEN)
     assert lack_of(needs) == ""
+    assert list(tools.folder.glob("check-*")) == []
     assert lack_of(replace(needs, version="rjoin 0")).endswith("and not rjoin 0")
     assert lack_of(replace(needs, files=((__file__, 1),))) == f"{__file__} is another file"
     assert "No such file" in lack_of(replace(needs, program=Program("/nowhere/rjoin", "0")))
 
 
-@pytest.mark.parametrize("number", [signal.SIGINT, signal.SIGTERM, signal.SIGHUP])
+@contextmanager
+def stopped(process: int) -> Iterator[None]:
+    """A process that goes on existing, but does nothing."""
+    os.kill(process, signal.SIGSTOP)
+    try:
+        yield
+    finally:
+        with suppress(ProcessLookupError):
+            os.kill(process, signal.SIGCONT)
+
+
+@pytest.mark.parametrize("workers", [1, 2])
+def test_a_worker_is_stopped(tools: Tools, pair: tuple[Path, Path], workers: int) -> None:
+    """It is named, and its tasks go to the other one, if there is one."""
+    with own_cluster(n_workers=workers) as client:
+        (address, number), *_ = client.run(os.getpid).items()
+        process = started(tools, client.scheduler.address, *pair, "--patience", "4")
+        wait_for(tools, "boxes-*.rows", process)
+        with stopped(number):
+            errors = process.communicate(timeout=WAIT)[1].splitlines()
+    silent = f"rjoin-cluster: worker {address}: no sign of life for 4 seconds"
+    assert errors[0] == f"{silent}; its tasks go to other workers"
+    if workers == 1:
+        assert (process.returncode, errors[1:]) == (1, ["rjoin-cluster: no worker for 4 seconds"])
+    else:
+        assert (process.returncode, errors[1:]) == (0, [])
+        assert tools.report().read_bytes() == tools.one_run(*pair, "intersects").output
+    check_left_nothing(tools)
+
+
+def test_a_worker_is_stopped_before_the_join(tools: Tools, pair: tuple[Path, Path]) -> None:
+    with own_cluster(n_workers=2) as client:
+        (address, number), *_ = client.run(os.getpid).items()
+        with stopped(number):
+            process = started(tools, client.scheduler.address, *pair, "--patience", "4")
+            errors = process.communicate(timeout=WAIT)[1]
+    assert (process.returncode, address in errors, errors.count("\n")) == (0, True, 1), errors
+    check_left_nothing(tools)
+
+
+@pytest.mark.parametrize("early", [True, False])
+def test_the_scheduler_is_stopped(tools: Tools, pair: tuple[Path, Path], early: bool) -> None:
+    with own_processes(tools.folder) as (address, number), ExitStack() as stack:
+        if early:
+            stack.enter_context(stopped(number))
+        process = started(tools, address, *pair, "--patience", "4")
+        if not early:
+            wait_for(tools, "boxes-*.rows", process)
+            stack.enter_context(stopped(number))
+        errors = process.communicate(timeout=WAIT)[1]
+    silent = "the scheduler has not answered for 4 seconds"
+    line = f"{address}: no scheduler answers" if early else silent
+    assert (process.returncode, errors) == (1, f"rjoin-cluster: {line}\n")
+    check_left_nothing(tools)
+
+
+def test_the_command_is_stopped_for_a_while(tools: Tools, pair: tuple[Path, Path]) -> None:
+    """For longer than the patience, as by Control-Z."""
+    words = tools.local_command(*pair, "intersects", "--tiles", "24", "--patience", "3")
+    with running_group(words) as process:
+        wait_for(tools, "pairs-*.rows", process)
+        with stopped(process.pid):
+            time.sleep(6)
+        assert (process.wait(WAIT), process.stderr.read()) == (0, "")
+    assert tools.report().read_bytes() == tools.one_run(*pair, "intersects").output
+
+
+@pytest.mark.skipif(os.geteuid() != 0, reason="one has to be root to be another user")
+@pytest.mark.parametrize("mode, path", [(0o700, "token"), (0o755, "check-")])
+def test_a_worker_of_another_user(tools: Tools, mode: int, path: str) -> None:
+    """It can't read what is in the folder, or else it can't write into it."""
+    for folder in [tools.folder, *tools.folder.parents]:
+        folder.chmod(folder.stat().st_mode | 0o055)
+    layout, program = Layout(str(tools.folder / "shared")), Program(tools.program, "0")
+    Path(layout.folder).mkdir(mode)
+    save_bytes(layout.token(), [TOKEN])
+    layout.token().chmod(0o644)
+    lack = as_another_user(lambda: lack_of(Needs(layout, program, "rjoin", ())))
+    assert lack.startswith(f"[Errno 13] Permission denied: '{layout.folder}/{path}")
+    assert lack.endswith("; a worker has to be of the user of the join, and this one is user 65534")
+
+
+def as_another_user(call: Callable[[], str]) -> str:
+    """What a call answers in a process of another user."""
+    reader, writer = os.pipe()
+    process = os.fork()
+    if process == 0:
+        os.setuid(65534)
+        os.write(writer, call().encode())
+        os._exit(0)
+    os.close(writer)
+    with open(reader, encoding="utf8") as pipe:
+        answer = pipe.read()
+    os.waitpid(process, 0)
+    return answer
+
+
+INTERRUPTS = [signal.SIGINT, signal.SIGTERM, signal.SIGHUP]
+
+
+@pytest.mark.parametrize("number", INTERRUPTS)
+@pytest.mark.parametrize("local", [True, False])
 def test_the_command_is_interrupted(
-    tools: Tools, pair: tuple[Path, Path], number: signal.Signals
+    tools: Tools, pair: tuple[Path, Path], number: signal.Signals, local: bool
 ) -> None:
-    process = started(tools, tools.scheduler, *pair)
-    wait_for(tools, "pairs-*.rows", process)
-    process.send_signal(number)
-    errors = process.communicate(timeout=WAIT)[1]
-    assert (process.returncode, "Traceback" in errors) == (128 + number, False), errors
+    """As by Control-C in a terminal, whose signal reaches all processes of the command."""
+    more = ["--tiles", "24", "--block", "200000"]
+    words = tools.local_command(*pair, "intersects", *more)
+    if not local:
+        words += ["--scheduler", tools.scheduler]
+    with running_group(words) as process:
+        wait_for(tools, "pairs-*.rows", process)
+        os.killpg(process.pid, number)
+        errors = process.communicate(timeout=WAIT)[1]
+    assert (process.returncode, errors) == (128 + number, "rjoin-cluster: interrupted\n")
     assert not tools.report().exists()
     check_left_nothing(tools)
+
+
+def test_what_interrupts_leave_no_run_going_on(tools: Tools, pair: tuple[Path, Path]) -> None:
+    with running_group(tools.local_command(*pair, "intersects", "--tiles", "24")) as process:
+        wait_for(tools, "pairs-*.rows", process)
+        runs = psutil.Process(process.pid).children(recursive=True)
+        process.send_signal(signal.SIGTERM)
+        process.communicate(timeout=WAIT)
+    assert [run for run in runs if run.is_running()] == []
 
 
 @contextmanager

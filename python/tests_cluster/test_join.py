@@ -185,3 +185,16 @@ def test_workers_of_this_machine(tools: Tools) -> None:
     assert figures["pairs"] == layers.expected("cadastre", "touches", 900)
     assert figures["left"]["features"] == 900 and figures["workers"] == 2
     assert {path.name for path in tools.folder.iterdir()} == {left.name, right.name, "report.csv"}
+
+
+def test_a_machine_without_a_network(tools: Tools) -> None:
+    apart = ["unshare", "--net"]
+    try:
+        if ended([*apart, "true"]).status != 0:
+            pytest.skip("one has to be root to leave the network")
+    except FileNotFoundError:
+        pytest.skip("unshare is not installed")
+    left, right = layers.write_pair(tools.folder, "cadastre", 100)
+    done = ended([*apart, *tools.local_command(left, right, "touches")])
+    assert (done.status, done.errors) == (0, "")
+    assert tools.report().read_bytes() == tools.one_run(left, right, "touches").output

@@ -4,9 +4,11 @@ ghost use Rattle.std.specs.Prelude.{◌≡◌, ℕ, List, Option, None, false, I
 ghost use Rattle.command_core.specs.Opening.{Opens};
 
 use file_core::Source;
+use thiserror::Error;
 
 /// A file can't be opened.
-#[derive(Clone, Copy, Debug, PartialEq, Eq)]
+#[derive(Clone, Copy, Debug, PartialEq, Eq, Error)]
+#[error("cannot be opened")]
 pub struct NotOpened;
 
 /// What opens files by their paths.

@@ -8,6 +8,8 @@ mod faults;
 #[cfg(test)]
 mod help;
 #[cfg(test)]
+mod help_texts;
+#[cfg(test)]
 mod runs;
 #[cfg(test)]
 mod shelf;

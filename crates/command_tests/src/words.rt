@@ -1,8 +1,10 @@
 //! The words of the command line.
 
-use command_core::{Command, JoinRequest, WordFault, read_words, word_line, word_status};
-use join_core::{Options, ToWrite};
-use relation_core::{JoinRelation, Relation};
+use command_core::{
+    Command, JoinRequest, NotOpened, WordFault, read_words, word_line, word_status,
+};
+use join_core::{OptionFault, Options, ToWrite};
+use relation_core::{JoinRelation, MaskFault, Relation};
 use std::alloc::Global;
 use std::test::Fail;
 use wkt_core::Scale;
@@ -48,15 +50,21 @@ const OPTION_FAULTS: &[(&str, &str)] = &[
     ),
     (
         "--relation|touch|--workers|0",
-        "rjoin: --relation: not a name or a mask of nine letters; did you mean touches?\n",
+        "rjoin: --relation: not a name or a mask of nine letters\n\
+        did you mean touches?\n",
+    ),
+    (
+        "--relation|ovrlps",
+        "rjoin: --relation: not a name or a mask of nine letters\n\
+        did you mean overlaps?\n",
     ),
     (
         "--relation|kontainss",
-        "rjoin: --relation: not a name or a mask of nine letters; did you mean contains?\n",
+        "rjoin: --relation: bad letter at place 0\ndid you mean contains?\n",
     ),
     (
-        "--relation|interects",
-        "rjoin: --relation: not a name or a mask of nine letters; did you mean intersects?\n",
+        "--relation|intersect",
+        "rjoin: --relation: bad letter at place 0\ndid you mean intersects?\n",
     ),
     (
         "--workers|17|--relation|T*F**F**3",
@@ -220,6 +228,39 @@ fn join_words(
     words.extend_from_slice(&["rjoin", command, "l.csv", "q.csv"])?;
     words.extend_from_slice(parted(alloc, last)?.as_slice())?;
     Ok(words)
+}
+
+/// Whether the line of a fault is what it shows as, after the program's name.
+fn shows_its_line(alloc: Global, fault: &WordFault) -> Result<bool, Fail> {
+    let line = format!(in alloc; "rjoin: {fault}\n")?;
+    Ok(line_of(alloc, fault)?.as_slice() == line.as_bytes())
+}
+
+#[test]
+fn faults_show_their_lines(rt: HostRuntime) -> Result<(), Fail> {
+    let alloc = rt.alloc();
+    assert!(rt; shows_its_line(alloc, &WordFault::Relation(MaskFault::Length))?);
+    assert!(rt; shows_its_line(alloc, &WordFault::Relation(MaskFault::Letter(8)))?);
+    assert!(rt; shows_its_line(alloc, &WordFault::AllowsDisjoint)?);
+    assert!(rt; shows_its_line(alloc, &WordFault::Options(OptionFault::Workers))?);
+    assert!(rt; shows_its_line(alloc, &WordFault::Options(OptionFault::Batch))?);
+    assert!(rt; shows_its_line(alloc, &WordFault::Options(OptionFault::Cut))?);
+    assert!(rt; shows_its_line(alloc, &WordFault::Scale)?);
+    assert!(rt; shows_its_line(alloc, &WordFault::Memory)?);
+    let usage = WordFault::Usage {
+        text: String::from_str(alloc, "error: COMMAND is missing\n")?,
+        help: false,
+    };
+    let shown = format!(in alloc; "{usage}")?;
+    assert!(rt; line_of(alloc, &usage)?.as_slice() == shown.as_str().as_bytes());
+    Ok(())
+}
+
+#[test]
+fn a_file_that_is_not_opened(rt: HostRuntime) -> Result<(), Fail> {
+    let shown = format!(in rt.alloc(); "{NotOpened}")?;
+    assert!(rt; shown.as_str() == "cannot be opened");
+    Ok(())
 }
 
 /// Whether a command on two files that ends so is refused by this line.

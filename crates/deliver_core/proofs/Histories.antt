@@ -171,6 +171,17 @@ pub Ok-awaited : (c : Collection) (task next : ℕ) → task < c.tasks → has_e
 Ok-awaited c task next inside going counted =
     choice-from (leb c.tasks task) (has_end task c.marks) (batch_count task c.marks) next (grind (arith, nat_tests)) going counted
 
+-- what the counter of a task says of the history
+pub ended_is : (progress : List Progress) (marks : List Mark) (task : ℕ) (p : Progress) → Tells progress marks → p ≡ get_or progress task p
+    → task < length progress → has_end task marks ≡ p.ended
+ended_is progress marks task p tells read inside = has_end-tells progress marks tells task p inside ∙ ap (λ q. q.ended) (sym read)
+
+pub next_is : (progress : List Progress) (marks : List Mark) (task : ℕ) (p : Progress) → Tells progress marks → p ≡ get_or progress task p
+    → task < length progress → batch_count task marks ≡ p.next
+next_is progress marks task p tells read inside = batch_count-tells progress marks tells task p inside ∙ ap (λ q. q.next) (sym read)
+
+pub ruleset counter = (ended_is, next_is)
+
 -- a task that takes one more message, whose counter is p
 module _ (progress : List Progress) (marks : List Mark) (tells : Tells progress marks) (pairs : List (ℕ × ℕ)) (c : Collection)
     (view_is : record { tasks = length progress; marks = marks; pairs = pairs } ≡ c) (task next : ℕ) (taking : Ok next ≡ awaited c task) (p : Progress)

@@ -3,7 +3,6 @@ pub mod Boards
 pub mod Byes
 pub mod Collectors
 pub mod Draws
-pub mod FaultTexts
 pub mod Limits
 pub mod Marks
 pub mod OptionTexts

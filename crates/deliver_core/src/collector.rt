@@ -202,6 +202,7 @@ impl Collector {
     }
 
     /// The number that the next batch of a task has to have.
+    #[tactic(auto, using(crate::proofs::Histories::counter))]
     fn awaited(&self, task: u32) -> Result<u64, Refusal>
         ensures { result ≡ awaited self.now task }
     {

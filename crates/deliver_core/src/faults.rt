@@ -1,47 +1,30 @@
-//! The faults of a collector, and their texts.
+//! The faults of a collector.
 
 use std::alloc::AllocError;
-use std::error::Error;
-use std::fmt;
+use thiserror::Error;
 
 /// Why a collector refuses a message; the first that applies is answered.
-#[derive(Clone, Copy, Debug, PartialEq, Eq)]
+#[derive(Clone, Copy, Debug, PartialEq, Eq, Error)]
 pub enum Refusal {
     /// The task isn't one of the collector's.
+    #[error("the task isn't one of the collector's")]
     Stranger,
     /// The task has ended.
+    #[error("the task has ended")]
     AfterEnd,
     /// The batch was accepted before.
+    #[error("the batch was accepted before")]
     Double,
     /// A batch before this one is missing.
+    #[error("a batch before this one is missing")]
     Gap,
     /// The end doesn't give the number of the task's batches.
+    #[error("the end doesn't give the number of the task's batches")]
     WrongCount,
     /// Out of memory.
+    #[error("out of memory")]
     Memory,
 }
-
-impl fmt::Display for Refusal {
-    ghost use Rattle.std.specs.Prelude.{Some};
-    ghost use Rattle.deliver_core.specs.FaultTexts.{refusal_text};
-
-    ghost output = { λ refusal. Some (refusal_text refusal) };
-
-    fn fmt<W: fmt::Write>(&self, f: &mut fmt::Formatter<W>) -> fmt::Result {
-        match self {
-            Refusal::Stranger => f.write_str("the task isn't one of the collector's"),
-            Refusal::AfterEnd => f.write_str("the task has ended"),
-            Refusal::Double => f.write_str("the batch was accepted before"),
-            Refusal::Gap => f.write_str("a batch before this one is missing"),
-            Refusal::WrongCount => {
-                f.write_str("the end doesn't give the number of the task's batches")
-            }
-            Refusal::Memory => f.write_str("out of memory"),
-        }
-    }
-}
-
-impl Error for Refusal {}
 
 impl From<AllocError> for Refusal {
     ghost use Rattle.std.specs.Prelude.{◌≡◌};
@@ -55,22 +38,9 @@ impl From<AllocError> for Refusal {
 }
 
 /// Why a collector can't be finished.
-#[derive(Clone, Copy, Debug, PartialEq, Eq)]
+#[derive(Clone, Copy, Debug, PartialEq, Eq, Error)]
 pub enum Finish {
     /// The least task without an end.
+    #[error("task {0} has no end")]
     Open(u32),
 }
-
-impl fmt::Display for Finish {
-    ghost use Rattle.std.specs.Prelude.{Some};
-    ghost use Rattle.deliver_core.specs.FaultTexts.{finish_text};
-
-    ghost output = { λ finish. Some (finish_text finish) };
-
-    fn fmt<W: fmt::Write>(&self, f: &mut fmt::Formatter<W>) -> fmt::Result {
-        let Finish::Open(task) = self;
-        write!(f, "task {task} has no end")
-    }
-}
-
-impl Error for Finish {}

@@ -4,8 +4,7 @@ ghost use Rattle.std.specs.Prelude.{◌<◌, ◌≤◌};
 ghost use Rattle.deliver_core.specs.Limits.{most_workers, most_batch, most_cut};
 
 use crate::limits::{MAX_BATCH, MAX_CUT, MAX_WORKERS};
-use std::error::Error;
-use std::fmt;
+use thiserror::Error;
 
 /// How a join is run.
 #[derive(Clone, Copy, Debug, PartialEq, Eq)]
@@ -21,13 +20,16 @@ pub struct Options {
 }
 
 /// The first of the three numbers that is out of range.
-#[derive(Clone, Copy, Debug, PartialEq, Eq)]
+#[derive(Clone, Copy, Debug, PartialEq, Eq, Error)]
 pub enum OptionFault {
     /// Workers are 1 to [`MAX_WORKERS`].
+    #[error("--workers must be 1 to 16")]
     Workers,
     /// A batch has 1 to [`MAX_BATCH`] pairs.
+    #[error("--batch must be 1 to 4096")]
     Batch,
     /// The cut is 0 to [`MAX_CUT`].
+    #[error("--cut must be 0 to 8")]
     Cut,
 }
 
@@ -47,19 +49,6 @@ impl OptionFault {
         }
     }
 }
-
-impl fmt::Display for OptionFault {
-    ghost use Rattle.std.specs.Prelude.{Some};
-    ghost use Rattle.deliver_core.specs.OptionTexts.{option_text};
-
-    ghost output = { λ fault. Some (option_text fault) };
-
-    fn fmt<W: fmt::Write>(&self, f: &mut fmt::Formatter<W>) -> fmt::Result {
-        f.write_str(self.text())
-    }
-}
-
-impl Error for OptionFault {}
 
 impl Options {
     ghost use Rattle.std.specs.Prelude.{◌≡◌, ◌↔◌, IfOk, IsErrOf};

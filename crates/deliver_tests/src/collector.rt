@@ -313,16 +313,25 @@ fn shows(alloc: Global, fault: &impl Display, text: &str) -> Result<bool, AllocE
     Ok(format!(in alloc; "{fault}")?.as_str() == text)
 }
 
-/// The text of a refusal, and of a fault that names its task.
+/// Refusals, and what they show as.
+const REFUSALS: &[(Refusal, &str)] = &[
+    (Refusal::Stranger, "the task isn't one of the collector's"),
+    (Refusal::AfterEnd, "the task has ended"),
+    (Refusal::Double, "the batch was accepted before"),
+    (Refusal::Gap, "a batch before this one is missing"),
+    (
+        Refusal::WrongCount,
+        "the end doesn't give the number of the task's batches",
+    ),
+    (Refusal::Memory, "out of memory"),
+];
+
+/// The texts of refusals, and of a fault that names its task.
 #[test]
 fn fault_texts(rt: HostRuntime) -> Result<(), Fail> {
-    assert!(rt;
-        shows(
-            rt.alloc(),
-            &Refusal::Gap,
-            "a batch before this one is missing"
-        )?
-    );
+    for &(refusal, text) in REFUSALS {
+        assert!(rt; shows(rt.alloc(), &refusal, text)?);
+    }
     assert!(rt; shows(rt.alloc(), &Finish::Open(65_535), "task 65535 has no end")?);
     Ok(())
 }

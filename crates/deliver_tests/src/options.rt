@@ -27,7 +27,7 @@ const TEXTS: &[(OptionFault, &str)] = &[
 #[test]
 fn option_texts(rt: HostRuntime) -> Result<(), Fail> {
     for &(fault, text) in TEXTS {
-        assert!(rt; fault.to_string(rt.alloc())?.as_str() == text);
+        assert!(rt; fault.to_string(rt.alloc())?.as_str() == text && fault.text() == text);
     }
     Ok(())
 }

@@ -2,26 +2,32 @@
 
 use layer_core::LayerFault;
 use std::alloc::AllocError;
-use std::error::Error;
-use std::fmt;
+use thiserror::Error;
 use wkt_core::WktFault;
 
 /// Why a file can't be read. Rows are counted from 1, the header aside.
-#[derive(Clone, Copy, Debug, PartialEq, Eq)]
+#[derive(Clone, Copy, Debug, PartialEq, Eq, Error)]
 pub enum ReadFault {
     /// A read failed.
+    #[error("read failed")]
     Io,
     /// The file has more than [`crate::MAX_FILE_BYTES`] bytes.
+    #[error("file is too long")]
     TooLong,
     /// The file doesn't begin with the names of its columns.
+    #[error("wrong header")]
     Header,
     /// The fields of this row aren't those of its kind of file.
+    #[error("row {0}: wrong fields")]
     Row(u32),
     /// The geometry of this row can't be read.
+    #[error("row {0}: {1}")]
     Wkt(u32, WktFault),
     /// The layer refuses this row.
+    #[error("row {0}: {1}")]
     Layer(u32, LayerFault),
     /// Memory was refused.
+    #[error("no memory")]
     Memory,
 }
 
@@ -67,22 +73,6 @@ impl ReadFault {
         }
     }
 }
-
-impl fmt::Display for ReadFault {
-    ghost use Rattle.std.specs.Prelude.{Some};
-    ghost use Rattle.file_core.specs.FaultTexts.{read_text};
-
-    ghost output = { λ fault. Some (read_text fault) };
-
-    fn fmt<W: fmt::Write>(&self, f: &mut fmt::Formatter<W>) -> fmt::Result {
-        if let Some(row) = self.row() {
-            write!(f, "row {row}: ")?;
-        }
-        f.write_str(self.text())
-    }
-}
-
-impl Error for ReadFault {}
 
 impl From<AllocError> for ReadFault {
     ghost use Rattle.std.specs.Prelude.{◌≡◌};

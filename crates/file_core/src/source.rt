@@ -9,6 +9,7 @@ ghost use Rattle.file_core.specs.Sources.{IsReadingFault};
 use crate::read_fault::ReadFault;
 use std::alloc::Global;
 use std::io::{ErrorKind, Read};
+use thiserror::Error;
 
 /// How many bytes a file may have.
 pub const MAX_FILE_BYTES: usize = 134_217_728;
@@ -17,7 +18,8 @@ pub const MAX_FILE_BYTES: usize = 134_217_728;
 const CHUNK: usize = 65_536;
 
 /// A read that failed.
-#[derive(Clone, Copy, Debug, PartialEq, Eq)]
+#[derive(Clone, Copy, Debug, PartialEq, Eq, Error)]
+#[error("read failed")]
 pub struct Failed;
 
 /// What bytes are read from, and what remembers that a read failed.

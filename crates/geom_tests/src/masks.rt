@@ -1,9 +1,12 @@
 //! How masks and relations are read, and which relations a join may use.
 
 use geom_core::Shape;
-use relation_core::{JoinRelation, Mask, MaskFault, Relation, relate};
+use relation_core::{AllowsDisjoint, JoinRelation, Mask, MaskFault, Relation, relate};
+use std::alloc::{AllocError, Global};
+use std::fmt::Display;
 use std::process::Abort;
 use std::test::Fail;
+use wkt_core::WktFault;
 
 fn mask(rt: &impl Abort, text: &[u8]) -> Mask {
     Mask::read(text).expect(rt, "a mask")
@@ -59,10 +62,8 @@ const MASKS: &[(Relation, u8, u8, &[u8])] = &[
 fn masks_of_relations(rt: HostRuntime) -> Result<(), Fail> {
     for &(relation, first_dim, second_dim, wanted) in MASKS {
         let mut text = Vec::new(rt.alloc());
-        for mask in relation.masks(first_dim, second_dim) {
-            if let Some(mask) = mask {
-                text.extend_from_slice(&mask.text())?;
-            }
+        for mask in relation.masks(first_dim, second_dim).as_slice() {
+            text.extend_from_slice(&mask.text())?;
         }
         assert!(rt; text.as_slice() == wanted);
     }
@@ -93,46 +94,40 @@ fn each_name_and_each_letter(rt: HostRuntime) {
     assert!(rt; Mask::default().text() == *b"*********");
 }
 
-#[test]
-fn the_texts_of_faults(rt: HostRuntime) -> Result<(), Fail> {
-    let alloc = rt.alloc();
-    let length = MaskFault::Length.to_string(alloc)?;
-    assert!(rt; length.as_str() == "not a name or a mask of nine letters");
-    let letter = MaskFault::Letter(4).to_string(alloc)?;
-    assert!(rt; letter.as_str() == "bad letter at place 4");
-    let refused = JoinRelation::new(Relation::Disjoint)
-        .err()
-        .ok_or("refused")?;
-    let text = refused.to_string(alloc)?;
-    assert!(rt; text.as_str() == "disjoint features may fit");
-    Ok(())
+/// Whether a fault shows as this text.
+fn shows(alloc: Global, fault: &impl Display, text: &str) -> Result<bool, AllocError> {
+    Ok(format!(in alloc; "{fault}")?.as_str() == text)
 }
 
-/// Which masks a join may use; 5 is the row of the test below.
-const ROWS: &[(u8, &[u8], bool)] = &[
-    (1, b"****0****", true),
-    (2, b"**2******", false),
-    (3, b"*********", false),
-    (4, b"F***1****", true),
-    (6, b"**F**F***", true),
+/// Faults of masks, and what they show as.
+const MASK_FAULTS: &[(MaskFault, &str)] = &[
+    (MaskFault::Length, "not a name or a mask of nine letters"),
+    (MaskFault::Letter(0), "bad letter at place 0"),
+    (
+        MaskFault::Letter(4_294_967_295),
+        "bad letter at place 4294967295",
+    ),
+];
+
+/// Faults of geometries, and what they show as.
+const WKT_FAULTS: &[(WktFault, &str)] = &[
+    (WktFault::Text, "not a geometry text"),
+    (WktFault::Number, "number not whole or out of range"),
+    (
+        WktFault::Form,
+        "not a point, axis-parallel segment or rectangle",
+    ),
 ];
 
 #[test]
-fn mask_extra(rt: HostRuntime) {
-    for &(row, text, wanted) in ROWS {
-        assert_eq!(rt; is_for_joins(&rt, text), wanted, "row {row}");
+fn the_texts_of_faults(rt: HostRuntime) -> Result<(), Fail> {
+    for &(fault, text) in MASK_FAULTS {
+        assert!(rt; shows(rt.alloc(), &fault, text)? && text.starts_with(fault.text()));
     }
-}
-
-#[test]
-fn mask_extra_5(rt: HostRuntime) -> Result<(), Fail> {
-    let corner = mask(&rt, b"****0****");
-    let a = Shape::new(0, 0, 4, 4).ok_or("in order")?;
-    let b = Shape::new(4, 4, 8, 8).ok_or("in order")?;
-    let c = Shape::new(4, 2, 8, 6).ok_or("in order")?;
-    assert!(rt; Relation::Mask(corner).holds(&a, &b));
-    assert!(rt; !Relation::Mask(corner).holds(&a, &c));
-    assert!(rt; corner.fits(&relate(&a, &b)));
-    assert!(rt; !corner.fits(&relate(&a, &c)));
+    for &(fault, text) in WKT_FAULTS {
+        assert!(rt; shows(rt.alloc(), &fault, text)? && text == fault.text());
+    }
+    assert!(rt; shows(rt.alloc(), &AllowsDisjoint, "disjoint features may fit")?);
+    assert!(rt; AllowsDisjoint.text() == "disjoint features may fit");
     Ok(())
 }

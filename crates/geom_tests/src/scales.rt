@@ -1,6 +1,7 @@
-//! Texts at scales of no, two and six decimals.
+//! Texts at scales of no, two and six decimals, and the greatest area.
 
 use crate::readings::{corners, corners_at, reprinted_at};
+use geom_core::Shape;
 use std::alloc::AllocError;
 use wkt_core::{Scale, WktFault};
 
@@ -66,4 +67,12 @@ fn scale_8(rt: HostRuntime) {
 fn scale_9(rt: HostRuntime) {
     let text = b"POLYGON ((0 0, 4 0, 2 0, 4 0, 4 4, 0 4, 0 0))";
     assert!(rt; corners(text) == Err(WktFault::Form));
+}
+
+#[test]
+fn scale_11(rt: HostRuntime) {
+    let greatest = 1_000_000_000_000;
+    let whole = Shape::new(-greatest, -greatest, greatest, greatest);
+    let measures = whole.map(|whole| (whole.dim(), whole.area()));
+    assert!(rt; measures == Some((2, 4_000_000_000_000_000_000_000_000)));
 }

@@ -8,6 +8,7 @@ use layer_core::LayerFault;
 use parallel_core::JoinFault;
 use report_core::WriteFailed;
 use std::alloc::AllocError;
+use thiserror::Error;
 use wkt_core::WktFault;
 
 /// An input of a run.
@@ -51,25 +52,34 @@ impl Input {
 }
 
 /// Why a run ended without its work done. Rows are counted from 1, after the header.
-#[derive(Clone, Copy, Debug, PartialEq, Eq)]
+#[derive(Clone, Copy, Debug, PartialEq, Eq, Error)]
 pub enum RunFault {
     /// The file of an input can't be opened.
+    #[error("{input}: cannot be opened", input = .0.word())]
     NoFile(Input),
     /// A file can't be read.
+    #[error("{input}: {1}", input = .0.word())]
     Read(Input, ReadFault),
     /// A geometry can't be read.
+    #[error("{input}: {1}", input = .0.word())]
     Wkt(Input, WktFault),
     /// The edit of this row is refused.
+    #[error("edits: row {0}: {1}")]
     Edit(u32, LayerFault),
     /// The layers can't be joined.
+    #[error(transparent)]
     Join(JoinFault),
     /// The layers have more features than a picture may have.
+    #[error("more than 100000 features to draw")]
     TooManyToDraw,
     /// The output has failed.
+    #[error("write failed")]
     Write,
     /// Memory ran out.
+    #[error("no memory")]
     Memory,
     /// The system gives no random keys, by which ids are hashed.
+    #[error("no random keys for hashing")]
     NoKeys,
 }
 

@@ -13,22 +13,6 @@ use crate::fault::RunFault;
 use file_core::ReadFault;
 use parallel_core::JoinFault;
 use report_core::{ROOM, ShortText, Sink, WriteFailed};
-use std::error::Error;
-use std::fmt;
-
-impl fmt::Display for RunFault {
-    ghost use Rattle.std.specs.Prelude.{Some};
-
-    ghost output = { λ fault. Some (run_text fault) };
-
-    fn fmt<W: fmt::Write>(&self, f: &mut fmt::Formatter<W>) -> fmt::Result {
-        let mut line = ShortText::new();
-        push_run_text(&mut line, self);
-        f.write_str(line.as_str())
-    }
-}
-
-impl Error for RunFault {}
 
 /// Writes the line of a fault: the program's name, what was at fault and what is wrong with it.
 /// It takes no memory.

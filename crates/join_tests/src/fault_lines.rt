@@ -2,9 +2,10 @@
 
 use deliver_core::Refusal;
 use file_core::ReadFault;
-use join_core::{Input, JoinFault, RunFault, ToWrite, fault_line};
+use join_core::{Input, JoinFault, RunFault, ToWrite, WriteFailed, fault_line};
 use layer_core::LayerFault;
 use std::alloc::Global;
+use std::test::Fail;
 use wkt_core::WktFault;
 
 /// The line of a fault.
@@ -166,6 +167,9 @@ const OF_THE_MACHINE: &[(RunFault, &str)] = &[
 ];
 
 #[test]
-fn the_machine(rt: HostRuntime) {
+fn the_machine(rt: HostRuntime) -> Result<(), Fail> {
     assert!(rt; all_say(rt.alloc(), OF_THE_MACHINE));
+    let failed = format!(in rt.alloc(); "{WriteFailed}")?;
+    assert!(rt; shows(rt.alloc(), &RunFault::Write, failed.as_str()) == Some(true));
+    Ok(())
 }

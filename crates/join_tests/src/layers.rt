@@ -3,7 +3,7 @@
 use file_core::{FromRead, ReadFault, read_layer};
 use geom_core::Shape;
 use layer_core::Layer;
-use std::alloc::Global;
+use std::alloc::{AllocError, Global};
 use std::hash::RandomState;
 use std::random::RandomSource;
 use std::test::Fail;
@@ -23,7 +23,7 @@ pub(crate) fn seen<V: Drop, T, F: FnOnce(&V) -> T>(value: V, see: F) -> T
 }
 
 /// What a file with this text is read as.
-pub(crate) fn read_text<R: RandomSource + AllocGlobal>(
+fn read_text<R: RandomSource + AllocGlobal>(
     rt: &R,
     text: &str,
 ) -> Result<Result<Layer, ReadFault>, Fail> {
@@ -37,9 +37,21 @@ pub(crate) fn layer_of<R: RandomSource + AllocGlobal>(rt: &R, text: &str) -> Res
     Ok(read_text(rt, text)??)
 }
 
-/// The layer of these points.
+/// The layer of so many points, read again where memory is refused.
 pub(crate) fn points<R: RandomSource + AllocGlobal>(rt: &R, count: u32) -> Result<Layer, Fail> {
-    layer_of(rt, points_text(rt.alloc(), count)?.as_str())
+    let text = points_text_at_last(rt.alloc(), count)?;
+    match read_text(rt, text.as_str())? {
+        Ok(layer) => Ok(layer),
+        Err(_) => layer_of(rt, text.as_str()),
+    }
+}
+
+/// The text of a file of so many points, written again where memory is refused.
+fn points_text_at_last(alloc: Global, count: u32) -> Result<String, AllocError> {
+    match points_text(alloc, count) {
+        Ok(text) => Ok(text),
+        Err(AllocError) => points_text(alloc, count),
+    }
 }
 
 fn insert(alloc: Global, layer: &mut Layer, number: u32, shape: Shape) -> Option<()> {

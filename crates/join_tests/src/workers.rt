@@ -1,6 +1,6 @@
 //! What the workers of a join deliver, by the marks of its outcome and by the gate that they enter.
 
-use crate::layers::{layer_of, points, read_text, seen};
+use crate::layers::{points, seen};
 use deliver_core::Mark;
 use join_core::{Gate, JoinFault, OpenGate, Options, Outcome, join};
 use layer_core::Layer;
@@ -67,13 +67,13 @@ impl Points {
         points(rt, count).map(|right| Points { left, right })
     }
 
-    /// Joins them in this way.
-    fn join<R: Threads + Wait + Sync + AllocGlobal, G: Gate + Sync>(
+    /// What a join of them in this way answers.
+    fn answer<R: Threads + Wait + Sync + AllocGlobal, G: Gate + Sync>(
         &self,
         rt: &R,
         way: Way,
         gate: &G,
-    ) -> Result<Outcome, Fail> {
+    ) -> Result<Result<Outcome, JoinFault>, Fail> {
         let relation = JoinRelation::new(way.relation)?;
         let options = Options::new(way.workers, way.batch, way.cut)?;
         Ok(join(
@@ -84,7 +84,17 @@ impl Points {
             &relation,
             &options,
             gate,
-        )?)
+        ))
+    }
+
+    /// Joins them in this way.
+    fn join<R: Threads + Wait + Sync + AllocGlobal, G: Gate + Sync>(
+        &self,
+        rt: &R,
+        way: Way,
+        gate: &G,
+    ) -> Result<Outcome, Fail> {
+        Ok(self.answer(rt, way, gate)??)
     }
 
     /// Whether a join in this way gives these marks.
@@ -277,61 +287,46 @@ impl PairGate {
     }
 }
 
+/// How the layers of the gate are joined, of 20 points each.
+const OF_GATE: Way = Way {
+    relation: Relation::Equals,
+    workers: 2,
+    batch: 4,
+    cut: 1,
+};
+
 #[test]
 fn gate_two_workers(rt: HostRuntime) -> Result<(), Fail> {
     let (shared, gate) = (&rt, &PairGate::new());
-    let way = Way {
-        relation: Relation::Equals,
-        workers: 2,
-        batch: 4,
-        cut: 1,
-    };
-    assert!(rt; on_points(shared, 20, |points| points.passes(shared, way, gate, 20))?);
+    assert!(rt;
+        on_points(
+            shared,
+            20,
+            |points| points.passes(shared, OF_GATE, gate, 20)
+        )?
+    );
     assert!(rt; gate.has_paired());
     Ok(())
 }
 
-const CROSS: &str = "id,wkt\na,\"LINESTRING (0 2, 4 2)\"\nb,\"LINESTRING (2 0, 2 4)\"\n";
-
-/// The layer of two segments that cross, read again where memory is refused.
-fn cross<R: RandomSource + AllocGlobal>(rt: &R) -> Result<Layer, Fail> {
-    match read_text(rt, CROSS)? {
-        Ok(layer) => Ok(layer),
-        Err(_) => layer_of(rt, CROSS),
+/// Whether the join of the gate, which stands open, gives its 20 pairs, tried again where memory is
+/// refused.
+fn passes_at_last<R: Threads + Wait + Sync + AllocGlobal>(
+    rt: &R,
+    points: &Points,
+) -> Result<bool, Fail> {
+    match points.answer(rt, OF_GATE, &OpenGate)? {
+        Err(JoinFault::Memory | JoinFault::NoThread) => {
+            points.passes(rt, OF_GATE, &OpenGate, 20)
+        }
+        first => Ok(are_diagonal(first?.pairs(), 20)),
     }
-}
-
-/// Whether a join of the layer with itself gives the two pairs that cross, or its fault.
-fn crosses<R: Threads + Wait + Sync + AllocGlobal>(
-    rt: &R,
-    layer: &Layer,
-) -> Result<Result<bool, JoinFault>, Fail> {
-    let relation = JoinRelation::new(Relation::Crosses)?;
-    let options = Options::new(2, 1, 2)?;
-    let outcome = join(rt, rt.alloc(), layer, layer, &relation, &options, &OpenGate);
-    Ok(outcome.map(|outcome| outcome.pairs() == [(0, 1), (1, 0)].as_slice()))
-}
-
-/// Whether the join gives the two pairs, tried again where memory is refused.
-fn crosses_at_last<R: Threads + Wait + Sync + AllocGlobal>(
-    rt: &R,
-    layer: &Layer,
-) -> Result<Result<bool, JoinFault>, Fail> {
-    match crosses(rt, layer)? {
-        Err(JoinFault::Memory | JoinFault::NoThread) => crosses(rt, layer),
-        first => Ok(first),
-    }
-}
-
-fn crosses_itself<R: Threads + Wait + Sync + RandomSource + AllocGlobal>(
-    rt: &R,
-) -> Result<Result<bool, JoinFault>, Fail> {
-    seen(cross(rt)?, |layer| crosses_at_last(rt, layer))
 }
 
 /// Run with each allocation failing in turn, it ends as with ample memory.
 #[test]
 fn join_without_memory(rt: HostRuntime) -> Result<(), Fail> {
-    assert!(rt; crosses_itself(&rt)? == Ok(true));
+    let shared = &rt;
+    assert!(rt; on_points(shared, 20, |points| passes_at_last(shared, points))?);
     Ok(())
 }

@@ -1,6 +1,6 @@
 -- The map of ids and the slots of a layer: what a look-up finds, and what an edit keeps.
 use Rattle.std.proofs.Common.{◌≡◌, ◌≢◌, ℕ, zero, suc, ◌+◌, ◌-◌, ◌<◌, ◌≤◌, ◌⊎◌, Bool, true, false, List, [], ◌∷◌, ◌++◌, set, get_or, length, slice_get, position}
-use Rattle.std.proofs.Common.{Option, Some, None, is_some, refl, sym, ap, ◌∙◌, inl, inr, arith, zero-add, add-one}
+use Rattle.std.proofs.Common.{Option, Some, None, is_some, refl, sym, subst, ap, ◌∙◌, inl, inr, arith, zero-add, add-one}
 use Rattle.std.specs.List.{IsDistinct}
 use Rattle.std.specs.Map.{keys_of, values_of, lookup, lookup_key}
 use Rattle.std.specs.Option.{option_map, option_flatten}
@@ -267,6 +267,16 @@ with_id-absent keys slots id absent = find-absent (ids_of keys) id 0 slots absen
 pub with_id-only : (keys : List Id) (slots : List (Option Slot)) (id : List ℕ) (k : ℕ) (slot : Slot) → IsOnly (ids_of keys) id slots k slot
     → with_id id (contents_of keys slots) ≡ Some (feature_of (ids_of keys) k slot)
 with_id-only keys slots id k slot only = find-only (ids_of keys) id 0 slots k slot only ∙ ap (λ n. Some (feature_of (ids_of keys) n slot)) (zero-add k)
+
+-- what a look-up by id answers where a slice shows the slots
+pub sees_none : (seen : List (Option Slot)) (keys : List Id) (slots : List (Option Slot)) (id : List ℕ) → seen ≡ slots → IsAbsent (ids_of keys) id seen
+    → with_id id (contents_of keys slots) ≡ None
+sees_none seen keys slots id same absent = with_id-absent keys slots id (subst (IsAbsent (ids_of keys) id) same absent)
+
+pub sees_one : (seen : List (Option Slot)) (keys : List Id) (slots : List (Option Slot)) (id : List ℕ) (k : ℕ) (slot : Slot) → seen ≡ slots
+    → IsOnly (ids_of keys) id seen k slot → with_id id (contents_of keys slots) ≡ Some (feature_of (ids_of keys) k slot)
+sees_one seen keys slots id k slot same only =
+    with_id-only keys slots id k slot (subst (λ (ss : List (Option Slot)). IsOnly (ids_of keys) id ss k slot) same only)
 
 -- a deletion by id
 pub deleted-absent : (keys : List Id) (slots : List (Option Slot)) (id : List ℕ) → IsAbsent (ids_of keys) id slots

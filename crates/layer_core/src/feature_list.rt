@@ -35,8 +35,8 @@ impl Model for FeatureList {
 }
 
 impl FeatureList {
-    ghost use Rattle.std.specs.Prelude.{◌≡◌, ◌≤◌, length, IsTrue, OnOk, OnErr, IfOk};
-    ghost use Rattle.rtree_core.specs.Packings.{IsPackedHeight};
+    ghost use Rattle.std.specs.Prelude.{◌≡◌, ◌≤◌, length, IsTrue, OnOk, OnErr, IfOk, IfSome};
+    ghost use Rattle.rtree_core.specs.Packings.{IsPackingOf, IsPackedHeight};
     ghost use Rattle.rtree_core.specs.Trees.{height_of};
     ghost use Rattle.layer_core.specs.Ids.{id_bytes};
     ghost use Rattle.layer_core.specs.Layers.{empty, inserted, IsLayer};
@@ -105,6 +105,7 @@ impl FeatureList {
     /// The layer of these features.
     pub fn finish(self, alloc: Global) -> Result<Layer, AllocError>
         ensures list { IfOk result (λ layer. layer.list ≡ self) }
+        ensures packing { IfOk result (λ layer. IfSome layer.root (IsPackingOf (entries_for self))) }
         ensures height { IfOk result
             (λ layer. IsPackedHeight (length self.features) (height_of layer.root)) }
     {
@@ -120,6 +121,7 @@ impl FeatureList {
         rt: &R,
     ) -> Result<Layer, AllocError>
         ensures list { IfOk result (λ layer. layer.list ≡ self) }
+        ensures packing { IfOk result (λ layer. IfSome layer.root (IsPackingOf (entries_for self))) }
         ensures height { IfOk result
             (λ layer. IsPackedHeight (length self.features) (height_of layer.root)) }
     {

@@ -58,9 +58,9 @@ pub fn is_id(id: &str) -> bool
 
 impl Layer {
     ghost use Rattle.std.specs.Prelude.{◌≡◌, ◌↔◌, [], None, Some, length, IsTrue, OnOk, OnErr};
-    ghost use Rattle.std.specs.Prelude.{◌<◌, IfOk, IfNone};
+    ghost use Rattle.std.specs.Prelude.{◌<◌, IfOk, IfSome, IfNone};
     ghost use Rattle.std.specs.Option.{option_map};
-    ghost use Rattle.rtree_core.specs.Packings.{IsPackedHeight};
+    ghost use Rattle.rtree_core.specs.Packings.{IsPackingOf, IsPackedHeight};
     ghost use Rattle.rtree_core.specs.Trees.{height_of};
     ghost use Rattle.layer_core.specs.Limits.{most_features};
     ghost use Rattle.layer_core.specs.Layers.{empty, IsLayer, IdAndShapeAre, NumberAndShapeAre};
@@ -87,6 +87,8 @@ impl Layer {
     ) -> Result<Layer, AllocError>
         requires { entries.items ≡ entries_for features.value.list }
         ensures list { IfOk result (λ layer. layer.list ≡ features.value.list) }
+        ensures packing { let entries = entries_for features.value.list in
+            IfOk result (λ layer. IfSome layer.root (IsPackingOf entries)) }
         ensures height { IfOk result
             (λ layer. IsPackedHeight (length features.value.list.features) (height_of layer.root)) }
     {
@@ -109,6 +111,8 @@ impl Layer {
     ) -> Result<Layer, AllocError>
         requires { entries.items ≡ entries_for features.value.list }
         ensures list { IfOk result (λ layer. layer.list ≡ features.value.list) }
+        ensures packing { let entries = entries_for features.value.list in
+            IfOk result (λ layer. IfSome layer.root (IsPackingOf entries)) }
         ensures height { IfOk result
             (λ layer. IsPackedHeight (length features.value.list.features) (height_of layer.root)) }
     {

@@ -22,6 +22,7 @@ use std::hash::RandomState;
 use std::random::RandomSource;
 use std::test::Fail;
 use std::thread::Threads;
+use test_data::outline;
 use wkt_core::Scale;
 
 /// The point at these coordinates.
@@ -135,6 +136,18 @@ fn has_features(layer: &Layer, features: &[(&str, Shape)]) -> bool {
 /// Whether the layer finds this shape under the id, with this number.
 fn finds(layer: &Layer, id: &str, number: u32, shape: Shape) -> bool {
     layer.find(id) == Some((number, shape))
+}
+
+/// All that is seen of a layer: each feature by its id, number and shape, the counts, and each node
+/// of the tree.
+fn state(alloc: Global, layer: &Layer) -> Result<String, AllocError> {
+    let mut text = outline(alloc, layer.tree())?;
+    writeln!(text, "{:?}", layer.stats())?;
+    for feature in layer.iter() {
+        let (id, number, shape) = (feature.id, feature.number, feature.shape);
+        writeln!(text, "{id} {number} {shape:?}")?;
+    }
+    Ok(text)
 }
 
 /// A layer with no features.

@@ -6,39 +6,24 @@ ghost use Rattle.parallel_core.specs.Faults.{fault_of, open_fault};
 
 use deliver_core::{Finish, Refusal};
 use std::alloc::AllocError;
-use std::error::Error;
-use std::fmt;
+use thiserror::Error;
 
 /// Why the workers couldn't process a plan.
-#[derive(Clone, Copy, Debug, PartialEq, Eq)]
+#[derive(Clone, Copy, Debug, PartialEq, Eq, Error)]
 pub enum JoinFault {
     /// Memory ran out.
+    #[error("no memory")]
     Memory,
     /// A worker couldn't be started.
+    #[error("a worker could not be started")]
     NoThread,
     /// The collector refused a message.
+    #[error("a message was refused")]
     Refused(Refusal),
     /// The task of this number has no end.
+    #[error("task {0} was not ended")]
     Open(u32),
 }
-
-impl fmt::Display for JoinFault {
-    ghost use Rattle.std.specs.Prelude.{Some};
-    ghost use Rattle.parallel_core.specs.Faults.{join_text};
-
-    ghost output = { λ fault. Some (join_text fault) };
-
-    fn fmt<W: fmt::Write>(&self, f: &mut fmt::Formatter<W>) -> fmt::Result {
-        match self {
-            JoinFault::Memory => f.write_str("no memory"),
-            JoinFault::NoThread => f.write_str("a worker could not be started"),
-            JoinFault::Refused(_) => f.write_str("a message was refused"),
-            JoinFault::Open(task) => write!(f, "task {task} was not ended"),
-        }
-    }
-}
-
-impl Error for JoinFault {}
 
 impl From<AllocError> for JoinFault {
     ghost from_gives = { λ _ fault. fault ≡ join_faults.Memory };

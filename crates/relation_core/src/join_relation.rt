@@ -3,13 +3,11 @@
 ghost use Rattle.relation_core.specs.Relations.{ForbidsDisjoint};
 
 use crate::extent::Extent;
-use crate::mask::Mask;
 use crate::matrix::Matrix;
 use crate::part::Parts;
 use crate::relation::Relation;
 use geom_core::Shape;
-use std::error::Error;
-use std::fmt;
+use thiserror::Error;
 
 /// A relation that holds for no two disjoint shapes.
 #[derive(Clone, Copy, Debug, PartialEq, Eq)]
@@ -19,7 +17,8 @@ pub struct JoinRelation {
 }
 
 /// The relation holds for some two disjoint shapes.
-#[derive(Clone, Copy, Debug, PartialEq, Eq)]
+#[derive(Clone, Copy, Debug, PartialEq, Eq, Error)]
+#[error("disjoint features may fit")]
 pub struct AllowsDisjoint;
 
 impl AllowsDisjoint {
@@ -33,19 +32,6 @@ impl AllowsDisjoint {
         "disjoint features may fit"
     }
 }
-
-impl fmt::Display for AllowsDisjoint {
-    ghost use Rattle.std.specs.Prelude.{Some};
-    ghost use Rattle.relation_core.specs.FaultTexts.{allows_disjoint_text};
-
-    ghost output = { λ _. Some allows_disjoint_text };
-
-    fn fmt<W: fmt::Write>(&self, f: &mut fmt::Formatter<W>) -> fmt::Result {
-        f.write_str(self.text())
-    }
-}
-
-impl Error for AllowsDisjoint {}
 
 impl JoinRelation {
     ghost use Rattle.std.specs.Prelude.{◌≡◌, ◌↔◌, IsTrue, IsOk, IfOk, OnErr};
@@ -91,8 +77,6 @@ impl JoinRelation {
 }
 
 ghost use Rattle.std.specs.Prelude.{◌≡◌, ℕ, ◌<◌, ◌↔◌, IsTrue};
-ghost use Rattle.std.specs.List.{filter_map};
-ghost use Rattle.relation_core.specs.Relations.{FitsOne};
 ghost use Rattle.relation_core.specs.DisjointShapes.{FitsDisjoint, boundary_extent};
 ghost use Rattle.relation_core.specs.DisjointShapes.{disjoint_matrix};
 ghost use Rattle.relation_core.specs.DisjointShapes.{interior_extent};
@@ -117,22 +101,12 @@ fn allows_disjoint_after(relation: &Relation, first_dim: u8) -> bool
         ((db : ℕ) × (db < 3) × FitsDisjoint relation.now first_dim db) }
 {
     for second_dim in 0..3 {
-        let masks = relation.masks(first_dim, second_dim);
-        if one_fits(&masks, &disjoint_matrix(first_dim, second_dim)) {
+        let matrix = disjoint_matrix(first_dim, second_dim);
+        if relation.fits(&matrix, first_dim, second_dim) {
             return true;
         }
     }
     false
-}
-
-/// Whether one of the masks fits.
-fn one_fits(masks: &[Option<Mask>; 4], matrix: &Matrix) -> bool
-    ensures { IsTrue result ↔ FitsOne (filter_map (λ given. given) masks.now) matrix.now }
-{
-    masks
-        .iter()
-        .filter_map(|mask| *mask)
-        .any(|mask| mask.fits(matrix))
 }
 
 /// The matrix of two disjoint shapes of these dimensions: each part of one lies in the exterior

@@ -4,8 +4,7 @@ use crate::extent::Extent;
 use crate::matrix::Matrix;
 use crate::part::Parts;
 use crate::pattern_value::PatternValue;
-use std::error::Error;
-use std::fmt;
+use thiserror::Error;
 
 /// A pattern of matrices (a pattern matrix, OGC 06-103r4, 6.1.15.2).
 #[derive(Clone, Copy, Debug, PartialEq, Eq)]
@@ -14,11 +13,13 @@ pub struct Mask {
 }
 
 /// Why a text is no mask.
-#[derive(Clone, Copy, Debug, PartialEq, Eq)]
+#[derive(Clone, Copy, Debug, PartialEq, Eq, Error)]
 pub enum MaskFault {
     /// It hasn't nine bytes.
+    #[error("not a name or a mask of nine letters")]
     Length,
     /// At this place, counted from 0, is the first byte that is no letter of a mask.
+    #[error("bad letter at place {0}")]
     Letter(u32),
 }
 
@@ -36,23 +37,6 @@ impl MaskFault {
         }
     }
 }
-
-impl fmt::Display for MaskFault {
-    ghost use Rattle.std.specs.Prelude.{Some};
-    ghost use Rattle.relation_core.specs.FaultTexts.{mask_text};
-
-    ghost output = { λ fault. Some (mask_text fault) };
-
-    fn fmt<W: fmt::Write>(&self, f: &mut fmt::Formatter<W>) -> fmt::Result {
-        let text = self.text();
-        match self {
-            MaskFault::Length => f.write_str(text),
-            MaskFault::Letter(place) => write!(f, "{text}{place}"),
-        }
-    }
-}
-
-impl Error for MaskFault {}
 
 impl Mask {
     ghost use Rattle.std.specs.Prelude.{◌≡◌, ◌≢◌, ℕ, ◌↔◌, length, IsTrue};

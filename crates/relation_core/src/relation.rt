@@ -6,6 +6,7 @@ use crate::matrix::Matrix;
 use crate::part::Parts;
 use crate::pattern_value::PatternValue;
 use crate::relate;
+use arrayvec::ArrayVec;
 use geom_core::Shape;
 use std::cmp::Ordering;
 
@@ -51,9 +52,8 @@ pub enum Relation {
 
 impl Relation {
     ghost use Rattle.std.specs.Prelude.{◌≡◌, ◌≢◌, ◌≤◌, ℕ, ◌↔◌, length, IsTrue};
-    ghost use Rattle.std.specs.List.{filter_map};
     ghost use Rattle.relation_core.specs.Masks.{HasBadLetter};
-    ghost use Rattle.relation_core.specs.Relations.{Holds, Spells, SpellsNothing, masks};
+    ghost use Rattle.relation_core.specs.Relations.{FitsOne, Holds, Spells, SpellsNothing, masks};
     ghost use Rattle.relation_core.specs.Relations.{HoldsOfSets};
 
     /// Reads one of the eight names, in any ASCII case, or else a mask.
@@ -77,50 +77,48 @@ impl Relation {
     }
 
     /// The masks of which one has to fit, for shapes of these two dimensions (OGC 06-103r4,
-    /// 6.1.15.3), in order; a place that has none is `None`. No masks mean that the relation
-    /// doesn't hold.
-    pub fn masks(&self, first_dim: u8, second_dim: u8) -> [Option<Mask>; 4]
+    /// 6.1.15.3), in order. No masks mean that the relation doesn't hold.
+    pub fn masks(&self, first_dim: u8, second_dim: u8) -> ArrayVec<Mask, 4>
         requires first { first_dim ≤ 2 }
         requires second { second_dim ≤ 2 }
-        ensures { filter_map (λ given. given) result ≡ masks self.now first_dim second_dim }
+        ensures { result.items ≡ masks self.now first_dim second_dim }
     {
         let anything = row(ANY, ANY, ANY);
         match self {
-            Relation::Mask(mask) => at_most_one(Some(*mask)),
-            Relation::Disjoint => at_most_one(Some(mask(row(F, F, ANY), row(F, F, ANY), anything))),
-            Relation::Intersects => [
-                Some(mask(row(T, ANY, ANY), anything, anything)),
-                Some(mask(row(ANY, T, ANY), anything, anything)),
-                Some(mask(anything, row(T, ANY, ANY), anything)),
-                Some(mask(anything, row(ANY, T, ANY), anything)),
-            ],
-            Relation::Touches if first_dim == 0 && second_dim == 0 => at_most_one(None),
-            Relation::Touches => [
-                Some(mask(row(F, T, ANY), anything, anything)),
-                Some(mask(row(F, ANY, ANY), row(T, ANY, ANY), anything)),
-                Some(mask(row(F, ANY, ANY), row(ANY, T, ANY), anything)),
-                None,
-            ],
+            Relation::Mask(mask) => list(&[*mask]),
+            Relation::Disjoint => list(&[mask(row(F, F, ANY), row(F, F, ANY), anything)]),
+            Relation::Intersects => list(&[
+                mask(row(T, ANY, ANY), anything, anything),
+                mask(row(ANY, T, ANY), anything, anything),
+                mask(anything, row(T, ANY, ANY), anything),
+                mask(anything, row(ANY, T, ANY), anything),
+            ]),
+            Relation::Touches if first_dim == 0 && second_dim == 0 => ArrayVec::new(),
+            Relation::Touches => list(&[
+                mask(row(F, T, ANY), anything, anything),
+                mask(row(F, ANY, ANY), row(T, ANY, ANY), anything),
+                mask(row(F, ANY, ANY), row(ANY, T, ANY), anything),
+            ]),
             Relation::Crosses => crosses_masks(first_dim, second_dim),
-            Relation::Within => at_most_one(Some(mask(row(T, ANY, F), row(ANY, ANY, F), anything))),
-            Relation::Contains => at_most_one(Some(mask(
-                row(T, ANY, ANY),
-                anything,
-                row(F, F, ANY),
-            ))),
-            Relation::Overlaps if first_dim != second_dim => at_most_one(None),
+            Relation::Within => list(&[mask(row(T, ANY, F), row(ANY, ANY, F), anything)]),
+            Relation::Contains => list(&[mask(row(T, ANY, ANY), anything, row(F, F, ANY))]),
+            Relation::Overlaps if first_dim != second_dim => ArrayVec::new(),
             Relation::Overlaps if first_dim == 1 => {
-                at_most_one(Some(mask(row(ONE, ANY, T), anything, row(T, ANY, ANY))))
+                list(&[mask(row(ONE, ANY, T), anything, row(T, ANY, ANY))])
             }
-            Relation::Overlaps => at_most_one(Some(mask(
-                row(T, ANY, T),
-                anything,
-                row(T, ANY, ANY),
-            ))),
-            Relation::Equals => {
-                at_most_one(Some(mask(row(T, ANY, F), row(ANY, ANY, F), row(F, F, ANY))))
-            }
+            Relation::Overlaps => list(&[mask(row(T, ANY, T), anything, row(T, ANY, ANY))]),
+            Relation::Equals => list(&[mask(row(T, ANY, F), row(ANY, ANY, F), row(F, F, ANY))]),
         }
+    }
+
+    /// Whether one of the masks for two geometries of these dimensions fits their matrix.
+    pub fn fits(&self, matrix: &Matrix, first_dim: u8, second_dim: u8) -> bool
+        requires first { first_dim ≤ 2 }
+        requires second { second_dim ≤ 2 }
+        ensures { IsTrue result ↔ FitsOne (masks self.now first_dim second_dim) matrix.now }
+    {
+        let masks = self.masks(first_dim, second_dim);
+        one_fits(masks.as_slice(), matrix)
     }
 
     /// Whether one of the masks for the two dimensions fits the matrix of the two shapes. Most
@@ -144,8 +142,7 @@ impl Relation {
     }
 }
 
-ghost use Rattle.std.specs.Prelude.{◌≡◌, ◌↔◌, ◌∷◌, [], None, length, IfSome, IfNone, IsTrue};
-ghost use Rattle.std.specs.List.{filter_map};
+ghost use Rattle.std.specs.Prelude.{◌≡◌, ◌≤◌, ◌↔◌, length, IfSome, IfNone, IsTrue};
 ghost use Rattle.relation_core.specs.Masks.{row};
 ghost use Rattle.relation_core.specs.Relations.{FitsOne, IsNamed, Spells, mask, masks};
 
@@ -177,17 +174,15 @@ fn named(text: &[u8]) -> Option<Relation>
 }
 
 /// The masks of `Crosses`.
-fn crosses_masks(first_dim: u8, second_dim: u8) -> [Option<Mask>; 4]
-    ensures { filter_map (λ given. given) result ≡ masks Relation.Crosses first_dim second_dim }
+fn crosses_masks(first_dim: u8, second_dim: u8) -> ArrayVec<Mask, 4>
+    ensures { result.items ≡ masks Relation.Crosses first_dim second_dim }
 {
     let anything = row(ANY, ANY, ANY);
     match first_dim.cmp(&second_dim) {
-        Ordering::Less => at_most_one(Some(mask(row(T, ANY, T), anything, anything))),
-        Ordering::Greater => at_most_one(Some(mask(row(T, ANY, ANY), anything, row(T, ANY, ANY)))),
-        Ordering::Equal if first_dim == 1 => {
-            at_most_one(Some(mask(row(ZERO, ANY, ANY), anything, anything)))
-        }
-        Ordering::Equal => at_most_one(None),
+        Ordering::Less => list(&[mask(row(T, ANY, T), anything, anything)]),
+        Ordering::Greater => list(&[mask(row(T, ANY, ANY), anything, row(T, ANY, ANY))]),
+        Ordering::Equal if first_dim == 1 => list(&[mask(row(ZERO, ANY, ANY), anything, anything)]),
+        Ordering::Equal => ArrayVec::new(),
     }
 }
 
@@ -226,6 +221,13 @@ fn overlaps(matrix: &Matrix, first_dim: u8, second_dim: u8) -> bool
         && matrix.rows.exterior.interior != Extent::Empty
 }
 
+/// Whether one of the masks fits.
+fn one_fits(masks: &[Mask], matrix: &Matrix) -> bool
+    ensures { IsTrue result ↔ FitsOne masks.now matrix.now }
+{
+    masks.iter().any(|mask| mask.fits(matrix))
+}
+
 /// What a mask asks of one part of the first shape with each part of the second.
 fn row(
     interior: PatternValue,
@@ -258,9 +260,12 @@ fn mask(
     }
 }
 
-/// At most one mask.
-fn at_most_one(mask: Option<Mask>) -> [Option<Mask>; 4]
-    ensures { result ≡ mask ∷ None ∷ None ∷ None ∷ [] }
+/// At most four masks as a list.
+fn list(masks: &[Mask]) -> ArrayVec<Mask, 4>
+    requires { length masks.now ≤ 4 }
+    ensures { result.items ≡ masks.now }
 {
-    [mask, None, None, None]
+    let mut list = ArrayVec::new();
+    list.try_extend_from_slice(masks).unwrap();
+    list
 }

@@ -5,8 +5,11 @@ ghost use Rattle.std.specs.Prelude.{IsTrue, IsErr, IfOk, OnOk, OnErr};
 ghost use Rattle.std.specs.Io.KnownBytes.{Appends, Keeps, WriteAppends};
 ghost use Rattle.report_core.specs.Written.{AppendsPrefix, joined};
 
+use thiserror::Error;
+
 /// The device has failed.
-#[derive(Clone, Copy, Debug, PartialEq, Eq)]
+#[derive(Clone, Copy, Debug, PartialEq, Eq, Error)]
+#[error("write failed")]
 pub struct WriteFailed;
 
 /// A device that text is written to, and that fails for good.

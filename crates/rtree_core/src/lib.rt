@@ -16,3 +16,4 @@ pub use node::{Entry, Node};
 pub use split_core::split::{FEWEST, MOST};
 pub use split_core::{choices, measures, split};
 pub use tree::RTree;
+pub use window::Window;

@@ -7,8 +7,7 @@ use crate::editable_tree::EditableTree;
 use crate::free_lists::FreeLists;
 use crate::node::{Entry, Node};
 use crate::pack::pack_entries;
-use crate::window::collect;
-use geom_core::Shape;
+use crate::window::{Window, collect};
 use split_core::split::MOST;
 use split_core::tile::{tile, tile_by_threads};
 use std::alloc::{AllocError, Global};
@@ -212,11 +211,13 @@ impl RTree {
         Ok(removed)
     }
 
-    /// The numbers of the entries whose shapes meet the window, ascending.
-    pub fn window(&self, alloc: Global, window: &Shape) -> Result<Vec<u32>, AllocError>
+    /// The numbers of the entries whose shapes meet the window, ascending. A `Shape` is a window.
+    pub fn window<W: Window>(&self, alloc: Global, window: &W) -> Result<Vec<u32>, AllocError>
         ensures rising { IfOk result (λ v. IsStrictlyIncreasing v.items) }
-        ensures met { IfOk result (λ v. AllMet window.now (entries_in self.now) v.items) }
-        ensures all { IfOk result (λ v. AllFound window.now (entries_in self.now) v.items) }
+        ensures met { let window = W.shape_of window.now in
+            IfOk result (λ v. AllMet window (entries_in self.now) v.items) }
+        ensures all { let window = W.shape_of window.now in
+            IfOk result (λ v. AllFound window (entries_in self.now) v.items) }
     {
         let mut found = Vec::new(alloc);
         let Some(root) = &self.tree.root else {

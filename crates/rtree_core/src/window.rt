@@ -9,12 +9,41 @@ use crate::node::{Below, Entry, Node};
 use geom_core::Shape;
 use std::alloc::AllocError;
 
+/// What a search asks for: the shapes that meet a window. It is asked once for each child of a node
+/// that is visited, of its bounding box, and once for each entry of a leaf.
+pub trait Window {
+    ghost use Rattle.std.specs.Prelude.{◌↔◌, IsTrue};
+    ghost use Rattle.geom_core.specs.declared.shape.Shape.{Shape};
+    ghost use Rattle.geom_core.specs.Cells.{Meets};
+
+    /// The closed shape of the window.
+    ghost shape_of: { Self → Shape };
+
+    /// Whether a shape meets the window.
+    fn admits(&self, shape: &Shape) -> bool
+        ensures { IsTrue result ↔ Meets shape.now (shape_of self.now) };
+}
+
+impl Window for Shape {
+    ghost shape_of = { λ s. s };
+
+    #[inline(always)]
+    fn admits(&self, shape: &Shape) -> bool {
+        shape.meets(self)
+    }
+}
+
 /// Adds the numbers of a node's entries that meet the window, from left to right.
 #[cycle(window)]
 #[tactic(auto, using(crate::proofs::WindowLemmas::list_step))]
-pub(crate) fn collect(node: &Node, window: &Shape, found: &mut Vec<u32>) -> Result<(), AllocError>
+pub(crate) fn collect<W: Window>(
+    node: &Node,
+    window: &W,
+    found: &mut Vec<u32>,
+) -> Result<(), AllocError>
     requires { IsLawful node.now }
-    ensures { OnOk result (Adds window.now (entries_of node.now) found.old.items found.new.items) }
+    ensures { let window = W.shape_of window.now in
+        OnOk result (Adds window (entries_of node.now) found.old.items found.new.items) }
 {
     match &node.below {
         Below::Entries(entries) => collect_entries(entries, window, found),
@@ -25,17 +54,17 @@ pub(crate) fn collect(node: &Node, window: &Shape, found: &mut Vec<u32>) -> Resu
 /// Goes down into the children whose covers meet the window.
 #[cycle(window)]
 #[tactic(auto, using(crate::proofs::WindowLemmas::child_step))]
-fn collect_children(
+fn collect_children<W: Window>(
     children: &[Node],
-    window: &Shape,
+    window: &W,
     found: &mut Vec<u32>,
 ) -> Result<(), AllocError>
     requires { All IsLawful children.now }
     ensures { let entries = flat_map entries_of children.now in
-        OnOk result (Adds window.now entries found.old.items found.new.items) }
+        OnOk result (Adds (W.shape_of window.now) entries found.old.items found.new.items) }
 {
     for child in children {
-        let meets = child.cover.meets(window);
+        let meets = window.admits(&child.cover);
         if !meets {
             continue;
         }
@@ -46,15 +75,16 @@ fn collect_children(
 
 /// Adds the numbers of the entries that meet the window.
 #[tactic(auto, using(crate::proofs::WindowLemmas::adds_none))]
-fn collect_entries(
+fn collect_entries<W: Window>(
     entries: &[Entry],
-    window: &Shape,
+    window: &W,
     found: &mut Vec<u32>,
 ) -> Result<(), AllocError>
-    ensures { OnOk result (Adds window.now entries.now found.old.items found.new.items) }
+    ensures { let window = W.shape_of window.now in
+        OnOk result (Adds window entries.now found.old.items found.new.items) }
 {
     for entry in entries {
-        let meets = entry.shape.meets(window);
+        let meets = window.admits(&entry.shape);
         if !meets {
             continue;
         }

@@ -9,6 +9,7 @@ use crate::trees::{Squares, has_leaves};
 use geom_core::Shape;
 use rtree_core::{Entry, RTree};
 use std::alloc::Global;
+use test_data::outline;
 
 /// The leaves of nine points.
 const NINE: [&[u32]; 2] = [&[0, 2, 4, 6, 8], &[1, 3, 5, 7]];
@@ -26,24 +27,35 @@ const ELEVEN: &[&[u32]] = &[&[0, 2, 4, 6, 8, 9, 10, 11], &[3, 5, 7]];
 
 const TEN: &[&[u32]] = &[&[0, 4, 8, 10, 5, 7], &[2, 6, 9, 11]];
 
-/// Whether a tree is the leaf of these numbers, or empty where there are none.
-fn is_leaf_of(tree: &RTree, numbers: &[u32]) -> bool {
-    if numbers.is_empty() {
-        return tree.is_empty();
+/// A tree as text, made again where memory was refused; none where it is refused for good.
+fn outline_at_last(alloc: Global, tree: &RTree) -> Option<String> {
+    for _ in 0..10 {
+        if let Ok(text) = outline(alloc, tree) {
+            return Some(text);
+        }
     }
-    has_leaves(tree, &[numbers])
+    None
 }
 
-/// Inserts the entry, again where memory was refused, and says whether the leaf was then as before.
-fn insert_at_last(tree: &mut RTree, entry: Entry, before: &[u32]) -> bool
+/// Whether a tree has the nodes and entries of this text, in its order.
+fn is_as(alloc: Global, tree: &RTree, text: &str) -> bool {
+    outline_at_last(alloc, tree).is_some_and(|now| now.as_str() == text)
+}
+
+/// Inserts the entry, again where memory was refused, and says whether all nodes were then as
+/// before.
+fn insert_at_last(alloc: Global, tree: &mut RTree, entry: Entry) -> bool
     requires { IsFresh entry.number tree.old }
     ensures { OnTrue result (Gains entry (entries_in tree.old) (entries_in tree.new)) }
 {
+    let Some(before) = outline_at_last(alloc, tree) else {
+        return false;
+    };
     for _ in 0..10 {
         if tree.insert(entry).is_ok() {
             return true;
         }
-        if !is_leaf_of(tree, before) {
+        if !is_as(alloc, tree, before.as_str()) {
             return false;
         }
     }
@@ -51,13 +63,11 @@ fn insert_at_last(tree: &mut RTree, entry: Entry, before: &[u32]) -> bool
 }
 
 /// Whether nine points of a crowd are inserted into an empty tree.
-fn grows_to_nine(tree: &mut RTree) -> bool
+fn grows_to_nine(alloc: Global, tree: &mut RTree) -> bool
     requires { (k : ℕ) → IsFresh k tree.old }
 {
-    let numbers = [0, 1, 2, 3, 4, 5, 6, 7];
     for number in 0..9u8 {
-        let before = numbers.get(..usize::from(number)).unwrap_or(&[]);
-        if !insert_at_last(tree, Squares::Crowd.entry(number), before) {
+        if !insert_at_last(alloc, tree, Squares::Crowd.entry(number)) {
             return false;
         }
     }
@@ -67,7 +77,7 @@ fn grows_to_nine(tree: &mut RTree) -> bool
 /// The last of the nine insertions splits the root.
 #[test]
 fn refused_1(rt: HostRuntime) {
-    assert!(rt; grows_to_nine(&mut RTree::new(rt.alloc())));
+    assert!(rt; grows_to_nine(rt.alloc(), &mut RTree::new(rt.alloc())));
 }
 
 /// What is seen of the tree into which the first squares were inserted, again where memory was
@@ -93,14 +103,17 @@ fn grown_at_last(alloc: Global, squares: Squares, count: u8) -> Option<RTree> {
     None
 }
 
-/// Removes an entry, again where memory was refused, and says whether the tree held it and was
-/// then as before.
-fn remove_at_last(tree: &mut RTree, entry: &Entry, before: &[&[u32]]) -> bool {
+/// Removes an entry, again where memory was refused, and says whether the tree held it and all
+/// nodes were then as before.
+fn remove_at_last(alloc: Global, tree: &mut RTree, entry: &Entry) -> bool {
+    let Some(before) = outline_at_last(alloc, tree) else {
+        return false;
+    };
     for _ in 0..10 {
         if let Ok(removed) = tree.remove(entry) {
             return removed;
         }
-        if !has_leaves(tree, before) {
+        if !is_as(alloc, tree, before.as_str()) {
             return false;
         }
     }
@@ -108,9 +121,9 @@ fn remove_at_last(tree: &mut RTree, entry: &Entry, before: &[&[u32]]) -> bool {
 }
 
 /// Whether a tree of nine squares loses one, and then is one leaf.
-fn loses_a_leaf(tree: &mut RTree) -> bool {
+fn loses_a_leaf(alloc: Global, tree: &mut RTree) -> bool {
     has_leaves(tree, &OUTLIER)
-        && remove_at_last(tree, &Squares::Outlier.entry(6), &OUTLIER)
+        && remove_at_last(alloc, tree, &Squares::Outlier.entry(6))
         && has_leaves(tree, ONE_LEAF)
         && tree.height() == 1
 }
@@ -118,20 +131,24 @@ fn loses_a_leaf(tree: &mut RTree) -> bool {
 /// The removal sets a node aside.
 #[test]
 fn removal_refused(rt: HostRuntime) {
-    assert!(rt; on_grown(rt.alloc(), Squares::Outlier, 9, loses_a_leaf));
+    let alloc = rt.alloc();
+    assert!(rt; on_grown(alloc, Squares::Outlier, 9, |tree| loses_a_leaf(alloc, tree)));
 }
 
 /// Whether a tree of twelve points loses two, and has the others in two leaves.
-fn loses_two(tree: &mut RTree) -> bool {
-    remove_at_last(tree, &Squares::Crowd.entry(1), TWELVE)
-        && remove_at_last(tree, &Squares::Crowd.entry(3), ELEVEN)
+fn loses_two(alloc: Global, tree: &mut RTree) -> bool {
+    has_leaves(tree, TWELVE)
+        && remove_at_last(alloc, tree, &Squares::Crowd.entry(1))
+        && has_leaves(tree, ELEVEN)
+        && remove_at_last(alloc, tree, &Squares::Crowd.entry(3))
         && has_leaves(tree, TEN)
 }
 
 /// The second removal sets a node aside, and a node is split again.
 #[test]
 fn refused_2(rt: HostRuntime) {
-    assert!(rt; on_grown(rt.alloc(), Squares::Crowd, 12, loses_two));
+    let alloc = rt.alloc();
+    assert!(rt; on_grown(alloc, Squares::Crowd, 12, |tree| loses_two(alloc, tree)));
 }
 
 /// Packs the first points of the row, again where memory was refused.

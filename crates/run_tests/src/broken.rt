@@ -2,8 +2,8 @@
 //! quoted.
 
 use crate::device::{has_front, make_device};
-use crate::example::{EDITED, RIGHT};
-use crate::running::{Files, at_once, edited_example, ends, run};
+use crate::example::{EDITED, REPORT, RIGHT};
+use crate::running::{Files, at_once, edited_example, ends, example, run};
 use file_core::ReadFault;
 use join_core::{Input, Options, RunFault};
 use relation_core::Relation;
@@ -70,17 +70,11 @@ fn writes_front<R: Threads + Wait + Sync + RandomSource + AllocGlobal>(
 ) -> Option<bool> {
     let mut sink = make_device(rt.alloc(), room, step);
     let options = Options::new(4, 256, 2).ok()?;
-    let outcome = run(
-        rt,
-        &edited_example(),
-        Relation::Touches,
-        &options,
-        &mut sink,
-    )?;
+    let outcome = run(rt, &example(), Relation::Touches, &options, &mut sink)?;
     Some(has_front(
         outcome,
         sink.into_inner().taken.as_slice(),
-        EDITED.as_bytes(),
+        REPORT.as_bytes(),
         room,
     ))
 }
@@ -88,7 +82,7 @@ fn writes_front<R: Threads + Wait + Sync + RandomSource + AllocGlobal>(
 #[test]
 fn broken_11(rt: HostRuntime) {
     for step in [1, 7] {
-        for room in 0..EDITED.len() + 2 {
+        for room in 0..REPORT.len() + 2 {
             assert!(rt; writes_front(&rt, room, step) == Some(true));
         }
     }

@@ -24,12 +24,12 @@ letter_at word text rest i (x, h, e) l =
     ap (λ t. to_ascii_lowercase (get_or t i 0)) e ∙ ap to_ascii_lowercase (get_or_append_left x rest 0 i inside)
     ∙ sym (get_or-map to_ascii_lowercase x i 0 0 inside) ∙ ap (λ t. get_or t i 0) h
 
-letters_rest : (word text r s : List ℕ) → TakesLetters word text r → TakesLetters word text s → r ≡ s
+pub letters_rest : (word text r s : List ℕ) → TakesLetters word text r → TakesLetters word text s → r ≡ s
 letters_rest word text r s (x, h, e) (y, k, f) =
     let long : length x ≡ length y = sym (length-map x to_ascii_lowercase) ∙ ap length (h ∙ sym k) ∙ length-map y to_ascii_lowercase in
     sym (front_rest text x r e) ∙ ap (λ n. drop n text) long ∙ front_rest text y s f
 
-apart : (v w text r s : List ℕ) (i : ℕ) → TakesLetters v text r → TakesLetters w text s → i < length v → i < length w
+pub apart : (v w text r s : List ℕ) (i : ℕ) → TakesLetters v text r → TakesLetters w text s → i < length v → i < length w
     → get_or (map to_ascii_lowercase v) i 0 ≡ get_or (map to_ascii_lowercase w) i 0
 apart v w text r s i h k l m = sym (letter_at v text r i h l) ∙ letter_at w text s i k m
 
@@ -109,7 +109,7 @@ text_same text k l xs ys (m, e, h, b, p) t =
 
 -- ---- from the grammar to what is read, and back
 
-blank_stays : (b c : ℕ) → to_ascii_lowercase b ≡ c → 97 ≤ c → is_blank b ≡ false
+pub blank_stays : (b c : ℕ) → to_ascii_lowercase b ≡ c → 97 ≤ c → is_blank b ≡ false
 blank_stays b c e h = grind (arith, nat_tests)
 
 word_solid : (keyword : Keyword) (s text : List ℕ) → Word keyword s → NoBlank (s ++ text)
@@ -120,12 +120,12 @@ word_solid Point (b ∷ s) text h = let first : to_ascii_lowercase b ≡ 112 = a
 word_solid LineString (b ∷ s) text h = let first : to_ascii_lowercase b ≡ 108 = ap (λ t. get_or t 0 0) h in blank_stays b 108 first (omega arith)
 word_solid Polygon (b ∷ s) text h = let first : to_ascii_lowercase b ≡ 112 = ap (λ t. get_or t 0 0) h in blank_stays b 112 first (omega arith)
 
-small : (keyword : Keyword) → map to_ascii_lowercase (spelling keyword) ≡ spelling keyword
+pub small : (keyword : Keyword) → map to_ascii_lowercase (spelling keyword) ≡ spelling keyword
 small Point = refl
 small LineString = refl
 small Polygon = refl
 
-body_solid : (keyword : Keyword) (lists : List (List RawPoint)) (s text : List ℕ) → Body keyword lists s → NoBlank (s ++ text)
+pub body_solid : (keyword : Keyword) (lists : List (List RawPoint)) (s text : List ℕ) → Body keyword lists s → NoBlank (s ++ text)
 body_solid Point [] s text h = absurd h
 body_solid Point ([] ∷ lists) s text h = absurd h
 body_solid Point ((p ∷ []) ∷ []) s text h = lists_reading.solid (p ∷ []) s text h
@@ -136,7 +136,7 @@ body_solid LineString (ps ∷ []) s text h = lists_reading.solid ps s text h
 body_solid LineString (ps ∷ qs ∷ lists) s text h = absurd h
 body_solid Polygon lists s text h = text_lists_reading.solid lists s text h
 
-body_front : (keyword : Keyword) (lists : List (List RawPoint)) (s text : List ℕ) → Body keyword lists s → TakesBody keyword (s ++ text) lists text
+pub body_front : (keyword : Keyword) (lists : List (List RawPoint)) (s text : List ℕ) → Body keyword lists s → TakesBody keyword (s ++ text) lists text
 body_front Point [] s text h = absurd h
 body_front Point ([] ∷ lists) s text h = absurd h
 body_front Point ((p ∷ []) ∷ []) s text h = enclosed_front PointText TakesPoint points_reading (p ∷ []) s text h
@@ -147,7 +147,7 @@ body_front LineString (ps ∷ []) s text h = enclosed_front PointText TakesPoint
 body_front LineString (ps ∷ qs ∷ lists) s text h = absurd h
 body_front Polygon lists s text h = enclosed_front PointList TakesPoints lists_reading lists s text h
 
-body_begins : (keyword : Keyword) (text : List ℕ) (lists : List (List RawPoint)) (rest : List ℕ) → TakesBody keyword text lists rest
+pub body_begins : (keyword : Keyword) (text : List ℕ) (lists : List (List RawPoint)) (rest : List ℕ) → TakesBody keyword text lists rest
     → Begins (Body keyword) text lists rest
 body_begins Point text [] rest h = absurd h
 body_begins Point text ([] ∷ lists) rest h = absurd h

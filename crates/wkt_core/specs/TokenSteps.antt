@@ -1,6 +1,5 @@
 -- What the steps of the reader over white space, symbols and letters take, and what they leave.
--- Only contracts inside the crate cite the words of the files of steps; proofs/ ties them to the
--- grammar, in both directions.
+-- Proofs tie the words of the files of steps to the grammar, in both directions.
 use Rattle.std.specs.Prelude.{◌≡◌, ◌==◌, ℕ, List, [], ◌∷◌, ◌++◌, Option}
 use Rattle.std.specs.Prelude.{Some, None, if◌then◌else◌, map}
 use Rattle.std.specs.Borrow.{Bor}

@@ -1,16 +1,18 @@
 //! Why a text stands for no shape.
 
-use std::error::Error;
-use std::fmt;
+use thiserror::Error;
 
 /// Why a text stands for no shape. Where several hold, the first is named.
-#[derive(Clone, Copy, Debug, PartialEq, Eq)]
+#[derive(Clone, Copy, Debug, PartialEq, Eq, Error)]
 pub enum WktFault {
     /// The bytes are no text of the grammar.
+    #[error("not a geometry text")]
     Text,
     /// Some number isn't a whole number of the scale's units, or is out of range.
+    #[error("number not whole or out of range")]
     Number,
     /// The points are those of no point, axis-parallel segment or rectangle.
+    #[error("not a point, axis-parallel segment or rectangle")]
     Form,
 }
 
@@ -30,16 +32,3 @@ impl WktFault {
         }
     }
 }
-
-impl fmt::Display for WktFault {
-    ghost use Rattle.std.specs.Prelude.{Some};
-    ghost use Rattle.wkt_core.specs.FaultTexts.{wkt_text};
-
-    ghost output = { λ fault. Some (wkt_text fault) };
-
-    fn fmt<W: fmt::Write>(&self, f: &mut fmt::Formatter<W>) -> fmt::Result {
-        f.write_str(self.text())
-    }
-}
-
-impl Error for WktFault {}

@@ -4,7 +4,7 @@ use crate::token::skip_word;
 
 /// The kind of a geometry, as its text names it.
 #[derive(Clone, Copy, Debug, PartialEq, Eq)]
-pub(crate) enum Keyword {
+pub enum Keyword {
     Point,
     LineString,
     Polygon,
@@ -16,7 +16,7 @@ impl Keyword {
 
     /// The keyword at the front of a text, in any case, and what follows it.
     #[inline(always)]
-    pub(crate) fn read(text: &[u8]) -> Option<(Keyword, &[u8])>
+    pub fn read(text: &[u8]) -> Option<(Keyword, &[u8])>
         ensures some { IfSome result (λ r. TakesWord text.now r.0 r.1.now) }
         ensures none { IfNone result
             ((keyword : Keyword) (rest : List ℕ) → TakesWord text.now keyword rest → ⊥) }

@@ -10,7 +10,7 @@ use crate::token::skip_gap;
 
 /// A point of the plane.
 #[derive(Clone, Copy, Debug, Default, PartialEq, Eq)]
-pub(crate) struct Position {
+pub struct Position {
     pub x: i64,
     pub y: i64,
 }
@@ -19,7 +19,7 @@ impl Position {
     ghost use Rattle.wkt_core.specs.Drawing.{corner};
 
     #[inline(always)]
-    pub(crate) fn new(x: i64, y: i64) -> Position
+    pub fn new(x: i64, y: i64) -> Position
         ensures { result ≡ corner x y }
     {
         Position { x, y }
@@ -28,11 +28,11 @@ impl Position {
 
 /// What is read of a point.
 #[derive(Drop)]
-pub(crate) struct ReadPoint {
+pub struct ReadPoint {
     /// The whole units of both numbers, where these are in range.
-    pub(crate) position: Option<Position>,
+    pub position: Option<Position>,
     /// Whether both are whole numbers of units.
-    pub(crate) whole: bool,
+    pub whole: bool,
 }
 
 /// The position with these coordinates, where there are both.
@@ -60,7 +60,7 @@ fn point(x: ReadNumber, y: ReadNumber) -> ReadPoint
 /// What is read of the point at the front of a text, and what follows it: `None` where no point
 /// stands there.
 #[inline(always)]
-pub(crate) fn read_point(text: &[u8], scale: Scale) -> Option<(ReadPoint, &[u8])>
+pub fn read_point(text: &[u8], scale: Scale) -> Option<(ReadPoint, &[u8])>
     ensures { answer_view result ≡ point_answer scale (point_at text.now) }
 {
     let (x, rest) = read_number(text, scale)?;

@@ -29,7 +29,7 @@ fn skip_all_blanks(mut text: &[u8]) -> &[u8]
 
 /// The text behind its white space.
 #[inline(always)]
-pub(crate) fn skip_blanks(text: &[u8]) -> &[u8]
+pub fn skip_blanks(text: &[u8]) -> &[u8]
     ensures { result.now ≡ skip text.now }
 {
     // There is mostly none or one space, and every byte of white space is at most a space.
@@ -54,7 +54,7 @@ pub(crate) fn skip_gap(text: &[u8]) -> Option<&[u8]>
 
 /// The text behind this byte.
 #[inline(always)]
-pub(crate) fn skip_symbol(text: &[u8], symbol: u8) -> Option<&[u8]>
+pub fn skip_symbol(text: &[u8], symbol: u8) -> Option<&[u8]>
     ensures { rest_view result ≡ symbol_at symbol text.now }
 {
     match text {
@@ -64,7 +64,7 @@ pub(crate) fn skip_symbol(text: &[u8], symbol: u8) -> Option<&[u8]>
 }
 
 /// What follows an item of a list: a comma or the closing parenthesis, and the text behind it.
-pub(crate) enum Next<'a> {
+pub enum Next<'a> {
     Item(&'a [u8]),
     End(&'a [u8]),
 }
@@ -83,7 +83,7 @@ fn read_symbol(text: &[u8]) -> Option<Next<'_>>
 
 /// What follows an item and its white space, of which there is mostly none.
 #[inline(always)]
-pub(crate) fn read_next(text: &[u8]) -> Option<Next<'_>>
+pub fn read_next(text: &[u8]) -> Option<Next<'_>>
     ensures { StandsNext (skip text.now) result }
 {
     match read_symbol(text) {
@@ -94,7 +94,7 @@ pub(crate) fn read_next(text: &[u8]) -> Option<Next<'_>>
 
 /// The text behind this word, in any case.
 #[inline(always)]
-pub(crate) fn skip_word<'a>(text: &'a [u8], word: &[u8]) -> Option<&'a [u8]>
+pub fn skip_word<'a>(text: &'a [u8], word: &[u8]) -> Option<&'a [u8]>
     ensures some { IfSome result (λ rest. TakesLetters word.now text.now rest.now) }
     ensures none { IfNone result ((rest : List ℕ) → TakesLetters word.now text.now rest → ⊥) }
 {

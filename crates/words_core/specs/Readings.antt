@@ -161,15 +161,16 @@ is_near word name =
 unfoldable pub hint_of : Text → Option Text
 hint_of word = find (is_near word) hint_names
 
-abbrev pub hint_text : Text → Text
-hint_text name = codes "rjoin: --relation: " ++ mask_text mask.Length
-    ++ codes "; did you mean " ++ name ++ codes "?\n"
+-- the line of the fault, and then the name on a line of its own
+abbrev pub hint_text : MaskFault → Text → Text
+hint_text reason name = codes "rjoin: --relation: " ++ (mask_text reason ++ (codes "\n"
+    ++ (codes "did you mean " ++ (name ++ codes "?\n"))))
 
 -- the word spells no relation that a join may use
 abbrev pub IsRelationFault : Text → WordFault → Type 0
 IsRelationFault word (fault.Relation reason) = IsNoRelation word reason × (hint_of word ≡ None)
-IsRelationFault word (fault.Usage shown help) = ((reason : MaskFault) × IsNoRelation word reason)
-    × MatchOption (hint_of word) ⊥ (λ name. Says (hint_text name) (fault.Usage shown help))
+IsRelationFault word (fault.Usage shown help) = (reason : MaskFault) × IsNoRelation word reason
+    × MatchOption (hint_of word) ⊥ (λ name. Says (hint_text reason name) (fault.Usage shown help))
 IsRelationFault word fault.AllowsDisjoint =
     (relation : Relation) × Spells relation word × HoldsForDisjoint relation
 IsRelationFault word _ = ⊥

@@ -1,6 +1,7 @@
 //! What `clap` found in the words, read as a command.
 
 ghost use Rattle.std.specs.Prelude.{◌≡◌, ◌≢◌, Some, None, true, false, codes, IfOk, IfErr};
+ghost use Rattle.std.specs.Prelude.{OnOk, string_bytes};
 ghost use Rattle.clap.specs.Words.{first_of, subcommand_rows_of};
 ghost use Rattle.relation_core.specs.JoinRelations.{relation_of};
 ghost use Rattle.relation_core.specs.Relations.{Spells};
@@ -9,7 +10,8 @@ ghost use Rattle.words_core.specs.Readings.{HasCommandFault, HasMetFault, HasRel
 ghost use Rattle.words_core.specs.Readings.{HasScaleFault};
 ghost use Rattle.words_core.specs.Readings.{HasWindowFault, IsCommandIn, IsJoinIn, IsMetAs};
 ghost use Rattle.words_core.specs.Readings.{IsNoRelation, IsRelationFault, IsScaleIn};
-ghost use Rattle.words_core.specs.Readings.{NeedsOptions, Says, found_in, missing_text};
+ghost use Rattle.words_core.specs.Readings.{NeedsOptions, Says, found_in, hint_text};
+ghost use Rattle.words_core.specs.Readings.{missing_text};
 ghost use Rattle.words_core.specs.Readings.{number_at, share_input, shared_text, text_in};
 
 use crate::hint::nearest_relation;
@@ -45,14 +47,8 @@ fn read_named<'a>(
 {
     match name {
         "relate" => read_relate(alloc, given),
-        "join" => {
-            let join = read_join(alloc, given)?;
-            Ok(Command::Join(join))
-        }
-        "draw" => {
-            let draw = read_join(alloc, given)?;
-            Ok(Command::Draw(draw))
-        }
+        "join" => read_join(alloc, given),
+        "draw" => read_draw(alloc, given),
         "window" => read_window(alloc, given),
         "stats" => read_stats(alloc, given),
         "bounds" => read_bounds(alloc, given),
@@ -70,17 +66,29 @@ fn read_relate<'a>(alloc: Global, given: &ArgMatches<'a>) -> Result<Command<'a>,
     Ok(Command::Relate { a, b, scale })
 }
 
-fn read_join<'a>(alloc: Global, given: &ArgMatches<'a>) -> Result<JoinRequest<'a>, WordFault>
+fn read_join<'a>(alloc: Global, given: &ArgMatches<'a>) -> Result<Command<'a>, WordFault>
+    ensures ok { IfOk result (IsCommandIn (codes "join") (found_in given.now)) }
+    ensures err { IfErr result (λ f. f ≢ WordFault.Memory → HasJoinFault (found_in given.now) f) }
+{
+    let join = read_request(alloc, given)?;
+    Ok(Command::Join(join))
+}
+
+fn read_draw<'a>(alloc: Global, given: &ArgMatches<'a>) -> Result<Command<'a>, WordFault>
+    ensures ok { IfOk result (IsCommandIn (codes "draw") (found_in given.now)) }
+    ensures err { IfErr result (λ f. f ≢ WordFault.Memory → HasJoinFault (found_in given.now) f) }
+{
+    let draw = read_request(alloc, given)?;
+    Ok(Command::Draw(draw))
+}
+
+fn read_request<'a>(alloc: Global, given: &ArgMatches<'a>) -> Result<JoinRequest<'a>, WordFault>
     ensures ok { IfOk result (IsJoinIn (found_in given.now)) }
     ensures err { IfErr result (λ f. f ≢ WordFault.Memory → HasJoinFault (found_in given.now) f) }
 {
     let left_path = required(alloc, given, "LEFT")?;
     let right_path = required(alloc, given, "RIGHT")?;
-    let edits_path = given.get_str("edits");
-    let is_shared = shares_input(left_path, right_path, edits_path);
-    if is_shared {
-        return Err(shared_input(alloc));
-    }
+    let edits_path = read_edits_path(alloc, given, left_path, right_path)?;
     let word = required(alloc, given, "relation")?;
     let relation = read_relation(alloc, word)?;
     let options = read_options(alloc, given)?;
@@ -93,6 +101,28 @@ fn read_join<'a>(alloc: Global, given: &ArgMatches<'a>) -> Result<JoinRequest<'a
         options,
         scale,
     })
+}
+
+/// The path of the edits, if one is given, beside the paths of the two layers.
+fn read_edits_path<'a>(
+    alloc: Global,
+    given: &ArgMatches<'a>,
+    left: &str,
+    right: &str,
+) -> Result<Option<&'a str>, WordFault>
+    ensures ok { IfOk result (λ edits.
+        first_of (codes "edits") (found_in given.now) ≡ text_in edits) }
+    ensures one_input { let edits = first_of (codes "edits") (found_in given.now) in
+        OnOk result (share_input left.now right.now edits ≡ false) }
+    ensures shared { let edits = first_of (codes "edits") (found_in given.now) in
+        IfErr result (λ _. share_input left.now right.now edits ≡ true) }
+    ensures told { IfErr result (λ f. f ≢ WordFault.Memory → Says shared_text f) }
+{
+    let edits = optional(given, "edits");
+    if shares_input(left, right, edits) {
+        return Err(shared_input(alloc));
+    }
+    Ok(edits)
 }
 
 /// The relation that a word names, or that it spells as a mask.
@@ -114,11 +144,23 @@ fn relation_fault(alloc: Global, word: &str, fault: MaskFault) -> Result<WordFau
     let Some(name) = nearest_relation(alloc, word)? else {
         return Ok(WordFault::Relation(fault));
     };
-    let reason = MaskFault::Length.text();
-    Ok(WordFault::Usage {
-        text: format!(in alloc; "rjoin: --relation: {reason}; did you mean {name}?\n")?,
-        help: false,
-    })
+    let text = hinted(alloc, fault, name)?;
+    Ok(WordFault::Usage { text, help: false })
+}
+
+/// The line of a fault, and below it the name that may be meant.
+fn hinted(alloc: Global, fault: MaskFault, name: &str) -> Result<String, AllocError>
+    ensures { IfOk result (λ text. string_bytes text ≡ hint_text fault name.now) }
+{
+    let reason = fault.text();
+    match fault {
+        MaskFault::Length => {
+            format!(in alloc; "rjoin: --relation: {reason}\ndid you mean {name}?\n")
+        }
+        MaskFault::Letter(place) => {
+            format!(in alloc; "rjoin: --relation: {reason}{place}\ndid you mean {name}?\n")
+        }
+    }
 }
 
 /// The fault of two files that are both to be standard input, which can be read only once.
@@ -208,6 +250,13 @@ fn required<'a>(alloc: Global, given: &ArgMatches<'a>, name: &str) -> Result<&'a
         Some(value) => Ok(value),
         None => Err(missing(alloc, name)),
     }
+}
+
+/// The value of an argument that may be left out.
+fn optional<'a>(given: &ArgMatches<'a>, name: &str) -> Option<&'a str>
+    ensures { first_of name.now (found_in given.now) ≡ text_in result }
+{
+    given.get_str(name)
 }
 
 /// The value of a number, which `clap` requires or has a default for.

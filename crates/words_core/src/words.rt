@@ -11,6 +11,7 @@ use clap::error::ErrorKind;
 use deliver_core::{OptionFault, Options};
 use relation_core::{AllowsDisjoint, JoinRelation, MaskFault};
 use std::alloc::{AllocError, Global};
+use thiserror::Error;
 use wkt_core::Scale;
 
 /// Two layers that are to be joined after edits, and how.
@@ -56,19 +57,25 @@ pub enum Command<'a> {
 }
 
 /// Why the words are no command.
-#[derive(Debug, Drop)]
+#[derive(Debug, Drop, Error)]
 pub enum WordFault {
     /// The words don't fit the usage, or ask for help: `text` is what to show.
+    #[error("{text}")]
     Usage { text: String, help: bool },
     /// The relation is neither a name nor a mask.
+    #[error("--relation: {0}")]
     Relation(MaskFault),
     /// The relation holds for disjoint features too.
+    #[error("--relation: disjoint features may fit")]
     AllowsDisjoint,
     /// A number is out of its range.
+    #[error(transparent)]
     Options(OptionFault),
     /// More decimals are asked for than a coordinate keeps.
+    #[error("--scale must be 0 to 6")]
     Scale,
     /// Memory ran out.
+    #[error("no memory")]
     Memory,
 }
 

@@ -7,6 +7,7 @@ from pathlib import Path
 from typing import Any, Dict, Iterator, List
 
 from qgis.core import (
+    QgsCoordinateReferenceSystem,
     QgsFeature,
     QgsFeatureSink,
     QgsField,
@@ -26,7 +27,7 @@ from qgis.core import (
 from qgis.PyQt.QtCore import QVariant
 
 from . import decimals as units
-from . import program
+from . import found, program
 from .layers import BoxLayer, LeftOut
 
 OTHERS = "OTHERS"
@@ -39,9 +40,10 @@ COMMON_HELP = """
 axes. Points may stand along a side; a geometry of several parts counts where it has one part; \
 heights and measures are ignored.</p>
 <h3>Other geometries</h3>
-<p>Stop with an error that names the feature; or take their envelopes (bounding boxes); or leave \
-them out. What is left out goes to an output of its own with the reason; so do features without a \
-geometry, unless they stop the run.</p>
+<p>Stop with an error that names the feature; or take their envelopes (bounding boxes), where \
+the field <i>exact</i> says which rows rest on none; or leave them out. What is left out goes to \
+an output of its own with the reason; so do features without a geometry, unless they stop the \
+run.</p>
 <h3>Decimals</h3>
 <p>rjoin computes with decimal numbers. Unless the number of decimals is given, it is the \
 fewest, 0 to 6, that write every coordinate exactly; where 6 don't, the run stops at that feature. \
@@ -99,15 +101,12 @@ class RjoinAlgorithm(QgsProcessingAlgorithm):
         return int(self.parameterAsInt(parameters, DECIMALS, context))
 
     def sink_of(self, parameters: Dict[str, Any], name: str, context: QgsProcessingContext,
-                fields: QgsFields, like: QgsProcessingFeatureSource, kind: int | None = None
-                ) -> "Output":
-        """A sink with the reference system of a layer and, unless a type is given, its type.
+                fields: QgsFields, system: QgsCoordinateReferenceSystem, kind: int) -> "Output":
+        """A sink with a reference system and a type of geometries.
 
         A key such as a GeoPackage's `fid` is made anew, since a feature may be written twice.
         """
-        wanted = like.wkbType() if kind is None else kind
-        sink, identifier = self.parameterAsSink(parameters, name, context, fields, wanted,
-                                                like.sourceCrs(),
+        sink, identifier = self.parameterAsSink(parameters, name, context, fields, kind, system,
                                                 QgsFeatureSink.RegeneratePrimaryKey)
         if sink is None and parameters.get(name):
             raise QgsProcessingException(self.invalidSinkError(parameters, name))
@@ -117,7 +116,8 @@ class RjoinAlgorithm(QgsProcessingAlgorithm):
                        source: QgsProcessingFeatureSource, layer: BoxLayer) -> Dict[str, Any]:
         """Writes the features that were left out, with their fields and the reason."""
         fields = with_fields(source.fields(), [QgsField("reason", QVariant.String)])
-        output = self.sink_of(parameters, name, context, fields, source)
+        output = self.sink_of(parameters, name, context, fields, source.sourceCrs(),
+                              source.wkbType())
         output.add(map(_with_reason, layer.left_out))
         return output.result()
 
@@ -160,6 +160,13 @@ class Output:
         self.sink.flushBuffer()
         self.sink = None
         return {self.name: self.identifier}
+
+
+def check_program(feedback: QgsProcessingFeedback) -> None:
+    """Ends the run where there is no program, and tells of one that is older than its sources."""
+    stale = found.staleness(program.find_program())
+    if stale:
+        feedback.pushWarning(stale)
 
 
 @contextmanager

@@ -4,9 +4,10 @@ from __future__ import annotations
 import csv
 from collections import defaultdict
 from pathlib import Path
-from typing import Any, Dict, Iterator, List, NamedTuple
+from typing import Any, Dict, Iterator, List
 
 from qgis.core import (
+    QgsCoordinateReferenceSystem,
     QgsFeature,
     QgsField,
     QgsFields,
@@ -35,9 +36,11 @@ from .algorithm import (
     Output,
     RjoinAlgorithm,
     Steps,
+    check_program,
     faults_shown,
     with_fields,
 )
+from .answers import JoinFields, Partner
 from .layers import (
     CHECK_EVERY,
     BoxLayer,
@@ -50,15 +53,11 @@ from .layers import (
 )
 
 RELATIONS = ["intersects", "touches", "crosses", "within", "contains", "overlaps", "equals"]
+REPORT = ["left", "right", "matrix"]
 ONE_FOR_EACH_PAIR = 0
 PAIRS_ALONE = 1
-
-
-class Partner(NamedTuple):
-    """A feature of the join layer, by its number, that stands in the relation."""
-
-    number: int
-    matrix: str
+INCOMPLETE_STOPS = 0
+INCOMPLETE_IS_MARKED = 1
 
 
 class JoinByRelation(RjoinAlgorithm):
@@ -82,7 +81,11 @@ The output has the nine letters of each pair's DE-9IM matrix (OGC 06-103r4) in t
 reprojection; reproject the join layer first where they differ.</p>
 <h3>Own mask</h3>
 <p>Nine of the letters T, F, *, 0, 1, 2, in place of a named relation. A mask that features \
-without a common point may fit is refused.</p>""" + COMMON_HELP
+without a common point may fit is refused.</p>
+<h3>Base features without a partner</h3>
+<p>A join feature that is left out may be the partner of a base feature that has none in the \
+output. Where join features are left out, such base features stop the run unless they are \
+discarded, or kept with <i>false</i> in the field <i>known</i>.</p>""" + COMMON_HELP
 
     def initAlgorithm(self, _configuration: Any = None) -> None:  # noqa: N802
         vector = [QgsProcessing.TypeVectorAnyGeometry]
@@ -110,6 +113,10 @@ without a common point may fit is refused.</p>""" + COMMON_HELP
             allowMultiple=True, optional=True))
         self.addParameter(QgsProcessingParameterBoolean(
             "DISCARD_NONMATCHING", "Discard base features without a partner", False))
+        self.addParameter(QgsProcessingParameterEnum(
+            "INCOMPLETE", "Base features without a partner where join features are left out",
+            ["Stop with an error", "Keep them, marked in the field known"],
+            defaultValue=INCOMPLETE_STOPS))
         self.addParameter(QgsProcessingParameterString(
             "PREFIX", "Prefix of added fields", optional=True))
         self.addParameter(QgsProcessingParameterField(
@@ -138,15 +145,22 @@ class _Join:
         self.left = algorithm.source_of(parameters, "INPUT", context)
         self.right = algorithm.source_of(parameters, "JOIN", context)
         self.others = Others(algorithm.parameterAsEnum(parameters, OTHERS, context))
+        self.method = algorithm.parameterAsEnum(parameters, "METHOD", context)
+        self.incomplete = algorithm.parameterAsEnum(parameters, "INCOMPLETE", context)
+        self.keeps_lonely = self.method == ONE_FOR_EACH_PAIR and not algorithm.parameterAsBoolean(
+            parameters, "DISCARD_NONMATCHING", context)
+        self.system = QgsCoordinateReferenceSystem()
         self.relation = (algorithm.parameterAsString(parameters, "MASK", context)
                          or RELATIONS[algorithm.parameterAsEnum(parameters, "RELATION", context)])
 
     def run(self, folder: Path) -> Dict[str, Any]:
         """Joins the layers; no output is made before the pairs are known."""
-        _check_same_system(self.left, self.right, self.steps.feedback)
+        check_program(self.steps.feedback)
+        self.system = _common_system(self.left, self.right, self.steps.feedback)
         program.check_relation(self.relation)
         left = self._read(self.left, "INPUT_LEFT_OUT")
         right = self._read(self.right, "JOIN_LEFT_OUT")
+        self._check_complete(right)
         partners = self._join(folder, left, right)
         results = self._write(left, right, partners)
         results.update(self.algorithm.write_left_out(
@@ -162,6 +176,14 @@ class _Join:
         self.steps.check_cancelled()
         tell(layer, bool(self.parameters.get(left_out)), feedback)
         return layer
+
+    def _check_complete(self, right: BoxLayer) -> None:
+        """Stops where a base feature would be said to have no partner and it isn't known."""
+        if right.left_out and self.keeps_lonely and self.incomplete == INCOMPLETE_STOPS:
+            raise QgsProcessingException(
+                f"{right.name}: features left out: {len(right.left_out)}, each of which may be the "
+                "partner of a base feature without one. Discard base features without a partner, "
+                "or keep them, marked in the field known.")
 
     def _join(self, folder: Path, left: BoxLayer, right: BoxLayer) -> Dict[int, List[Partner]]:
         feedback = self.steps.begin(f"Joining by {self.relation}")
@@ -180,55 +202,66 @@ class _Join:
     def _write(self, left: BoxLayer, right: BoxLayer, partners: Dict[int, List[Partner]]
                ) -> Dict[str, Any]:
         feedback = self.steps.begin("Writing the output")
-        method = self.algorithm.parameterAsEnum(self.parameters, "METHOD", self.context)
-        if method == PAIRS_ALONE:
-            output, features = self._pairs_alone(left, right, partners)
+        added = JoinFields(left, right, self.relation, self.others == Others.ENVELOPE,
+                           self.keeps_lonely and self.incomplete == INCOMPLETE_IS_MARKED)
+        if self.method == PAIRS_ALONE:
+            output, features = self._pairs_alone(added, partners)
         else:
-            output, features = self._joined(left, right, partners)
-        count = max(1, sum(map(len, partners.values())))
-        output.add(_shown(features, count, feedback))
+            output, features = self._joined(added, partners)
+        count = sum(map(len, partners.values()))
+        if added.has_exact:
+            inexact = sum(not added.is_exact(number, partner)
+                          for number, found in partners.items() for partner in found)
+            feedback.pushInfo("Pairs that rest on an envelope, where the field exact is false: "
+                              f"{inexact} of {count}")
+        output.add(_shown(features, max(1, count), feedback))
         self.steps.check_cancelled()
         return output.result()
 
-    def _joined(self, left: BoxLayer, right: BoxLayer, partners: Dict[int, List[Partner]]
+    def _joined(self, added: JoinFields, partners: Dict[int, List[Partner]]
                 ) -> tuple[Output, Iterator[QgsFeature]]:
         names = self.algorithm.parameterAsFields(self.parameters, "JOIN_FIELDS", self.context)
         places = _places(self.right.fields(), names)
         prefix = self.algorithm.parameterAsString(self.parameters, "PREFIX", self.context)
-        added = QgsFields()
+        joined = QgsFields()
         for place in places:
-            added.append(self.right.fields()[place])
-        fields = with_fields(QgsProcessingUtils.combineFields(self.left.fields(), added, prefix),
-                             [QgsField("matrix", QVariant.String, len=9)])
-        discard = self.algorithm.parameterAsBoolean(self.parameters, "DISCARD_NONMATCHING",
-                                                    self.context)
-        output = self.algorithm.sink_of(self.parameters, "OUTPUT", self.context, fields, self.left)
-        return output, _joined_features(left, attributes_of(right, places), partners,
-                                        [] if discard else [[None] * (len(places) + 1)])
+            joined.append(self.right.fields()[place])
+        fields = with_fields(QgsProcessingUtils.combineFields(self.left.fields(), joined, prefix),
+                             added.fields())
+        return self._output(fields, self.left.wkbType()), _joined_features(
+            added, attributes_of(added.right, places), partners,
+            [None] * len(places) if self.keeps_lonely else None)
 
-    def _pairs_alone(self, left: BoxLayer, right: BoxLayer, partners: Dict[int, List[Partner]]
+    def _pairs_alone(self, added: JoinFields, partners: Dict[int, List[Partner]]
                      ) -> tuple[Output, Iterator[QgsFeature]]:
         left_id = self.algorithm.parameterAsString(self.parameters, "INPUT_ID", self.context)
         right_id = self.algorithm.parameterAsString(self.parameters, "JOIN_ID", self.context)
         fields = QgsFields()
-        fields.append(_id_field(self.left.fields(), left_id, "left"))
-        fields.append(_id_field(self.right.fields(), right_id, "right"))
-        fields.append(QgsField("matrix", QVariant.String, len=9))
-        output = self.algorithm.sink_of(self.parameters, "OUTPUT", self.context, fields, self.left,
-                                        QgsWkbTypes.NoGeometry)
-        return output, _pair_features(_ids(left, self.left.fields(), left_id),
-                                      _ids(right, self.right.fields(), right_id), partners)
+        for field in (_id_field(self.left.fields(), left_id, "left"),
+                      _id_field(self.right.fields(), right_id, "right"), *added.fields()):
+            fields.append(field)
+        return self._output(fields, QgsWkbTypes.NoGeometry), _pair_features(
+            added, _ids(added.left, self.left.fields(), left_id),
+            _ids(added.right, self.right.fields(), right_id), partners)
+
+    def _output(self, fields: QgsFields, kind: int) -> Output:
+        return self.algorithm.sink_of(self.parameters, "OUTPUT", self.context, fields, self.system,
+                                      kind)
 
 
-def _check_same_system(left: QgsProcessingFeatureSource, right: QgsProcessingFeatureSource,
-                       feedback: QgsProcessingFeedback) -> None:
+def _common_system(left: QgsProcessingFeatureSource, right: QgsProcessingFeatureSource,
+                   feedback: QgsProcessingFeedback) -> QgsCoordinateReferenceSystem:
+    """The reference system of both layers, or of the one that has one."""
     one, other = left.sourceCrs(), right.sourceCrs()
     if one.isValid() and other.isValid() and one != other:
         raise QgsProcessingException(
             f"The layers have the reference systems {one.authid()} and {other.authid()}. "
             "Reproject the join layer first: rectangles need not be any after it.")
+    system = one if one.isValid() else other
     if one.isValid() != other.isValid():
-        feedback.pushWarning("One layer has no reference system; that of the other is taken")
+        feedback.pushWarning("One layer has no reference system; that of the other is taken: "
+                             f"{system.authid()}")
+    return system
 
 
 def _partners(report: Path) -> Dict[int, List[Partner]]:
@@ -236,7 +269,8 @@ def _partners(report: Path) -> Dict[int, List[Partner]]:
     partners: Dict[int, List[Partner]] = defaultdict(list)
     with open(report, encoding="ascii", newline="") as file:
         rows = csv.reader(file)
-        next(rows)
+        if next(rows, None) != REPORT:
+            raise program.ProgramError(f"{program.find_program()} wrote no report")
         for left, right, matrix in rows:
             partners[int(left)].append(Partner(int(right), matrix))
     return partners
@@ -252,17 +286,18 @@ def _places(fields: QgsFields, names: List[str]) -> List[int]:
     return places
 
 
-def _joined_features(left: BoxLayer, right: List[List[Any]], partners: Dict[int, List[Partner]],
-                     alone: List[List[Any]]) -> Iterator[QgsFeature]:
-    """A feature for each pair; for a base feature without a partner, one for each of `alone`."""
-    for number, feature in enumerate(left.features):
-        own = feature.attributes()
-        found = partners.get(number)
-        added = [[*right[partner.number], partner.matrix] for partner in found] if found else alone
-        for more in added:
+def _joined_features(added: JoinFields, right: List[List[Any]], partners: Dict[int, List[Partner]],
+                     nothing: List[Any] | None) -> Iterator[QgsFeature]:
+    """A feature for each pair; with `nothing` also one for each base feature without a partner."""
+    for number, feature in enumerate(added.left.features):
+        rows = [right[partner.number] + added.of_pair(number, partner)
+                for partner in partners.get(number, [])]
+        if nothing is not None and not rows:
+            rows = [nothing + added.of_lonely(number)]
+        for row in rows:
             joined = QgsFeature()
             joined.setGeometry(feature.geometry())
-            joined.setAttributes(own + more)
+            joined.setAttributes(feature.attributes() + row)
             yield joined
 
 
@@ -281,12 +316,13 @@ def _ids(layer: BoxLayer, fields: QgsFields, name: str) -> List[Any]:
     return [feature.attribute(place) for feature in layer.features]
 
 
-def _pair_features(left: List[Any], right: List[Any], partners: Dict[int, List[Partner]]
-                   ) -> Iterator[QgsFeature]:
+def _pair_features(added: JoinFields, left: List[Any], right: List[Any],
+                   partners: Dict[int, List[Partner]]) -> Iterator[QgsFeature]:
     for number, found in partners.items():
         for partner in found:
             pair = QgsFeature()
-            pair.setAttributes([left[number], right[partner.number], partner.matrix])
+            pair.setAttributes([left[number], right[partner.number],
+                                *added.of_pair(number, partner)])
             yield pair
 
 

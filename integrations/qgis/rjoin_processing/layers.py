@@ -5,7 +5,7 @@ from array import array
 from dataclasses import dataclass, field
 from enum import IntEnum
 from pathlib import Path
-from typing import Any, List, NamedTuple
+from typing import Any, List, NamedTuple, Set
 
 from qgis.core import (
     QgsFeature,
@@ -42,14 +42,15 @@ class LeftOut(NamedTuple):
 class BoxLayer:
     """The features of a source that take part, in its order, and those that don't.
 
-    The number of a feature, by which rjoin knows it, is its place in `features`.
+    The number of a feature, by which rjoin knows it, is its place in `features`. `envelopes` has
+    the numbers of those whose envelope stands in for their shape.
     """
 
     name: str
     features: List[QgsFeature] = field(default_factory=list)
     coordinates: "array[float]" = field(default_factory=lambda: array("d"))
     left_out: List[LeftOut] = field(default_factory=list)
-    envelopes: int = 0
+    envelopes: Set[int] = field(default_factory=set)
 
     def label(self, feature: QgsFeature) -> str:
         """How messages name a feature."""
@@ -75,7 +76,7 @@ class BoxLayer:
         bounds = feature.geometry().boundingBox()
         has_envelope = not bounds.isNull() and bounds.isFinite()
         if others == Others.ENVELOPE and has_envelope and not feature.geometry().isEmpty():
-            self.envelopes += 1
+            self.envelopes.add(len(self.features))
             self._add_box(feature, Box(bounds.xMinimum(), bounds.yMinimum(),
                                        bounds.xMaximum(), bounds.yMaximum()))
         elif others == Others.STOP:
@@ -106,7 +107,7 @@ def tell(layer: BoxLayer, has_list: bool, feedback: QgsProcessingFeedback) -> No
     """Says how many features were replaced or left out; without a list of them it names some."""
     if layer.envelopes:
         feedback.pushInfo(f"{layer.name}: features replaced by their envelopes: "
-                          f"{layer.envelopes}")
+                          f"{len(layer.envelopes)}")
     if not layer.left_out:
         return
     text = f"{layer.name}: features left out: {len(layer.left_out)}"

@@ -2,11 +2,12 @@
 from __future__ import annotations
 
 import os
-import shutil
 import subprocess
 import tempfile
 from pathlib import Path
 from typing import Callable, Sequence
+
+from . import found
 
 POLL_SECONDS = 0.05
 WRONG_WORDS = 2
@@ -21,15 +22,11 @@ class Cancelled(Exception):
 
 
 def find_program() -> str:
-    """The path of the program: that of the variable RJOIN, else the one on the PATH."""
-    named = os.environ.get("RJOIN")
-    found = shutil.which(named or "rjoin")
-    if found:
-        return found
-    if named:
-        raise ProgramError(f"RJOIN is set to {named}, which isn't a program")
-    raise ProgramError("the program rjoin isn't on the PATH; install it, or set the environment "
-                       "variable RJOIN to its path before QGIS starts")
+    """The path of the program."""
+    try:
+        return found.find()
+    except found.NoProgram as fault:
+        raise ProgramError(str(fault)) from fault
 
 
 def check_relation(relation: str) -> None:

@@ -13,7 +13,7 @@ from qgis.core import (
 )
 
 from . import program
-from .algorithm import COMMON_HELP, OTHERS, RjoinAlgorithm, Steps, faults_shown
+from .algorithm import COMMON_HELP, OTHERS, RjoinAlgorithm, Steps, check_program, faults_shown
 from .layers import Others, common_decimals, read_layer, tell, write_layer
 
 COUNTS = {
@@ -60,7 +60,7 @@ list them</i> it tells which features rjoin can't read, and why.</p>""" + COMMON
 
     def _run(self, parameters: Dict[str, Any], context: QgsProcessingContext, steps: Steps,
              folder: Path) -> Dict[str, Any]:
-        program.find_program()
+        check_program(steps.feedback)
         source = self.source_of(parameters, "INPUT", context)
         feedback = steps.begin(f"Reading {source.sourceName()}")
         layer = read_layer(source, Others(self.parameterAsEnum(parameters, OTHERS, context)),

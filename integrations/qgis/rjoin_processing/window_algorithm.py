@@ -20,7 +20,16 @@ from qgis.core import (
 
 from . import decimals as units
 from . import program
-from .algorithm import COMMON_HELP, OTHERS, RjoinAlgorithm, Steps, faults_shown
+from .algorithm import (
+    COMMON_HELP,
+    OTHERS,
+    RjoinAlgorithm,
+    Steps,
+    check_program,
+    faults_shown,
+    with_fields,
+)
+from .answers import exact_field
 from .layers import BoxLayer, Others, common_decimals, read_layer, tell, write_layer, wkt
 
 
@@ -69,20 +78,26 @@ same features in it.</p>""" + COMMON_HELP
 
     def _run(self, parameters: Dict[str, Any], context: QgsProcessingContext, steps: Steps,
              folder: Path) -> Dict[str, Any]:
-        program.find_program()
+        check_program(steps.feedback)
         source = self.source_of(parameters, "INPUT", context)
         extent = self._extent(parameters, context, source)
         feedback = steps.begin(f"Reading {source.sourceName()}")
-        layer = read_layer(source, Others(self.parameterAsEnum(parameters, OTHERS, context)),
-                           feedback)
+        others = Others(self.parameterAsEnum(parameters, OTHERS, context))
+        layer = read_layer(source, others, feedback)
         steps.check_cancelled()
         tell(layer, bool(parameters.get("LEFT_OUT")), feedback)
         feedback = steps.begin("Searching the window")
         decimals = common_decimals([layer], self.given_decimals(parameters, context), feedback)
         found = _search(folder, layer, extent, decimals, feedback)
-        steps.begin("Writing the output")
-        output = self.sink_of(parameters, "OUTPUT", context, source.fields(), source)
-        output.add(_chosen(layer.features, found))
+        feedback = steps.begin("Writing the output")
+        envelopes = others == Others.ENVELOPE
+        if envelopes:
+            feedback.pushInfo("Features that rest on an envelope, where the field exact is false: "
+                              f"{len(found & layer.envelopes)} of {len(found)}")
+        fields = with_fields(source.fields(), [exact_field()] if envelopes else [])
+        output = self.sink_of(parameters, "OUTPUT", context, fields, source.sourceCrs(),
+                              source.wkbType())
+        output.add(_chosen(layer, found, envelopes))
         steps.check_cancelled()
         return {**output.result(), "COUNT": len(found),
                 **self.write_left_out(parameters, "LEFT_OUT", context, source, layer)}
@@ -145,5 +160,11 @@ def _down(value: float, decimals: int) -> int:
     return -_up(-value, decimals)
 
 
-def _chosen(features: List[QgsFeature], numbers: Set[int]) -> Iterator[QgsFeature]:
-    return (feature for number, feature in enumerate(features) if number in numbers)
+def _chosen(layer: BoxLayer, numbers: Set[int], has_exact: bool) -> Iterator[QgsFeature]:
+    """The features with these numbers, perhaps with a field that says which are no envelope."""
+    for number, feature in enumerate(layer.features):
+        if number in numbers:
+            chosen = QgsFeature(feature)
+            if has_exact:
+                chosen.setAttributes(feature.attributes() + [number not in layer.envelopes])
+            yield chosen

@@ -4,10 +4,13 @@
 `relate` at two geometries, and `draw` shows two layers. rjoin.calls says what they have in common.
 """
 from rjoin.calls import Stats, draw, pairs, relate, sjoin, stats, window
-from rjoin.errors import ArgumentError, InputError, LeftOutWarning, Notice, RjoinError
+from rjoin.errors import ArgumentError, EnvelopeWarning, InputError, LeftOutWarning, Notice
+from rjoin.errors import RjoinError, StaleProgramWarning
+from rjoin.found import VERSION as __version__
 from rjoin.picture import Picture
 
 __all__ = [
-    "ArgumentError", "InputError", "LeftOutWarning", "Notice", "Picture", "RjoinError", "Stats",
-    "draw", "pairs", "relate", "sjoin", "stats", "window",
+    "ArgumentError", "EnvelopeWarning", "InputError", "LeftOutWarning", "Notice", "Picture",
+    "RjoinError", "StaleProgramWarning", "Stats", "__version__", "draw", "pairs", "relate", "sjoin",
+    "stats", "window",
 ]

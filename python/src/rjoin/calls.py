@@ -10,11 +10,12 @@ What all calls have in common:
 scale: how many decimals coordinates may have, 0 to 6; by default as many as they need. A coordinate
 with more is an InputError: nothing is rounded.
 other: what happens to geometries that are no point, axis-parallel segment or rectangle: `"error"`
-raises an InputError, `"envelope"` takes their envelopes, `"skip"` leaves them out.
+raises an InputError, `"envelope"` takes their envelopes, `"skip"` leaves them out. With
+`"envelope"` frames have a last column `exact`, which is False where a row rests on an envelope.
 missing: what happens where a geometry is empty or not there: `"error"` or `"skip"`.
 What was left out is in no result; a LeftOutWarning tells of it, and `left_out` names each feature
-as a Notice, as `enveloped` does those that were replaced by their envelope. Both are tuples, in
-`attrs` of frames and series, and fields of Stats and Picture.
+as a Notice. An EnvelopeWarning tells of envelopes, and `enveloped` names the features that they
+replace. Both are tuples, in `attrs` of frames and series, and fields of Stats and Picture.
 
 Raises InputError for a fault of an input, ArgumentError for a wrong argument, and RjoinError for
 all else, such as a missing program.
@@ -51,8 +52,8 @@ class Stats(NamedTuple):
 def sjoin(left: "geopandas.GeoDataFrame", right: "geopandas.GeoDataFrame",
           predicate: str = "intersects", how: str = "inner", *, scale: Optional[int] = None,
           workers: Optional[int] = None, lsuffix: str = "left", rsuffix: str = "right",
-          matrix: bool = False, other: str = "error",
-          missing: str = "error") -> "geopandas.GeoDataFrame":
+          matrix: bool = False, other: str = "error", missing: str = "error",
+          incomplete: str = "error") -> "geopandas.GeoDataFrame":
     """The left rows beside the fields of each right row that they stand in the relation to.
 
     The columns and the index are those of geopandas.sjoin: the left columns, `index_right`, and the
@@ -63,24 +64,35 @@ def sjoin(left: "geopandas.GeoDataFrame", right: "geopandas.GeoDataFrame",
     predicate: intersects, touches, crosses, within, contains, overlaps, equals, or a DE-9IM mask.
     workers: the program's threads, 1 to 16; 4 by default.
     matrix: adds the column `matrix` with the nine letters of each pair.
+    incomplete: what a left join does where right features are left out, any of which may be the
+    partner of a left row without one: `"error"` raises an InputError, `"mark"` adds the column
+    `known`, which is False in these rows.
     """
     from rjoin import frames, joining
     from rjoin.sources import Rules
 
     check_arguments(predicate, scale, workers)
     suffixes = frames.Suffixes(lsuffix, rsuffix)
-    frames.check(left, right, how, suffixes)
+    frames.check(left, right, how, suffixes, incomplete)
     job = joining.job_of((("left", left), ("right", right)), scale, Rules(other, missing))
+    if how == "left" and incomplete == "error":
+        job.refuse_incomplete()
     job.warn_of_crs(depth=1, unknown=True)
     found = joining.joined(job, predicate, workers, matrix)
     lefts, rights = job.positions(found)
-    are_pairs = None
     if how == "left":
-        lefts, rights, are_pairs = frames.with_unmatched(lefts, rights, job.kept(0))
+        lefts, rights = frames.with_unmatched(lefts, rights, job.kept(0))
     result = frames.joined(left, right, (lefts, rights), suffixes)
+    are_pairs = rights != frames.NOBODY
+    exact = None
     if matrix:
         frames.add_matrix(result, found["matrix"].to_numpy(), are_pairs)
-    job.finish(result.attrs, depth=1)
+    if other == "envelope":
+        exact = job.are_exact(lefts, rights, predicate)
+        frames.add_column(result, "exact", exact)
+    if incomplete == "mark":
+        frames.add_column(result, "known", are_pairs | (not job.sources[1].left_out))
+    job.finish(result.attrs, depth=1, exact=exact)
     return result
 
 
@@ -100,8 +112,12 @@ def pairs(left: Any, right: Any, relation: str = "intersects", *, scale: Optiona
     job = joining.job_of((("left", left), ("right", right)), scale, Rules(other, missing))
     job.warn_of_crs(depth=1)
     found = joining.joined(job, relation, workers, matrix=True)
+    exact = None
+    if other == "envelope":
+        lefts, rights = job.positions(found)
+        found["exact"] = exact = job.are_exact(lefts, rights, relation)
     result = job.identified(found, ids)
-    job.finish(result.attrs, depth=1)
+    job.finish(result.attrs, depth=1, exact=exact)
     return result
 
 
@@ -111,6 +127,7 @@ def window(layer: Any, geometry: Any, *, scale: Optional[int] = None, ids: str =
 
     geometry: a point, axis-parallel segment or rectangle, by Shapely or as well-known text.
     ids: as for `pairs`; `frame.iloc[window(frame, geometry, ids="position")]` has the rows.
+    With envelopes, `attrs["exact"]` is a list of which features meet the geometry by themselves.
     """
     from rjoin import joining
     from rjoin.sources import Rules
@@ -118,9 +135,15 @@ def window(layer: Any, geometry: Any, *, scale: Optional[int] = None, ids: str =
     check_arguments("intersects", scale, None, ids)
     place = joining.single(geometry, "window")
     job = joining.job_of((("layer", layer),), scale, Rules(other, missing), place)
-    found = joining.met(job, place)
-    result = job.identified(found.to_frame(), ids)["id"]
-    job.finish(result.attrs, depth=1)
+    found = joining.met(job, place).to_frame()
+    exact = None
+    if other == "envelope":
+        (rows,) = job.positions(found)
+        exact = job.sources[0].are_exact(rows)
+    result = job.identified(found, ids)["id"]
+    if exact is not None:
+        result.attrs["exact"] = exact.tolist()
+    job.finish(result.attrs, depth=1, exact=exact)
     return result
 
 

@@ -13,10 +13,13 @@ from pathlib import Path
 from typing import Any, Dict, Iterable, Iterator, List, Mapping, NamedTuple, Optional, Sequence
 from typing import TextIO, Tuple
 
-from rjoin.errors import ArgumentError, LeftOutWarning, Notice, RjoinError
+from rjoin import signals
+from rjoin.errors import ArgumentError, EnvelopeWarning, LeftOutWarning, Notice, RjoinError
+from rjoin.found import VERSION
 
 SHOWN = 10
-COLUMNS = ("left", "right", "matrix", "geometry")
+INTERRUPTED = 130
+COLUMNS = ("left", "right", "matrix", "exact", "geometry")
 # What is known to keep rows without geometries; FlatGeobuf drops them.
 TABLES = (".csv", ".dbf", ".geojson", ".gpkg", ".json")
 PACKAGE_KEY = "fid"
@@ -32,13 +35,16 @@ def main(words: Optional[Sequence[str]] = None) -> int:
     """Runs the command, and gives its status."""
     arguments = parser().parse_args(words)
     try:
-        with warnings.catch_warnings(record=True) as caught:
+        with signals.cleanly(), warnings.catch_warnings(record=True) as caught:
             warnings.simplefilter("always")
-            for kind in (DeprecationWarning, FutureWarning, LeftOutWarning):
+            for kind in (DeprecationWarning, EnvelopeWarning, FutureWarning, LeftOutWarning):
                 warnings.simplefilter("ignore", kind)
             notices = run(arguments)
         tell(notices, [str(warning.message) for warning in caught], sys.stderr)
         return 0
+    except KeyboardInterrupt:
+        print("rjoin: interrupted", file=sys.stderr)
+        return INTERRUPTED
     except ArgumentError as fault:
         print(f"rjoin: {fault}", file=sys.stderr)
         return 2
@@ -51,6 +57,7 @@ def parser() -> argparse.ArgumentParser:
     known = argparse.ArgumentParser(
         "python3 -m rjoin", description="Joins two layers by a spatial relation, exactly.",
         epilog=HELP, formatter_class=argparse.RawDescriptionHelpFormatter)
+    known.add_argument("--version", action="version", version=f"rjoin for Python {VERSION}")
     known.add_argument("left", metavar="LEFT")
     known.add_argument("right", metavar="RIGHT")
     known.add_argument("--relation", metavar="R", required=True,
@@ -71,7 +78,8 @@ def parser() -> argparse.ArgumentParser:
     known.add_argument("--workers", metavar="N", type=int, help="threads, 1 to 16")
     known.add_argument("--other", choices=("error", "envelope", "skip"), default="error",
                        help="what to do with geometries that are no point, axis-parallel segment "
-                            "or rectangle")
+                            "or rectangle; with envelopes OUT says by the field exact which pairs "
+                            "rest on none")
     known.add_argument("--missing", choices=("error", "skip"), default="error",
                        help="what to do where a geometry is empty or not there")
     known.add_argument("--notices", metavar="FILE", type=Path,
@@ -80,13 +88,15 @@ def parser() -> argparse.ArgumentParser:
 
 
 class Notices(NamedTuple):
-    """What the options --other and --missing did to features."""
+    """What the options --other and --missing did to features, and how many pairs are inexact."""
 
     left_out: Tuple[Notice, ...]
     enveloped: Tuple[Notice, ...]
+    inexact: int
+    pairs: int
 
     def rows(self) -> Iterator[Tuple[Any, ...]]:
-        for name, notices in zip(("left out", "envelope"), self):
+        for name, notices in (("left out", self.left_out), ("envelope", self.enveloped)):
             for notice in notices:
                 yield (name, *notice)
 
@@ -102,7 +112,8 @@ def run(arguments: argparse.Namespace) -> Notices:
     pairs = calls.pairs(left, right, arguments.relation, scale=arguments.scale,
                         workers=arguments.workers, ids="position", other=arguments.other,
                         missing=arguments.missing)
-    notices = Notices(pairs.attrs["left_out"], pairs.attrs["enveloped"])
+    inexact = int((~pairs["exact"]).sum()) if "exact" in pairs.columns else 0
+    notices = Notices(pairs.attrs["left_out"], pairs.attrs["enveloped"], inexact, len(pairs))
     if arguments.notices:
         write_notices(notices, arguments.notices, arguments.overwrite)
     write(table(left, right, pairs, arguments), arguments.output, arguments.overwrite)
@@ -159,6 +170,8 @@ def table(left: Any, right: Any, pairs: Any, arguments: argparse.Namespace) -> A
     lefts, rights = pairs["left"].to_numpy(), pairs["right"].to_numpy()
     rows = pandas.DataFrame({"left": left.index.take(lefts), "right": right.index.take(rights),
                              "matrix": pairs["matrix"].astype(str)})
+    if "exact" in pairs.columns:
+        rows["exact"] = pairs["exact"].to_numpy()
     if arguments.attributes:
         ours, theirs = (fields.drop(columns=fields.geometry.name) for fields in (left, right))
         ours, theirs = pandas.DataFrame(ours.take(lefts)), pandas.DataFrame(theirs.take(rights))
@@ -263,3 +276,6 @@ def tell(notices: Notices, warned: List[str], file: TextIO) -> None:
                   f"{notice.reason}", file=file)
         if len(some) > SHOWN:
             print(f"rjoin: {name}: {len(some) - SHOWN} more; --notices lists all", file=file)
+    if notices.enveloped:
+        print(f"rjoin: {notices.inexact} of {notices.pairs} pairs rest on an envelope, as the "
+              "field exact says", file=file)

@@ -49,3 +49,11 @@ class Notice(NamedTuple):
 
 class LeftOutWarning(UserWarning):
     """Features were left out, as `other="skip"` or `missing="skip"` asked."""
+
+
+class EnvelopeWarning(UserWarning):
+    """Features were replaced by their envelopes, as `other="envelope"` asked."""
+
+
+class StaleProgramWarning(UserWarning):
+    """The program is older than the sources of its checkout."""

@@ -6,7 +6,7 @@ import os
 from contextlib import contextmanager
 from itertools import islice
 from pathlib import Path
-from typing import Any, Iterator, List, NamedTuple, Optional
+from typing import Any, Dict, Iterator, List, Mapping, NamedTuple, Optional
 
 import pandas
 
@@ -16,6 +16,7 @@ from rjoin.errors import InputError
 HEADER = b"id,wkt"
 MOST_HEADER = len(b'"id","wkt"\r\n')
 MOST_BYTES = 134_217_728
+NUL = "a NUL character, behind which pandas doesn't read"
 
 
 class Place(NamedTuple):
@@ -110,6 +111,31 @@ def read_plain(place: Place, side: str) -> Any:
     """The file of the program's own form as a GeoDataFrame with the column `id`."""
     import geopandas
 
-    rows = pandas.read_csv(place.path, dtype=str, keep_default_na=False)
-    geometries = texts.geometries_of(rows["wkt"].to_numpy(object), pandas.Index(rows["id"]), side)
+    rows = table_of(place, side)
+    geometries, reason = texts.geometries_of(rows["wkt"].to_numpy(object))
+    if reason:
+        place_of_fault = len(geometries)
+        raise InputError(side, reason, place_of_fault + 1, rows["id"][place_of_fault])
     return geopandas.GeoDataFrame(rows[["id"]], geometry=geometries)
+
+
+def table_of(place: Place, side: str) -> Any:
+    """The ids and texts of a file of the program's own form, as a frame of both columns."""
+    ids: Dict[str, None] = {}
+    found: List[str] = []
+    for row, record in enumerate(records_of(place), start=1):
+        reason = wrong_record(record, ids)
+        if reason:
+            raise InputError(side, reason, row, record[0])
+        ids[record[0]] = None
+        found.append(record[1])
+    return pandas.DataFrame({"id": list(ids), "wkt": found}, dtype=object)
+
+
+def wrong_record(record: List[str], ids: Mapping[str, None]) -> Optional[str]:
+    """What is wrong with a record, beside those of these ids."""
+    if len(record) != 2:
+        return "wrong fields"
+    if any("\0" in field for field in record):
+        return NUL
+    return "id is already there" if record[0] in ids else None

@@ -2,7 +2,7 @@
 from __future__ import annotations
 
 from collections import Counter
-from typing import Any, Collection, List, NamedTuple, Optional, Tuple
+from typing import Any, Collection, List, NamedTuple, Tuple
 
 import numpy as np
 import pandas
@@ -11,9 +11,10 @@ from numpy.typing import NDArray
 from rjoin.errors import ArgumentError
 
 Rows = NDArray[np.int64]
+Flags = NDArray[np.bool_]
 
 HOW = ("inner", "left")
-MATRIX = "matrix"
+INCOMPLETE = ("error", "mark")
 NOBODY = -1
 
 
@@ -28,8 +29,8 @@ class Suffixes(NamedTuple):
         return f"index_{self.left}", f"index_{self.right}"
 
 
-def check(left: Any, right: Any, how: str, suffixes: Suffixes) -> None:
-    """Refuses what geopandas.sjoin refuses."""
+def check(left: Any, right: Any, how: str, suffixes: Suffixes, incomplete: str) -> None:
+    """Refuses what geopandas.sjoin refuses, and what no left join could do anything with."""
     import geopandas
 
     for name, frame in (("left", left), ("right", right)):
@@ -40,15 +41,20 @@ def check(left: Any, right: Any, how: str, suffixes: Suffixes) -> None:
                                 f"names of columns; {name} has one")
     if how not in HOW:
         raise ArgumentError(f"how was {how!r} and has to be one of {', '.join(HOW)}")
+    if incomplete not in INCOMPLETE:
+        raise ArgumentError(f"incomplete must be 'error' or 'mark', not {incomplete!r}")
+    if incomplete == "mark" and how != "left":
+        raise ArgumentError("incomplete='mark' is for how='left': other joins keep no row without "
+                            "a partner")
 
 
-def with_unmatched(left: Rows, right: Rows, kept: Rows) -> Tuple[Rows, Rows, NDArray[np.bool_]]:
-    """The pairs and, beside NOBODY, each kept left row without one; which of them are pairs."""
+def with_unmatched(left: Rows, right: Rows, kept: Rows) -> Tuple[Rows, Rows]:
+    """The pairs and, beside NOBODY, each kept left row without one."""
     lonely = np.setdiff1d(kept, left)
     lefts = np.concatenate([left, lonely])
     order = np.argsort(lefts, kind="stable")
     rights = np.concatenate([right, np.full(lonely.size, NOBODY)])
-    return lefts[order], rights[order], order < left.size
+    return lefts[order], rights[order]
 
 
 def joined(left: Any, right: Any, pairs: Tuple[Rows, Rows], suffixes: Suffixes) -> Any:
@@ -102,13 +108,15 @@ def named_apart(left: List[Any], right: List[Any], suffixes: Suffixes,
     return lefts, rights
 
 
-def add_matrix(frame: Any, letters: NDArray[np.object_],
-               are_pairs: Optional[NDArray[np.bool_]]) -> None:
+def add_matrix(frame: Any, letters: NDArray[np.object_], are_pairs: Flags) -> None:
     """Adds a last column with the letters of each pair, missing in the other rows."""
-    if MATRIX in frame.columns:
-        raise ArgumentError(f"a column has the name {MATRIX!r} already: rename it")
-    column = letters.astype(object)
-    if are_pairs is not None:
-        column = np.full(len(frame), np.nan, object)
-        column[are_pairs] = letters
-    frame[MATRIX] = column
+    column = np.full(len(frame), np.nan, object)
+    column[are_pairs] = letters
+    add_column(frame, "matrix", column)
+
+
+def add_column(frame: Any, name: str, values: NDArray[Any]) -> None:
+    """Adds a last column."""
+    if name in frame.columns:
+        raise ArgumentError(f"a column has the name {name!r} already: rename it")
+    frame[name] = values

@@ -8,29 +8,42 @@ import warnings
 from contextlib import contextmanager
 from itertools import chain
 from pathlib import Path
-from typing import Any, Dict, Iterator, List, Optional, Sequence, Tuple, Union
+from typing import Any, Callable, Dict, Iterator, List, Optional, Sequence, Tuple, TypeVar, Union
 from xml.sax.saxutils import escape
 
 import numpy as np
 import pandas
 
-from rjoin import program
-from rjoin.errors import InputError, LeftOutWarning, Notice, RjoinError
-from rjoin.sources import GeometrySource, Rows, Rules, Scale, Source, TextSource
+from rjoin import program, signals
+from rjoin.errors import EnvelopeWarning, InputError, LeftOutWarning, Notice, RjoinError
+from rjoin.frames import NOBODY
+from rjoin.sources import Flags, GeometrySource, Rows, Rules, Scale, Source, TextSource
 from rjoin.sources import single_source, source_of
+from rjoin.texts import NO_TEXT
 
 TITLE = re.compile(r"<title>(\d+)</title>")
 RIGHT_HALF = '<g class="right">'
+LETTERS = re.compile(rb"([F012]{9})\n")
+COUNTS = re.compile(b"".join(rb"%s (?P<%s>\d+)\n" % (name, name) for name in (
+    b"features", b"points", b"segments", b"rectangles", b"height")))
 
 Single = Union[GeometrySource, TextSource]
+Answer = TypeVar("Answer")
 
 
 class Job:
     """The layers of a run, and the scale of all its coordinates."""
 
-    def __init__(self, sources: Sequence[Source], scale: Scale) -> None:
-        self.sources = sources
-        self.scale = scale
+    def __init__(self, sources: Sequence[Source], decimals: Optional[int],
+                 geometry: Optional[Single] = None) -> None:
+        self.sources = list(sources)
+        self.decimals = decimals
+        self.geometry = geometry
+        self.scale = self.needed_scale()
+
+    def needed_scale(self) -> Scale:
+        alone = [] if self.geometry is None else [self.geometry]
+        return scale_of([*self.sources, *alone], self.decimals)
 
     @property
     def left_out(self) -> Tuple[Notice, ...]:
@@ -40,11 +53,32 @@ class Job:
     def enveloped(self) -> Tuple[Notice, ...]:
         return tuple(chain.from_iterable(source.enveloped for source in self.sources))
 
-    @contextmanager
-    def ready(self) -> Iterator[Tuple[Path, List[Path]]]:
-        """A folder, and the paths of the layers; faults inside name the features."""
-        with temporary_folder() as folder, named_faults(self.sources):
-            yield folder, [source.write(folder, self.scale) for source in self.sources]
+    def answer(self, ask: Callable[[Path, List[Path]], Answer]) -> Answer:
+        """What is asked of the program in a folder, with the paths of the layers.
+
+        Faults name the features. A text that the program doesn't read may still be a geometry, such
+        as POINT Z: it is read by Shapely, and the program is asked again.
+        """
+        while True:
+            try:
+                with temporary_folder() as folder:
+                    paths = [source.write(folder, self.scale) for source in self.sources]
+                    return ask(folder, paths)
+            except program.InputFault as fault:
+                if not self.reread(fault):
+                    raise named(fault, self.sources) from fault
+
+    def reread(self, fault: program.InputFault) -> bool:
+        """Whether the fault's layer has texts that were now read by Shapely."""
+        if fault.reason != NO_TEXT:
+            return False
+        for place, source in enumerate(self.sources):
+            other = source.reread() if source.side == fault.side else None
+            if other is not None:
+                self.sources[place] = other
+                self.scale = self.needed_scale()
+                return True
+        return False
 
     def positions(self, found: Any) -> List[Rows]:
         """The rows, counted from 0, of the ids in the first columns of a report."""
@@ -77,10 +111,37 @@ class Job:
             found[column] = told.to_flat_index() if isinstance(told, pandas.MultiIndex) else told
         return found
 
-    def finish(self, attributes: Dict[Any, Any], depth: int) -> None:
-        """Puts the notices into the attributes of a result, and warns of what was left out.
+    def refuse_incomplete(self) -> None:
+        """Refuses a left join where a left row's only partner may have been left out."""
+        left_out = self.sources[1].left_out
+        if left_out:
+            first = left_out[0]
+            raise InputError(
+                first.side, f"{first.reason}; {len(left_out)} features are left out here, so that "
+                "a left row without a partner may have one: take how='inner', or incomplete='mark'",
+                first.row, first.feature)
 
-        The warning is that of the line `depth` calls above the caller of this one.
+    def are_exact(self, lefts: Rows, rights: Rows, relation: str) -> Flags:
+        """Which rows of a result rest on no envelope; in a left join NOBODY may stand on the right.
+
+        A row with NOBODY says that no right feature stands in the relation. Where envelopes share
+        no point the features share none; of other relations envelopes say nothing.
+        """
+        left, right = self.sources
+        alone = rights == NOBODY
+        exact: Flags = left.are_exact(lefts)
+        exact[~alone] &= right.are_exact(rights[~alone])
+        exact[alone] &= not right.enveloped
+        if relation == "intersects":
+            exact[alone] = True
+        return exact
+
+    def finish(self, attributes: Dict[Any, Any], depth: int,
+               exact: Optional[Flags] = None) -> None:
+        """Puts the notices into the attributes of a result, and warns of what they say.
+
+        exact: which rows of the result rest on no envelope. The warnings are those of the line
+        `depth` calls above the caller of this one.
         """
         attributes.update(left_out=self.left_out, enveloped=self.enveloped)
         if self.left_out:
@@ -89,13 +150,18 @@ class Job:
                 f"{len(self.left_out)} features are left out; the first: {first.side}, row "
                 f"{first.row} (feature {first.feature!r}): {first.reason}",
                 LeftOutWarning, stacklevel=depth + 2)
+        if self.enveloped:
+            text = f"{len(self.enveloped)} features are replaced by their envelopes"
+            if exact is not None:
+                text += f"; {(~exact).sum()} of {exact.size} rows of the result rest on one"
+            warnings.warn(text, EnvelopeWarning, stacklevel=depth + 2)
 
 
 def job_of(layers: Sequence[Tuple[str, Any]], scale: Optional[int], rules: Rules,
            geometry: Optional[Single] = None) -> Job:
     """The job of layers by their sides, beside a geometry with coordinates of the same scale."""
     sources = [source_of(layer, side, rules.checked()) for side, layer in layers]
-    return Job(sources, scale_of(sources if geometry is None else [*sources, geometry], scale))
+    return Job(sources, scale, geometry)
 
 
 def single(geometry: Any, side: str) -> Single:
@@ -117,23 +183,27 @@ def scale_of(sources: Sequence[Source], scale: Optional[int]) -> Scale:
 
 @contextmanager
 def temporary_folder() -> Iterator[Path]:
+    """A folder that goes at the end, also where a signal ends the process."""
+    made = []
     try:
-        with tempfile.TemporaryDirectory(prefix="rjoin-") as name:
-            yield Path(name)
+        with signals.cleanly():
+            try:
+                with signals.held():
+                    made.append(tempfile.TemporaryDirectory(prefix="rjoin-"))
+                yield Path(made[0].name)
+            finally:
+                for folder in made:
+                    folder.cleanup()
     except OSError as fault:
         raise RjoinError(f"temporary files: {fault.strerror or fault}") from fault
 
 
-@contextmanager
-def named_faults(sources: Sequence[Source]) -> Iterator[None]:
-    """Raises the program's faults of inputs as InputErrors, which name the feature."""
-    try:
-        yield
-    except program.InputFault as fault:
-        source = next((source for source in sources if source.side == fault.side), None)
-        if source is None or fault.row is None:
-            raise InputError(fault.side, fault.reason, fault.row) from fault
-        raise source.error(fault.row, fault.reason) from fault
+def named(fault: program.InputFault, sources: Sequence[Source]) -> InputError:
+    """The program's fault of an input as an InputError, which names the feature."""
+    source = next((source for source in sources if source.side == fault.side), None)
+    if source is None or fault.row is None:
+        return InputError(fault.side, fault.reason, fault.row)
+    return source.error(fault.row, fault.reason)
 
 
 @contextmanager
@@ -151,60 +221,79 @@ def options(workers: Optional[int]) -> List[str]:
 
 def joined(job: Job, relation: str, workers: Optional[int], matrix: bool) -> Any:
     """The pairs as a frame with the columns left and right, ids of the report, and matrix."""
-    with job.ready() as (folder, paths):
+    def ask(folder: Path, paths: List[Path]) -> Any:
         report = folder / "report.csv"
         with open(report, "wb") as output:
             program.run(["join", *paths, "--relation", relation,
                          "--scale", job.scale.option, *options(workers)], output)
         return read_report(report, job.sources, matrix)
+    return job.answer(ask)
 
 
 def read_report(path: Path, sources: Sequence[Source], matrix: bool) -> Any:
-    left, right = ("str" if source.has_ids else "int64" for source in sources)
+    left, right = (kind_of(source) for source in sources)
     columns = {"left": left, "right": right, "matrix": "category"}
-    try:
-        report = pandas.read_csv(path, dtype=columns, keep_default_na=False,
-                                 usecols=list(columns)[:3 if matrix else 2])
-    except ValueError as fault:
-        raise RjoinError(f"{program.find()} wrote no report; is it the program?") from fault
+    report = read_table(path, columns, list(columns)[:3 if matrix else 2])
     if matrix:
         report["matrix"] = report["matrix"].to_numpy(object)
     return report
 
 
+def kind_of(source: Source) -> str:
+    """The type of the ids of an input in an answer."""
+    return "str" if source.has_ids else "int64"
+
+
+def read_table(answer: Any, columns: Dict[str, str], wanted: Sequence[str]) -> Any:
+    """Some columns of an answer of the program, by their types; ids such as NA are texts."""
+    try:
+        return pandas.read_csv(answer, dtype=columns, keep_default_na=False, usecols=wanted)
+    except ValueError as fault:
+        raise program.wrong_answer() from fault
+
+
 def met(job: Job, geometry: Single) -> Any:
     """The ids of the features of the only layer that meet a geometry."""
-    with faults_without_rows():
-        text = geometry.text(job.scale)
-    with job.ready() as (_, paths):
+    def ask(_: Path, paths: List[Path]) -> Any:
+        with faults_without_rows():
+            text = geometry.text(job.scale)
         answer = program.run(["window", "--scale", job.scale.option, "--", *paths, text])
-    kind = "str" if job.sources[0].has_ids else "int64"
-    return pandas.read_csv(io.BytesIO(answer), dtype={"id": kind}, keep_default_na=False)["id"]
+        return read_table(io.BytesIO(answer), {"id": kind_of(job.sources[0])}, ["id"])["id"]
+    return job.answer(ask)
 
 
 def related(first: Single, second: Single, decimals: Optional[int]) -> str:
     """The letters of two geometries."""
-    with faults_without_rows(), named_faults(()):
+    with faults_without_rows():
         scale = scale_of((first, second), decimals)
         texts = [first.text(scale), second.text(scale)]
+    try:
         answer = program.run(["relate", "--scale", scale.option, "--", *texts])
-    return answer.decode().strip()
+    except program.InputFault as fault:
+        raise named(fault, ()) from fault
+    letters = LETTERS.fullmatch(answer)
+    if not letters:
+        raise program.wrong_answer()
+    return letters[1].decode()
 
 
 def counted(job: Job) -> Dict[str, int]:
     """The counts of the only layer by their names."""
-    with job.ready() as (_, paths):
-        answer = program.run(["stats", *paths, "--scale", job.scale.option])
-    lines = (line.split() for line in answer.decode().splitlines())
-    return {name: int(count) for name, count in lines}
+    answer = job.answer(lambda _, paths: program.run(
+        ["stats", *paths, "--scale", job.scale.option]))
+    counts = COUNTS.fullmatch(answer)
+    if not counts:
+        raise program.wrong_answer()
+    return {name: int(count) for name, count in counts.groupdict().items()}
 
 
 def drawn(job: Job, relation: str) -> str:
     """The picture, in which features have their labels as titles."""
-    with job.ready() as (_, paths):
-        answer = program.run(["draw", *paths, "--relation", relation,
-                              "--scale", job.scale.option])
-    left, border, right = answer.decode().partition(RIGHT_HALF)
+    answer = job.answer(lambda _, paths: program.run(
+        ["draw", *paths, "--relation", relation, "--scale", job.scale.option]))
+    left, border, right = answer.decode(errors="replace").partition(RIGHT_HALF)
+    if not border or not left.startswith("<svg ") or not right.endswith("</svg>\n"):
+        raise program.wrong_answer()
     halves = [titled(half, source) for half, source in zip((left, right), job.sources)]
     return border.join(halves)
 

@@ -3,11 +3,12 @@ from __future__ import annotations
 
 import os
 import re
-import shutil
 import subprocess
-from typing import IO, Optional, Sequence, Union
+import warnings
+from typing import IO, Optional, Sequence, Set, Tuple, Union
 
-from rjoin.errors import ArgumentError, RjoinError
+from rjoin import found, signals
+from rjoin.errors import ArgumentError, RjoinError, StaleProgramWarning
 
 Word = Union[str, "os.PathLike[str]"]
 
@@ -29,19 +30,25 @@ class InputFault(Exception):
 
 FAULT = re.compile(
     r"rjoin: (?P<side>left|right|layer|window|first|second): (?:row (?P<row>\d+): )?(?P<reason>.*)")
+NO_MEMORY = "no memory"
 WRONG_WORDS = 2
+
+# The programs of which it is told whether they are older than their sources.
+told: Set[str] = set()
 
 
 def find() -> str:
-    """The path of the program: the environment's RJOIN, or else `rjoin` on the PATH."""
-    given = os.environ.get("RJOIN")
-    found = shutil.which(given or "rjoin")
-    if found:
-        return found
-    if given:
-        raise RjoinError(f"RJOIN is {given!r}, which is no program that can be run")
-    raise RjoinError("the program rjoin was not found: put it on the PATH, or set RJOIN to the "
-                     "path of the program or of the launcher `rjoin` of its repository")
+    """The path of the program, which is asked once for its version, and told once if it is old."""
+    try:
+        path = found.find()
+    except found.NoProgram as fault:
+        raise RjoinError(str(fault)) from fault
+    if path not in told:
+        told.add(path)
+        stale = found.staleness(path)
+        if stale:
+            warnings.warn(stale, StaleProgramWarning, stacklevel=2)
+    return path
 
 
 def run(words: Sequence[Word], output: Union[int, IO[bytes]] = subprocess.PIPE) -> bytes:
@@ -51,15 +58,30 @@ def run(words: Sequence[Word], output: Union[int, IO[bytes]] = subprocess.PIPE) 
     else as an RjoinError.
     """
     program = find()
-    environment = {"GLIBC_TUNABLES": TUNABLES, **os.environ}
     try:
-        ended = subprocess.run([program, *words], stdin=subprocess.DEVNULL, stdout=output,
-                               stderr=subprocess.PIPE, env=environment, check=False)
+        status, answer, errors = ended([program, *words], output)
     except OSError as fault:
         raise RjoinError(f"{program} cannot be run: {fault.strerror}") from fault
-    if ended.returncode != 0:
-        raise error_of(program, ended.returncode, ended.stderr.decode(errors="replace"))
-    return ended.stdout or b""
+    if status != 0:
+        raise error_of(program, status, errors.decode(errors="replace"))
+    return answer or b""
+
+
+def ended(words: Sequence[Word], output: Union[int, IO[bytes]]) -> Tuple[int, bytes, bytes]:
+    """How a program ended, and what it wrote; an exception meanwhile ends it too."""
+    environment = {"GLIBC_TUNABLES": TUNABLES, **os.environ}
+    started = []
+    try:
+        with signals.held():
+            started.append(subprocess.Popen(words, stdin=subprocess.DEVNULL, stdout=output,
+                                            stderr=subprocess.PIPE, env=environment))
+        answer, errors = started[0].communicate()
+    except BaseException:
+        for process in started:
+            process.kill()
+            process.wait()
+        raise
+    return started[0].returncode, answer, errors
 
 
 def error_of(program: str, status: int, text: str) -> Exception:
@@ -68,15 +90,20 @@ def error_of(program: str, status: int, text: str) -> Exception:
         return RjoinError(f"{program} was ended by signal {-status}")
     line = fault_line(text)
     fault = FAULT.fullmatch(line)
-    if fault:
+    if fault and fault["reason"] != NO_MEMORY:
         row = fault["row"]
         return InputFault(fault["side"], int(row) if row else None, fault["reason"])
     reason = line.removeprefix("rjoin: ") or f"{program} ended with status {status}"
     return ArgumentError(reason) if status == WRONG_WORDS else RjoinError(reason)
 
 
+def wrong_answer() -> RjoinError:
+    """The error for an answer that isn't of the form that the program writes."""
+    return RjoinError(f"{find()} wrote no answer of its kind; is it the program?")
+
+
 def fault_line(text: str) -> str:
-    """The line that tells the fault: the last one of rjoin, or else the first one of any kind."""
+    """The last line of rjoin, with the hint that follows it, or else the first line of any kind."""
     lines = [line for line in text.splitlines() if line.strip()]
-    ours = [line for line in lines if line.startswith("rjoin: ")]
-    return ours[-1] if ours else lines[0] if lines else ""
+    ours = [place for place, line in enumerate(lines) if line.startswith("rjoin: ")]
+    return "; ".join(lines[ours[-1]:] if ours else lines[:1])

@@ -4,9 +4,10 @@ from __future__ import annotations
 import csv
 import os
 from abc import ABC, abstractmethod
+from importlib.util import find_spec
 from itertools import repeat
 from pathlib import Path
-from typing import Any, NamedTuple, Sequence, Tuple
+from typing import Any, NamedTuple, Optional, Sequence, Tuple
 
 import numpy as np
 import pandas
@@ -18,6 +19,7 @@ from rjoin.shapes import Boxes, Objects, Status, boxes_of
 
 Rows = NDArray[np.int64]
 Units = NDArray[np.int64]
+Flags = NDArray[np.bool_]
 
 NO_BOX = "not a point, axis-parallel segment or rectangle"
 REASONS = {
@@ -95,6 +97,14 @@ class Source(ABC):
     def labels(self, ids: Any) -> Any:
         """The labels of features by their ids in a report: a column of them or an index."""
 
+    def are_exact(self, rows: Rows) -> Flags:
+        """Which features, by their rows from 0, the program was given as they are."""
+        return np.ones(len(rows), np.bool_)
+
+    def reread(self) -> Optional["Source"]:
+        """The same input with its texts read by Shapely, where the program has read them."""
+        return None
+
     @abstractmethod
     def error(self, row: int, reason: str) -> InputError:
         """The fault of a row, counted from 1, of the file that was written."""
@@ -113,7 +123,7 @@ class GeometrySource(Source):
         self.rows: Rows = np.flatnonzero(kept)
         self.corners = boxes.corners if kept.all() else boxes.corners[kept]
 
-    def kept(self, boxes: Boxes, rules: Rules) -> NDArray[np.bool_]:
+    def kept(self, boxes: Boxes, rules: Rules) -> Flags:
         """The rows that the program is given; the others and the envelopes are noticed."""
         status = boxes.status
         absent = (status == Status.EMPTY) | (status == Status.MISSING)
@@ -129,8 +139,13 @@ class GeometrySource(Source):
             raise self.fault(int(wrong[0]), REASONS[Status(status[wrong[0]])])
         self.left_out = self.notices(np.flatnonzero(skipped), status)
         self.enveloped = self.notices(np.flatnonzero(enveloped), status)
-        given: NDArray[np.bool_] = kept | enveloped
+        self.is_envelope = enveloped
+        given: Flags = kept | enveloped
         return given
+
+    def are_exact(self, rows: Rows) -> Flags:
+        exact: Flags = ~self.is_envelope[rows]
+        return exact
 
     def notices(self, rows: Rows, status: NDArray[np.uint8]) -> Tuple[Notice, ...]:
         reasons = [REASONS[Status(value)] for value in status[rows]]
@@ -199,6 +214,11 @@ class TextSource(Source):
     def error(self, row: int, reason: str) -> InputError:
         return InputError(self.side, reason, row, self.index[row - 1])
 
+    def reread(self) -> Optional[Source]:
+        if not has_shapely():
+            return None
+        return geometry_source(self.values, self.index, self.side, Rules())
+
     def needed_decimals(self) -> int:
         return decimals_of_texts(self, self.values.tolist())
 
@@ -226,12 +246,10 @@ class TextSource(Source):
 
 def decimals_of_texts(source: Source, values: Sequence[str]) -> int:
     """The fewest decimals for all numbers of some texts, or the fault of the first row."""
-    needed = decimals.fewest_of_text("\n".join(values))
-    if needed <= decimals.MOST:
-        return needed
-    row = next(row for row, text in enumerate(values, start=1)
-               if decimals.fewest_of_text(text) > decimals.MOST)
-    raise source.error(row, f"a coordinate has more than {decimals.MOST} decimals")
+    needed, row = texts.fewest_decimals(values)
+    if row:
+        raise source.error(row, texts.TOO_FINE)
+    return needed
 
 
 class FileSource(Source):
@@ -249,8 +267,11 @@ class FileSource(Source):
     def write(self, folder: Path, scale: Scale) -> Path:
         row = files.first_with_nul(self.place)
         if row:
-            raise self.error(row, "a NUL character, behind which pandas doesn't read")
+            raise self.error(row, files.NUL)
         return self.place.path.absolute()
+
+    def reread(self) -> Optional[Source]:
+        return plain_file_source(self.place, self.side, Rules()) if has_shapely() else None
 
     def positions(self, ids: Any) -> Rows:
         rows = pandas.Index(files.ids_of(self.place))
@@ -294,16 +315,27 @@ def values_of(layer: Any, side: str) -> Objects:
 
 def file_source(path: "str | os.PathLike[str]", side: str, rules: Rules) -> Source:
     place = files.place_of(path)
-    plain = place.layer is None and files.is_plain(place)
-    if plain and rules == Rules():
-        return FileSource(side, place)
-    frame = files.read(path, side)
-    return source_of(frame.set_index("id") if plain else frame, side, rules)
+    if place.layer is not None or not files.is_plain(place):
+        return source_of(files.read(path, side), side, rules)
+    return FileSource(side, place) if rules == Rules() else plain_file_source(place, side, rules)
+
+
+def plain_file_source(place: files.Place, side: str, rules: Rules) -> GeometrySource:
+    """The input for a file of the program's own form whose texts are read by Shapely."""
+    table = files.table_of(place, side)
+    return geometry_source(table["wkt"].to_numpy(object), pandas.Index(table["id"]), side, rules)
 
 
 def single_source(geometry: Any, side: str) -> "GeometrySource | TextSource":
     """The input for one geometry, by Shapely or as a text."""
-    return values_source(np.fromiter([geometry], object), pandas.RangeIndex(1), side, Rules())
+    source = values_source(np.fromiter([geometry], object), pandas.RangeIndex(1), side, Rules())
+    if isinstance(source, TextSource) and not texts.is_plain(geometry) and has_shapely():
+        return geometry_source(source.values, source.index, side, Rules())
+    return source
+
+
+def has_shapely() -> bool:
+    return find_spec("shapely") is not None
 
 
 def values_source(values: Objects, index: pandas.Index, side: str,
@@ -321,11 +353,21 @@ def values_source(values: Objects, index: pandas.Index, side: str,
         row = int(alike.argmin())
         raise InputError(side, f"a value of type {type(values[row]).__name__} among "
                          f"{'texts' if kind is str else 'geometries'}", row + 1, index[row])
+    if kind is str and rules == Rules():
+        return TextSource(side, values, index)
     if kind is str:
-        if rules == Rules():
-            return TextSource(side, values, index)
-        values = texts.geometries_of(values, index, side)
+        return geometry_source(values, index, side, rules)
     return GeometrySource(side, values, index, rules)
+
+
+def geometry_source(values: Objects, index: pandas.Index, side: str,
+                    rules: Rules) -> GeometrySource:
+    """The input for texts that are read by Shapely; the fault of the first row goes first."""
+    geometries, reason = texts.geometries_of(values)
+    source = GeometrySource(side, geometries, index[:len(geometries)], rules)
+    if reason:
+        raise InputError(side, reason, len(geometries) + 1, index[len(geometries)])
+    return source
 
 
 def type_of_all(first: Any) -> type:

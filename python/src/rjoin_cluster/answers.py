@@ -9,7 +9,7 @@ from numpy.typing import NDArray
 from rjoin_cluster.digits import numbers_in
 from rjoin_cluster.faults import RunFailed
 from rjoin_cluster.ids import IdTable, id_table
-from rjoin_cluster.records import Bytes, Places, field_ends
+from rjoin_cluster.records import COMMA, Bytes, Places, field_ends
 
 Boxes = NDArray[np.int64]
 
@@ -41,12 +41,29 @@ def read_answer(text: Bytes) -> Features:
 
 
 def ends_by_row(text: Bytes) -> Places:
-    """Where the fields of each row end, those of the header too."""
-    ends = field_ends(text)
+    """Where the fields of each row end, those of the header too.
+
+    No byte of a number is less than a comma, and those of most ids aren't. So these bytes mostly
+    are the ends of fields, and where they are not, they aren't those of whole rows.
+    """
+    ends = np.flatnonzero(text <= COMMA)
+    if ends.size % FIELD_ENDS.size or not are_field_ends(text, ends):
+        ends = field_ends(text)
     rows, more = divmod(ends.size, FIELD_ENDS.size)
     if bytes(text[: len(HEADER)]) != HEADER or more or ends[-1] != text.size - 1:
         raise ValueError("fields are missing")
+    if not are_field_ends(text, ends):
+        raise ValueError("fields are missing")
     return ends.reshape(rows, FIELD_ENDS.size)
+
+
+def are_field_ends(text: Bytes, ends: Places) -> bool:
+    """Whether the bytes at these places are those behind the fields of rows."""
+    rows = ends.reshape(-1, FIELD_ENDS.size)
+    return all(
+        (text.take(rows[begin:begin + ROWS_AT_ONCE]) == FIELD_ENDS).all()
+        for begin in range(0, len(rows), ROWS_AT_ONCE)
+    )
 
 
 def boxes_of(text: Bytes, ends: Places) -> Boxes:
@@ -54,7 +71,5 @@ def boxes_of(text: Bytes, ends: Places) -> Boxes:
     boxes = np.empty((len(ends), 4), dtype=np.int64)
     for begin in range(0, len(ends), ROWS_AT_ONCE):
         part = np.ascontiguousarray(ends[begin:begin + ROWS_AT_ONCE].T)
-        if (text.take(part) != FIELD_ENDS[:, np.newaxis]).any():
-            raise ValueError("fields are missing")
         boxes[begin:begin + ROWS_AT_ONCE] = numbers_in(text, part[:-1] + 1, part[1:]).T
     return boxes

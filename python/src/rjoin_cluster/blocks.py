@@ -10,15 +10,15 @@ import numpy as np
 
 from rjoin_cluster.answers import NO_FEATURES, Boxes, Features, read_answer
 from rjoin_cluster.faults import RunFailed
-from rjoin_cluster.ids import bucket_of, hashes_of, stacked
-from rjoin_cluster.layout import Layout, save_array
+from rjoin_cluster.ids import bucket_of, hashes_of, share_ends, stacked
+from rjoin_cluster.layout import Layout, save_rows
 from rjoin_cluster.program import HEADER, MOST_BYTES, MOST_FEATURES, Program, RowFault
 from rjoin_cluster.records import (
     BYTE_ORDER_MARK,
+    RETURN,
     WINDOW,
     Bytes,
     Segment,
-    most_record_ends,
     record_ends,
     scan,
     scan_ends,
@@ -30,6 +30,8 @@ END_BYTES = 2**18
 
 # Put before the first block, so that a second byte order mark stays part of the header.
 NO_MARK = b"\n"
+
+FULL = "layer is full"  # as rjoin says it
 
 
 @dataclass(frozen=True)
@@ -82,6 +84,7 @@ class BlockRead:
     """What the features of a block come to; those before its first fault, if there is one."""
 
     rows: int
+    id_width: int
     greatest: int  # absolute value of a coordinate
     below_zero: bool
     sample: Boxes
@@ -119,6 +122,7 @@ def read_block(job: ReadJob) -> BlockRead:
     least, greatest = int(boxes.min(initial=0)), int(boxes.max(initial=0))
     return BlockRead(
         len(boxes),
+        features.ids.shape[1],
         max(-least, greatest),
         least < 0,
         sample_of(boxes, job.share, job.block.number),
@@ -127,12 +131,13 @@ def read_block(job: ReadJob) -> BlockRead:
 
 
 def keep(layout: Layout, block: Extent, features: Features) -> None:
-    save_array(layout.boxes(block.side, block.number), features.boxes)
-    save_array(layout.ids(block.side, block.number), features.ids)
+    save_rows(layout.boxes(block.side, block.number), [features.boxes])
+    save_rows(layout.ids(block.side, block.number), [features.ids])
     hashes = hashes_of(features.ids)
     order = np.argsort(bucket_of(hashes), kind="stable")
-    save_array(layout.hashes(block.side, block.number), hashes.take(order))
-    save_array(layout.hashed_rows(block.side, block.number), order.astype(np.uint32))
+    rows = order.astype(np.uint32)
+    path = layout.hashes(block.side, block.number)
+    save_rows(path, [share_ends(hashes), hashes.take(order), rows])
 
 
 def sample_of(boxes: Boxes, share: float, seed: int) -> Boxes:
@@ -145,18 +150,37 @@ def sample_of(boxes: Boxes, share: float, seed: int) -> Boxes:
 
 def features_of(program: Program, block: Extent) -> tuple[Features, Optional[RowFault]]:
     """The features of a block, or those before its first fault."""
+    text = block.read()
+    before = HEADER if block.number else NO_MARK
+    if text.size <= MOST_PART and likely_records(text) < MOST_FEATURES:
+        features, fault = read_part(program, before, text)
+        if fault is None or fault.text != FULL:
+            return features, fault
+    return features_of_parts(program, before, text)
+
+
+def features_of_parts(
+    program: Program, before: bytes, text: Bytes
+) -> tuple[Features, Optional[RowFault]]:
+    """The same, of a block that is more than a run takes."""
     read = []
     rows = 0
     fault = None
-    for place, part in enumerate(parts_of_runs(block.read())):
-        before = HEADER if block.number or place else NO_MARK
+    for part in parts_of_runs(text):
         features, fault = read_part(program, before, part)
+        before = HEADER
         read.append(features)
         if fault is not None:
             fault = RowFault(fault.row + rows, fault.text, fault.teller)
             break
         rows += len(features.boxes)
     return together(read), fault
+
+
+def likely_records(text: Bytes) -> int:
+    """How many records a block has, if all of it is as its beginning."""
+    first = text[:WINDOW]
+    return int(np.count_nonzero(first <= RETURN)) * text.size // max(first.size, 1)
 
 
 def together(parts: Sequence[Features]) -> Features:
@@ -167,12 +191,7 @@ def together(parts: Sequence[Features]) -> Features:
 
 
 def parts_of_runs(text: Bytes) -> Iterator[Bytes]:
-    """A block in parts that a run takes: one, unless its rows are very short or its records very
-    long.
-    """
-    if text.size <= MOST_PART and most_record_ends(text) < MOST_FEATURES:
-        yield text
-        return
+    """A block in parts that a run takes."""
     ends = record_ends(text)
     begins = np.append(0, ends)
     done = 0

@@ -5,12 +5,13 @@ import numpy as np
 from numpy.typing import NDArray
 
 from rjoin_cluster.records import Bytes, Places
-from rjoin_cluster.words import WORD, Words, last_bytes, words_at
+from rjoin_cluster.words import KEEPS_LAST, WORD, Words, last_bytes, words_at
+
+Texts = NDArray[np.void]  # each text is one element
 
 MOST_DIGITS = 2 * WORD
 MINUS = ord("-")
 GROUP = 4
-ZERO = ord("0")
 ZEROS = np.uint64(0x3030303030303030)
 # By the bytes of a number, a mask that keeps every second number of a word.
 EVERY_SECOND = {
@@ -19,39 +20,43 @@ EVERY_SECOND = {
     4: np.uint64(0x00000000FFFFFFFF),
 }
 GROUPS = np.array([f"{number:04}" for number in range(10**GROUP)], dtype="S4").view("<u4")
+NO_TEXTS = np.zeros(0, dtype="V1")
 
 
 def digits_in(greatest: int) -> int:
     return len(str(greatest))
 
 
-def written(numbers: Places, width: int) -> Bytes:
-    """A row of so many digits for each number, none of which is below 0."""
-    groups = -(-width // GROUP)
+def written(numbers: Places, width: int, signed: bool = False) -> Texts:
+    """A text of so many digits for each number, with a sign before them where that is wanted; else
+    none is below 0.
+    """
+    groups = -(-(width + signed) // GROUP)
     rows = np.empty((numbers.size, groups), dtype="<u4")
-    rest = numbers
+    rest = np.abs(numbers) if signed else numbers
     for group in reversed(range(groups)):
         above = rest // 10**GROUP
         rows[:, group] = GROUPS[rest - above * 10**GROUP]
         rest = above
-    return rows.view(np.uint8)[:, groups * GROUP - width:]
+    begin = groups * GROUP - width - signed
+    if signed:
+        rows.view(np.uint8)[:, begin] = np.where(numbers < 0, ord("-"), ord("+"))
+    kind = f"V{width + signed}"
+    return np.ndarray(numbers.size, kind, rows, begin, rows.strides[:1]) if rows.size else NO_TEXTS
 
 
-def written_signed(numbers: Places, width: int) -> Bytes:
-    """The same, of any numbers, with a sign before the digits."""
-    rows = np.empty((numbers.size, 1 + width), dtype=np.uint8)
-    rows[:, 0] = np.where(numbers < 0, ord("-"), ord("+"))
-    rows[:, 1:] = written(np.abs(numbers), width)
-    return rows
+def put(text: Bytes, at: int, texts: Texts) -> None:
+    """Writes a text into each row, from this column on. To NumPy each is one element, so that it
+    copies them several times as fast as single bytes.
+    """
+    if texts.size:
+        np.ndarray(len(text), texts.dtype, text, at, text.strides[:1])[...] = texts
 
 
-def read_back(rows: Bytes) -> Places:
-    """The numbers whose digits are these rows."""
-    numbers: NDArray[np.int64] = np.zeros(len(rows), dtype=np.int64)
-    for column in range(rows.shape[1]):
-        numbers *= 10
-        numbers += rows[:, column] - np.uint8(ZERO)
-    return numbers
+def numbers_before(text: Bytes, ends: range, digits: int) -> Places:
+    """The numbers of so many digits, at most eight, that end before these places."""
+    words: Words = np.ndarray(len(ends), "<u8", text, ends.start - WORD, (ends.step,))
+    return number_of_digits((words ^ ZEROS) & KEEPS_LAST[digits])
 
 
 def numbers_in(text: Bytes, begins: Places, ends: Places) -> Places:

@@ -9,20 +9,20 @@ from dataclasses import dataclass
 from typing import Optional
 
 import numpy as np
+from numpy.typing import NDArray
 
-from rjoin_cluster.ids import BUCKET_SHIFT, BUCKETS, Hashes
-from rjoin_cluster.layout import Layout, mapped
+from rjoin_cluster.ids import FILL, SHARES, Hashes, load_ids
+from rjoin_cluster.layout import Layout, RowsFile, mapped
 from rjoin_cluster.records import Places
 from rjoin_cluster.sides import Side
 
 
 @dataclass(frozen=True)
 class DoublesJob:
-    """A range of hashes of the ids of a layer's first blocks."""
+    """Some ranges of hashes of a layer's ids."""
 
     layout: Layout
     side: Side
-    blocks: int
     part: int
     parts: int
 
@@ -30,12 +30,9 @@ class DoublesJob:
         return f"{self.side.value} ids, part {self.part} of {self.parts}"
 
     @property
-    def range(self) -> tuple[int, int]:
-        """The first hash of the range and the last one. It is a range of whole buckets, in whose
-        order the hashes of a block are.
-        """
-        first, behind = (BUCKETS * part // self.parts for part in (self.part, self.part + 1))
-        return first << BUCKET_SHIFT, (behind << BUCKET_SHIFT) - 1
+    def shares(self) -> list[int]:
+        """The first range of hashes of the part, and the one behind its last."""
+        return [SHARES * part // self.parts for part in (self.part, self.part + 1)]
 
 
 def first_double(job: DoublesJob) -> Optional[int]:
@@ -60,21 +57,35 @@ def repeated(hashes: Hashes, numbers: Places) -> tuple[Hashes, Places]:
 
 
 def hashed(job: DoublesJob) -> tuple[Hashes, Places]:
-    """The hashes in the range, with the numbers of their features."""
-    low, high = (np.uint64(end) for end in job.range)
+    """The hashes of the part, with the numbers of their features."""
     hashes = [np.zeros(0, dtype=np.uint64)]
     numbers = [np.zeros(0, dtype=np.int64)]
-    for block, first in enumerate(mapped(job.layout.firsts(job.side))[: job.blocks].tolist()):
-        all_hashes = mapped(job.layout.hashes(job.side, block))
-        begin = int(np.searchsorted(all_hashes, low, side="left"))
-        end = int(np.searchsorted(all_hashes, high, side="right"))
-        hashes.append(np.array(all_hashes[begin:end]))
-        numbers.append(mapped(job.layout.hashed_rows(job.side, block))[begin:end] + np.int64(first))
+    firsts = mapped(job.layout.firsts(job.side)).tolist()
+    for block, (first, behind) in enumerate(zip(firsts, firsts[1:])):
+        found, rows = hashed_in(job, block, behind - first)
+        hashes.append(found)
+        numbers.append(rows + np.int64(first))
     return np.concatenate(hashes), np.concatenate(numbers)
+
+
+def hashed_in(job: DoublesJob, block: int, count: int) -> tuple[Hashes, NDArray[np.uint32]]:
+    """The hashes of the part in a block of so many features, with their rows in the block."""
+    ends = np.empty(SHARES + 1, dtype=np.uint32)
+    with RowsFile(job.layout.hashes(job.side, block)) as file:
+        low, high = job.shares
+        file.fill(ends[low:high + 1], low * ends.itemsize)
+        begin, end = int(ends[low]), int(ends[high])
+        hashes = np.empty(end - begin, dtype=np.uint64)
+        file.fill(hashes, ends.nbytes + begin * hashes.itemsize)
+        rows = np.empty(end - begin, dtype=np.uint32)
+        file.fill(rows, ends.nbytes + count * hashes.itemsize + begin * rows.itemsize)
+    return hashes, rows
 
 
 def id_of(job: DoublesJob, number: int) -> bytes:
     firsts = mapped(job.layout.firsts(job.side))
     block = int(np.searchsorted(firsts, number, side="right")) - 1
-    row = mapped(job.layout.ids(job.side, block))[number - firsts[block]]
-    return bytes(row[1:1 + int(row[0])])
+    first, behind = int(firsts[block]), int(firsts[block + 1])
+    row = number - first
+    table = load_ids(job.layout.ids(job.side, block), behind - first, row, row + 1)
+    return bytes(table).rstrip(bytes([FILL]))

@@ -4,47 +4,39 @@ words what fails.
 from __future__ import annotations
 
 import logging
-import threading
+import queue
 import time
-from contextlib import contextmanager, suppress
+from contextlib import contextmanager
 from typing import Any, Callable, Generic, Iterator, Sequence, TypeVar
 
-from distributed import CancelledError, as_completed
+from distributed import CancelledError
 from distributed.comm.core import CommClosedError
 
 from rjoin_cluster.faults import JoinFault
 from rjoin_cluster.progress import Progress
+from rjoin_cluster.watch import LOOK_EVERY, TIMEOUTS, Watch
 
 Job = TypeVar("Job")
 Result = TypeVar("Result")
 
 RETRIES = 3
-LOOK_EVERY = 2.0
 
-log = logging.getLogger("rjoin_cluster")
+log = logging.getLogger(__name__)
 
 
 class Engine:
     """The tasks of one join."""
 
-    def __init__(self, client: Any, token: str, progress: Progress, patience: float) -> None:
+    def __init__(self, client: Any, token: str, progress: Progress, watch: Watch) -> None:
         self.client = client
         self.token = token
         self.progress = progress
-        self.patience = patience
+        self.watch = watch
         self.seconds: dict[str, float] = {}
         self.started = 0
 
     def workers(self) -> int:
-        """How many workers there are; 0 too where the scheduler doesn't answer."""
-        with suppress(OSError):
-            return len(self.client.scheduler_info()["workers"])
-        return 0
-
-    def cancel(self, futures: Sequence[Any], force: bool = False) -> None:
-        """Cancels tasks, unless they have gone with the scheduler."""
-        with suppress(OSError):
-            self.client.cancel(list(futures), force=force)
+        return len(self.watch.workers())
 
     @contextmanager
     def phase(self, name: str) -> Iterator[None]:
@@ -79,38 +71,54 @@ class Tasks(Generic[Result]):
         self.name = name
         self.futures = futures
         self.labels = labels
-        self.dropped: set[int] = set()
+        self.waiting = set(range(len(futures)))
+        self.ended: queue.SimpleQueue[Any] = queue.SimpleQueue()
+        for future in futures:
+            future.add_done_callback(self.ended.put)
 
     def drop(self, numbers: Sequence[int]) -> None:
-        """Cancels tasks whose results are not wanted any more."""
-        new = [number for number in numbers if number not in self.dropped]
-        self.dropped.update(new)
-        self.engine.cancel([self.futures[number] for number in new])
+        """Gives up tasks whose results are not wanted any more."""
+        for number in self.waiting.intersection(numbers):
+            self.futures[number].release()
+            self.waiting.remove(number)
 
     def __iter__(self) -> Iterator[tuple[int, Result]]:
         """The number of each task that ended, with its result."""
         numbers = {future.key: number for number, future in enumerate(self.futures)}
-        watch = WorkerWatch(self)
+        total = len(self.futures)
         try:
-            with self.engine.progress.bar(self.name, len(self.futures)) as ended, watch:
-                for future in as_completed(self.futures):  # type: ignore[no-untyped-call]
-                    ended()
-                    number = numbers[future.key]
-                    if number not in self.dropped:
-                        result = self.result_of(number, future, watch)
-                        log.info("%s: %s", self.labels[number], result)
+            with self.engine.progress.bar(self.name, total) as show:
+                while self.waiting:
+                    number = numbers[self.next_ended().key]
+                    if number in self.waiting:
+                        result = self.result_of(number)
+                        self.drop([number])
+                        show(total - len(self.waiting))
+                        log.info("%s (%d of %d)", self.labels[number], self.done, total)
                         yield number, result
-                        future.release()
         finally:
-            self.engine.cancel([future for future in self.futures if not future.done()])
+            self.drop(range(total))
 
-    def result_of(self, number: int, future: Any, watch: WorkerWatch) -> Any:
+    @property
+    def done(self) -> int:
+        return len(self.futures) - len(self.waiting)
+
+    def next_ended(self) -> Any:
+        """A task that ended."""
+        while True:
+            self.engine.watch.look()
+            try:
+                return self.ended.get(timeout=LOOK_EVERY)
+            except queue.Empty:
+                continue
+
+    def result_of(self, number: int) -> Any:
         try:
-            return future.result()
+            return self.fetched(self.futures[number])
         except JoinFault:
             raise
         except (CancelledError, CommClosedError) as cause:
-            raise JoinFault(watch.lost or "the scheduler was lost") from cause
+            raise JoinFault("the scheduler was lost") from cause
         except (
             Exception
         ) as cause:  # whatever a task raised at its last try, or that its workers died
@@ -118,34 +126,15 @@ class Tasks(Generic[Result]):
                 f"{self.labels[number]}: {type(cause).__name__}: {one_line(cause)}"
             ) from cause
 
-
-class WorkerWatch:
-    """Ends tasks that no worker is left for, which the engine alone would let wait for ever."""
-
-    def __init__(self, tasks: Tasks[Any]) -> None:
-        self.tasks = tasks
-        self.lost = ""
-        self.ended = threading.Event()
-        self.thread = threading.Thread(target=self.look, daemon=True)
-
-    def __enter__(self) -> WorkerWatch:
-        self.thread.start()
-        return self
-
-    def __exit__(self, *_: object) -> None:
-        self.ended.set()
-        self.thread.join()
-
-    def look(self) -> None:
-        engine = self.tasks.engine
-        since = time.monotonic()
-        while not self.ended.wait(LOOK_EVERY):
-            if engine.client.status == "running" and engine.workers():
-                since = time.monotonic()
-            elif time.monotonic() - since > engine.patience:
-                self.lost = f"no worker for {engine.patience:g} seconds"
-                engine.cancel(self.tasks.futures, force=True)
-                return
+    def fetched(self, future: Any) -> Any:
+        """The result of a task, which may have to be computed again where its worker is lost."""
+        while True:
+            try:
+                return future.result(timeout=LOOK_EVERY)
+            except TIMEOUTS:
+                if future.status == "error":
+                    raise
+            self.engine.watch.look()
 
 
 def one_line(cause: BaseException) -> str:

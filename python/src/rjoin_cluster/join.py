@@ -8,6 +8,7 @@ from typing import Any
 
 from rjoin_cluster.cluster import Needs, check_workers, connected
 from rjoin_cluster.engine import Engine
+from rjoin_cluster.faults import JoinFault
 from rjoin_cluster.inputs import find_inputs
 from rjoin_cluster.outputs import new_folder, new_report
 from rjoin_cluster.progress import Progress
@@ -18,25 +19,23 @@ from rjoin_cluster.steps import Steps
 def join(request: Request, progress: Progress) -> dict[str, Any]:
     """Writes the report, and answers the figures of the join."""
     started = time.perf_counter()
+    if request.place.dashboard and find_spec("bokeh") is None:
+        raise JoinFault("--dashboard: the Python module bokeh, which draws it, is not installed")
     request.program.check_words(request.relation)
     inputs = find_inputs(request.left, request.right)
     for file in inputs:
         file.check_not(request.report)
     with new_report(request.report) as report, new_folder(request.folder) as layout:
         version = request.program.version()
-        with connected(request.place, layout) as client:
+        with connected(request.place, layout) as watch:
+            if request.place.dashboard:
+                progress.tell(f"dashboard: {watch.client.dashboard_link}")
             files = tuple((file.path, file.bytes) for file in inputs)
-            check_workers(client, Needs(layout, request.program, version, files))
-            progress.say(f"dashboard: {client.dashboard_link}" if has_dashboard() else "")
-            engine = Engine(client, Path(layout.folder).name, progress, request.place.patience)
+            check_workers(watch, Needs(layout, request.program, version, files))
+            engine = Engine(watch.client, Path(layout.folder).name, progress, watch)
             figures = Steps(request, inputs, layout, engine).report_into(report)
             figures["workers"] = engine.workers()
         for file in inputs:
             file.check_unchanged()
     figures["seconds"]["all"] = round(time.perf_counter() - started, 3)
     return figures
-
-
-def has_dashboard() -> bool:
-    """The scheduler's dashboard is drawn by bokeh."""
-    return find_spec("bokeh") is not None

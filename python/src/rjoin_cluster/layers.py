@@ -28,13 +28,17 @@ class Layer:
 
     @property
     def firsts(self) -> Places:
-        """The number of each block's first feature."""
-        rows = self.rows_of_blocks
-        return np.cumsum(rows) - rows
+        """The number of each block's first feature, and how many features there are."""
+        return np.append(0, np.cumsum(self.rows_of_blocks))
 
     @property
     def rows(self) -> int:
         return int(self.rows_of_blocks.sum())
+
+    @property
+    def id_width(self) -> int:
+        """How wide a table of all ids is."""
+        return max((block.id_width for block in self.blocks), default=1)
 
     @property
     def sample(self) -> Sample:

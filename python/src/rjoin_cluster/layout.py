@@ -6,7 +6,7 @@ import uuid
 from contextlib import contextmanager
 from dataclasses import dataclass
 from pathlib import Path
-from typing import Any, BinaryIO, Iterator
+from typing import Any, BinaryIO, Iterator, Sequence
 
 import numpy as np
 from numpy.typing import NDArray
@@ -17,7 +17,7 @@ from rjoin_cluster.sides import Side
 @dataclass(frozen=True)
 class Layout:
     """The files of one join. Each is written once, as a whole: it gets its name when it is
-    complete.
+    complete. Those of features and pairs have rows alone, of which tasks read parts.
 
     A task that runs twice, because its worker was taken for dead, writes the same file twice.
     """
@@ -25,25 +25,22 @@ class Layout:
     folder: str
 
     def boxes(self, side: Side, block: int) -> Path:
-        return self.file(f"boxes-{side.value}-{block}.npy")
+        return self.file(f"boxes-{side.value}-{block}.rows")
 
     def ids(self, side: Side, block: int) -> Path:
-        return self.file(f"ids-{side.value}-{block}.npy")
+        return self.file(f"ids-{side.value}-{block}.rows")
 
     def hashes(self, side: Side, block: int) -> Path:
-        return self.file(f"hashes-{side.value}-{block}.npy")
+        return self.file(f"hashes-{side.value}-{block}.rows")
 
-    def hashed_rows(self, side: Side, block: int) -> Path:
-        return self.file(f"hashed-rows-{side.value}-{block}.npy")
-
-    def pieces(self, side: Side, block: int) -> Path:
-        return self.file(f"pieces-{side.value}-{block}.npy")
+    def pieces(self, side: Side, group: int) -> Path:
+        return self.file(f"pieces-{side.value}-{group}.rows")
 
     def piece_ends(self, side: Side) -> Path:
         return self.file(f"piece-ends-{side.value}.npy")
 
     def firsts(self, side: Side) -> Path:
-        """The number of each block's first feature."""
+        """The number of each block's first feature, and how many features there are."""
         return self.file(f"firsts-{side.value}.npy")
 
     def tiles(self) -> Path:
@@ -59,6 +56,7 @@ class Layout:
         return self.file("part-places.npy")
 
     def run_sizes(self) -> Path:
+        """How many pairs each run has."""
         return self.file("run-sizes.npy")
 
     def report_part(self, part: int) -> Path:
@@ -71,12 +69,17 @@ class Layout:
         return Path(self.folder, name)
 
 
+def private(path: str, flags: int) -> int:
+    """Opens a file for the user of the join alone."""
+    return os.open(path, flags, 0o600)
+
+
 @contextmanager
 def new_file(path: Path) -> Iterator[BinaryIO]:
     """A file that gets its name when it is complete, and vanishes where it cannot be."""
     part = unfinished(path)
     try:
-        with open(part, "wb") as file:
+        with open(part, "xb", opener=private) as file:
             yield file
         os.replace(part, path)
     except BaseException:
@@ -107,9 +110,43 @@ def mapped(path: Path) -> NDArray[Any]:
     return array
 
 
-def mapped_rows(path: Path, row: np.dtype[Any]) -> NDArray[Any]:
-    """The same, of a file that has rows alone."""
-    return np.memmap(path, dtype=row, mode="r")
+class RowsFile:
+    """A file of rows, read by one call of the system for each part: a map would cost more where the
+    parts are short.
+    """
+
+    def __init__(self, path: Path) -> None:
+        self.path = path
+
+    def __enter__(self) -> RowsFile:
+        self.number = os.open(self.path, os.O_RDONLY)
+        return self
+
+    def __exit__(self, *_: object) -> None:
+        os.close(self.number)
+
+    def fill(self, rows: NDArray[Any], begin: int) -> None:
+        """Fills the rows, which lie side by side, with the bytes from this place on."""
+        rest: memoryview = np.ndarray(rows.nbytes, np.uint8, rows).data
+        while rest:
+            count = os.preadv(self.number, [rest], begin)
+            if count == 0:
+                raise OSError(f"{self.path} is shorter than it was")
+            rest, begin = rest[count:], begin + count
+
+
+def save_rows(path: Path, arrays: Sequence[NDArray[Any]]) -> None:
+    """Writes the bytes of arrays, one behind the other."""
+    with new_file(path) as file:
+        for array in arrays:
+            file.write(np.ascontiguousarray(array).data)
+
+
+def load_rows(path: Path, rows: NDArray[Any], first: int = 0) -> None:
+    """Fills the rows with those of a file from the first one on."""
+    if rows.size:
+        with RowsFile(path) as file:
+            file.fill(rows, first * (rows.nbytes // len(rows)))
 
 
 def unfinished(path: Path) -> Path:

@@ -3,11 +3,11 @@ from __future__ import annotations
 
 import os
 import shutil
-import tempfile
 import time
+import uuid
 from contextlib import contextmanager, suppress
 from pathlib import Path
-from typing import BinaryIO, Iterator
+from typing import BinaryIO, Iterator, Optional
 
 from rjoin_cluster.faults import JoinFault
 from rjoin_cluster.layout import Layout, unfinished
@@ -19,38 +19,50 @@ CLEANING_PAUSE = 0.25
 class Report:
     """A file that is to become the report."""
 
-    def __init__(self, path: str, part: Path) -> None:
+    def __init__(self, path: str) -> None:
         self.path = path
-        self.part = part
-        with told_of(path):
-            self.file: BinaryIO = open(part, "xb")
+        self.target = Path(os.path.realpath(path))
+        self.part = unfinished(self.target.with_name(f".{self.target.name}"))
+        self.file: Optional[BinaryIO] = None
+
+    def open(self) -> None:
+        with told_of(self.path):
+            self.file = open(self.part, "xb")
 
     def write(self, text: bytes) -> None:
-        with told_of(self.path):
-            self.file.write(text)
+        if self.file is not None:
+            with told_of(self.path):
+                self.file.write(text)
 
     def finish(self) -> None:
         """Gives the file the report's name."""
-        with told_of(self.path):
-            self.file.flush()
-            os.fsync(self.file.fileno())
-            os.replace(self.part, self.path)
+        if self.file is not None:
+            with told_of(self.path):
+                self.file.flush()
+                os.fsync(self.file.fileno())
+                os.replace(self.part, self.target)
 
     def remove(self) -> None:
         """Takes away what has not got the name."""
-        with suppress(OSError):  # of bytes that could not be written before
-            self.file.close()
-        self.part.unlink(missing_ok=True)
+        if self.file is not None:
+            with suppress(OSError):  # of bytes that could not be written before
+                self.file.close()
+        with suppress(OSError):
+            self.part.unlink()
 
 
 @contextmanager
 def new_report(path: str) -> Iterator[Report]:
-    """A report that appears where the join succeeds, and leaves nothing where it doesn't."""
-    target = Path(path)
-    if target.exists() and not target.is_file():
+    """A report that appears where the join succeeds, and leaves nothing where it doesn't. Where the
+    path is a link, the report is what it leads to.
+    """
+    if os.path.islink(path) and not os.path.exists(path):
+        raise JoinFault(f"{path}: a link that leads nowhere")
+    if os.path.exists(path) and not os.path.isfile(path):
         raise JoinFault(f"{path}: not a regular file")
-    report = Report(path, unfinished(target.with_name(f".{target.name}")))
+    report = Report(path)
     try:
+        report.open()
         yield report
         report.finish()
     finally:
@@ -68,20 +80,14 @@ def told_of(path: str) -> Iterator[None]:
 
 @contextmanager
 def new_folder(shared: str) -> Iterator[Layout]:
-    """A folder of this join alone in the one that all workers share."""
-    with told_of(shared):
-        folder = tempfile.mkdtemp(prefix="rjoin-cluster-", dir=shared)
+    """A folder of this join alone in the one that all workers share, for its user alone."""
+    folder = os.path.join(os.path.abspath(shared), f"rjoin-cluster-{uuid.uuid4().hex}")
     try:
-        os.chmod(folder, 0o777 & ~current_umask())
-        yield Layout(os.path.abspath(folder))
+        with told_of(shared):
+            os.mkdir(folder, 0o700)
+        yield Layout(folder)
     finally:
         remove_folder(folder)
-
-
-def current_umask() -> int:
-    umask = os.umask(0)
-    os.umask(umask)
-    return umask
 
 
 def remove_folder(folder: str) -> None:

@@ -6,8 +6,10 @@ import re
 import shutil
 import subprocess
 import tempfile
+import threading
+from contextlib import contextmanager
 from dataclasses import dataclass
-from typing import IO, Optional, Sequence, Union
+from typing import IO, Iterator, Optional, Sequence, Union
 
 import numpy as np
 
@@ -53,6 +55,63 @@ class Ended:
     status: int
     output: Bytes
     errors: str
+
+
+class Runs:
+    """The runs of this process, which end with the join that they are of."""
+
+    def __init__(self) -> None:
+        self.lock = threading.Lock()
+        self.processes: set[subprocess.Popen[bytes]] = set()
+        self.ending = False
+
+    def status_of(
+        self, command: Sequence[str], files: Sequence[int], output: IO[bytes], errors: IO[bytes]
+    ) -> int:
+        """Runs a command with these files open. Signals of the terminal are for the join, and not
+        for its runs.
+        """
+        with self.lock:
+            if self.ending:
+                raise RunFailed("the join has ended")
+            process = subprocess.Popen(
+                command,
+                stdin=subprocess.DEVNULL,
+                stdout=output,
+                stderr=errors,
+                pass_fds=files,
+                env=environment(),
+                start_new_session=True,
+            )
+            self.processes.add(process)
+        try:
+            return process.wait()
+        finally:
+            with self.lock:
+                self.processes.remove(process)
+
+    def end(self) -> None:
+        with self.lock:
+            self.ending = True
+            for process in self.processes:
+                process.kill()
+
+    def allow(self) -> None:
+        with self.lock:
+            self.ending = False
+
+
+RUNS = Runs()
+
+
+@contextmanager
+def ended_runs() -> Iterator[None]:
+    """Ends the runs of this process; meanwhile none begins."""
+    RUNS.end()
+    try:
+        yield
+    finally:
+        RUNS.allow()
 
 
 def find_program(path: Optional[str]) -> str:
@@ -115,15 +174,7 @@ class Program:
         numbers = [file.fileno() for file in files]
         command = [self.path, words[0], *(f"/dev/fd/{number}" for number in numbers), *words[1:]]
         with tempfile.TemporaryFile() as output, tempfile.TemporaryFile() as errors:
-            status = subprocess.run(
-                command,
-                stdin=subprocess.DEVNULL,
-                stdout=output,
-                stderr=errors,
-                check=False,
-                pass_fds=numbers,
-                env=environment(),
-            ).returncode
+            status = RUNS.status_of(command, numbers, output, errors)
             errors.seek(0)
             return Ended(status, contents(output), errors.read().decode(errors="replace"))
 

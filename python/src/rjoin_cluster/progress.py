@@ -14,23 +14,20 @@ class Progress:
     def __init__(self, shown: bool) -> None:
         self.shown = shown
 
-    def say(self, text: str) -> None:
-        if self.shown and text:
-            sys.stderr.write(f"{text}\n")
+    def tell(self, text: str) -> None:
+        """Writes a line, whether or not bars are shown."""
+        sys.stderr.write(f"{text}\n")
 
     @contextmanager
-    def bar(self, name: str, total: int) -> Iterator[Callable[[], None]]:
-        """Gives what is to be called for each task that ended."""
-        done = 0
+    def bar(self, name: str, total: int) -> Iterator[Callable[[int], None]]:
+        """Gives what shows how many tasks have ended."""
 
-        def ended() -> None:
-            nonlocal done
-            done += 1
+        def show(done: int) -> None:
             self.draw(name, done, total)
 
-        self.draw(name, done, total)
+        show(0)
         try:
-            yield ended
+            yield show
         finally:
             if self.shown:
                 sys.stderr.write("\n")

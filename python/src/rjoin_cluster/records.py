@@ -84,12 +84,6 @@ def line_ends(part: Bytes) -> Places:
     return np.flatnonzero((part == RETURN) | (part == FEED))
 
 
-def most_record_ends(part: Bytes) -> int:
-    """As many as the part's control characters, among which both line ends are."""
-    windows = (part[begin:begin + WINDOW] for begin in range(0, part.size, WINDOW))
-    return sum(int(np.count_nonzero(window <= RETURN)) for window in windows)
-
-
 def opening(runs: QuoteRuns, start: State) -> Flags:
     """Whether the first quote of each run opens a field, where the run stands outside quotes."""
     opens = runs.opens.copy()

@@ -1,23 +1,37 @@
 """What a join is asked for."""
 from __future__ import annotations
 
+import argparse
+import os
 from dataclasses import dataclass
 from typing import Optional
 
-from rjoin_cluster.program import Program
+from rjoin_cluster.faults import JoinFault
+from rjoin_cluster.inputs import not_in_blocks
+from rjoin_cluster.program import Program, find_program
+from rjoin_cluster.sides import Side
 
-BLOCK_BYTES = 32 * 2**20
+
+@dataclass(frozen=True)
+class Certificates:
+    """The files by which a cluster and its users know each other, as TLS has them."""
+
+    authority: Optional[str]
+    certificate: Optional[str]
+    key: Optional[str]
 
 
 @dataclass(frozen=True)
 class Place:
-    """Where the tasks run: at the scheduler of this address, or in so many processes of this
-    machine.
+    """Where the tasks run: at the scheduler of this address, or in so many threads of the command
+    itself.
     """
 
     scheduler: Optional[str]
     workers: int
-    patience: float  # seconds to wait for a scheduler, and for workers
+    patience: float  # seconds to wait for a scheduler and for workers, and for a sign of life
+    certificates: Optional[Certificates] = None
+    dashboard: bool = False  # dask's, on this machine's loopback address
 
 
 @dataclass(frozen=True)
@@ -31,5 +45,46 @@ class Request:
     program: Program
     place: Place
     folder: str  # that all workers share
-    tiles: Optional[int] = None  # at least so many, as far as the data can be cut
-    block_bytes: int = BLOCK_BYTES
+    tiles: Optional[int]  # at least so many, as far as the data can be cut
+    block_bytes: int
+
+
+def request_of(words: argparse.Namespace) -> Request:
+    return Request(
+        layer_path(Side.LEFT, words.left),
+        layer_path(Side.RIGHT, words.right),
+        words.relation,
+        words.out,
+        Program(find_program(words.program), words.scale),
+        place_of(words),
+        words.folder or os.path.dirname(os.path.abspath(words.out)),
+        words.tiles,
+        words.block,
+    )
+
+
+def layer_path(side: Side, word: str) -> str:
+    """The path by which every worker finds a layer; standard input belongs to the command alone."""
+    if word == "-":
+        raise not_in_blocks(side)
+    return os.path.abspath(word)
+
+
+def place_of(words: argparse.Namespace) -> Place:
+    certificates = None
+    if words.tls_ca_file or words.tls_cert or words.tls_key:
+        files = (words.tls_ca_file, words.tls_cert, words.tls_key)
+        certificates = Certificates(*map(file_of, files))
+        if not (words.scheduler or "").startswith("tls://"):
+            raise JoinFault("--tls-ca-file, --tls-cert and --tls-key are for a scheduler at tls://")
+    return Place(words.scheduler, words.workers, words.patience, certificates, words.dashboard)
+
+
+def file_of(word: Optional[str]) -> Optional[str]:
+    """A file of TLS, which can be opened."""
+    if word is not None:
+        try:
+            os.close(os.open(word, os.O_RDONLY))
+        except OSError as cause:
+            raise JoinFault(f"{word}: cannot be opened: {cause.strerror}") from cause
+    return word

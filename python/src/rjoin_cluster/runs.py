@@ -19,7 +19,7 @@ import numpy as np
 from numpy.typing import NDArray
 
 from rjoin_cluster.answers import Boxes
-from rjoin_cluster.digits import digits_in, read_back, written, written_signed
+from rjoin_cluster.digits import Texts, digits_in, numbers_before, put, written
 from rjoin_cluster.faults import RunFailed
 from rjoin_cluster.layout import Layout, new_file
 from rjoin_cluster.pieces import Piece, Range, load_piece
@@ -31,9 +31,9 @@ from rjoin_cluster.tiles import Region
 REPORT_HEADER = b"left,right,matrix\n"
 MATRIX = 9
 KEY_STEP = 256
-ROWS_AT_ONCE = 2**20
+ROWS_AT_ONCE = 2**13  # which stay in the processor's cache
 
-log = logging.getLogger("rjoin_cluster")
+log = logging.getLogger(__name__)
 
 
 @dataclass(frozen=True)
@@ -43,10 +43,8 @@ class Numerals:
     digits: int
     signed: bool
 
-    def of(self, numbers: Places) -> Bytes:
-        return (
-            written_signed(numbers, self.digits) if self.signed else written(numbers, self.digits)
-        )
+    def of(self, numbers: Places) -> Texts:
+        return written(numbers, self.digits, self.signed)
 
     @property
     def width(self) -> int:
@@ -88,6 +86,7 @@ class RunJob:
     left: Range
     right: Range
     right_features: int  # of the whole layer
+    id_width: int  # of its ids
 
     def __str__(self) -> str:
         return f"tile {self.tile}, run {self.number}"
@@ -95,12 +94,9 @@ class RunJob:
 
 @dataclass(frozen=True)
 class RunDone:
-    """What a run came to: its pairs, how wide the ids of their right features are, and the rank of
-    each 256th of them from the first on.
-    """
+    """What a run came to: its pairs, and the rank of each 256th of them from the first on."""
 
     pairs: int
-    id_width: int
     keys: Places
     seconds: float
 
@@ -109,14 +105,14 @@ def pair_type(id_width: int) -> np.dtype[Any]:
     """A pair by its rank, which is its place among all pairs of a left and a right feature in the
     order of a report.
     """
-    return np.dtype([("rank", "<i8"), ("matrix", f"S{MATRIX}"), ("right", "u1", (id_width,))])
+    return np.dtype([("rank", "<i8"), ("matrix", f"V{MATRIX}"), ("right", f"V{id_width}")])
 
 
 def join_tile(job: RunJob) -> RunDone:
     """Joins a tile and keeps the pairs that are its own, in order."""
     started = time.perf_counter()
-    left = load_piece(job.layout, Side.LEFT, job.tile, job.left)
-    right = load_piece(job.layout, Side.RIGHT, job.tile, job.right)
+    left = load_piece(job.layout, Side.LEFT, job.tile, job.left, 0)
+    right = load_piece(job.layout, Side.RIGHT, job.tile, job.right, job.id_width)
     report = job.program.join(
         layer_of(left, job.numerals), layer_of(right, job.numerals), job.relation
     )
@@ -130,7 +126,7 @@ def join_tile(job: RunJob) -> RunDone:
         pairs,
         seconds,
     )
-    return RunDone(pairs, right.ids.shape[1], keys, seconds)
+    return RunDone(pairs, keys, seconds)
 
 
 def keep_pairs(job: RunJob, parts: Iterator[NDArray[np.void]]) -> tuple[int, Places]:
@@ -153,19 +149,27 @@ def layer_text(boxes: Boxes, numerals: Numerals) -> Bytes:
     """The rows of a layer of these boxes; shorter texts are filled up with blanks, which a geometry
     may have.
     """
-    id_digits = written(np.arange(len(boxes)), digits_in(len(boxes)))
-    flat = (boxes[:, 0] == boxes[:, 2]).astype(np.int64) + (boxes[:, 1] == boxes[:, 3])
-    longest = template_of(RECTANGLE, "0" * id_digits.shape[1], "0" * numerals.width)
+    ids = digits_in(len(boxes))
+    longest = template_of(RECTANGLE, "0" * ids, "0" * numerals.width)
     text = np.empty((len(boxes), len(longest)), dtype=np.uint8)
+    for begin in range(0, len(boxes), ROWS_AT_ONCE):
+        some = slice(begin, begin + ROWS_AT_ONCE)
+        numbers = np.arange(begin, begin + len(boxes[some]))
+        write_rows(text[some], written(numbers, ids), boxes[some], numerals)
+    return text.reshape(-1)
+
+
+def write_rows(text: Bytes, names: Texts, boxes: Boxes, numerals: Numerals) -> None:
+    """Writes rows of all forms."""
+    flat = (boxes[:, 0] == boxes[:, 2]).astype(np.int64) + (boxes[:, 1] == boxes[:, 3])
     for form, dimensions_lost in ((RECTANGLE, 0), (SEGMENT, 1), (POINT, 2)):
         rows = np.flatnonzero(flat == dimensions_lost)
         if rows.size == len(boxes):
-            fill(text, form, id_digits, boxes, numerals)
+            fill(text, form, names, boxes, numerals)
         elif rows.size:
-            part = np.empty((rows.size, len(longest)), dtype=np.uint8)
-            fill(part, form, id_digits[rows], boxes[rows], numerals)
+            part = np.empty((rows.size, text.shape[1]), dtype=np.uint8)
+            fill(part, form, names[rows], boxes[rows], numerals)
             text[rows] = part
-    return text.reshape(-1)
 
 
 def template_of(form: Form, name: str, number: str) -> bytes:
@@ -173,18 +177,18 @@ def template_of(form: Form, name: str, number: str) -> bytes:
     return f'{name},"{form.begin}{points}{form.end}"\n'.encode()
 
 
-def fill(text: Bytes, form: Form, id_digits: Bytes, boxes: Boxes, numerals: Numerals) -> None:
+def fill(text: Bytes, form: Form, names: Texts, boxes: Boxes, numerals: Numerals) -> None:
     """Writes rows of one form."""
-    ids = id_digits.shape[1]
+    ids = names.dtype.itemsize
     template = template_of(form, "0" * ids, "0" * numerals.width)
     blanks = text.shape[1] - len(template)
     text[:] = np.frombuffer(template[:-2] + b" " * blanks + template[-2:], dtype=np.uint8)
-    text[:, :ids] = id_digits
+    put(text, 0, names)
     corners = [numerals.of(np.ascontiguousarray(boxes[:, corner])) for corner in range(4)]
     at = ids + len(f',"{form.begin}')
     for point in form.points:
         for corner in point:
-            text[:, at:at + numerals.width] = corners[corner]
+            put(text, at, corners[corner])
             at += numerals.width + 1
 
 
@@ -192,38 +196,47 @@ def own_pairs(
     job: RunJob, left: Piece, right: Piece, report: Bytes
 ) -> Iterator[NDArray[np.void]]:
     """The pairs of a report whose reference point lies in the tile, some at a time."""
-    widths = digits_in(len(left.boxes)), digits_in(len(right.boxes))
-    rows = rows_of(report, sum(widths) + MATRIX + 3)
-    lows = [(left.column(axis), right.column(axis)) for axis in (0, 1)]
-    for begin in range(0, len(rows), ROWS_AT_ONCE):
-        part = rows[begin:begin + ROWS_AT_ONCE]
-        ones = read_back(part[:, : widths[0]])
-        others = read_back(part[:, widths[0] + 1:widths[0] + 1 + widths[1]])
-        x, y = (np.maximum(one.take(ones), other.take(others)) for one, other in lows)
+    rows = ReportRows(report, digits_in(len(left.boxes)), digits_in(len(right.boxes)))
+    corners = [(left.boxes[:, axis].copy(), right.boxes[:, axis].copy()) for axis in (0, 1)]
+    for begin in range(0, rows.count, ROWS_AT_ONCE):
+        ones, others, matrices = rows.some(begin, min(begin + ROWS_AT_ONCE, rows.count))
+        x, y = (np.maximum(one.take(ones), other.take(others)) for one, other in corners)
         own = np.flatnonzero(job.region.holds(x, y))
-        pairs = pairs_of(job, left, right, ones.take(own), others.take(own))
-        pairs["matrix"] = matrices_of(part).take(own)
+        ones, others = ones.take(own), others.take(own)
+        pairs = np.empty(own.size, dtype=pair_type(job.id_width))
+        pairs["rank"] = left.numbers.take(ones) * job.right_features + right.numbers.take(others)
+        pairs["matrix"] = matrices.take(own)
+        if right.ids is not None:
+            pairs["right"] = right.ids.take(others)
         yield pairs
 
 
-def pairs_of(
-    job: RunJob, left: Piece, right: Piece, ones: Places, others: Places
-) -> NDArray[np.void]:
-    """The pairs of features that have these places in the run, without their matrices."""
-    pairs = np.empty(ones.size, dtype=pair_type(right.ids.shape[1]))
-    pairs["rank"] = left.numbers.take(ones) * job.right_features + right.numbers.take(others)
-    pairs["right"] = right.ids.take(others, axis=0)
-    return pairs
+class ReportRows:
+    """The rows of a report below its header, whose ids are numbers of so many digits."""
 
+    def __init__(self, report: Bytes, left_digits: int, right_digits: int) -> None:
+        self.report = report
+        self.left_digits = left_digits
+        self.right_digits = right_digits
+        self.width = left_digits + right_digits + MATRIX + 3
+        self.count, more = divmod(report.size - len(REPORT_HEADER), self.width)
+        if bytes(report[: len(REPORT_HEADER)]) != REPORT_HEADER or more:
+            raise RunFailed("rjoin join: a report of another form than expected")
 
-def matrices_of(rows: Bytes) -> NDArray[np.bytes_]:
-    matrices = np.ascontiguousarray(rows[:, -MATRIX - 1:-1])
-    return matrices.reshape(-1).view(f"S{MATRIX}")
+    def some(self, begin: int, end: int) -> tuple[Places, Places, NDArray[np.void]]:
+        """The left and right numbers and the matrices of these rows."""
+        behind_left = self.places(begin, end, self.left_digits)
+        behind_right = self.places(begin, end, self.left_digits + 1 + self.right_digits)
+        matrices: Texts = np.ndarray(
+            end - begin, f"V{MATRIX}", self.report, behind_right.start + 1, (self.width,)
+        )
+        return (
+            numbers_before(self.report, behind_left, self.left_digits),
+            numbers_before(self.report, behind_right, self.right_digits),
+            matrices,
+        )
 
-
-def rows_of(report: Bytes, width: int) -> Bytes:
-    """The rows of a report below its header, all of which are this wide."""
-    body = report[len(REPORT_HEADER):]
-    if bytes(report[: len(REPORT_HEADER)]) != REPORT_HEADER or body.size % width:
-        raise RunFailed("rjoin join: a report of another form than expected")
-    return body.reshape(-1, width)
+    def places(self, begin: int, end: int, column: int) -> range:
+        """Where this column of the rows lies in the report."""
+        first = len(REPORT_HEADER) + column
+        return range(first + begin * self.width, first + end * self.width, self.width)

@@ -15,13 +15,13 @@ from rjoin_cluster.blocks import (
 from rjoin_cluster.doubles import DoublesJob, first_double
 from rjoin_cluster.engine import Engine
 from rjoin_cluster.faults import JoinFault, ProgramFault
-from rjoin_cluster.ids import BUCKETS
+from rjoin_cluster.ids import SHARES
 from rjoin_cluster.inputs import Input
 from rjoin_cluster.layers import Layer, Layers
 from rjoin_cluster.layout import Layout, save_array
 from rjoin_cluster.merge import PartJob, plan_parts, write_part
 from rjoin_cluster.outputs import Report
-from rjoin_cluster.pieces import DealJob, Range, deal_block, save_ends
+from rjoin_cluster.pieces import DealJob, Range, deal_blocks, save_ends
 from rjoin_cluster.program import RowFault
 from rjoin_cluster.records import Places, block_begins
 from rjoin_cluster.request import Request
@@ -34,7 +34,10 @@ LEAST_TILE_FEATURES = 200_000
 TILES_PER_WORKER = 4
 SAMPLE_BOXES = 200_000
 SAMPLE_PER_TILE = 500
-HASHES_PER_TASK = 1_000_000
+HASHES_PER_TASK = 4_000_000
+MOST_GROUPS = 400
+GROUP_FEATURES = 3_000_000
+GROUPS_PER_WORKER = 2
 MOST_RANK = 2**63 - 1
 COPY_BYTES = 2**24
 
@@ -142,8 +145,8 @@ class Steps:
 
     def doubles_jobs(self, layer: Layer) -> list[DoublesJob]:
         save_array(self.layout.firsts(layer.side), layer.firsts)
-        blocks, parts = len(layer.blocks), min(BUCKETS, 1 + layer.rows // HASHES_PER_TASK)
-        return [DoublesJob(self.layout, layer.side, blocks, part, parts) for part in range(parts)]
+        parts = min(SHARES, 1 + layer.rows // HASHES_PER_TASK)
+        return [DoublesJob(self.layout, layer.side, part, parts) for part in range(parts)]
 
     def make_tiles(self, layers: Layers) -> Tiles:
         with self.engine.phase("tiles"):
@@ -160,11 +163,22 @@ class Steps:
 
     def deal(self, layer: Layer) -> Places:
         """Deals all features of a side, and answers how many each tile got."""
+        blocks, id_width = len(layer.blocks), layer.id_width if layer.side is Side.RIGHT else 0
+        groups = ranges(blocks, self.blocks_of_group(layer))
         jobs = [
-            DealJob(self.layout, layer.side, block, first)
-            for block, first in enumerate(layer.firsts.tolist())
+            DealJob(self.layout, layer.side, number, group.begin, group.end, id_width)
+            for number, group in enumerate(groups)
         ]
-        return save_ends(self.layout, layer.side, self.engine.all("dealing", deal_block, jobs))
+        return save_ends(self.layout, layer.side, self.engine.all("dealing", deal_blocks, jobs))
+
+    def blocks_of_group(self, layer: Layer) -> int:
+        """How many blocks are dealt together, as far as a worker's memory takes them. Each run
+        reads of each group, so that there should be few, but enough for some workers.
+        """
+        blocks = len(layer.blocks)
+        share = blocks // (GROUPS_PER_WORKER * max(1, self.engine.workers()))
+        fitting = GROUP_FEATURES * blocks // max(1, layer.rows)
+        return max(1, min(max(1 + blocks // MOST_GROUPS, share), fitting))
 
     def join_tiles(self, layers: Layers, tiles: Tiles, dealt: dict[Side, Places]) -> list[RunDone]:
         """Joins each tile in one run, or each part of its left list with each of its right one."""
@@ -175,21 +189,21 @@ class Steps:
             for ones in ranges(int(dealt[Side.LEFT][tile]), most)
             for others in ranges(int(dealt[Side.RIGHT][tile]), most)
         ]
-        regions, numerals, rows = tiles.regions(), layers.numerals, layers.right.rows
-        program, relation = self.request.program, self.request.relation
+        program, relation, regions = self.request.program, self.request.relation, tiles.regions()
+        same = (self.layout, program, relation, layers.numerals)
+        right = (layers.right.rows, layers.right.id_width)
         jobs = [
-            RunJob(
-                self.layout, program, relation, numerals, n, tile, regions[tile], ones, others, rows
-            )
-            for n, (tile, ones, others) in enumerate(parts)
+            RunJob(*same, number, tile, regions[tile], ones, others, *right)
+            for number, (tile, ones, others) in enumerate(parts)
         ]
         return self.engine.all("joining", join_tile, jobs)
 
     def merge(self, layers: Layers, runs: Sequence[RunDone], report: Report) -> int:
         """Writes the report, and answers how many bytes it has."""
         with self.engine.phase("merging"):
-            count = plan_parts(self.layout, runs)
-        jobs = [PartJob(self.layout, part, layers.right.rows) for part in range(count)]
+            count = plan_parts(self.layout, runs, self.engine.workers())
+        right = layers.right
+        jobs = [PartJob(self.layout, part, right.rows, right.id_width) for part in range(count)]
         sizes = self.engine.all("merging", write_part, jobs)
         with self.engine.phase("writing"):
             report.write(REPORT_HEADER)

@@ -11,6 +11,7 @@ Words = NDArray[np.uint64]
 WORD = 8
 KEEPS_FIRST = np.array([(1 << 8 * count) - 1 for count in range(WORD + 1)], dtype=np.uint64)
 KEEPS_LAST = ~KEEPS_FIRST[::-1]
+FILLS_BEHIND = ~KEEPS_FIRST
 
 
 def words_at(text: Bytes, places: Places) -> Words:
@@ -19,9 +20,9 @@ def words_at(text: Bytes, places: Places) -> Words:
     return overlapping[places]
 
 
-def first_bytes(words: Words, counts: Places) -> Words:
-    """The words with zeros for all but so many of their first bytes: none below 0, all above 8."""
-    return words & KEEPS_FIRST.take(counts, mode="clip")
+def filled_behind(words: Words, counts: Places) -> Words:
+    """The words with 255 for all but so many of their first bytes: none below 0, all above 8."""
+    return words | FILLS_BEHIND.take(counts, mode="clip")
 
 
 def last_bytes(words: Words, counts: Places) -> Words:

@@ -51,8 +51,6 @@ const ABSENT: &[&str] = &["0", "bb", "d", "b1"];
 
 const ONCE_MORE: &[Insertion] = &[("aa", 2, Ok(())), ("a", 5, Ok(())), ("c0", 7, Ok(()))];
 
-const INTO_FULL: &[Insertion] = &[("new", 0, Err(LayerFault::LayerFull))];
-
 const THREE: &[Insertion] = &[("a", 0, Ok(())), ("b", 1, Ok(())), ("c", 2, Ok(()))];
 
 const AGAIN: &[Insertion] = &[("a", 9, Ok(()))];
@@ -62,14 +60,24 @@ const LISTED: &[(&str, u32)] = &[("b", 1), ("c", 2), ("a", 3)];
 const EDITS: &[u8] = b"op,layer,id,wkt\r\ninsert,left,a,POINT (1 2)\r\n\
       insert,right,b,\"LINESTRING (0 0, 0 3)\"\r\ndelete,left,a,\r\n";
 
-/// Makes insertions, and says whether each is answered so.
-fn inserts(layer: &mut Layer, points: &[Insertion]) -> Result<bool, Fail> {
+/// Makes insertions, and says whether each is answered so, and changes nothing where it is refused.
+fn inserts(alloc: Global, layer: &mut Layer, points: &[Insertion]) -> Result<bool, Fail> {
     for (id, x, answer) in points {
-        if layer.insert(id, point(*x, *x)?) != *answer {
+        let before = state(alloc, layer)?;
+        let is_so = layer.insert(id, point(*x, *x)?) == *answer;
+        let is_same = state(alloc, layer)?.as_str() == before.as_str();
+        if !is_so || is_same != answer.is_err() {
             return Ok(false);
         }
     }
     Ok(true)
+}
+
+/// Whether no feature has this id, for a removal, which changes nothing.
+fn removes_none(alloc: Global, layer: &mut Layer, id: &str) -> Result<bool, Fail> {
+    let before = state(alloc, layer)?;
+    let is_refused = layer.remove(id) == Err(LayerFault::NoSuchId);
+    Ok(is_refused && state(alloc, layer)?.as_str() == before.as_str())
 }
 
 /// Removes the feature with this id, and says whether this shape is answered.
@@ -78,14 +86,14 @@ fn removes(layer: &mut Layer, id: &str, shape: Shape) -> bool {
 }
 
 /// Whether an empty layer takes the row's insertions, and then refuses a removal.
-fn takes_row(layer: &mut Layer) -> Result<bool, Fail> {
-    let inserted = inserts(layer, ROW)? && finds(layer, "a", 0, point(0, 0)?);
-    Ok(inserted && layer.remove("q") == Err(LayerFault::NoSuchId) && layer.len() == 2)
+fn takes_row(alloc: Global, layer: &mut Layer) -> Result<bool, Fail> {
+    let inserted = inserts(alloc, layer, ROW)? && finds(layer, "a", 0, point(0, 0)?);
+    Ok(inserted && removes_none(alloc, layer, "q")? && layer.len() == 2)
 }
 
 #[test]
 fn layer_edits(rt: HostRuntime) -> Result<(), Fail> {
-    assert!(rt; on_empty(&rt, takes_row)?);
+    assert!(rt; on_empty(&rt, |layer| takes_row(rt.alloc(), layer))?);
     Ok(())
 }
 
@@ -98,16 +106,16 @@ fn id_texts(rt: HostRuntime) -> Result<(), Fail> {
 }
 
 /// Whether an empty layer takes ids of many lengths, finds them, and loses but the one removed.
-fn takes_many_lengths(layer: &mut Layer) -> Result<bool, Fail> {
+fn takes_many_lengths(alloc: Global, layer: &mut Layer) -> Result<bool, Fail> {
     let (short, longer) = (point(1, 1)?, point(2, 2)?);
-    let inserted = inserts(layer, OF_MANY_LENGTHS)? && finds(layer, SHORT, 1, short);
+    let inserted = inserts(alloc, layer, OF_MANY_LENGTHS)? && finds(layer, SHORT, 1, short);
     let removed = finds(layer, LONGER, 2, longer) && removes(layer, LONGER, longer);
     Ok(inserted && removed && layer.find(LONGER).is_none() && finds(layer, SHORT, 1, short))
 }
 
 #[test]
 fn ids_of_many_lengths(rt: HostRuntime) -> Result<(), Fail> {
-    assert!(rt; on_empty(&rt, takes_many_lengths)?);
+    assert!(rt; on_empty(&rt, |layer| takes_many_lengths(rt.alloc(), layer))?);
     Ok(())
 }
 
@@ -117,34 +125,31 @@ fn finds_none(layer: &Layer, ids: &[&str]) -> bool {
 }
 
 /// Whether an empty layer takes ids in any order, finds them, and none beside them.
-fn takes_any_order(layer: &mut Layer) -> Result<bool, Fail> {
-    let listed = inserts(layer, IN_ANY_ORDER)? && finds(layer, "ab", 3, point(3, 3)?);
+fn takes_any_order(alloc: Global, layer: &mut Layer) -> Result<bool, Fail> {
+    let listed = inserts(alloc, layer, IN_ANY_ORDER)? && finds(layer, "ab", 3, point(3, 3)?);
     let others = finds(layer, "a", 4, point(5, 5)?) && finds(layer, "b0", 5, point(6, 6)?);
     Ok(listed && others && finds_none(layer, ABSENT))
 }
 
 /// Whether it loses an id of each kind, and takes both again.
-fn takes_any_order_again(layer: &mut Layer) -> Result<bool, Fail> {
-    let first = takes_any_order(layer)?;
+fn takes_any_order_again(alloc: Global, layer: &mut Layer) -> Result<bool, Fail> {
+    let first = takes_any_order(alloc, layer)?;
     let removed = removes(layer, "aa", point(2, 2)?) && removes(layer, "a", point(5, 5)?);
     let are_gone = layer.find("aa").is_none() && layer.find("a").is_none();
-    let again = inserts(layer, ONCE_MORE)? && finds(layer, "aa", 6, point(2, 2)?);
+    let again = inserts(alloc, layer, ONCE_MORE)? && finds(layer, "aa", 6, point(2, 2)?);
     Ok(first && removed && are_gone && again && finds(layer, "a", 7, point(5, 5)?))
 }
 
 #[test]
 fn ids_in_any_order(rt: HostRuntime) -> Result<(), Fail> {
-    assert!(rt; on_empty(&rt, takes_any_order_again)?);
+    assert!(rt; on_empty(&rt, |layer| takes_any_order_again(rt.alloc(), layer))?);
     Ok(())
 }
 
-/// Adds the points (0 0), (1 0), .. under the ids p0, p1, ..
-fn add_points(alloc: Global, loading: &mut FeatureList, count: u32) -> Result<(), Fail> {
-    let mut id = String::new(alloc);
-    for i in 0..count {
-        id.clear();
-        write!(id, "p{i}")?;
-        add_point(alloc, loading, id.as_str(), i64::from(i))?;
+/// Adds the points (0 0), (1 0), .. under these ids.
+fn add_points(alloc: Global, loading: &mut FeatureList, ids: &[&str]) -> Result<(), Fail> {
+    for (x, id) in (0..).zip(ids) {
+        add_point(alloc, loading, id, x)?;
     }
     Ok(())
 }
@@ -157,20 +162,54 @@ fn add_point(alloc: Global, loading: &mut FeatureList, id: &str, x: i64) -> Resu
     Ok(())
 }
 
-/// A layer that has had all its features. It is loaded without a file, which takes less time.
-fn full_layer<R: RandomSource + AllocGlobal>(rt: &R) -> Result<Layer, Fail> {
-    let mut loading = FeatureList::new(rt.alloc(), RandomState::new(rt)?, MAX_FEATURES)?;
-    add_points(rt.alloc(), &mut loading, 1_000_000)?;
+/// The layer of points that were added one by one.
+fn layer_of_added<R: RandomSource + AllocGlobal>(rt: &R, ids: &[&str]) -> Result<Layer, Fail> {
+    let mut loading = FeatureList::new(rt.alloc(), RandomState::new(rt)?, ids.len())?;
+    add_points(rt.alloc(), &mut loading, ids)?;
     Ok(loading.finish(rt.alloc())?)
+}
+
+/// Whether the layer of three points that were added one by one has these.
+fn has_added<R: RandomSource + AllocGlobal>(rt: &R) -> Result<bool, Fail> {
+    let features = [
+        ("a", point(0, 0)?),
+        (LONG, point(1, 0)?),
+        ("c", point(2, 0)?),
+    ];
+    let layer = layer_of_added(rt, &["a", LONG, "c"])?;
+    Ok(seen(layer, |layer| has_features(layer, &features)))
+}
+
+#[test]
+fn features_one_by_one(rt: HostRuntime) -> Result<(), Fail> {
+    assert!(rt; has_added(&rt)?);
+    Ok(())
+}
+
+/// A layer that was read from as many rows as one may have features.
+fn full_layer<R: Threads + Sync + RandomSource + AllocGlobal>(rt: &R) -> Result<Layer, Fail> {
+    layer_of(rt, points_file(rt.alloc(), 1_000_000)?.as_bytes())
+}
+
+/// What is seen of a layer whose features are too many to be listed for each refusal.
+fn sight(layer: &Layer) -> (Stats, usize, Option<(u32, Shape)>) {
+    (layer.stats(), layer.tree().len(), layer.find("new"))
+}
+
+/// Whether a full layer refuses a new id.
+fn refuses_new(full: &mut Layer) -> Result<bool, Fail> {
+    let before = sight(full);
+    let is_refused = full.insert("new", point(0, 0)?) == Err(LayerFault::LayerFull);
+    Ok(is_refused && before.2.is_none() && sight(full) == before)
 }
 
 /// Whether a full layer refuses a new id, and still does so after one removal.
 fn stays_full(full: &mut Layer) -> Result<bool, Fail> {
-    let is_full = full.len() == 1_000_000 && inserts(full, INTO_FULL)?;
-    Ok(is_full && removes(full, "p7", point(7, 0)?) && inserts(full, INTO_FULL)?)
+    let is_full = full.len() == 1_000_000 && refuses_new(full)?;
+    Ok(is_full && removes(full, "p7", point(7, 0)?) && refuses_new(full)?)
 }
 
-fn is_full_for_good<R: RandomSource + AllocGlobal>(rt: &R) -> Result<bool, Fail> {
+fn is_full_for_good<R: Threads + Sync + RandomSource + AllocGlobal>(rt: &R) -> Result<bool, Fail> {
     seen(full_layer(rt)?, stays_full)
 }
 
@@ -182,15 +221,17 @@ fn layer_edits_when_full(rt: HostRuntime) -> Result<(), Fail> {
 }
 
 /// Deletes a of a layer that has three points, and inserts it again.
-fn inserts_again(layer: &mut Layer) -> Result<bool, Fail> {
+fn inserts_again(alloc: Global, layer: &mut Layer) -> Result<bool, Fail> {
     let removed = removes(layer, "a", point(0, 0)?);
     let is_gone = layer.at(0).is_none() && layer.shape(0).is_none();
-    Ok(removed && is_gone && inserts(layer, AGAIN)?)
+    Ok(removed && is_gone && inserts(alloc, layer, AGAIN)?)
 }
 
 /// Whether an empty layer takes three points, and the first of them again behind the others.
-fn takes_again(layer: &mut Layer) -> Result<bool, Fail> {
-    let inserted = layer.is_empty() && inserts(layer, THREE)? && inserts_again(layer)?;
+fn takes_again(alloc: Global, layer: &mut Layer) -> Result<bool, Fail> {
+    let inserted = layer.is_empty()
+        && inserts(alloc, layer, THREE)?
+        && inserts_again(alloc, layer)?;
     Ok(inserted && finds(layer, "a", 3, point(9, 9)?) && layer.len() == 3)
 }
 
@@ -221,13 +262,13 @@ fn has_listed(layer: &Layer, wanted: &[(&str, u32)]) -> bool {
 }
 
 /// Whether a layer without features is edited as wanted, and lists its features so.
-fn lists_again(layer: &mut Layer) -> Result<bool, Fail> {
-    Ok(takes_again(layer)? && has_listed(layer, LISTED))
+fn lists_again(alloc: Global, layer: &mut Layer) -> Result<bool, Fail> {
+    Ok(takes_again(alloc, layer)? && has_listed(layer, LISTED))
 }
 
 #[test]
 fn deleted_and_inserted_again(rt: HostRuntime) -> Result<(), Fail> {
-    assert!(rt; on_empty(&rt, lists_again)?);
+    assert!(rt; on_empty(&rt, |layer| lists_again(rt.alloc(), layer))?);
     Ok(())
 }
 
@@ -248,18 +289,36 @@ fn are_doubles(edits: &[Edit], left: &mut Layer, right: &mut Layer) -> bool {
     true
 }
 
+/// Whether each edit of the right layer is refused, and leaves both layers as they were.
+fn are_doubles_alone(
+    alloc: Global,
+    edits: &[Edit],
+    left: &mut Layer,
+    right: &mut Layer,
+) -> Result<bool, Fail> {
+    let before = (state(alloc, left)?, state(alloc, right)?);
+    let are_doubles = are_doubles(edits, left, right);
+    let is_left_same = state(alloc, left)?.as_str() == before.0.as_str();
+    Ok(are_doubles && is_left_same && state(alloc, right)?.as_str() == before.1.as_str())
+}
+
 /// Makes the edits, and then those of the right layer again.
-fn edits_twice(edits: &[Edit], left: &mut Layer, right: &mut Layer) -> Result<bool, Fail> {
+fn edits_twice(
+    alloc: Global,
+    edits: &[Edit],
+    left: &mut Layer,
+    right: &mut Layer,
+) -> Result<bool, Fail> {
     apply_all(edits, left, right)?;
     let segment = Shape::new(0, 0, 0, 3).ok_or("a segment")?;
     let edited = left.is_empty() && finds(right, "b", 0, segment);
-    Ok(edited && are_doubles(edits, left, right) && right.len() == 1)
+    Ok(edited && are_doubles_alone(alloc, edits, left, right)? && right.len() == 1)
 }
 
 /// Whether a list of edits is read, and does to two layers without features what it says.
 fn reads_edits(alloc: Global, left: &mut Layer, right: &mut Layer) -> Result<bool, Fail> {
     let edits = edits_of_bytes(alloc, EDITS, whole()?)?;
-    Ok(edits.len() == 3 && edits_twice(&edits, left, right)?)
+    Ok(edits.len() == 3 && edits_twice(alloc, &edits, left, right)?)
 }
 
 /// Whether edits of a left layer and a new right one are read and made.

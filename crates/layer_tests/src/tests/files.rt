@@ -256,10 +256,54 @@ fn shows(
     Ok(shown.as_str() == text && fault.row() == row)
 }
 
+/// Faults of files, what they show as, and their rows.
+const FAULTS: &[(ReadFault, &str, Option<u32>)] = &[
+    (ReadFault::Io, "read failed", None),
+    (ReadFault::TooLong, "file is too long", None),
+    (ReadFault::Header, "wrong header", None),
+    (ReadFault::Row(7), "row 7: wrong fields", Some(7)),
+    (
+        ReadFault::Wkt(4_000_000_000, WktFault::Text),
+        "row 4000000000: not a geometry text",
+        Some(4_000_000_000),
+    ),
+    (
+        ReadFault::Layer(12, LayerFault::DoubleId),
+        "row 12: id is already there",
+        Some(12),
+    ),
+    (ReadFault::Memory, "no memory", None),
+];
+
+/// Whether a fault shows as its own text after the number of its row.
+fn ends_with_text(text: &str, fault: ReadFault) -> bool {
+    text.ends_with(fault.text())
+}
+
 #[test]
 fn fault_texts(rt: HostRuntime) -> Result<(), Fail> {
-    let fault = ReadFault::Layer(12, LayerFault::DoubleId);
-    assert!(rt; shows(rt.alloc(), fault, "row 12: id is already there", Some(12))?);
-    assert!(rt; shows(rt.alloc(), ReadFault::TooLong, "file is too long", None)?);
+    for &(fault, text, row) in FAULTS {
+        assert!(rt; shows(rt.alloc(), fault, text, row)? && ends_with_text(text, fault));
+    }
+    let failed = format!(in rt.alloc(); "{Failed}")?;
+    assert!(rt; failed.as_str() == ReadFault::Io.text());
+    Ok(())
+}
+
+/// The refusals of a layer, and what they show as.
+const REFUSALS: &[(LayerFault, &str)] = &[
+    (LayerFault::BadId, "id must have 1 to 64 bytes of UTF-8"),
+    (LayerFault::DoubleId, "id is already there"),
+    (LayerFault::LayerFull, "layer is full"),
+    (LayerFault::NoSuchId, "no such id"),
+    (LayerFault::Memory, "no memory"),
+];
+
+#[test]
+fn refusal_texts(rt: HostRuntime) -> Result<(), Fail> {
+    for &(fault, text) in REFUSALS {
+        let shown = format!(in rt.alloc(); "{fault}")?;
+        assert!(rt; shown.as_str() == text && fault.text() == text);
+    }
     Ok(())
 }

@@ -22,36 +22,42 @@ const TEN: &[u8] = b"id,wkt\na,POINT (0 0)\n0123456789abcdefg,POINT (1 0)\n\
     c,POINT (2 0)\nd,POINT (3 0)\ne,POINT (4 0)\n\
     f,POINT (5 0)\ng,POINT (6 0)\nh,POINT (7 0)\ni,POINT (8 0)\nj,POINT (9 0)\n";
 
-/// What is seen of a layer without taking memory: the counts, and the cover and the length of the
-/// tree.
-fn outline(layer: &Layer) -> (Stats, Option<Shape>, usize) {
-    let tree = layer.tree();
-    (
-        layer.stats(),
-        tree.root().map(|root| root.cover()),
-        tree.len(),
-    )
+/// All that is seen of a layer, asked for again where memory was refused.
+fn state_at_last(alloc: Global, layer: &Layer) -> Result<String, AllocError> {
+    match state(alloc, layer) {
+        Ok(text) => Ok(text),
+        Err(AllocError) => state(alloc, layer),
+    }
+}
+
+/// Whether a layer is now as this text says.
+fn is_as(alloc: Global, layer: &Layer, text: &str) -> Result<bool, AllocError> {
+    Ok(state_at_last(alloc, layer)?.as_str() == text)
 }
 
 /// Inserts a feature, again where memory was refused, and says whether only that changes the layer.
-fn inserts_at_last(layer: &mut Layer, id: &str, shape: Shape) -> bool {
-    let before = outline(layer);
+fn inserts_at_last(
+    alloc: Global,
+    layer: &mut Layer,
+    id: &str,
+    shape: Shape,
+) -> Result<bool, AllocError> {
+    let before = state_at_last(alloc, layer)?;
     if layer.insert(id, shape) == Err(LayerFault::Memory) {
-        let is_before = outline(layer) == before && layer.find(id).is_none();
-        return is_before && layer.insert(id, shape).is_ok() && outline(layer) != before;
+        let is_before = is_as(alloc, layer, before.as_str())?;
+        return Ok(is_before && layer.insert(id, shape).is_ok());
     }
-    outline(layer) != before
+    Ok(!is_as(alloc, layer, before.as_str())?)
 }
 
 /// Removes a feature, again where memory was refused, and says whether only that changes the layer.
-fn removes_at_last(layer: &mut Layer, id: &str) -> bool {
-    let before = outline(layer);
-    let found = layer.find(id);
+fn removes_at_last(alloc: Global, layer: &mut Layer, id: &str) -> Result<bool, AllocError> {
+    let before = state_at_last(alloc, layer)?;
     if layer.remove(id) == Err(LayerFault::Memory) {
-        let is_before = outline(layer) == before && layer.find(id) == found;
-        return is_before && layer.remove(id).is_ok() && outline(layer) != before;
+        let is_before = is_as(alloc, layer, before.as_str())?;
+        return Ok(is_before && layer.remove(id).is_ok() && layer.find(id).is_none());
     }
-    outline(layer) != before && layer.find(id).is_none()
+    Ok(!is_as(alloc, layer, before.as_str())? && layer.find(id).is_none())
 }
 
 /// A layer with no features, made again where memory was refused.
@@ -73,23 +79,23 @@ fn on_layer_at_last<F: FnOnce(&mut Layer) -> Result<bool, Fail>>(
 }
 
 /// Inserts points in a row under these ids, and says whether each is found.
-fn grows(layer: &mut Layer, ids: &[&str]) -> Result<bool, Fail> {
+fn grows(alloc: Global, layer: &mut Layer, ids: &[&str]) -> Result<bool, Fail> {
     for (number, id) in (0..).zip(ids) {
         let shape = point(i64::from(number), 0)?;
-        if !inserts_at_last(layer, id, shape) || !finds(layer, id, number, shape) {
+        if !inserts_at_last(alloc, layer, id, shape)? || !finds(layer, id, number, shape) {
             return Ok(false);
         }
     }
     Ok(true)
 }
 
-fn shrinks(layer: &mut Layer) -> bool {
+fn shrinks(alloc: Global, layer: &mut Layer) -> Result<bool, AllocError> {
     for id in REMOVED {
-        if !removes_at_last(layer, id) {
-            return false;
+        if !removes_at_last(alloc, layer, id)? {
+            return Ok(false);
         }
     }
-    true
+    Ok(true)
 }
 
 /// Whether the layer and its tree have so many features.
@@ -98,28 +104,30 @@ fn has_len(layer: &Layer, len: usize) -> bool {
 }
 
 /// Grows and shrinks a layer, and inserts once more.
-fn grows_again(layer: &mut Layer) -> Result<bool, Fail> {
+fn grows_again(alloc: Global, layer: &mut Layer) -> Result<bool, Fail> {
     let origin = point(0, 0)?;
-    let is_edited = grows(layer, IDS)? && shrinks(layer) && inserts_at_last(layer, "a", origin);
-    Ok(is_edited && finds(layer, "a", 20, origin) && has_len(layer, 7))
+    let is_edited = grows(alloc, layer, IDS)? && shrinks(alloc, layer)?;
+    let is_again = is_edited && inserts_at_last(alloc, layer, "a", origin)?;
+    Ok(is_again && finds(layer, "a", 20, origin) && has_len(layer, 7))
 }
 
 #[test]
 fn refused_growths(rt: HostRuntime) -> Result<(), Fail> {
-    assert!(rt; on_layer_at_last(&rt, grows_again)?);
+    assert!(rt; on_layer_at_last(&rt, |layer| grows_again(rt.alloc(), layer))?);
     Ok(())
 }
 
 /// Whether a layer of eight features takes a ninth, for which its tree needs a second leaf.
-fn takes_ninth(layer: &mut Layer) -> Result<bool, Fail> {
+fn takes_ninth(alloc: Global, layer: &mut Layer) -> Result<bool, Fail> {
     let shape = point(8, 0)?;
-    let is_taken = grows(layer, FIRST_EIGHT)? && inserts_at_last(layer, "ninth", shape);
+    let has_grown = grows(alloc, layer, FIRST_EIGHT)?;
+    let is_taken = has_grown && inserts_at_last(alloc, layer, "ninth", shape)?;
     Ok(is_taken && finds(layer, "ninth", 8, shape) && has_len(layer, 9))
 }
 
 #[test]
 fn refused_3(rt: HostRuntime) -> Result<(), Fail> {
-    assert!(rt; on_layer_at_last(&rt, takes_ninth)?);
+    assert!(rt; on_layer_at_last(&rt, |layer| takes_ninth(rt.alloc(), layer))?);
     Ok(())
 }
 

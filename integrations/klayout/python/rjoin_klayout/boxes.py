@@ -20,7 +20,7 @@ def box_of(shape: pya.Shape, trans: pya.ICplxTrans) -> pya.Box:
     if shape.is_path() and shape.path_width == 0:
         return _line(shape.path, trans)
     if shape.is_polygon() or shape.is_simple_polygon() or shape.is_path():
-        return _polygon(shape.polygon, trans)
+        return box_of_polygon(shape.polygon, trans)
     if shape.is_edge():
         return _straight([shape.edge.p1, shape.edge.p2], trans)
     if shape.is_point():
@@ -36,6 +36,13 @@ def envelope_of(shape: pya.Shape, trans: pya.ICplxTrans) -> pya.Box:
         if polygon.num_points() > 0:
             return polygon.bbox()
     return shape.bbox().transformed(trans)
+
+
+def has_area(shape: pya.Shape) -> bool:
+    """Whether the shape covers an area, so that it can be merged with others."""
+    if shape.is_box() or shape.is_polygon() or shape.is_simple_polygon() or shape.is_path():
+        return bool(shape.polygon.area() > 0)
+    return False
 
 
 def _turned_box(box: pya.Box, trans: pya.ICplxTrans) -> pya.Box:
@@ -63,7 +70,8 @@ def _straight(points: List[pya.Point], trans: pya.ICplxTrans) -> pya.Box:
     return box
 
 
-def _polygon(polygon: pya.Polygon, trans: pya.ICplxTrans) -> pya.Box:
+def box_of_polygon(polygon: pya.Polygon, trans: pya.ICplxTrans) -> pya.Box:
+    """The box of a polygon below a transformation; raises NotABox where it is none."""
     turned = polygon.transformed(trans)
     if turned.holes() > 0:
         raise NotABox("a polygon with a hole")

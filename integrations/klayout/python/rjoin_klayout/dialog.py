@@ -6,7 +6,7 @@ from typing import Sequence
 import pya
 
 from .join import ENVELOPE, ERROR, RELATIONS, SKIP, JoinError, Request, join_layers, layer_names
-from .program import ProgramError
+from .program import ProgramError, staleness
 
 TITLE = "Join layers by relation"
 CHOICES = {
@@ -17,7 +17,7 @@ CHOICES = {
 
 
 class JoinDialog(pya.QDialog):
-    """Asks for two layers, a relation, and what to do with other shapes."""
+    """Asks for two layers, a relation, what to do with other shapes, and whether to merge."""
 
     def __init__(self, parent: pya.QWidget, layers: Sequence[str]) -> None:
         super().__init__(parent)
@@ -29,6 +29,10 @@ class JoinDialog(pya.QDialog):
         self.relation = self._choice("Relation, or a mask of nine letters", RELATIONS)
         self.relation.editable = True
         self.others = self._choice("Shapes that aren't boxes", list(CHOICES))
+        self.merged = pya.QCheckBox("Merge the shapes of each layer first", self)
+        self.merged.toolTip = "Else each shape counts as it is drawn: of metal that is cut up, " \
+            "each piece by itself"
+        self.form.addRow(self.merged)
         self.buttons = pya.QDialogButtonBox(self)
         self.buttons.standardButtons = pya.QDialogButtonBox.Ok | pya.QDialogButtonBox.Cancel
         self.buttons.accepted(self.accept)
@@ -38,7 +42,7 @@ class JoinDialog(pya.QDialog):
     def request(self) -> Request:
         """What the user has chosen."""
         return Request(self.left.currentText, self.right.currentText, self.relation.currentText,
-                       CHOICES[self.others.currentText])
+                       CHOICES[self.others.currentText], self.merged.checked)
 
     def _choice(self, label: str, texts: Sequence[str]) -> pya.QComboBox:
         box = pya.QComboBox(self)
@@ -58,6 +62,9 @@ def run() -> None:
     if dialog.exec_() == 0:
         return
     try:
+        stale = staleness()
+        if stale:
+            pya.MessageBox.warning(TITLE, stale, pya.MessageBox.Ok)
         show(view, dialog.request())
     except (JoinError, ProgramError) as fault:
         pya.MessageBox.critical(TITLE, str(fault), pya.MessageBox.Ok)

@@ -5,15 +5,17 @@ import csv
 import tempfile
 from dataclasses import dataclass, field
 from pathlib import Path
-from typing import Dict, Iterator, List, NamedTuple
+from typing import Dict, Iterator, List, NamedTuple, Optional, Set
 
 import pya
 
 from . import program
-from .boxes import NotABox, box_of, envelope_of
+from .boxes import NotABox, box_of, box_of_polygon, envelope_of, has_area
 
 RELATIONS = ("intersects", "touches", "crosses", "within", "contains", "overlaps", "equals")
 ERROR, ENVELOPE, SKIP = OTHERS = ("error", "envelope", "skip")
+REPORT = ["left", "right", "matrix"]
+EXACT, INEXACT = "exact: true", "exact: false"
 
 
 class JoinError(Exception):
@@ -24,25 +26,30 @@ class Request(NamedTuple):
     """What is to be joined.
 
     A layer is named as KLayout names it: `1/0`, `METAL`, `METAL (1/0)`. The relation is a name
-    or a mask of nine letters. `others` says what to do with shapes that aren't boxes.
+    or a mask of nine letters. `others` says what to do with shapes that aren't boxes. `merged` has
+    the shapes of each layer merged first, so that it doesn't matter how an area is drawn.
     """
 
     left: str
     right: str
     relation: str
     others: str = ERROR
+    merged: bool = False
+
+    def title(self) -> str:
+        return f"{self.left} {self.relation} {self.right}{', merged' * self.merged}"
 
 
 class Placed(NamedTuple):
-    """A shape as it lies in the top cell, and where it comes from."""
+    """A shape as it lies in the top cell, and where it comes from, unless it is a merged one."""
 
     box: pya.Box
     cell: str
-    trans: pya.ICplxTrans
+    trans: Optional[pya.ICplxTrans]
 
     def origin(self) -> str:
         """The cell that the shape is drawn in, and how that lies in the top cell."""
-        return f"{self.cell} {self.trans}"
+        return f"{self.cell} {self.trans or 'merged'}"
 
 
 class LeftOut(NamedTuple):
@@ -62,12 +69,15 @@ class Pair(NamedTuple):
 
 @dataclass
 class BoxLayer:
-    """The flattened shapes of a layer; the number of one is its place in `shapes`."""
+    """The flattened shapes of a layer; the number of one is its place in `shapes`.
+
+    `envelopes` has the numbers of those whose bounding box stands in for them.
+    """
 
     name: str
     shapes: List[Placed] = field(default_factory=list)
     left_out: List[LeftOut] = field(default_factory=list)
-    envelopes: int = 0
+    envelopes: Set[int] = field(default_factory=set)
 
 
 def join_layers(layout: pya.Layout, cell: pya.Cell, request: Request) -> pya.ReportDatabase:
@@ -78,8 +88,8 @@ def join_layers(layout: pya.Layout, cell: pya.Cell, request: Request) -> pya.Rep
     if request.others not in OTHERS:
         raise JoinError(f"others must be one of {', '.join(OTHERS)}")
     program.check_relation(request.relation)
-    left = read_layer(layout, cell, request.left, request.others)
-    right = read_layer(layout, cell, request.right, request.others)
+    left, right = (read_layer(layout, cell, name, request.others, request.merged)
+                   for name in (request.left, request.right))
     with tempfile.TemporaryDirectory(prefix="rjoin-") as name:
         folder = Path(name)
         paths = folder / "left.csv", folder / "right.csv"
@@ -90,13 +100,22 @@ def join_layers(layout: pya.Layout, cell: pya.Cell, request: Request) -> pya.Rep
         return _Report(layout, cell, request, left, right).of(_pairs(report))
 
 
-def read_layer(layout: pya.Layout, cell: pya.Cell, name: str, others: str) -> BoxLayer:
+def read_layer(layout: pya.Layout, cell: pya.Cell, name: str, others: str, merged: bool
+               ) -> BoxLayer:
     """The shapes of a layer below a cell, through all instances and arrays of them."""
     layer = BoxLayer(name)
+    areas = pya.Region()
+    areas.min_coherence = True  # what meets at a corner alone stays apart
     iterator = cell.begin_shapes_rec(layer_index(layout, name))
     while not iterator.at_end():
-        _add(layer, iterator.shape(), iterator.cell().name, iterator.trans(), others)
+        shape, trans = iterator.shape(), iterator.trans()
+        if merged and has_area(shape):
+            areas.insert(shape.polygon.transformed(trans))
+        else:
+            _add(layer, shape, iterator.cell().name, trans, others)
         iterator.next()
+    for polygon in areas.merged().each():
+        _add_merged(layer, polygon, cell.name, others)
     return layer
 
 
@@ -105,15 +124,27 @@ def _add(layer: BoxLayer, shape: pya.Shape, cell: str, trans: pya.ICplxTrans, ot
         layer.shapes.append(Placed(box_of(shape, trans), cell, trans))
     except NotABox as reason:
         placed = Placed(envelope_of(shape, trans), cell, trans)
-        if others == ERROR:
-            raise JoinError(f"layer {layer.name}, cell {cell}: not a box, edge or point, but "
-                            f"{reason}: {shape}. Choose to take bounding boxes, or to leave such "
-                            "shapes out.") from reason
-        if others == ENVELOPE and not placed.box.empty():
-            layer.envelopes += 1
-            layer.shapes.append(placed)
-        else:
-            layer.left_out.append(LeftOut(placed, str(reason)))
+        _add_other(layer, placed, f"{reason}: {shape}", str(reason), others)
+
+
+def _add_merged(layer: BoxLayer, polygon: pya.Polygon, cell: str, others: str) -> None:
+    try:
+        layer.shapes.append(Placed(box_of_polygon(polygon, pya.ICplxTrans()), cell, None))
+    except NotABox as reason:
+        placed = Placed(polygon.bbox(), cell, None)
+        _add_other(layer, placed, f"{reason}, once merged: {polygon}", str(reason), others)
+
+
+def _add_other(layer: BoxLayer, placed: Placed, told: str, reason: str, others: str) -> None:
+    """Takes the bounding box of a shape, or leaves it out, or ends the run."""
+    if others == ERROR:
+        raise JoinError(f"layer {layer.name}, cell {placed.cell}: not a box, edge or point, but "
+                        f"{told}. Choose to take bounding boxes, or to leave such shapes out.")
+    if others == ENVELOPE and not placed.box.empty():
+        layer.envelopes.add(len(layer.shapes))
+        layer.shapes.append(placed)
+    else:
+        layer.left_out.append(LeftOut(placed, reason))
 
 
 def layer_index(layout: pya.Layout, name: str) -> int:
@@ -156,7 +187,8 @@ def wkt(box: pya.Box) -> str:
 def _pairs(report: Path) -> Iterator[Pair]:
     with open(report, encoding="ascii", newline="") as file:
         rows = csv.reader(file)
-        next(rows)
+        if next(rows, None) != REPORT:
+            raise program.ProgramError(f"{program.find_program()} wrote no report")
         for left, right, matrix in rows:
             yield Pair(int(left), int(right), matrix)
 
@@ -169,9 +201,10 @@ class _Report:
         self.dbu = layout.dbu
         self.left = left
         self.right = right
-        title = f"{left.name} {request.relation} {right.name}"
+        self.request = request
+        self.counts = {EXACT: 0, INEXACT: 0}
+        title = request.title()
         self.database = pya.ReportDatabase(title)
-        self.database.description = self._description(request)
         self.database.generator = "rjoin"
         self.database.top_cell_name = cell.name
         self.cell_id = self.database.create_cell(cell.name).rdb_id()
@@ -184,13 +217,18 @@ class _Report:
             self._add_pair(pair)
         for layer in (self.left, self.right):
             self._add_left_out(layer)
+        self.database.description = self._description()
         return self.database
 
-    def _description(self, request: Request) -> str:
-        text = f"Pairs of shapes, layer {request.left} {request.relation} layer {request.right}"
+    def _description(self) -> str:
+        text = f"Pairs of shapes, layer {self.left.name} {self.request.relation} layer "
+        text += f"{self.right.name}{', merged' * self.request.merged}"
+        if self.request.others == ENVELOPE:
+            text += (f"; pairs that rest on a bounding box: {self.counts[INEXACT]} of "
+                     f"{sum(self.counts.values())}")
         for layer in (self.left, self.right):
             if layer.envelopes:
-                text += f"; layer {layer.name}: {layer.envelopes} shapes by their bounding boxes"
+                text += f"; layer {layer.name}: {len(layer.envelopes)} shapes by bounding boxes"
             if layer.left_out:
                 text += f"; layer {layer.name}: {len(layer.left_out)} shapes left out"
         return text
@@ -206,6 +244,11 @@ class _Report:
         item.add_value(self._marker(right.box))
         item.add_value(f"left: {left.origin()}")
         item.add_value(f"right: {right.origin()}")
+        if self.request.others == ENVELOPE:
+            by_box = pair.left in self.left.envelopes or pair.right in self.right.envelopes
+            exact = INEXACT if by_box else EXACT
+            self.counts[exact] += 1
+            item.add_value(exact)
 
     def _add_left_out(self, layer: BoxLayer) -> None:
         if not layer.left_out:

@@ -1,11 +1,12 @@
-"""Runs the program rjoin: that of the variable RJOIN, else the one on the PATH."""
+"""Runs the program rjoin."""
 from __future__ import annotations
 
 import os
-import shutil
 import subprocess
 from pathlib import Path
-from typing import Sequence
+from typing import Optional, Sequence
+
+from . import found
 
 WRONG_WORDS = 2
 
@@ -16,14 +17,15 @@ class ProgramError(Exception):
 
 def find_program() -> str:
     """The path of the program."""
-    named = os.environ.get("RJOIN")
-    found = shutil.which(named or "rjoin")
-    if found:
-        return found
-    if named:
-        raise ProgramError(f"RJOIN is set to {named}, which isn't a program")
-    raise ProgramError("the program rjoin isn't on the PATH; install it, or set the environment "
-                       "variable RJOIN to its path")
+    try:
+        return found.find()
+    except found.NoProgram as fault:
+        raise ProgramError(str(fault)) from fault
+
+
+def staleness() -> Optional[str]:
+    """What to say of a program that is older than the sources of its checkout; else None."""
+    return found.staleness(find_program())
 
 
 def check_relation(relation: str) -> None:

@@ -7,7 +7,7 @@ use Rattle.rtree_core.proofs.WindowLemmas.{adds_none, adds_more_child, adds_prun
 use Rattle.rtree_core.proofs.window.+window.Goals as goal
 
 pub collect-returns-in-Children : goal.collect-returns-in-Children
-collect-returns-in-Children t c =
+collect-returns-in-Children g t c =
     rw (
       entries_inner c.args.node.now c.in-Children.children (ap out-Below c.in-Children.is ∙ outs-Children c.in-Children.children),
       ←
@@ -15,16 +15,16 @@ collect-returns-in-Children t c =
     ) (search)
 
 pub collect_children-loop-child-init : goal.collect_children-loop-child-init
-collect_children-loop-child-init t c = adds_none c.args.window.now c.args.found.now.items
+collect_children-loop-child-init g t c = adds_none (g.W.Window.shape_of c.args.window.now) c.args.found.now.items
 
 pub collect_children-loop-child-preserved-then-not-meets : goal.collect_children-loop-child-preserved-then-not-meets
-collect_children-loop-child-preserved-then-not-meets t c =
-    adds_more_child c.args.window.now c.args.children.now c.loop-child.child-index c.child-item.result _ _ _ c.loop-child-test.true c.child-item.is
-    c.loop-child.invariant (adds_pruned c.args.window.now (level_of c.child-item.result) c.child-item.result _
+collect_children-loop-child-preserved-then-not-meets g t c =
+    adds_more_child (g.W.Window.shape_of c.args.window.now) c.args.children.now c.loop-child.child-index c.child-item.result _ _ _ c.loop-child-test.true c.child-item.is
+    c.loop-child.invariant (adds_pruned (g.W.Window.shape_of c.args.window.now) (level_of c.child-item.result) c.child-item.result _
     (rw (sym c.child-item.is) at (c.requires c.loop-child.child-index c.child-item.result c.loop-child-test.true))
-    (λ m. cc (c.meets-meets.ensures.1 m)))
+    (λ m. cc (c.admits-meets.ensures.1 m)))
 
 pub collect_children-loop-child-preserved : goal.collect_children-loop-child-preserved
-collect_children-loop-child-preserved t c =
-    adds_more_child c.args.window.now c.args.children.now c.loop-child.child-index c.child-item.result _ c.loop-child.found.items _ c.loop-child-test.true
+collect_children-loop-child-preserved g t c =
+    adds_more_child (g.W.Window.shape_of c.args.window.now) c.args.children.now c.loop-child.child-index c.child-item.result _ c.loop-child.found.items _ c.loop-child-test.true
     c.child-item.is c.loop-child.invariant (search ran)

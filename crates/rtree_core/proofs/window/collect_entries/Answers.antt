@@ -3,11 +3,11 @@ use Rattle.rtree_core.proofs.WindowLemmas.{adds_more_met, adds_more_missed}
 use Rattle.rtree_core.proofs.window.collect_entries.Goals as goal
 
 pub loop-entry-preserved-then-not-meets : goal.loop-entry-preserved-then-not-meets
-loop-entry-preserved-then-not-meets c =
-    adds_more_missed c.args.window.now c.args.entries.now c.loop-entry.entry-index c.entry-item.result _ _ c.loop-entry-test.true c.entry-item.is
-    c.loop-entry.invariant (λ m. cc (c.meets-meets.ensures.1 m))
+loop-entry-preserved-then-not-meets g c =
+    adds_more_missed (g.W.Window.shape_of c.args.window.now) c.args.entries.now c.loop-entry.entry-index c.entry-item.result _ _ c.loop-entry-test.true c.entry-item.is
+    c.loop-entry.invariant (λ m. cc (c.admits-meets.ensures.1 m))
 
 pub loop-entry-preserved : goal.loop-entry-preserved
-loop-entry-preserved c =
-    adds_more_met c.args.window.now c.args.entries.now c.loop-entry.entry-index c.entry-item.result _ _ _ c.loop-entry-test.true c.entry-item.is
-    c.loop-entry.invariant (c.meets-meets.ensures.0 (cc)) (grind arith)
+loop-entry-preserved g c =
+    adds_more_met (g.W.Window.shape_of c.args.window.now) c.args.entries.now c.loop-entry.entry-index c.entry-item.result _ _ _ c.loop-entry-test.true c.entry-item.is
+    c.loop-entry.invariant (c.admits-meets.ensures.0 (cc)) (grind arith)

@@ -1,18 +1,15 @@
 use Rattle.words_core.specs.Readings.{of_relate, of_join, of_draw, of_window, of_stats, of_bounds}
-use Rattle.words_core.proofs.ReadingLemmas.{fault_as, fault_weaker, named, unnamed}
+use Rattle.words_core.proofs.ReadingLemmas.{fault_weaker, named, unnamed}
 use Rattle.words_core.proofs.reading.read_named.Goals as goal
-
-pub returns-in_err-join-in-join-clause-err : goal.returns-in_err-join-in-join-clause-err
-returns-in_err-join-in-join-clause-err c =
-    fault_as _ _ _ c.from_residual.ensures.1 (λ known. named _ _ _ _ c.in-join.is (of_join (c.in_err-join-in-join.ensures.err known)))
-
-pub returns-in_err-draw-in-draw-clause-err : goal.returns-in_err-draw-in-draw-clause-err
-returns-in_err-draw-in-draw-clause-err c =
-    fault_as _ _ _ c.from_residual-in_err-draw-in-draw.ensures.1
-    (λ known. named _ _ _ _ c.in-draw.is (of_draw (c.in_err-draw-in-draw.ensures.err known)))
 
 pub returns-in-relate-clause-err : goal.returns-in-relate-clause-err
 returns-in-relate-clause-err c = fault_weaker _ _ _ (λ f h. named _ f _ _ c.in-relate.is (of_relate h)) (search)
+
+pub returns-in-join-clause-err : goal.returns-in-join-clause-err
+returns-in-join-clause-err c = fault_weaker _ _ _ (λ f h. named _ f _ _ c.in-join.is (of_join h)) (search)
+
+pub returns-in-draw-clause-err : goal.returns-in-draw-clause-err
+returns-in-draw-clause-err c = fault_weaker _ _ _ (λ f h. named _ f _ _ c.in-draw.is (of_draw h)) (search)
 
 pub returns-in-window-clause-err : goal.returns-in-window-clause-err
 returns-in-window-clause-err c = fault_weaker _ _ _ (λ f h. named _ f _ _ c.in-window.is (of_window h)) (search)

@@ -1,0 +1,216 @@
+//! What help shows of the program and of each command, whole.
+
+pub(crate) const OF_THE_PROGRAM: &str = "\
+Joins two layers of geometries by a spatial relation
+
+Usage: rjoin <COMMAND>
+
+Commands:
+  relate  Writes the DE-9IM matrix of two geometries
+  join    Writes the pairs of features of two layers that stand in a relation
+  draw    Writes a picture of two layers and of the pairs that stand in a relation, as SVG
+  window  Writes the ids of the features of a layer that meet a geometry
+  stats   Counts the features of a layer by kind, and the levels of its tree
+  bounds  Writes the corners of the features of a layer
+  help    Print this message or the help of the given subcommand(s)
+
+Options:
+  -h, --help     Print help
+  -V, --version  Print version
+
+Layers are CSV files with the header id,wkt and a feature a row:
+  id,wkt
+  mill lane,\"LINESTRING (10 0, 10 10)\"
+
+Geometries are points, segments along an axis and rectangles, as well-known text:
+  POINT (4 4)
+  POLYGON ((0 0, 4 0, 4 4, 0 4, 0 0))
+
+A coordinate has no decimals, or up to K with --scale K; counted in units of the last decimal, its
+absolute value is at most 1000000000000.
+
+The path - stands for standard input, for at most one file of a command.
+
+Exit status:
+  0  what was asked for is written
+  1  a fault of input, output, memory, threads or hashing keys; a line on standard error tells it
+  2  the arguments are invalid
+
+rjoin COMMAND --help tells more.
+";
+
+pub(crate) const OF_RELATE: &str = "\
+Writes the DE-9IM matrix of two geometries
+
+Usage: rjoin relate [OPTIONS] <A> <B>
+
+Arguments:
+  <A>  First geometry, as well-known text
+  <B>  Second geometry, as well-known text
+
+Options:
+      --scale <scale>  Decimals that a coordinate may have, 0 to 6 [default: 0]
+  -h, --help           Print help
+
+Geometries are points, segments along an axis and rectangles:
+  POINT (4 4)    LINESTRING (1 0, 3 0)
+  POLYGON ((0 0, 4 0, 4 4, 0 4, 0 0))
+
+The nine letters are those of DE-9IM, in three rows of three: interior, boundary and exterior of A,
+each with interior, boundary and exterior of B. F says that the two share nothing, and 0, 1 or 2
+that they share points, lines or areas.
+
+Exit status: 0 for success, 1 for a text at fault or no output, 2 for invalid arguments
+";
+
+pub(crate) const OF_JOIN: &str = "\
+Writes the pairs of features of two layers that stand in a relation
+
+Usage: rjoin join [OPTIONS] --relation <relation> <LEFT> <RIGHT>
+
+Arguments:
+  <LEFT>   CSV file of the left layer
+  <RIGHT>  CSV file of the right layer
+
+Options:
+      --relation <relation>  Name of a relation, or mask of nine letters
+      --edits <edits>        CSV file of edits, which are made before the join
+      --workers <workers>    Threads that join, 1 to 16 [default: 4]
+      --batch <batch>        Pairs a batch, 1 to 4096 [default: 256]
+      --cut <cut>            Rounds of cutting into tasks, 0 to 8 [default: 2]
+      --scale <scale>        Decimals that a coordinate may have, 0 to 6 [default: 0]
+  -h, --help                 Print help
+
+A layer is a CSV file, as                 edits are a CSV file, as
+  id,wkt                                    op,layer,id,wkt
+  mill,\"LINESTRING (10 0, 10 10)\"           insert,left,inn,POINT (4 4)
+
+The path - stands for standard input, for at most one of the files.
+
+Relations of a left feature to a right one:
+  intersects  they share a point
+  touches     they share a point, and their interiors share none
+  crosses     of two dimensions: their interiors share a point, and the one of the lower dimension
+              lies outside the other too; two segments: their interiors share a single point
+  within      the left one lies in the right one, and their interiors share a point
+  contains    the right one lies in the left one, and their interiors share a point
+  overlaps    of one dimension, which what the interiors share has too: each lies outside the
+              other too
+  equals      they are the same set of points
+  disjoint    they share no point: known, but refused, as is each mask that disjoint features fit
+In place of a name stands a mask of nine letters, one for each letter of the matrix: T asks for
+0, 1 or 2, and F, 0, 1 and 2 for that letter, and * takes any.
+
+The report is CSV: left,right,matrix, and for each pair the two ids and the nine letters of DE-9IM,
+in three rows of three: interior, boundary and exterior of the left one, each with interior,
+boundary and exterior of the right one. F says that the two share nothing, and 0, 1 or 2 that they
+share points, lines or areas. Neither --workers nor --batch nor --cut changes the report.
+
+Exit status: 0 for success, 1 for a fault of a file, output, memory, threads or hashing keys, 2 for
+invalid arguments
+";
+
+pub(crate) const OF_DRAW: &str = "\
+Writes a picture of two layers and of the pairs that stand in a relation, as SVG
+
+Usage: rjoin draw [OPTIONS] --relation <relation> <LEFT> <RIGHT>
+
+Arguments:
+  <LEFT>   CSV file of the left layer
+  <RIGHT>  CSV file of the right layer
+
+Options:
+      --relation <relation>  Name of a relation, or mask of nine letters
+      --edits <edits>        CSV file of edits, which are made before the join
+      --workers <workers>    Threads that join, 1 to 16 [default: 4]
+      --batch <batch>        Pairs a batch, 1 to 4096 [default: 256]
+      --cut <cut>            Rounds of cutting into tasks, 0 to 8 [default: 2]
+      --scale <scale>        Decimals that a coordinate may have, 0 to 6 [default: 0]
+  -h, --help                 Print help
+
+The layers are read, edited and joined as by rjoin join, whose --help tells files and relations.
+
+The picture is SVG 1.1, which browsers show: the second axis upwards, left features in blue and
+right ones in orange, those that occur in a pair highlighted by stronger lines and fills, each with
+its id as a title that shows under the pointer. Its head counts features and pairs:
+  rjoin draw parcels.csv roads.csv --relation touches > picture.svg
+
+Layers with more than 100000 features together, after the edits, are refused. Neither --workers nor
+--batch nor --cut changes the picture.
+
+Exit status: 0 for success, 1 for a fault of a file, output, memory, threads or hashing keys, or too
+many features, 2 for invalid arguments
+";
+
+pub(crate) const OF_WINDOW: &str = "\
+Writes the ids of the features of a layer that meet a geometry
+
+Usage: rjoin window [OPTIONS] <LAYER> <WKT>
+
+Arguments:
+  <LAYER>  CSV file of the layer
+  <WKT>    Geometry of the window, as well-known text
+
+Options:
+      --scale <scale>  Decimals that a coordinate may have, 0 to 6 [default: 0]
+  -h, --help           Print help
+
+A layer is a CSV file, as
+  id,wkt
+  mill lane,\"LINESTRING (10 0, 10 10)\"
+The path - stands for standard input.
+
+A feature meets the window where they share a point. The answer is CSV: id, and the ids in the
+order of the file.
+
+Exit status: 0 for success, 1 for a fault of the file, WKT, output, memory or hashing keys, 2 for
+invalid arguments
+";
+
+pub(crate) const OF_STATS: &str = "\
+Counts the features of a layer by kind, and the levels of its tree
+
+Usage: rjoin stats [OPTIONS] <LAYER>
+
+Arguments:
+  <LAYER>  CSV file of the layer
+
+Options:
+      --scale <scale>  Decimals that a coordinate may have, 0 to 6 [default: 0]
+  -h, --help           Print help
+
+A layer is a CSV file, as
+  id,wkt
+  mill lane,\"LINESTRING (10 0, 10 10)\"
+The path - stands for standard input.
+
+The answer has five lines: features, points, segments, rectangles and height, each with a number.
+
+Exit status: 0 for success, 1 for a fault of the file, output, memory or hashing keys, 2 for
+invalid arguments
+";
+
+pub(crate) const OF_BOUNDS: &str = "\
+Writes the corners of the features of a layer
+
+Usage: rjoin bounds [OPTIONS] <LAYER>
+
+Arguments:
+  <LAYER>  CSV file of the layer
+
+Options:
+      --scale <scale>  Decimals that a coordinate may have, 0 to 6 [default: 0]
+  -h, --help           Print help
+
+A layer is a CSV file, as
+  id,wkt
+  mill lane,\"LINESTRING (10 0, 10 10)\"
+The path - stands for standard input.
+
+The answer is CSV: id,x1,y1,x2,y2, and for each feature, in the order of the file, its id and its
+least and greatest coordinates. They are whole numbers of units of the last decimal: with
+--scale 2, 12.5 is written as 1250.
+
+Exit status: 0 for success, 1 for a fault of the file, output, memory or hashing keys, 2 for
+invalid arguments
+";
