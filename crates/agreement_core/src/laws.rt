@@ -1,0 +1,16 @@
+//! The law of agreement.
+
+ghost use Rattle.geom_core.specs.declared.shape.Shape.{Shape};
+ghost use Rattle.relation_core.specs.declared.matrix.Matrix.{Matrix};
+ghost use Rattle.relation_core.specs.Matrices.{IsMatrix};
+ghost use Rattle.plane_core.specs.Figures.{Figure};
+ghost use Rattle.plane_core.specs.PlaneMatrices.{IsPlaneMatrix};
+ghost use Rattle.agreement_core.specs.BoxFigures.{IsBoxFigure};
+
+/// The matrix of two shapes by cells of the grid is the matrix of their geometries by points of the
+/// plane. So two boxes are related by comparing the ends of their intervals.
+#[tactic(auto, using(crate::proofs::FigureLemmas::agreement_of_boxes))]
+pub fn agreement_law()
+    ensures { (a b : Shape) (g h : Figure) (m : Matrix) → IsBoxFigure a g → IsBoxFigure b h
+        → IsMatrix a b m → IsPlaneMatrix g h m }
+{}

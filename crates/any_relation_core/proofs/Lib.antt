@@ -1,0 +1,10 @@
+pub mod AnyLemmas
+pub mod ClassLemmas
+pub mod DisjointLemmas
+pub mod ExtentLemmas
+pub mod PartLemmas
+pub mod ProperLemmas
+pub mod SampleLemmas
+pub mod ShareLemmas
+pub mod SlantLemmas
+pub mod SpanLemmas

@@ -1,0 +1,14 @@
+use Rattle.std.proofs.Common.{rules, tests}
+use Rattle.std.proofs.lemmas.Iterator.{cases_from_any, YieldsList-from_slice}
+use Rattle.any_relation_core.specs.Classes.{FitsApart}
+use Rattle.any_relation_core.proofs.ClassLemmas.{some_from_cases}
+use Rattle.any_relation_core.proofs.any_relation.allows_beside.Goals as goal
+
+pub returns : goal.returns
+returns c =
+    let relation = c.args.relation.now in
+    let first = c.args.first in
+    let found = some_from_cases c.any.result (λ d. FitsApart relation first d) c.classes-classes.result.now
+    (cases_from_any _ _ _ (λ d. FitsApart relation first d) (λ d. ¬ (FitsApart relation first d)) c.any.ensures.ran (YieldsList-from_slice c.classes-classes.result.now cc)
+    (λ x q k. search (rules, tests)) (λ x q k. search (rules, tests))) in
+    rw c.classes-classes.ensures at found

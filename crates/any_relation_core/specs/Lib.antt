@@ -1,0 +1,3 @@
+pub mod AnyRelations
+pub mod Classes
+pub mod PlaneRelations

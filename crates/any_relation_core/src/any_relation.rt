@@ -1,0 +1,85 @@
+//! Relations that a join of any geometry may use: those that hold only for geometries that share a
+//! point.
+
+ghost use Rattle.any_relation_core.specs.PlaneRelations.{ForbidsDisjoint};
+
+use crate::class::{Class, Rings, apart_matrix};
+use relation_core::{AllowsDisjoint, Relation};
+
+/// A relation that holds for no two disjoint geometries.
+#[derive(Clone, Copy, Debug, PartialEq, Eq)]
+pub struct AnyRelation {
+    relation: Relation,
+    rings: Rings,
+    ghost forbids_disjoint: { ForbidsDisjoint rings relation },
+}
+
+impl AnyRelation {
+    ghost use Rattle.std.specs.Prelude.{◌≡◌, ◌↔◌, IsOk, IfOk, OnErr};
+    ghost use Rattle.any_relation_core.specs.PlaneRelations.{HoldsForDisjoint};
+    ghost use Rattle.any_relation_core.specs.AnyRelations.{relation_of, rings_of};
+
+    /// The relation, if no two disjoint geometries with such rings stand in it.
+    ///
+    /// # Errors
+    /// `AllowsDisjoint` where two such geometries do.
+    pub fn new(relation: Relation, rings: Rings) -> Result<AnyRelation, AllowsDisjoint>
+        ensures ok { IsOk result ↔ ForbidsDisjoint rings relation }
+        ensures same { IfOk result (λ join. relation_of join ≡ relation) }
+        ensures rings { IfOk result (λ join. rings_of join ≡ rings) }
+        ensures err { OnErr result (HoldsForDisjoint rings relation) }
+    {
+        let allowed = allows_apart(&relation, rings);
+        if allowed {
+            Err(AllowsDisjoint)
+        } else {
+            let join = AnyRelation { relation, rings };
+            Ok(join)
+        }
+    }
+
+    /// The relation itself.
+    pub fn relation(&self) -> &Relation
+        ensures { result.now ≡ relation_of self.now }
+    {
+        &self.relation
+    }
+
+    /// Which rings the geometries may have.
+    pub fn rings(&self) -> Rings
+        ensures { result ≡ rings_of self.now }
+    {
+        self.rings
+    }
+}
+
+ghost use Rattle.std.specs.Prelude.{◌≡◌, ◌↔◌, IsTrue};
+ghost use Rattle.any_relation_core.specs.Classes.{AllowsApart, AllowsBeside, FitsApart};
+
+/// Whether a mask of the relation fits the matrix of two disjoint geometries of some classes.
+fn allows_apart(relation: &Relation, rings: Rings) -> bool
+    ensures { IsTrue result ↔ AllowsApart rings relation.now }
+{
+    let classes = rings.classes();
+    classes
+        .iter()
+        .any(|first| allows_beside(relation, rings, *first))
+}
+
+/// The same, where the first of the two is of this class.
+fn allows_beside(relation: &Relation, rings: Rings, first: Class) -> bool
+    ensures { IsTrue result ↔ AllowsBeside rings relation.now first }
+{
+    let classes = rings.classes();
+    classes
+        .iter()
+        .any(|second| fits_apart(relation, first, *second))
+}
+
+/// Whether a mask fits the matrix of two disjoint geometries of these classes.
+fn fits_apart(relation: &Relation, first: Class, second: Class) -> bool
+    ensures { IsTrue result ↔ FitsApart relation.now first second }
+{
+    let matrix = apart_matrix(first, second);
+    relation.fits(&matrix, first.dim(), second.dim())
+}

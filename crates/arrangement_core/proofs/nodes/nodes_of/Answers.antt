@@ -1,0 +1,14 @@
+use Rattle.arrangement_core.proofs.GatherLemmas.{extends-trans, vertex_kept, all_meetings_kept, nodes_made}
+use Rattle.arrangement_core.proofs.nodes.nodes_of.Goals as goal
+
+pub returns : goal.returns
+returns c =
+    let second = c.in_ok-push_vertex-2.ensures in
+    let third = c.in_ok-push_all_meetings.ensures in
+    let fourth = c.in_ok-push_vertices.ensures in
+    let rest = extends-trans _ _ _ third.kept fourth.kept in
+    nodes_made c.args.e.now c.args.edges.now c.args.points.now _ _ c.requires fourth.on
+    (vertex_kept _ _ _ _ (extends-trans _ _ _ second.kept rest) c.in_ok-push_vertex.ensures.here)
+    (vertex_kept _ _ _ _ rest second.here)
+    (all_meetings_kept _ _ _ _ fourth.kept third.meetings)
+    fourth.here c.in_ok-sort_nodes.ensures.permutation c.in_ok-sort_nodes.ensures.sorted

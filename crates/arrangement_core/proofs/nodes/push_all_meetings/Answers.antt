@@ -1,0 +1,15 @@
+use Rattle.std.proofs.Common.{rules, All, subst}
+use Rattle.std.proofs.lemmas.List.{take_all}
+use Rattle.arrangement_core.specs.Gathered.{HasMeetings}
+use Rattle.arrangement_core.proofs.GatherLemmas.{extends-trans, meetings_more}
+use Rattle.arrangement_core.proofs.nodes.push_all_meetings.Goals as goal
+
+pub loop-f-preserved : goal.loop-f-preserved
+loop-f-preserved c = record {
+  kept = extends-trans _ _ _ c.loop-f.invariant.kept c.in_ok-push_meetings.ensures.kept;
+  on = c.in_ok-push_meetings.ensures.on;
+  meetings = meetings_more _ _ _ _ _ _ (search rules) (search rules) c.in_ok-push_meetings.ensures.kept c.loop-f.invariant.meetings c.in_ok-push_meetings.ensures.meetings;
+}
+
+pub returns-clause-meetings : goal.returns-clause-meetings
+returns-clause-meetings c = subst (All (HasMeetings _ _)) (take_all c.loop-f.f-index c.args.edges.now (search rules)) c.loop-f.invariant.meetings

@@ -1,0 +1,10 @@
+use Rattle.std.proofs.Common.{All, take}
+use Rattle.arrangement_core.specs.Gathered.{Extends, IsOn, HasMeetings}
+use Rattle.arrangement_core.proofs.nodes.push_all_meetings.Given as goal
+
+abbrev pub invariant-loop-f : goal.invariant-loop-f
+invariant-loop-f l = record {
+  kept : Extends l.fn.nodes.items l.nodes.items;
+  on : All (IsOn l.e) l.nodes.items;
+  meetings : All (HasMeetings l.e l.nodes.items) (take l.f-index l.edges);
+}

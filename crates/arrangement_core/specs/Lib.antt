@@ -1,0 +1,5 @@
+pub mod Gathered
+pub mod Growth
+pub mod Marks
+pub mod Nodes
+pub mod ReadOffs

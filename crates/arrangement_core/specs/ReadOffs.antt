@@ -1,0 +1,50 @@
+-- What the program finds of two geometries by their outlines.
+use Rattle.std.specs.Prelude.{List, [], ◌++◌, map}
+use Rattle.std.specs.List.{flat_map}
+use Rattle.relation_core.specs.declared.extent.Extent.TheVariants.{Point as Dot}
+use Rattle.relation_core.specs.declared.matrix.Matrix.{Matrix}
+use Rattle.plane_core.specs.declared.vertex.Vertex.{Vertex}
+use Rattle.plane_core.specs.declared.edge.Edge.{Edge}
+use Rattle.plane_core.specs.declared.outline.Kind.{Kind}
+use Rattle.plane_core.specs.declared.outline.Kind.TheVariants.{Points as Dots, Lines as Polylines, Areas as Rings}
+use Rattle.plane_core.specs.declared.outline.Outline.{Outline}
+use Rattle.plane_core.specs.Points.{Point, at}
+use Rattle.plane_core.specs.Figures.{Figure, IsGeometry}
+use Rattle.plane_core.specs.Outlines.{IsOutlineOf}
+use Rattle.plane_core.specs.PlaneMatrices.{IsPlaneMatrix}
+use Rattle.arrangement_core.specs.Nodes.{NodedEdge, AreNodesOf, AreNoded}
+use Rattle.arrangement_core.specs.Growth.{mark_at, edge_marks, HasGrownBy, outside}
+
+abbrev pub points_by : Kind → List Vertex → List Vertex
+points_by Dots vs = vs
+points_by Polylines vs = []
+points_by Rings vs = []
+
+abbrev pub outline_edges : Outline → Outline → List Edge
+outline_edges a b = a.edges.items ++ b.edges.items
+
+abbrev pub outline_points : Outline → Outline → List Vertex
+outline_points a b = points_by a.kind a.ends.items ++ points_by b.kind b.ends.items
+
+-- an edge whose nodes, pieces and faces a matrix shows
+pub record IsEdgeMarked (a b : Outline) (es : List Edge) (vs : List Vertex) (e : Edge) (old new : Matrix) : Type 0 where
+  pub nodes : List Point
+  pub are_nodes : AreNodesOf es vs e nodes
+  pub grown : HasGrownBy (edge_marks a b (record { edge = e; nodes = nodes })) old new
+
+-- edges whose nodes, pieces and faces a matrix shows
+pub record AreMarked (a b : Outline) (es : List Edge) (vs : List Vertex) (done : List Edge) (old new : Matrix) : Type 0 where
+  pub noded : List NodedEdge
+  pub are_noded : AreNoded es vs done noded
+  pub grown : HasGrownBy (flat_map (edge_marks a b) noded) old new
+
+-- all edges and single points of two geometries are marked
+pub record IsReadOffBy (a b : Outline) (m : Matrix) : Type 0 where
+  pub noded : List NodedEdge
+  pub are_noded : AreNoded (outline_edges a b) (outline_points a b) (outline_edges a b) noded
+  pub grown : HasGrownBy
+      (flat_map (edge_marks a b) noded ++ map (λ v. mark_at a b Dot (at v)) (outline_points a b)) outside m
+
+-- the matrix of the two geometries that have these outlines
+pub record IsMatrixOf (a b : Outline) (m : Matrix) : Type 0 where
+  pub is : (g h : Figure) → IsOutlineOf g a → IsOutlineOf h b → IsGeometry g → IsGeometry h → IsPlaneMatrix g h m

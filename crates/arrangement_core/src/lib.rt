@@ -1,0 +1,9 @@
+//! The arrangement of the edges of two geometries: its nodes, the pieces of edges between them, and
+//! the matrix of the two geometries, which can be read off these.
+#![tactic(auto)]
+
+mod marks;
+mod matrices;
+mod nodes;
+
+pub use matrices::relate;

@@ -1,0 +1,109 @@
+//! The nodes of an edge in order: its ends, and the points where edges or single points meet it.
+
+ghost use Rattle.std.specs.Prelude.{map, All, OnOk, IfOk};
+ghost use Rattle.std.specs.List.Sorted.{IsPermutation};
+ghost use Rattle.plane_core.specs.Figures.{HasLength};
+ghost use Rattle.plane_core.specs.Places.{node_point};
+ghost use Rattle.arrangement_core.specs.Nodes.{Ascend, AreNodesOf};
+ghost use Rattle.arrangement_core.specs.Gathered.{Extends, IsOn, HasVertex, HasMeeting, HasMeetings};
+
+use plane_core::{Edge, Node, Vertex};
+use std::alloc::{AllocError, Global};
+
+/// Adds a vertex where it lies on the edge.
+fn push_vertex(nodes: &mut Vec<Node>, e: &Edge, v: &Vertex) -> Result<(), AllocError>
+    requires { All (IsOn e.now) nodes.old.items }
+    ensures kept { OnOk result (Extends nodes.old.items nodes.new.items) }
+    ensures on { OnOk result (All (IsOn e.now) nodes.new.items) }
+    ensures here { OnOk result (HasVertex e.now nodes.new.items v.now) }
+{
+    if e.is_on_vertex(v) {
+        let node = Node::at(v);
+        nodes.push(node)?;
+    }
+    Ok(())
+}
+
+/// Adds the point where another edge that isn't parallel meets the edge.
+fn push_meeting(nodes: &mut Vec<Node>, e: &Edge, f: &Edge) -> Result<(), AllocError>
+    requires { All (IsOn e.now) nodes.old.items }
+    ensures kept { OnOk result (Extends nodes.old.items nodes.new.items) }
+    ensures on { OnOk result (All (IsOn e.now) nodes.new.items) }
+    ensures here { OnOk result (HasMeeting e.now nodes.new.items f.now) }
+{
+    if let Some(node) = Node::meeting(e, f) {
+        nodes.push(node)?;
+    }
+    Ok(())
+}
+
+/// Adds the ends of another edge that lie on the edge, and the point where the two meet.
+fn push_meetings(nodes: &mut Vec<Node>, e: &Edge, f: &Edge) -> Result<(), AllocError>
+    requires { All (IsOn e.now) nodes.old.items }
+    ensures kept { OnOk result (Extends nodes.old.items nodes.new.items) }
+    ensures on { OnOk result (All (IsOn e.now) nodes.new.items) }
+    ensures meetings { OnOk result (HasMeetings e.now nodes.new.items f.now) }
+{
+    if e.is_box_meeting(f) {
+        push_vertex(nodes, e, &f.a)?;
+        push_vertex(nodes, e, &f.b)?;
+        push_meeting(nodes, e, f)?;
+    }
+    Ok(())
+}
+
+/// Adds the ends of other edges that lie on the edge, and the points where these meet it.
+fn push_all_meetings(nodes: &mut Vec<Node>, e: &Edge, edges: &[Edge]) -> Result<(), AllocError>
+    requires { All (IsOn e.now) nodes.old.items }
+    ensures kept { OnOk result (Extends nodes.old.items nodes.new.items) }
+    ensures on { OnOk result (All (IsOn e.now) nodes.new.items) }
+    ensures meetings { OnOk result (All (HasMeetings e.now nodes.new.items) edges.now) }
+{
+    for f in edges {
+        push_meetings(nodes, e, f)?;
+    }
+    Ok(())
+}
+
+/// Adds the vertices that lie on the edge.
+fn push_vertices(nodes: &mut Vec<Node>, e: &Edge, vertices: &[Vertex]) -> Result<(), AllocError>
+    requires { All (IsOn e.now) nodes.old.items }
+    ensures kept { OnOk result (Extends nodes.old.items nodes.new.items) }
+    ensures on { OnOk result (All (IsOn e.now) nodes.new.items) }
+    ensures here { OnOk result (All (HasVertex e.now nodes.new.items) vertices.now) }
+{
+    for v in vertices {
+        push_vertex(nodes, e, v)?;
+    }
+    Ok(())
+}
+
+/// Sorts points by (x, y).
+fn sort_nodes(nodes: &mut Vec<Node>) -> Result<(), AllocError>
+    ensures permutation { IsPermutation nodes.old.items nodes.new.items }
+    ensures sorted { OnOk result (Ascend (map node_point nodes.new.items)) }
+{
+    nodes.sort_by(|a, b| a.compare(b))?;
+    Ok(())
+}
+
+/// The nodes of an edge among edges and single points, from the least by (x, y) to the greatest.
+///
+/// Nodes at one place may stand there more than once.
+pub(crate) fn nodes_of(
+    alloc: Global,
+    e: &Edge,
+    edges: &[Edge],
+    points: &[Vertex],
+) -> Result<Vec<Node>, AllocError>
+    requires { HasLength e.now }
+    ensures { IfOk result (λ v. AreNodesOf edges.now points.now e.now (map node_point v.items)) }
+{
+    let mut nodes = Vec::new(alloc);
+    push_vertex(&mut nodes, e, &e.a)?;
+    push_vertex(&mut nodes, e, &e.b)?;
+    push_all_meetings(&mut nodes, e, edges)?;
+    push_vertices(&mut nodes, e, points)?;
+    sort_nodes(&mut nodes)?;
+    Ok(nodes)
+}

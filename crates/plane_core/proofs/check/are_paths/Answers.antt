@@ -1,0 +1,6 @@
+use Rattle.std.proofs.Common.{rules, length}
+use Rattle.plane_core.proofs.StoredLemmas.{cut_bound}
+use Rattle.plane_core.proofs.check.are_paths.Goals as goal
+
+pub slice_bounds-is_path-end : goal.slice_bounds-is_path-end
+slice_bounds-is_path-end c = cut_bound c.loop-end.start c.args.ends.now (length c.args.vertices.now) c.loop-end.end-index (search rules) c.loop-end.invariant.cuts

@@ -1,0 +1,12 @@
+use Rattle.std.proofs.Common.{◌≡◌, ◌++◌, drop, length}
+use Rattle.std.specs.List.{flat_map}
+use Rattle.plane_core.specs.Figures.{edges}
+use Rattle.plane_core.specs.Stored.{paths_of, AreCuts}
+use Rattle.plane_core.proofs.geometry.push_all_edges.Given as goal
+
+abbrev pub invariant-loop-end : goal.invariant-loop-end
+invariant-loop-end l = record {
+  cuts : AreCuts l.start (drop l.end-index l.ends) (length l.vertices);
+  rest : l.fn.found.items ++ flat_map edges (paths_of 0 l.ends l.vertices)
+      ≡ l.found.items ++ flat_map edges (paths_of l.start (drop l.end-index l.ends) l.vertices);
+}

@@ -1,0 +1,15 @@
+-- The closed boxes round edges.
+use Rattle.std.specs.Prelude.{ℤ, Bool, ◌&&◌, ◌||◌, int_le}
+use Rattle.plane_core.specs.declared.edge.Edge.{Edge}
+
+-- one of the first two numbers is no less than one of the last two
+abbrev pub does_reach : ℤ → ℤ → ℤ → ℤ → Bool
+does_reach a b c d = int_le c a || int_le c b || int_le d a || int_le d b
+
+-- the interval between the first two numbers, in either order, shares a number with that between
+-- the last two
+abbrev pub do_overlap : ℤ → ℤ → ℤ → ℤ → Bool
+do_overlap a b c d = does_reach a b c d && does_reach c d a b
+
+abbrev pub do_boxes_meet : Edge → Edge → Bool
+do_boxes_meet e f = do_overlap e.a.x e.b.x f.a.x f.b.x && do_overlap e.a.y e.b.y f.a.y f.b.y

@@ -1,0 +1,13 @@
+pub mod Boxes
+pub mod Checks
+pub mod Crossings
+pub mod Figures
+pub mod Limits
+pub mod Meetings
+pub mod Outlines
+pub mod Paths
+pub mod Places
+pub mod PlaneMatrices
+pub mod Points
+pub mod ProperRings
+pub mod Stored

@@ -1,0 +1,22 @@
+-- Where two edges that aren't parallel meet.
+use Rattle.std.specs.Prelude.{◌≡◌, ◌≢◌, ℤ, pos, ◌<◌, ◌*ℤ◌, ◌-ℤ◌, nat_abs, true}
+use Rattle.plane_core.specs.declared.edge.Edge.{Edge}
+use Rattle.plane_core.specs.Points.{Point, is_on, turn_of}
+
+-- the point of an edge that divides it as n divides w
+abbrev pub divided : Edge → ℤ → ℤ → Point
+divided e n w = record {
+  x = w *ℤ e.a.x -ℤ n *ℤ (e.a.x -ℤ e.b.x);
+  y = w *ℤ e.a.y -ℤ n *ℤ (e.a.y -ℤ e.b.y);
+  w = nat_abs w;
+}
+
+-- the point on two edges that aren't parallel
+pub record IsMeeting (e f : Edge) (p : Point) : Type 0 where
+  pub turning : turn_of e f ≢ pos 0
+  pub first : is_on e p ≡ true
+  pub second : is_on f p ≡ true
+
+-- edges that share a point are parallel
+pub record HaveNoMeeting (e f : Edge) : Type 0 where
+  pub none : (p : Point) → 0 < p.w → ¬ (IsMeeting e f p)

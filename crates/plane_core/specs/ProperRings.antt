@@ -1,0 +1,32 @@
+-- Rings that neither cross nor run along each other: where they touch, they touch in ends of edges.
+use Rattle.std.specs.Prelude.{◌≡◌, ⊤, ◌<◌, Bool, ◌||◌, true, List, AllPairs}
+use Rattle.std.specs.List.{flat_map}
+use Rattle.plane_core.specs.declared.edge.Edge.{Edge}
+use Rattle.plane_core.specs.Points.{Point, is_on, is_at, IsSamePlace}
+use Rattle.plane_core.specs.Figures.{Figure, edges}
+use Rattle.plane_core.specs.Figures.Figure.{Points, Lines, Areas}
+
+-- a point of both edges
+pub record IsShared (e f : Edge) (p : Point) : Type 0 where
+  pub wide : 0 < p.w
+  pub first : is_on e p ≡ true
+  pub second : is_on f p ≡ true
+
+-- the point is an end of the edge
+abbrev pub is_end : Edge → Point → Bool
+is_end e p = is_at e.a p || is_at e.b p
+
+-- the edges share one point at most, and it is an end of one of them
+pub record MeetProperly (e f : Edge) : Type 0 where
+  pub one_place : (p q : Point) → IsShared e f p → IsShared e f q → IsSamePlace p q
+  pub at_end : (p : Point) → IsShared e f p → (is_end e p || is_end f p) ≡ true
+
+-- each two edges, at different places of the list, meet properly
+abbrev pub AreProper : List Edge → Type 0
+AreProper es = AllPairs MeetProperly es
+
+-- so do the edges of all rings of an area; other geometries have no rings
+abbrev pub HasProperRings : Figure → Type 0
+HasProperRings (Points vs) = ⊤
+HasProperRings (Lines paths) = ⊤
+HasProperRings (Areas rings) = AreProper (flat_map edges rings)

@@ -1,0 +1,180 @@
+//! Points, polylines and areas, as one list of vertices.
+
+ghost use Rattle.std.specs.Prelude.{◌≡◌, ◌++◌, ◌↔◌, length, OnOk, IfOk, IsSome, IfSome};
+ghost use Rattle.std.specs.List.{flat_map};
+ghost use Rattle.plane_core.specs.Figures.{Figure, IsGeometry, edges, dim_of};
+ghost use Rattle.plane_core.specs.Outlines.{path_ends, IsOutlineOf};
+ghost use Rattle.plane_core.specs.Stored.{paths_of, stored_figure, AreCuts, IsStored};
+
+use crate::check::is_stored;
+use crate::edge::Edge;
+use crate::outline::{Kind, Outline};
+use crate::path::{edge_at, last_or};
+use crate::vertex::Vertex;
+use std::alloc::{AllocError, Global};
+use std::marker::Model;
+
+/// Points, polylines, or the rings of polygons: the vertices of all paths in a row, and where each
+/// path ends.
+#[derive(Drop)]
+pub struct Geometry {
+    kind: Kind,
+    ends: Vec<u32>,
+    vertices: Vec<Vertex>,
+}
+
+impl Model for Geometry {
+    ghost Value = { Figure };
+
+    ghost view = { λ g. stored_figure g.kind g.ends.items g.vertices.items };
+
+    ghost invariant = { λ g. IsStored g.kind g.ends.items g.vertices.items };
+}
+
+/// Adds the edges of a path.
+fn push_edges(found: &mut Vec<Edge>, path: &[Vertex]) -> Result<(), AllocError>
+    ensures { OnOk result (found.new.items ≡ found.old.items ++ edges path.now) }
+{
+    for i in 1..path.len() {
+        let e = edge_at(path, i);
+        found.push(e)?;
+    }
+    Ok(())
+}
+
+/// Adds the first and the last vertex of a path.
+fn push_ends(found: &mut Vec<Vertex>, path: &[Vertex]) -> Result<(), AllocError>
+    ensures { OnOk result (found.new.items ≡ found.old.items ++ path_ends path.now) }
+{
+    if let Some((first, rest)) = path.split_first() {
+        let last = last_or(*first, rest);
+        found.push(*first)?;
+        found.push(last)?;
+    }
+    Ok(())
+}
+
+/// Adds the edges of all paths.
+fn push_all_edges(
+    found: &mut Vec<Edge>,
+    ends: &[u32],
+    vertices: &[Vertex],
+) -> Result<(), AllocError>
+    requires { AreCuts 0 ends.now (length vertices.now) }
+    ensures { let paths = paths_of 0 ends.now vertices.now in
+        OnOk result (found.new.items ≡ found.old.items ++ flat_map edges paths) }
+{
+    let mut start = 0;
+    for end in ends {
+        let next = *end as usize;
+        push_edges(found, &vertices[start..next])?;
+        start = next;
+    }
+    Ok(())
+}
+
+/// Adds the first and the last vertex of each path.
+fn push_all_ends(
+    found: &mut Vec<Vertex>,
+    ends: &[u32],
+    vertices: &[Vertex],
+) -> Result<(), AllocError>
+    requires { AreCuts 0 ends.now (length vertices.now) }
+    ensures { let paths = paths_of 0 ends.now vertices.now in
+        OnOk result (found.new.items ≡ found.old.items ++ flat_map path_ends paths) }
+{
+    let mut start = 0;
+    for end in ends {
+        let next = *end as usize;
+        push_ends(found, &vertices[start..next])?;
+        start = next;
+    }
+    Ok(())
+}
+
+/// The outline of polylines.
+fn lines_outline(alloc: Global, cuts: &[u32], vertices: &[Vertex]) -> Result<Outline, AllocError>
+    requires { AreCuts 0 cuts.now (length vertices.now) }
+    ensures { IfOk result (IsOutlineOf (stored_figure Kind.Lines cuts.now vertices.now)) }
+{
+    let mut edges = Vec::new(alloc);
+    push_all_edges(&mut edges, cuts, vertices)?;
+    let mut ends = Vec::new(alloc);
+    push_all_ends(&mut ends, cuts, vertices)?;
+    Ok(Outline {
+        kind: Kind::Lines,
+        edges,
+        ends,
+    })
+}
+
+/// The outline of rings.
+fn areas_outline(alloc: Global, cuts: &[u32], vertices: &[Vertex]) -> Result<Outline, AllocError>
+    requires { AreCuts 0 cuts.now (length vertices.now) }
+    ensures { IfOk result (IsOutlineOf (stored_figure Kind.Areas cuts.now vertices.now)) }
+{
+    let mut edges = Vec::new(alloc);
+    push_all_edges(&mut edges, cuts, vertices)?;
+    Ok(Outline {
+        kind: Kind::Areas,
+        edges,
+        ends: Vec::new(alloc),
+    })
+}
+
+/// The outline of single points.
+fn points_outline(alloc: Global, cuts: &[u32], vertices: &[Vertex]) -> Result<Outline, AllocError>
+    ensures { IfOk result (IsOutlineOf (stored_figure Kind.Points cuts.now vertices.now)) }
+{
+    Ok(Outline {
+        kind: Kind::Points,
+        edges: Vec::new(alloc),
+        ends: Vec::from_slice(alloc, vertices)?,
+    })
+}
+
+impl Geometry {
+    /// The geometry of a kind from the vertices of its paths in a row and from where each path
+    /// ends, or `None` where these make none.
+    ///
+    /// Of points each vertex is one. A polyline has two vertices or more, no two in a row the
+    /// same; a ring is such a polyline whose last vertex is its first one again. No path may be
+    /// missing.
+    pub fn new(kind: Kind, ends: Vec<u32>, vertices: Vec<Vertex>) -> Option<Geometry>
+        ensures some { IsSome result ↔ IsStored kind ends.items vertices.items }
+        ensures figure { IfSome result (λ g. g ≡ stored_figure kind ends.items vertices.items) }
+    {
+        if is_stored(kind, &ends, &vertices) {
+            Some(Geometry {
+                kind,
+                ends,
+                vertices,
+            })
+        } else {
+            None
+        }
+    }
+
+    /// The dimension: 0 for points, 1 for polylines, 2 for areas.
+    pub fn dim(&self) -> u8
+        ensures { result ≡ dim_of self.now }
+    {
+        match self.kind {
+            Kind::Points => 0,
+            Kind::Lines => 1,
+            Kind::Areas => 2,
+        }
+    }
+
+    /// The edges of the geometry, with its points or its polylines' ends.
+    pub fn outline(&self, alloc: Global) -> Result<Outline, AllocError>
+        ensures outline { IfOk result (IsOutlineOf self.now) }
+        ensures geometry { OnOk result (IsGeometry self.now) }
+    {
+        match self.kind {
+            Kind::Points => points_outline(alloc, &self.ends, &self.vertices),
+            Kind::Lines => lines_outline(alloc, &self.ends, &self.vertices),
+            Kind::Areas => areas_outline(alloc, &self.ends, &self.vertices),
+        }
+    }
+}

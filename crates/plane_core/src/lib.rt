@@ -1,0 +1,22 @@
+//! The plane of whole coordinates: points, polylines and areas of any direction, and the parts that
+//! they make of it.
+#![tactic(auto)]
+
+mod check;
+mod cross;
+mod edge;
+mod geometry;
+mod node;
+mod outline;
+mod part;
+mod path;
+mod place;
+mod vertex;
+
+pub use edge::Edge;
+pub use geometry::Geometry;
+pub use node::Node;
+pub use outline::{Kind, Outline, Standing};
+pub use part::Part;
+pub use place::{Lie, Place};
+pub use vertex::Vertex;

@@ -1,0 +1,159 @@
+//! A point at which edges end or meet, and the order of such points.
+
+ghost use Rattle.std.specs.Prelude.{◌≡◌, ◌≤◌, ◌*ℤ◌, ◌<ℤ◌, ◌≤ℤ◌, int_lt, pos, nat_abs, IsTrue, IfSome, IfNone};
+ghost use Rattle.std.specs.Ordering.{int_cmp};
+ghost use Rattle.plane_core.specs.Limits.{greatest_turn};
+ghost use Rattle.plane_core.specs.Crossings.{is_zero_between, is_not_zero, do_cross};
+
+use crate::cross::cross;
+use crate::edge::Edge;
+use crate::place::Place;
+use crate::vertex::Vertex;
+use std::cmp::Ordering;
+use wide_core::compare_products;
+
+/// A vertex, or the point where two edges that aren't parallel meet.
+#[derive(Clone, Copy, Debug)]
+pub struct Node {
+    pub place: Place,
+    ghost narrow: { nat_abs place.w ≤ greatest_turn },
+}
+
+/// Whether 0 lies between two numbers, or is one of them.
+#[inline]
+fn is_zero_between(a: i128, b: i128) -> bool
+    ensures { result ≡ is_zero_between a b }
+{
+    a <= 0 && 0 <= b || b <= 0 && 0 <= a
+}
+
+/// Whether a number isn't 0.
+#[inline]
+fn is_some(a: i128) -> bool
+    ensures { result ≡ is_not_zero a }
+{
+    a < 0 || 0 < a
+}
+
+/// Whether a number is less than 0.
+#[inline]
+fn is_low(a: i128) -> bool
+    ensures { result ≡ int_lt a (pos 0) }
+{
+    a < 0
+}
+
+/// Whether two edges aren't parallel and share a point: the ends of each lie on either side of the
+/// other, or on its line.
+fn do_cross(e: &Edge, f: &Edge) -> bool
+    ensures { result ≡ do_cross e.now f.now }
+{
+    let turn = e.turn_to(f);
+    let first = f.side_of(&e.a);
+    let last = f.side_of(&e.b);
+    let other_first = e.side_of(&f.a);
+    let other_last = e.side_of(&f.b);
+    let is_turning = is_some(turn);
+    let is_crossed = is_zero_between(first, last);
+    let is_crossing = is_zero_between(other_first, other_last);
+    is_turning & is_crossed & is_crossing
+}
+
+impl Node {
+    ghost use Rattle.plane_core.specs.Points.{at, mix};
+    ghost use Rattle.plane_core.specs.Places.{point_of, node_point, place_order};
+    ghost use Rattle.plane_core.specs.Meetings.{divided, IsMeeting, HaveNoMeeting};
+
+    /// A vertex.
+    pub fn at(v: &Vertex) -> Node
+        ensures { node_point result ≡ at v.now }
+    {
+        Node {
+            place: Place::at(v),
+        }
+    }
+
+    /// The point that two edges share, where they aren't parallel and share one.
+    pub fn meeting(e: &Edge, f: &Edge) -> Option<Node>
+        ensures some { IfSome result (λ n. IsMeeting e.now f.now (node_point n)) }
+        ensures none { IfNone result (HaveNoMeeting e.now f.now) }
+    {
+        if do_cross(e, f) {
+            Some(Node::crossing(e, f))
+        } else {
+            None
+        }
+    }
+
+    /// The point in which two edges cross.
+    fn crossing(e: &Edge, f: &Edge) -> Node
+        requires { IsTrue (do_cross e.now f.now) }
+        ensures { IsMeeting e.now f.now (node_point result) }
+    {
+        let side = f.side_of(&e.a);
+        let turn = e.turn_to(f);
+        if is_low(turn) {
+            Node::along(e, -side, -turn)
+        } else {
+            Node::along(e, side, turn)
+        }
+    }
+
+    /// The point of an edge that divides it as `n` divides `w`.
+    fn along(e: &Edge, n: i128, w: i128) -> Node
+        requires not_before { pos 0 ≤ℤ n }
+        requires not_beyond { n ≤ℤ w }
+        requires positive { pos 0 <ℤ w }
+        requires narrow { nat_abs w ≤ greatest_turn }
+        ensures { node_point result ≡ divided e.now n w }
+    {
+        let run_back = e.b.run_to(&e.a);
+        let rise_back = e.b.rise_to(&e.a);
+        let x = cross(w, i128::from(e.a.x), n, run_back);
+        let y = cross(w, i128::from(e.a.y), n, rise_back);
+        Node {
+            place: Place { x, y, w },
+        }
+    }
+
+    /// The middle of two nodes, by their triples: some point strictly between them.
+    pub fn middle(&self, other: &Node) -> Place
+        ensures { point_of result ≡ mix 1 (node_point self.now) 1 (node_point other.now) }
+    {
+        let (k, l) = (&self.place, &other.place);
+        Place {
+            x: k.x + l.x,
+            y: k.y + l.y,
+            w: k.w + l.w,
+        }
+    }
+
+    /// `Less` where it lies further left than another, or straight below.
+    pub fn compare(&self, other: &Node) -> Ordering
+        ensures { result ≡ place_order (node_point self.now) (node_point other.now) }
+    {
+        match self.compare_x(other) {
+            Ordering::Less => Ordering::Less,
+            Ordering::Equal => self.compare_y(other),
+            Ordering::Greater => Ordering::Greater,
+        }
+    }
+
+    /// `Less` where it lies further left than another.
+    fn compare_x(&self, other: &Node) -> Ordering
+        ensures { let p = node_point self.now in
+            let q = node_point other.now in
+            result ≡ int_cmp (p.x *ℤ pos q.w) (q.x *ℤ pos p.w) }
+    {
+        compare_products(self.place.x, other.place.w, other.place.x, self.place.w)
+    }
+
+    /// `Less` where it lies lower than another.
+    fn compare_y(&self, other: &Node) -> Ordering
+        ensures { let p = node_point self.now in
+            let q = node_point other.now in
+            result ≡ int_cmp (p.y *ℤ pos q.w) (q.y *ℤ pos p.w) }
+    {
+        compare_products(self.place.y, other.place.w, other.place.y, self.place.w)
+    }
+}

@@ -1,0 +1,50 @@
+//! A point with whole coordinates.
+
+ghost use Rattle.geom_core.specs.Limits.{IsCoordinate};
+
+use geom_core::LIMIT;
+
+/// A point whose coordinates are whole numbers from `-LIMIT` to `LIMIT` of `geom_core`.
+#[derive(Clone, Copy, Debug, PartialEq, Eq)]
+pub struct Vertex {
+    pub x: i64,
+    pub y: i64,
+    ghost x_in_range: { IsCoordinate x },
+    ghost y_in_range: { IsCoordinate y },
+}
+
+impl Vertex {
+    ghost use Rattle.std.specs.Prelude.{◌≡◌, ◌↔◌, ◌*◌, ◌≤◌, ◌-ℤ◌, nat_abs, IsSome, IfSome};
+    ghost use Rattle.geom_core.specs.Limits.{greatest_coordinate};
+
+    /// The point `(x, y)`, or `None` where a coordinate is out of range.
+    pub fn new(x: i64, y: i64) -> Option<Vertex>
+        ensures some { IsSome result ↔ (IsCoordinate x × IsCoordinate y) }
+        ensures x { IfSome result (λ v. v.x ≡ x) }
+        ensures y { IfSome result (λ v. v.y ≡ y) }
+    {
+        if -LIMIT <= x && x <= LIMIT && -LIMIT <= y && y <= LIMIT {
+            Some(Vertex { x, y })
+        } else {
+            None
+        }
+    }
+
+    /// How far another vertex lies to the right.
+    #[inline]
+    pub(crate) fn run_to(&self, other: &Vertex) -> i128
+        ensures value { result ≡ other.now.x -ℤ self.now.x }
+        ensures bound { nat_abs result ≤ 2 * greatest_coordinate }
+    {
+        i128::from(other.x - self.x)
+    }
+
+    /// How far another vertex lies above.
+    #[inline]
+    pub(crate) fn rise_to(&self, other: &Vertex) -> i128
+        ensures value { result ≡ other.now.y -ℤ self.now.y }
+        ensures bound { nat_abs result ≤ 2 * greatest_coordinate }
+    {
+        i128::from(other.y - self.y)
+    }
+}

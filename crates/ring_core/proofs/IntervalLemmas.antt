@@ -1,0 +1,117 @@
+-- Intervals between two numbers, in either order: which numbers two of them have in common.
+use Rattle.std.proofs.Common.{◌≡◌, ◌⊎◌, inl, inr, true, false, arith, refl, sym, subst, ◌∙◌}
+use Rattle.std.specs.Prelude.{ℕ, ℤ, pos, ◌*ℤ◌, ◌≤ℤ◌, ◌<ℤ◌, int_le, int_lt, Bool, ◌&&◌, ◌||◌}
+use Rattle.std.specs.Int.{int_min, int_max}
+use Rattle.std.proofs.lemmas.Int.{ints, clamps, by_lt_z}
+use Rattle.plane_core.specs.Points.{is_between}
+use Rattle.plane_core.proofs.ScaleLemmas.{no_less_scaled}
+use Rattle.plane_core.proofs.CrossingLemmas.{le_true, true_le, or_either}
+use Rattle.plane_core.proofs.CheckLemmas.{and_first, and_second}
+use Rattle.ring_core.specs.PairTests.{share_interval}
+
+-- a whole number between two others
+pub data IsIn (a b z : ℤ) : Type 0 where
+  Up : a ≤ℤ z → z ≤ℤ b → IsIn a b z
+  Down : b ≤ℤ z → z ≤ℤ a → IsIn a b z
+
+-- the same of numbers w times as large
+pub scaled_in : (a b z : ℤ) (w : ℕ) → is_between a b w z ≡ true → IsIn (pos w *ℤ a) (pos w *ℤ b) z
+scaled_in a b z w h = elim (or_either (int_le (pos w *ℤ a) z && int_le z (pos w *ℤ b)) (int_le (pos w *ℤ b) z && int_le z (pos w *ℤ a)) h) [
+  | inl k ↦ Up (true_le _ _ (and_first _ _ k)) (true_le _ _ (and_second _ _ k))
+  | inr k ↦ Down (true_le _ _ (and_first _ _ k)) (true_le _ _ (and_second _ _ k))
+]
+
+pub in_scaled : (a b z : ℤ) (w : ℕ) → IsIn (pos w *ℤ a) (pos w *ℤ b) z → is_between a b w z ≡ true
+in_scaled a b z w (Up h k) = rw (le_true (pos w *ℤ a) z h, le_true z (pos w *ℤ b) k) refl
+in_scaled a b z w (Down h k) = last (int_le (pos w *ℤ a) z && int_le z (pos w *ℤ b)) (rw (le_true (pos w *ℤ b) z h, le_true z (pos w *ℤ a) k) refl)
+  where
+    last : {d : Bool} (c : Bool) → d ≡ true → (c || d) ≡ true
+    last true h = refl
+    last false h = h
+
+pub in_times : (a b z : ℤ) (w : ℤ) → pos 0 <ℤ w → IsIn a b z → IsIn (w *ℤ a) (w *ℤ b) (w *ℤ z)
+in_times a b z w hw (Up h k) = Up (no_less_scaled w a z hw h) (no_less_scaled w z b hw k)
+in_times a b z w hw (Down h k) = Down (no_less_scaled w b z hw h) (no_less_scaled w z a hw k)
+
+-- one of two numbers
+pub min_pick : (a b : ℤ) → (int_min a b ≡ a) ⊎ (int_min a b ≡ b)
+min_pick a b = by_lt_z a b (λ h. inl (omega (arith, ints, clamps))) (λ h. inr (omega (arith, ints, clamps)))
+
+pub max_pick : (a b : ℤ) → (int_max a b ≡ a) ⊎ (int_max a b ≡ b)
+max_pick a b = by_lt_z a b (λ h. inr (omega (arith, ints, clamps))) (λ h. inl (omega (arith, ints, clamps)))
+
+-- the greater of the two beginnings, and the lesser of the two ends
+abbrev pub start_of : ℤ → ℤ → ℤ → ℤ → ℤ
+start_of a b c d = int_max (int_min a b) (int_min c d)
+
+abbrev pub end_of : ℤ → ℤ → ℤ → ℤ → ℤ
+end_of a b c d = int_min (int_max a b) (int_max c d)
+
+-- where the beginning is before the end, both are in both intervals, and neither has one number alone
+pub record IsCommon (a b c d : ℤ) : Type 0 where
+  pub ordered : start_of a b c d <ℤ end_of a b c d
+  pub first_start : IsIn a b (start_of a b c d)
+  pub first_end : IsIn a b (end_of a b c d)
+  pub second_start : IsIn c d (start_of a b c d)
+  pub second_end : IsIn c d (end_of a b c d)
+  pub first_long : ¬ (a ≡ b)
+  pub second_long : ¬ (c ≡ d)
+
+pub common : (a b c d : ℤ) → share_interval a b c d ≡ true → IsCommon a b c d
+common a b c d h =
+    let k : start_of a b c d <ℤ end_of a b c d = plain (start_of a b c d) (end_of a b c d) h in
+    record {
+      ordered = k;
+      first_start = by_lt_z a b (λ l. Up (omega (arith, ints, clamps)) (omega (arith, ints, clamps))) (λ l. Down (omega (arith, ints, clamps)) (omega (arith, ints, clamps)));
+      first_end = by_lt_z a b (λ l. Up (omega (arith, ints, clamps)) (omega (arith, ints, clamps))) (λ l. Down (omega (arith, ints, clamps)) (omega (arith, ints, clamps)));
+      second_start = by_lt_z c d (λ l. Up (omega (arith, ints, clamps)) (omega (arith, ints, clamps))) (λ l. Down (omega (arith, ints, clamps)) (omega (arith, ints, clamps)));
+      second_end = by_lt_z c d (λ l. Up (omega (arith, ints, clamps)) (omega (arith, ints, clamps))) (λ l. Down (omega (arith, ints, clamps)) (omega (arith, ints, clamps)));
+      first_long = λ e. let z : a ≡ b = e in absurd (omega (arith, ints, clamps));
+      second_long = λ e. let z : c ≡ d = e in absurd (omega (arith, ints, clamps));
+    }
+  where
+    plain : (m n : ℤ) → int_lt m n ≡ true → m <ℤ n
+    plain m n h = grind (arith, ints)
+
+trans : (k m n : ℤ) → k ≤ℤ m → m ≤ℤ n → k ≤ℤ n
+trans k m n h l = omega (arith, ints)
+
+-- the numbers between, scaled
+pub low_of : (a b z w : ℤ) → pos 0 <ℤ w → IsIn (w *ℤ a) (w *ℤ b) z → (w *ℤ int_min a b) ≤ℤ z
+low_of a b z w hw (Up h k) = trans _ _ _ (no_less_scaled w (int_min a b) a hw (omega (arith, ints, clamps))) h
+low_of a b z w hw (Down h k) = trans _ _ _ (no_less_scaled w (int_min a b) b hw (omega (arith, ints, clamps))) h
+
+pub high_of : (a b z w : ℤ) → pos 0 <ℤ w → IsIn (w *ℤ a) (w *ℤ b) z → z ≤ℤ (w *ℤ int_max a b)
+high_of a b z w hw (Up h k) = trans _ _ _ k (no_less_scaled w b (int_max a b) hw (omega (arith, ints, clamps)))
+high_of a b z w hw (Down h k) = trans _ _ _ k (no_less_scaled w a (int_max a b) hw (omega (arith, ints, clamps)))
+
+-- a number between both pairs is no less than the beginning
+pub from_start : (a b c d z w : ℤ) → pos 0 <ℤ w → IsIn (w *ℤ a) (w *ℤ b) z → IsIn (w *ℤ c) (w *ℤ d) z → (w *ℤ start_of a b c d) ≤ℤ z
+from_start a b c d z w hw h k = elim (max_pick (int_min a b) (int_min c d)) [
+  | inl e ↦ subst (λ (m : ℤ). (w *ℤ m) ≤ℤ z) (sym e) (low_of a b z w hw h)
+  | inr e ↦ subst (λ (m : ℤ). (w *ℤ m) ≤ℤ z) (sym e) (low_of c d z w hw k)
+]
+
+pub to_end : (a b c d z w : ℤ) → pos 0 <ℤ w → IsIn (w *ℤ a) (w *ℤ b) z → IsIn (w *ℤ c) (w *ℤ d) z → z ≤ℤ (w *ℤ end_of a b c d)
+to_end a b c d z w hw h k = elim (min_pick (int_max a b) (int_max c d)) [
+  | inl e ↦ subst (λ (m : ℤ). z ≤ℤ (w *ℤ m)) (sym e) (high_of a b z w hw h)
+  | inr e ↦ subst (λ (m : ℤ). z ≤ℤ (w *ℤ m)) (sym e) (high_of c d z w hw k)
+]
+
+-- so it is the beginning where the intervals share one number at most
+pub at_start : (a b c d z w : ℤ) → pos 0 <ℤ w → share_interval a b c d ≡ false → IsIn (w *ℤ a) (w *ℤ b) z → IsIn (w *ℤ c) (w *ℤ d) z → z ≡ w *ℤ start_of a b c d
+at_start a b c d z w hw none h k =
+    same _ _ _ (from_start a b c d z w hw h k) (to_end a b c d z w hw h k) (no_less_scaled w _ _ hw (plain (start_of a b c d) (end_of a b c d) none))
+  where
+    same : (m z n : ℤ) → m ≤ℤ z → z ≤ℤ n → n ≤ℤ m → z ≡ m
+    same m z n h k l = omega (arith, ints)
+
+    plain : (m n : ℤ) → int_lt m n ≡ false → n ≤ℤ m
+    plain m n h = grind (arith, ints)
+
+-- the beginning is an end of one of the intervals
+pub start_pick : (a b c d : ℤ) → ((start_of a b c d ≡ a) ⊎ (start_of a b c d ≡ b)) ⊎ ((start_of a b c d ≡ c) ⊎ (start_of a b c d ≡ d))
+start_pick a b c d = elim (max_pick (int_min a b) (int_min c d)) [
+  | inl e ↦ elim (min_pick a b) [ inl f ↦ inl (inl (e ∙ f)) | inr f ↦ inl (inr (e ∙ f)) ]
+  | inr e ↦ elim (min_pick c d) [ inl f ↦ inr (inl (e ∙ f)) | inr f ↦ inr (inr (e ∙ f)) ]
+]

@@ -1,0 +1,6 @@
+pub mod BoxLemmas
+pub mod EntryLemmas
+pub mod IntervalLemmas
+pub mod LineLemmas
+pub mod PairLemmas
+pub mod RingLemmas

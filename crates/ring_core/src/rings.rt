@@ -1,0 +1,112 @@
+//! Whether each two of many edges meet properly.
+
+ghost use Rattle.std.specs.Prelude.{◌↔◌, ◌≤◌, ◌^◌, ◌<◌, ℕ, All, length, count_by, IsTrue, IfOk};
+ghost use Rattle.rtree_core.specs.Trees.{entries_in, has_number};
+ghost use Rattle.plane_core.specs.ProperRings.{MeetProperly, AreProper, HasProperRings};
+ghost use Rattle.ring_core.specs.Candidates.{AreEntriesOf, HasEntriesOf, MeetsLater};
+
+use crate::bounds::bounds_of;
+use crate::pair::meet_properly;
+use plane_core::{Edge, Geometry, Kind};
+use rtree_core::{Entry, RTree};
+use std::alloc::{AllocError, Global};
+
+/// The greatest number of edges that are compared each with each other.
+const FEW: usize = 16;
+
+/// Whether an edge meets each of some others properly.
+fn meets_all(e: &Edge, others: &[Edge]) -> bool
+    ensures { IsTrue result ↔ All (MeetProperly e.now) others.now }
+{
+    others.iter().all(|f| meet_properly(e, f))
+}
+
+/// Whether each two edges meet properly, by comparing all pairs.
+fn are_all_proper(edges: &[Edge]) -> bool
+    ensures { IsTrue result ↔ AreProper edges.now }
+{
+    for (i, e) in edges.iter().enumerate() {
+        if !meets_all(e, &edges[i + 1..]) {
+            return false;
+        }
+    }
+    true
+}
+
+/// The boxes of edges, numbered by their places.
+fn entries_of(alloc: Global, edges: &[Edge]) -> Result<Vec<Entry>, AllocError>
+    requires { length edges.now < 2 ^ 32 }
+    ensures entries { IfOk result (λ v. AreEntriesOf edges.now v.items) }
+    ensures distinct { IfOk result (λ v. (k : ℕ) → count_by (has_number k) v.items ≤ 1) }
+{
+    let mut entries = Vec::new(alloc);
+    for (i, e) in edges.iter().enumerate() {
+        let shape = bounds_of(e);
+        let number = i as u32;
+        entries.push(Entry { shape, number })?;
+    }
+    Ok(entries)
+}
+
+/// Whether an edge, which is at place `i`, meets properly the one at place `k` where that comes
+/// later.
+fn meets_later(edges: &[Edge], e: &Edge, i: usize, k: usize) -> bool
+    ensures { IsTrue result ↔ MeetsLater edges.now e.now i k }
+{
+    if i < k && k < edges.len() {
+        meet_properly(e, &edges[k])
+    } else {
+        true
+    }
+}
+
+/// The same of each of some places.
+fn meets_each_later(edges: &[Edge], e: &Edge, i: usize, places: &[u32]) -> bool
+    ensures { IsTrue result ↔ All (MeetsLater edges.now e.now i) places.now }
+{
+    for k in places {
+        if !meets_later(edges, e, i, *k as usize) {
+            return false;
+        }
+    }
+    true
+}
+
+/// Whether each two edges meet properly, by comparing each with those whose boxes meet its own.
+fn are_near_proper(alloc: Global, tree: &RTree, edges: &[Edge]) -> Result<bool, AllocError>
+    requires { HasEntriesOf edges.now (entries_in tree.now) }
+    ensures { IfOk result (λ is_proper. IsTrue is_proper ↔ AreProper edges.now) }
+{
+    for (i, e) in edges.iter().enumerate() {
+        let near = tree.window(alloc, &bounds_of(e))?;
+        if !meets_each_later(edges, e, i, &near) {
+            return Ok(false);
+        }
+    }
+    Ok(true)
+}
+
+/// Whether each two edges, at different places of the list, share one point at most, which is an
+/// end of one of them.
+pub fn is_proper(alloc: Global, edges: &[Edge]) -> Result<bool, AllocError>
+    ensures { IfOk result (λ is_proper. IsTrue is_proper ↔ AreProper edges.now) }
+{
+    if edges.len() <= FEW || edges.len() > u32::MAX as usize {
+        return Ok(are_all_proper(edges));
+    }
+    let tree = RTree::pack(alloc, entries_of(alloc, edges)?)?;
+    are_near_proper(alloc, &tree, edges)
+}
+
+/// Whether the rings of a geometry neither cross nor run along each other or themselves: each two
+/// of their edges share one point at most, which is an end of one of them. Points and lines have
+/// no rings.
+pub fn has_proper_rings(alloc: Global, geometry: &Geometry) -> Result<bool, AllocError>
+    ensures { IfOk result (λ is_proper. IsTrue is_proper ↔ HasProperRings geometry.now) }
+{
+    let outline = geometry.outline(alloc)?;
+    match outline.kind {
+        Kind::Points | Kind::Lines => Ok(true),
+        Kind::Areas => is_proper(alloc, &outline.edges),
+    }
+}

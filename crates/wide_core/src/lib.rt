@@ -1,0 +1,8 @@
+//! Exact arithmetic beyond 128 bits: the order of products of 128-bit numbers.
+#![tactic(auto)]
+
+mod product;
+mod wide;
+
+pub use product::compare_products;
+pub use wide::Wide;

@@ -1,0 +1,9 @@
+pub mod MemberLemmas
+pub mod LoopLemmas
+pub mod HeadingLemmas
+pub mod TextLemmas
+pub mod StepLemmas
+pub mod PathLemmas
+pub mod CutLemmas
+pub mod WideLemmas
+pub mod AnswerLemmas

@@ -1,0 +1,95 @@
+-- Points of many, polylines and polygons are read as the grammar says, in one way.
+use Rattle.std.proofs.Common.{◌≡◌, ℕ, List, [], ◌∷◌, ◌++◌, inl, inr, get_or, Option, Some, None, Result, Ok, Err, refl, sym, ◌∙◌, ap}
+use Rattle.std.specs.Prelude.{IfOk, IfSome, IfNone}
+use Rattle.std.proofs.lemmas.Option.{none-some}
+use Rattle.wkt_core.specs.Grammar.{RawPoint, PointList, InParentheses}
+use Rattle.wkt_core.specs.PointSteps.{point_at}
+use Rattle.wkt_core.specs.TokenSteps.{symbol_at}
+use Rattle.wkt_core.specs.ListSteps.{TakesPoint, TakesPoints, TakesLists}
+use Rattle.wkt_core.proofs.FrontLemmas.{Stops, NoBlank, Begins, Begins-shorter}
+use Rattle.wkt_core.proofs.ItemLemmas.{IsExact}
+use Rattle.wkt_core.proofs.ListGrammar.{IsReading, enclosed_reading, enclosed_exact}
+use Rattle.wkt_core.proofs.PointLemmas.{points_reading, points_exact, lists_reading, lists_exact, text_lists_reading, text_lists_exact}
+use Rattle.wkt_any_core.specs.Grammar.{Member, Polygons}
+use Rattle.wkt_any_core.specs.Steps.{TakesMember, TakesMembers, TakesPolygons}
+
+-- no point begins with a parenthesis
+no_point_opens : (u : List ℕ) → point_at (40 ∷ u) ≡ None
+no_point_opens u = refl
+
+pub bare_or_enclosed : (text : List ℕ) (p : RawPoint) (rest u : List ℕ) → text ≡ 40 ∷ u → TakesPoint text p rest → ⊥
+bare_or_enclosed text p rest u open_at h = none-some _ (sym (no_point_opens u) ∙ ap point_at (sym open_at) ∙ h)
+
+head_same : (p q : RawPoint) → p ∷ [] ≡ q ∷ [] → p ≡ q
+head_same p q e = ap (λ ps. get_or ps 0 p) e
+
+member_value : (text : List ℕ) (p q : RawPoint) (r s : List ℕ) → TakesMember text p r → TakesMember text q s → p ≡ q
+member_value text p q r s (inl h) (inl k) = points_exact.value text p q r s h k
+member_value text p q r s (inl h) (inr (u, k, items)) = absurd (bare_or_enclosed text p r u k h)
+member_value text p q r s (inr (u, h, items)) (inl k) = absurd (bare_or_enclosed text q s u h k)
+member_value text p q r s (inr h) (inr k) = head_same p q (lists_exact.value text (p ∷ []) (q ∷ []) r s h k)
+
+member_rest : (text : List ℕ) (p q : RawPoint) (r s : List ℕ) → TakesMember text p r → TakesMember text q s → r ≡ s
+member_rest text p q r s (inl h) (inl k) = points_exact.rest text p q r s h k
+member_rest text p q r s (inl h) (inr (u, k, items)) = absurd (bare_or_enclosed text p r u k h)
+member_rest text p q r s (inr (u, h, items)) (inl k) = absurd (bare_or_enclosed text q s u h k)
+member_rest text p q r s (inr h) (inr k) = lists_exact.rest text (p ∷ []) (q ∷ []) r s h k
+
+member_begins : (text : List ℕ) (p : RawPoint) (rest : List ℕ) → TakesMember text p rest → Begins Member text p rest
+member_begins text p rest (inl h) = let (s, hs, es) = points_reading.begins text p rest h in (s, inl hs, es)
+member_begins text p rest (inr h) = let (s, hs, es) = lists_reading.begins text (p ∷ []) rest h in (s, inr hs, es)
+
+pub member_exact : IsExact TakesMember
+member_exact = record {
+  value = member_value;
+  rest = member_rest;
+  shorter = λ text p r h. Begins-shorter Member text p r (member_begins text p r h);
+}
+
+member_front : (p : RawPoint) (s rest : List ℕ) → Member p s → Stops rest → TakesMember (s ++ rest) p rest
+member_front p s rest (inl h) stop = inl (points_reading.front p s rest h stop)
+member_front p s rest (inr h) stop = inr (lists_reading.front (p ∷ []) s rest h stop)
+
+member_solid : (p : RawPoint) (s rest : List ℕ) → Member p s → NoBlank (s ++ rest)
+member_solid p s rest (inl h) = points_reading.solid p s rest h
+member_solid p s rest (inr h) = lists_reading.solid (p ∷ []) s rest h
+
+pub member_reading : IsReading Member TakesMember
+member_reading = record { begins = member_begins; front = member_front; solid = member_solid }
+
+pub members_exact : IsExact TakesMembers
+members_exact = enclosed_exact Member TakesMember member_reading member_exact
+
+pub members_reading : IsReading (InParentheses Member) TakesMembers
+members_reading = enclosed_reading Member TakesMember member_reading
+
+pub polygons_exact : IsExact TakesPolygons
+polygons_exact = enclosed_exact (InParentheses PointList) TakesLists text_lists_reading text_lists_exact
+
+pub polygons_reading : IsReading Polygons TakesPolygons
+polygons_reading = enclosed_reading (InParentheses PointList) TakesLists text_lists_reading
+
+-- ---- what is read
+
+-- what a success with a value promises, and one without
+pub ok_some : {A E : Type 0} {P Q : A → Type 0} (r : Result (Option A) E) → IfOk r (λ o. IfSome o P) → ((x : A) → P x → Q x) → IfOk r (λ o. IfSome o Q)
+ok_some (Ok None) h f = tt
+ok_some (Ok (Some x)) h f = f x h
+ok_some (Err e) h f = tt
+
+pub ok_none : {A E P Q : Type 0} (r : Result (Option A) E) → IfOk r (λ o. IfNone o P) → (P → Q) → IfOk r (λ o. IfNone o Q)
+ok_none (Ok None) h f = f h
+ok_none (Ok (Some x)) h f = tt
+ok_none (Err e) h f = tt
+
+-- what begins with a parenthesis is no point by itself
+pub no_enclosed : (text u : List ℕ) → text ≡ 40 ∷ u → ((p : RawPoint) (rest : List ℕ) → TakesPoints text (p ∷ []) rest → ⊥)
+    → (p : RawPoint) (rest : List ℕ) → TakesMember text p rest → ⊥
+no_enclosed text u open_at none p rest (inl h) = bare_or_enclosed text p rest u open_at h
+no_enclosed text u open_at none p rest (inr h) = none p rest h
+
+-- and what doesn't is none in parentheses
+pub no_bare : (text : List ℕ) → None ≡ symbol_at 40 text → ((p : RawPoint) (rest : List ℕ) → TakesPoint text p rest → ⊥)
+    → (p : RawPoint) (rest : List ℕ) → TakesMember text p rest → ⊥
+no_bare text closed none p rest (inl h) = none p rest h
+no_bare text closed none p rest (inr (u, open_at, items)) = none-some u (closed ∙ ap (symbol_at 40) open_at)

@@ -1,0 +1,37 @@
+-- What a text of any geometry means: the geometry that it spells at a scale.
+use Rattle.std.specs.Prelude.{ℕ, List}
+use Rattle.plane_core.specs.Figures.{Figure}
+use Rattle.wkt_core.specs.declared.scale.Scale.{Scale}
+use Rattle.wkt_core.specs.Grammar.{RawPoint}
+use Rattle.wkt_core.specs.Spelling.{AllNumbersGood, positions}
+use Rattle.wkt_any_core.specs.declared.heading.Heading.{Heading}
+use Rattle.wkt_any_core.specs.declared.rings.Rings.{Rings}
+use Rattle.wkt_any_core.specs.Grammar.{Raw}
+use Rattle.wkt_any_core.specs.Drawing.{Draws}
+
+-- the text is well formed, its numbers are whole and in range, and its points draw the geometry
+pub record Spells (scale : Scale) (rings : Rings) (text : List ℕ) (g : Figure) : Type 0 where
+  pub heading : Heading
+  pub lists : List (List RawPoint)
+  pub raw : Raw text heading lists
+  pub good : AllNumbersGood scale lists
+  pub draws : Draws rings heading.keyword (positions scale lists) g
+
+-- the text isn't well formed
+abbrev pub HasNoRawForm : List ℕ → Type 0
+HasNoRawForm text = (heading : Heading) (lists : List (List RawPoint)) → ¬ (Raw text heading lists)
+
+-- some raw form of the text has a number that isn't whole or is out of range
+pub record HasBadNumber (scale : Scale) (text : List ℕ) : Type 0 where
+  pub heading : Heading
+  pub lists : List (List RawPoint)
+  pub raw : Raw text heading lists
+  pub bad : ¬ (AllNumbersGood scale lists)
+
+-- the text is well formed with good numbers, but no geometry is drawn
+pub record HasNoFigure (scale : Scale) (rings : Rings) (text : List ℕ) : Type 0 where
+  pub heading : Heading
+  pub lists : List (List RawPoint)
+  pub raw : Raw text heading lists
+  pub good : AllNumbersGood scale lists
+  pub formless : (g : Figure) → ¬ (Draws rings heading.keyword (positions scale lists) g)

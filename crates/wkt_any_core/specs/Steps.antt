@@ -1,0 +1,53 @@
+-- What the steps of the reader over headings, bodies and the whole text take, and what they leave.
+-- Only contracts inside the crate cite these words; proofs tie them to the grammar, in both
+-- directions.
+use Rattle.std.specs.Prelude.{◌≡◌, ◌⊎◌, ℕ, Bool, false, true, List, [], ◌∷◌, codes}
+use Rattle.wkt_core.specs.declared.keyword.Keyword.{Keyword}
+use Rattle.wkt_core.specs.declared.keyword.Keyword.TheVariants.{Point, LineString, Polygon}
+use Rattle.wkt_core.specs.Grammar.{RawPoint}
+use Rattle.wkt_core.specs.TokenSteps.{skip, TakesLetters}
+use Rattle.wkt_core.specs.ListSteps.{Enclosed, TakesPoint, TakesPoints, TakesLists, TakesWord}
+use Rattle.wkt_core.specs.ListSteps.{TakesBody as TakesOne}
+use Rattle.wkt_any_core.specs.declared.heading.Heading.{Heading}
+use Rattle.wkt_any_core.specs.Grammar.{joined}
+
+-- a keyword, by itself or behind "multi"
+abbrev pub TakesKind : List ℕ → Bool → Keyword → List ℕ → Type 0
+TakesKind text false keyword rest = TakesWord text keyword rest
+TakesKind text true keyword rest =
+    (m : List ℕ) × TakesLetters (codes "multi") text m × TakesWord m keyword rest
+
+abbrev pub TakesHeading : List ℕ → Heading → List ℕ → Type 0
+TakesHeading text heading rest = TakesKind text heading.is_multi heading.keyword rest
+
+-- a point, as it is or in parentheses
+abbrev pub TakesMember : List ℕ → RawPoint → List ℕ → Type 0
+TakesMember text p rest = TakesPoint text p rest ⊎ TakesPoints text (p ∷ []) rest
+
+abbrev pub TakesMembers : List ℕ → List RawPoint → List ℕ → Type 0
+TakesMembers text ps rest = Enclosed TakesMember text ps rest
+
+abbrev pub TakesPolygons : List ℕ → List (List (List RawPoint)) → List ℕ → Type 0
+TakesPolygons text polygons rest = Enclosed TakesLists text polygons rest
+
+-- what stands behind a keyword of many
+abbrev pub TakesMany : Keyword → List ℕ → List (List RawPoint) → List ℕ → Type 0
+TakesMany Point text (ps ∷ []) rest = TakesMembers text ps rest
+TakesMany LineString text lists rest = TakesLists text lists rest
+TakesMany Polygon text lists rest =
+    (polygons : List (List (List RawPoint))) × (lists ≡ joined polygons)
+    × TakesPolygons text polygons rest
+TakesMany _ text _ rest = ⊥
+
+abbrev pub TakesBodyBy : Bool → Keyword → List ℕ → List (List RawPoint) → List ℕ → Type 0
+TakesBodyBy false keyword text lists rest = TakesOne keyword text lists rest
+TakesBodyBy true keyword text lists rest = TakesMany keyword text lists rest
+
+abbrev pub TakesBody : Heading → List ℕ → List (List RawPoint) → List ℕ → Type 0
+TakesBody heading text lists rest = TakesBodyBy heading.is_multi heading.keyword text lists rest
+
+-- the whole text is a heading with lists of points
+abbrev pub TakesText : List ℕ → Heading → List (List RawPoint) → Type 0
+TakesText text heading lists =
+    (m : List ℕ) × (e : List ℕ) × TakesHeading (skip text) heading m
+    × TakesBody heading (skip m) lists e × (skip e ≡ [])

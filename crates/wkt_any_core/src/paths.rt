@@ -1,0 +1,121 @@
+//! The vertices of all paths of a text, gathered as they are read.
+
+ghost use Rattle.std.specs.Prelude.{◌≡◌};
+ghost use Rattle.wkt_core.specs.declared.scale.Scale.{Scale};
+ghost use Rattle.wkt_core.specs.Grammar.{RawPoint};
+ghost use Rattle.wkt_core.specs.PointSteps.{point_read};
+ghost use Rattle.wkt_any_core.specs.Held.{IsVertexOf};
+
+use plane_core::Vertex;
+use std::alloc::{AllocError, Global};
+use wkt_core::ReadPoint;
+
+/// The vertices of all paths in a row, and where each path ends, with the path that is being read.
+#[derive(Drop)]
+pub(crate) struct Paths {
+    pub(crate) vertices: Vec<Vertex>,
+    pub(crate) ends: Vec<u32>,
+    /// The vertices of the path that is being read.
+    open: Vec<Vertex>,
+    /// Whether each number so far is a whole number of units and in range.
+    pub(crate) are_good: bool,
+    /// Whether a path whose points are all the same is left out.
+    skips_dots: bool,
+}
+
+/// The vertex of a point that was read, where its numbers are whole and in range.
+fn vertex_of(point: &ReadPoint) -> Option<Vertex>
+    ensures { (scale : Scale) (p : RawPoint)
+        → point.now ≡ point_read scale p → IsVertexOf scale p result }
+{
+    if !point.whole {
+        return None;
+    }
+    let position = point.position?;
+    Vertex::new(position.x, position.y)
+}
+
+impl Paths {
+    ghost use Rattle.std.specs.Prelude.{◌≡◌, ◌++◌, ◌∷◌, [], Bool, List, OnOk};
+    ghost use Rattle.wkt_core.specs.declared.scale.Scale.{Scale};
+    ghost use Rattle.wkt_core.specs.Grammar.{RawPoint};
+    ghost use Rattle.wkt_core.specs.PointSteps.{point_read};
+    ghost use Rattle.wkt_any_core.specs.Held.{IsRead, AddsPoint, IsStepped, IsKept, IsTaken};
+
+    /// Before anything is read.
+    pub(crate) fn new(alloc: Global, skips_dots: bool) -> Paths
+        ensures { (scale : Scale) → IsRead scale skips_dots result [] [] }
+    {
+        Paths {
+            vertices: Vec::new(alloc),
+            ends: Vec::new(alloc),
+            open: Vec::new(alloc),
+            are_good: true,
+            skips_dots,
+        }
+    }
+
+    /// Goes on to a vertex, unless the path is there already.
+    fn step_to(&mut self, vertex: Vertex) -> Result<(), AllocError>
+        ensures { OnOk result (IsStepped self.old vertex self.new) }
+    {
+        if let Some(last) = self.open.last() {
+            let stays = last.x == vertex.x && last.y == vertex.y;
+            if stays {
+                return Ok(());
+            }
+        }
+        self.open.push(vertex)?;
+        Ok(())
+    }
+
+    /// Adds a point to the path that is being read.
+    pub(crate) fn push(&mut self, point: &ReadPoint) -> Result<(), AllocError>
+        ensures { OnOk result ((scale : Scale) (p : RawPoint)
+            → point.now ≡ point_read scale p → AddsPoint scale self.old p self.new) }
+    {
+        match vertex_of(point) {
+            Some(vertex) => self.step_to(vertex),
+            None => {
+                self.are_good = false;
+                Ok(())
+            }
+        }
+    }
+
+    /// Adds the path that was read to those before it.
+    fn keep_path(&mut self) -> Result<(), AllocError>
+        ensures { OnOk result (IsKept self.old self.new) }
+    {
+        self.vertices.extend_from_slice(&self.open)?;
+        let Ok(end) = u32::try_from(self.vertices.len()) else {
+            return Err(AllocError);
+        };
+        self.ends.push(end)?;
+        Ok(())
+    }
+
+    /// Adds the path that was read to those before it, unless it is left out.
+    fn keep_unless(&mut self, is_left_out: bool) -> Result<(), AllocError>
+        ensures { OnOk result (IsTaken self.old is_left_out self.new) }
+    {
+        if is_left_out {
+            Ok(())
+        } else {
+            self.keep_path()
+        }
+    }
+
+    /// Ends the path that is being read.
+    pub(crate) fn end_path(&mut self) -> Result<(), AllocError>
+        ensures { OnOk result ((scale : Scale) (skips : Bool) (before : List (List RawPoint))
+            (ps : List RawPoint) → IsRead scale skips self.old before ps
+            → IsRead scale skips self.new (before ++ ps ∷ []) []) }
+    {
+        let is_dot = self.open.len() == 1;
+        let is_left_out = self.skips_dots & is_dot;
+        self.keep_unless(is_left_out)?;
+        self.open.clear();
+        Ok(())
+    }
+}

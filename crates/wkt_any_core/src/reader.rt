@@ -1,0 +1,124 @@
+//! Reading a text.
+
+ghost use Rattle.std.specs.Prelude.{◌≡◌, List, ℕ, IfOk, IfSome, IfNone, Result};
+ghost use Rattle.plane_core.specs.Figures.{Figure};
+ghost use Rattle.wkt_core.specs.Grammar.{RawPoint};
+ghost use Rattle.wkt_any_core.specs.declared.fault.GeometryFault.{GeometryFault};
+ghost use Rattle.wkt_any_core.specs.declared.heading.Heading.{Heading};
+ghost use Rattle.wkt_any_core.specs.Held.{IsRawText};
+ghost use Rattle.wkt_any_core.specs.Readings.{Reads, IsReading};
+ghost use Rattle.wkt_any_core.specs.Steps.{TakesText};
+ghost use Rattle.wkt_any_core.specs.Drawing.{skips_dots};
+
+use crate::body::read_body;
+use crate::fault::GeometryFault;
+use crate::figure::geometry_of;
+use crate::heading::Heading;
+use crate::paths::Paths;
+use crate::rings::Rings;
+use plane_core::Geometry;
+use std::alloc::{AllocError, Global};
+use wkt_core::{Keyword, Scale, skip_blanks};
+
+/// The keyword of a text of the grammar, and what is read of its lists.
+#[derive(Drop)]
+pub(crate) struct RawText {
+    keyword: Keyword,
+    paths: Paths,
+}
+
+/// Whether a ring whose points are all the same is left out.
+fn skips_dots(rings: Rings, keyword: Keyword) -> bool
+    ensures { result ≡ skips_dots rings keyword }
+{
+    match keyword {
+        Keyword::Polygon => rings == Rings::EvenOdd,
+        _ => false,
+    }
+}
+
+/// The keyword of the text and what is read of its lists, where the grammar has it.
+fn read_raw(
+    alloc: Global,
+    text: &[u8],
+    scale: Scale,
+    rings: Rings,
+) -> Result<Option<RawText>, AllocError>
+    ensures some { IfOk result (λ read. IfSome read (IsRawText scale rings text.now)) }
+    ensures none { IfOk result (λ read. IfNone read ((heading : Heading)
+        (lists : List (List RawPoint)) → TakesText text.now heading lists → ⊥)) }
+{
+    let start = skip_blanks(text);
+    let Some((heading, rest)) = Heading::read(start) else {
+        return Ok(None);
+    };
+    let mut paths = Paths::new(alloc, skips_dots(rings, heading.keyword));
+    let body = skip_blanks(rest);
+    let Some(rest) = read_body(heading, body, scale, &mut paths)? else {
+        return Ok(None);
+    };
+    let end = skip_blanks(rest);
+    match end {
+        [] => Ok(Some(RawText {
+            keyword: heading.keyword,
+            paths,
+        })),
+        _ => Ok(None),
+    }
+}
+
+/// The one answer that a text reads as, by what was read of it.
+fn answer(
+    text: &[u8],
+    scale: Scale,
+    rings: Rings,
+    read: Option<RawText>,
+) -> Result<Geometry, GeometryFault>
+    requires some { IfSome read (IsRawText scale rings text.now) }
+    requires none { IfNone read ((heading : Heading) (lists : List (List RawPoint))
+        → TakesText text.now heading lists → ⊥) }
+    ensures { IsReading scale rings text.now result }
+{
+    let Some(raw) = read else {
+        return Err(GeometryFault::Text);
+    };
+    if !raw.paths.are_good {
+        return Err(GeometryFault::Number);
+    }
+    match geometry_of(raw.keyword, raw.paths, rings) {
+        Some(geometry) => Ok(geometry),
+        None => Err(GeometryFault::Form),
+    }
+}
+
+/// The geometry that the text spells.
+///
+/// A text is `POINT (x y)`, `LINESTRING (x y, ..)`, `POLYGON ((x y, ..), ..)`, or `MULTIPOINT`,
+/// `MULTILINESTRING` or `MULTIPOLYGON` with many of these in parentheses (OGC 06-103r4, 7.2), with
+/// the keyword in any ASCII case. White space and numbers are those of `wkt_core`. A point of a
+/// `MULTIPOINT` may stand in parentheses.
+///
+/// A point that is equal to the one before it changes nothing.
+///
+/// # Errors
+/// - [`GeometryFault::Text`] where the bytes are no text of this grammar.
+/// - [`GeometryFault::Number`] where some number has a digit other than 0 behind the decimals that
+///   the scale keeps, or is more than [`geom_core::LIMIT`] units from 0.
+/// - [`GeometryFault::Form`] where a polyline has no two different vertices, or a ring's last point
+///   isn't its first, or its points lie on one line. With [`Rings::EvenOdd`] a ring may lie on one
+///   line; one whose points are all the same adds nothing, and some ring has to be left.
+///
+/// An error outside these is a want of memory, or 2^32 vertices or more.
+pub fn read(
+    alloc: Global,
+    text: &[u8],
+    scale: Scale,
+    rings: Rings,
+) -> Result<Result<Geometry, GeometryFault>, AllocError>
+    ensures reads { IfOk result (λ answer. Reads scale rings text.now answer) }
+    ensures only { IfOk result (λ answer. (other : Result Figure GeometryFault)
+        → Reads scale rings text.now other → answer ≡ other) }
+{
+    let raw = read_raw(alloc, text, scale, rings)?;
+    Ok(answer(text, scale, rings, raw))
+}

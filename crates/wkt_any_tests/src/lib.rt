@@ -1,0 +1,8 @@
+//! What no clause of `wkt_any_core` says: texts of any geometry and what they read as, and growths
+//! that are refused. A crate of its own, since a crate with tests is proved twice.
+#![tactic(auto)]
+
+#[cfg(test)]
+mod readings;
+#[cfg(test)]
+mod refused_memory;

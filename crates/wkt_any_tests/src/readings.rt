@@ -1,0 +1,187 @@
+//! Texts of any geometry and what they read as, by their names.
+
+use plane_core::Geometry;
+use std::alloc::{AllocError, Global};
+use wkt_any_core::{GeometryFault, Rings, read};
+use wkt_core::Scale;
+
+/// How many edges a geometry has, and how many points or ends of polylines.
+fn counts_of(alloc: Global, geometry: &Geometry) -> Result<(usize, usize), AllocError> {
+    let outline = geometry.outline(alloc)?;
+    Ok((outline.edges.len(), outline.ends.len()))
+}
+
+/// The counts of what a text reads as at a scale of no decimals, or its fault.
+pub(crate) fn counts(
+    alloc: Global,
+    text: &str,
+    rings: Rings,
+) -> Result<Result<(usize, usize), GeometryFault>, AllocError> {
+    match read(alloc, text.as_bytes(), Scale::new(0).unwrap(), rings)? {
+        Ok(geometry) => Ok(Ok(counts_of(alloc, &geometry)?)),
+        Err(fault) => Ok(Err(fault)),
+    }
+}
+
+/// Texts with proper rings, and the edges and the points or ends of what they read as.
+const READ: &[(&str, (usize, usize))] = &[
+    ("POINT (1 2)", (0, 1)),
+    (" mUlTiPoInT ( 1 1 , (2 2),( 3 3 ) ) ", (0, 3)),
+    ("MULTIPOINT (1 1, 1 1)", (0, 1)),
+    ("LINESTRING (0 0, 3 2, 3 2, 5 2)", (2, 2)),
+    ("LINESTRING (0 0, 4 4, 4 0, 0 4)", (3, 2)),
+    ("multilinestring((0 0,2 2),(2 2,4 0),(2 2,2 5))", (3, 6)),
+    ("POLYGON ((0 0, 4 0, 0 4, 0 0))", (3, 0)),
+    ("POLYGON ((0 0, 2 0, 4 0, 0 4, 0 0, 0 0))", (4, 0)),
+    (
+        "POLYGON ((0 0, 4 0, 4 4, 0 4, 0 0), (4 2, 2 3, 2 1, 4 2))",
+        (7, 0),
+    ),
+    (
+        "MULTIPOLYGON (((0 0, 2 0, 0 2, 0 0)), ((4 0, 6 0, 6 2, 4 0)))",
+        (6, 0),
+    ),
+    (
+        "MULTIPOLYGON(((0 0,9 0,9 9,0 9,0 0),(1 1,2 1,1 2,1 1)),((20 0,22 0,20 2,20 0)))",
+        (10, 0),
+    ),
+];
+
+#[test]
+fn texts_are_read(rt: HostRuntime) -> Result<(), AllocError> {
+    for (text, wanted) in READ {
+        assert!(rt;
+            counts(rt.alloc(), text, Rings::Proper)? == Ok(*wanted),
+            "{text}"
+        );
+    }
+    Ok(())
+}
+
+/// Texts that the grammar doesn't have.
+const NO_TEXTS: &[&str] = &[
+    "",
+    "POINT",
+    "POINT EMPTY",
+    "POINT (1,2)",
+    "POINT (1 2) x",
+    "POINT ((1 2))",
+    "POINT (1 2, 3 4)",
+    "POINT Z (1 2 3)",
+    "POINT (1e3 0)",
+    "MULTI POINT (1 2)",
+    "MULTIPOINT ()",
+    "MULTIPOINT ((1 1, 2 2))",
+    "MULTIPOINT (1 1, )",
+    "MULTIPOINT (1 1) (2 2)",
+    "MULTILINESTRING (0 0, 1 1)",
+    "MULTILINESTRING ((0 0, 1 1)",
+    "MULTIPOLYGON ((0 0, 4 0, 0 4, 0 0))",
+    "MULTIPOLYGON ((((0 0, 4 0, 0 4, 0 0))))",
+    "GEOMETRYCOLLECTION (POINT (1 2))",
+    "SRID=4326;POINT (1 2)",
+];
+
+#[test]
+fn other_texts_are_refused(rt: HostRuntime) -> Result<(), AllocError> {
+    for text in NO_TEXTS {
+        let refused = Err(GeometryFault::Text);
+        assert!(rt;
+            counts(rt.alloc(), text, Rings::Proper)? == refused,
+            "{text}"
+        );
+    }
+    Ok(())
+}
+
+/// Texts with a number that isn't whole, or is out of range.
+const NO_NUMBERS: &[&str] = &[
+    "POINT (1.5 0)",
+    "POINT (1000000000001 0)",
+    "MULTIPOINT (1 1, (2 2.5))",
+    "LINESTRING (0.1 0, 0.1 0)",
+    "MULTIPOLYGON (((0 0, 4 0, 0 4, 0 0)), ((4 0, 4 4, 0 -1000000000001, 4 0)))",
+];
+
+#[test]
+fn numbers_are_whole_and_in_range(rt: HostRuntime) -> Result<(), AllocError> {
+    for text in NO_NUMBERS {
+        let refused = Err(GeometryFault::Number);
+        assert!(rt;
+            counts(rt.alloc(), text, Rings::Proper)? == refused,
+            "{text}"
+        );
+    }
+    Ok(())
+}
+
+/// Texts of flat or open rings, or of a line without length.
+const NO_FORMS: &[&str] = &[
+    "LINESTRING (1 1, 1 1)",
+    "LINESTRING (1 1)",
+    "MULTILINESTRING ((0 0, 2 2), (1 1, 1 1))",
+    "POLYGON ((0 0, 4 0, 8 0, 0 0))",
+    "POLYGON ((0 0, 4 0, 0 4, 1 1))",
+    "POLYGON ((0 0, 4 0, 0 0))",
+    "POLYGON ((1 1, 1 1, 1 1, 1 1))",
+    "POLYGON ((0 0, 4 0, 0 4, 0 0), (1 1, 1 1))",
+    "MULTIPOLYGON (((0 0, 4 0, 0 4, 0 0)), ((0 0, 1 1, 2 2, 0 0)))",
+];
+
+#[test]
+fn lines_have_length_and_rings_an_area(rt: HostRuntime) -> Result<(), AllocError> {
+    for text in NO_FORMS {
+        let refused = Err(GeometryFault::Form);
+        assert!(rt;
+            counts(rt.alloc(), text, Rings::Proper)? == refused,
+            "{text}"
+        );
+    }
+    Ok(())
+}
+
+/// Texts by the even-odd rule, and the edges of what they read as.
+const EVEN_ODD: &[(&str, usize)] = &[
+    ("POLYGON ((0 0, 4 4, 4 0, 0 4, 0 0))", 4),
+    ("POLYGON ((0 0, 4 0, 8 0, 0 0))", 3),
+    ("POLYGON ((0 0, 4 0, 0 4, 0 0), (1 1, 1 1))", 3),
+    (
+        "MULTIPOLYGON (((0 0, 4 0, 0 4, 0 0)), ((0 0, 4 0, 0 4, 0 0)))",
+        6,
+    ),
+];
+
+#[test]
+fn even_odd_takes_closed_rings(rt: HostRuntime) -> Result<(), AllocError> {
+    for (text, edges) in EVEN_ODD {
+        assert!(rt;
+            counts(rt.alloc(), text, Rings::EvenOdd)? == Ok((*edges, 0)),
+            "{text}"
+        );
+    }
+    let open = "POLYGON ((0 0, 4 0, 0 4, 1 1))";
+    assert!(rt; counts(rt.alloc(), open, Rings::EvenOdd)? == Err(GeometryFault::Form));
+    let dots = "MULTIPOLYGON (((1 1, 1 1)), ((2 2)))";
+    assert!(rt; counts(rt.alloc(), dots, Rings::EvenOdd)? == Err(GeometryFault::Form));
+    let line = "LINESTRING (1 1, 1 1)";
+    assert!(rt; counts(rt.alloc(), line, Rings::EvenOdd)? == Err(GeometryFault::Form));
+    Ok(())
+}
+
+#[test]
+fn decimals_are_those_of_the_scale(rt: HostRuntime) -> Result<(), AllocError> {
+    let text = b"LINESTRING (1.25 -0.1, 1.250 3)";
+    let hundredths = Scale::new(2).unwrap();
+    let Ok(line) = read(rt.alloc(), text, hundredths, Rings::Proper)? else {
+        assert!(rt; false, "refused");
+        return Ok(());
+    };
+    let outline = line.outline(rt.alloc())?;
+    match outline.ends.as_slice() {
+        [first, last] => {
+            assert!(rt; (first.x, first.y, last.x, last.y) == (125, -10, 125, 300));
+        }
+        _ => assert!(rt; false, "not two ends"),
+    }
+    Ok(())
+}

@@ -1,0 +1,28 @@
+//! Texts read without memory. Run with one allocation after the other failing, they show that a
+//! text read again reads as it would have.
+
+use crate::readings::counts;
+use std::alloc::{AllocError, Global};
+use wkt_any_core::{GeometryFault, Rings};
+
+/// What a text reads as, asked again where memory was refused.
+fn counts_at_last(
+    alloc: Global,
+    text: &str,
+) -> Result<Result<(usize, usize), GeometryFault>, AllocError> {
+    match counts(alloc, text, Rings::Proper) {
+        Ok(read) => Ok(read),
+        Err(AllocError) => counts(alloc, text, Rings::Proper),
+    }
+}
+
+#[test]
+fn growths_are_refused_in_turn(rt: HostRuntime) -> Result<(), AllocError> {
+    let rings = "MULTIPOLYGON (((0 0, 9 0, 9 9, 0 9, 0 0), (1 1, 2 1, 1 2, 1 1)))";
+    assert!(rt; counts_at_last(rt.alloc(), rings)? == Ok((7, 0)));
+    let flat = "POLYGON ((0 0, 4 0, 8 0, 0 0))";
+    assert!(rt; counts_at_last(rt.alloc(), flat)? == Err(GeometryFault::Form));
+    let cut = "MULTILINESTRING ((0 0, 1 1), (2 2, 3 3)";
+    assert!(rt; counts_at_last(rt.alloc(), cut)? == Err(GeometryFault::Text));
+    Ok(())
+}
