@@ -83,7 +83,7 @@ const NO_TEXTS: &[&str] = &[
 ];
 
 #[test]
-fn other_texts_are_refused(rt: HostRuntime) -> Result<(), AllocError> {
+fn other_texts_are_not_read(rt: HostRuntime) -> Result<(), AllocError> {
     for text in NO_TEXTS {
         let refused = Err(GeometryFault::Text);
         assert!(rt;
