@@ -4,12 +4,13 @@
 
 As root it first installs what the parts need of Debian's packages. A part that runs longer than it may is stopped and
 has failed, and what a part leaves running is stopped with it. The last lines have a line for each part, with what
-passed, failed and was skipped, and its seconds, and name what was skipped; the very last line counts all. The status
-is 1 where something failed.
+passed, failed and was skipped, its seconds and those of all processors, and name what was skipped; the very last
+line counts all. The status is 1 where something failed.
 """
 import ctypes
 import os
 import re
+import resource
 import select
 import signal
 import subprocess
@@ -57,6 +58,7 @@ class Result:
     failed: int = 0
     skipped: int = 0
     seconds: float = 0
+    processor_seconds: float = 0
     notes: list[str] = field(default_factory=list)
 
 
@@ -79,6 +81,12 @@ PARTS = (
     Part("integrations", ("integrations/check",), 20),
     Part("recipes", ("recipes/check", str(PROGRAM)), 10),
 )
+
+
+def processor_seconds() -> float:
+    """The processor time of all processes below this one that have ended."""
+    used = resource.getrusage(resource.RUSAGE_CHILDREN)
+    return used.ru_utime + used.ru_stime
 
 
 def children() -> set[int]:
@@ -181,7 +189,7 @@ def counted(part: Part, text: str, status: int) -> Result:
 def run(part: Part, deadline: float) -> Result:
     """Runs a part to its end, or until its time or that of the whole is up."""
     print(f"== {part.name}: {' '.join(part.words)}", flush=True)
-    began = time.monotonic()
+    began, used = time.monotonic(), processor_seconds()
     limit = min(began + 60 * part.minutes, deadline)
     try:
         process = subprocess.Popen(part.words, cwd=ROOT, env=ENVIRONMENT, stdin=subprocess.DEVNULL,
@@ -198,15 +206,17 @@ def run(part: Part, deadline: float) -> Result:
     if left:
         result.notes.append(f"left running, and stopped: {' '.join(left)}")
     result.seconds = time.monotonic() - began
+    result.processor_seconds = processor_seconds() - used
     return result
 
 
 def table(results: list[Result]) -> Iterator[str]:
     """The last lines: what became of each part, and of all."""
-    rows = [("part", "passed", "failed", "skipped", "seconds")]
-    rows += [(it.name, str(it.passed), str(it.failed), str(it.skipped), f"{it.seconds:.0f}") for it in results]
+    rows = [("part", "passed", "failed", "skipped", "seconds", "processor")]
+    rows += [(it.name, *(str(number) for number in (it.passed, it.failed, it.skipped)),
+              f"{it.seconds:.0f}", f"{it.processor_seconds:.0f}") for it in results]
     for name, *numbers in rows:
-        yield f"{name:16}" + "".join(f"{number:>9}" for number in numbers)
+        yield f"{name:16}" + "".join(f"{number:>10}" for number in numbers)
     for it in results:
         for note in it.notes:
             yield f"{it.name}: {note}"
