@@ -1,7 +1,7 @@
 #!/usr/bin/env python3
 """Runs the recipes with the tools that are installed, and compares the pairs with those of each tool's own join.
 
-    recipes/check [PROGRAM]      PROGRAM is the rjoin at the root of the repository, unless it is given
+    check/recipes.py [PROGRAM]      PROGRAM is the rjoin at the root of the repository, unless it is given
 
 It uses the town under data/. What a recipe needs and isn't there is named, and the recipe is skipped. The last line
 counts; the status is 1 where an answer differs.
@@ -180,7 +180,7 @@ def check_with_gdal(folder: str, package: str, layers: dict[str, str], join: Joi
 # Python
 
 def check_python(folder: str) -> None:
-    """The same joins by the Python package, beside every pair asked of Shapely; python/check tests it further."""
+    """The same joins by the Python package, beside every pair asked of Shapely; check/python.sh tests it further."""
     python = python_with("pandas", "shapely")
     print(output_of(python, __file__, program(), "--python", RJOIN=str(program())), end="")
 

@@ -1,9 +1,9 @@
 #!/usr/bin/env python3
 """Runs the program that `rt ci` has built on files whose answers were written by hand or follow by arithmetic.
 
-    .ci/stored-runs        all of it; the last line counts
+    check/stored_runs.py        all of it; the last line counts
 
-A folder of .ci/runs is one run: `args` has its words, one a line, `stdin` is its standard input, and `files/` are the
+A folder of check/runs is one run: `args` has its words, one a line, `stdin` is its standard input, and `files/` are the
 files that lie where it runs. It has to write `stdout`, say `stderr` and end with the status in `status`; a file that
 isn't there stands for nothing, or for status 0. Runs over files that are longer than one read are made below.
 """
@@ -127,7 +127,7 @@ def main() -> int:
     if not PROGRAM.is_file():
         print("stored runs: the program isn't built: run `rt ci` first")
         return 2
-    folders = sorted(path for path in (ROOT / ".ci/runs").iterdir() if path.is_dir())
+    folders = sorted(path for path in (ROOT / "check/runs").iterdir() if path.is_dir())
     runs = [*map(stored, folders), *long_runs()]
     failed = 0
     for run in runs:

@@ -1,7 +1,7 @@
 #!/usr/bin/env python3
 """Compares the calls and clauses that GUARANTEES.md names with the contracts in the sources, both ways.
 
-    docs/check-guarantees       the status is 1 where the page names a call or a clause that isn't there, or leaves one
+    check/guarantees.py       the status is 1 where the page names a call or a clause that isn't there, or leaves one
                                 out
 
 A line "- `CALL`, `CALL`: `clause` what it says; `clause` and `clause` what they say" stands below its crate's heading.

@@ -1,15 +1,16 @@
 #!/usr/bin/env python3
 """Shows that a test fails for each mutant that only a test can tell, since its function still keeps its contract.
 
-A file crates/NAME/tested-mutants/*.edit is one such mutant. Its lines are those of a mutant (`.ci/mutants`), but
+A file crates/NAME/tested-mutants/*.edit is one such mutant. Its lines are those of a mutant (`check/mutants.py`), but
 for the first:
     fails: CRATE MODULE::TEST    the test that has to fail, and the crate that it stands in
 The mutant is put into a copy of the sources, whose crate of tests keeps that test alone, and `rt try --test` compiles
 it over the mutant and runs it, with no proof.
 
-    .ci/tested-mutants [CRATE | CRATE/MUTANT ..]     of these crates, or of all
-    .ci/tested-mutants --unchanged                   with nothing changed: each of these tests has to pass
-    .ci/tested-mutants --try                         what `rt try --test` does in this folder, for the script itself
+    check/tested_mutants.py [CRATE | CRATE/MUTANT ..]
+                                            of these crates, or of all
+    check/tested_mutants.py --unchanged     with nothing changed: each of these tests has to pass
+    check/tested_mutants.py --try           what `rt try --test` does in this folder, for the script itself
 
 The status is 0 where each test failed as it has to. The last line counts.
 """

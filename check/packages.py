@@ -1,7 +1,7 @@
 #!/usr/bin/env python3
 """Builds the Debian packages and the tarball of a proved program, and tries them.
 
-    packaging/check [--offline] [--program PATH] [--by-ci] [CHECK..]
+    check/packages.py [--offline] [--program PATH] [--by-ci] [CHECK..]
 
 What needs a tool that isn't installed is skipped by name. Without --offline, and as root, the packages are also
 installed into new Debian 12 systems, which mmdebstrap fetches, and the commands of the pages are run there. CHECK is a
@@ -19,12 +19,13 @@ from concurrent.futures import ThreadPoolExecutor
 from pathlib import Path
 from tempfile import TemporaryDirectory
 
-import checkout
-import fresh
-from built import CRATE, PROGRAM, ROOT, output_of
-from files import DOCS, PACKAGES
-from manual import commands, help_of
-from trial import (Check, Skipped, Tried, build, example, expect, need, ran, unpacked, version_line, well)
+sys.path.append(str(Path(__file__).resolve().parent.parent / "packaging"))
+import checkout  # noqa: E402
+import fresh  # noqa: E402
+from built import CRATE, PROGRAM, ROOT, output_of  # noqa: E402
+from files import DOCS, PACKAGES  # noqa: E402
+from manual import commands, help_of  # noqa: E402
+from trial import (Check, Skipped, Tried, build, example, expect, need, ran, unpacked, version_line, well)  # noqa: E402
 
 # How many new systems are tried side by side.
 AT_ONCE = 2

@@ -1,8 +1,8 @@
 #!/usr/bin/env python3
-"""Installs the Debian packages that the parts of the gate need, as .ci/packages lists them.
+"""Installs the Debian packages that the parts of the gate need, as check/packages.txt lists them.
 
-    .ci/install [PART..]              as root, what is missing of those of these parts, or of all
-    .ci/install --missing [PART..]    names what is missing, and installs nothing
+    check/install.py [PART..]              as root, what is missing of those of these parts, or of all
+    check/install.py --missing [PART..]    names what is missing, and installs nothing
 
 What is there is left as it is, so a second run does nothing. A mirror that fails is tried three times. The status is 0
 where all are there in the end; else the last lines name what is missing. The server that Debian starts with PostgreSQL
@@ -16,7 +16,7 @@ import time
 from collections.abc import Collection
 from pathlib import Path
 
-LIST = Path(__file__).resolve().with_name("packages")
+LIST = Path(__file__).resolve().with_name("packages.txt")
 TRIES = 3
 PAUSE_SECONDS = 5
 # How long one call of apt-get may take.

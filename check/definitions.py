@@ -1,8 +1,8 @@
 #!/usr/bin/env python3
 """Writes DEFINITIONS.md: what the contracts of public calls mean by their words, from the comments of the specs.
 
-    docs/definitions            writes the page
-    docs/definitions --check    compares it with the specs; the status is 1 where they differ
+    check/definitions.py            writes the page
+    check/definitions.py --check    compares it with the specs; the status is 1 where they differ
 
 The page has each definition that a contract of a public call cites and that has a comment, and each limit.
 """
@@ -25,7 +25,7 @@ What the contracts mean by their words: each definition that a contract of a pub
 (`crates/CRATE/specs/FILE.antt`) with its public source, and each limit. What has no source is this project's own.
 Names in brackets after a file's name are of definitions that the line itself explains. Left out are the texts of faults
 ([FAULTS.md](FAULTS.md)), what single calls on a board or an outlet ask and leave, and what only laws such as
-`owners_law` speak of. `docs/definitions` writes this page from the comments of the specs: change the comment and run it.
+`owners_law` speak of. `check/definitions.py` writes this page from the comments of the specs: change the comment and run it.
 
 ## Notation
 
@@ -133,7 +133,7 @@ def page() -> str:
              for crate in names for path in sorted(Path(ROOT, "crates", crate, "specs").glob("*.antt"))}
     unknown = [key for key in SOURCES if tuple(key.split("/")) not in specs]
     if unknown:
-        sys.exit(f"docs/definitions: SOURCES names no file of specs: {', '.join(unknown)}")
+        sys.exit(f"check/definitions.py: SOURCES names no file of specs: {', '.join(unknown)}")
     parts = [OPENING]
     for crate in names:
         sections = "".join(section(crate, file, spec, wanted) for (owner, file), spec in specs.items()
@@ -173,7 +173,7 @@ def main() -> int:
     if sys.argv[1:] == ["--check"]:
         is_same = PAGE.read_text(encoding="utf-8") == text
         print("definitions: the page agrees with the specs" if is_same
-              else "definitions: the page differs from the specs; run docs/definitions")
+              else "definitions: the page differs from the specs; run check/definitions.py")
         return 0 if is_same else 1
     if sys.argv[1:]:
         print(__doc__, file=sys.stderr)

@@ -1,14 +1,14 @@
 #!/usr/bin/env bash
 # Installs the packages into a new environment beside Debian's modules, checks types and style, also those of the
 # repository's scripts, and runs the tests.
-#     python/check [WORDS FOR PYTEST]
-# What is not installed is named and skipped; .ci/install installs it. Tools are those of Debian 12, whatever else is on
+#     check/python.sh [WORDS FOR PYTEST]
+# What is not installed is named and skipped; check/install.py installs it. Tools are those of Debian 12, whatever else is on
 # the PATH. The program is RJOIN's, or the one that the repository has built. The last line counts, and the status is 1
 # where something failed.
 set -u
 export PATH=/usr/bin:/bin:$PATH
-here=$(cd "$(dirname "${BASH_SOURCE[0]}")" && pwd)
-root=$(dirname "$here")
+root=$(cd "$(dirname "${BASH_SOURCE[0]}")/.." && pwd)
+here=$root/python
 python=${PYTHON:-/usr/bin/python3}
 work=$(mktemp -d)
 trap 'rm -rf "$work"' EXIT
@@ -64,7 +64,7 @@ install() {
 types() { # a name and files, for mypy
     local name=$1
     shift
-    MYPYPATH=$here/src:$here/tests:$root/bench:$root/tools tool "types of $name" \
+    MYPYPATH=$here/src:$here/tests:$root/bench:$root/packaging:$root/tools tool "types of $name" \
         mypy --config-file "$here/pyproject.toml" --cache-dir "$work/mypy" --scripts-are-modules "$@"
 }
 
@@ -95,7 +95,7 @@ tests() { # a folder and words for pytest
 
 for module in venv ensurepip pip setuptools wheel numpy pandas; do
     if ! "$python" -c "import $module" 2>/dev/null; then
-        count skipped "all: the Python module $module is not installed; $("$root/.ci/install" --missing python)"
+        count skipped "all: the Python module $module is not installed; $("$root/check/install.py" --missing python)"
         finish
     fi
 done
@@ -113,7 +113,7 @@ for folder in src "${folders[@]##*/}"; do
 done
 tool style flake8 --max-line-length 100 --extend-ignore E203 "$here/src" "${folders[@]}"
 all=()
-for folder in .ci bench docs packaging recipes tools; do
+for folder in bench check packaging tools; do
     mapfile -t files < <(scripts "$folder")
     types "the scripts in $folder" "${files[@]}"
     all+=("${files[@]}")

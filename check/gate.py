@@ -65,21 +65,21 @@ class Result:
 # What waits for workers that die depends on the clock, and is left to a run by hand.
 STEADY = "not test_failures and not test_two_networks"
 PARTS = (
-    Part("packages", (".ci/install",), 20, may_be_skipped=True),
+    Part("packages", ("check/install.py",), 20, may_be_skipped=True),
     Part("proofs", ("rt", "ci"), 80),
-    Part("faults", ("docs/check-faults",), 2),
-    Part("definitions", ("docs/definitions", "--check"), 2),
-    Part("guarantees", ("docs/check-guarantees",), 2),
-    Part("stored-runs", (".ci/stored-runs",), 10),
-    Part("refusals", (".ci/refusals",), 30),
-    Part("mutants", (".ci/mutants",), 60),
-    Part("tested-mutants", (".ci/tested-mutants",), 30),
+    Part("faults", ("check/faults.py",), 2),
+    Part("definitions", ("check/definitions.py", "--check"), 2),
+    Part("guarantees", ("check/guarantees.py",), 2),
+    Part("stored-runs", ("check/stored_runs.py",), 10),
+    Part("refusals", ("check/refusals.py",), 30),
+    Part("mutants", ("check/mutants.py",), 60),
+    Part("tested-mutants", ("check/tested_mutants.py",), 30),
     Part("smoke", ("bench/smoke", str(PROGRAM)), 5),
-    Part("gate", ("python3", ".ci/test_gate.py"), 3),
-    Part("packaging", ("packaging/check", "--by-ci"), 25),
-    Part("python", ("python/check", "-k", STEADY), 25),
-    Part("integrations", ("integrations/check",), 20),
-    Part("recipes", ("recipes/check", str(PROGRAM)), 10),
+    Part("gate", ("python3", "check/test_gate.py"), 3),
+    Part("packaging", ("check/packages.py", "--by-ci"), 25),
+    Part("python", ("check/python.sh", "-k", STEADY), 25),
+    Part("integrations", ("check/integrations.sh",), 20),
+    Part("recipes", ("check/recipes.py", str(PROGRAM)), 10),
 )
 
 
@@ -213,8 +213,8 @@ def run(part: Part, deadline: float) -> Result:
 def table(results: list[Result]) -> Iterator[str]:
     """The last lines: what became of each part, and of all."""
     rows = [("part", "passed", "failed", "skipped", "seconds", "processor")]
-    rows += [(it.name, *(str(number) for number in (it.passed, it.failed, it.skipped)),
-              f"{it.seconds:.0f}", f"{it.processor_seconds:.0f}") for it in results]
+    rows += [(it.name, str(it.passed), str(it.failed), str(it.skipped), f"{it.seconds:.0f}",
+              f"{it.processor_seconds:.0f}") for it in results]
     for name, *numbers in rows:
         yield f"{name:16}" + "".join(f"{number:>10}" for number in numbers)
     for it in results:

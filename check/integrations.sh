@@ -1,14 +1,14 @@
 #!/usr/bin/env bash
 # Runs the tests of the integrations with the hosts that are installed; a host that isn't there is named as skipped, and
-# .ci/install installs it. Python and tools are those of Debian 12, whatever else is on the PATH. The program is that of
+# check/install.py installs it. Python and tools are those of Debian 12, whatever else is on the PATH. The program is that of
 # RJOIN, else the one on the PATH, else this checkout's. The last line counts; the status is 1 where a test failed.
 set -u
 export PATH=/usr/bin:/bin:$PATH
-cd "$(dirname "${BASH_SOURCE[0]}")" || exit 2
+cd "$(dirname "${BASH_SOURCE[0]}")/../integrations" || exit 2
 
 python=/usr/bin/python3
 if ! "$python" -c 'import pytest' 2>/dev/null; then
-    echo "skipped  all: pytest is not installed; $(../.ci/install --missing integrations)"
+    echo "skipped  all: pytest is not installed; $(../check/install.py --missing integrations)"
     echo "integrations: 0 passed, 0 failed, 1 skipped"
     exit 0
 fi

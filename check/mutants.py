@@ -22,8 +22,8 @@ as they are stated, since `rt ci` proves both; but where a definition is changed
 Each mutant has to be refused at its clause, and nothing else may be that is checked: what those
 functions call, or the whole crate where a mutant is in a cycle of calls.
 
-    .ci/mutants [NAME..]                of these crates, or of all; CRATE/MUTANT names one mutant
-    .ci/mutants --unchanged [NAME..]    with nothing changed: each function that has mutants, and each of its
+    check/mutants.py [NAME..]                of these crates, or of all; CRATE/MUTANT names one mutant
+    check/mutants.py --unchanged [NAME..]    with nothing changed: each function that has mutants, and each of its
                                         copies, has to be proved, so that how they are made refuses none
 
 The libraries below a crate are taken as `rt ci` has left them in out/, and what `rt check` has kept

@@ -2,7 +2,7 @@
 """Refuses memory, files, reads, writes and threads to what `rt ci` has built, gives the program hostile files and
 outputs, and sees that each run ends as it may.
 
-    .ci/refusals            all of it; the last line counts runs
+    check/refusals.py            all of it; the last line counts runs
 
 Four parts. Of the crates NAME_tests, the tests that are named for refused memory are run with each allocation
 refused in turn, and have to pass. The program is run on the files of data/ with each allocation, opened file,
@@ -12,7 +12,7 @@ it starts a thread, reads, writes, makes a long list longer, yields and waits is
 
 A refused run may do as well as one that isn't refused. Else it ends with status 1 and its line, and has written
 nothing, or a beginning of the report where it is writing that failed. What ends by a signal, takes too long
-or writes anything else has gone wrong. `.ci/refuse.c` is what refuses; gcc compiles it into a folder of the run.
+or writes anything else has gone wrong. `check/refuse.c` is what refuses; gcc compiles it into a folder of the run.
 """
 import os
 import re
@@ -519,7 +519,7 @@ def tried_cases(program: str, room: str) -> Tally:
 
 def compiled(room: str) -> str:
     shim = f"{room}/refuse.so"
-    subprocess.run(["gcc", "-O1", "-shared", "-fPIC", "-o", shim, f"{ROOT}/.ci/refuse.c"], check=True)
+    subprocess.run(["gcc", "-O1", "-shared", "-fPIC", "-o", shim, f"{ROOT}/check/refuse.c"], check=True)
     return shim
 
 

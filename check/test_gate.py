@@ -7,7 +7,7 @@ import tempfile
 import unittest
 from pathlib import Path
 
-CI = Path(__file__).resolve().parent
+HERE = Path(__file__).resolve().parent
 DRIVER = """
 import sys
 sys.path.insert(0, {folder!r})
@@ -19,7 +19,7 @@ sys.exit(gate.gate([{parts}]))
 
 def gate(*parts: str) -> tuple[int, list[str]]:
     """The status and the lines of a gate of these parts."""
-    script = DRIVER.format(folder=str(CI), parts=", ".join(f"gate.Part({part})" for part in parts))
+    script = DRIVER.format(folder=str(HERE), parts=", ".join(f"gate.Part({part})" for part in parts))
     ended = subprocess.run([sys.executable, "-c", script], capture_output=True, text=True, timeout=60, check=False)
     return ended.returncode, (ended.stdout + ended.stderr).splitlines()
 
@@ -84,14 +84,14 @@ class Gate(unittest.TestCase):
 
 class Packages(unittest.TestCase):
     def test_every_part_that_needs_packages_is_a_part(self) -> None:
-        parts = {part.name for part in runpy.run_path(str(CI / "gate.py"))["PARTS"]}
-        packages = runpy.run_path(str(CI / "install"))["parts_by_package"]()
+        parts = {part.name for part in runpy.run_path(str(HERE / "gate.py"))["PARTS"]}
+        packages = runpy.run_path(str(HERE / "install.py"))["parts_by_package"]()
         self.assertLessEqual({part for needing in packages.values() for part in needing}, parts)
 
     def calls(self, there_after: int) -> list[str]:
         """What apt-get is asked for where it has installed all of `a` and `b` only after so many tries."""
         made: list[str] = []
-        install = runpy.run_path(str(CI / "install"))["install"]
+        install = runpy.run_path(str(HERE / "install.py"))["install"]
 
         def apt_get(*words: str) -> bool:
             made.append(" ".join(words))
@@ -111,7 +111,8 @@ class Packages(unittest.TestCase):
         self.assertEqual(self.calls(9), ["update", "install a b"] * 3 + ["install a", "install b"])
 
     def test_missing_names_and_installs_nothing(self) -> None:
-        ended = subprocess.run([CI / "install", "--missing", "nothing"], capture_output=True, text=True, check=False)
+        words = [HERE / "install.py", "--missing", "nothing"]
+        ended = subprocess.run(words, capture_output=True, text=True, check=False)
         self.assertEqual((ended.returncode, ended.stderr), (2, "install: no part nothing\n"))
 
 

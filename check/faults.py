@@ -1,7 +1,7 @@
 #!/usr/bin/env python3
 """Compares the lines in the tables of FAULTS.md with the texts that the definitions of the crates give to faults.
 
-    docs/check-faults            the status is 1 where a line is only on one side
+    check/faults.py            the status is 1 where a line is only on one side
 
 A definition such as `wkt_text Text = codes ".."` is read as lines of text, with `N` for a decimal number and `INPUT`
 for the word of an input.
