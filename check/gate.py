@@ -70,6 +70,7 @@ PARTS = (
     Part("faults", ("check/faults.py",), 2),
     Part("definitions", ("check/definitions.py", "--check"), 2),
     Part("guarantees", ("check/guarantees.py",), 2),
+    Part("readmes", ("check/readmes.py",), 2),
     Part("stored-runs", ("check/stored_runs.py",), 10),
     Part("refusals", ("check/refusals.py",), 30),
     Part("mutants", ("check/mutants.py",), 60),
