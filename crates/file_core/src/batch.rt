@@ -73,8 +73,7 @@ fn read_rows<'a>(
     Ok((Unread::Rows(rows), Batch { rows: parts, more }))
 }
 
-/// Reads the next rows, at most so many, into a list that is empty, and says whether there may be
-/// more.
+/// Reads the next rows, at most `most`, into an empty list, and says whether there may be more.
 pub(crate) fn fill(
     alloc: Global,
     read: &mut Vec<ReadRow>,

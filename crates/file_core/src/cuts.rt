@@ -9,10 +9,10 @@ use csv::ByteRecord;
 /// How far before a place a cut is looked for.
 const WINDOW: usize = 4096;
 
-/// The text in two parts, the first of which has about so many bytes.
+/// The text in two parts, the first of which has about `near` bytes.
 ///
-/// It is cut behind a line feed, if there is one near, and of these behind one that follows a
-/// quote: a line feed of a quoted field seldom does. Where the cut is wrong, this costs time alone.
+/// It is cut behind a line feed, if there is one near, and preferably behind one that follows a
+/// quote, since a line feed within a quoted field seldom does. A wrong cut only costs time.
 pub(crate) fn cut(text: &[u8], near: usize) -> (&[u8], &[u8])
     ensures { result.0.now ++ result.1.now ≡ text.now }
 {

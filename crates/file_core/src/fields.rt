@@ -1,4 +1,4 @@
-//! The fields of a record, and what they say.
+//! The fields of a record, and their meaning.
 
 ghost use Rattle.std.specs.Prelude.{◌≡◌, ◌≢◌, [], ◌∷◌, codes, length, IsTrue, ◌↔◌, IfSome, IfNone};
 ghost use Rattle.csv.specs.Records.{fields_of};

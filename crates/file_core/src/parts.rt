@@ -59,7 +59,7 @@ impl ReadParts for Whole {
     }
 }
 
-/// A part in a thread of its own, and what is behind it in another way.
+/// A part in a thread of its own, and the parts behind it in another way.
 #[derive(Drop)]
 pub(crate) struct Beside<'r, R, P>(pub(crate) &'r R, pub(crate) P);
 

@@ -68,7 +68,7 @@ impl<'a> Rows<'a> {
         })
     }
 
-    /// All records of a text as rows, behind so many others.
+    /// All records of a text as rows, behind `count` others.
     pub(crate) fn behind(alloc: Global, text: &'a [u8], count: u32) -> Result<Rows<'a>, AllocError>
         requires plain { IsPlain text.now }
         requires few { count + length (records default_config text.now) ≤ most_rows }

@@ -63,7 +63,7 @@ impl<R: Read> FromRead<R> {
         FromRead::with_likely_len(reader, 0)
     }
 
-    /// A source that is likely to give so many bytes, for which room is made at once.
+    /// A source that is likely to give `likely_len` bytes, for which room is made at once.
     pub fn with_likely_len(reader: R, likely_len: usize) -> FromRead<R>
         ensures remaining { ⟦<FromRead<R> as Source>⟧.remaining result ≡ R.remaining reader }
         ensures fresh { ⟦<FromRead<R> as Source>⟧.has_failed result ≡ false }

@@ -21,7 +21,7 @@ const MARK: usize = 3;
 /// The rows that are left of a file.
 #[derive(Drop)]
 pub(crate) enum Unread<'a> {
-    /// Those of a text that begins between two records, behind so many rows.
+    /// Those of a text that begins between two records, behind a number of rows.
     Text(&'a [u8], u32),
     /// Those that a reader has left.
     Rows(Rows<'a>),

@@ -44,7 +44,7 @@ impl FeatureList {
     ghost use Rattle.layer_core.specs.Refusals.{is_id, AnswersWith, insert_refusal};
     ghost use Rattle.layer_core.specs.Statistics.{counts_of};
 
-    /// No features, and room for so many. `state` hashes the ids.
+    /// No features, and room for `room` of them. `state` hashes the ids.
     pub fn new(alloc: Global, state: RandomState, room: usize) -> Result<FeatureList, AllocError>
         ensures { IfOk result (λ loading. loading ≡ empty) }
     {
@@ -113,7 +113,7 @@ impl FeatureList {
         Layer::pack(alloc, self.features, entries)
     }
 
-    /// The layer of these features, whose tree is packed by at most so many threads.
+    /// The layer of these features, whose tree is packed by at most `threads` threads.
     pub fn finish_by_threads<R: Threads + Sync>(
         self,
         alloc: Global,

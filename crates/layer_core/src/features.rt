@@ -96,7 +96,7 @@ impl Features {
         }
     }
 
-    /// No features, and room for so many whose ids rise.
+    /// No features, and room for `count` whose ids rise.
     pub(crate) fn with_room(
         alloc: Global,
         state: RandomState,

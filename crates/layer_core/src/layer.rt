@@ -101,7 +101,7 @@ impl Layer {
         })
     }
 
-    /// The layer of these features, whose tree is packed by at most so many threads.
+    /// The layer of these features, whose tree is packed by at most `threads` threads.
     pub(crate) fn pack_by_threads<R: Threads + Sync>(
         alloc: Global,
         features: Box<Features>,

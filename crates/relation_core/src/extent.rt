@@ -1,6 +1,6 @@
 //! What two parts of the plane share: the entries of a matrix.
 
-/// The greatest dimension of what two parts share.
+/// The greatest dimension of the intersection of two parts.
 #[derive(Clone, Copy, Debug, PartialEq, Eq)]
 pub enum Extent {
     /// They share nothing.

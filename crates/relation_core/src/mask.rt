@@ -1,4 +1,4 @@
-//! Masks of the matrix: nine places, each with what it asks of its entry.
+//! Masks of the matrix: nine places, each with a condition on its entry.
 
 use crate::extent::Extent;
 use crate::matrix::Matrix;

@@ -1,8 +1,8 @@
-//! The values of a mask: what it asks of one entry of a matrix.
+//! The values of a mask: conditions on one entry of a matrix.
 
 use crate::extent::Extent;
 
-/// What a mask asks of one entry (a pattern value, OGC 06-103r4, 6.1.15.2).
+/// The condition of a mask on one entry (a pattern value, OGC 06-103r4, 6.1.15.2).
 #[derive(Clone, Copy, Debug, PartialEq, Eq)]
 pub enum PatternValue {
     /// `*`: anything.

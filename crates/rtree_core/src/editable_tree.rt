@@ -34,7 +34,7 @@ impl EditableTree {
         }
     }
 
-    /// Reserves the lists that so many insertions may take.
+    /// Reserves the lists that `count` insertions may take.
     ///
     /// Each may split a node on every level and put a level over the root, and it gives the list
     /// of a node that it splits back. A tree has at most 32 levels, so the bound asked for is far

@@ -28,7 +28,7 @@ impl FreeLists {
     }
 }
 
-/// Adds empty lists until there are so many.
+/// Adds empty lists until there are `count`.
 pub(crate) fn fill<T>(lists: &mut Vec<Vec<T>>, count: usize) -> Result<(), AllocError>
     requires { IsFree lists.old.items }
     ensures free { IsFree lists.new.items }

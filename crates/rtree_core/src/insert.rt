@@ -133,8 +133,8 @@ fn halve<T: Item>(list: &mut Vec<T>, free: &mut Vec<Vec<T>>) -> Node
     second
 }
 
-/// Puts an item into a node that is so many levels below this one, or into this one, and gives the
-/// second half of this one where it was split.
+/// Puts an item into a node that lies `steps` levels below this one, or into this one, and gives
+/// the second half of this one if it was split.
 #[cycle(insertion)]
 pub(crate) fn insert_into<T: Insertable>(
     node: &mut Node,
@@ -158,8 +158,8 @@ pub(crate) fn insert_into<T: Insertable>(
     }
 }
 
-/// Puts an item into the subtree of the child that needs least to take it in, so many levels below
-/// that one.
+/// Puts an item into the subtree of the child that needs least enlargement to take it in, `steps`
+/// levels below that child.
 #[cycle(insertion)]
 fn insert_below<T: Insertable>(
     cover: &mut Shape,

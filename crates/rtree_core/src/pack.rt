@@ -119,7 +119,7 @@ fn page_size(items: usize, pages: usize) -> usize
     items_in(1, pages, items)
 }
 
-/// Takes the first so many items into a list, which has room for one more than the most.
+/// Takes the first `size` items into a list, which has room for one more than the most.
 #[tactic(auto, using(crate::proofs::PackLemmas::page_none))]
 fn next_page<T: Packable>(
     alloc: Global,
@@ -144,7 +144,7 @@ fn next_page<T: Packable>(
     Ok(page)
 }
 
-/// The nodes of a level, given what they hold, in the order of their pages.
+/// The nodes of a level, given their contents, in the order of their pages.
 #[tactic(auto, using(crate::proofs::PackLemmas::shares))]
 fn nodes_of<T: Packable>(alloc: Global, items: Vec<T>) -> Result<Vec<Placed>, AllocError>
     ensures nodes { let held = map T.held items.items in

@@ -81,9 +81,9 @@ impl RTree {
         RTree::from_pages(alloc, entries)
     }
 
-    /// Packs entries into the same tree as `pack` does, by at most so many threads.
+    /// Packs entries into the same tree as `pack` does, with at most `threads` threads.
     ///
-    /// By 0 or 1 it starts no thread. An `Err` drops the list.
+    /// 0 and 1 start no thread. An `Err` drops the list.
     #[tactic(auto, using(crate::proofs::PackLemmas::list_tiled))]
     pub fn pack_by_threads<R: Threads + Sync>(
         alloc: Global,
@@ -101,7 +101,7 @@ impl RTree {
         RTree::from_pages(alloc, entries)
     }
 
-    /// The height of the tree into which so many entries are packed.
+    /// The height of the tree into which `entries` entries are packed.
     pub fn packed_height(entries: u32) -> u32
         ensures { IsPackedHeight entries result }
     {

@@ -55,7 +55,7 @@ pub fn waste(one: &Shape, two: &Shape) -> AreaDifference
     growth as AreaDifference - area as AreaDifference
 }
 
-/// How far apart two covers are in what they grow to take in a shape.
+/// The difference between the enlargements of two covers that take in a shape.
 #[inline(always)]
 pub(crate) fn difference(one: &Shape, two: &Shape, shape: &Shape) -> Area
     ensures { result ≡ choices.difference one.now two.now shape.now }

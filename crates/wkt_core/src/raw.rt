@@ -8,7 +8,7 @@ use crate::scale::Scale;
 use crate::token::skip_blanks;
 use geom_core::Shape;
 
-/// The keyword of a text of the grammar, and what is read of its lists.
+/// The keyword of a text of the grammar, and the positions read from its lists.
 #[derive(Drop)]
 pub(crate) struct RawText {
     keyword: Keyword,
@@ -55,7 +55,7 @@ impl RawText {
         }
     }
 
-    /// The keyword of the text and what is read of its lists, where the grammar has it.
+    /// The keyword of the text and the positions of its lists, if the text is in the grammar.
     pub(crate) fn read(text: &[u8], scale: Scale) -> Option<RawText>
         ensures some { IfSome result (λ raw. (lists : List (List RawPoint))
             × TakesText text.now raw.keyword lists × AreReadOf scale raw.lists lists) }

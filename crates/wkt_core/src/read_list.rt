@@ -48,8 +48,7 @@ impl ReadList {
     }
 }
 
-/// What is read of the first list, whether it stands alone, and what is known of the numbers of all
-/// lists.
+/// The first list, whether it stands alone, and whether the numbers of all lists are good.
 #[derive(Drop)]
 pub(crate) struct ReadLists {
     pub(crate) first: ReadList,
@@ -77,7 +76,7 @@ impl ReadLists {
         }
     }
 
-    /// Takes in what was read of the first list, which stands alone as long as no other is added.
+    /// Takes in the first list, which stands alone as long as no other is added.
     #[inline(always)]
     pub(crate) fn first_was_read(&mut self)
         ensures { (scale : Scale) (ps : List RawPoint)

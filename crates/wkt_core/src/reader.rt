@@ -46,7 +46,7 @@ pub fn read(text: &[u8], scale: Scale) -> Result<Shape, WktFault>
     reading(text, scale, RawText::read(text, scale))
 }
 
-/// The one answer that a text reads as, by what was read of it.
+/// The one answer of a text, from its keyword and lists.
 #[inline(always)]
 fn reading(text: &[u8], scale: Scale, read: Option<RawText>) -> Result<Shape, WktFault>
     requires some { IfSome read (λ raw. (lists : List (List RawPoint))
@@ -58,7 +58,7 @@ fn reading(text: &[u8], scale: Scale, read: Option<RawText>) -> Result<Shape, Wk
     answer(read)
 }
 
-/// The answer for what was read.
+/// The answer for a keyword and lists.
 #[inline(always)]
 fn answer(read: Option<RawText>) -> Result<Shape, WktFault>
     ensures { IsAnswerOf read result }
