@@ -77,13 +77,13 @@ def parser() -> argparse.ArgumentParser:
                        help="decimals of a coordinate, 0 to 6; by default as many as are needed")
     known.add_argument("--workers", metavar="N", type=int, help="threads, 1 to 16")
     known.add_argument("--other", choices=("error", "envelope", "skip"), default="error",
-                       help="what to do with geometries that are no point, axis-parallel segment "
-                            "or rectangle; with envelopes OUT says by the field exact which pairs "
-                            "rest on none")
+                       help="treatment of geometries that are no point, axis-parallel segment "
+                            "or rectangle; with envelopes the field exact of OUT is true for pairs "
+                            "that rest on none")
     known.add_argument("--missing", choices=("error", "skip"), default="error",
-                       help="what to do where a geometry is empty or not there")
+                       help="treatment of features whose geometry is empty or missing")
     known.add_argument("--notices", metavar="FILE", type=Path,
-                       help="write what was left out or replaced by its envelope to a CSV file")
+                       help="write the features left out or replaced by their envelopes to a CSV file")
     return known
 
 

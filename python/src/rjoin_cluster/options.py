@@ -58,7 +58,7 @@ def add_cluster_options(options: argparse.ArgumentParser) -> None:
         type=at_least_one,
         default=len(os.sched_getaffinity(0)),
         metavar="N",
-        help="workers on this machine, where no scheduler is named (default: one per core)",
+        help="workers on this machine, without a scheduler (default: one per core)",
     )
     options.add_argument(
         "--folder",
@@ -69,14 +69,14 @@ def add_cluster_options(options: argparse.ArgumentParser) -> None:
         "--tiles",
         type=at_least_one,
         metavar="N",
-        help="at least so many tiles (default: by the data)",
+        help="the least number of tiles (default: chosen by the data)",
     )
     options.add_argument(
         "--block",
         type=at_least_one,
         default=BLOCK_BYTES,
         metavar="BYTES",
-        help="how much of a file one task reads (default: %(default)s)",
+        help="bytes of a file that one task reads (default: %(default)s)",
     )
     options.add_argument(
         "--program",
@@ -95,7 +95,7 @@ def add_cluster_options(options: argparse.ArgumentParser) -> None:
 def add_tls_options(options: argparse.ArgumentParser) -> None:
     """Options of the names that dask's own commands have."""
     for name, metavar, text in (
-        ("ca-file", "FILE", "certificate of who signed those of the scheduler and the workers"),
+        ("ca-file", "FILE", "certificate of the authority that signed those of the scheduler and the workers"),
         ("cert", "FILE", "certificate of this command"),
         ("key", "FILE", "private key of this certificate"),
     ):
@@ -109,12 +109,12 @@ def add_telling_options(options: argparse.ArgumentParser) -> None:
         "--json", action="store_true", help="write figures of the join as JSON to standard output"
     )
     options.add_argument(
-        "--verbose", action="store_true", help="tell of each task on standard error"
+        "--verbose", action="store_true", help="write a line per task to standard error"
     )
     options.add_argument(
         "--dashboard",
         action="store_true",
-        help="serve dask's dashboard on this machine's loopback address, or tell the scheduler's",
+        help="serve dask's dashboard on this machine's loopback address, or print the scheduler's",
     )
 
 
