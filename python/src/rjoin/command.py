@@ -83,7 +83,8 @@ def parser() -> argparse.ArgumentParser:
     known.add_argument("--missing", choices=("error", "skip"), default="error",
                        help="treatment of features whose geometry is empty or missing")
     known.add_argument("--notices", metavar="FILE", type=Path,
-                       help="write the features left out or replaced by their envelopes to a CSV file")
+                       help="write the features that were left out or replaced by their envelopes "
+                            "to a CSV file")
     return known
 
 

@@ -45,7 +45,7 @@ class Request:
     program: Program
     place: Place
     folder: str  # that all workers share
-    tiles: Optional[int]  # at least so many, as far as the data can be cut
+    tiles: Optional[int]  # the least number, as far as the data can be cut
     block_bytes: int
 
 
