@@ -95,7 +95,7 @@ def add_cluster_options(options: argparse.ArgumentParser) -> None:
 def add_tls_options(options: argparse.ArgumentParser) -> None:
     """Options of the names that dask's own commands have."""
     for name, metavar, text in (
-        ("ca-file", "FILE", "certificate of the authority of the scheduler's and the workers' ones"),
+        ("ca-file", "FILE", "certificate of the scheduler's and the workers' authority"),
         ("cert", "FILE", "certificate of this command"),
         ("key", "FILE", "private key of this certificate"),
     ):
