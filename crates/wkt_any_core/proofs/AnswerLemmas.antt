@@ -9,6 +9,7 @@ use Rattle.plane_core.specs.declared.vertex.Vertex.{Vertex}
 use Rattle.plane_core.specs.Figures.{Figure, IsGeometry}
 use Rattle.plane_core.specs.Figures.Figure.{Points, Lines, Areas}
 use Rattle.plane_core.specs.Outlines.{kind_of}
+use Rattle.plane_core.specs.ProperRings.{HasProperRings}
 use Rattle.plane_core.specs.Stored.{paths_of, stored_figure, AreCuts}
 use Rattle.wkt_core.specs.declared.keyword.Keyword.{Keyword}
 use Rattle.wkt_core.specs.declared.keyword.Keyword.TheVariants.{Point, LineString, Polygon}
@@ -19,16 +20,16 @@ use Rattle.wkt_core.specs.Spelling.{AllNumbersGood, position, positions}
 use Rattle.wkt_core.specs.TokenSteps.{skip}
 use Rattle.wkt_core.specs.Drawing.{without_repeats}
 use Rattle.wkt_any_core.specs.declared.fault.GeometryFault.{GeometryFault}
-use Rattle.wkt_any_core.specs.declared.fault.GeometryFault.TheVariants.{Text, Number, Form}
+use Rattle.wkt_any_core.specs.declared.fault.GeometryFault.TheVariants.{Text, Number, Form, Rings as RingFault}
 use Rattle.wkt_any_core.specs.declared.heading.Heading.{Heading}
 use Rattle.wkt_any_core.specs.declared.reader.RawText.{RawText}
 use Rattle.wkt_any_core.specs.declared.rings.Rings.{Rings}
 use Rattle.wkt_any_core.specs.declared.rings.Rings.TheVariants.{Proper, EvenOdd}
-use Rattle.wkt_any_core.specs.Drawing.{position_of, positions_of, paths_in, kind_for, skips_dots, drawn, AreAllowed, Draws}
+use Rattle.wkt_any_core.specs.Drawing.{position_of, positions_of, paths_in, kind_for, skips_dots, drawn, AreAllowed, Draws, TakesRings}
 use Rattle.wkt_any_core.specs.Grammar.{Raw, joined}
 use Rattle.wkt_any_core.specs.Held.{IsRawText}
 use Rattle.wkt_any_core.specs.Readings.{Reads, IsReading}
-use Rattle.wkt_any_core.specs.Spelling.{Spells}
+use Rattle.wkt_any_core.specs.Spelling.{Shows}
 use Rattle.wkt_any_core.specs.Steps.{TakesBodyBy, TakesText}
 use Rattle.wkt_any_core.proofs.CutLemmas.{cut, are_cuts}
 use Rattle.wkt_any_core.proofs.TextLemmas.{raw_taken, taken_raw, one_raw_form}
@@ -40,6 +41,10 @@ not_true false h = refl
 pub not_false : (b : Bool) → not b ≡ false → b ≡ true
 not_false true h = refl
 not_false false h = cc
+
+pub no_true : (b : Bool) → b ≡ false → b ≡ true → ⊥
+no_true true f t = cc
+no_true false f t = cc
 
 -- ---- one geometry
 
@@ -133,35 +138,52 @@ module _ (scale : Scale) (rule : Rings) where
     good_here : (h : Heading) (ys : List (List RawPoint)) → Raw text h ys → AllNumbersGood scale ys → AllNumbersGood scale lists
     good_here h ys r g = subst (AllNumbersGood scale) (one_raw_form text h heading ys lists r raw).1 g
 
-    spelled : (g : Figure) → Spells scale rule text g → AllNumbersGood scale lists × Draws rule heading.keyword (positions scale lists) g
-    spelled g h = (good_here h.heading h.lists h.raw h.good, draws_here h.heading h.lists g h.raw h.draws)
+    shown_here : (g : Figure) → Shows scale rule text g → AllNumbersGood scale lists × Draws rule heading.keyword (positions scale lists) g
+    shown_here g h = (good_here h.heading h.lists h.raw h.good, draws_here h.heading h.lists g h.raw h.draws)
 
-  -- a text spells one geometry
-  one_spelled : (text : List ℕ) (g h : Figure) → Spells scale rule text g → Spells scale rule text h → g ≡ h
-  one_spelled text g h s t =
-      one_figure rule s.heading.keyword (positions scale s.lists) g h s.draws (spelled text s.heading s.lists s.raw h t).1
+  module _ (text : List ℕ) (a b : Figure) (h : Shows scale rule text a) (k : Shows scale rule text b) where
+    -- a text shows one geometry
+    one_shown : a ≡ b
+    one_shown = one_figure rule h.heading.keyword (positions scale h.lists) a b h.draws (shown_here text h.heading h.lists h.raw b k).1
+
+    -- with proper rings or without
+    no_refusal : TakesRings rule a → rule ≡ Proper → ¬ (HasProperRings b) → ⊥
+    no_refusal taken asked improper = improper (subst HasProperRings one_shown (subst (λ r. TakesRings r a) asked taken))
 
   -- a text reads as one answer
   one_reading : (text : List ℕ) (a b : Result Figure GeometryFault) → Reads scale rule text a → Reads scale rule text b → a ≡ b
-  one_reading text (Ok s) (Ok t) h k = ap Ok (one_spelled text s t h k)
-  one_reading text (Ok s) (Err Text) h k = absurd (k h.heading h.lists h.raw)
-  one_reading text (Ok s) (Err Number) h k = absurd (k.bad (spelled text k.heading k.lists k.raw s h).0)
-  one_reading text (Ok s) (Err Form) h k = absurd (k.formless s (spelled text k.heading k.lists k.raw s h).1)
-  one_reading text (Err Text) (Ok t) h k = absurd (h k.heading k.lists k.raw)
+  one_reading text (Ok s) (Ok t) h k = ap Ok (one_shown text s t h.shown k.shown)
+  one_reading text (Ok s) (Err Text) h k = absurd (k h.shown.heading h.shown.lists h.shown.raw)
+  one_reading text (Ok s) (Err Number) h k = absurd (k.bad (shown_here text k.heading k.lists k.raw s h.shown).0)
+  one_reading text (Ok s) (Err Form) h k = absurd (k.formless s (shown_here text k.heading k.lists k.raw s h.shown).1)
+  one_reading text (Ok s) (Err RingFault) h k = absurd (no_refusal text s k.figure h.shown k.shown h.proper k.rule k.improper)
+  one_reading text (Err Text) (Ok t) h k = absurd (h k.shown.heading k.shown.lists k.shown.raw)
   one_reading text (Err Text) (Err Text) h k = refl
   one_reading text (Err Text) (Err Number) h k = absurd (h k.heading k.lists k.raw)
   one_reading text (Err Text) (Err Form) h k = absurd (h k.heading k.lists k.raw)
-  one_reading text (Err Number) (Ok t) h k = absurd (h.bad (spelled text h.heading h.lists h.raw t k).0)
+  one_reading text (Err Text) (Err RingFault) h k = absurd (h k.shown.heading k.shown.lists k.shown.raw)
+  one_reading text (Err Number) (Ok t) h k = absurd (h.bad (shown_here text h.heading h.lists h.raw t k.shown).0)
   one_reading text (Err Number) (Err Text) h k = absurd (k h.heading h.lists h.raw)
   one_reading text (Err Number) (Err Number) h k = refl
   one_reading text (Err Number) (Err Form) h k = absurd (h.bad (good_here text h.heading h.lists h.raw k.heading k.lists k.raw k.good))
-  one_reading text (Err Form) (Ok t) h k = absurd (h.formless t (spelled text h.heading h.lists h.raw t k).1)
+  one_reading text (Err Number) (Err RingFault) h k = absurd (h.bad (shown_here text h.heading h.lists h.raw k.figure k.shown).0)
+  one_reading text (Err Form) (Ok t) h k = absurd (h.formless t (shown_here text h.heading h.lists h.raw t k.shown).1)
   one_reading text (Err Form) (Err Text) h k = absurd (k h.heading h.lists h.raw)
   one_reading text (Err Form) (Err Number) h k = absurd (k.bad (good_here text k.heading k.lists k.raw h.heading h.lists h.raw h.good))
   one_reading text (Err Form) (Err Form) h k = refl
+  one_reading text (Err Form) (Err RingFault) h k = absurd (h.formless k.figure (shown_here text h.heading h.lists h.raw k.figure k.shown).1)
+  one_reading text (Err RingFault) (Ok t) h k = absurd (no_refusal text t h.figure k.shown h.shown k.proper h.rule h.improper)
+  one_reading text (Err RingFault) (Err Text) h k = absurd (k h.shown.heading h.shown.lists h.shown.raw)
+  one_reading text (Err RingFault) (Err Number) h k = absurd (k.bad (shown_here text k.heading k.lists k.raw h.figure h.shown).0)
+  one_reading text (Err RingFault) (Err Form) h k = absurd (k.formless h.figure (shown_here text k.heading k.lists k.raw h.figure h.shown).1)
+  one_reading text (Err RingFault) (Err RingFault) h k = refl
 
   reading : (text : List ℕ) (answer : Result Figure GeometryFault) → Reads scale rule text answer → IsReading scale rule text answer
   reading text answer reads = record { reads = reads; only = λ other. one_reading text answer other reads }
+
+  -- what is shown is read, or refused for its rings
+  pub geometry_reading : (text : List ℕ) (g : Figure) → Shows scale rule text g → TakesRings rule g → IsReading scale rule text (Ok g)
+  geometry_reading text g shown proper = reading text (Ok g) (record { shown = shown; proper = proper })
 
   pub text_reading : (text : List ℕ) → ((heading : Heading) (lists : List (List RawPoint)) → TakesText text heading lists → ⊥)
       → IsReading scale rule text (Err Text)
@@ -208,15 +230,15 @@ module _ (scale : Scale) (rule : Rings) where
       drawn_alike g d = one_by_paths g figure (d.kind ∙ sym (held_figure.0 ∙ ap kind_for r.keyword))
           (one_paths (paths_in g) (paths_in figure) (d.paths ∙ sym held_figure.1))
 
-      pub geometry_reading : (g : Figure) → (g ≡ figure) × IsGeometry g × AreAllowed rule g → IsReading scale rule text (Ok g)
-      geometry_reading g (same, geometry, allowed) = reading text (Ok g) (record {
+      pub geometry_shown : (g : Figure) → (g ≡ figure) × IsGeometry g × AreAllowed rule g → Shows scale rule text g
+      geometry_shown g (same, geometry, allowed) = record {
         heading = r.heading;
         lists = r.lists;
         raw = taken_raw text r.heading r.lists r.taken;
         good = good;
         draws = subst (Draws rule r.heading.keyword (positions scale r.lists)) (sym same)
             (drawn_as (subst IsGeometry same geometry) (subst (AreAllowed rule) same allowed));
-      })
+      }
 
       pub form_reading : (IsGeometry figure → AreAllowed rule figure → ⊥) → IsReading scale rule text (Err Form)
       form_reading none = reading text (Err Form) (record {
@@ -226,3 +248,12 @@ module _ (scale : Scale) (rule : Rings) where
         good = good;
         formless = λ g d. let same = drawn_alike g d in none (subst IsGeometry same d.geometry) (subst (AreAllowed rule) same d.allowed);
       })
+
+ring_fault : (scale : Scale) (rule : Rings) (text : List ℕ) (g : Figure) → Shows scale rule text g → ¬ (TakesRings rule g)
+    → Reads scale rule text (Err RingFault)
+ring_fault scale Proper text g shown not = record { figure = g; shown = shown; rule = refl; improper = not }
+ring_fault scale EvenOdd text g shown not = absurd (not tt)
+
+pub ring_reading : (scale : Scale) (rule : Rings) (text : List ℕ) (g : Figure) → Shows scale rule text g → ¬ (TakesRings rule g)
+    → IsReading scale rule text (Err RingFault)
+ring_reading scale rule text g shown not = reading scale rule text (Err RingFault) (ring_fault scale rule text g shown not)

@@ -14,6 +14,7 @@ use Rattle.plane_core.specs.declared.outline.Kind.TheVariants.{Lines as Polyline
 use Rattle.plane_core.specs.Figures.{Figure, IsGeometry}
 use Rattle.plane_core.specs.Figures.Figure.{Points, Lines, Areas}
 use Rattle.plane_core.specs.Outlines.{kind_of}
+use Rattle.plane_core.specs.ProperRings.{HasProperRings}
 use Rattle.wkt_any_core.specs.declared.rings.Rings.{Rings as RingRule}
 use Rattle.wkt_any_core.specs.declared.rings.Rings.TheVariants.{Proper, EvenOdd}
 
@@ -62,6 +63,11 @@ pub record IsFlat (vs : List Vertex) : Type 0 where
 abbrev pub AreAllowed : RingRule → Figure → Type 0
 AreAllowed Proper (Areas rings) = All (λ ring. ¬ (IsFlat ring)) rings
 AreAllowed _ _ = ⊤
+
+-- the rings of the geometry are proper, where they have to be
+abbrev pub TakesRings : RingRule → Figure → Type 0
+TakesRings Proper g = HasProperRings g
+TakesRings EvenOdd g = ⊤
 
 -- the lists of points, under this keyword, draw the geometry
 pub record Draws (rule : RingRule) (keyword : Keyword) (lists : List (List Position)) (g : Figure)

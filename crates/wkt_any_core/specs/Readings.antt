@@ -3,15 +3,17 @@ use Rattle.std.specs.Prelude.{◌≡◌, ℕ, List, Result, Ok, Err}
 use Rattle.plane_core.specs.Figures.{Figure}
 use Rattle.wkt_core.specs.declared.scale.Scale.{Scale}
 use Rattle.wkt_any_core.specs.declared.fault.GeometryFault.{GeometryFault}
-use Rattle.wkt_any_core.specs.declared.fault.GeometryFault.TheVariants.{Text, Number, Form}
+use Rattle.wkt_any_core.specs.declared.fault.GeometryFault.TheVariants.{Text, Number, Form, Rings as RingFault}
 use Rattle.wkt_any_core.specs.declared.rings.Rings.{Rings}
 use Rattle.wkt_any_core.specs.Spelling.{Spells, HasNoRawForm, HasBadNumber, HasNoFigure}
+use Rattle.wkt_any_core.specs.Spelling.{HasImproperRings}
 
 abbrev pub Reads : Scale → Rings → List ℕ → Result Figure GeometryFault → Type 0
 Reads scale rings text (Ok g) = Spells scale rings text g
 Reads scale rings text (Err Text) = HasNoRawForm text
 Reads scale rings text (Err Number) = HasBadNumber scale text
 Reads scale rings text (Err Form) = HasNoFigure scale rings text
+Reads scale rings text (Err RingFault) = HasImproperRings scale rings text
 
 -- the one answer that a text reads as
 pub record IsReading (scale : Scale) (rings : Rings) (text : List ℕ)

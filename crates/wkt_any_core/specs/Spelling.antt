@@ -1,21 +1,28 @@
 -- What a text of any geometry means: the geometry that it spells at a scale.
-use Rattle.std.specs.Prelude.{ℕ, List}
+use Rattle.std.specs.Prelude.{◌≡◌, ℕ, List}
 use Rattle.plane_core.specs.Figures.{Figure}
+use Rattle.plane_core.specs.ProperRings.{HasProperRings}
 use Rattle.wkt_core.specs.declared.scale.Scale.{Scale}
 use Rattle.wkt_core.specs.Grammar.{RawPoint}
 use Rattle.wkt_core.specs.Spelling.{AllNumbersGood, positions}
 use Rattle.wkt_any_core.specs.declared.heading.Heading.{Heading}
 use Rattle.wkt_any_core.specs.declared.rings.Rings.{Rings}
+use Rattle.wkt_any_core.specs.declared.rings.Rings.TheVariants.{Proper}
 use Rattle.wkt_any_core.specs.Grammar.{Raw}
-use Rattle.wkt_any_core.specs.Drawing.{Draws}
+use Rattle.wkt_any_core.specs.Drawing.{Draws, TakesRings}
 
 -- the text is well formed, its numbers are whole and in range, and its points draw the geometry
-pub record Spells (scale : Scale) (rings : Rings) (text : List ℕ) (g : Figure) : Type 0 where
+pub record Shows (scale : Scale) (rings : Rings) (text : List ℕ) (g : Figure) : Type 0 where
   pub heading : Heading
   pub lists : List (List RawPoint)
   pub raw : Raw text heading lists
   pub good : AllNumbersGood scale lists
   pub draws : Draws rings heading.keyword (positions scale lists) g
+
+-- and its rings are proper, where they have to be
+pub record Spells (scale : Scale) (rings : Rings) (text : List ℕ) (g : Figure) : Type 0 where
+  pub shown : Shows scale rings text g
+  pub proper : TakesRings rings g
 
 -- the text isn't well formed
 abbrev pub HasNoRawForm : List ℕ → Type 0
@@ -35,3 +42,10 @@ pub record HasNoFigure (scale : Scale) (rings : Rings) (text : List ℕ) : Type 
   pub raw : Raw text heading lists
   pub good : AllNumbersGood scale lists
   pub formless : (g : Figure) → ¬ (Draws rings heading.keyword (positions scale lists) g)
+
+-- the text's points draw a geometry whose rings aren't proper, and have to be
+pub record HasImproperRings (scale : Scale) (rings : Rings) (text : List ℕ) : Type 0 where
+  pub figure : Figure
+  pub shown : Shows scale rings text figure
+  pub rule : rings ≡ Proper
+  pub improper : ¬ (HasProperRings figure)

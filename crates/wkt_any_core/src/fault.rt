@@ -14,6 +14,9 @@ pub enum GeometryFault {
     /// A polyline has no two different vertices, or a ring is not closed or is flat.
     #[error("a line without length, or a ring that is not closed or is flat")]
     Form,
+    /// Two edges of rings cross inside or run along each other, where rings have to be proper.
+    #[error("rings cross or overlap")]
+    Rings,
 }
 
 impl GeometryFault {
@@ -29,6 +32,7 @@ impl GeometryFault {
             GeometryFault::Text => "not a geometry text",
             GeometryFault::Number => "number not whole or out of range",
             GeometryFault::Form => "a line without length, or a ring that is not closed or is flat",
+            GeometryFault::Rings => "rings cross or overlap",
         }
     }
 }

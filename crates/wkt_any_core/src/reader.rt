@@ -1,6 +1,6 @@
 //! Reading a text.
 
-ghost use Rattle.std.specs.Prelude.{◌≡◌, List, ℕ, IfOk, IfSome, IfNone, Result};
+ghost use Rattle.std.specs.Prelude.{◌≡◌, ◌↔◌, List, ℕ, IfOk, IfErr, IfSome, IfNone, IsTrue, Result};
 ghost use Rattle.plane_core.specs.Figures.{Figure};
 ghost use Rattle.wkt_core.specs.Grammar.{RawPoint};
 ghost use Rattle.wkt_any_core.specs.declared.fault.GeometryFault.{GeometryFault};
@@ -8,7 +8,8 @@ ghost use Rattle.wkt_any_core.specs.declared.heading.Heading.{Heading};
 ghost use Rattle.wkt_any_core.specs.Held.{IsRawText};
 ghost use Rattle.wkt_any_core.specs.Readings.{Reads, IsReading};
 ghost use Rattle.wkt_any_core.specs.Steps.{TakesText};
-ghost use Rattle.wkt_any_core.specs.Drawing.{skips_dots};
+ghost use Rattle.wkt_any_core.specs.Drawing.{skips_dots, TakesRings};
+ghost use Rattle.wkt_any_core.specs.Spelling.{Shows};
 
 use crate::body::read_body;
 use crate::fault::GeometryFault;
@@ -17,6 +18,7 @@ use crate::heading::Heading;
 use crate::paths::Paths;
 use crate::rings::Rings;
 use plane_core::Geometry;
+use ring_core::has_proper_rings;
 use std::alloc::{AllocError, Global};
 use wkt_core::{Keyword, Scale, skip_blanks};
 
@@ -67,8 +69,8 @@ fn read_raw(
     }
 }
 
-/// The one answer that a text reads as, by what was read of it.
-fn answer(
+/// The geometry that a text shows by what was read of it, or the text's fault.
+fn shown(
     text: &[u8],
     scale: Scale,
     rings: Rings,
@@ -77,7 +79,8 @@ fn answer(
     requires some { IfSome read (IsRawText scale rings text.now) }
     requires none { IfNone read ((heading : Heading) (lists : List (List RawPoint))
         → TakesText text.now heading lists → ⊥) }
-    ensures { IsReading scale rings text.now result }
+    ensures ok { IfOk result (Shows scale rings text.now) }
+    ensures err { IfErr result (λ fault. IsReading scale rings text.now (Err fault)) }
 {
     let Some(raw) = read else {
         return Err(GeometryFault::Text);
@@ -88,6 +91,35 @@ fn answer(
     match geometry_of(raw.keyword, raw.paths, rings) {
         Some(geometry) => Ok(geometry),
         None => Err(GeometryFault::Form),
+    }
+}
+
+/// Whether the rings of a geometry are proper, where they have to be.
+fn takes_rings(alloc: Global, geometry: &Geometry, rings: Rings) -> Result<bool, AllocError>
+    ensures { IfOk result (λ is_taken. IsTrue is_taken ↔ TakesRings rings geometry.now) }
+{
+    match rings {
+        Rings::Proper => has_proper_rings(alloc, geometry),
+        Rings::EvenOdd => Ok(true),
+    }
+}
+
+/// The geometry that a text shows, if the text reads as it, or the fault of its rings.
+fn answer(
+    alloc: Global,
+    text: &[u8],
+    scale: Scale,
+    rings: Rings,
+    geometry: Geometry,
+) -> Result<Result<Geometry, GeometryFault>, AllocError>
+    requires { Shows scale rings text.now geometry }
+    ensures { IfOk result (IsReading scale rings text.now) }
+{
+    let is_taken = takes_rings(alloc, &geometry, rings)?;
+    if is_taken {
+        Ok(Ok(geometry))
+    } else {
+        Ok(Err(GeometryFault::Rings))
     }
 }
 
@@ -107,6 +139,8 @@ fn answer(
 /// - [`GeometryFault::Form`] where a polyline has no two different vertices, or a ring's last point
 ///   isn't its first, or its points lie on one line. With [`Rings::EvenOdd`] a ring may lie on one
 ///   line; one whose points are all the same adds nothing, and some ring has to be left.
+/// - [`GeometryFault::Rings`] where two edges of rings share more than one point, or one that is an
+///   end of neither. With [`Rings::EvenOdd`] it doesn't come.
 ///
 /// An error outside these is a want of memory, or 2^32 vertices or more.
 pub fn read(
@@ -120,5 +154,8 @@ pub fn read(
         → Reads scale rings text.now other → answer ≡ other) }
 {
     let raw = read_raw(alloc, text, scale, rings)?;
-    Ok(answer(text, scale, rings, raw))
+    match shown(text, scale, rings, raw) {
+        Ok(geometry) => answer(alloc, text, scale, rings, geometry),
+        Err(fault) => Ok(Err(fault)),
+    }
 }

@@ -45,6 +45,11 @@ const READ: &[(&str, (usize, usize))] = &[
         "MULTIPOLYGON(((0 0,9 0,9 9,0 9,0 0),(1 1,2 1,1 2,1 1)),((20 0,22 0,20 2,20 0)))",
         (10, 0),
     ),
+    (
+        "MULTIPOLYGON (((0 0, 1 0, 0 1, 0 0)), ((2 0, 3 0, 2 1, 2 0)), ((4 0, 5 0, 4 1, 4 0)), \
+        ((6 0, 7 0, 6 1, 6 0)), ((8 0, 9 0, 8 1, 8 0)), ((0 1, 2 1, 2 2, 0 1)))",
+        (18, 0),
+    ),
 ];
 
 #[test]
@@ -140,15 +145,74 @@ fn lines_have_length_and_rings_an_area(rt: HostRuntime) -> Result<(), AllocError
     Ok(())
 }
 
-/// Texts by the even-odd rule, and the edges of what they read as.
-const EVEN_ODD: &[(&str, usize)] = &[
+/// Texts of rings that cross or run along each other or themselves, and their edges.
+const NO_RINGS: &[(&str, usize)] = &[
     ("POLYGON ((0 0, 4 4, 4 0, 0 4, 0 0))", 4),
-    ("POLYGON ((0 0, 4 0, 8 0, 0 0))", 3),
-    ("POLYGON ((0 0, 4 0, 0 4, 0 0), (1 1, 1 1))", 3),
+    ("POLYGON ((0 0, 4 0, 2 0, 0 4, 0 0))", 4),
+    (
+        "POLYGON ((0 0, 4 0, 4 4, 0 4, 0 0), (1 1, 5 1, 1 2, 1 1))",
+        7,
+    ),
+    (
+        "MULTIPOLYGON (((0 0, 4 0, 0 4, 0 0)), ((4 0, 4 4, 0 4, 4 0)))",
+        6,
+    ),
     (
         "MULTIPOLYGON (((0 0, 4 0, 0 4, 0 0)), ((0 0, 4 0, 0 4, 0 0)))",
         6,
     ),
+    (
+        "MULTIPOLYGON (((0 0, 1 0, 0 1, 0 0)), ((2 0, 3 0, 2 1, 2 0)), ((4 0, 5 0, 4 1, 4 0)), \
+        ((6 0, 7 0, 6 1, 6 0)), ((8 0, 9 0, 8 1, 8 0)), ((0 2, 1 0, 2 2, 0 2)), ((0 1, 1 3, 2 1, 0 1)))",
+        21,
+    ),
+];
+
+#[test]
+fn rings_neither_cross_nor_overlap(rt: HostRuntime) -> Result<(), AllocError> {
+    for (text, edges) in NO_RINGS {
+        let refused = Err(GeometryFault::Rings);
+        assert!(rt;
+            counts(rt.alloc(), text, Rings::Proper)? == refused,
+            "{text}"
+        );
+        assert!(rt;
+            counts(rt.alloc(), text, Rings::EvenOdd)? == Ok((*edges, 0)),
+            "{text}"
+        );
+    }
+    Ok(())
+}
+
+/// Texts with two faults, and the one that is named.
+const FIRST_FAULTS: &[(&str, GeometryFault)] = &[
+    ("POLYGON ((0 0, 4 4, 4 0, 0 4, 0 0.5)", GeometryFault::Text),
+    (
+        "POLYGON ((0 0, 4 4, 4 0, 0 4.5, 0 0))",
+        GeometryFault::Number,
+    ),
+    ("POLYGON ((0 0, 4 4, 4 0, 0 4, 1 0))", GeometryFault::Form),
+    (
+        "MULTIPOLYGON (((0 0, 4 4, 4 0, 0 4, 0 0)), ((9 9, 8 8, 9 9)))",
+        GeometryFault::Form,
+    ),
+];
+
+#[test]
+fn the_first_fault_is_named(rt: HostRuntime) -> Result<(), AllocError> {
+    for (text, fault) in FIRST_FAULTS {
+        assert!(rt;
+            counts(rt.alloc(), text, Rings::Proper)? == Err(*fault),
+            "{text}"
+        );
+    }
+    Ok(())
+}
+
+/// Texts by the even-odd rule, and the edges of what they read as.
+const EVEN_ODD: &[(&str, usize)] = &[
+    ("POLYGON ((0 0, 4 0, 8 0, 0 0))", 3),
+    ("POLYGON ((0 0, 4 0, 0 4, 0 0), (1 1, 1 1))", 3),
 ];
 
 #[test]

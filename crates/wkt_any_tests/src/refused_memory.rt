@@ -20,6 +20,12 @@ fn counts_at_last(
 fn growths_are_refused_in_turn(rt: HostRuntime) -> Result<(), AllocError> {
     let rings = "MULTIPOLYGON (((0 0, 9 0, 9 9, 0 9, 0 0), (1 1, 2 1, 1 2, 1 1)))";
     assert!(rt; counts_at_last(rt.alloc(), rings)? == Ok((7, 0)));
+    let crossing = "POLYGON ((0 0, 4 4, 4 0, 0 4, 0 0))";
+    assert!(rt; counts_at_last(rt.alloc(), crossing)? == Err(GeometryFault::Rings));
+    let many = "MULTIPOLYGON (((0 0, 1 0, 0 1, 0 0)), ((2 0, 3 0, 2 1, 2 0)), \
+        ((4 0, 5 0, 4 1, 4 0)), ((6 0, 7 0, 6 1, 6 0)), ((8 0, 9 0, 8 1, 8 0)), \
+        ((0 2, 2 2, 1 9, 0 2)))";
+    assert!(rt; counts_at_last(rt.alloc(), many)? == Ok((18, 0)));
     let flat = "POLYGON ((0 0, 4 0, 8 0, 0 0))";
     assert!(rt; counts_at_last(rt.alloc(), flat)? == Err(GeometryFault::Form));
     let cut = "MULTILINESTRING ((0 0, 1 1), (2 2, 3 3)";

@@ -1,23 +1,8 @@
-use Rattle.wkt_any_core.proofs.AnswerLemmas.{text_reading, number_reading, held_cuts, geometry_reading, form_reading, not_true, not_false}
+use Rattle.wkt_any_core.proofs.AnswerLemmas.{geometry_reading, ring_reading, no_true}
 use Rattle.wkt_any_core.proofs.reader.answer.Goals as goal
 
-pub returns-in_default : goal.returns-in_default
-returns-in_default c = text_reading c.args.scale c.args.rings c.args.text.now (rw c.in_default.is at c.requires.none)
+pub returns-then-is_taken : goal.returns-then-is_taken
+returns-then-is_taken c = geometry_reading c.args.scale c.args.rings c.args.text.now c.args.geometry c.requires (c.in_ok-is_taken.ensures.0 c.if-is_taken.true)
 
-pub returns-then-not-raw : goal.returns-then-not-raw
-returns-then-not-raw c =
-    number_reading c.args.scale c.args.rings c.args.text.now c.in-Some.raw (rw c.in-Some.is at c.requires.some) (not_true _ c.if-not-raw.true)
-
-pub geometry_of-requires : goal.geometry_of-requires
-geometry_of-requires c =
-    held_cuts c.args.scale c.args.rings c.args.text.now c.in-Some.raw (rw c.in-Some.is at c.requires.some) (not_false _ c.if-not-raw.false)
-
-pub returns-in-Some-geometry_of : goal.returns-in-Some-geometry_of
-returns-in-Some-geometry_of c =
-    geometry_reading c.args.scale c.args.rings c.args.text.now c.in-Some.raw (rw c.in-Some.is at c.requires.some) (not_false _ c.if-not-raw.false)
-    c.in-Some-geometry_of.geometry c.in-Some-geometry_of.ensures.some
-
-pub returns-in-None : goal.returns-in-None
-returns-in-None c =
-    form_reading c.args.scale c.args.rings c.args.text.now c.in-Some.raw (rw c.in-Some.is at c.requires.some) (not_false _ c.if-not-raw.false)
-    c.in-None.ensures.none
+pub returns-else-is_taken : goal.returns-else-is_taken
+returns-else-is_taken c = ring_reading c.args.scale c.args.rings c.args.text.now c.args.geometry c.requires (λ taken. no_true _ c.if-is_taken.false (c.in_ok-is_taken.ensures.1 taken))
