@@ -11,7 +11,8 @@ ghost use Rattle.join_core.specs.Runs.{NoTextFault, RunEnds};
 
 use crate::csv_rows::{new_rows, push_row, rows_text};
 use crate::fault::RunFault;
-use crate::layer_run::{LayerText, run_on_layer};
+use crate::layer_input::LayerReader;
+use crate::layer_run::{DEFAULT_WORKERS, LayerText, run_on_layer};
 use crate::text::Text;
 use csv::Writer;
 use file_core::Source;
@@ -44,7 +45,13 @@ pub fn run_bounds<R: Threads + Sync, L: Source, S: Sink>(
         (OnlyAt Input.Layer (IsTrue (L.has_failed layer.new)))
         S.written S.is_flushed S.has_failed sink.old sink.new result }
 {
-    run_on_layer(rt, alloc, state, scale, layer, &Corners, sink)
+    let reader = LayerReader {
+        rt,
+        alloc,
+        scale,
+        threads: DEFAULT_WORKERS,
+    };
+    run_on_layer(&reader, state, layer, &Corners, sink)
 }
 
 /// The list of the corners of a layer's features.

@@ -13,63 +13,67 @@ use std::hash::RandomState;
 use std::thread::Threads;
 use wkt_core::Scale;
 
-/// So many threads, or one for few bytes.
-fn threads_for(bytes: &[u8], threads: u32) -> u32 {
-    if bytes.len() >= MIN_THREADED_BYTES {
-        threads
-    } else {
-        1
+/// How the files of layers are read.
+#[derive(Drop)]
+pub(crate) struct LayerReader<'a, R> {
+    pub(crate) rt: &'a R,
+    pub(crate) alloc: Global,
+    pub(crate) scale: Scale,
+    /// By how many threads a file is read, unless it has few bytes.
+    pub(crate) threads: u32,
+}
+
+impl<R: Threads + Sync> LayerReader<'_, R> {
+    /// The layer of a file's bytes. `state` hashes the ids.
+    pub(crate) fn build(&self, state: RandomState, bytes: Vec<u8>) -> Result<Layer, ReadFault>
+        ensures { Builds self.now.scale bytes.items result }
+    {
+        let threads = self.threads_for(bytes.as_slice());
+        layer_of_bytes(self.alloc, state, bytes, self.scale, threads, self.rt)
     }
-}
 
-/// The layer of a file's bytes, which so many threads build, or one if they are few. `state` hashes
-/// the ids.
-pub(crate) fn build_by_threads<R: Threads + Sync>(
-    rt: &R,
-    alloc: Global,
-    state: RandomState,
-    scale: Scale,
-    bytes: Vec<u8>,
-    threads: u32,
-) -> Result<Layer, ReadFault>
-    ensures { Builds scale bytes.items result }
-{
-    let threads = threads_for(bytes.as_slice(), threads);
-    layer_of_bytes(alloc, state, bytes, scale, threads, rt)
-}
+    /// The layer that a source is read as.
+    pub(crate) fn read<S: Source>(
+        &self,
+        state: RandomState,
+        source: &mut S,
+    ) -> Result<Layer, ReadFault>
+        requires { S.has_failed source.old ≡ false }
+        ensures reads { Reads self.now.scale (S.remaining source.old) result }
+        ensures io { IsErrOf result ReadFault.Io ↔ IsTrue (S.has_failed source.new) }
+    {
+        let bytes = read_all(self.alloc, source)?;
+        self.build(state, bytes)
+    }
 
-/// The layer that a source is read as, which so many threads build, or one if it has few bytes.
-pub(crate) fn read_by_threads<R: Threads + Sync, S: Source>(
-    rt: &R,
-    alloc: Global,
-    state: RandomState,
-    scale: Scale,
-    source: &mut S,
-    threads: u32,
-) -> Result<Layer, ReadFault>
-    requires { S.has_failed source.old ≡ false }
-    ensures reads { Reads scale (S.remaining source.old) result }
-    ensures io { IsErrOf result ReadFault.Io ↔ IsTrue (S.has_failed source.new) }
-{
-    let bytes = read_all(alloc, source)?;
-    build_by_threads(rt, alloc, state, scale, bytes, threads)
-}
+    /// The features of the layer that a source is read as.
+    pub(crate) fn read_features<S: Source>(
+        &self,
+        state: RandomState,
+        source: &mut S,
+    ) -> Result<FeatureList, ReadFault>
+        requires { S.has_failed source.old ≡ false }
+        ensures reads { ReadsFeatures self.now.scale (S.remaining source.old) result }
+        ensures io { IsErrOf result ReadFault.Io ↔ IsTrue (S.has_failed source.new) }
+    {
+        let bytes = read_all(self.alloc, source)?;
+        let threads = self.threads_for(bytes.as_slice());
+        features_of_bytes(
+            self.alloc,
+            state,
+            bytes.as_slice(),
+            self.scale,
+            threads,
+            self.rt,
+        )
+    }
 
-/// The features of the layer that a source is read as, by so many threads, or by one if it has few
-/// bytes.
-pub(crate) fn read_features<R: Threads + Sync, S: Source>(
-    rt: &R,
-    alloc: Global,
-    state: RandomState,
-    scale: Scale,
-    source: &mut S,
-    threads: u32,
-) -> Result<FeatureList, ReadFault>
-    requires { S.has_failed source.old ≡ false }
-    ensures reads { ReadsFeatures scale (S.remaining source.old) result }
-    ensures io { IsErrOf result ReadFault.Io ↔ IsTrue (S.has_failed source.new) }
-{
-    let bytes = read_all(alloc, source)?;
-    let threads = threads_for(bytes.as_slice(), threads);
-    features_of_bytes(alloc, state, bytes.as_slice(), scale, threads, rt)
+    /// The threads that read these bytes: one for few bytes.
+    fn threads_for(&self, bytes: &[u8]) -> u32 {
+        if bytes.len() >= MIN_THREADED_BYTES {
+            self.threads
+        } else {
+            1
+        }
+    }
 }

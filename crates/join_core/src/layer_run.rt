@@ -11,7 +11,7 @@ ghost use Rattle.join_core.specs.Runs.{NoTextFault, RunEnds};
 ghost use Rattle.join_core.specs.Texts.{bytes_of_text};
 
 use crate::fault::{Input, RunFault};
-use crate::layer_input::read_features;
+use crate::layer_input::LayerReader;
 use crate::text::Text;
 use file_core::{ReadFault, Source};
 use layer_core::FeatureList;
@@ -19,7 +19,6 @@ use report_core::Sink;
 use std::alloc::{AllocError, Global};
 use std::hash::RandomState;
 use std::thread::Threads;
-use wkt_core::Scale;
 
 /// How many workers a join has where none are asked for, and how many threads read one layer.
 pub const DEFAULT_WORKERS: u32 = 4;
@@ -36,48 +35,46 @@ pub(crate) trait LayerText {
 /// Reads a layer, whose ids `state` hashes, and writes the text that is made of it. After a fault
 /// of the layer nothing is written.
 pub(crate) fn run_on_layer<R: Threads + Sync, L: Source, T: LayerText, S: Sink>(
-    rt: &R,
-    alloc: Global,
+    reader: &LayerReader<'_, R>,
     state: RandomState,
-    scale: Scale,
     layer: &mut L,
     made: &T,
     sink: &mut S,
 ) -> Result<(), RunFault>
     requires layer { L.has_failed layer.old ≡ false }
     requires sink { S.has_failed sink.old ≡ false }
-    ensures { RunEnds (LayerGives (T.is_text_of made.now) scale (L.remaining layer.old))
-        NoTextFault (IsLayerRunFault scale (L.remaining layer.old))
+    ensures { let file = L.remaining layer.old in
+        RunEnds (LayerGives (T.is_text_of made.now) reader.now.scale file)
+        NoTextFault (IsLayerRunFault reader.now.scale file)
         (OnlyAt Input.Layer (IsTrue (L.has_failed layer.new)))
         S.written S.is_flushed S.has_failed sink.old sink.new result }
 {
-    let text = text_of(rt, alloc, state, scale, layer, made)?;
+    let text = text_of(reader, state, layer, made)?;
     text.write(sink)?;
     Ok(())
 }
 
 /// The text that is made of the layer that a source is read as.
 fn text_of<R: Threads + Sync, L: Source, T: LayerText>(
-    rt: &R,
-    alloc: Global,
+    reader: &LayerReader<'_, R>,
     state: RandomState,
-    scale: Scale,
     source: &mut L,
     made: &T,
 ) -> Result<Text, RunFault>
     requires { L.has_failed source.old ≡ false }
     ensures ok { let file = L.remaining source.old in
-        let gives = LayerGives (T.is_text_of made.now) scale file in
+        let gives = LayerGives (T.is_text_of made.now) reader.now.scale file in
         IfOk result (λ text. gives (Ok (bytes_of_text text))) }
     ensures fault { let file = L.remaining source.old in
-        let gives = LayerGives (T.is_text_of made.now) scale file in
+        let gives = LayerGives (T.is_text_of made.now) reader.now.scale file in
         IfErr result (λ f. BlamesInput f → gives (Err f)) }
-    ensures faults { IfErr result (IsLayerRunFault scale (L.remaining source.old)) }
+    ensures faults { IfErr result
+        (IsLayerRunFault reader.now.scale (L.remaining source.old)) }
     ensures io { IsErrOf result (RunFault.Read Input.Layer ReadFault.Io)
         ↔ IsTrue (L.has_failed source.new) }
 {
-    match read_features(rt, alloc, state, scale, source, DEFAULT_WORKERS) {
-        Ok(features) => text_from(alloc, &features, made),
+    match reader.read_features(state, source) {
+        Ok(features) => text_from(reader.alloc, &features, made),
         Err(fault) => Err(RunFault::Read(Input::Layer, fault)),
     }
 }

@@ -8,7 +8,8 @@ ghost use Rattle.join_core.specs.Runs.{NoTextFault, RunEnds};
 ghost use Rattle.join_core.specs.StatsTexts.{AreCounts, count_line, stats_text};
 
 use crate::fault::RunFault;
-use crate::layer_run::{LayerText, run_on_layer};
+use crate::layer_input::LayerReader;
+use crate::layer_run::{DEFAULT_WORKERS, LayerText, run_on_layer};
 use crate::text::Text;
 use file_core::Source;
 use layer_core::{FeatureList, Stats};
@@ -38,7 +39,13 @@ pub fn run_stats<R: Threads + Sync, L: Source, S: Sink>(
         (OnlyAt Input.Layer (IsTrue (L.has_failed layer.new)))
         S.written S.is_flushed S.has_failed sink.old sink.new result }
 {
-    run_on_layer(rt, alloc, state, scale, layer, &Counts, sink)
+    let reader = LayerReader {
+        rt,
+        alloc,
+        scale,
+        threads: DEFAULT_WORKERS,
+    };
+    run_on_layer(&reader, state, layer, &Counts, sink)
 }
 
 /// The counts of a layer's features.

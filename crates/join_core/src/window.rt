@@ -9,7 +9,8 @@ ghost use Rattle.join_core.specs.Windows.{IsWindowList};
 
 use crate::csv_rows::{new_rows, push_row, rows_text};
 use crate::fault::{Input, RunFault};
-use crate::layer_run::{LayerText, run_on_layer};
+use crate::layer_input::LayerReader;
+use crate::layer_run::{DEFAULT_WORKERS, LayerText, run_on_layer};
 use crate::text::Text;
 use file_core::Source;
 use geom_core::Shape;
@@ -43,7 +44,15 @@ pub fn run_window<R: Threads + Sync, L: Source, S: Sink>(
         S.written S.is_flushed S.has_failed sink.old sink.new result }
 {
     match wkt_core::read(wkt, scale) {
-        Ok(window) => run_on_layer(rt, alloc, state, scale, layer, &Meeting { window }, sink),
+        Ok(window) => {
+            let reader = LayerReader {
+                rt,
+                alloc,
+                scale,
+                threads: DEFAULT_WORKERS,
+            };
+            run_on_layer(&reader, state, layer, &Meeting { window }, sink)
+        }
         Err(fault) => Err(RunFault::Wkt(Input::Window, fault)),
     }
 }

@@ -15,6 +15,7 @@ use super::edits::apply_edits;
 use super::layers::read_layers;
 use super::sources::JoinSources;
 use crate::fault::{Input, RunFault};
+use crate::layer_input::LayerReader;
 use file_core::{ReadFault, Source, read_edits};
 use layer_core::{Edit, Layer};
 use std::alloc::Global;
@@ -25,29 +26,26 @@ use wkt_core::Scale;
 /// The layers that are read, after the edits of both. `states` hash their ids.
 ///
 /// The left source is read first, then its layer is built and the right source is read and built,
-/// side by side where there is more than one worker. Then the edits are read, and made in order.
+/// side by side where there is more than one thread. Then the edits are read, and made in order.
 /// The first fault is answered, but that a right source which fails comes before a fault in the
 /// bytes of the left.
 pub(crate) fn edited_layers<R: Threads + Sync, A: Source, B: Source, E: Source>(
-    rt: &R,
-    alloc: Global,
+    reader: &LayerReader<'_, R>,
     states: (RandomState, RandomState),
-    scale: Scale,
     sources: &mut JoinSources<A, B, E>,
-    workers: u32,
 ) -> Result<(Layer, Layer), RunFault>
     requires { AreFresh A.has_failed B.has_failed E.has_failed sources.old }
-    ensures ok { let files = files_of scale A.remaining B.remaining E.remaining sources.old in
+    ensures ok { let files = files_of reader.now.scale A.remaining B.remaining E.remaining sources.old in
         IfOk result (λ layers. LayersGive files (Ok (both layers.0.list layers.1.list))) }
-    ensures fault { let files = files_of scale A.remaining B.remaining E.remaining sources.old in
+    ensures fault { let files = files_of reader.now.scale A.remaining B.remaining E.remaining sources.old in
         IfErr result (λ f. BlamesInput f → LayersGive files (Err f)) }
-    ensures faults { let files = files_of scale A.remaining B.remaining E.remaining sources.old in
+    ensures faults { let files = files_of reader.now.scale A.remaining B.remaining E.remaining sources.old in
         IfErr result (IsJoinFault files) }
     ensures io { TellsFailures A.has_failed B.has_failed E.has_failed sources.new result }
 {
     let (left, right) = (&mut sources.left, &mut sources.right);
-    let mut layers = read_layers(rt, alloc, states, scale, left, right, workers)?;
-    edit_layers(alloc, scale, &mut sources.edits, &mut layers)?;
+    let mut layers = read_layers(reader, states, left, right)?;
+    edit_layers(reader.alloc, reader.scale, &mut sources.edits, &mut layers)?;
     Ok(layers)
 }
 

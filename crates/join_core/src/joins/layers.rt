@@ -7,50 +7,43 @@ ghost use Rattle.join_core.specs.Inputs.{LayerFile, Builds, Reads};
 ghost use Rattle.join_core.specs.JoinRuns.{IsLayersFault, first_fault};
 
 use crate::fault::{Input, RunFault};
-use crate::layer_input::{build_by_threads, read_by_threads};
+use crate::layer_input::LayerReader;
 use file_core::{ReadFault, Source, read_all};
 use layer_core::Layer;
-use std::alloc::Global;
 use std::hash::RandomState;
 use std::thread::Threads;
 use std::{mem, thread};
-use wkt_core::Scale;
 
 /// The layers that the left and the right source are read as. `states` hash their ids.
 ///
 /// The left source is read first. Then its layer is built, and the right source is read and its
-/// layer built: side by side where there is more than one worker, and each by as many threads.
+/// layer built: side by side where there is more than one thread, and each by as many threads.
 /// A left source that fails is answered at once, and the right one isn't read; a right source that
 /// fails is answered before a fault in what was read of the left one.
 pub(crate) fn read_layers<R: Threads + Sync, A: Source, B: Source>(
-    rt: &R,
-    alloc: Global,
+    reader: &LayerReader<'_, R>,
     states: (RandomState, RandomState),
-    scale: Scale,
     left: &mut A,
     right: &mut B,
-    workers: u32,
 ) -> Result<(Layer, Layer), RunFault>
     requires left { A.has_failed left.old ≡ false }
     requires right { B.has_failed right.old ≡ false }
     ensures left { IfOk result (λ both.
-        LayerFile scale (A.remaining left.old) (Ok both.0.list)) }
+        LayerFile reader.now.scale (A.remaining left.old) (Ok both.0.list)) }
     ensures right { IfOk result (λ both.
-        LayerFile scale (B.remaining right.old) (Ok both.1.list)) }
+        LayerFile reader.now.scale (B.remaining right.old) (Ok both.1.list)) }
     ensures fault { IfErr result
-        (IsLayersFault scale (A.remaining left.old) (B.remaining right.old)) }
+        (IsLayersFault reader.now.scale (A.remaining left.old) (B.remaining right.old)) }
     ensures left_io { IsErrOf result (RunFault.Read Input.Left ReadFault.Io)
         ↔ IsTrue (A.has_failed left.new) }
     ensures right_io { IsErrOf result (RunFault.Read Input.Right ReadFault.Io)
         ↔ IsTrue (B.has_failed right.new) }
 {
-    let left_bytes = match read_all(alloc, left) {
+    let left_bytes = match read_all(reader.alloc, left) {
         Ok(bytes) => bytes,
         Err(fault) => return Err(RunFault::Read(Input::Left, fault)),
     };
-    let (left_built, right_built) = build_and_read(
-        rt, alloc, states, scale, left_bytes, right, workers,
-    );
+    let (left_built, right_built) = build_and_read(reader, states, left_bytes, right);
     match right_built {
         Ok(right_layer) => match left_built {
             Ok(left_layer) => Ok((left_layer, right_layer)),
@@ -72,30 +65,27 @@ fn first_fault(left: Option<ReadFault>, right: ReadFault) -> RunFault
 
 /// The layer of the left file's bytes, and that which the right source is read as.
 fn build_and_read<R: Threads + Sync, B: Source>(
-    rt: &R,
-    alloc: Global,
+    reader: &LayerReader<'_, R>,
     states: (RandomState, RandomState),
-    scale: Scale,
     mut left: Vec<u8>,
     right: &mut B,
-    workers: u32,
 ) -> (Result<Layer, ReadFault>, Result<Layer, ReadFault>)
     requires { B.has_failed right.old ≡ false }
-    ensures left { Builds scale left.items result.0 }
-    ensures right { Reads scale (B.remaining right.old) result.1 }
+    ensures left { Builds reader.now.scale left.items result.0 }
+    ensures right { Reads reader.now.scale (B.remaining right.old) result.1 }
     ensures right_io { IsErrOf result.1 ReadFault.Io ↔ IsTrue (B.has_failed right.new) }
 {
     let (left_state, right_state) = states;
     let mut build_left = || -> Result<Layer, ReadFault>
-        ensures { Builds scale left.entry.items result }
-    { build_taken(rt, alloc, left_state, scale, &mut left, workers) };
+        ensures { Builds reader.entry.now.scale left.entry.items result }
+    { build_taken(reader, left_state, &mut left) };
     let mut read_right = || -> Result<Layer, ReadFault>
         requires { B.has_failed right.now ≡ false }
-        ensures reads { Reads scale (B.remaining right.entry.now) result }
+        ensures reads { Reads reader.entry.now.scale (B.remaining right.entry.now) result }
         ensures io { IsErrOf result ReadFault.Io ↔ IsTrue (B.has_failed right.exit.now) }
-    { read_by_threads(rt, alloc, right_state, scale, right, workers) };
-    if workers > 1 {
-        thread::join_mut(rt, &mut build_left, &mut read_right)
+    { reader.read(right_state, right) };
+    if reader.threads > 1 {
+        thread::join_mut(reader.rt, &mut build_left, &mut read_right)
     } else {
         (build_left(), read_right())
     }
@@ -104,17 +94,14 @@ fn build_and_read<R: Threads + Sync, B: Source>(
 /// The layer of a file's bytes, which are taken out of `bytes`: a closure that threads share
 /// borrows what it captures.
 fn build_taken<R: Threads + Sync>(
-    rt: &R,
-    alloc: Global,
+    reader: &LayerReader<'_, R>,
     state: RandomState,
-    scale: Scale,
     bytes: &mut Vec<u8>,
-    threads: u32,
 ) -> Result<Layer, ReadFault>
-    ensures { Builds scale bytes.old.items result }
+    ensures { Builds reader.now.scale bytes.old.items result }
 {
-    let taken = mem::replace(bytes, Vec::new(alloc));
-    build_by_threads(rt, alloc, state, scale, taken, threads)
+    let taken = mem::replace(bytes, Vec::new(reader.alloc));
+    reader.build(state, taken)
 }
 
 /// Frees both layers: side by side where there is more than one worker.

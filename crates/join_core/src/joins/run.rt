@@ -18,6 +18,7 @@ use super::layers::free_layers;
 use super::pairs::join;
 use super::sources::JoinSources;
 use crate::fault::RunFault;
+use crate::layer_input::LayerReader;
 use crate::text::Text;
 use deliver_core::Options;
 use draw_core::{can_be_drawn, picture};
@@ -166,7 +167,13 @@ impl<R: Threads + Wait + Sync, G: Gate + Sync> JoinJob<'_, R, G> {
             product,
         } = self;
         let workers = options.workers();
-        let (left, right) = edited_layers(rt, alloc, states, scale, sources, workers)?;
+        let reader = LayerReader {
+            rt,
+            alloc,
+            scale,
+            threads: workers,
+        };
+        let (left, right) = edited_layers(&reader, states, sources)?;
         let text = product_of(rt, alloc, product, &left, &right, relation, options, gate);
         free_layers(rt, left, right, workers);
         text
