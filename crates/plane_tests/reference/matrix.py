@@ -1,53 +1,82 @@
 """The matrix of two geometries, computed plainly and slowly with fractions.
 
-A geometry is a pair of a kind, "points", "lines" or "areas", and a list of paths, which are lists
-of pairs of whole numbers; each path of points is a single point, and a ring ends where it begins.
-
-The plane is cut by the vertical lines through all vertices and crossings. Between two of these no
-edges cross, so each part of the plane is made of whole cells: points and open segments of these
-lines, and open segments and trapezoids between them. The part that contains one point of a cell
-contains the cell.
+The plane is cut by the vertical lines through all vertices and all points that edges share. Between two neighbouring
+lines no two edges meet, so the plane is made of cells: points and open segments of these lines, and open segments and
+trapezoids between them. A part of a geometry that holds one point of a cell holds the cell, so one point of each tells
+what the parts of two geometries share.
 """
+from collections.abc import Iterator
+from dataclasses import dataclass
 from fractions import Fraction
 from itertools import combinations
 
 INTERIOR, BOUNDARY, EXTERIOR = range(3)
+POINTS, LINES, AREAS = range(3)
+
+Vertex = tuple[int, int]
+Path = tuple[Vertex, ...]
+Edge = tuple[Vertex, Vertex]
+Place = tuple[Fraction, Fraction]
+# The place (x / w, y / w) by whole numbers, of which w is above 0.
+Point = tuple[int, int, int]
 
 
-def edges_of(geometry):
-    kind, paths = geometry
-    if kind == "points":
-        return []
-    return [(a, b) for path in paths for a, b in zip(path, path[1:])]
+@dataclass(frozen=True)
+class Geometry:
+    """A geometry by its dimension: points, lines or areas.
+
+    Each path of points is a single vertex. A path of lines is a polyline. A path of areas is a ring, whose last vertex
+    is its first one again. No two vertices in a row are equal.
+    """
+
+    kind: int
+    paths: tuple[Path, ...]
+
+    def edges(self) -> list[Edge]:
+        return [edge for path in self.paths for edge in zip(path, path[1:])]
 
 
-def side(edge, point):
+def point_at(place: Place) -> Point:
+    x, y = place
+    return x.numerator * y.denominator, y.numerator * x.denominator, x.denominator * y.denominator
+
+
+def side(edge: Edge, point: Point) -> int:
+    """The cross product of the edge and of the way from its first end to the point, times w."""
     (ax, ay), (bx, by) = edge
-    x, y = point
-    return (bx - ax) * (y - ay) - (by - ay) * (x - ax)
+    x, y, w = point
+    return (bx - ax) * (y - ay * w) - (by - ay) * (x - ax * w)
 
 
-def is_on(edge, point):
+def is_at(vertex: Vertex, point: Point) -> bool:
+    x, y, w = point
+    return vertex[0] * w == x and vertex[1] * w == y
+
+
+def is_on(edge: Edge, point: Point) -> bool:
+    """Whether the point is on the edge, its ends included."""
     (ax, ay), (bx, by) = edge
-    x, y = point
-    return (side(edge, point) == 0
-            and min(ax, bx) <= x <= max(ax, bx) and min(ay, by) <= y <= max(ay, by))
+    x, y, w = point
+    return (min(ax, bx) * w <= x <= max(ax, bx) * w and min(ay, by) * w <= y <= max(ay, by) * w
+            and side(edge, point) == 0)
 
 
-def is_below(edge, point):
-    """Whether the edge is strictly below the point, half-open in x."""
+def is_below(edge: Edge, point: Point) -> bool:
+    """Whether the edge is strictly below the point. Its left end counts and its right end doesn't."""
     a, b = sorted(edge)
-    return a[0] <= point[0] < b[0] and side((a, b), point) > 0
+    x, _, w = point
+    return a[0] * w <= x < b[0] * w and side((a, b), point) > 0
 
 
-def part_of(geometry, point):
-    kind, paths = geometry
-    if kind == "points":
-        return INTERIOR if any(path[0] == point for path in paths) else EXTERIOR
-    edges = edges_of(geometry)
+def part_of(geometry: Geometry, point: Point) -> int:
+    """The part of the geometry in which the point lies."""
+    paths = geometry.paths
+    if geometry.kind == POINTS:
+        return INTERIOR if any(is_at(path[0], point) for path in paths) else EXTERIOR
+    edges = geometry.edges()
     is_on_edge = any(is_on(edge, point) for edge in edges)
-    if kind == "lines":
-        ends = sum((path[0] == point) + (path[-1] == point) for path in paths)
+    if geometry.kind == LINES:
+        ends = sum(is_at(path[0], point) + is_at(path[-1], point) for path in paths)
         if ends % 2 == 1:
             return BOUNDARY
         return INTERIOR if is_on_edge else EXTERIOR
@@ -56,54 +85,60 @@ def part_of(geometry, point):
     return INTERIOR if sum(is_below(edge, point) for edge in edges) % 2 == 1 else EXTERIOR
 
 
-def crossing(e, f):
-    """The point that the lines of two edges share, where these are not parallel."""
+def meeting(e: Edge, f: Edge) -> Place | None:
+    """The place that two edges share, where they share just one and aren't parallel."""
     (ax, ay), (bx, by) = e
     (cx, cy), (dx, dy) = f
     turn = (bx - ax) * (dy - cy) - (by - ay) * (dx - cx)
     if turn == 0:
         return None
     t = Fraction((cx - ax) * (dy - cy) - (cy - ay) * (dx - cx), turn)
-    return ax + t * (bx - ax), ay + t * (by - ay)
+    place = ax + t * (bx - ax), ay + t * (by - ay)
+    return place if all(is_on(edge, point_at(place)) for edge in (e, f)) else None
 
 
-def height(edge, x):
+def height(edge: Edge, x: Fraction) -> Fraction:
+    """The second coordinate of an edge that isn't vertical, over a first one."""
     (ax, ay), (bx, by) = edge
-    return ay + Fraction((by - ay) * (x - ax), bx - ax)
+    return ay + (by - ay) * (x - ax) / (bx - ax)
 
 
-def samples(a, b):
-    """A point of each cell, with the dimension of the cell."""
-    edges = edges_of(a) + edges_of(b)
-    vertices = [v for _, paths in (a, b) for path in paths for v in path]
-    meetings = [p for e, f in combinations(edges, 2) if (p := crossing(e, f)) is not None]
-    columns = sorted({x for x, _ in vertices + meetings})
+def between(heights: list[Fraction]) -> list[Fraction]:
+    """A number below all of some ascending ones, one between each two neighbours, and one above all."""
+    return [heights[0] - 1, *((low + high) / 2 for low, high in zip(heights, heights[1:])), heights[-1] + 1]
+
+
+def nodes_of(a: Geometry, b: Geometry) -> set[Place]:
+    """All vertices, and the places where edges meet."""
+    vertices = {(Fraction(x), Fraction(y)) for it in (a, b) for path in it.paths for x, y in path}
+    edges = a.edges() + b.edges()
+    return vertices | {place for e, f in combinations(edges, 2) if (place := meeting(e, f)) is not None}
+
+
+def samples(a: Geometry, b: Geometry) -> Iterator[tuple[Place, int]]:
+    """A place in each cell with the dimension of the cell, but of those to the left and to the right of everything."""
+    nodes = nodes_of(a, b)
+    slanted = [sorted(edge) for edge in a.edges() + b.edges() if edge[0][0] != edge[1][0]]
+    columns = sorted({x for x, _ in nodes})
     for x in columns:
-        spanning = [e for e in edges if e[0][0] != e[1][0]
-                    and min(e[0][0], e[1][0]) <= x <= max(e[0][0], e[1][0])]
-        heights = sorted({y for u, y in vertices + meetings if u == x}
-                         | {height(e, x) for e in spanning})
-        for y in heights:
-            yield (x, y), 0
-        for low, high in zip([heights[0] - 2] + heights, heights + [heights[-1] + 2]):
-            yield (x, Fraction(low + high) / 2), 1
+        heights = sorted({y for column, y in nodes if column == x}
+                         | {height((low, high), x) for low, high in slanted if low[0] <= x <= high[0]})
+        yield from (((x, y), 0) for y in heights)
+        yield from (((x, y), 1) for y in between(heights))
     for left, right in zip(columns, columns[1:]):
-        x = Fraction(left + right) / 2
-        heights = sorted({height(e, x) for e in edges
-                          if min(e[0][0], e[1][0]) < x < max(e[0][0], e[1][0])})
-        for y in heights:
-            yield (x, y), 1
-        if not heights:
-            heights = [Fraction(0)]
-        for low, high in zip([heights[0] - 2] + heights, heights + [heights[-1] + 2]):
-            yield (x, (low + high) / 2), 2
+        x = (left + right) / 2
+        heights = sorted({height((low, high), x) for low, high in slanted if low[0] < x < high[0]})
+        yield from (((x, y), 1) for y in heights)
+        yield from (((x, y), 2) for y in between(heights or [Fraction(0)]))
 
 
-def matrix(a, b):
+def matrix(a: Geometry, b: Geometry) -> str:
     """The nine letters, row by row."""
-    entries = [-1] * 9
-    entries[8] = 2
-    for point, dimension in samples(a, b):
-        place = 3 * part_of(a, point) + part_of(b, point)
-        entries[place] = max(entries[place], dimension)
-    return "".join("F012"[entry + 1] for entry in entries)
+    entries = [[-1] * 3 for _ in range(3)]
+    # To the left of everything there is nothing of either.
+    entries[EXTERIOR][EXTERIOR] = 2
+    for place, dimension in samples(a, b):
+        point = point_at(place)
+        row, column = part_of(a, point), part_of(b, point)
+        entries[row][column] = max(entries[row][column], dimension)
+    return "".join("F012"[entry + 1] for row in entries for entry in row)
