@@ -13,7 +13,7 @@ use Rattle.layer_core.specs.Layers.{Feature, Contents, with_number}
 use Rattle.join_core.specs.declared.fault.Input.{Input}
 use Rattle.join_core.specs.declared.fault.Input.TheVariants.{First, Second, Left, Right, Edits, Layer, Window}
 use Rattle.join_core.specs.declared.fault.RunFault.{RunFault}
-use Rattle.join_core.specs.declared.fault.RunFault.TheVariants.{NoFile, Read, Wkt, Edit, Join, TooManyToDraw, Write, Memory, NoKeys}
+use Rattle.join_core.specs.declared.fault.RunFault.TheVariants.{NoFile, Read, Wkt, Geometry, Edit, Join, TooManyToDraw, Write, Memory, NoKeys}
 use Rattle.join_core.specs.Inputs.{LayerFile, BlamesBytes, BlamesInput}
 use Rattle.join_core.specs.JoinRuns.{JoinFiles, EditFile, LayersGive, edits_fault, edit_refused, edited, JoinGives, no_layers, IsLateFault}
 use Rattle.join_core.specs.JoinRuns.{IsJoinFault, AreEdited, IsEditsFault, unread, ended, EndsAt}
@@ -104,6 +104,7 @@ pub none_blamed : (e : RunFault) → IsLateFault e → BlamesInput e → ⊥
 none_blamed (NoFile i) late blame = late
 none_blamed (Read i f) late blame = late
 none_blamed (Wkt i f) late blame = late
+none_blamed (Geometry i f) late blame = late
 none_blamed (Edit row f) late blame = late
 none_blamed (Join f) late blame = blame
 none_blamed TooManyToDraw late blame = late
@@ -127,6 +128,7 @@ module _ (files : JoinFiles) (layers : Layers) (given : LayersGive files (Ok lay
   late_is_of_join (NoFile i) late = absurd late
   late_is_of_join (Read i f) late = absurd late
   late_is_of_join (Wkt i f) late = absurd late
+  late_is_of_join (Geometry i f) late = absurd late
   late_is_of_join (Edit row f) late = absurd late
   late_is_of_join (Join f) late = (late, (layers, given))
   late_is_of_join TooManyToDraw late = absurd late

@@ -13,7 +13,7 @@ use Rattle.file_core.specs.Sources.{IsReadingFault}
 use Rattle.file_core.proofs.FileLemmas.{file-unread}
 use Rattle.join_core.specs.declared.fault.Input.TheVariants.{First, Second, Left, Right, Edits, Layer, Window}
 use Rattle.join_core.specs.declared.fault.RunFault.{RunFault}
-use Rattle.join_core.specs.declared.fault.RunFault.TheVariants.{NoFile, Read, Wkt, Edit, Join, TooManyToDraw, Write, Memory, NoKeys}
+use Rattle.join_core.specs.declared.fault.RunFault.TheVariants.{NoFile, Read, Wkt, Geometry, Edit, Join, TooManyToDraw, Write, Memory, NoKeys}
 use Rattle.join_core.specs.Inputs.{LayerFile, Builds, Reads, ReadsList, BlamesBytes, BlamesInput}
 use Rattle.join_core.specs.JoinRuns.{JoinFiles, LayersGive, left_fault, right_fault, first_fault, IsLayersFault, IsJoinFault}
 use Rattle.join_core.proofs.JoinRunLemmas.{handed_on, IsJoinKind}
@@ -106,6 +106,7 @@ layers_give files (Read Layer f) fault blame = absurd fault
 layers_give files (Read Window f) fault blame = absurd fault
 layers_give files (NoFile i) fault blame = absurd fault
 layers_give files (Wkt i f) fault blame = absurd fault
+layers_give files (Geometry i f) fault blame = absurd fault
 layers_give files (Edit row f) fault blame = absurd fault
 layers_give files (Join f) fault blame = absurd fault
 layers_give files TooManyToDraw fault blame = absurd fault
@@ -130,6 +131,7 @@ module _ (scale : Scale) (left right : Option (List ℕ)) where
   layers_join_kind (Read Window f) fault = absurd fault
   layers_join_kind (NoFile i) fault = absurd fault
   layers_join_kind (Wkt i f) fault = absurd fault
+  layers_join_kind (Geometry i f) fault = absurd fault
   layers_join_kind (Edit row f) fault = absurd fault
   layers_join_kind (Join f) fault = absurd fault
   layers_join_kind TooManyToDraw fault = absurd fault
@@ -150,6 +152,7 @@ layers_join_fault files (Read Layer f) fault = absurd fault
 layers_join_fault files (Read Window f) fault = absurd fault
 layers_join_fault files (NoFile i) fault = absurd fault
 layers_join_fault files (Wkt i f) fault = absurd fault
+layers_join_fault files (Geometry i f) fault = absurd fault
 layers_join_fault files (Edit row f) fault = absurd fault
 layers_join_fault files (Join f) fault = absurd fault
 layers_join_fault files TooManyToDraw fault = absurd fault

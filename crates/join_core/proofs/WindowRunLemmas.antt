@@ -8,7 +8,7 @@ use Rattle.wkt_core.specs.Readings.{Reads}
 use Rattle.join_core.specs.declared.fault.Input.{Input}
 use Rattle.join_core.specs.declared.fault.Input.TheVariants.{Layer, Window}
 use Rattle.join_core.specs.declared.fault.RunFault.{RunFault}
-use Rattle.join_core.specs.declared.fault.RunFault.TheVariants.{NoFile, Read, Wkt, Edit, Join, TooManyToDraw, Write, Memory, NoKeys}
+use Rattle.join_core.specs.declared.fault.RunFault.TheVariants.{NoFile, Read, Wkt, Geometry, Edit, Join, TooManyToDraw, Write, Memory, NoKeys}
 use Rattle.join_core.specs.Jobs.{OnlyAt}
 use Rattle.join_core.specs.LayerRuns.{LayerGives, IsLayerRunFault}
 use Rattle.join_core.specs.Runs.{NoTextFault, RunEnds}
@@ -33,6 +33,7 @@ window_spelled scale wkt s out only none _ f = ((λ q. absurd (none _ f q)), (λ
 of_layer : (scale : Scale) (wkt : List ℕ) (file : Option (List ℕ)) (s : Shape) → Reads scale wkt (Ok s) → (f : RunFault) → IsLayerRunFault scale file f
     → IsWindowFault scale wkt file f
 of_layer scale wkt file s spelled (Wkt i w) is = absurd is
+of_layer scale wkt file s spelled (Geometry i w) is = ((s, spelled), is)
 of_layer scale wkt file s spelled (NoFile i) is = ((s, spelled), is)
 of_layer scale wkt file s spelled (Read i r) is = ((s, spelled), is)
 of_layer scale wkt file s spelled (Edit n e) is = ((s, spelled), is)

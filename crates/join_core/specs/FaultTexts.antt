@@ -1,6 +1,7 @@
 -- The texts of the faults of a run.
 use Rattle.std.specs.Prelude.{ℕ, List, ◌++◌, codes}
 use Rattle.wkt_core.specs.FaultTexts.{wkt_text}
+use Rattle.wkt_any_core.specs.FaultTexts.{geometry_text}
 use Rattle.layer_core.specs.FaultTexts.{layer_text}
 use Rattle.file_core.specs.FaultTexts.{read_text, row_text}
 use Rattle.parallel_core.specs.Faults.{join_text}
@@ -23,6 +24,7 @@ abbrev pub run_text : RunFault → List ℕ
 run_text (run.NoFile input) = input_word input ++ codes ": cannot be opened"
 run_text (run.Read input fault) = input_word input ++ (codes ": " ++ read_text fault)
 run_text (run.Wkt input fault) = input_word input ++ (codes ": " ++ wkt_text fault)
+run_text (run.Geometry input fault) = input_word input ++ (codes ": " ++ geometry_text fault)
 run_text (run.Edit n fault) = codes "edits: " ++ (row_text n ++ layer_text fault)
 run_text (run.Join fault) = join_text fault
 run_text run.TooManyToDraw = codes "more than 100000 features to draw"

@@ -9,6 +9,7 @@ use parallel_core::JoinFault;
 use report_core::WriteFailed;
 use std::alloc::AllocError;
 use thiserror::Error;
+use wkt_any_core::GeometryFault;
 use wkt_core::WktFault;
 
 /// An input of a run.
@@ -60,9 +61,12 @@ pub enum RunFault {
     /// A file can't be read.
     #[error("{input}: {1}", input = .0.word())]
     Read(Input, ReadFault),
-    /// A geometry can't be read.
+    /// A point, segment or rectangle can't be read.
     #[error("{input}: {1}", input = .0.word())]
     Wkt(Input, WktFault),
+    /// A geometry of any direction can't be read.
+    #[error("{input}: {1}", input = .0.word())]
+    Geometry(Input, GeometryFault),
     /// The edit of this row is refused.
     #[error("edits: row {0}: {1}")]
     Edit(u32, LayerFault),

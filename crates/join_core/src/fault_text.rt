@@ -50,6 +50,11 @@ fn push_run_text(line: &mut ShortText, fault: &RunFault)
             line.push(": ");
             line.push(fault.text());
         }
+        RunFault::Geometry(input, fault) => {
+            line.push(input.word());
+            line.push(": ");
+            line.push(fault.text());
+        }
         RunFault::Edit(row, fault) => {
             line.push("edits: ");
             push_row(line, *row);

@@ -22,7 +22,7 @@ pub use fault_text::fault_line;
 pub use joins::{JoinSources, apply_edits, join, run_draw, run_join};
 pub use layer_run::DEFAULT_WORKERS;
 pub use parallel_core::{Gate, JoinFault, OpenGate};
-pub use relate::run_relate;
+pub use relate::{matrix_line, run_relate};
 pub use report_core::{
     ROOM, ShortText, Sink, ToWrite, WriteFailed, report_texts, write_text, write_texts,
 };

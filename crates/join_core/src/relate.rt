@@ -50,7 +50,7 @@ fn related(scale: Scale, a: &[u8], b: &[u8]) -> Result<[u8; LINE], RunFault>
 }
 
 /// The letters of a matrix, and a line feed.
-fn matrix_line(matrix: &Matrix) -> [u8; LINE]
+pub fn matrix_line(matrix: &Matrix) -> [u8; LINE]
     ensures { result ≡ letters_of matrix.now ++ 10 ∷ [] }
 {
     let [ii, ib, ie, bi, bb, be, ei, eb, ee] = matrix.text();

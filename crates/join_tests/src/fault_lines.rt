@@ -6,6 +6,7 @@ use join_core::{Input, JoinFault, RunFault, ToWrite, WriteFailed, fault_line};
 use layer_core::LayerFault;
 use std::alloc::Global;
 use std::test::Fail;
+use wkt_any_core::GeometryFault;
 use wkt_core::WktFault;
 
 /// The line of a fault.
@@ -62,6 +63,14 @@ const OF_FILES_AND_TEXTS: &[(RunFault, &str)] = &[
     (
         RunFault::Wkt(Input::First, WktFault::Form),
         "first: not a point, axis-parallel segment or rectangle",
+    ),
+    (
+        RunFault::Geometry(Input::Second, GeometryFault::Number),
+        "second: number not whole or out of range",
+    ),
+    (
+        RunFault::Geometry(Input::First, GeometryFault::Form),
+        "first: a line without length, or a ring that is not closed or is flat",
     ),
 ];
 

@@ -1,0 +1,53 @@
+//! Two texts, the geometries that they spell, and the matrix of these.
+
+ghost use Rattle.std.specs.Prelude.{◌≡◌, ◌↔◌, Err, IfOk};
+ghost use Rattle.relate_any_core.specs.TextMatrices.{HasTextFault, IsTextMatrix};
+
+use arrangement_core::relate;
+use relation_core::Matrix;
+use std::alloc::{AllocError, Global};
+use thiserror::Error;
+use wkt_any_core::{GeometryFault, Rings, read};
+use wkt_core::Scale;
+
+/// The first of two texts that spells no geometry, and why.
+#[derive(Clone, Copy, Debug, PartialEq, Eq, Error)]
+pub enum TextFault {
+    /// The first text spells none.
+    #[error("first: {0}")]
+    First(GeometryFault),
+    /// The first text spells a geometry, and the second none.
+    #[error("second: {0}")]
+    Second(GeometryFault),
+}
+
+/// The nine-intersection matrix of the geometries that two texts spell, with rings of areas that
+/// the rule allows (OGC 06-103r4, 6.1.15.2), or the first text that is at fault.
+///
+/// # Errors
+/// Out of memory.
+pub fn relate_texts(
+    alloc: Global,
+    scale: Scale,
+    rings: Rings,
+    a: &[u8],
+    b: &[u8],
+) -> Result<Result<Matrix, TextFault>, AllocError>
+    ensures matrix { IfOk result (λ answer.
+        IfOk answer (IsTextMatrix scale rings a.now b.now)) }
+    ensures fault { IfOk result (λ answer. (f : TextFault) →
+        (answer ≡ Err f) ↔ HasTextFault scale rings a.now b.now f) }
+{
+    let first_read = read(alloc, a, scale, rings)?;
+    let first = match first_read {
+        Ok(geometry) => geometry,
+        Err(fault) => return Ok(Err(TextFault::First(fault))),
+    };
+    let second_read = read(alloc, b, scale, rings)?;
+    let second = match second_read {
+        Ok(geometry) => geometry,
+        Err(fault) => return Ok(Err(TextFault::Second(fault))),
+    };
+    let matrix = relate(alloc, &first, &second)?;
+    Ok(Ok(matrix))
+}
