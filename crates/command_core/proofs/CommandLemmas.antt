@@ -4,6 +4,7 @@ use Rattle.std.proofs.Common.{refl, sym, subst, ◌∙◌}
 use Rattle.std.specs.Borrow.{Bor}
 use Rattle.wkt_core.specs.declared.fault.WktFault.{WktFault}
 use Rattle.wkt_core.specs.declared.scale.Scale.{Scale}
+use Rattle.wkt_any_core.specs.declared.rings.Rings.{Rings}
 use Rattle.join_core.specs.declared.fault.Input.{Input}
 use Rattle.join_core.specs.declared.fault.RunFault.{RunFault}
 use Rattle.join_core.specs.declared.fault.RunFault.TheVariants as run
@@ -12,9 +13,14 @@ use Rattle.join_core.specs.Runs.{Ends}
 use Rattle.join_core.proofs.RunLemmas.{ends_as, not_begun}
 use Rattle.words_core.specs.declared.words.Command.{Command}
 use Rattle.words_core.specs.declared.words.Command.TheVariants.{Relate}
+use Rattle.words_core.specs.declared.words.Geometries.{Geometries}
+use Rattle.words_core.specs.declared.words.Geometries.TheVariants.{Box, Any}
+use Rattle.words_core.specs.declared.words.RelateRequest.{RelateRequest}
 use Rattle.command_core.specs.Commands.{AfterOpening, CommandGives, IsCommandText, BlamesCommand, IsFoundFirst, IsFoundNext}
-use Rattle.command_core.specs.Commands.{IsFaultOf, CommandEnds}
+use Rattle.command_core.specs.Commands.{GeometriesGive, IsFaultOf, IsRelateFault, CommandEnds}
 use Rattle.command_core.specs.Opening.{Files}
+use Rattle.relate_any_core.specs.TextMatrices.{HasTextFault}
+use Rattle.relate_any_core.specs.declared.texts.TextFault.{TextFault}
 
 -- ---- relating
 
@@ -22,6 +28,7 @@ text_fault_named : (scale : Scale) (a b : List ℕ) (f : RunFault) → IsTextFau
     → ((i : Input) (w : WktFault) → f ≡ run.Wkt i w → HasFirstFault scale a b i w) → RelateGives scale a b (Err f)
 text_fault_named scale a b (run.Wkt i w) is named = named i w refl
 text_fault_named scale a b (run.NoFile i) is named = absurd is
+text_fault_named scale a b (run.Geometry i g) is named = absurd is
 text_fault_named scale a b (run.Read i r) is named = absurd is
 text_fault_named scale a b (run.Edit n l) is named = absurd is
 text_fault_named scale a b (run.Join j) is named = absurd is
@@ -30,49 +37,111 @@ text_fault_named scale a b run.Write is named = absurd is
 text_fault_named scale a b run.Memory is named = absurd is
 text_fault_named scale a b run.NoKeys is named = absurd is
 
-relate_fault : {T : Type 0} (known : Option Files) (scale : Scale) (a b : Bor (List ℕ)) (result : Result T RunFault)
-    → ((i : Input) (w : WktFault) → (result ≡ Err (run.Wkt i w)) ↔ HasFirstFault scale a.now b.now i w) → IfErr result (λ f. f ≢ run.Write → IsTextFault f)
-    → IfErr result (λ f. BlamesCommand f → IfSome known (λ at. CommandGives at (Relate a b scale) (Err f)))
-relate_fault known scale a b (Ok x) wkt faults = tt
-relate_fault None scale a b (Err f) wkt faults = λ blame. tt
-relate_fault (Some at) scale a b (Err f) wkt faults = λ blame.
-    text_fault_named scale a.now b.now f (faults (λ w. subst BlamesCommand w blame)) (λ i w e. (wkt i w).0 (let is : Err f ≡ Err (run.Wkt i w) = cc in is))
+-- the same request of boxes
+abbrev of_boxes : RelateRequest → RelateRequest
+of_boxes request = record request { geometries = Box }
 
-relate_first : {T : Type 0} (known : Option Files) (scale : Scale) (a b : Bor (List ℕ)) (result : Result T RunFault)
-    → ((i : Input) (w : WktFault) → (result ≡ Err (run.Wkt i w)) ↔ HasFirstFault scale a.now b.now i w)
-    → (f : RunFault) → IsFoundFirst (Relate a b scale) f → IfSome known (λ at. CommandGives at (Relate a b scale) (Err f) → result ≡ Err f)
-relate_first None scale a b result wkt f first = tt
-relate_first (Some at) scale a b result wkt (run.Wkt i w) first = λ given. (wkt i w).1 given
-relate_first (Some at) scale a b result wkt (run.NoFile i) first = λ given. absurd given
-relate_first (Some at) scale a b result wkt (run.Read i r) first = absurd first
-relate_first (Some at) scale a b result wkt (run.Edit n l) first = absurd first
-relate_first (Some at) scale a b result wkt (run.Join j) first = absurd first
-relate_first (Some at) scale a b result wkt run.TooManyToDraw first = absurd first
-relate_first (Some at) scale a b result wkt run.Write first = absurd first
-relate_first (Some at) scale a b result wkt run.Memory first = absurd first
-relate_first (Some at) scale a b result wkt run.NoKeys first = absurd first
+relate_fault : {T : Type 0} (known : Option Files) (request : RelateRequest) (result : Result T RunFault)
+    → ((i : Input) (w : WktFault) → (result ≡ Err (run.Wkt i w)) ↔ HasFirstFault request.scale request.a.now request.b.now i w)
+    → IfErr result (λ f. f ≢ run.Write → IsTextFault f)
+    → IfErr result (λ f. BlamesCommand f → IfSome known (λ at. CommandGives at (Relate (of_boxes request)) (Err f)))
+relate_fault known request (Ok x) wkt faults = tt
+relate_fault None request (Err f) wkt faults = λ blame. tt
+relate_fault (Some at) request (Err f) wkt faults = λ blame.
+    text_fault_named request.scale request.a.now request.b.now f (faults (λ w. subst BlamesCommand w blame))
+    (λ i w e. (wkt i w).0 (let is : Err f ≡ Err (run.Wkt i w) = cc in is))
 
-matrix_is_text : (known : Option Files) (scale : Scale) (a b : Bor (List ℕ)) (text : List ℕ) → IsMatrixLine scale a.now b.now text
-    → IsCommandText known (Relate a b scale) text
-matrix_is_text None scale a b text line = tt
-matrix_is_text (Some at) scale a b text line = line
+relate_first : {T : Type 0} (known : Option Files) (request : RelateRequest) (result : Result T RunFault)
+    → ((i : Input) (w : WktFault) → (result ≡ Err (run.Wkt i w)) ↔ HasFirstFault request.scale request.a.now request.b.now i w)
+    → (f : RunFault) → IsFoundFirst (Relate (of_boxes request)) f
+    → IfSome known (λ at. CommandGives at (Relate (of_boxes request)) (Err f) → result ≡ Err f)
+relate_first None request result wkt f first = tt
+relate_first (Some at) request result wkt (run.Wkt i w) first = λ given. (wkt i w).1 given
+relate_first (Some at) request result wkt (run.NoFile i) first = λ given. absurd given
+relate_first (Some at) request result wkt (run.Read i r) first = absurd first
+relate_first (Some at) request result wkt (run.Geometry i g) first = absurd first
+relate_first (Some at) request result wkt (run.Edit n l) first = absurd first
+relate_first (Some at) request result wkt (run.Join j) first = absurd first
+relate_first (Some at) request result wkt run.TooManyToDraw first = absurd first
+relate_first (Some at) request result wkt run.Write first = absurd first
+relate_first (Some at) request result wkt run.Memory first = absurd first
+relate_first (Some at) request result wkt run.NoKeys first = absurd first
 
-pub relate_ends : {T S : Type 0} (known : Option Files) (written : S → Option (List ℕ)) (is_flushed has_failed : S
-    → Bool) (command : Command) (scale : Scale) (a b : Bor (List ℕ)) (x y : List ℕ) (old new : S) (result : Result T RunFault)
-    → command ≡ Relate a b scale → x ≡ a.now → y ≡ b.now → Ends (IsMatrixLine scale x y) written is_flushed has_failed old new result
-    → ((i : Input) (w : WktFault) → (result ≡ Err (run.Wkt i w)) ↔ HasFirstFault scale x y i w) → IfErr result (λ f. f ≢ run.Write → IsTextFault f)
-    → CommandEnds known written is_flushed has_failed command old new result
-relate_ends known written is_flushed has_failed command scale a b x y old new result is first second ends wkt faults =
-    let Both : List ℕ → List ℕ → Type 0 = λ p q. Ends (IsMatrixLine scale p q) written is_flushed has_failed old new result × ((i : Input) (w : WktFault)
-    → (result ≡ Err (run.Wkt i w)) ↔ HasFirstFault scale p q i w) in
-    let both : Both a.now b.now = subst (λ (q : List ℕ). Both a.now q) second (subst (λ (p : List ℕ). Both p y) first (ends, wkt)) in
-    subst (λ (c : Command). CommandEnds known written is_flushed has_failed c old new result) (sym is) (record {
-      writes = ends_as _ _ written is_flushed has_failed old new result (matrix_is_text known scale a b) both.0;
-      fault = relate_fault known scale a b result both.1 faults;
-      first = relate_first known scale a b result both.1;
+matrix_is_text : (known : Option Files) (request : RelateRequest) (text : List ℕ) → IsMatrixLine request.scale request.a.now request.b.now text
+    → IsCommandText known (Relate (of_boxes request)) text
+matrix_is_text None request text line = tt
+matrix_is_text (Some at) request text line = line
+
+-- boxes were related
+pub boxes_related : {T S : Type 0} (known : Option Files) (written : S → Option (List ℕ)) (is_flushed has_failed : S → Bool) (request : RelateRequest)
+    (x y : List ℕ) (old new : S) (result : Result T RunFault) → request.geometries ≡ Box → x ≡ request.a.now → y ≡ request.b.now
+    → Ends (IsMatrixLine request.scale x y) written is_flushed has_failed old new result
+    → ((i : Input) (w : WktFault) → (result ≡ Err (run.Wkt i w)) ↔ HasFirstFault request.scale x y i w) → IfErr result (λ f. f ≢ run.Write → IsTextFault f)
+    → CommandEnds known written is_flushed has_failed (Relate request) old new result
+boxes_related known written is_flushed has_failed request x y old new result box first second ends wkt faults =
+    let Both : List ℕ → List ℕ → Type 0 = λ p q. Ends (IsMatrixLine request.scale p q) written is_flushed has_failed old new result
+    × ((i : Input) (w : WktFault) → (result ≡ Err (run.Wkt i w)) ↔ HasFirstFault request.scale p q i w) in
+    let both : Both request.a.now request.b.now = subst (λ (q : List ℕ). Both request.a.now q) second (subst (λ (p : List ℕ). Both p y) first (ends, wkt)) in
+    subst (λ (g : Geometries). CommandEnds known written is_flushed has_failed (Relate (record request { geometries = g })) old new result) (sym box) (record {
+      writes = ends_as _ _ written is_flushed has_failed old new result (matrix_is_text known request) both.0;
+      fault = relate_fault known request result both.1 faults;
+      first = relate_first known request result both.1;
       next = λ f nothing. absurd nothing;
       faults = faults;
     })
+
+module _ (rings : Rings) where
+  -- the same request of geometries of any direction
+  abbrev of_any : RelateRequest → RelateRequest
+  of_any request = record request { geometries = Any rings }
+
+  any_fault : {T : Type 0} (known : Option Files) (request : RelateRequest) (result : Result T RunFault)
+      → IfErr result (λ f. BlamesCommand f → GeometriesGive (Any rings) request.scale request.a.now request.b.now (Err f))
+      → IfErr result (λ f. BlamesCommand f → IfSome known (λ at. CommandGives at (Relate (of_any request)) (Err f)))
+  any_fault known request (Ok x) fault = tt
+  any_fault None request (Err f) fault = λ blame. tt
+  any_fault (Some at) request (Err f) fault = fault
+
+  any_first : {T : Type 0} (known : Option Files) (request : RelateRequest) (result : Result T RunFault) (f : RunFault)
+      → IsFoundFirst (Relate (of_any request)) f → IfSome known (λ at. CommandGives at (Relate (of_any request)) (Err f) → result ≡ Err f)
+  any_first None request result f first = tt
+  any_first (Some at) request result (run.NoFile i) first = λ given. absurd given
+  any_first (Some at) request result (run.Wkt i w) first = absurd first
+  any_first (Some at) request result (run.Read i r) first = absurd first
+  any_first (Some at) request result (run.Geometry i g) first = absurd first
+  any_first (Some at) request result (run.Edit n l) first = absurd first
+  any_first (Some at) request result (run.Join j) first = absurd first
+  any_first (Some at) request result run.TooManyToDraw first = absurd first
+  any_first (Some at) request result run.Write first = absurd first
+  any_first (Some at) request result run.Memory first = absurd first
+  any_first (Some at) request result run.NoKeys first = absurd first
+
+  any_is_text : (known : Option Files) (request : RelateRequest) (text : List ℕ)
+      → GeometriesGive (Any rings) request.scale request.a.now request.b.now (Ok text) → IsCommandText known (Relate (of_any request)) text
+  any_is_text None request text line = tt
+  any_is_text (Some at) request text line = line
+
+  -- geometries of any direction were related
+  pub any_related : {T S : Type 0} (known : Option Files) (written : S → Option (List ℕ)) (is_flushed has_failed : S → Bool) (request : RelateRequest)
+      (old new : S) (result : Result T RunFault) → request.geometries ≡ Any rings
+      → Ends (λ text. GeometriesGive (Any rings) request.scale request.a.now request.b.now (Ok text)) written is_flushed has_failed old new result
+      → IfErr result (λ f. BlamesCommand f → GeometriesGive (Any rings) request.scale request.a.now request.b.now (Err f))
+      → IfErr result (λ f. f ≢ run.Write → IsRelateFault (Any rings) f)
+      → CommandEnds known written is_flushed has_failed (Relate request) old new result
+  any_related known written is_flushed has_failed request old new result is ends fault faults =
+      subst (λ (g : Geometries). CommandEnds known written is_flushed has_failed (Relate (record request { geometries = g })) old new result) (sym is) (record {
+        writes = ends_as _ _ written is_flushed has_failed old new result (any_is_text known request) ends;
+        fault = any_fault known request result fault;
+        first = any_first known request result;
+        next = λ f nothing. absurd nothing;
+        faults = faults;
+      })
+
+-- a text is at fault, by what relating the bytes of both answers
+pub text_blamed : {T : Type 0} (scale : Scale) (rings : Rings) (a b x y : List ℕ) (answer : Result T TextFault) (f : TextFault) → x ≡ a → y ≡ b
+    → ((g : TextFault) → (answer ≡ Err g) ↔ HasTextFault scale rings x y g) → answer ≡ Err f → HasTextFault scale rings a b f
+text_blamed scale rings a b x y answer f first second exact is =
+    subst (λ (q : List ℕ). HasTextFault scale rings a q f) second (subst (λ (p : List ℕ). HasTextFault scale rings p y f) first ((exact f).0 is))
 
 -- ---- opening
 

@@ -56,6 +56,7 @@ edits_refused at (Some path) answer Then missing =
 blames : (files : JoinFiles) (f : RunFault) → IsDrawFault files f → BlamesCommand f → BlamesInput f
 blames files (run.NoFile i) allowed blame = absurd allowed.0
 blames files (run.Wkt i w) allowed blame = absurd allowed.0
+blames files (run.Geometry i w) allowed blame = absurd allowed.0
 blames files f allowed blame = blame
 
 -- what a command gives is what its run gives of the files at the paths of a join

@@ -172,6 +172,7 @@ window_blamed : (scale : Scale) (wkt : List ℕ) (l : Option (List ℕ)) (f : Ru
     → (BlamesInput f → WindowGives scale wkt l (Err f)) → BlamesCommand f → WindowGives scale wkt l (Err f)
 window_blamed scale wkt l (run.Wkt input.Window w) is named given blame = text_fault w (named input.Window w refl)
 window_blamed scale wkt l (run.Wkt _ w) is named given blame = absurd is.1
+window_blamed scale wkt l (run.Geometry i g) is named given blame = absurd is.1
 window_blamed scale wkt l (run.NoFile i) is named given blame = absurd is.1
 window_blamed scale wkt l (run.Read i r) is named given blame = given blame
 window_blamed scale wkt l (run.Edit n e) is named given blame = absurd is.1
@@ -251,6 +252,7 @@ bounds_asks scale path = record {
 layer_blamed : (IsTextOf : Contents → List ℕ → Type 0) (scale : Scale) (l : Option (List ℕ)) (f : RunFault) → IsLayerRunFault scale l f
     → (BlamesInput f → LayerGives IsTextOf scale l (Err f)) → BlamesCommand f → LayerGives IsTextOf scale l (Err f)
 layer_blamed IsTextOf scale l (run.Wkt i w) is given blame = absurd is
+layer_blamed IsTextOf scale l (run.Geometry i g) is given blame = absurd is
 layer_blamed IsTextOf scale l (run.NoFile i) is given blame = absurd is
 layer_blamed IsTextOf scale l (run.Read i r) is given blame = given blame
 layer_blamed IsTextOf scale l (run.Edit n e) is given blame = absurd is

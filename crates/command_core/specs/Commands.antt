@@ -1,8 +1,13 @@
 -- What a command gives, by what lies at the paths that it names.
-use Rattle.std.specs.Prelude.{◌≡◌, ◌≢◌, ⊤, ℕ, List, Option, Some, None, Bool, Result, Ok, Err}
+use Rattle.std.specs.Prelude.{◌≡◌, ◌≢◌, ⊤, ℕ, List, [], ◌∷◌, ◌++◌, Option, Some, None, Bool, Result, Ok, Err}
 use Rattle.std.specs.Prelude.{IfSome, IfErr}
 use Rattle.std.specs.Borrow.{Bor}
 use Rattle.relation_core.specs.JoinRelations.{relation_of}
+use Rattle.relation_core.specs.Matrices.{letters_of}
+use Rattle.relation_core.specs.declared.matrix.Matrix.{Matrix}
+use Rattle.wkt_core.specs.declared.scale.Scale.{Scale}
+use Rattle.relate_any_core.specs.TextMatrices.{HasTextFault, IsTextMatrix}
+use Rattle.relate_any_core.specs.declared.texts.TextFault.TheVariants as texts
 use Rattle.join_core.specs.declared.fault.Input.{Input}
 use Rattle.join_core.specs.declared.fault.Input.TheVariants as input
 use Rattle.join_core.specs.declared.fault.RunFault.{RunFault}
@@ -22,6 +27,8 @@ use Rattle.command_core.specs.declared.command.Product.TheVariants.{Report, Pict
 use Rattle.words_core.specs.declared.words.Command.{Command}
 use Rattle.words_core.specs.declared.words.Command.TheVariants.{Relate, Join, Draw, Window, Stats}
 use Rattle.words_core.specs.declared.words.Command.TheVariants.{Bounds}
+use Rattle.words_core.specs.declared.words.Geometries.{Geometries}
+use Rattle.words_core.specs.declared.words.Geometries.TheVariants.{Box, Any}
 use Rattle.words_core.specs.declared.words.JoinRequest.{JoinRequest}
 
 -- an input that has to be opened, and what follows where it is
@@ -46,8 +53,21 @@ PathsGive Gives at join answer =
     AfterEdits at join.edits_path answer (λ e.
     Gives (record { scale = join.scale; left = Some l; right = Some r; edits = e }) answer)))
 
+-- the letters of the matrix of two texts and a line feed, or the first text that is at fault, by the
+-- geometries that are read
+abbrev pub GeometriesGive : Geometries → Scale → List ℕ → List ℕ → Result (List ℕ) RunFault → Type 0
+GeometriesGive Box scale a b answer = RelateGives scale a b answer
+GeometriesGive (Any rings) scale a b (Ok line) =
+    (m : Matrix) × IsTextMatrix scale rings a b m × (line ≡ letters_of m ++ 10 ∷ [])
+GeometriesGive (Any rings) scale a b (Err (run.Geometry input.First fault)) =
+    HasTextFault scale rings a b (texts.First fault)
+GeometriesGive (Any rings) scale a b (Err (run.Geometry input.Second fault)) =
+    HasTextFault scale rings a b (texts.Second fault)
+GeometriesGive (Any rings) scale a b (Err _) = ⊥
+
 abbrev pub CommandGives : Files → Command → Result (List ℕ) RunFault → Type 0
-CommandGives at (Relate a b scale) answer = RelateGives scale a.now b.now answer
+CommandGives at (Relate request) answer =
+    GeometriesGive request.geometries request.scale request.a.now request.b.now answer
 CommandGives at (Join join) answer =
     PathsGive (JoinGives (relation_of join.relation)) at join answer
 CommandGives at (Draw join) answer =
@@ -73,11 +93,16 @@ IsCommandText known command text = IfSome known (λ at. CommandGives at command 
 abbrev pub BlamesCommand : RunFault → Type 0
 BlamesCommand (run.NoFile input) = ⊤
 BlamesCommand (run.Wkt input fault) = ⊤
+BlamesCommand (run.Geometry input fault) = ⊤
 BlamesCommand fault = BlamesInput fault
+
+abbrev pub IsBox : Geometries → Type 0
+IsBox Box = ⊤
+IsBox (Any rings) = ⊥
 
 -- a fault that is found before keys are asked for and any memory is taken
 abbrev pub IsFoundFirst : Command → RunFault → Type 0
-IsFoundFirst (Relate a b scale) (run.Wkt input fault) = ⊤
+IsFoundFirst (Relate request) (run.Wkt input fault) = IsBox request.geometries
 IsFoundFirst _ (run.NoFile input) = ⊤
 IsFoundFirst _ _ = ⊥
 
@@ -116,10 +141,18 @@ known_files known join = record {
   edits = edits_at known join.edits_path;
 }
 
+-- a fault that relating two texts may have, that of its sink aside
+abbrev pub IsRelateFault : Geometries → RunFault → Type 0
+IsRelateFault Box fault = IsTextFault fault
+IsRelateFault (Any rings) (run.Geometry input.First fault) = ⊤
+IsRelateFault (Any rings) (run.Geometry input.Second fault) = ⊤
+IsRelateFault (Any rings) run.Memory = ⊤
+IsRelateFault (Any rings) _ = ⊥
+
 -- a fault that a command may have, that of its sink aside, where it is known what lies at its
 -- paths
 abbrev pub IsFaultOf : Option Files → Command → RunFault → Type 0
-IsFaultOf known (Relate a b scale) = IsTextFault
+IsFaultOf known (Relate request) = IsRelateFault request.geometries
 IsFaultOf known (Join join) = OrNoFile (IsJoinFault (known_files known join))
 IsFaultOf known (Draw join) = OrNoFile (IsDrawFault (known_files known join))
 IsFaultOf known (Window path wkt scale) =

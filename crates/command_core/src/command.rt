@@ -8,9 +8,10 @@ ghost use Rattle.command_core.specs.Opening.{AreOpened, IsFirstMissing, IsLayerU
 ghost use Rattle.command_core.specs.Endings.{CommandIsDone};
 
 use crate::inputs::Inputs;
+use crate::relating::execute_relate;
 use join_core::{
     Input, JoinSources, OpenGate, RunFault, Sink, fault_line, run_bounds, run_draw, run_join,
-    run_relate, run_stats, run_window,
+    run_stats, run_window,
 };
 use std::hash::RandomState;
 use std::random::RandomSource;
@@ -64,11 +65,7 @@ fn execute<R: RandomSource + AllocGlobal + Threads + Wait + Sync, I: Inputs, O: 
         command.now output.old output.new result }
 {
     match command {
-        Command::Relate { a, b, scale } => {
-            let a = a.as_bytes();
-            let b = b.as_bytes();
-            run_relate(*scale, a, b, output)
-        }
+        Command::Relate(request) => execute_relate(rt.alloc(), request, output),
         Command::Join(join) => execute_join(rt, inputs, Product::Report, join, output),
         Command::Draw(join) => execute_join(rt, inputs, Product::Picture, join, output),
         Command::Window { path, wkt, scale } => {

@@ -5,10 +5,13 @@
 mod command;
 mod inputs;
 mod program;
+mod relating;
 mod word_fault;
 
 pub use command::{FAILED, run_command};
 pub use inputs::{Inputs, NotOpened};
 pub use program::{run_program, run_words};
 pub use word_fault::{word_line, word_status};
-pub use words_core::{Command, JoinRequest, WordFault, is_standard_input, read_words};
+pub use words_core::{
+    Command, Geometries, JoinRequest, RelateRequest, WordFault, is_standard_input, read_words,
+};

@@ -1,5 +1,5 @@
 -- What the words of the command line are read as, by what `clap` finds in them.
-use Rattle.std.specs.Prelude.{◌≡◌, ◌≢◌, ◌<◌, ◌⊎◌, ◌&&◌, ◌||◌, ℕ, Bool, true, false, List, []}
+use Rattle.std.specs.Prelude.{◌≡◌, ◌≢◌, ◌<◌, ◌≤◌, ⊤, ◌⊎◌, ◌&&◌, ◌||◌, ℕ, Bool, true, false, List, []}
 use Rattle.std.specs.Prelude.{◌∷◌, ◌++◌, length, Option, Some, None, Result, Ok, Err, codes}
 use Rattle.std.specs.Prelude.{if◌then◌else◌, find, nat_le, nat_eq, option_map, option_and_then}
 use Rattle.std.specs.Prelude.{string_bytes}
@@ -30,10 +30,15 @@ use Rattle.deliver_core.specs.Options.{workers_of, batch_of, cut_of, AreWorkers,
 use Rattle.deliver_core.specs.declared.options.Options.{Options}
 use Rattle.deliver_core.specs.declared.options.OptionFault.TheVariants as range
 use Rattle.words_core.specs.Usage.{program_usage}
+use Rattle.wkt_any_core.specs.declared.rings.Rings.{Rings}
+use Rattle.wkt_any_core.specs.declared.rings.Rings.TheVariants.{Proper, EvenOdd}
 use Rattle.words_core.specs.declared.words.Command.{Command}
 use Rattle.words_core.specs.declared.words.Command.TheVariants.{Relate, Join, Draw, Window, Stats}
 use Rattle.words_core.specs.declared.words.Command.TheVariants.{Bounds}
+use Rattle.words_core.specs.declared.words.Geometries.{Geometries}
+use Rattle.words_core.specs.declared.words.Geometries.TheVariants.{Box, Any}
 use Rattle.words_core.specs.declared.words.JoinRequest.{JoinRequest}
+use Rattle.words_core.specs.declared.words.RelateRequest.{RelateRequest}
 use Rattle.words_core.specs.declared.words.WordFault.{WordFault}
 use Rattle.words_core.specs.declared.words.WordFault.TheVariants as fault
 
@@ -64,6 +69,25 @@ share_input left right edits = (is_dash left && is_dash right)
 
 abbrev pub IsScaleIn : List Row → Scale → Type 0
 IsScaleIn rows scale = number_at (codes "scale") rows ≡ Some (digits_of scale)
+
+-- the word of `--rings`, if one is given, names this rule; proper rings need no word
+abbrev pub NamesRings : Option Text → Rings → Type 0
+NamesRings None Proper = ⊤
+NamesRings None EvenOdd = ⊥
+NamesRings (Some word) Proper = word ≡ codes "proper"
+NamesRings (Some word) EvenOdd = word ≡ codes "even-odd"
+
+abbrev pub AreGeometriesIn : List Row → Geometries → Type 0
+AreGeometriesIn rows Box = (first_of (codes "geometry") rows ≡ Some (codes "box"))
+    × (first_of (codes "rings") rows ≡ None)
+AreGeometriesIn rows (Any rings) = (first_of (codes "geometry") rows ≡ Some (codes "any"))
+    × NamesRings (first_of (codes "rings") rows) rings
+
+pub record IsRelateIn (rows : List Row) (request : RelateRequest) : Type 0 where
+  pub first : first_of (codes "A") rows ≡ Some request.a.now
+  pub second : first_of (codes "B") rows ≡ Some request.b.now
+  pub scale : IsScaleIn rows request.scale
+  pub geometries : AreGeometriesIn rows request.geometries
 
 pub record AreOptionsIn (rows : List Row) (options : Options) : Type 0 where
   pub workers : number_at (codes "workers") rows ≡ Some (workers_of options)
@@ -123,9 +147,30 @@ HasWindowFault rows f =
     NeedsText (codes "LAYER") rows f (λ _. NeedsText (codes "WKT") rows f (λ _.
     HasScaleFault rows f))
 
+-- a fault of the scale, or what follows where it has none
+abbrev pub NeedsScale : List Row → WordFault → Type 0 → Type 0
+NeedsScale rows f Then = NeedsNumber (codes "scale") rows f (λ digits.
+    ((most_digits < digits) × (f ≡ fault.Scale)) ⊎ ((digits ≤ most_digits) × Then))
+
+abbrev pub IsNoRingRule : Option Text → Type 0
+IsNoRingRule None = ⊥
+IsNoRingRule (Some word) = (word ≢ codes "proper") × (word ≢ codes "even-odd")
+
+-- the fault of the word of `--geometry`, or of that of `--rings`, if one is given
+abbrev pub IsGeometryFault : Text → Option Text → WordFault → Type 0
+IsGeometryFault word rings fault.Geometry = (word ≢ codes "box") × (word ≢ codes "any")
+IsGeometryFault word rings fault.RingsOfBoxes = (word ≡ codes "box") × (rings ≢ None)
+IsGeometryFault word rings fault.Rings = (word ≡ codes "any") × IsNoRingRule rings
+IsGeometryFault word rings _ = ⊥
+
+abbrev pub HasGeometryFault : List Row → WordFault → Type 0
+HasGeometryFault rows f = NeedsText (codes "geometry") rows f (λ word.
+    IsGeometryFault word (first_of (codes "rings") rows) f)
+
 abbrev pub HasRelateFault : List Row → WordFault → Type 0
 HasRelateFault rows f =
-    NeedsText (codes "A") rows f (λ _. NeedsText (codes "B") rows f (λ _. HasScaleFault rows f))
+    NeedsText (codes "A") rows f (λ _. NeedsText (codes "B") rows f (λ _.
+    NeedsScale rows f (HasGeometryFault rows f)))
 
 -- the first of the three numbers that is out of its range
 abbrev pub IsRangeFault : ℕ → ℕ → ℕ → WordFault → Type 0
@@ -203,9 +248,7 @@ Met = Option (Text × List Row)
 
 -- what was found under the name of the command is this command
 abbrev pub IsCommandIn : Text → List Row → Command → Type 0
-IsCommandIn name rows (Relate a b scale) = (name ≡ codes "relate")
-    × (first_of (codes "A") rows ≡ Some a.now)
-    × (first_of (codes "B") rows ≡ Some b.now) × IsScaleIn rows scale
+IsCommandIn name rows (Relate request) = (name ≡ codes "relate") × IsRelateIn rows request
 IsCommandIn name rows (Join join) = (name ≡ codes "join") × IsJoinIn rows join
 IsCommandIn name rows (Draw join) = (name ≡ codes "draw") × IsJoinIn rows join
 IsCommandIn name rows (Window path wkt scale) = (name ≡ codes "window")

@@ -33,6 +33,16 @@ relation_rule = record (new_rule (codes "relation")) {
 abbrev pub edits_rule : Rule
 edits_rule = record (new_rule (codes "edits")) { long = Some (codes "edits") }
 
+-- `--geometry`, and that boxes are read where it isn't given
+abbrev pub geometry_rule : Rule
+geometry_rule = record (new_rule (codes "geometry")) {
+  long = Some (codes "geometry");
+  defaults = codes "box" ∷ [];
+}
+
+abbrev pub rings_rule : Rule
+rings_rule = record (new_rule (codes "rings")) { long = Some (codes "rings") }
+
 -- ---- commands
 
 abbrev pub layer_rules : List Rule
@@ -50,7 +60,8 @@ abbrev pub join_rules : List Rule
 join_rules = layer_rules ++ edit_rules ++ option_rules
 
 abbrev pub relate_rules : List Rule
-relate_rules = positional_rule (codes "A") ∷ positional_rule (codes "B") ∷ scale_rule ∷ []
+relate_rules = positional_rule (codes "A") ∷ positional_rule (codes "B") ∷ scale_rule
+    ∷ geometry_rule ∷ rings_rule ∷ []
 
 abbrev pub window_rules : List Rule
 window_rules = positional_rule (codes "LAYER") ∷ positional_rule (codes "WKT") ∷ scale_rule ∷ []

@@ -10,4 +10,4 @@ mod usage;
 mod words;
 
 pub use standard_input::is_standard_input;
-pub use words::{Command, JoinRequest, WordFault, read_words};
+pub use words::{Command, Geometries, JoinRequest, RelateRequest, WordFault, read_words};

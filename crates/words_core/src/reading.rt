@@ -1,26 +1,29 @@
 //! What `clap` found in the words, read as a command.
 
-ghost use Rattle.std.specs.Prelude.{◌≡◌, ◌≢◌, Some, None, true, false, codes, IfOk, IfErr};
-ghost use Rattle.std.specs.Prelude.{OnOk, string_bytes};
+ghost use Rattle.std.specs.Prelude.{◌≡◌, ◌≢◌, ◌≤◌, Some, None, true, false, codes, IfOk, IfErr};
+ghost use Rattle.std.specs.Prelude.{IfSome, IfNone, OnOk, string_bytes};
 ghost use Rattle.clap.specs.Words.{first_of, subcommand_rows_of};
 ghost use Rattle.relation_core.specs.JoinRelations.{relation_of};
 ghost use Rattle.relation_core.specs.Relations.{Spells};
+ghost use Rattle.wkt_core.specs.ScaleLimits.{most_digits};
+ghost use Rattle.wkt_core.specs.Scales.{digits_of};
 ghost use Rattle.words_core.specs.Readings.{AreOptionsIn, HasJoinFault, HasLayerFault};
-ghost use Rattle.words_core.specs.Readings.{HasCommandFault, HasMetFault, HasRelateFault};
-ghost use Rattle.words_core.specs.Readings.{HasScaleFault};
+ghost use Rattle.words_core.specs.Readings.{AreGeometriesIn, HasCommandFault, HasGeometryFault};
+ghost use Rattle.words_core.specs.Readings.{HasMetFault, HasRelateFault, HasScaleFault};
 ghost use Rattle.words_core.specs.Readings.{HasWindowFault, IsCommandIn, IsJoinIn, IsMetAs};
-ghost use Rattle.words_core.specs.Readings.{IsNoRelation, IsRelationFault, IsScaleIn};
-ghost use Rattle.words_core.specs.Readings.{NeedsOptions, Says, found_in, hint_text};
-ghost use Rattle.words_core.specs.Readings.{missing_text};
+ghost use Rattle.words_core.specs.Readings.{IsNoRelation, IsNoRingRule, IsRelationFault};
+ghost use Rattle.words_core.specs.Readings.{IsScaleIn, NamesRings, NeedsOptions, Says};
+ghost use Rattle.words_core.specs.Readings.{found_in, hint_text, missing_text};
 ghost use Rattle.words_core.specs.Readings.{number_at, share_input, shared_text, text_in};
 
 use crate::hint::nearest_relation;
 use crate::standard_input::is_standard_input;
-use crate::words::{Command, JoinRequest, WordFault};
+use crate::words::{Command, Geometries, JoinRequest, RelateRequest, WordFault};
 use clap::ArgMatches;
 use deliver_core::Options;
 use relation_core::{JoinRelation, MaskFault, Relation};
 use std::alloc::{AllocError, Global};
+use wkt_any_core::Rings;
 use wkt_core::Scale;
 
 /// Reads the command that the matches name.
@@ -63,7 +66,47 @@ fn read_relate<'a>(alloc: Global, given: &ArgMatches<'a>) -> Result<Command<'a>,
     let a = required(alloc, given, "A")?;
     let b = required(alloc, given, "B")?;
     let scale = read_scale(alloc, given)?;
-    Ok(Command::Relate { a, b, scale })
+    let geometries = read_geometries(alloc, given)?;
+    Ok(Command::Relate(RelateRequest {
+        a,
+        b,
+        scale,
+        geometries,
+    }))
+}
+
+/// The geometries that the words ask for.
+fn read_geometries(alloc: Global, given: &ArgMatches<'_>) -> Result<Geometries, WordFault>
+    ensures ok { IfOk result (AreGeometriesIn (found_in given.now)) }
+    ensures err { IfErr result (λ f. f ≢ WordFault.Memory
+        → HasGeometryFault (found_in given.now) f) }
+{
+    let word = required(alloc, given, "geometry")?;
+    let rings = optional(given, "rings");
+    match word {
+        "box" => match rings {
+            None => Ok(Geometries::Box),
+            Some(_) => Err(WordFault::RingsOfBoxes),
+        },
+        "any" => match ring_rule(rings) {
+            Some(rings) => Ok(Geometries::Any(rings)),
+            None => Err(WordFault::Rings),
+        },
+        _ => Err(WordFault::Geometry),
+    }
+}
+
+/// The rule for rings that a word names; proper rings where none is given.
+fn ring_rule(word: Option<&str>) -> Option<Rings>
+    ensures some { IfSome result (NamesRings (text_in word.entry)) }
+    ensures none { IfNone result (IsNoRingRule (text_in word.entry)) }
+{
+    match word {
+        None => Some(Rings::Proper),
+        Some("proper") => Some(Rings::Proper),
+        Some("even-odd") => Some(Rings::EvenOdd),
+        Some(_) => None,
+    }
 }
 
 fn read_join<'a>(alloc: Global, given: &ArgMatches<'a>) -> Result<Command<'a>, WordFault>
@@ -231,6 +274,7 @@ fn read_options(alloc: Global, given: &ArgMatches<'_>) -> Result<Options, WordFa
 
 fn read_scale(alloc: Global, given: &ArgMatches<'_>) -> Result<Scale, WordFault>
     ensures ok { IfOk result (IsScaleIn (found_in given.now)) }
+    ensures few { IfOk result (λ scale. digits_of scale ≤ most_digits) }
     ensures err { IfErr result (λ f. f ≢ WordFault.Memory → HasScaleFault (found_in given.now) f) }
 {
     match Scale::new(number(alloc, given, "scale")?) {

@@ -5,10 +5,11 @@ ghost use Rattle.clap.specs.Simple.{new_shape};
 ghost use Rattle.words_core.specs.Tables.{about_told, argument_rule, shape_told};
 ghost use Rattle.words_core.specs.Usage.{AddsRules, HasUsage, IsArgument, IsBegun};
 ghost use Rattle.words_core.specs.Usage.{bounds_about, draw_about, edits_rule, join_about};
-ghost use Rattle.words_core.specs.Usage.{join_rules, layer_only_rules, numeric_rule};
+ghost use Rattle.words_core.specs.Usage.{geometry_rule, join_rules, layer_only_rules, numeric_rule};
 ghost use Rattle.words_core.specs.Usage.{positional_rule, program_about, program_shape};
 ghost use Rattle.words_core.specs.Usage.{program_usage, relate_about, relate_rules};
-ghost use Rattle.words_core.specs.Usage.{relation_rule, stats_about, subcommand_shape};
+ghost use Rattle.words_core.specs.Usage.{relation_rule, rings_rule, stats_about};
+ghost use Rattle.words_core.specs.Usage.{subcommand_shape};
 ghost use Rattle.words_core.specs.Usage.{subcommand_shapes, window_about, window_rules};
 
 use crate::help;
@@ -34,6 +35,8 @@ enum Argument {
     },
     Relation,
     Edits,
+    Geometry,
+    Rings,
 }
 
 /// A command of the program, as help tells it.
@@ -45,7 +48,7 @@ struct Subcommand {
     arguments: &'static [Argument],
 }
 
-const RELATE_ARGUMENTS: [Argument; 3] = [
+const RELATE_ARGUMENTS: [Argument; 5] = [
     Argument::Positional {
         name: "A",
         help: "First geometry, as well-known text",
@@ -55,6 +58,8 @@ const RELATE_ARGUMENTS: [Argument; 3] = [
         help: "Second geometry, as well-known text",
     },
     SCALE,
+    Argument::Geometry,
+    Argument::Rings,
 ];
 
 /// The arguments of `join` and of `draw`.
@@ -250,6 +255,8 @@ fn declared_argument<'a>(alloc: Global, argument: Argument) -> Arg<'a>
         } => numeric(alloc, name, help, default),
         Argument::Relation => relation(alloc),
         Argument::Edits => edits(alloc),
+        Argument::Geometry => geometry(alloc),
+        Argument::Rings => rings(alloc),
     }
 }
 
@@ -293,4 +300,21 @@ fn edits<'a>(alloc: Global) -> Arg<'a>
     Arg::new(alloc, "edits")
         .long("edits")
         .help("CSV file of edits, which are made before the join")
+}
+
+fn geometry<'a>(alloc: Global) -> Arg<'a>
+    ensures { IsArgument geometry_rule result }
+{
+    Arg::new(alloc, "geometry")
+        .long("geometry")
+        .help("Geometries that are read, box or any")
+        .default_value("box")
+}
+
+fn rings<'a>(alloc: Global) -> Arg<'a>
+    ensures { IsArgument rings_rule result }
+{
+    Arg::new(alloc, "rings").long("rings").help(
+        "Rings that --geometry any takes, proper (the default) or even-odd",
+    )
 }

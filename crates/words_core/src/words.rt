@@ -12,7 +12,26 @@ use deliver_core::{OptionFault, Options};
 use relation_core::{AllowsDisjoint, JoinRelation, MaskFault};
 use std::alloc::{AllocError, Global};
 use thiserror::Error;
+use wkt_any_core::Rings;
 use wkt_core::Scale;
+
+/// Which geometries a command takes.
+#[derive(Clone, Copy, Debug, PartialEq, Eq)]
+pub enum Geometries {
+    /// Points, segments parallel to an axis, and rectangles.
+    Box,
+    /// Points, polylines and areas of any direction, with such rings.
+    Any(Rings),
+}
+
+/// Two geometries that are given as texts, and how these are read.
+#[derive(Clone, Copy, Debug, PartialEq, Eq)]
+pub struct RelateRequest<'a> {
+    pub a: &'a str,
+    pub b: &'a str,
+    pub scale: Scale,
+    pub geometries: Geometries,
+}
 
 /// Two layers that are to be joined after edits, and how.
 #[derive(Clone, Copy, Debug, PartialEq, Eq)]
@@ -28,12 +47,8 @@ pub struct JoinRequest<'a> {
 /// What the program is asked to do. Texts and paths are borrowed from the words.
 #[derive(Clone, Copy, Debug, PartialEq, Eq)]
 pub enum Command<'a> {
-    /// Write the matrix of two geometries that are given as texts.
-    Relate {
-        a: &'a str,
-        b: &'a str,
-        scale: Scale,
-    },
+    /// Write the matrix of two geometries.
+    Relate(RelateRequest<'a>),
     /// Write the pairs of features of two layers that stand in a relation.
     Join(JoinRequest<'a>),
     /// Write a picture of two layers, in which the features of those pairs are highlighted.
@@ -74,6 +89,15 @@ pub enum WordFault {
     /// More decimals are asked for than a coordinate keeps.
     #[error("--scale must be 0 to 6")]
     Scale,
+    /// The word of `--geometry` is neither `box` nor `any`.
+    #[error("--geometry must be box or any")]
+    Geometry,
+    /// `--rings` is given without `--geometry any`.
+    #[error("--rings needs --geometry any")]
+    RingsOfBoxes,
+    /// The word of `--rings` is neither `proper` nor `even-odd`.
+    #[error("--rings must be proper or even-odd")]
+    Rings,
     /// Memory ran out.
     #[error("no memory")]
     Memory,

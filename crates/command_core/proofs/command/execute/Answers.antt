@@ -1,13 +1,10 @@
 use Rattle.std.proofs.Common.{rules}
-use Rattle.command_core.proofs.CommandLemmas.{relate_ends}
 use Rattle.command_core.proofs.LayerCommandLemmas.{layer_unready, window_reads_one, window_none_first, window_ran}
 use Rattle.command_core.proofs.LayerCommandLemmas.{stats_asks, bounds_asks, layer_none_first, layer_asked}
 use Rattle.command_core.proofs.command.execute.Goals as goal
 
 pub returns-in-Relate : goal.returns-in-Relate
-returns-in-Relate g c =
-    relate_ends _ _ _ _ _ _ _ _ _ _ _ _ _ c.in-Relate.is c.as_bytes-a.ensures.value c.as_bytes-b.ensures.value (search rules) (search rules)
-    (search rules)
+returns-in-Relate g c = rw c.in-Relate.is (c.execute_relate.ensures _)
 
 pub returns-in-Join : goal.returns-in-Join
 returns-in-Join g c = rw c.in-Join.is (search rules)
