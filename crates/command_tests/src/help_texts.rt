@@ -25,6 +25,7 @@ Layers are CSV files with the header id,wkt and a feature a row:
 Geometries are points, segments along an axis and rectangles, as well-known text:
   POINT (4 4)
   POLYGON ((0 0, 4 0, 4 4, 0 4, 0 0))
+rjoin relate --geometry any takes polylines and polygons of any direction.
 
 A coordinate has no decimals, or up to K with --scale K; counted in units of the last decimal, its
 absolute value is at most 1000000000000.
@@ -49,12 +50,20 @@ Arguments:
   <B>  Second geometry, as well-known text
 
 Options:
-      --scale <scale>  Decimals that a coordinate may have, 0 to 6 [default: 0]
-  -h, --help           Print help
+      --scale <scale>        Decimals that a coordinate may have, 0 to 6 [default: 0]
+      --geometry <geometry>  Geometries that are read, box or any [default: box]
+      --rings <rings>        Rings that --geometry any takes, proper (the default) or even-odd
+  -h, --help                 Print help
 
 Geometries are points, segments along an axis and rectangles:
   POINT (4 4)    LINESTRING (1 0, 3 0)
   POLYGON ((0 0, 4 0, 4 4, 0 4, 0 0))
+
+With --geometry any they are points, polylines and polygons of any direction, and MULTI forms:
+  LINESTRING (0 0, 3 2, 5 2)    MULTIPOINT (1 1, 2 2)
+  MULTIPOLYGON (((0 0, 4 0, 0 4, 0 0)), ((9 9, 8 9, 9 8, 9 9)))
+Rings that cross or run along each other are refused. --rings even-odd takes any closed rings: a
+point that lies on none is inside where a ray from it crosses them an odd number of times.
 
 The nine letters are those of DE-9IM, in three rows of three: interior, boundary and exterior of A,
 each with interior, boundary and exterior of B. F says that the two share nothing, and 0, 1 or 2

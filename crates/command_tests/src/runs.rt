@@ -48,10 +48,10 @@ fn run_on<R: RandomSource + AllocGlobal + Threads + Wait + Sync>(
 }
 
 /// Whether a run ends with its status, and writes and says what it has to.
-fn ends<R: RandomSource + AllocGlobal + Threads + Wait + Sync>(
+pub fn ends<R: RandomSource + AllocGlobal + Threads + Wait + Sync>(
     rt: &R,
     files: &[(&str, &str)],
-    run: &Run,
+    run: &(&str, u8, &str, &str),
 ) -> Result<bool, Fail> {
     let (words, status, written, said) = *run;
     let ended = run_on(rt, files, given_words(rt.alloc(), words)?.as_slice());

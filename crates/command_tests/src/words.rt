@@ -1,12 +1,14 @@
 //! The words of the command line.
 
 use command_core::{
-    Command, JoinRequest, NotOpened, WordFault, read_words, word_line, word_status,
+    Command, Geometries, JoinRequest, NotOpened, RelateRequest, WordFault, read_words, word_line,
+    word_status,
 };
 use join_core::{OptionFault, Options, ToWrite};
 use relation_core::{JoinRelation, MaskFault, Relation};
 use std::alloc::Global;
 use std::test::Fail;
+use wkt_any_core::Rings;
 use wkt_core::Scale;
 
 /// Words, of which each follows a `|`, that don't fit the usage.
@@ -22,7 +24,12 @@ const USAGE_FAULTS: &[&str] = &[
     "rjoin|stats|-l.csv",
     "rjoin|stats|l.csv|--scale|x",
     "rjoin|stats|l.csv|--cut|2",
+    "rjoin|stats|l.csv|--geometry|any",
     "rjoin|bounds",
+    "rjoin|bounds|l.csv|--geometry|box",
+    "rjoin|window|l.csv|POINT (0 0)|--geometry|any",
+    "rjoin|join|l.csv|q.csv|--relation|touches|--geometry|any",
+    "rjoin|draw|l.csv|q.csv|--relation|touches|--rings|proper",
     "rjoin|bounds|l.csv|POINT (0 0)",
     "rjoin|bounds|l.csv|--workers|2",
     "rjoin|join|l.csv|q.csv",
@@ -151,14 +158,48 @@ fn reads(alloc: Global, words: &'static str, wanted: Command<'_>) -> Result<bool
     Ok(read_words(alloc, parted(alloc, words)?.as_slice())? == wanted)
 }
 
+/// Words of `relate` behind its two geometries, and the geometries that they ask for.
+const GEOMETRIES: &[(&str, Geometries)] = &[
+    ("--scale|0", Geometries::Box),
+    ("--geometry|box", Geometries::Box),
+    ("--geometry|any", Geometries::Any(Rings::Proper)),
+    (
+        "--rings|proper|--geometry|any",
+        Geometries::Any(Rings::Proper),
+    ),
+    (
+        "--geometry|any|--rings|even-odd",
+        Geometries::Any(Rings::EvenOdd),
+    ),
+];
+
+/// Whether words on two geometries that end so are read as this request.
+fn asks_to_relate(
+    alloc: Global,
+    last: &'static str,
+    wanted: RelateRequest<'_>,
+) -> Result<bool, Fail> {
+    let mut words = Vec::new(alloc);
+    words.extend_from_slice(&["rjoin", "relate", "POINT (0 0)", "x"])?;
+    words.extend_from_slice(parted(alloc, last)?.as_slice())?;
+    Ok(read_words(alloc, words.as_slice())? == Command::Relate(wanted))
+}
+
 #[test]
 fn relate_words(rt: HostRuntime) -> Result<(), Fail> {
     let Some(scale) = Scale::new(0) else {
         panic!(rt; "no scale");
     };
     let a = "POINT (0 0)";
-    let wanted = Command::Relate { a, b: "x", scale };
-    assert!(rt; reads(rt.alloc(), "rjoin|relate|POINT (0 0)|x", wanted)?);
+    for &(last, geometries) in GEOMETRIES {
+        let wanted = RelateRequest {
+            a,
+            b: "x",
+            scale,
+            geometries,
+        };
+        assert!(rt; asks_to_relate(rt.alloc(), last, wanted)?, "{last}");
+    }
     Ok(())
 }
 
@@ -246,6 +287,9 @@ fn faults_show_their_lines(rt: HostRuntime) -> Result<(), Fail> {
     assert!(rt; shows_its_line(alloc, &WordFault::Options(OptionFault::Batch))?);
     assert!(rt; shows_its_line(alloc, &WordFault::Options(OptionFault::Cut))?);
     assert!(rt; shows_its_line(alloc, &WordFault::Scale)?);
+    assert!(rt; shows_its_line(alloc, &WordFault::Geometry)?);
+    assert!(rt; shows_its_line(alloc, &WordFault::RingsOfBoxes)?);
+    assert!(rt; shows_its_line(alloc, &WordFault::Rings)?);
     assert!(rt; shows_its_line(alloc, &WordFault::Memory)?);
     let usage = WordFault::Usage {
         text: String::from_str(alloc, "error: COMMAND is missing\n")?,
