@@ -69,7 +69,8 @@ INSTALLED = {
 }
 JOIN_OPTIONS = {"--relation", "--edits", "--workers", "--batch", "--cut", "--scale", "--help"}
 OPTIONS = {
-    "relate": {"--scale", "--help"}, "join": JOIN_OPTIONS, "draw": JOIN_OPTIONS, "window": {"--scale", "--help"},
+    "relate": {"--scale", "--geometry", "--rings", "--help"}, "join": JOIN_OPTIONS, "draw": JOIN_OPTIONS,
+    "window": {"--scale", "--help"},
     "stats": {"--scale", "--help"}, "bounds": {"--scale", "--help"},
 }
 RELATIONS = {"intersects", "touches", "crosses", "within", "contains", "overlaps", "equals"}

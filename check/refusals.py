@@ -193,6 +193,7 @@ STATUSES = {
     "join refused": 1,
     "draw refused": 1,
     "a bad geometry": 1,
+    "a bad geometry of any direction": 1,
     "no file": 1,
     "no command": 2,
     "two standard inputs": 2,
@@ -203,6 +204,8 @@ def commands() -> dict[str, list[str]]:
     """Command lines for the files of data/."""
     square = "POLYGON ((0 0, 9 0, 9 9, 0 9, 0 0))"
     join = ["join", "parcels.csv", "roads.csv", "--relation", "touches"]
+    any_two = ["relate", "--geometry", "any"]
+    bow_tie = "POLYGON ((0 0, 4 4, 4 0, 0 4, 0 0))"
     return {
         "join": join,
         "join with edits": [*join, "--edits", "edits.csv", "--workers", "3", "--batch", "1", "--cut", "8"],
@@ -216,7 +219,10 @@ def commands() -> dict[str, list[str]]:
         "bounds": ["bounds", "stations.csv"],
         "relate": ["relate", square, "POINT (9 9)"],
         "relate at a scale": ["relate", square, "POINT (9 9.25)", "--scale", "2"],
+        "relate of any geometry": [*any_two, "LINESTRING (3 4, 6 2)", "LINESTRING (0 6, 6 2, 5 0, 6 5)"],
+        "relate by the even-odd rule": [*any_two, "--rings", "even-odd", "POINT (1 2)", bow_tie],
         "a bad geometry": ["relate", square, "POINT (9 9"],
+        "a bad geometry of any direction": [*any_two, square, "POLYGON ((0 0, 9 3, 0 9, 0 1))"],
         "no file": ["stats", "nowhere.csv"],
         "no command": ["join", "parcels.csv"],
         "two standard inputs": ["join", "-", "-", "--relation", "touches"],

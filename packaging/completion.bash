@@ -11,6 +11,8 @@ _rjoin() {
     case $prev in
     --relation) offered="intersects touches crosses within contains overlaps equals" ;;
     --scale) offered="0 1 2 3 4 5 6" ;;
+    --geometry) offered="box any" ;;
+    --rings) offered="proper even-odd" ;;
     --edits) _filedir && return ;;
     --workers | --batch | --cut) return ;;
     *)
