@@ -16,7 +16,7 @@ mod vertex;
 pub use edge::Edge;
 pub use geometry::Geometry;
 pub use node::Node;
-pub use outline::{Kind, Outline, Standing};
+pub use outline::{Kind, Outline, Scan, Standing};
 pub use part::Part;
 pub use place::{Lie, Place};
 pub use vertex::Vertex;

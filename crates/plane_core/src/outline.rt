@@ -1,8 +1,9 @@
 //! What decides the part of a geometry in which a point lies: its edges, and its points or ends.
 
-ghost use Rattle.std.specs.Prelude.{◌≡◌, count_by};
+ghost use Rattle.std.specs.Prelude.{◌≡◌, List, [], ◌∷◌, ◌++◌, count_by};
 ghost use Rattle.std.specs.List.{list_any};
-ghost use Rattle.plane_core.specs.Points.{is_at};
+ghost use Rattle.plane_core.specs.declared.edge.Edge.{Edge};
+ghost use Rattle.plane_core.specs.Points.{Point, is_at};
 ghost use Rattle.plane_core.specs.Places.{point_of};
 ghost use Rattle.plane_core.specs.Outlines.{outline_part, outline_above};
 ghost use Rattle.plane_core.specs.Figures.{is_odd, points_part, areas_part};
@@ -39,32 +40,53 @@ pub struct Standing {
     pub above: Part,
 }
 
-/// How all edges of a geometry lie to a point.
+/// How edges lie to a point, all together.
 #[derive(Clone, Copy, Debug, PartialEq, Eq)]
-struct Scan {
-    is_on: bool,
-    is_odd_below: bool,
-    is_odd_at_or_below: bool,
+pub struct Scan {
+    /// The point is on one of the edges.
+    pub is_on: bool,
+    /// An odd number of them pass strictly below the point, their right ends not counted.
+    pub is_odd_below: bool,
+    /// The same, with those that pass through the point.
+    pub is_odd_at_or_below: bool,
+}
+
+impl Scan {
+    /// How no edges lie to a point.
+    pub fn empty() -> Scan
+        ensures { (p : Point) → IsScan [] p result }
+    {
+        Scan {
+            is_on: false,
+            is_odd_below: false,
+            is_odd_at_or_below: false,
+        }
+    }
+
+    /// How the edges and one more lie to the point.
+    #[inline]
+    pub fn with(self, e: &Edge, p: &Place) -> Scan
+        ensures { let q = point_of p.now in
+            (es : List Edge) → IsScan es q self → IsScan (es ++ e.now ∷ []) q result }
+    {
+        let lie = p.lie_of(e);
+        Scan {
+            is_on: self.is_on | lie.is_on,
+            is_odd_below: self.is_odd_below != lie.is_below,
+            is_odd_at_or_below: self.is_odd_at_or_below != lie.is_at_or_below,
+        }
+    }
 }
 
 /// How edges lie to a point, all together.
 fn scan_of(edges: &[Edge], p: &Place) -> Scan
     ensures { IsScan edges.now (point_of p.now) result }
 {
-    let mut is_on = false;
-    let mut is_odd_below = false;
-    let mut is_odd_at_or_below = false;
+    let mut scan = Scan::empty();
     for e in edges {
-        let lie = p.lie_of(e);
-        is_on = is_on | lie.is_on;
-        is_odd_below = is_odd_below != lie.is_below;
-        is_odd_at_or_below = is_odd_at_or_below != lie.is_at_or_below;
+        scan = scan.with(e, p);
     }
-    Scan {
-        is_on,
-        is_odd_below,
-        is_odd_at_or_below,
-    }
+    scan
 }
 
 /// Whether some vertex is the point.
@@ -112,13 +134,15 @@ fn points_standing(points: &[Vertex], p: &Place) -> Standing
     }
 }
 
-fn lines_standing(ends: &[Vertex], edges: &[Edge], p: &Place) -> Standing
-    ensures part { result.part ≡ ends_part ends.now edges.now (point_of p.now) }
+/// The standing of a point of polylines, by their ends and a scan of their edges.
+fn lines_standing(ends: &[Vertex], p: &Place, scan: Scan) -> Standing
+    ensures part { let q = point_of p.now in
+        (es : List Edge) → IsScan es q scan → result.part ≡ ends_part ends.now es q }
     ensures above { result.above ≡ Part.Exterior }
 {
     let part = if is_odd_at(ends, p) {
         Part::Boundary
-    } else if scan_of(edges, p).is_on {
+    } else if scan.is_on {
         Part::Interior
     } else {
         Part::Exterior
@@ -129,11 +153,12 @@ fn lines_standing(ends: &[Vertex], edges: &[Edge], p: &Place) -> Standing
     }
 }
 
-fn areas_standing(edges: &[Edge], p: &Place) -> Standing
-    ensures part { result.part ≡ areas_part edges.now (point_of p.now) }
-    ensures above { result.above ≡ rings_above edges.now (point_of p.now) }
+/// The standing of a point of rings, by a scan of their edges.
+fn areas_standing(scan: Scan) -> Standing
+    ensures part { (es : List Edge) (p : Point) → IsScan es p scan → result.part ≡ areas_part es p }
+    ensures above { (es : List Edge) (p : Point) → IsScan es p scan
+        → result.above ≡ rings_above es p }
 {
-    let scan = scan_of(edges, p);
     let part = if scan.is_on {
         Part::Boundary
     } else {
@@ -151,10 +176,19 @@ impl Outline {
         ensures part { result.part ≡ outline_part self.now (point_of p.now) }
         ensures above { result.above ≡ outline_above self.now (point_of p.now) }
     {
+        self.standing_by(p, scan_of(&self.edges, p))
+    }
+
+    /// The same, by a scan of the edges that was made already.
+    pub fn standing_by(&self, p: &Place, scan: Scan) -> Standing
+        requires { IsScan self.now.edges.items (point_of p.now) scan }
+        ensures part { result.part ≡ outline_part self.now (point_of p.now) }
+        ensures above { result.above ≡ outline_above self.now (point_of p.now) }
+    {
         match self.kind {
             Kind::Points => points_standing(&self.ends, p),
-            Kind::Lines => lines_standing(&self.ends, &self.edges, p),
-            Kind::Areas => areas_standing(&self.edges, p),
+            Kind::Lines => lines_standing(&self.ends, p, scan),
+            Kind::Areas => areas_standing(scan),
         }
     }
 }

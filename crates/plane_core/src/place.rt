@@ -1,11 +1,13 @@
 //! A point of the plane with rational coordinates, and how an edge lies to it.
 
-ghost use Rattle.std.specs.Prelude.{◌*◌, ◌≤◌, pos, nat_abs, ◌<ℤ◌};
+ghost use Rattle.std.specs.Prelude.{◌≡◌, ◌*◌, ◌≤◌, pos, nat_abs, ◌<ℤ◌};
+ghost use Rattle.geom_core.specs.Shapes.{x1, y1, x2, y2};
 ghost use Rattle.plane_core.specs.Limits.{greatest_coordinate, greatest_width};
 
 use crate::cross::cross;
 use crate::edge::Edge;
 use crate::vertex::Vertex;
+use geom_core::Shape;
 use std::cmp::Ordering;
 use wide_core::compare_products;
 
@@ -32,11 +34,36 @@ pub struct Lie {
     pub is_at_or_below: bool,
 }
 
+/// The corner of a shape with its least coordinates.
+#[inline]
+fn least_corner(s: &Shape) -> Vertex
+    ensures x { result.x ≡ x1 s.now }
+    ensures y { result.y ≡ y1 s.now }
+{
+    Vertex {
+        x: s.x1(),
+        y: s.y1(),
+    }
+}
+
+/// The corner of a shape with its greatest coordinates.
+#[inline]
+fn greatest_corner(s: &Shape) -> Vertex
+    ensures x { result.x ≡ x2 s.now }
+    ensures y { result.y ≡ y2 s.now }
+{
+    Vertex {
+        x: s.x2(),
+        y: s.y2(),
+    }
+}
+
 impl Place {
-    ghost use Rattle.std.specs.Prelude.{◌≡◌, ◌-ℤ◌, ◌*ℤ◌, int_le, int_lt, IsTrue};
+    ghost use Rattle.std.specs.Prelude.{◌-ℤ◌, ◌*ℤ◌, int_le, int_lt, IsTrue};
     ghost use Rattle.std.specs.Ordering.{int_cmp};
     ghost use Rattle.plane_core.specs.Points.{at, side, is_at, is_between, is_from_to};
     ghost use Rattle.plane_core.specs.Places.{point_of, IsLie};
+    ghost use Rattle.plane_core.specs.Boxes.{is_over};
 
     /// A vertex.
     pub fn at(v: &Vertex) -> Place
@@ -105,6 +132,15 @@ impl Place {
         ensures { let p = point_of self.now in result ≡ int_le p.y (pos p.w *ℤ v.now.y) }
     {
         self.rise_from(v) <= 0
+    }
+
+    /// Whether it has the first coordinate of some point of a shape, and isn't below the shape.
+    #[inline]
+    pub fn is_over_box(&self, s: &Shape) -> bool
+        ensures { result ≡ is_over s.now (point_of self.now) }
+    {
+        let (least, greatest) = (least_corner(s), greatest_corner(s));
+        self.is_from_x(&least) && self.is_to_x(&greatest) && self.is_from_y(&least)
     }
 
     /// Whether it is a vertex.
