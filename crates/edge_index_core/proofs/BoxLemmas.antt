@@ -14,8 +14,8 @@ use Rattle.plane_core.specs.ProperRings.{IsShared}
 use Rattle.plane_core.proofs.Signs.{wide_z}
 use Rattle.plane_core.proofs.ScaleLemmas.{less_scaled}
 use Rattle.plane_core.proofs.CrossingLemmas.{along_x_of, along_y_of}
-use Rattle.ring_core.specs.Bounds.{IsBoxOf}
-use Rattle.ring_core.proofs.IntervalLemmas.{IsIn, scaled_in, low_of, high_of}
+use Rattle.edge_index_core.specs.Bounds.{IsBoxOf}
+use Rattle.edge_index_core.proofs.BetweenLemmas.{IsIn, scaled_in, low_of, high_of}
 
 -- the coordinates of a vertex as 64 bits hold them
 pub held_x : (v : Vertex) → to_z w64 (of_z w64 v.x) ≡ v.x

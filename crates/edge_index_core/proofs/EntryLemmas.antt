@@ -12,7 +12,7 @@ use Rattle.rtree_core.specs.Collections.{HasSame}
 use Rattle.rtree_core.specs.Trees.{has_number}
 use Rattle.rtree_core.proofs.RemovalLemmas.{entry_same, entry_itself}
 use Rattle.rtree_core.proofs.TreeLemmas.{not_that, at_most_one}
-use Rattle.ring_core.specs.Candidates.{IsEntryOf, AreEntriesOf, HasEntriesOf}
+use Rattle.edge_index_core.specs.Entries.{IsEntryOf, AreEntriesOf, HasEntriesOf}
 
 -- an entry for each of the first n edges
 pub record AreFirst (es : List Edge) (n : ℕ) (entries : List Entry) : Type 0 where
@@ -63,7 +63,7 @@ all_entries es n entries low high h = record {
 }
 
 -- what one list holds, another with the same items holds
-counted : (e : Entry) (xs : List Entry) (k : ℕ) → k < length xs → get_or xs k e ≡ e → 0 < count_by (eq-value.it e) xs
+pub counted : (e : Entry) (xs : List Entry) (k : ℕ) → k < length xs → get_or xs k e ≡ e → 0 < count_by (eq-value.it e) xs
 counted e [] k lt at = absurd (omega (arith, lt))
 counted e (x ∷ xs) zero lt at =
     let one : cond {A = ℕ} (eq-value.it e x) 1 0 ≡ 1 = rw (at, entry_itself e) refl in
@@ -71,7 +71,7 @@ counted e (x ∷ xs) zero lt at =
 counted e (x ∷ xs) (suc k) lt at =
     omega (arith, counted e xs k (omega (arith, lt)) at, sum_by-cons (λ y. cond {A = ℕ} (eq-value.it e y) 1 0) x xs)
 
-held : (e : Entry) (xs : List Entry) → 0 < count_by (eq-value.it e) xs → Contains xs e
+pub held : (e : Entry) (xs : List Entry) → 0 < count_by (eq-value.it e) xs → Contains xs e
 held e [] h = absurd (omega (arith, h))
 held e (x ∷ xs) h = by (eq-value.it e x) refl (λ some. held e xs some)
   where

@@ -1,12 +1,12 @@
 //! The box of an edge.
 
-ghost use Rattle.ring_core.specs.Bounds.{IsBoxOf};
+ghost use Rattle.edge_index_core.specs.Bounds.{IsBoxOf};
 
 use geom_core::Shape;
 use plane_core::Edge;
 
 /// The smallest shape that contains an edge.
-pub(crate) fn bounds_of(e: &Edge) -> Shape
+pub fn bounds_of(e: &Edge) -> Shape
     ensures { IsBoxOf e.now result }
 {
     let (a, b) = (&e.a, &e.b);

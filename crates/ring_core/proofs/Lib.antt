@@ -1,5 +1,3 @@
-pub mod BoxLemmas
-pub mod EntryLemmas
 pub mod IntervalLemmas
 pub mod LineLemmas
 pub mod PairLemmas

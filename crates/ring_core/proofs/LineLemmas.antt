@@ -15,7 +15,7 @@ use Rattle.plane_core.proofs.ScaleLemmas.{less_scaled}
 use Rattle.plane_core.proofs.FormLemmas.{by_zero, no_zero_divisor}
 use Rattle.plane_core.proofs.LevelLemmas.{level_test}
 use Rattle.plane_core.proofs.CheckLemmas.{and_first, and_second}
-use Rattle.ring_core.proofs.IntervalLemmas.{IsIn, Up, Down, scaled_in}
+use Rattle.edge_index_core.proofs.BetweenLemmas.{IsIn, Up, Down, scaled_in}
 
 pub zero_factor : (t x : ℤ) → ¬ (t ≡ pos 0) → t *ℤ x ≡ pos 0 → x ≡ pos 0
 zero_factor t x some h = by_zero x (λ k. absurd (no_zero_divisor t x some k h)) (λ k. k)

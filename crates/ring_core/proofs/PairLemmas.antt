@@ -16,7 +16,8 @@ use Rattle.plane_core.proofs.FormLemmas.{by_zero, by_sign}
 use Rattle.plane_core.proofs.CrossingLemmas.{crossed, side_last, turn-flip, level_of, along_x_of, along_y_of, meeting_up, meeting_down, divided_on, or_either}
 use Rattle.plane_core.proofs.CheckLemmas.{and_first, and_second}
 use Rattle.ring_core.specs.PairTests.{are_opposite, share_interval, do_cross_inside, do_run_along}
-use Rattle.ring_core.proofs.IntervalLemmas.{IsIn, Up, Down, scaled_in, in_scaled, in_times, IsCommon, common, at_start, start_of, start_pick}
+use Rattle.edge_index_core.proofs.BetweenLemmas.{IsIn, Up, Down, scaled_in, in_scaled, in_times}
+use Rattle.ring_core.proofs.IntervalLemmas.{IsCommon, common, at_start, start_of, start_pick}
 use Rattle.ring_core.proofs.LineLemmas.{zero_factor, at_true, same_at, at_zero, first_level, last_level, one_place, on_by_x, on_by_y, IsDivision, division, divided_level}
 
 -- numbers on different sides of 0

@@ -14,9 +14,10 @@ use Rattle.plane_core.specs.Outlines.{kind_of}
 use Rattle.plane_core.specs.ProperRings.{IsShared, MeetProperly, AreProper, HasProperRings}
 use Rattle.rtree_core.specs.declared.node.Entry.{Entry}
 use Rattle.rtree_core.specs.Windows.{AllFound}
-use Rattle.ring_core.specs.Bounds.{IsBoxOf}
-use Rattle.ring_core.specs.Candidates.{MeetsLater, HasEntriesOf}
-use Rattle.ring_core.proofs.BoxLemmas.{shared_meets}
+use Rattle.edge_index_core.specs.Bounds.{IsBoxOf}
+use Rattle.edge_index_core.specs.Entries.{HasEntriesOf}
+use Rattle.edge_index_core.proofs.BoxLemmas.{shared_meets}
+use Rattle.ring_core.specs.Candidates.{MeetsLater}
 
 -- the edge at a place meets properly all that come after it
 abbrev pub IsProperAt : List Edge → ℕ → Type 0

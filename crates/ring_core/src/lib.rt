@@ -1,7 +1,6 @@
 //! Whether the rings of areas neither cross nor run along each other.
 #![tactic(auto)]
 
-mod bounds;
 mod pair;
 mod rings;
 

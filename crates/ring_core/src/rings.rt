@@ -1,14 +1,15 @@
 //! Whether each two of many edges meet properly.
 
-ghost use Rattle.std.specs.Prelude.{◌↔◌, ◌≤◌, ◌^◌, ◌<◌, ℕ, All, length, count_by, IsTrue, IfOk};
-ghost use Rattle.rtree_core.specs.Trees.{entries_in, has_number};
+ghost use Rattle.std.specs.Prelude.{◌↔◌, All, IsTrue, IfOk};
+ghost use Rattle.rtree_core.specs.Trees.{entries_in};
 ghost use Rattle.plane_core.specs.ProperRings.{MeetProperly, AreProper, HasProperRings};
-ghost use Rattle.ring_core.specs.Candidates.{AreEntriesOf, HasEntriesOf, MeetsLater};
+ghost use Rattle.edge_index_core.specs.Entries.{HasEntriesOf};
+ghost use Rattle.ring_core.specs.Candidates.{MeetsLater};
 
-use crate::bounds::bounds_of;
 use crate::pair::meet_properly;
+use edge_index_core::{bounds_of, entries_of};
 use plane_core::{Edge, Geometry, Kind};
-use rtree_core::{Entry, RTree};
+use rtree_core::RTree;
 use std::alloc::{AllocError, Global};
 
 /// The greatest number of edges that are compared each with each other.
@@ -31,21 +32,6 @@ fn are_all_proper(edges: &[Edge]) -> bool
         }
     }
     true
-}
-
-/// The boxes of edges, numbered by their places.
-fn entries_of(alloc: Global, edges: &[Edge]) -> Result<Vec<Entry>, AllocError>
-    requires { length edges.now < 2 ^ 32 }
-    ensures entries { IfOk result (λ v. AreEntriesOf edges.now v.items) }
-    ensures distinct { IfOk result (λ v. (k : ℕ) → count_by (has_number k) v.items ≤ 1) }
-{
-    let mut entries = Vec::new(alloc);
-    for (i, e) in edges.iter().enumerate() {
-        let shape = bounds_of(e);
-        let number = i as u32;
-        entries.push(Entry { shape, number })?;
-    }
-    Ok(entries)
 }
 
 /// Whether an edge, which is at place `i`, meets properly the one at place `k` where that comes

@@ -1,8 +1,8 @@
 use Rattle.std.proofs.Common.{rules}
 use Rattle.std.specs.Int.{int_min, int_max}
 use Rattle.geom_core.proofs.HeldLemmas.{held_by}
-use Rattle.ring_core.proofs.BoxLemmas.{held_x, held_y, corners_as, box_as, never_none}
-use Rattle.ring_core.proofs.bounds.bounds_of.Goals as goal
+use Rattle.edge_index_core.proofs.BoxLemmas.{held_x, held_y, corners_as, box_as, never_none}
+use Rattle.edge_index_core.proofs.bounds.bounds_of.Goals as goal
 
 pub unreachable-requires : goal.unreachable-requires
 unreachable-requires c =

@@ -1,9 +1,9 @@
 use Rattle.std.proofs.Common.{refl, subst, ◌∙◌}
 use Rattle.std.proofs.lemmas.List.{get_or_default}
 use Rattle.plane_core.specs.declared.edge.Edge.{Edge}
-use Rattle.ring_core.specs.Bounds.{IsBoxOf}
-use Rattle.ring_core.proofs.EntryLemmas.{none_first, one_more, all_entries}
-use Rattle.ring_core.proofs.rings.entries_of.Goals as goal
+use Rattle.edge_index_core.specs.Bounds.{IsBoxOf}
+use Rattle.edge_index_core.proofs.EntryLemmas.{none_first, one_more, all_entries}
+use Rattle.edge_index_core.proofs.entries.entries_of.Goals as goal
 
 pub loop-i-init : goal.loop-i-init
 loop-i-init c = none_first c.args.edges.now c.new-entries.result.items c.new-entries.ensures.items

@@ -1,5 +1,5 @@
-use Rattle.ring_core.proofs.EntryLemmas.{AreFirst}
-use Rattle.ring_core.proofs.rings.entries_of.Given as goal
+use Rattle.edge_index_core.proofs.EntryLemmas.{AreFirst}
+use Rattle.edge_index_core.proofs.entries.entries_of.Given as goal
 
 abbrev pub invariant-loop-i : goal.invariant-loop-i
 invariant-loop-i l = AreFirst l.edges l.i l.entries.items

@@ -1,5 +1,5 @@
 use Rattle.std.proofs.Common.{refl}
-use Rattle.ring_core.proofs.BoxLemmas.{held_x, held_y}
+use Rattle.edge_index_core.proofs.BoxLemmas.{held_x, held_y}
 use Rattle.ring_core.proofs.pair.do_run_along.Goals as goal
 
 pub returns : goal.returns

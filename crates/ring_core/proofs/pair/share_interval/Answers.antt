@@ -2,7 +2,7 @@ use Rattle.std.proofs.Common.{◌≡◌, rules, of_z, to_z, w64, refl}
 use Rattle.std.specs.Int.{int_min, int_max}
 use Rattle.std.proofs.lemmas.Int.{to_z-of_z}
 use Rattle.geom_core.proofs.HeldLemmas.{held_by}
-use Rattle.ring_core.proofs.BoxLemmas.{held_join}
+use Rattle.edge_index_core.proofs.BoxLemmas.{held_join}
 use Rattle.ring_core.proofs.pair.share_interval.Goals as goal
 
 pub returns : goal.returns

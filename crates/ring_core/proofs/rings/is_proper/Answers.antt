@@ -1,4 +1,4 @@
-use Rattle.ring_core.proofs.EntryLemmas.{tree_holds}
+use Rattle.edge_index_core.proofs.EntryLemmas.{tree_holds}
 use Rattle.ring_core.proofs.rings.is_proper.Goals as goal
 
 pub are_near_proper-requires : goal.are_near_proper-requires

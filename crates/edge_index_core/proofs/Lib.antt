@@ -1,0 +1,6 @@
+pub mod BetweenLemmas
+pub mod BoxLemmas
+pub mod EntryLemmas
+pub mod OverLemmas
+pub mod ScanLemmas
+pub mod TreeLemmas

@@ -1,0 +1,4 @@
+pub mod Bounds
+pub mod Entries
+pub mod Scans
+pub mod Trees

@@ -1,0 +1,106 @@
+//! The outline of a geometry, with a tree over the boxes of its edges where they are many.
+
+ghost use Rattle.std.specs.Prelude.{◌≡◌, IfOk, IfSome};
+ghost use Rattle.plane_core.specs.Places.{point_of};
+ghost use Rattle.plane_core.specs.Outlines.{outline_part, outline_above, IsScan};
+ghost use Rattle.rtree_core.specs.Trees.{entries_in};
+ghost use Rattle.edge_index_core.specs.Trees.{HoldsEdges, IsTreeOf};
+
+use crate::entries::entries_of;
+use crate::scan::scan_node;
+use plane_core::{Edge, Outline, Place, Scan, Standing};
+use rtree_core::{Node, RTree};
+use std::alloc::{AllocError, Global};
+use std::marker::Model;
+
+/// The greatest number of edges that are looked at one by one.
+const FEW: usize = 16;
+
+/// An outline, as contracts see it, that finds its edges by their boxes.
+#[derive(Drop)]
+pub struct IndexedOutline {
+    outline: Outline,
+    tree: Option<RTree>,
+}
+
+impl Model for IndexedOutline {
+    ghost use Rattle.std.specs.Prelude.{IfSome};
+    ghost use Rattle.plane_core.specs.declared.outline.Outline.{Outline};
+    ghost use Rattle.rtree_core.specs.Trees.{entries_in};
+    ghost use Rattle.edge_index_core.specs.Trees.{HoldsEdges};
+
+    ghost Value = { Outline };
+
+    ghost view = { λ i. i.outline };
+
+    ghost invariant = { λ i. IfSome i.tree (λ t. HoldsEdges i.outline.edges.items (entries_in t)) };
+}
+
+/// A tree over the boxes of edges, where they are many.
+fn tree_of(alloc: Global, edges: &[Edge]) -> Result<Option<RTree>, AllocError>
+    ensures { IfOk result (λ found. IfSome found (λ t. HoldsEdges edges.now (entries_in t))) }
+{
+    if edges.len() <= FEW || edges.len() > u32::MAX as usize {
+        return Ok(None);
+    }
+    let entries = entries_of(alloc, edges)?;
+    let tree = RTree::pack(alloc, entries)?;
+    Ok(Some(tree))
+}
+
+/// How the edges below the root of a tree lie to a point.
+fn scan_of(root: &Node, edges: &[Edge], p: &Place) -> Scan
+    requires { IsTreeOf edges.now root.now }
+    ensures { IsScan edges.now (point_of p.now) result }
+{
+    let none = Scan::empty();
+    scan_node(root, edges, p, none)
+}
+
+impl IndexedOutline {
+    /// Indexes the edges of an outline.
+    pub fn new(alloc: Global, outline: Outline) -> Result<IndexedOutline, AllocError>
+        ensures { IfOk result (λ i. i ≡ outline) }
+    {
+        let tree = tree_of(alloc, &outline.edges)?;
+        Ok(IndexedOutline { outline, tree })
+    }
+
+    /// The outline alone.
+    pub fn outline(&self) -> &Outline
+        ensures { result.now ≡ self.now }
+    {
+        &self.outline
+    }
+
+    /// The edges of the outline.
+    pub fn edges(&self) -> &[Edge]
+        ensures { result.now ≡ self.now.edges.items }
+    {
+        &self.outline.edges
+    }
+
+    /// The root of the tree over the boxes of the edges, or `None` where these are few.
+    pub fn root(&self) -> Option<&Node>
+        ensures { IfSome result (λ n. IsTreeOf self.now.edges.items n.now) }
+    {
+        match &self.tree {
+            Some(tree) => tree.root(),
+            None => None,
+        }
+    }
+
+    /// The part in which a point lies, and the one just above it.
+    pub fn standing_at(&self, p: &Place) -> Standing
+        ensures part { result.part ≡ outline_part self.now (point_of p.now) }
+        ensures above { result.above ≡ outline_above self.now (point_of p.now) }
+    {
+        match self.root() {
+            Some(root) => {
+                let scan = scan_of(root, &self.outline.edges, p);
+                self.outline.standing_by(p, scan)
+            }
+            None => self.outline.standing_at(p),
+        }
+    }
+}

@@ -1,0 +1,12 @@
+//! The outline of a geometry, with a tree over the boxes of its edges by which those near a place
+//! are found.
+#![tactic(auto)]
+
+mod bounds;
+mod entries;
+mod indexed;
+mod scan;
+
+pub use bounds::bounds_of;
+pub use entries::entries_of;
+pub use indexed::IndexedOutline;
