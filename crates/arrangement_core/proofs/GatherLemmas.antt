@@ -229,7 +229,7 @@ along_x e p h = and_second (int_eq (side e p) (pos 0)) _ (and_first (int_eq (sid
 along_y : (e : Edge) (p : Point) → is_on e p ≡ true → is_between e.a.y e.b.y p.w p.y ≡ true
 along_y e p h = and_second (int_eq (side e p) (pos 0) && is_between e.a.x e.b.x p.w p.x) _ h
 
-boxes_meet : (e f : Edge) (p : Point) → 0 < p.w → is_on e p ≡ true → is_on f p ≡ true → do_boxes_meet e f ≡ true
+pub boxes_meet : (e f : Edge) (p : Point) → 0 < p.w → is_on e p ≡ true → is_on f p ≡ true → do_boxes_meet e f ≡ true
 boxes_meet e f p wide he hf =
     and_both (do_overlap e.a.x e.b.x f.a.x f.b.x) (do_overlap e.a.y e.b.y f.a.y f.b.y)
     (overlapping e.a.x e.b.x f.a.x f.b.x p.x p.w wide (along_x e p he) (along_x f p hf))

@@ -20,6 +20,8 @@ pub mod PathLemmas
 pub mod PieceLemmas
 pub mod ReadOffLemmas
 pub mod RingLemmas
+pub mod ShownLemmas
 pub mod SortLemmas
 pub mod TestLemmas
 pub mod TopmostLemmas
+pub mod TurnLemmas

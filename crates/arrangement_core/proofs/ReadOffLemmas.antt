@@ -50,12 +50,12 @@ true_dot : (g h : Figure) (noded : List NodedEdge) (a b : Outline) (p : Point) �
 true_dot g h noded a b p o wide = record { witnessed = (p, wide, in_both g h a b p o) }
 
 -- membership in lists that are made of others
-among_map : {A B : Type 0} (f : A → B) (xs : List A) (y : B) → IsAmong y (map f xs) → (x : A) × IsAmong x xs × (y ≡ f x)
+pub among_map : {A B : Type 0} (f : A → B) (xs : List A) (y : B) → IsAmong y (map f xs) → (x : A) × IsAmong x xs × (y ≡ f x)
 among_map f [] y h = absurd h
 among_map f (x ∷ xs) y (inl e) = (x, inl refl, e)
 among_map f (x ∷ xs) y (inr h) = let k = among_map f xs y h in (k.0, inr k.1, k.2)
 
-map_among : {A B : Type 0} (f : A → B) (xs : List A) (x : A) → IsAmong x xs → IsAmong (f x) (map f xs)
+pub map_among : {A B : Type 0} (f : A → B) (xs : List A) (x : A) → IsAmong x xs → IsAmong (f x) (map f xs)
 map_among f [] x h = absurd h
 map_among f (y ∷ xs) x (inl e) = inl (ap f e)
 map_among f (y ∷ xs) x (inr h) = inr (map_among f xs x h)
@@ -247,14 +247,14 @@ noded_more es vs [] (m ∷ ms) n h k = absurd h
 noded_more es vs (e ∷ done) [] n h k = absurd h
 noded_more es vs (e ∷ done) (m ∷ ms) n h k = (h.0, h.1, noded_more es vs done ms n h.2 k)
 
-pub marked_more : (a b : Outline) (es : List Edge) (vs : List Vertex) (i : ℕ) (e : Edge) (start old new : Matrix) → i < length es → e ≡ get_or es i e
-    → AreMarked a b es vs (take i es) start old → IsEdgeMarked a b es vs e old new → AreMarked a b es vs (take (i + 1) es) start new
-marked_more a b es vs i e start old new lt is h k =
+pub marked_more : (a b : Outline) (es : List Edge) (vs : List Vertex) (ds : List Edge) (i : ℕ) (e : Edge) (start old new : Matrix) → i < length ds → e ≡ get_or ds i e
+    → AreMarked a b es vs (take i ds) start old → IsEdgeMarked a b es vs e old new → AreMarked a b es vs (take (i + 1) ds) start new
+marked_more a b es vs ds i e start old new lt is h k =
     let n : NodedEdge = record { edge = e; nodes = k.nodes } in
-    let row : take (i + 1) es ≡ take i es ++ e ∷ [] = take_more es i e lt ∙ ap (λ (x : Edge). take i es ++ x ∷ []) (sym is) in
+    let row : take (i + 1) ds ≡ take i ds ++ e ∷ [] = take_more ds i e lt ∙ ap (λ (x : Edge). take i ds ++ x ∷ []) (sym is) in
     record {
       noded = h.noded ++ n ∷ [];
-      are_noded = subst (λ (done : List Edge). AreNoded es vs done (h.noded ++ n ∷ [])) (sym row) (noded_more es vs (take i es) h.noded n h.are_noded k.are_nodes);
+      are_noded = subst (λ (done : List Edge). AreNoded es vs done (h.noded ++ n ∷ [])) (sym row) (noded_more es vs (take i ds) h.noded n h.are_noded k.are_nodes);
       grown = grown_as (flat_map (edge_marks a b) h.noded ++ edge_marks a b n) (flat_map (edge_marks a b) (h.noded ++ n ∷ [])) start new
           (sym (flat_map-append (edge_marks a b) h.noded (n ∷ []) ∙ ap (λ (xs : List Mark). flat_map (edge_marks a b) h.noded ++ xs) (append-nil (edge_marks a b n))))
           (grown-trans (flat_map (edge_marks a b) h.noded) (edge_marks a b n) start old new h.grown k.grown);
@@ -263,8 +263,8 @@ marked_more a b es vs i e start old new lt is h k =
 pub marked_none : (a b : Outline) (es : List Edge) (vs : List Vertex) (start : Matrix) → AreMarked a b es vs [] start start
 marked_none a b es vs start = record { noded = []; are_noded = tt; grown = grown-refl start }
 
-pub marked_whole : (a b : Outline) (es : List Edge) (vs : List Vertex) (i : ℕ) (start new : Matrix) → length es ≤ i → AreMarked a b es vs (take i es) start new → AreMarked a b es vs es start new
-marked_whole a b es vs i start new h k = subst (λ (done : List Edge). AreMarked a b es vs done start new) (take_all i es h) k
+pub marked_whole : (a b : Outline) (es : List Edge) (vs : List Vertex) (ds : List Edge) (i : ℕ) (start new : Matrix) → length ds ≤ i → AreMarked a b es vs (take i ds) start new → AreMarked a b es vs ds start new
+marked_whole a b es vs ds i start new h k = subst (λ (done : List Edge). AreMarked a b es vs done start new) (take_all i ds h) k
 
 -- an edge's nodes and gaps
 twice : (f : Point → Mark) (ns : List Node) → map (λ (n : Node). f (node_point n)) ns ≡ map f (map node_point ns)
@@ -285,19 +285,6 @@ edge_marked a b es vs e ns xs old new nodes is h = record {
   are_nodes = subst (λ (l : List Node). AreNodesOf es vs e (map node_point l)) (sym is) nodes;
   grown = h;
 }
-
-pub all_marked : (a b : Outline) (es : List Edge) (vs : List Vertex) (start mid new : Matrix) → es ≡ outline_edges a b → vs ≡ outline_points a b → start ≡ outside
-    → AreMarked a b es vs es start mid → HasGrownBy (map (λ (v : Vertex). mark_at a b Dot (at v)) vs) mid new → IsReadOffBy a b new
-all_marked a b es vs start mid new e f g h k =
-    let he = subst (λ (x : List Edge). AreMarked a b x vs x start mid) e h in
-    let hv = subst (λ (x : List Vertex). AreMarked a b (outline_edges a b) x (outline_edges a b) start mid) f he in
-    let hs = subst (λ (x : Matrix). AreMarked a b (outline_edges a b) (outline_points a b) (outline_edges a b) x mid) g hv in
-    let kv = subst (λ (x : List Vertex). HasGrownBy (map (λ (v : Vertex). mark_at a b Dot (at v)) x) mid new) f k in
-    record {
-      noded = hs.noded;
-      are_noded = hs.are_noded;
-      grown = grown-trans (flat_map (edge_marks a b) hs.noded) (map (λ (v : Vertex). mark_at a b Dot (at v)) (outline_points a b)) outside mid new hs.grown kv;
-    }
 
 -- the outlines' edges and points are the geometries'
 points_by-is : (g : Figure) (o : Outline) → IsOutlineOf g o → points_by o.kind o.ends.items ≡ points_of g

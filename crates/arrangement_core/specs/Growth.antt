@@ -28,6 +28,10 @@ mark_at a b extent p = record { first = outline_part a p; second = outline_part 
 abbrev pub mark_above : Outline → Outline → Point → Mark
 mark_above a b p = record { first = outline_above a p; second = outline_above b p; extent = Area }
 
+-- the same, where the second part is known
+abbrev pub mark_beside : Outline → Part → Point → Mark
+mark_beside a above p = record { first = outline_above a p; second = above; extent = Area }
+
 -- a matrix after marks: it has what it had and what they tell, and nothing else
 pub record HasGrownBy (marks : List Mark) (old new : Matrix) : Type 0 where
   pub kept : (i j : Part) → rank (entry old i j) ≤ rank (entry new i j)
@@ -64,3 +68,11 @@ abbrev pub outside : Matrix
 outside =
     let none : Parts Extent = record { interior = Empty; boundary = Empty; exterior = Empty } in
     record { rows = record { interior = none; boundary = none; exterior = record none { exterior = Area } } }
+
+-- rows as columns
+abbrev pub column : Part → Matrix → Parts Extent
+column j m = record { interior = entry m Interior j; boundary = entry m Boundary j; exterior = entry m Exterior j }
+
+-- the matrix of the same geometries, the second one first
+abbrev pub transposed : Matrix → Matrix
+transposed m = record { rows = record { interior = column Interior m; boundary = column Boundary m; exterior = column Exterior m } }

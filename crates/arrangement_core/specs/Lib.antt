@@ -3,3 +3,4 @@ pub mod Growth
 pub mod Marks
 pub mod Nodes
 pub mod ReadOffs
+pub mod Shown

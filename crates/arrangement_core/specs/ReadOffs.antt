@@ -1,5 +1,5 @@
 -- What the program finds of two geometries by their outlines.
-use Rattle.std.specs.Prelude.{List, [], ◌++◌, map}
+use Rattle.std.specs.Prelude.{List, [], ◌++◌, map, All}
 use Rattle.std.specs.List.{flat_map}
 use Rattle.relation_core.specs.declared.extent.Extent.TheVariants.{Point as Dot}
 use Rattle.relation_core.specs.declared.matrix.Matrix.{Matrix}
@@ -9,10 +9,10 @@ use Rattle.plane_core.specs.declared.outline.Kind.{Kind}
 use Rattle.plane_core.specs.declared.outline.Kind.TheVariants.{Points as Dots, Lines as Polylines, Areas as Rings}
 use Rattle.plane_core.specs.declared.outline.Outline.{Outline}
 use Rattle.plane_core.specs.Points.{Point, at}
-use Rattle.plane_core.specs.Figures.{Figure, IsGeometry}
+use Rattle.plane_core.specs.Figures.{Figure, HasLength, IsGeometry}
 use Rattle.plane_core.specs.Outlines.{IsOutlineOf}
 use Rattle.plane_core.specs.PlaneMatrices.{IsPlaneMatrix}
-use Rattle.arrangement_core.specs.Nodes.{NodedEdge, AreNodesOf, AreNoded}
+use Rattle.arrangement_core.specs.Nodes.{IsAmong, NodedEdge, AreNodesOf, AreNoded}
 use Rattle.arrangement_core.specs.Growth.{mark_at, edge_marks, HasGrownBy, outside}
 
 abbrev pub points_by : Kind → List Vertex → List Vertex
@@ -25,6 +25,17 @@ outline_edges a b = a.edges.items ++ b.edges.items
 
 abbrev pub outline_points : Outline → Outline → List Vertex
 outline_points a b = points_by a.kind a.ends.items ++ points_by b.kind b.ends.items
+
+-- the edges of two geometries, the one or the other first
+pub record AreEdgesOf (own other : Outline) (es : List Edge) : Type 0 where
+  pub long : All HasLength es
+  pub first : (e : Edge) → IsAmong e own.edges.items → IsAmong e es
+  pub second : (e : Edge) → IsAmong e other.edges.items → IsAmong e es
+
+-- an edge of the one
+pub record IsOneOf (own other : Outline) (es : List Edge) (e : Edge) : Type 0 where
+  pub edges : AreEdgesOf own other es
+  pub one : IsAmong e own.edges.items
 
 -- an edge whose nodes, pieces and faces a matrix shows
 pub record IsEdgeMarked (a b : Outline) (es : List Edge) (vs : List Vertex) (e : Edge) (old new : Matrix) : Type 0 where

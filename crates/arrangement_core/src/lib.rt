@@ -2,8 +2,10 @@
 //! the matrix of the two geometries, which can be read off these.
 #![tactic(auto)]
 
+mod entries;
 mod marks;
 mod matrices;
 mod nodes;
+mod shown;
 
 pub use matrices::relate;

@@ -1,130 +1,22 @@
 //! What nodes, pieces of edges and the faces above these show of a matrix.
+//!
+//! The edges are those of one of the two geometries, `own`, and matrices have its parts first. A
+//! place is looked up in the other geometry only where it can still change the matrix.
 
-ghost use Rattle.std.specs.Prelude.{◌≡◌, ◌<◌, [], ◌∷◌, map, length};
+ghost use Rattle.std.specs.Prelude.{◌≡◌, ◌<◌, [], ◌∷◌, map, length, true, All, IsTrue};
 ghost use Rattle.std.specs.List.{slice_index_or};
 ghost use Rattle.relation_core.specs.declared.extent.Extent.TheVariants.{Point as Dot};
 ghost use Rattle.plane_core.specs.Points.{at};
 ghost use Rattle.plane_core.specs.Places.{point_of, node_point};
-ghost use Rattle.plane_core.specs.PlaneMatrices.{pick};
 ghost use Rattle.arrangement_core.specs.Nodes.{NodedEdge};
-ghost use Rattle.arrangement_core.specs.Marks.{rank};
 ghost use Rattle.arrangement_core.specs.Growth.{HasGrownBy, mark_at, gap_marks, gaps_marks, edge_marks};
-ghost use Rattle.arrangement_core.specs.Growth.{piece_marks, with_part, outside};
+ghost use Rattle.arrangement_core.specs.Growth.{mark_beside, piece_marks};
+ghost use Rattle.arrangement_core.specs.Shown.{IsOnEdge, IsUncrossed, AreCuts, IsRepeated, IsGap};
 
+use crate::entries::{column_of, raised, row_of};
+use crate::shown::{all_parts, are_shown, is_piece_shown, part_on_edge, parts_above};
 use plane_core::{Edge, Node, Outline, Part, Place, Vertex};
-use relation_core::{Extent, Matrix, Parts};
-
-/// The matrix of which nothing is known but that the exteriors share an area.
-pub(crate) fn outside() -> Matrix
-    ensures { result ≡ outside }
-{
-    let nothing = Parts {
-        interior: Extent::Empty,
-        boundary: Extent::Empty,
-        exterior: Extent::Empty,
-    };
-    let exterior = Parts {
-        interior: Extent::Empty,
-        boundary: Extent::Empty,
-        exterior: Extent::Area,
-    };
-    Matrix {
-        rows: Parts {
-            interior: nothing,
-            boundary: nothing,
-            exterior,
-        },
-    }
-}
-
-/// The place of an extent in the order of extents.
-fn rank(extent: Extent) -> u8
-    ensures { result ≡ rank extent }
-{
-    match extent {
-        Extent::Empty => 0,
-        Extent::Point => 1,
-        Extent::Line => 2,
-        Extent::Area => 3,
-    }
-}
-
-fn row_of(matrix: &Matrix, part: Part) -> Parts<Extent>
-    ensures { result ≡ pick part matrix.now.rows }
-{
-    match part {
-        Part::Interior => matrix.rows.interior,
-        Part::Boundary => matrix.rows.boundary,
-        Part::Exterior => matrix.rows.exterior,
-    }
-}
-
-fn entry_of(row: &Parts<Extent>, part: Part) -> Extent
-    ensures { result ≡ pick part row.now }
-{
-    match part {
-        Part::Interior => row.interior,
-        Part::Boundary => row.boundary,
-        Part::Exterior => row.exterior,
-    }
-}
-
-/// A row with another entry in a place.
-fn with_entry(row: Parts<Extent>, part: Part, extent: Extent) -> Parts<Extent>
-    ensures { result ≡ with_part part extent row }
-{
-    match part {
-        Part::Interior => Parts {
-            interior: extent,
-            ..row
-        },
-        Part::Boundary => Parts {
-            boundary: extent,
-            ..row
-        },
-        Part::Exterior => Parts {
-            exterior: extent,
-            ..row
-        },
-    }
-}
-
-/// Rows with another row in a place.
-fn with_row(rows: Parts<Parts<Extent>>, part: Part, row: Parts<Extent>) -> Parts<Parts<Extent>>
-    ensures { result ≡ with_part part row rows }
-{
-    match part {
-        Part::Interior => Parts {
-            interior: row,
-            ..rows
-        },
-        Part::Boundary => Parts {
-            boundary: row,
-            ..rows
-        },
-        Part::Exterior => Parts {
-            exterior: row,
-            ..rows
-        },
-    }
-}
-
-/// A matrix with an entry raised to an extent at least.
-fn raised(matrix: Matrix, first: Part, second: Part, extent: Extent) -> Matrix
-    ensures { HasGrownBy (record { first = first; second = second; extent = extent } ∷ []) matrix result }
-{
-    let row = row_of(&matrix, first);
-    let known = entry_of(&row, second);
-    let low = rank(known);
-    let high = rank(extent);
-    if low < high {
-        let changed = with_entry(row, second, extent);
-        let rows = with_row(matrix.rows, first, changed);
-        Matrix { rows }
-    } else {
-        matrix
-    }
-}
+use relation_core::{Extent, Matrix};
 
 /// A matrix that shows the parts in which a point lies.
 fn mark_place(matrix: Matrix, a: &Outline, b: &Outline, p: &Place) -> Matrix
@@ -135,40 +27,73 @@ fn mark_place(matrix: Matrix, a: &Outline, b: &Outline, p: &Place) -> Matrix
     raised(matrix, first.part, second.part, Extent::Point)
 }
 
-/// A matrix that shows the piece of an edge on which a point lies, and the face above it.
-fn mark_piece(matrix: Matrix, a: &Outline, b: &Outline, e: &Edge, p: &Place) -> Matrix
-    ensures { HasGrownBy (piece_marks a.now b.now e.now (point_of p.now)) matrix result }
+/// A matrix that shows the parts in which a point of an edge lies.
+fn mark_node(matrix: Matrix, own: &Outline, other: &Outline, p: &Place) -> Matrix
+    requires { IsOnEdge own.now (point_of p.now) }
+    ensures { HasGrownBy (mark_at own.now other.now Dot (point_of p.now) ∷ []) matrix result }
 {
-    let first = a.standing_at(p);
-    let second = b.standing_at(p);
-    let on = raised(matrix, first.part, second.part, Extent::Line);
+    let part = part_on_edge(own, p);
+    let row = row_of(&matrix, part);
+    if are_shown(&row, &all_parts(other.kind), Extent::Point) {
+        matrix
+    } else {
+        let standing = other.standing_at(p);
+        raised(matrix, part, standing.part, Extent::Point)
+    }
+}
+
+/// A matrix that shows the face above a point, of which the part in the other geometry is known.
+fn mark_above(matrix: Matrix, own: &Outline, above: Part, p: &Place) -> Matrix
+    ensures { HasGrownBy (mark_beside own.now above (point_of p.now) ∷ []) matrix result }
+{
+    let column = column_of(&matrix, above);
+    if are_shown(&column, &parts_above(own.kind), Extent::Area) {
+        matrix
+    } else {
+        let standing = own.standing_at(p);
+        raised(matrix, standing.above, above, Extent::Area)
+    }
+}
+
+/// A matrix that shows the piece of an edge on which a point lies, and the face above it.
+fn place_piece(matrix: Matrix, own: &Outline, other: &Outline, e: &Edge, p: &Place) -> Matrix
+    requires { IsOnEdge own.now (point_of p.now) }
+    ensures { HasGrownBy (piece_marks own.now other.now e.now (point_of p.now)) matrix result }
+{
+    let part = part_on_edge(own, p);
+    let standing = other.standing_at(p);
+    let on = raised(matrix, part, standing.part, Extent::Line);
     if e.is_vertical() {
         on
     } else {
-        raised(on, first.above, second.above, Extent::Area)
+        mark_above(on, own, standing.above, p)
+    }
+}
+
+/// A matrix that shows the piece of an edge on which a point lies, and the face above it: as it is,
+/// if it shows all that these can be.
+fn mark_piece(matrix: Matrix, own: &Outline, other: &Outline, e: &Edge, p: &Place) -> Matrix
+    requires on { IsOnEdge own.now (point_of p.now) }
+    requires uncrossed { IsUncrossed other.now e.now (point_of p.now) }
+    ensures { HasGrownBy (piece_marks own.now other.now e.now (point_of p.now)) matrix result }
+{
+    if is_piece_shown(&matrix, own, other, e, p) {
+        matrix
+    } else {
+        place_piece(matrix, own, other, e, p)
     }
 }
 
 /// A matrix that shows the piece of an edge between two of its points, where these differ.
-fn mark_gap(matrix: Matrix, a: &Outline, b: &Outline, e: &Edge, k: &Node, l: &Node) -> Matrix
-    ensures { HasGrownBy (gap_marks a.now b.now e.now (node_point k.now) (node_point l.now)) matrix result }
+fn mark_gap(matrix: Matrix, own: &Outline, other: &Outline, e: &Edge, k: &Node, l: &Node) -> Matrix
+    requires { IsGap own.now other.now e.now (node_point k.now) (node_point l.now) }
+    ensures { HasGrownBy (gap_marks own.now other.now e.now (node_point k.now) (node_point l.now)) matrix result }
 {
     if k.compare(l).is_lt() {
-        mark_piece(matrix, a, b, e, &k.middle(l))
+        mark_piece(matrix, own, other, e, &k.middle(l))
     } else {
         matrix
     }
-}
-
-/// A matrix that shows nodes.
-fn mark_nodes(matrix: Matrix, a: &Outline, b: &Outline, nodes: &[Node]) -> Matrix
-    ensures { HasGrownBy (map (λ n. mark_at a.now b.now Dot (node_point n)) nodes.now) matrix result }
-{
-    let mut grown = matrix;
-    for node in nodes {
-        grown = mark_place(grown, a, b, &node.place);
-    }
-    grown
 }
 
 fn node_at(nodes: &[Node], i: usize) -> Node
@@ -178,15 +103,45 @@ fn node_at(nodes: &[Node], i: usize) -> Node
     nodes[i]
 }
 
+/// Whether a node has the place of the one before it.
+fn is_repeated(nodes: &[Node], i: usize) -> bool
+    requires { i < length nodes.now }
+    ensures { IsTrue result → IsRepeated nodes.now i }
+{
+    if i == 0 {
+        false
+    } else {
+        let k = node_at(nodes, i - 1);
+        let l = node_at(nodes, i);
+        k.compare(&l).is_eq()
+    }
+}
+
+/// A matrix that shows the nodes of an edge.
+fn mark_nodes(matrix: Matrix, own: &Outline, other: &Outline, nodes: &[Node]) -> Matrix
+    requires { All (λ n. IsOnEdge own.now (node_point n)) nodes.now }
+    ensures { HasGrownBy (map (λ n. mark_at own.now other.now Dot (node_point n)) nodes.now) matrix result }
+{
+    let mut grown = matrix;
+    for i in 0..nodes.len() {
+        if !is_repeated(nodes, i) {
+            let node = node_at(nodes, i);
+            grown = mark_node(grown, own, other, &node.place);
+        }
+    }
+    grown
+}
+
 /// A matrix that shows the pieces of an edge between its nodes, and the faces above these.
-fn mark_gaps(matrix: Matrix, a: &Outline, b: &Outline, e: &Edge, nodes: &[Node]) -> Matrix
-    ensures { HasGrownBy (gaps_marks a.now b.now e.now (map node_point nodes.now)) matrix result }
+fn mark_gaps(matrix: Matrix, own: &Outline, other: &Outline, e: &Edge, nodes: &[Node]) -> Matrix
+    requires { AreCuts own.now other.now e.now (map node_point nodes.now) }
+    ensures { HasGrownBy (gaps_marks own.now other.now e.now (map node_point nodes.now)) matrix result }
 {
     let mut grown = matrix;
     for i in 1..nodes.len() {
         let k = node_at(nodes, i - 1);
         let l = node_at(nodes, i);
-        grown = mark_gap(grown, a, b, e, &k, &l);
+        grown = mark_gap(grown, own, other, e, &k, &l);
     }
     grown
 }
@@ -202,17 +157,19 @@ pub(crate) fn mark_points(matrix: Matrix, a: &Outline, b: &Outline, points: &[Ve
     grown
 }
 
-/// A matrix that shows an edge by its nodes: these, its pieces, and the faces above these.
+/// A matrix that shows an edge of the first geometry by its nodes: these, its pieces, and the faces
+/// above these.
 pub(crate) fn mark_noded(
     matrix: Matrix,
-    a: &Outline,
-    b: &Outline,
+    own: &Outline,
+    other: &Outline,
     e: &Edge,
     nodes: &[Node],
 ) -> Matrix
+    requires { AreCuts own.now other.now e.now (map node_point nodes.now) }
     ensures { let noded : NodedEdge = record { edge = e.now; nodes = map node_point nodes.now } in
-        HasGrownBy (edge_marks a.now b.now noded) matrix result }
+        HasGrownBy (edge_marks own.now other.now noded) matrix result }
 {
-    let with_nodes = mark_nodes(matrix, a, b, nodes);
-    mark_gaps(with_nodes, a, b, e, nodes)
+    let with_nodes = mark_nodes(matrix, own, other, nodes);
+    mark_gaps(with_nodes, own, other, e, nodes)
 }

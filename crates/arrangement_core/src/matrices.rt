@@ -4,9 +4,10 @@ ghost use Rattle.std.specs.Prelude.{◌≡◌, ◌++◌, All, OnOk, IfOk};
 ghost use Rattle.plane_core.specs.Figures.{HasLength};
 ghost use Rattle.plane_core.specs.PlaneMatrices.{IsPlaneMatrix};
 ghost use Rattle.arrangement_core.specs.ReadOffs.{points_by, outline_edges, outline_points};
-ghost use Rattle.arrangement_core.specs.ReadOffs.{IsEdgeMarked, AreMarked, IsReadOffBy, IsMatrixOf};
+ghost use Rattle.arrangement_core.specs.ReadOffs.{AreEdgesOf, IsOneOf, IsEdgeMarked, AreMarked, IsReadOffBy, IsMatrixOf};
 
-use crate::marks::{mark_noded, mark_points, outside};
+use crate::entries::{outside, transposed};
+use crate::marks::{mark_noded, mark_points};
 use crate::nodes::nodes_of;
 use plane_core::{Edge, Geometry, Kind, Outline, Vertex};
 use relation_core::Matrix;
@@ -45,38 +46,41 @@ fn all_points(alloc: Global, a: &Outline, b: &Outline) -> Result<Vec<Vertex>, Al
     Ok(points)
 }
 
-/// A matrix that shows an edge: its nodes, its pieces, and the faces above these.
+/// A matrix that shows an edge of the first geometry: its nodes, its pieces, and the faces above
+/// these.
 fn mark_edge(
     alloc: Global,
     matrix: Matrix,
-    a: &Outline,
-    b: &Outline,
+    own: &Outline,
+    other: &Outline,
     e: &Edge,
     edges: &[Edge],
     points: &[Vertex],
 ) -> Result<Matrix, AllocError>
-    requires { HasLength e.now }
-    ensures { IfOk result (λ m. IsEdgeMarked a.now b.now edges.now points.now e.now matrix m) }
+    requires { IsOneOf own.now other.now edges.now e.now }
+    ensures { IfOk result (λ m. IsEdgeMarked own.now other.now edges.now points.now e.now matrix m) }
 {
     let nodes = nodes_of(alloc, e, edges, points)?;
-    Ok(mark_noded(matrix, a, b, e, &nodes))
+    Ok(mark_noded(matrix, own, other, e, &nodes))
 }
 
-/// A matrix that shows all edges.
+/// A matrix that shows all edges of the first geometry.
 fn mark_edges(
     alloc: Global,
     matrix: Matrix,
-    a: &Outline,
-    b: &Outline,
+    own: &Outline,
+    other: &Outline,
     edges: &[Edge],
     points: &[Vertex],
 ) -> Result<Matrix, AllocError>
-    requires { All HasLength edges.now }
-    ensures { IfOk result (λ m. AreMarked a.now b.now edges.now points.now edges.now matrix m) }
+    requires { AreEdgesOf own.now other.now edges.now }
+    ensures { let marked = AreMarked own.now other.now edges.now points.now own.now.edges.items in
+        IfOk result (λ m. marked matrix m) }
 {
     let mut grown = matrix;
-    for e in edges {
-        grown = mark_edge(alloc, grown, a, b, e, edges, points)?;
+    let own_edges = own.edges.as_slice();
+    for e in own_edges {
+        grown = mark_edge(alloc, grown, own, other, e, edges, points)?;
     }
     Ok(grown)
 }
@@ -91,7 +95,10 @@ fn read_off(alloc: Global, a: &Outline, b: &Outline) -> Result<Matrix, AllocErro
     let edges = edge_list.as_slice();
     let points = point_list.as_slice();
     let start = outside();
-    let marked = mark_edges(alloc, start, a, b, edges, points)?;
+    let first = mark_edges(alloc, start, a, b, edges, points)?;
+    let turned = transposed(&first);
+    let second = mark_edges(alloc, turned, b, a, edges, points)?;
+    let marked = transposed(&second);
     Ok(mark_points(marked, a, b, points))
 }
 

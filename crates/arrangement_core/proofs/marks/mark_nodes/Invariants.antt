@@ -4,5 +4,5 @@ use Rattle.plane_core.specs.Places.{node_point}
 use Rattle.arrangement_core.specs.Growth.{HasGrownBy, mark_at}
 use Rattle.arrangement_core.proofs.marks.mark_nodes.Given as goal
 
-abbrev pub invariant-loop-node : goal.invariant-loop-node
-invariant-loop-node l = HasGrownBy (map (λ n. mark_at l.a l.b Dot (node_point n)) (take l.node-index l.nodes)) l.fn.matrix l.grown
+abbrev pub invariant-loop-i : goal.invariant-loop-i
+invariant-loop-i l = HasGrownBy (map (λ n. mark_at l.own l.other Dot (node_point n)) (take l.i l.nodes)) l.fn.matrix l.grown

@@ -1,5 +1,5 @@
 use Rattle.arrangement_core.proofs.GrowthLemmas.{raised_then, raised_else}
-use Rattle.arrangement_core.proofs.marks.raised.Goals as goal
+use Rattle.arrangement_core.proofs.entries.raised.Goals as goal
 
 pub returns-then-low-high : goal.returns-then-low-high
 returns-then-low-high c =

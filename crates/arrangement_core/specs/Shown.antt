@@ -1,0 +1,95 @@
+-- What a place can add to a matrix, by the parts in which it may lie.
+use Rattle.std.specs.Prelude.{◌≡◌, ◌≢◌, ℕ, ◌≤◌, ◌<◌, ◌-◌, pos, Bool, true, false, ◌&&◌, not, List, All, count_by}
+use Rattle.std.specs.Ordering.{int_eq, is_lt}
+use Rattle.std.specs.List.{list_any, slice_index_or}
+use Rattle.relation_core.specs.declared.extent.Extent.{Extent}
+use Rattle.relation_core.specs.declared.part.Parts.{Parts}
+use Rattle.relation_core.specs.declared.matrix.Matrix.{Matrix}
+use Rattle.plane_core.specs.declared.part.Part.{Part}
+use Rattle.plane_core.specs.declared.edge.Edge.{Edge}
+use Rattle.plane_core.specs.declared.node.Node.{Node}
+use Rattle.plane_core.specs.declared.outline.Kind.{Kind}
+use Rattle.plane_core.specs.declared.outline.Kind.TheVariants.{Points as Dots, Lines as Polylines, Areas as Rings}
+use Rattle.plane_core.specs.declared.outline.Outline.{Outline}
+use Rattle.plane_core.specs.Boxes.{do_boxes_meet}
+use Rattle.plane_core.specs.Points.{Point, at, run, is_on, is_at, side, turn_of, IsSamePlace}
+use Rattle.plane_core.specs.Places.{node_point, place_order}
+use Rattle.plane_core.specs.Figures.{HasLength, is_odd}
+use Rattle.plane_core.specs.PlaneMatrices.{pick, entry}
+use Rattle.arrangement_core.specs.Nodes.{IsAmong, IsPlaceOf, IsPointOf, Ascend, middle}
+use Rattle.arrangement_core.specs.Marks.{rank}
+
+-- each entry of a row at these parts has an extent, or a greater one
+abbrev pub AreShown : Parts Extent → Parts Bool → Extent → Type 0
+AreShown row parts x = (j : Part) → pick j parts ≡ true → rank x ≤ rank (pick j row)
+
+-- the parts that a geometry of a kind has
+abbrev pub all_parts : Kind → Parts Bool
+all_parts Dots = record { interior = true; boundary = false; exterior = true }
+all_parts Polylines = record { interior = true; boundary = true; exterior = true }
+all_parts Rings = record { interior = true; boundary = true; exterior = true }
+
+-- the parts that can lie just above a point
+abbrev pub parts_above : Kind → Parts Bool
+parts_above Dots = record { interior = false; boundary = false; exterior = true }
+parts_above Polylines = record { interior = false; boundary = false; exterior = true }
+parts_above Rings = record { interior = true; boundary = false; exterior = true }
+
+abbrev pub is_odd_end : Outline → Point → Bool
+is_odd_end o p = is_odd (count_by (λ v. is_at v p) o.ends.items)
+
+-- the parts in which a point that is on no edge may lie
+abbrev pub rest_by : Kind → Bool → Parts Bool
+rest_by Dots odd = record { interior = true; boundary = false; exterior = true }
+rest_by Polylines odd = record { interior = false; boundary = odd; exterior = not odd }
+rest_by Rings odd = record { interior = true; boundary = false; exterior = true }
+
+abbrev pub rest_parts : Outline → Point → Parts Bool
+rest_parts o p = rest_by o.kind (is_odd_end o p)
+
+-- the point is on an edge of the geometry
+abbrev pub IsOnEdge : Outline → Point → Type 0
+IsOnEdge o p = list_any (λ e. is_on e p) o.edges.items ≡ true
+
+-- edges of one line, whose boxes meet
+abbrev pub is_along : Edge → Edge → Bool
+is_along e f = do_boxes_meet e f && (int_eq (turn_of e f) (pos 0) && int_eq (side e (at f.a)) (pos 0))
+
+-- a point of an edge that is on no edge of the other geometry but on those along the same line
+pub record IsUncrossed (other : Outline) (e : Edge) (p : Point) : Type 0 where
+  pub on : is_on e p ≡ true
+  pub along : (f : Edge) → IsAmong f other.edges.items → is_on f p ≡ true → is_along e f ≡ true
+
+-- nodes of an edge of a geometry in order, those among them where it meets an edge of the other one
+pub record AreCuts (own other : Outline) (e : Edge) (ns : List Point) : Type 0 where
+  pub one : IsAmong e own.edges.items
+  pub long : HasLength e
+  pub others_long : (f : Edge) → IsAmong f other.edges.items → HasLength f
+  pub points : All (IsPointOf e) ns
+  pub ascend : Ascend ns
+  pub meetings : (f : Edge) (p : Point) → IsAmong f other.edges.items → 0 < p.w → is_on e p ≡ true → is_on f p ≡ true
+      → turn_of e f ≢ pos 0 → IsPlaceOf p ns
+
+-- the parts that can lie just above a point share areas, whichever they are
+abbrev pub AreFacesShown : Matrix → Kind → Kind → Type 0
+AreFacesShown m own other =
+    (i j : Part) → pick i (parts_above own) ≡ true → pick j (parts_above other) ≡ true → 3 ≤ rank (entry m i j)
+
+-- or nothing lies above the edge, as it is vertical
+abbrev pub IsFaceShown : Matrix → Kind → Kind → Edge → Type 0
+IsFaceShown m own other e = run e ≢ pos 0 → AreFacesShown m own other
+
+-- a node at the place of the one before it
+pub record IsRepeated (ns : List Node) (i : ℕ) : Type 0 where
+  pub later : 0 < i
+  pub before : Node
+  pub here : Node
+  pub before_is : before ≡ slice_index_or ns (i - 1) before
+  pub here_is : here ≡ slice_index_or ns i here
+  pub same : IsSamePlace (node_point before) (node_point here)
+
+-- where two nodes differ, the middle between them is on an edge of the one geometry, and the edge
+-- crosses none of the other there
+pub record IsGap (own other : Outline) (e : Edge) (k l : Point) : Type 0 where
+  pub on : is_lt (place_order k l) ≡ true → IsOnEdge own (middle k l)
+  pub uncrossed : is_lt (place_order k l) ≡ true → IsUncrossed other e (middle k l)

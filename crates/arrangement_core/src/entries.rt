@@ -1,0 +1,146 @@
+//! The entries of a matrix that grows.
+
+ghost use Rattle.std.specs.Prelude.{◌≡◌, [], ◌∷◌};
+ghost use Rattle.plane_core.specs.PlaneMatrices.{pick, entry};
+ghost use Rattle.arrangement_core.specs.Marks.{rank};
+ghost use Rattle.arrangement_core.specs.Growth.{HasGrownBy, with_part, outside, transposed};
+
+use plane_core::Part;
+use relation_core::{Extent, Matrix, Parts};
+
+/// The matrix of which nothing is known but that the exteriors share an area.
+pub(crate) fn outside() -> Matrix
+    ensures { result ≡ outside }
+{
+    let nothing = Parts {
+        interior: Extent::Empty,
+        boundary: Extent::Empty,
+        exterior: Extent::Empty,
+    };
+    let exterior = Parts {
+        interior: Extent::Empty,
+        boundary: Extent::Empty,
+        exterior: Extent::Area,
+    };
+    Matrix {
+        rows: Parts {
+            interior: nothing,
+            boundary: nothing,
+            exterior,
+        },
+    }
+}
+
+/// The place of an extent in the order of extents.
+pub(crate) fn rank(extent: Extent) -> u8
+    ensures { result ≡ rank extent }
+{
+    match extent {
+        Extent::Empty => 0,
+        Extent::Point => 1,
+        Extent::Line => 2,
+        Extent::Area => 3,
+    }
+}
+
+/// What a part of the first geometry shares with the parts of the second.
+pub(crate) fn row_of(matrix: &Matrix, part: Part) -> Parts<Extent>
+    ensures { result ≡ pick part matrix.now.rows }
+{
+    match part {
+        Part::Interior => matrix.rows.interior,
+        Part::Boundary => matrix.rows.boundary,
+        Part::Exterior => matrix.rows.exterior,
+    }
+}
+
+fn entry_of(row: &Parts<Extent>, part: Part) -> Extent
+    ensures { result ≡ pick part row.now }
+{
+    match part {
+        Part::Interior => row.interior,
+        Part::Boundary => row.boundary,
+        Part::Exterior => row.exterior,
+    }
+}
+
+/// What a part of the second geometry shares with the parts of the first.
+pub(crate) fn column_of(matrix: &Matrix, part: Part) -> Parts<Extent>
+    ensures { result ≡ pick part (transposed matrix.now).rows }
+{
+    Parts {
+        interior: entry_of(&matrix.rows.interior, part),
+        boundary: entry_of(&matrix.rows.boundary, part),
+        exterior: entry_of(&matrix.rows.exterior, part),
+    }
+}
+
+/// The matrix of the same geometries, the second one first.
+pub(crate) fn transposed(matrix: &Matrix) -> Matrix
+    ensures { result ≡ transposed matrix.now }
+{
+    Matrix {
+        rows: Parts {
+            interior: column_of(matrix, Part::Interior),
+            boundary: column_of(matrix, Part::Boundary),
+            exterior: column_of(matrix, Part::Exterior),
+        },
+    }
+}
+
+/// A row with another entry in a place.
+fn with_entry(row: Parts<Extent>, part: Part, extent: Extent) -> Parts<Extent>
+    ensures { result ≡ with_part part extent row }
+{
+    match part {
+        Part::Interior => Parts {
+            interior: extent,
+            ..row
+        },
+        Part::Boundary => Parts {
+            boundary: extent,
+            ..row
+        },
+        Part::Exterior => Parts {
+            exterior: extent,
+            ..row
+        },
+    }
+}
+
+/// Rows with another row in a place.
+fn with_row(rows: Parts<Parts<Extent>>, part: Part, row: Parts<Extent>) -> Parts<Parts<Extent>>
+    ensures { result ≡ with_part part row rows }
+{
+    match part {
+        Part::Interior => Parts {
+            interior: row,
+            ..rows
+        },
+        Part::Boundary => Parts {
+            boundary: row,
+            ..rows
+        },
+        Part::Exterior => Parts {
+            exterior: row,
+            ..rows
+        },
+    }
+}
+
+/// A matrix with an entry raised to an extent at least.
+pub(crate) fn raised(matrix: Matrix, first: Part, second: Part, extent: Extent) -> Matrix
+    ensures { HasGrownBy (record { first = first; second = second; extent = extent } ∷ []) matrix result }
+{
+    let row = row_of(&matrix, first);
+    let known = entry_of(&row, second);
+    let low = rank(known);
+    let high = rank(extent);
+    if low < high {
+        let changed = with_entry(row, second, extent);
+        let rows = with_row(matrix.rows, first, changed);
+        Matrix { rows }
+    } else {
+        matrix
+    }
+}
