@@ -9,6 +9,7 @@ set -u
 export PATH=/usr/bin:/bin:$PATH
 root=$(cd "$(dirname "${BASH_SOURCE[0]}")/.." && pwd)
 here=$root/python
+reference=$root/crates/plane_tests/reference
 python=${PYTHON:-/usr/bin/python3}
 work=$(mktemp -d)
 trap 'rm -rf "$work"' EXIT
@@ -64,7 +65,7 @@ install() {
 types() { # a name and files, for mypy
     local name=$1
     shift
-    MYPYPATH=$here/src:$here/tests:$root/bench:$root/packaging:$root/tools tool "types of $name" \
+    MYPYPATH=$here/src:$here/tests:$root/bench:$root/packaging:$root/tools:$reference tool "types of $name" \
         mypy --config-file "$here/pyproject.toml" --cache-dir "$work/mypy" --scripts-are-modules "$@"
 }
 
@@ -113,7 +114,7 @@ for folder in src "${folders[@]##*/}"; do
 done
 tool style flake8 --max-line-length 100 --extend-ignore E203 "$here/src" "${folders[@]}"
 all=()
-for folder in bench check packaging tools; do
+for folder in bench check crates/plane_tests/reference packaging tools; do
     mapfile -t files < <(scripts "$folder")
     types "the scripts in $folder" "${files[@]}"
     all+=("${files[@]}")

@@ -1,0 +1,46 @@
+//! A line that holds two geometries, with a tab between.
+
+use arrangement_core::relate;
+use plane_core::Geometry;
+use std::alloc::{AllocError, Global};
+use wkt_any_core::{Rings, read};
+use wkt_core::Scale;
+
+/// Two geometries.
+#[derive(Drop)]
+pub(crate) struct Pair {
+    first: Geometry,
+    second: Geometry,
+}
+
+/// The geometry of a text by the even-odd rule, in whole units.
+fn geometry(alloc: Global, text: &str) -> Result<Option<Geometry>, AllocError> {
+    let Some(scale) = Scale::new(0) else {
+        return Ok(None);
+    };
+    match read(alloc, text.as_bytes(), scale, Rings::EvenOdd)? {
+        Ok(geometry) => Ok(Some(geometry)),
+        Err(_) => Ok(None),
+    }
+}
+
+impl Pair {
+    /// The pair of a line, or `None` where it holds none.
+    pub(crate) fn read(alloc: Global, line: &str) -> Result<Option<Pair>, AllocError> {
+        let Some((first, second)) = line.split_once('\t') else {
+            return Ok(None);
+        };
+        let Some(first) = geometry(alloc, first)? else {
+            return Ok(None);
+        };
+        let Some(second) = geometry(alloc, second)? else {
+            return Ok(None);
+        };
+        Ok(Some(Pair { first, second }))
+    }
+
+    /// The nine letters of its matrix.
+    pub(crate) fn letters(&self, alloc: Global) -> Result<[u8; 9], AllocError> {
+        Ok(relate(alloc, &self.first, &self.second)?.text())
+    }
+}
