@@ -5,8 +5,6 @@ pub mod Collectors
 pub mod Draws
 pub mod Limits
 pub mod Marks
-pub mod OptionTexts
-pub mod Options
 pub mod OutletCalls
 pub mod OutletRule
 pub mod OutletSteps

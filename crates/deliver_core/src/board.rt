@@ -5,7 +5,7 @@ ghost use Rattle.std.specs.Prelude.{Any, None, IfSome, IfNone, IfOk, map, replic
 ghost use Rattle.std.specs.Prelude.{flat_map};
 ghost use Rattle.deliver_core.specs.Draws.{AreNumbersBelow};
 ghost use Rattle.deliver_core.specs.BoardRule.{ObeysRule};
-ghost use Rattle.deliver_core.specs.Limits.{most_workers};
+ghost use Rattle.options_core.specs.Limits.{most_workers};
 ghost use Rattle.deliver_core.specs.declared.board.rule.SeatView.{SeatView};
 
 mod rule;
@@ -43,7 +43,7 @@ impl Board {
     ghost use Rattle.deliver_core.specs.Boards.{fresh_seat, spent_seat, size_of, IsSeatOf};
     ghost use Rattle.deliver_core.specs.Boards.{IsAfterNumber, IsAfterEnd, IsDraw};
 
-    /// A board of this many tasks, and its seats, at most [`crate::MAX_WORKERS`], none of which has
+    /// A board of this many tasks, and its seats, at most [`options_core::MAX_WORKERS`], none of which has
     /// drawn.
     pub fn new(alloc: Global, tasks: u32, seats: u32) -> Result<(Board, Vec<BoardSeat>), AllocError>
         requires { (1 ≤ seats) × (seats ≤ most_workers) }

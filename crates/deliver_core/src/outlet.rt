@@ -1,6 +1,5 @@
 //! The outlet: one bounded queue by which the messages of every port reach the tap.
 
-use crate::limits::MAX_WAITING;
 use crate::message::{Body, Message};
 use crate::pass_view::{InOrder, Make, Meet, PassView, Put, Take};
 use crate::port::Port;
@@ -9,6 +8,9 @@ use crossbeam_queue::{Pass, RuledArrayQueue};
 use std::alloc::{AllocError, Global};
 use std::sync::Wait;
 use std::thread;
+
+/// How many messages may wait in an outlet.
+pub const MAX_WAITING: usize = 64;
 
 type Queue = RuledArrayQueue<Message, PassView, InOrder>;
 
@@ -27,7 +29,7 @@ impl Outlet {
     ghost use mathlib.Core.List.{IsPrefix};
     ghost use Rattle.crossbeam_queue.specs.Passes.{view, IsPassOf, IsSamePass};
     ghost use Rattle.deliver_core.specs.Byes.{has_bye};
-    ghost use Rattle.deliver_core.specs.Limits.{most_waiting, most_workers};
+    ghost use Rattle.deliver_core.specs.Limits.{most_waiting};
     ghost use Rattle.deliver_core.specs.OutletCalls.{IsFreshPort, IsFreshTap, IsOpenPort};
     ghost use Rattle.deliver_core.specs.OutletCalls.{IsEndedPort, IsForPort, bye_of, IsAfterTaking};
     ghost use Rattle.deliver_core.specs.OutletCalls.{IsAfterNothing, IsSameTap, IsSpentPort};
@@ -38,6 +40,7 @@ impl Outlet {
     ghost use Rattle.deliver_core.specs.PassViews.{sender_of, is_receiver, sent_of};
     ghost use Rattle.deliver_core.specs.Ports.{index_of, is_spent, sent_by, taken_by, met_by};
     ghost use Rattle.deliver_core.specs.Ports.{port_count, room_of, IsTapOf};
+    ghost use Rattle.options_core.specs.Limits.{most_workers};
 
     /// An outlet, in which [`MAX_WAITING`] messages may wait, its ports, in the order of their
     /// indexes, and its tap. It fails only where memory runs out.

@@ -3,7 +3,8 @@
 ghost use Rattle.std.specs.Prelude.{◌≡◌, ◌≤◌, length, replicate, All, IfOk};
 ghost use Rattle.deliver_core.specs.Boards.{IsSeatOf, fresh_seat};
 
-use deliver_core::{Board, BoardSeat, MAX_WORKERS, draws_law};
+use deliver_core::{Board, BoardSeat, draws_law};
+use options_core::MAX_WORKERS;
 use std::alloc::{AllocError, Global};
 use std::test::Fail;
 use std::thread;

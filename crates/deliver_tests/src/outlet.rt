@@ -5,7 +5,8 @@ ghost use Rattle.deliver_core.specs.Byes.{is_bye};
 ghost use Rattle.deliver_core.specs.OutletCalls.{IsFreshPort, IsEndedPort};
 ghost use Rattle.deliver_core.specs.Ports.{IsTapOf};
 
-use deliver_core::{Body, MAX_WORKERS, Message, Outlet, Port, Tap, outlet_law};
+use deliver_core::{Body, Message, Outlet, Port, Tap, outlet_law};
+use options_core::MAX_WORKERS;
 use std::alloc::{AllocError, Global};
 use std::process::Abort;
 use std::sync::Wait;

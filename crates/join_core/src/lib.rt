@@ -15,12 +15,13 @@ mod text;
 mod window;
 
 pub use bounds::run_bounds;
-pub use deliver_core::{MAX_BATCH, MAX_CUT, MAX_WORKERS, OptionFault, Options, Outcome};
+pub use deliver_core::Outcome;
 pub use draw_core::MAX_DRAWN;
 pub use fault::{Input, RunFault};
 pub use fault_text::fault_line;
 pub use joins::{JoinSources, apply_edits, join, run_draw, run_join};
 pub use layer_run::DEFAULT_WORKERS;
+pub use options_core::{MAX_BATCH, MAX_CUT, MAX_WORKERS, OptionFault, Options};
 pub use parallel_core::{Gate, JoinFault, OpenGate};
 pub use relate::{matrix_line, run_relate};
 pub use report_core::{

@@ -14,7 +14,6 @@ mod shared;
 mod team;
 mod working;
 
-pub use deliver_core::{MAX_BATCH, MAX_WORKERS};
 pub use delivery::run_workers;
 pub use fault::JoinFault;
 pub use gate::{Gate, OpenGate};

@@ -2,7 +2,8 @@
 
 use crate::teams::{are_twenty, sees};
 use descent_core::Plan;
-use parallel_core::{Gate, MAX_WORKERS, Rows, run_workers};
+use options_core::MAX_WORKERS;
+use parallel_core::{Gate, Rows, run_workers};
 use relation_core::{JoinRelation, Relation};
 use rtree_core::RTree;
 use std::alloc::{AllocError, Global};

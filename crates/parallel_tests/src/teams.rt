@@ -2,7 +2,8 @@
 
 use deliver_core::{Mark, Outcome};
 use descent_core::Plan;
-use parallel_core::{Gate, MAX_BATCH, MAX_WORKERS, OpenGate, run_workers};
+use options_core::{MAX_BATCH, MAX_WORKERS};
+use parallel_core::{Gate, OpenGate, run_workers};
 use relation_core::{JoinRelation, Relation};
 use rtree_core::RTree;
 use std::alloc::Global;

@@ -16,10 +16,10 @@ use Rattle.clap.specs.declared.builder.value_parser.ValueParser.TheVariants.{Uns
 use Rattle.clap.specs.declared.parser.matches.ArgMatches.{ArgMatches}
 use Rattle.clap.proofs.ValueTestLemmas.{accepts-Accepts, Accepts-accepts}
 use Rattle.clap.proofs.WalkLemmas.{first_value-rows, one_text-rows}
-use Rattle.deliver_core.specs.Options.{workers_of, batch_of, cut_of, AreWorkers, IsBatch, IsCut}
-use Rattle.deliver_core.specs.declared.options.Options.{Options}
-use Rattle.deliver_core.specs.declared.options.OptionFault.{OptionFault}
-use Rattle.deliver_core.specs.declared.options.OptionFault.TheVariants as range
+use Rattle.options_core.specs.Options.{workers_of, batch_of, cut_of, AreWorkers, IsBatch, IsCut}
+use Rattle.options_core.specs.declared.options.Options.{Options}
+use Rattle.options_core.specs.declared.options.OptionFault.{OptionFault}
+use Rattle.options_core.specs.declared.options.OptionFault.TheVariants as range
 use Rattle.relation_core.specs.JoinRelations.{relation_of}
 use Rattle.relation_core.specs.Masks.{HasBadLetter}
 use Rattle.relation_core.specs.Relations.{Spells, SpellsNothing}

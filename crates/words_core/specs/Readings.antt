@@ -26,9 +26,9 @@ use Rattle.relation_core.specs.declared.relation.Relation.{Relation}
 use Rattle.wkt_core.specs.ScaleLimits.{most_digits}
 use Rattle.wkt_core.specs.Scales.{digits_of}
 use Rattle.wkt_core.specs.declared.scale.Scale.{Scale}
-use Rattle.deliver_core.specs.Options.{workers_of, batch_of, cut_of, AreWorkers, IsBatch, IsCut}
-use Rattle.deliver_core.specs.declared.options.Options.{Options}
-use Rattle.deliver_core.specs.declared.options.OptionFault.TheVariants as range
+use Rattle.options_core.specs.Options.{workers_of, batch_of, cut_of, AreWorkers, IsBatch, IsCut}
+use Rattle.options_core.specs.declared.options.Options.{Options}
+use Rattle.options_core.specs.declared.options.OptionFault.TheVariants as range
 use Rattle.words_core.specs.Usage.{program_usage}
 use Rattle.wkt_any_core.specs.declared.rings.Rings.{Rings}
 use Rattle.wkt_any_core.specs.declared.rings.Rings.TheVariants.{Proper, EvenOdd}

@@ -20,7 +20,7 @@ use crate::hint::nearest_relation;
 use crate::standard_input::is_standard_input;
 use crate::words::{Command, Geometries, JoinRequest, RelateRequest, WordFault};
 use clap::ArgMatches;
-use deliver_core::Options;
+use options_core::Options;
 use relation_core::{JoinRelation, MaskFault, Relation};
 use std::alloc::{AllocError, Global};
 use wkt_any_core::Rings;

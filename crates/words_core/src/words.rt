@@ -8,7 +8,7 @@ ghost use Rattle.words_core.specs.declared.words.WordFault.TheVariants as word_f
 use crate::reading::read_command;
 use crate::usage::usage;
 use clap::error::ErrorKind;
-use deliver_core::{OptionFault, Options};
+use options_core::{OptionFault, Options};
 use relation_core::{AllowsDisjoint, JoinRelation, MaskFault};
 use std::alloc::{AllocError, Global};
 use thiserror::Error;

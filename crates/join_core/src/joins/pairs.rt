@@ -3,13 +3,14 @@
 ghost use Rattle.std.specs.Prelude.{IfOk, IfErr};
 ghost use Rattle.relation_core.specs.JoinRelations.{relation_of};
 ghost use Rattle.descent_core.specs.Plans.{IsPlan};
-ghost use Rattle.deliver_core.specs.Options.{batch_of, cut_of};
+ghost use Rattle.options_core.specs.Options.{batch_of, cut_of};
 ghost use Rattle.parallel_core.specs.Faults.{IsWant};
 ghost use Rattle.join_core.specs.Joins.{IsJoinList, HasMarks, RowsAreJoinList};
 
-use deliver_core::{Options, Outcome};
+use deliver_core::Outcome;
 use descent_core::Plan;
 use layer_core::Layer;
+use options_core::Options;
 use parallel_core::{Gate, JoinFault, run_workers};
 use relation_core::JoinRelation;
 use std::alloc::{AllocError, Global};

@@ -1,7 +1,7 @@
 //! How a join is run: its workers, its batches and how deep its trees are cut into tasks.
 
 ghost use Rattle.std.specs.Prelude.{◌<◌, ◌≤◌};
-ghost use Rattle.deliver_core.specs.Limits.{most_workers, most_batch, most_cut};
+ghost use Rattle.options_core.specs.Limits.{most_workers, most_batch, most_cut};
 
 use crate::limits::{MAX_BATCH, MAX_CUT, MAX_WORKERS};
 use thiserror::Error;
@@ -35,7 +35,7 @@ pub enum OptionFault {
 
 impl OptionFault {
     ghost use Rattle.std.specs.Prelude.{◌≡◌, length};
-    ghost use Rattle.deliver_core.specs.OptionTexts.{option_text};
+    ghost use Rattle.options_core.specs.OptionTexts.{option_text};
 
     /// What is wrong, in the words of the command line.
     pub fn text(self) -> &'static str
@@ -52,8 +52,8 @@ impl OptionFault {
 
 impl Options {
     ghost use Rattle.std.specs.Prelude.{◌≡◌, ◌↔◌, IfOk, IsErrOf};
-    ghost use Rattle.deliver_core.specs.Options.{workers_of, batch_of, cut_of, AreWorkers, IsBatch};
-    ghost use Rattle.deliver_core.specs.Options.{IsCut};
+    ghost use Rattle.options_core.specs.Options.{workers_of, batch_of, cut_of, AreWorkers, IsBatch};
+    ghost use Rattle.options_core.specs.Options.{IsCut};
 
     /// The options with these three numbers.
     ///

@@ -1,7 +1,7 @@
 -- The three numbers of options, and their ranges.
 use Rattle.std.specs.Prelude.{ℕ, ◌<◌, ◌≤◌}
-use Rattle.deliver_core.specs.declared.options.Options.{Options}
-use Rattle.deliver_core.specs.Limits.{most_workers, most_batch, most_cut}
+use Rattle.options_core.specs.declared.options.Options.{Options}
+use Rattle.options_core.specs.Limits.{most_workers, most_batch, most_cut}
 
 abbrev pub workers_of : Options → ℕ
 workers_of o = o.workers

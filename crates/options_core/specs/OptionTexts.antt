@@ -1,7 +1,7 @@
 -- The texts of options that are out of range.
 use Rattle.std.specs.Prelude.{ℕ, List, codes}
-use Rattle.deliver_core.specs.declared.options.OptionFault.{OptionFault}
-use Rattle.deliver_core.specs.declared.options.OptionFault.TheVariants.{Workers, Batch, Cut}
+use Rattle.options_core.specs.declared.options.OptionFault.{OptionFault}
+use Rattle.options_core.specs.declared.options.OptionFault.TheVariants.{Workers, Batch, Cut}
 
 abbrev pub option_text : OptionFault → List ℕ
 option_text Workers = codes "--workers must be 1 to 16"
