@@ -7,8 +7,8 @@ use Rattle.file_core.specs.declared.read_fault.ReadFault.{ReadFault}
 use Rattle.join_core.specs.declared.fault.Input.{Input}
 use Rattle.join_core.specs.declared.fault.RunFault.{RunFault}
 use Rattle.join_core.specs.declared.fault.RunFault.TheVariants.{Read, TooManyToDraw}
-use Rattle.join_core.specs.declared.joins.run.Product.{Product}
-use Rattle.join_core.specs.declared.joins.run.Product.TheVariants.{Report, Picture}
+use Rattle.join_core.specs.declared.joins.job.Product.{Product}
+use Rattle.join_core.specs.declared.joins.job.Product.TheVariants.{Report, Picture}
 use Rattle.join_core.specs.declared.text.Text.{Text}
 use Rattle.join_core.specs.DrawRuns.{features_of, drawn, DrawGives}
 use Rattle.join_core.specs.Inputs.{BlamesInput}

@@ -6,8 +6,8 @@ use Rattle.draw_core.specs.Limits.{most_drawn}
 use Rattle.draw_core.specs.Pictures.{picture_of}
 use Rattle.report_core.specs.Reports.{IsReport}
 use Rattle.join_core.specs.declared.fault.RunFault.{RunFault}
-use Rattle.join_core.specs.declared.joins.run.Product.{Product}
-use Rattle.join_core.specs.declared.joins.run.Product.TheVariants.{Report, Picture}
+use Rattle.join_core.specs.declared.joins.job.Product.{Product}
+use Rattle.join_core.specs.declared.joins.job.Product.TheVariants.{Report, Picture}
 use Rattle.join_core.specs.DrawRuns.{DrawGives, IsDrawFault, IsLateDrawFault, features_of}
 use Rattle.join_core.specs.Joins.{IsJoinList}
 use Rattle.join_core.specs.JoinRuns.{JoinFiles, JoinGives, IsJoinFault, IsLateFault}

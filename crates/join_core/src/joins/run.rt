@@ -6,7 +6,9 @@ ghost use Rattle.layer_core.specs.Edits.{both};
 ghost use Rattle.draw_core.specs.Limits.{most_drawn};
 ghost use Rattle.join_core.specs.DrawRuns.{DrawGives, IsDrawFault, IsLateDrawFault, features_of};
 ghost use Rattle.join_core.specs.Inputs.{BlamesInput};
+ghost use Rattle.join_core.specs.Joins.{IsJoinList};
 ghost use Rattle.join_core.specs.JoinRuns.{files_of, JoinGives, IsJoinFault, IsLateFault};
+ghost use Rattle.parallel_core.specs.Faults.{IsWant};
 ghost use Rattle.join_core.specs.Products.{ProductGives, IsProduct, IsReported, IsDrawn};
 ghost use Rattle.join_core.specs.Products.{IsProductFault, IsLateProductFault};
 ghost use Rattle.join_core.specs.Runs.{NoTextFault, RunEnds};
@@ -14,17 +16,19 @@ ghost use Rattle.join_core.specs.SourceStates.{AreFresh, HasFailed, TellsFailure
 ghost use Rattle.join_core.specs.Texts.{bytes_of_text};
 
 use super::edited::edited_layers;
+use super::job::{JoinJob, Product};
 use super::layers::free_layers;
 use super::pairs::join;
 use super::sources::JoinSources;
 use crate::fault::RunFault;
 use crate::layer_input::LayerReader;
 use crate::text::Text;
+use deliver_core::Outcome;
 use draw_core::{can_be_drawn, picture};
 use file_core::Source;
 use layer_core::Layer;
 use options_core::Options;
-use parallel_core::Gate;
+use parallel_core::{Gate, JoinFault, OpenGate};
 use relation_core::JoinRelation;
 use report_core::{Sink, report_texts};
 use std::alloc::Global;
@@ -33,15 +37,45 @@ use std::sync::Wait;
 use std::thread::Threads;
 use wkt_core::Scale;
 
-/// Writes the report of two layers, after the edits of both: the pairs of a left and a right
-/// feature that stand in the relation, in layer order, with the letters of their matrix.
-///
-/// The left file is read first; then its layer is built and the right file is read and built, side
-/// by side where there is more than one worker. Then the file of the edits is read, the edits are
-/// made in order, and the layers joined. The first fault is answered, and then nothing is written:
-/// of the left file, the right one, that of the edits and the edits, in this order, but that a
-/// right source which fails comes before a fault in the bytes of the left one. `states` hash the
-/// ids of the two layers.
+impl JoinJob {
+    /// Writes what is made of the pairs of two layers, after the edits of both.
+    ///
+    /// The left file is read first; then its layer is built and the right file is read and built,
+    /// side by side where there is more than one worker. Then the file of the edits is read, the
+    /// edits are made in order, and the layers joined. The first fault is answered, and then
+    /// nothing is written: of the left file, the right one, that of the edits and the edits, in
+    /// this order, but that a right source which fails comes before a fault in the bytes of the
+    /// left one. Where a picture is asked for and the edited layers have more than `MAX_DRAWN`
+    /// features together, they aren't joined, and `TooManyToDraw` is answered. `states` hash the
+    /// ids of the two layers.
+    pub fn run<R: AllocGlobal + Threads + Wait + Sync, A: Source, B: Source, E: Source, S: Sink>(
+        &self,
+        rt: &R,
+        states: (RandomState, RandomState),
+        sources: &mut JoinSources<A, B, E>,
+        sink: &mut S,
+    ) -> Result<(), RunFault>
+        requires sources { AreFresh A.has_failed B.has_failed E.has_failed sources.old }
+        requires sink { S.has_failed sink.old ≡ false }
+        ensures { let job = self.now in
+            let files = files_of job.scale A.remaining B.remaining E.remaining sources.old in
+            RunEnds (ProductGives job.product (relation_of job.relation) files) NoTextFault
+            (IsProductFault job.product files)
+            (HasFailed A.has_failed B.has_failed E.has_failed sources.new)
+            S.written S.is_flushed S.has_failed sink.old sink.new result }
+    {
+        let run = JoinRun {
+            rt,
+            alloc: rt.alloc(),
+            gate: &OpenGate,
+            job: self,
+        };
+        run.write(states, sources, sink)
+    }
+}
+
+/// Writes the report of two layers, after the edits of both, by workers that enter a gate before
+/// each task. All else is as [`JoinJob::run`] says.
 pub fn run_join<R: Threads + Wait + Sync, A: Source, B: Source, E: Source, G: Gate + Sync, S: Sink>(
     rt: &R,
     alloc: Global,
@@ -61,27 +95,22 @@ pub fn run_join<R: Threads + Wait + Sync, A: Source, B: Source, E: Source, G: Ga
         S.written S.is_flushed S.has_failed sink.old sink.new result }
 {
     let job = JoinJob {
-        rt,
-        alloc,
-        states,
         scale,
-        relation,
-        options,
-        gate,
+        relation: *relation,
+        options: *options,
         product: Product::Report,
     };
-    let text = job.text(sources)?;
-    text.write(sink)?;
-    Ok(())
+    let run = JoinRun {
+        rt,
+        alloc,
+        gate,
+        job: &job,
+    };
+    run.write(states, sources, sink)
 }
 
-/// Writes the picture of two layers, after the edits of both, as SVG: each feature of both, where
-/// those that occur in a pair which stands in the relation are highlighted.
-///
-/// Files are read, edits made and layers joined as by `run_join`, with the same faults in the same
-/// order. `TooManyToDraw` comes after those of the files and the edits: where the edited layers
-/// have more than `MAX_DRAWN` features together, they aren't joined. After a fault nothing is
-/// written. `states` hash the ids of the two layers.
+/// Writes the picture of two layers, after the edits of both, by workers that enter a gate before
+/// each task. All else is as [`JoinJob::run`] says.
 pub fn run_draw<R: Threads + Wait + Sync, A: Source, B: Source, E: Source, G: Gate + Sync, S: Sink>(
     rt: &R,
     alloc: Global,
@@ -101,150 +130,143 @@ pub fn run_draw<R: Threads + Wait + Sync, A: Source, B: Source, E: Source, G: Ga
         S.written S.is_flushed S.has_failed sink.old sink.new result }
 {
     let job = JoinJob {
-        rt,
-        alloc,
-        states,
         scale,
-        relation,
-        options,
-        gate,
+        relation: *relation,
+        options: *options,
         product: Product::Picture,
     };
-    let text = job.text(sources)?;
-    text.write(sink)?;
-    Ok(())
+    let run = JoinRun {
+        rt,
+        alloc,
+        gate,
+        job: &job,
+    };
+    run.write(states, sources, sink)
 }
 
-/// What is made of the pairs of a join.
-#[derive(Clone, Copy)]
-pub(crate) enum Product {
-    /// A CSV record for each pair.
-    Report,
-    /// The features of both layers as SVG, those of pairs highlighted.
-    Picture,
+/// A job, and what it is done by: threads, memory, and the gate that its workers enter.
+#[derive(Drop)]
+struct JoinRun<'a, R, G> {
+    rt: &'a R,
+    alloc: Global,
+    gate: &'a G,
+    job: &'a JoinJob,
 }
 
-/// A join of two layers that are read, and edited as a third file says.
-pub(crate) struct JoinJob<'a, R, G> {
-    pub(crate) rt: &'a R,
-    pub(crate) alloc: Global,
-    pub(crate) states: (RandomState, RandomState),
-    pub(crate) scale: Scale,
-    pub(crate) relation: &'a JoinRelation,
-    pub(crate) options: &'a Options,
-    pub(crate) gate: &'a G,
-    pub(crate) product: Product,
-}
+impl<R: Threads + Wait + Sync, G: Gate + Sync> JoinRun<'_, R, G> {
+    /// Makes the text and writes it. After a fault of an input nothing is written.
+    fn write<A: Source, B: Source, E: Source, S: Sink>(
+        &self,
+        states: (RandomState, RandomState),
+        sources: &mut JoinSources<A, B, E>,
+        sink: &mut S,
+    ) -> Result<(), RunFault>
+        requires sources { AreFresh A.has_failed B.has_failed E.has_failed sources.old }
+        requires sink { S.has_failed sink.old ≡ false }
+        ensures { let job = self.now.job.now in
+            let files = files_of job.scale A.remaining B.remaining E.remaining sources.old in
+            RunEnds (ProductGives job.product (relation_of job.relation) files) NoTextFault
+            (IsProductFault job.product files)
+            (HasFailed A.has_failed B.has_failed E.has_failed sources.new)
+            S.written S.is_flushed S.has_failed sink.old sink.new result }
+    {
+        let text = self.text(states, sources)?;
+        text.write(sink)?;
+        Ok(())
+    }
 
-impl<R: Threads + Wait + Sync, G: Gate + Sync> JoinJob<'_, R, G> {
     /// The text, or the first fault.
     fn text<A: Source, B: Source, E: Source>(
-        self,
+        &self,
+        states: (RandomState, RandomState),
         sources: &mut JoinSources<A, B, E>,
     ) -> Result<Text, RunFault>
         requires { AreFresh A.has_failed B.has_failed E.has_failed sources.old }
-        ensures ok { let job = self.entry in
+        ensures ok { let job = self.now.job.now in
             let files = files_of job.scale A.remaining B.remaining E.remaining sources.old in
-            let gives = ProductGives job.product (relation_of job.relation.now) files in
+            let gives = ProductGives job.product (relation_of job.relation) files in
             IfOk result (λ text. gives (Ok (bytes_of_text text))) }
-        ensures fault { let job = self.entry in
+        ensures fault { let job = self.now.job.now in
             let files = files_of job.scale A.remaining B.remaining E.remaining sources.old in
-            let gives = ProductGives job.product (relation_of job.relation.now) files in
+            let gives = ProductGives job.product (relation_of job.relation) files in
             IfErr result (λ f. BlamesInput f → gives (Err f)) }
-        ensures faults { let job = self.entry in
+        ensures faults { let job = self.now.job.now in
             let files = files_of job.scale A.remaining B.remaining E.remaining sources.old in
             IfErr result (IsProductFault job.product files) }
         ensures io { TellsFailures A.has_failed B.has_failed E.has_failed sources.new result }
     {
-        let JoinJob {
-            rt,
-            alloc,
-            states,
-            scale,
-            relation,
-            options,
-            gate,
-            product,
-        } = self;
-        let workers = options.workers();
+        let workers = self.job.options.workers();
         let reader = LayerReader {
-            rt,
-            alloc,
-            scale,
+            rt: self.rt,
+            alloc: self.alloc,
+            scale: self.job.scale,
             threads: workers,
         };
         let (left, right) = edited_layers(&reader, states, sources)?;
-        let text = product_of(rt, alloc, product, &left, &right, relation, options, gate);
-        free_layers(rt, left, right, workers);
+        let text = self.product(&left, &right);
+        free_layers(self.rt, left, right, workers);
         text
     }
-}
 
-/// What is made of two layers.
-fn product_of<R: Threads + Wait + Sync, G: Gate + Sync>(
-    rt: &R,
-    alloc: Global,
-    product: Product,
-    left: &Layer,
-    right: &Layer,
-    relation: &JoinRelation,
-    options: &Options,
-    gate: &G,
-) -> Result<Text, RunFault>
-    ensures ok { IfOk result (λ text. IsProduct product (relation_of relation.now)
-        (both left.now.list right.now.list) (bytes_of_text text)) }
-    ensures many { let layers = both left.now.list right.now.list in
-        IsErrOf result RunFault.TooManyToDraw → most_drawn < features_of layers }
-    ensures err { IfErr result (IsLateProductFault product) }
-{
-    match product {
-        Product::Report => report_of(rt, alloc, left, right, relation, options, gate),
-        Product::Picture => drawing_of(rt, alloc, left, right, relation, options, gate),
+    /// What is made of two layers.
+    fn product(&self, left: &Layer, right: &Layer) -> Result<Text, RunFault>
+        ensures ok { let job = self.now.job.now in
+            IfOk result (λ text. IsProduct job.product (relation_of job.relation)
+            (both left.now.list right.now.list) (bytes_of_text text)) }
+        ensures many { let layers = both left.now.list right.now.list in
+            IsErrOf result RunFault.TooManyToDraw → most_drawn < features_of layers }
+        ensures err { IfErr result (IsLateProductFault self.now.job.now.product) }
+    {
+        match self.job.product {
+            Product::Report => self.report(left, right),
+            Product::Picture => self.picture(left, right),
+        }
     }
-}
 
-/// The report of two layers.
-fn report_of<R: Threads + Wait + Sync, G: Gate + Sync>(
-    rt: &R,
-    alloc: Global,
-    left: &Layer,
-    right: &Layer,
-    relation: &JoinRelation,
-    options: &Options,
-    gate: &G,
-) -> Result<Text, RunFault>
-    ensures ok { IfOk result (λ text. IsReported (relation_of relation.now)
-        (both left.now.list right.now.list) (bytes_of_text text)) }
-    ensures err { IfErr result IsLateFault }
-{
-    let outcome = join(rt, alloc, left, right, relation, options, gate)?;
-    let pairs = outcome.pairs();
-    let workers = options.workers();
-    let reported = report_texts(alloc, left, right, pairs, workers, rt);
-    Ok(Text::Report(reported?))
-}
-
-/// The picture of two layers.
-fn drawing_of<R: Threads + Wait + Sync, G: Gate + Sync>(
-    rt: &R,
-    alloc: Global,
-    left: &Layer,
-    right: &Layer,
-    relation: &JoinRelation,
-    options: &Options,
-    gate: &G,
-) -> Result<Text, RunFault>
-    ensures ok { IfOk result (λ text. IsDrawn (relation_of relation.now)
-        (both left.now.list right.now.list) (bytes_of_text text)) }
-    ensures many { let layers = both left.now.list right.now.list in
-        IsErrOf result RunFault.TooManyToDraw → most_drawn < features_of layers }
-    ensures err { IfErr result IsLateDrawFault }
-{
-    if !can_be_drawn(left, right) {
-        return Err(RunFault::TooManyToDraw);
+    /// The report of two layers.
+    fn report(&self, left: &Layer, right: &Layer) -> Result<Text, RunFault>
+        ensures ok { IfOk result (λ text. IsReported (relation_of self.now.job.now.relation)
+            (both left.now.list right.now.list) (bytes_of_text text)) }
+        ensures err { IfErr result IsLateFault }
+    {
+        let outcome = self.join(left, right)?;
+        let pairs = outcome.pairs();
+        let workers = self.job.options.workers();
+        let reported = report_texts(self.alloc, left, right, pairs, workers, self.rt);
+        Ok(Text::Report(reported?))
     }
-    let outcome = join(rt, alloc, left, right, relation, options, gate)?;
-    let pairs = outcome.pairs();
-    let drawn = picture(alloc, left, right, pairs)?;
-    Ok(Text::Picture(drawn))
+
+    /// The picture of two layers.
+    fn picture(&self, left: &Layer, right: &Layer) -> Result<Text, RunFault>
+        ensures ok { IfOk result (λ text. IsDrawn (relation_of self.now.job.now.relation)
+            (both left.now.list right.now.list) (bytes_of_text text)) }
+        ensures many { let layers = both left.now.list right.now.list in
+            IsErrOf result RunFault.TooManyToDraw → most_drawn < features_of layers }
+        ensures err { IfErr result IsLateDrawFault }
+    {
+        if !can_be_drawn(left, right) {
+            return Err(RunFault::TooManyToDraw);
+        }
+        let outcome = self.join(left, right)?;
+        let pairs = outcome.pairs();
+        let drawn = picture(self.alloc, left, right, pairs)?;
+        Ok(Text::Picture(drawn))
+    }
+
+    /// The pairs of two layers.
+    fn join(&self, left: &Layer, right: &Layer) -> Result<Outcome, JoinFault>
+        ensures pairs { IfOk result (λ outcome.
+            IsJoinList (relation_of self.now.job.now.relation) left.now.list right.now.list
+            outcome.pairs) }
+        ensures err { IfErr result IsWant }
+    {
+        let JoinJob {
+            relation,
+            options,
+            ..
+        } = self.job;
+        join(
+            self.rt, self.alloc, left, right, relation, options, self.gate,
+        )
+    }
 }

@@ -1,7 +1,7 @@
 use Rattle.std.proofs.Common.{All, rules}
 use Rattle.report_core.specs.Reports.{IsHeld}
 use Rattle.join_core.proofs.JoinRunLemmas.{pairs_held}
-use Rattle.join_core.proofs.joins.run.report_of.Goals as goal
+use Rattle.join_core.proofs.joins.run.JoinRun.report.Goals as goal
 
 pub report_texts-reported-requires : goal.report_texts-reported-requires
 report_texts-reported-requires g c =
