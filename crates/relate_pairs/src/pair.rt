@@ -1,5 +1,10 @@
 //! A line that holds two geometries, with a tab between.
 
+ghost use Rattle.std.specs.Prelude.{◌≡◌, IfOk};
+ghost use Rattle.relation_core.specs.declared.matrix.Matrix.{Matrix};
+ghost use Rattle.relation_core.specs.Matrices.{letters_of};
+ghost use Rattle.plane_core.specs.PlaneMatrices.{IsPlaneMatrix};
+
 use arrangement_core::relate;
 use plane_core::Geometry;
 use std::alloc::{AllocError, Global};
@@ -40,7 +45,11 @@ impl Pair {
     }
 
     /// The nine letters of its matrix.
-    pub(crate) fn letters(&self, alloc: Global) -> Result<[u8; 9], AllocError> {
-        Ok(relate(alloc, &self.first, &self.second)?.text())
+    pub(crate) fn letters(&self, alloc: Global) -> Result<[u8; 9], AllocError>
+        ensures { IfOk result (λ text. (m : Matrix) × IsPlaneMatrix self.now.first self.now.second m
+            × (text ≡ letters_of m)) }
+    {
+        let matrix = relate(alloc, &self.first, &self.second)?;
+        Ok(matrix.text())
     }
 }
