@@ -73,6 +73,7 @@ PARTS = (
     Part("readmes", ("check/readmes.py",), 2),
     Part("stored-runs", ("check/stored_runs.py",), 10),
     Part("refusals", ("check/refusals.py",), 30),
+    Part("reference", ("check/reference.sh",), 10),
     Part("mutants", ("check/mutants.py",), 60),
     Part("tested-mutants", ("check/tested_mutants.py",), 30),
     Part("smoke", ("bench/smoke", str(PROGRAM)), 5),

@@ -1,6 +1,6 @@
 //! What a join is asked for.
 
-use deliver_core::Options;
+use options_core::Options;
 use relation_core::JoinRelation;
 use wkt_core::Scale;
 
