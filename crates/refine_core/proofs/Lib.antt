@@ -1,0 +1,4 @@
+mod ChunkLemmas
+mod GatherLemmas
+mod PartLemmas
+mod RefinementLemmas

@@ -1,0 +1,17 @@
+use Rattle.std.proofs.Common.{◌∷◌, [], IsOk, refl, ap, ◌∙◌, append_assoc}
+use Rattle.std.proofs.lemmas.List.Elements.{All-push}
+use Rattle.refine_core.specs.Parts.{seat_in, parts_in}
+use Rattle.refine_core.proofs.PartLemmas.{given_more}
+use Rattle.refine_core.proofs.in_order.gather.Goals as goal
+
+pub loop-share-preserved : goal.loop-share-preserved
+loop-share-preserved g c =
+    let before = c.loop-share.invariant in
+    let share = c.in-Some.share in
+    let yielded = c.loop-share.yielded in
+    record {
+      shares = append_assoc yielded (share ∷ []) _ ∙ rw (← c.in-Some.ensures.steps.0) before.shares;
+      all = All-push IsOk yielded share before.all (rw c.in_ok-seat.was refl);
+      seats = given_more seat_in c.loop-share.seats.items _ yielded share _ before.seats c.in_ok-push.ensures.items (ap seat_in c.in_ok-seat.was);
+      parts = given_more parts_in c.loop-share.parts.items _ yielded share _ before.parts c.in_ok-append.ensures.items (ap parts_in c.in_ok-seat.was);
+    }

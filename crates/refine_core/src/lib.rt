@@ -1,0 +1,17 @@
+//! Refinement: which pairs of a list stand in a condition, as threads decide it, with the answer of
+//! each.
+#![tactic(auto)]
+
+mod chunks;
+mod condition;
+mod in_order;
+mod laws;
+mod refine;
+mod refined;
+mod worker;
+
+pub use condition::Condition;
+pub use options_core::MAX_WORKERS;
+pub use laws::refinement_law;
+pub use refine::refine_pairs;
+pub use refined::Refined;

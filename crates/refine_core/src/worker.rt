@@ -1,0 +1,92 @@
+//! A worker: it draws chunks from the board until none is left, and refines each.
+
+ghost use Rattle.std.specs.Prelude.{◌≡◌, ◌<◌, ◌++◌, ℕ, All, IfOk, OnOk, length};
+ghost use Rattle.deliver_core.specs.Boards.{fresh_seat};
+ghost use Rattle.refine_core.specs.Chunks.{IsChunkNumber};
+ghost use Rattle.refine_core.specs.Parts.{IsShare};
+ghost use Rattle.refine_core.specs.Refinements.{AreRefined, IsPairIn, refined_as};
+
+use crate::chunks::chunk;
+use crate::condition::Condition;
+use crate::refined::Refined;
+use deliver_core::{Board, BoardSeat};
+use std::alloc::{AllocError, Global};
+
+/// What stands of a chunk.
+#[derive(Drop)]
+pub(crate) struct Part<A> {
+    pub(crate) chunk: u32,
+    pub(crate) refined: Vec<Refined<A>>,
+}
+
+/// A worker's seat, which has met the end of the chunks, and the parts of those that it drew.
+#[derive(Drop)]
+pub(crate) struct Share<A> {
+    pub(crate) seat: BoardSeat,
+    pub(crate) parts: Vec<Part<A>>,
+}
+
+/// Draws chunks until none is left, and refines each.
+pub(crate) fn work<C: Condition>(
+    alloc: Global,
+    condition: &C,
+    pairs: &[(u32, u32)],
+    board: &Board,
+    mut seat: BoardSeat,
+) -> Result<Share<C::Answer>, AllocError>
+where
+    C::Answer: Drop,
+    requires near { All (IsPairIn (C.near condition.now)) pairs.now }
+    requires chunks { (number : ℕ) → number < board.now.tasks
+        → IsChunkNumber (length pairs.now) number }
+    requires seat { seat ≡ fresh_seat board.now }
+    ensures { let stands = C.stands condition.now in
+        let answers = C.answers condition.now in
+        IfOk result (IsShare stands answers board.now pairs.now) }
+{
+    let mut parts = Vec::new(alloc);
+    while let Some(number) = board.claim(&mut seat) {
+        let refined = refine_each(alloc, condition, chunk(pairs, number))?;
+        parts.push(Part {
+            chunk: number,
+            refined,
+        })?;
+    }
+    Ok(Share { seat, parts })
+}
+
+/// Decides these pairs one after another.
+pub(crate) fn refine_each<C: Condition>(
+    alloc: Global,
+    condition: &C,
+    pairs: &[(u32, u32)],
+) -> Result<Vec<Refined<C::Answer>>, AllocError>
+where
+    C::Answer: Drop,
+    requires { All (IsPairIn (C.near condition.now)) pairs.now }
+    ensures { let stands = C.stands condition.now in
+        let answers = C.answers condition.now in
+        IfOk result (λ refined. AreRefined stands answers pairs.now refined.items) }
+{
+    let mut refined = Vec::new(alloc);
+    for pair in pairs {
+        let (left, right) = *pair;
+        let found = condition.decide(alloc, left, right)?;
+        push_found(&mut refined, (left, right), found)?;
+    }
+    Ok(refined)
+}
+
+/// Adds a pair that has an answer.
+fn push_found<A: Drop>(
+    refined: &mut Vec<Refined<A>>,
+    pair: (u32, u32),
+    found: Option<A>,
+) -> Result<(), AllocError>
+    ensures { OnOk result (refined.new.items ≡ refined.old.items ++ refined_as pair found) }
+{
+    if let Some(answer) = found {
+        refined.push(Refined { pair, answer })?;
+    }
+    Ok(())
+}
