@@ -3,10 +3,11 @@ use Rattle.std.proofs.Common.{inl, inr, sym}
 use Rattle.relation_core.specs.declared.relation.Relation.{Relation}
 use Rattle.any_relation_core.specs.declared.class.Class.{Class}
 use Rattle.any_relation_core.specs.declared.class.Class.TheVariants.{Points, OpenLines, ClosedLines, Areas, HollowAreas}
-use Rattle.any_relation_core.specs.declared.class.Rings.{Rings}
-use Rattle.any_relation_core.specs.declared.class.Rings.TheVariants.{Proper, EvenOdd}
+use Rattle.plane_core.specs.declared.rings.Rings.{Rings}
+use Rattle.plane_core.specs.declared.rings.Rings.TheVariants.{Proper, EvenOdd}
+use Rattle.plane_core.specs.ProperRings.{IsGeometryOf}
 use Rattle.any_relation_core.specs.Classes.{apart_matrix, classes, SomeClass, FitsApart, AllowsApart}
-use Rattle.any_relation_core.specs.PlaneRelations.{HoldsOf, IsGeometryOf, HoldsForDisjoint}
+use Rattle.any_relation_core.specs.PlaneRelations.{HoldsOf, HoldsForDisjoint}
 use Rattle.any_relation_core.proofs.DisjointLemmas.{IsTaken, apart_is_matrix}
 use Rattle.any_relation_core.proofs.SampleLemmas.{left_sample, right_sample, left_good, right_good, left_proper, right_proper, left_class, right_class, samples_apart}
 
@@ -25,11 +26,11 @@ class_found EvenOdd P (inr (inr (inr (inr (inr h))))) = absurd h
 
 left_taken : (rings : Rings) (c : Class) → IsTaken rings c → IsGeometryOf rings (left_sample c)
 left_taken Proper c t = (left_good c, left_proper c t)
-left_taken EvenOdd c t = left_good c
+left_taken EvenOdd c t = (left_good c, tt)
 
 right_taken : (rings : Rings) (c : Class) → IsTaken rings c → IsGeometryOf rings (right_sample c)
 right_taken Proper c t = (right_good c, right_proper c t)
-right_taken EvenOdd c t = right_good c
+right_taken EvenOdd c t = (right_good c, tt)
 
 holds_apart : (relation : Relation) (c d : Class) → FitsApart relation c d → HoldsOf relation (left_sample c) (right_sample d)
 holds_apart relation c d fits = record {

@@ -8,14 +8,15 @@ use Rattle.plane_core.specs.declared.part.Part.{Part}
 use Rattle.plane_core.specs.declared.part.Part.TheVariants.{Interior, Boundary, Exterior}
 use Rattle.plane_core.specs.Figures.{Figure, IsGeometry, dim_of, part_of}
 use Rattle.plane_core.specs.PlaneMatrices.{IsInBoth, SharePoint, IsEntry, IsPlaneMatrix, entry}
+use Rattle.plane_core.specs.ProperRings.{IsGeometryOf}
 use Rattle.plane_core.proofs.OnePlaneMatrix.{one_plane_matrix}
 use Rattle.arrangement_core.proofs.OutsideLemmas.{outside_triangle}
 use Rattle.any_relation_core.specs.declared.class.Class.{Class}
 use Rattle.any_relation_core.specs.declared.class.Class.TheVariants.{Points, OpenLines, ClosedLines, Areas, HollowAreas}
-use Rattle.any_relation_core.specs.declared.class.Rings.{Rings}
-use Rattle.any_relation_core.specs.declared.class.Rings.TheVariants.{Proper, EvenOdd}
+use Rattle.plane_core.specs.declared.rings.Rings.{Rings}
+use Rattle.plane_core.specs.declared.rings.Rings.TheVariants.{Proper, EvenOdd}
 use Rattle.any_relation_core.specs.Classes.{interior_of, boundary_of, apart_matrix, classes, SomeClass, FitsApart, AllowsApart}
-use Rattle.any_relation_core.specs.PlaneRelations.{HoldsOf, AreDisjoint, IsGeometryOf, ForbidsDisjoint}
+use Rattle.any_relation_core.specs.PlaneRelations.{HoldsOf, AreDisjoint, ForbidsDisjoint}
 use Rattle.any_relation_core.proofs.ShareLemmas.{IsPart, entry_same}
 use Rattle.any_relation_core.proofs.PartLemmas.{IsInPart}
 use Rattle.any_relation_core.proofs.SlantLemmas.{geometry_inside}
@@ -103,8 +104,7 @@ some_class EvenOdd P Areas t h = inr (inr (inr (inl h)))
 some_class EvenOdd P HollowAreas t h = inr (inr (inr (inr (inl h))))
 
 pub geometry_of : (rings : Rings) (g : Figure) → IsGeometryOf rings g → IsGeometry g
-geometry_of Proper g h = h.0
-geometry_of EvenOdd g h = h
+geometry_of rings g h = h.0
 
 taken_of : (rings : Rings) (g : Figure) (c : Class) → IsGeometryOf rings g → IsOfClass g c → IsTaken rings c
 taken_of Proper g Points h is = tt

@@ -24,7 +24,7 @@ use Rattle.arrangement_core.proofs.BoxLemmas.{HoldsVertex, HoldsAll, part_in_box
 use Rattle.arrangement_core.proofs.FlipLemmas.{is_at-itself, is_below-flip}
 use Rattle.any_relation_core.specs.declared.class.Class.{Class}
 use Rattle.any_relation_core.specs.declared.class.Class.TheVariants.{Points, OpenLines, ClosedLines, Areas, HollowAreas}
-use Rattle.any_relation_core.specs.declared.class.Rings.TheVariants.{Proper}
+use Rattle.plane_core.specs.declared.rings.Rings.TheVariants.{Proper}
 use Rattle.any_relation_core.specs.PlaneRelations.{AreDisjoint}
 use Rattle.any_relation_core.proofs.DisjointLemmas.{IsTaken}
 use Rattle.any_relation_core.proofs.ProperLemmas.{on_side}

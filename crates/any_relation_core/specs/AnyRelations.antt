@@ -1,6 +1,6 @@
 -- Relations that a join of any geometry may use.
 use Rattle.relation_core.specs.declared.relation.Relation.{Relation}
-use Rattle.any_relation_core.specs.declared.class.Rings.{Rings}
+use Rattle.plane_core.specs.declared.rings.Rings.{Rings}
 use Rattle.any_relation_core.specs.declared.any_relation.AnyRelation.{AnyRelation}
 use Rattle.any_relation_core.specs.PlaneRelations.{ForbidsDisjoint}
 

@@ -9,8 +9,8 @@ use Rattle.any_relation_core.specs.declared.class.Class.{Class}
 use Rattle.any_relation_core.specs.declared.class.Class.TheVariants.{Points, OpenLines}
 use Rattle.any_relation_core.specs.declared.class.Class.TheVariants.{ClosedLines, Areas}
 use Rattle.any_relation_core.specs.declared.class.Class.TheVariants.{HollowAreas}
-use Rattle.any_relation_core.specs.declared.class.Rings.{Rings}
-use Rattle.any_relation_core.specs.declared.class.Rings.TheVariants.{Proper, EvenOdd}
+use Rattle.plane_core.specs.declared.rings.Rings.{Rings}
+use Rattle.plane_core.specs.declared.rings.Rings.TheVariants.{Proper, EvenOdd}
 
 abbrev pub class_dim : Class → ℕ
 class_dim Points = 0

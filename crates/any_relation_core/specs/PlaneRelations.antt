@@ -5,11 +5,10 @@ use Rattle.relation_core.specs.declared.relation.Relation.{Relation}
 use Rattle.relation_core.specs.Relations.{FitsOne, masks}
 use Rattle.plane_core.specs.declared.part.Part.TheVariants.{Exterior}
 use Rattle.plane_core.specs.Points.{Point}
-use Rattle.plane_core.specs.Figures.{Figure, IsGeometry, dim_of, part_of}
+use Rattle.plane_core.specs.Figures.{Figure, dim_of, part_of}
 use Rattle.plane_core.specs.PlaneMatrices.{IsPlaneMatrix}
-use Rattle.plane_core.specs.ProperRings.{HasProperRings}
-use Rattle.any_relation_core.specs.declared.class.Rings.{Rings}
-use Rattle.any_relation_core.specs.declared.class.Rings.TheVariants.{Proper, EvenOdd}
+use Rattle.plane_core.specs.ProperRings.{IsGeometryOf}
+use Rattle.plane_core.specs.declared.rings.Rings.{Rings}
 
 -- one of the masks for the two dimensions fits the matrix of the two geometries
 pub record HoldsOf (relation : Relation) (g h : Figure) : Type 0 where
@@ -21,11 +20,6 @@ pub record HoldsOf (relation : Relation) (g h : Figure) : Type 0 where
 abbrev pub AreDisjoint : Figure → Figure → Type 0
 AreDisjoint g h =
     (p : Point) → 0 < p.w → part_of g p ≢ Exterior → part_of h p ≢ Exterior → ⊥
-
--- a geometry, with such rings
-abbrev pub IsGeometryOf : Rings → Figure → Type 0
-IsGeometryOf Proper g = IsGeometry g × HasProperRings g
-IsGeometryOf EvenOdd g = IsGeometry g
 
 -- it holds for no two geometries without a common point
 abbrev pub ForbidsDisjoint : Rings → Relation → Type 0

@@ -3,7 +3,8 @@
 
 ghost use Rattle.any_relation_core.specs.PlaneRelations.{ForbidsDisjoint};
 
-use crate::class::{Class, Rings, apart_matrix};
+use crate::class::{Class, apart_matrix, classes_of};
+use plane_core::Rings;
 use relation_core::{AllowsDisjoint, Relation};
 
 /// A relation that holds for no two disjoint geometries.
@@ -60,7 +61,7 @@ ghost use Rattle.any_relation_core.specs.Classes.{AllowsApart, AllowsBeside, Fit
 fn allows_apart(relation: &Relation, rings: Rings) -> bool
     ensures { IsTrue result ↔ AllowsApart rings relation.now }
 {
-    let classes = rings.classes();
+    let classes = classes_of(rings);
     classes
         .iter()
         .any(|first| allows_beside(relation, rings, *first))
@@ -70,7 +71,7 @@ fn allows_apart(relation: &Relation, rings: Rings) -> bool
 fn allows_beside(relation: &Relation, rings: Rings, first: Class) -> bool
     ensures { IsTrue result ↔ AllowsBeside rings relation.now first }
 {
-    let classes = rings.classes();
+    let classes = classes_of(rings);
     classes
         .iter()
         .any(|second| fits_apart(relation, first, *second))

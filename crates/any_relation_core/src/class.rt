@@ -4,16 +4,8 @@ ghost use Rattle.std.specs.Prelude.{◌≡◌, ◌≤◌};
 ghost use Rattle.any_relation_core.specs.Classes.{apart_matrix, class_dim, classes};
 ghost use Rattle.any_relation_core.specs.Classes.{boundary_of, interior_of};
 
+use plane_core::Rings;
 use relation_core::{Extent, Matrix, Parts};
-
-/// Which rings an area may have.
-#[derive(Clone, Copy, Debug, PartialEq, Eq)]
-pub enum Rings {
-    /// Rings that neither cross nor run along each other: each area has an interior.
-    Proper,
-    /// Any closed rings: an area may have no interior, as one whose rings all run twice.
-    EvenOdd,
-}
 
 /// Geometries whose interiors and boundaries amount to the same.
 #[derive(Clone, Copy, Debug, PartialEq, Eq)]
@@ -30,26 +22,24 @@ pub(crate) enum Class {
     HollowAreas,
 }
 
-impl Rings {
-    /// The classes of geometries whose areas have such rings.
-    pub(crate) fn classes(self) -> &'static [Class]
-        ensures { result.now ≡ classes self }
-    {
-        match self {
-            Rings::Proper => &[
-                Class::Points,
-                Class::OpenLines,
-                Class::ClosedLines,
-                Class::Areas,
-            ],
-            Rings::EvenOdd => &[
-                Class::Points,
-                Class::OpenLines,
-                Class::ClosedLines,
-                Class::Areas,
-                Class::HollowAreas,
-            ],
-        }
+/// The classes of geometries whose areas have such rings.
+pub(crate) fn classes_of(rings: Rings) -> &'static [Class]
+    ensures { result.now ≡ classes rings }
+{
+    match rings {
+        Rings::Proper => &[
+            Class::Points,
+            Class::OpenLines,
+            Class::ClosedLines,
+            Class::Areas,
+        ],
+        Rings::EvenOdd => &[
+            Class::Points,
+            Class::OpenLines,
+            Class::ClosedLines,
+            Class::Areas,
+            Class::HollowAreas,
+        ],
     }
 }
 

@@ -5,4 +5,4 @@ mod any_relation;
 mod class;
 
 pub use any_relation::AnyRelation;
-pub use class::Rings;
+pub use plane_core::Rings;

@@ -3,6 +3,7 @@ pub mod AroundLemmas
 pub mod AvoidLemmas
 pub mod CheckLemmas
 pub mod CrossingLemmas
+pub mod EnvelopeLemmas
 pub mod FootLemmas
 pub mod FormLemmas
 pub mod HeldLemmas

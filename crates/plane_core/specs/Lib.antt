@@ -11,3 +11,4 @@ pub mod PlaneMatrices
 pub mod Points
 pub mod ProperRings
 pub mod Stored
+pub mod Vertices

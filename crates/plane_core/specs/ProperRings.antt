@@ -2,8 +2,10 @@
 use Rattle.std.specs.Prelude.{◌≡◌, ⊤, ◌<◌, Bool, ◌||◌, true, List, AllPairs}
 use Rattle.std.specs.List.{flat_map}
 use Rattle.plane_core.specs.declared.edge.Edge.{Edge}
+use Rattle.plane_core.specs.declared.rings.Rings.{Rings}
+use Rattle.plane_core.specs.declared.rings.Rings.TheVariants.{Proper, EvenOdd}
 use Rattle.plane_core.specs.Points.{Point, is_on, is_at, IsSamePlace}
-use Rattle.plane_core.specs.Figures.{Figure, edges}
+use Rattle.plane_core.specs.Figures.{Figure, IsGeometry, edges}
 use Rattle.plane_core.specs.Figures.Figure.{Points, Lines, Areas}
 
 -- a point of both edges
@@ -30,3 +32,12 @@ abbrev pub HasProperRings : Figure → Type 0
 HasProperRings (Points vs) = ⊤
 HasProperRings (Lines paths) = ⊤
 HasProperRings (Areas rings) = AreProper (flat_map edges rings)
+
+-- the rings of a geometry are proper, where they have to be
+abbrev pub TakesRings : Rings → Figure → Type 0
+TakesRings Proper g = HasProperRings g
+TakesRings EvenOdd g = ⊤
+
+-- a geometry, with such rings
+abbrev pub IsGeometryOf : Rings → Figure → Type 0
+IsGeometryOf rings g = IsGeometry g × TakesRings rings g

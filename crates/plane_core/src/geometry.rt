@@ -1,16 +1,24 @@
 //! Points, polylines and areas, as one list of vertices.
 
-ghost use Rattle.std.specs.Prelude.{◌≡◌, ◌++◌, ◌↔◌, length, OnOk, IfOk, IsSome, IfSome};
-ghost use Rattle.std.specs.List.{flat_map};
+ghost use Rattle.std.specs.Prelude.{◌≡◌, ◌++◌, ◌↔◌, ◌<◌, All, List, length, OnOk, IfOk, IsSome};
+ghost use Rattle.std.specs.Prelude.{IfSome};
+ghost use Rattle.std.specs.List.{flat_map, slice_index_or};
+ghost use Rattle.geom_core.specs.declared.shape.Shape.{Shape};
+ghost use Rattle.geom_core.specs.Cells.{IsIn};
+ghost use Rattle.plane_core.specs.declared.vertex.Vertex.{Vertex};
 ghost use Rattle.plane_core.specs.Figures.{Figure, IsGeometry, edges, dim_of};
 ghost use Rattle.plane_core.specs.Outlines.{path_ends, IsOutlineOf};
 ghost use Rattle.plane_core.specs.Stored.{paths_of, stored_figure, AreCuts, IsStored};
+ghost use Rattle.plane_core.specs.Vertices.{paths_in, vertices_of, HoldsVertex};
 
 use crate::check::is_stored;
 use crate::edge::Edge;
+use crate::envelope::envelope_of;
 use crate::outline::{Kind, Outline};
 use crate::path::{edge_at, last_or};
+use crate::stored_paths::{path_at, path_count};
 use crate::vertex::Vertex;
+use geom_core::Shape;
 use std::alloc::{AllocError, Global};
 use std::marker::Model;
 
@@ -164,6 +172,30 @@ impl Geometry {
             Kind::Lines => 1,
             Kind::Areas => 2,
         }
+    }
+
+    /// How many paths the geometry has: polylines or rings, or one of all its points.
+    pub fn path_count(&self) -> usize
+        ensures { result ≡ length (paths_in self.now) }
+    {
+        path_count(self.kind, &self.ends, &self.vertices)
+    }
+
+    /// The vertices of the path at a place.
+    pub fn path(&self, i: usize) -> &[Vertex]
+        requires { i < length (paths_in self.now) }
+        ensures { (none : List Vertex) → result.now ≡ slice_index_or (paths_in self.now) i none }
+    {
+        path_at(self.kind, &self.ends, &self.vertices, i)
+    }
+
+    /// The smallest shape that contains all vertices, from their least to their greatest
+    /// coordinates.
+    pub fn bounds(&self) -> Shape
+        ensures holds { All (HoldsVertex result) (vertices_of self.now) }
+        ensures least { (s : Shape) → All (HoldsVertex s) (vertices_of self.now) → IsIn result s }
+    {
+        envelope_of(&self.vertices)
     }
 
     /// The edges of the geometry, with its points or its polylines' ends.

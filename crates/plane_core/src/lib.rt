@@ -5,12 +5,15 @@
 mod check;
 mod cross;
 mod edge;
+mod envelope;
 mod geometry;
 mod node;
 mod outline;
 mod part;
 mod path;
 mod place;
+mod rings;
+mod stored_paths;
 mod vertex;
 
 pub use edge::Edge;
@@ -19,4 +22,5 @@ pub use node::Node;
 pub use outline::{Kind, Outline, Scan, Standing};
 pub use part::Part;
 pub use place::{Lie, Place};
+pub use rings::Rings;
 pub use vertex::Vertex;

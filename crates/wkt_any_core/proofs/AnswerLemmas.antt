@@ -9,8 +9,9 @@ use Rattle.plane_core.specs.declared.vertex.Vertex.{Vertex}
 use Rattle.plane_core.specs.Figures.{Figure, IsGeometry}
 use Rattle.plane_core.specs.Figures.Figure.{Points, Lines, Areas}
 use Rattle.plane_core.specs.Outlines.{kind_of}
-use Rattle.plane_core.specs.ProperRings.{HasProperRings}
+use Rattle.plane_core.specs.ProperRings.{HasProperRings, TakesRings}
 use Rattle.plane_core.specs.Stored.{paths_of, stored_figure, AreCuts}
+use Rattle.plane_core.specs.Vertices.{paths_in}
 use Rattle.wkt_core.specs.declared.keyword.Keyword.{Keyword}
 use Rattle.wkt_core.specs.declared.keyword.Keyword.TheVariants.{Point, LineString, Polygon}
 use Rattle.wkt_core.specs.declared.position.Position.{Position}
@@ -23,9 +24,9 @@ use Rattle.wkt_any_core.specs.declared.fault.GeometryFault.{GeometryFault}
 use Rattle.wkt_any_core.specs.declared.fault.GeometryFault.TheVariants.{Text, Number, Form, Rings as RingFault}
 use Rattle.wkt_any_core.specs.declared.heading.Heading.{Heading}
 use Rattle.wkt_any_core.specs.declared.reader.RawText.{RawText}
-use Rattle.wkt_any_core.specs.declared.rings.Rings.{Rings}
-use Rattle.wkt_any_core.specs.declared.rings.Rings.TheVariants.{Proper, EvenOdd}
-use Rattle.wkt_any_core.specs.Drawing.{position_of, positions_of, paths_in, kind_for, skips_dots, drawn, AreAllowed, Draws, TakesRings}
+use Rattle.plane_core.specs.declared.rings.Rings.{Rings}
+use Rattle.plane_core.specs.declared.rings.Rings.TheVariants.{Proper, EvenOdd}
+use Rattle.wkt_any_core.specs.Drawing.{position_of, positions_of, kind_for, skips_dots, drawn, AreAllowed, Draws}
 use Rattle.wkt_any_core.specs.Grammar.{Raw, joined}
 use Rattle.wkt_any_core.specs.Held.{IsRawText}
 use Rattle.wkt_any_core.specs.Readings.{Reads, IsReading}

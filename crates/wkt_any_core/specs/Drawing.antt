@@ -12,23 +12,17 @@ use Rattle.plane_core.specs.declared.outline.Kind.{Kind}
 use Rattle.plane_core.specs.declared.outline.Kind.TheVariants.{Points as Dots}
 use Rattle.plane_core.specs.declared.outline.Kind.TheVariants.{Lines as Polylines, Areas as Rings}
 use Rattle.plane_core.specs.Figures.{Figure, IsGeometry}
-use Rattle.plane_core.specs.Figures.Figure.{Points, Lines, Areas}
+use Rattle.plane_core.specs.Figures.Figure.{Areas}
 use Rattle.plane_core.specs.Outlines.{kind_of}
-use Rattle.plane_core.specs.ProperRings.{HasProperRings}
-use Rattle.wkt_any_core.specs.declared.rings.Rings.{Rings as RingRule}
-use Rattle.wkt_any_core.specs.declared.rings.Rings.TheVariants.{Proper, EvenOdd}
+use Rattle.plane_core.specs.Vertices.{paths_in}
+use Rattle.plane_core.specs.declared.rings.Rings.{Rings as RingRule}
+use Rattle.plane_core.specs.declared.rings.Rings.TheVariants.{Proper, EvenOdd}
 
 abbrev pub position_of : Vertex → Position
 position_of v = corner v.x v.y
 
 abbrev pub positions_of : List (List Vertex) → List (List Position)
 positions_of paths = map (map position_of) paths
-
--- the points as one path, the polylines, or the rings
-abbrev pub paths_in : Figure → List (List Vertex)
-paths_in (Points vs) = vs ∷ []
-paths_in (Lines paths) = paths
-paths_in (Areas rings) = rings
 
 abbrev pub kind_for : Keyword → Kind
 kind_for Point = Dots
@@ -63,11 +57,6 @@ pub record IsFlat (vs : List Vertex) : Type 0 where
 abbrev pub AreAllowed : RingRule → Figure → Type 0
 AreAllowed Proper (Areas rings) = All (λ ring. ¬ (IsFlat ring)) rings
 AreAllowed _ _ = ⊤
-
--- the rings of the geometry are proper, where they have to be
-abbrev pub TakesRings : RingRule → Figure → Type 0
-TakesRings Proper g = HasProperRings g
-TakesRings EvenOdd g = ⊤
 
 -- the lists of points, under this keyword, draw the geometry
 pub record Draws (rule : RingRule) (keyword : Keyword) (lists : List (List Position)) (g : Figure)

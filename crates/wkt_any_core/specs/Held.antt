@@ -12,7 +12,7 @@ use Rattle.wkt_core.specs.Spelling.{HasGoodNumbers, AllNumbersGood, position, po
 use Rattle.wkt_any_core.specs.declared.paths.Paths.{Paths}
 use Rattle.wkt_any_core.specs.declared.heading.Heading.{Heading}
 use Rattle.wkt_any_core.specs.declared.reader.RawText.{RawText}
-use Rattle.wkt_any_core.specs.declared.rings.Rings.{Rings}
+use Rattle.plane_core.specs.declared.rings.Rings.{Rings}
 use Rattle.wkt_any_core.specs.Drawing.{position_of, drawn, skips_dots}
 use Rattle.wkt_any_core.specs.Grammar.{joined}
 use Rattle.wkt_any_core.specs.Steps.{TakesText}

@@ -4,7 +4,7 @@ use Rattle.plane_core.specs.Figures.{Figure}
 use Rattle.wkt_core.specs.declared.scale.Scale.{Scale}
 use Rattle.wkt_any_core.specs.declared.fault.GeometryFault.{GeometryFault}
 use Rattle.wkt_any_core.specs.declared.fault.GeometryFault.TheVariants.{Text, Number, Form, Rings as RingFault}
-use Rattle.wkt_any_core.specs.declared.rings.Rings.{Rings}
+use Rattle.plane_core.specs.declared.rings.Rings.{Rings}
 use Rattle.wkt_any_core.specs.Spelling.{Spells, HasNoRawForm, HasBadNumber, HasNoFigure}
 use Rattle.wkt_any_core.specs.Spelling.{HasImproperRings}
 

@@ -1,15 +1,15 @@
 -- What a text of any geometry means: the geometry that it spells at a scale.
 use Rattle.std.specs.Prelude.{◌≡◌, ℕ, List}
 use Rattle.plane_core.specs.Figures.{Figure}
-use Rattle.plane_core.specs.ProperRings.{HasProperRings}
+use Rattle.plane_core.specs.ProperRings.{HasProperRings, TakesRings}
 use Rattle.wkt_core.specs.declared.scale.Scale.{Scale}
 use Rattle.wkt_core.specs.Grammar.{RawPoint}
 use Rattle.wkt_core.specs.Spelling.{AllNumbersGood, positions}
 use Rattle.wkt_any_core.specs.declared.heading.Heading.{Heading}
-use Rattle.wkt_any_core.specs.declared.rings.Rings.{Rings}
-use Rattle.wkt_any_core.specs.declared.rings.Rings.TheVariants.{Proper}
+use Rattle.plane_core.specs.declared.rings.Rings.{Rings}
+use Rattle.plane_core.specs.declared.rings.Rings.TheVariants.{Proper}
 use Rattle.wkt_any_core.specs.Grammar.{Raw}
-use Rattle.wkt_any_core.specs.Drawing.{Draws, TakesRings}
+use Rattle.wkt_any_core.specs.Drawing.{Draws}
 
 -- the text is well formed, its numbers are whole and in range, and its points draw the geometry
 pub record Shows (scale : Scale) (rings : Rings) (text : List ℕ) (g : Figure) : Type 0 where

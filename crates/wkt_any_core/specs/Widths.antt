@@ -7,8 +7,8 @@ use Rattle.plane_core.specs.declared.vertex.Vertex.{Vertex}
 use Rattle.plane_core.specs.declared.outline.Kind.{Kind}
 use Rattle.plane_core.specs.declared.outline.Kind.TheVariants.{Areas}
 use Rattle.plane_core.specs.Points.{at, side}
-use Rattle.wkt_any_core.specs.declared.rings.Rings.{Rings}
-use Rattle.wkt_any_core.specs.declared.rings.Rings.TheVariants.{Proper}
+use Rattle.plane_core.specs.declared.rings.Rings.{Rings}
+use Rattle.plane_core.specs.declared.rings.Rings.TheVariants.{Proper}
 
 abbrev pub is_level : Edge → Vertex → Bool
 is_level e v = int_eq (side e (at v)) (pos 0)

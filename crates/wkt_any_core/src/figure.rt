@@ -8,8 +8,7 @@ ghost use Rattle.wkt_any_core.specs.Drawing.{kind_for, AreAllowed};
 ghost use Rattle.wkt_any_core.specs.Widths.{are_allowed, is_level, is_wide};
 
 use crate::paths::Paths;
-use crate::rings::Rings;
-use plane_core::{Edge, Geometry, Kind, Vertex};
+use plane_core::{Edge, Geometry, Kind, Rings, Vertex};
 use wkt_core::Keyword;
 
 fn kind_for(keyword: Keyword) -> Kind

@@ -22,8 +22,7 @@ mod heading;
 mod list;
 mod paths;
 mod reader;
-mod rings;
 
 pub use fault::GeometryFault;
+pub use plane_core::Rings;
 pub use reader::read;
-pub use rings::Rings;

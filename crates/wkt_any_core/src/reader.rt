@@ -2,13 +2,14 @@
 
 ghost use Rattle.std.specs.Prelude.{◌≡◌, ◌↔◌, List, ℕ, IfOk, IfErr, IfSome, IfNone, IsTrue, Result};
 ghost use Rattle.plane_core.specs.Figures.{Figure};
+ghost use Rattle.plane_core.specs.ProperRings.{TakesRings};
 ghost use Rattle.wkt_core.specs.Grammar.{RawPoint};
 ghost use Rattle.wkt_any_core.specs.declared.fault.GeometryFault.{GeometryFault};
 ghost use Rattle.wkt_any_core.specs.declared.heading.Heading.{Heading};
 ghost use Rattle.wkt_any_core.specs.Held.{IsRawText};
 ghost use Rattle.wkt_any_core.specs.Readings.{Reads, IsReading};
 ghost use Rattle.wkt_any_core.specs.Steps.{TakesText};
-ghost use Rattle.wkt_any_core.specs.Drawing.{skips_dots, TakesRings};
+ghost use Rattle.wkt_any_core.specs.Drawing.{skips_dots};
 ghost use Rattle.wkt_any_core.specs.Spelling.{Shows};
 
 use crate::body::read_body;
@@ -16,8 +17,7 @@ use crate::fault::GeometryFault;
 use crate::figure::geometry_of;
 use crate::heading::Heading;
 use crate::paths::Paths;
-use crate::rings::Rings;
-use plane_core::Geometry;
+use plane_core::{Geometry, Rings};
 use ring_core::has_proper_rings;
 use std::alloc::{AllocError, Global};
 use wkt_core::{Keyword, Scale, skip_blanks};

@@ -8,7 +8,7 @@ pub returns : goal.returns
 returns c =
     let relation = c.args.relation.now in
     let first = c.args.first in
-    let found = some_from_cases c.any.result (λ d. FitsApart relation first d) c.classes-classes.result.now
-    (cases_from_any _ _ _ (λ d. FitsApart relation first d) (λ d. ¬ (FitsApart relation first d)) c.any.ensures.ran (YieldsList-from_slice c.classes-classes.result.now cc)
+    let found = some_from_cases c.any.result (λ d. FitsApart relation first d) c.classes_of-classes.result.now
+    (cases_from_any _ _ _ (λ d. FitsApart relation first d) (λ d. ¬ (FitsApart relation first d)) c.any.ensures.ran (YieldsList-from_slice c.classes_of-classes.result.now cc)
     (λ x q k. search (rules, tests)) (λ x q k. search (rules, tests))) in
-    rw c.classes-classes.ensures at found
+    rw c.classes_of-classes.ensures at found

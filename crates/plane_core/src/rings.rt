@@ -1,0 +1,11 @@
+//! Which rings areas may have.
+
+/// Which rings areas may have.
+#[derive(Clone, Copy, Debug, PartialEq, Eq)]
+pub enum Rings {
+    /// Rings with an area that neither cross nor run along each other or themselves, so that each
+    /// geometry of them has an interior.
+    Proper,
+    /// Any closed rings, whose interior is that of the even-odd rule and may be empty.
+    EvenOdd,
+}
