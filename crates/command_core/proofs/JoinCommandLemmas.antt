@@ -15,8 +15,9 @@ use Rattle.join_core.specs.Inputs.{BlamesInput}
 use Rattle.join_core.specs.JoinRuns.{JoinFiles, LayersGive, left_fault, right_fault, edits_fault, edit_refused, edited, JoinGives, no_layers, reported}
 use Rattle.join_core.specs.JoinRuns.{IsJoinFault}
 use Rattle.join_core.specs.Runs.{Ends}
-use Rattle.command_core.specs.declared.command.Product.{Product}
-use Rattle.command_core.specs.declared.command.Product.TheVariants.{Report, Picture}
+use Rattle.join_core.specs.declared.joins.job.Product.{Product}
+use Rattle.join_core.specs.declared.joins.job.Product.TheVariants.{Report, Picture}
+use Rattle.join_core.specs.Products.{ProductGives, IsProductFault}
 use Rattle.words_core.specs.declared.words.Command.{Command}
 use Rattle.words_core.specs.declared.words.Command.TheVariants.{Join, Draw}
 use Rattle.words_core.specs.declared.words.JoinRequest.{JoinRequest}
@@ -299,11 +300,19 @@ module _ {T S : Type 0} (known : Option Files) (written : S → Option (List ℕ
 
 -- ---- either
 
--- what is given of the files of a join
-abbrev pub ProductGives : Product → JoinRequest → JoinFiles → Result (List ℕ) RunFault → Type 0
-ProductGives Report join = JoinGives (relation_of join.relation)
-ProductGives Picture join = DrawGives (relation_of join.relation)
-
-pub product_reads : (product : Product) (join : JoinRequest) → ReadsFiles (command_of product join) join (ProductGives product join)
+pub product_reads : (product : Product) (join : JoinRequest)
+    → ReadsFiles (command_of product join) join (ProductGives product (relation_of join.relation))
 product_reads Report join = join_reads join
 product_reads Picture join = draw_reads join
+
+module _ {T S : Type 0} (known : Option Files) (written : S → Option (List ℕ)) (is_flushed has_failed : S → Bool) (join : JoinRequest)
+    (l r : Option (List ℕ)) (e : Option (Option (List ℕ))) (old new : S) (result : Result T RunFault) where
+  pub product_ran : (product : Product) → AreOpened known join l r e
+      → Ends (λ text. ProductGives product (relation_of join.relation) (record { scale = join.scale; left = l; right = r; edits = e }) (Ok text))
+      written is_flushed has_failed old new result
+      → IfErr result (λ f. BlamesInput f
+      → ProductGives product (relation_of join.relation) (record { scale = join.scale; left = l; right = r; edits = e }) (Err f))
+      → IfErr result (λ f. f ≢ run.Write → IsProductFault product (record { scale = join.scale; left = l; right = r; edits = e }) f)
+      → CommandEnds known written is_flushed has_failed (command_of product join) old new result
+  product_ran Report = join_ran known written is_flushed has_failed join l r e old new result
+  product_ran Picture = draw_ran known written is_flushed has_failed join l r e old new result

@@ -12,6 +12,8 @@ use Rattle.join_core.specs.declared.fault.Input.{Input}
 use Rattle.join_core.specs.declared.fault.Input.TheVariants as input
 use Rattle.join_core.specs.declared.fault.RunFault.{RunFault}
 use Rattle.join_core.specs.declared.fault.RunFault.TheVariants as run
+use Rattle.join_core.specs.declared.joins.job.Product.{Product}
+use Rattle.join_core.specs.declared.joins.job.Product.TheVariants.{Report, Picture}
 use Rattle.join_core.specs.Bounds.{ListsCorners}
 use Rattle.join_core.specs.DrawRuns.{DrawGives, IsDrawFault}
 use Rattle.join_core.specs.JoinRuns.{JoinFiles, JoinGives, IsJoinFault}
@@ -22,8 +24,6 @@ use Rattle.join_core.specs.Runs.{Ends}
 use Rattle.join_core.specs.StatsTexts.{AreCounts}
 use Rattle.join_core.specs.WindowRuns.{WindowGives, IsWindowFault}
 use Rattle.command_core.specs.Opening.{Files}
-use Rattle.command_core.specs.declared.command.Product.{Product}
-use Rattle.command_core.specs.declared.command.Product.TheVariants.{Report, Picture}
 use Rattle.words_core.specs.declared.words.Command.{Command}
 use Rattle.words_core.specs.declared.words.Command.TheVariants.{Relate, Join, Draw, Window, Stats}
 use Rattle.words_core.specs.declared.words.Command.TheVariants.{Bounds}

@@ -10,21 +10,14 @@ ghost use Rattle.command_core.specs.Endings.{CommandIsDone};
 use crate::inputs::Inputs;
 use crate::relating::execute_relate;
 use join_core::{
-    Input, JoinSources, OpenGate, RunFault, Sink, fault_line, run_bounds, run_draw, run_join,
-    run_stats, run_window,
+    Input, JoinJob, JoinSources, Product, RunFault, Sink, fault_line, run_bounds, run_stats,
+    run_window,
 };
 use std::hash::RandomState;
 use std::random::RandomSource;
 use std::sync::Wait;
 use std::thread::Threads;
 use words_core::{Command, JoinRequest};
-
-/// What is made of the pairs of a join.
-#[derive(Clone, Copy)]
-enum Product {
-    Report,
-    Picture,
-}
 
 /// The status of a command that failed.
 pub const FAILED: u8 = 1;
@@ -98,30 +91,13 @@ fn execute_join<R: RandomSource + AllocGlobal + Threads + Wait + Sync, I: Inputs
 {
     let mut sources = open_sources(inputs, join)?;
     let states = hash_states(rt)?;
-    match product {
-        Product::Report => run_join(
-            rt,
-            rt.alloc(),
-            states,
-            join.scale,
-            &mut sources,
-            &join.relation,
-            &join.options,
-            &OpenGate,
-            output,
-        ),
-        Product::Picture => run_draw(
-            rt,
-            rt.alloc(),
-            states,
-            join.scale,
-            &mut sources,
-            &join.relation,
-            &join.options,
-            &OpenGate,
-            output,
-        ),
-    }
+    let job = JoinJob {
+        scale: join.scale,
+        relation: join.relation,
+        options: join.options,
+        product,
+    };
+    job.run(rt, states, &mut sources, output)
 }
 
 /// The files of a join, opened in the order left, right, edits.

@@ -1,5 +1,5 @@
 use Rattle.std.proofs.Common.{rules}
-use Rattle.command_core.proofs.JoinCommandLemmas.{not_opened, without_keys, product_reads, join_ran, draw_ran}
+use Rattle.command_core.proofs.JoinCommandLemmas.{not_opened, without_keys, product_reads, product_ran}
 use Rattle.command_core.proofs.command.execute_join.Goals as goal
 
 pub returns-in_err-sources : goal.returns-in_err-sources
@@ -12,12 +12,6 @@ returns-in_err-states g c =
     without_keys _ _ _ _ _ _ _ (product_reads c.args.product c.args.join.now) _ c.from_residual-in_err-states.result _ _ _ _ c.requires
     c.from_residual-in_err-states.ensures.1 c.in_err-states.ensures c.in_ok-sources.ensures.opened
 
-pub returns-in-Report : goal.returns-in-Report
-returns-in-Report g c =
-    rw c.in-Report.is
-    (join_ran _ _ _ _ c.args.join.now _ _ _ _ _ _ c.in_ok-sources.ensures.opened (search rules) (search rules) (search rules))
-
 pub returns : goal.returns
 returns g c =
-    rw c.in-Picture.is
-    (draw_ran _ _ _ _ c.args.join.now _ _ _ _ _ _ c.in_ok-sources.ensures.opened (search rules) (search rules) (search rules))
+    product_ran _ _ _ _ c.args.join.now _ _ _ _ _ _ c.args.product c.in_ok-sources.ensures.opened (search rules) (search rules) (search rules)
