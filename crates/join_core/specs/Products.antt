@@ -1,11 +1,13 @@
 -- What is made of the pairs of a join: a report or a picture.
 use Rattle.std.specs.Prelude.{◌≡◌, ◌≤◌, ℕ, List, Result}
 use Rattle.relation_core.specs.declared.relation.Relation.{Relation}
+use Rattle.relation_core.specs.JoinRelations.{relation_of}
 use Rattle.layer_core.specs.Edits.{Layers}
 use Rattle.draw_core.specs.Limits.{most_drawn}
 use Rattle.draw_core.specs.Pictures.{picture_of}
 use Rattle.report_core.specs.Reports.{IsReport}
 use Rattle.join_core.specs.declared.fault.RunFault.{RunFault}
+use Rattle.join_core.specs.declared.joins.job.JoinJob.{JoinJob}
 use Rattle.join_core.specs.declared.joins.job.Product.{Product}
 use Rattle.join_core.specs.declared.joins.job.Product.TheVariants.{Report, Picture}
 use Rattle.join_core.specs.DrawRuns.{DrawGives, IsDrawFault, IsLateDrawFault, features_of}
@@ -41,3 +43,15 @@ IsProductFault Picture = IsDrawFault
 abbrev pub IsLateProductFault : Product → RunFault → Type 0
 IsLateProductFault Report = IsLateFault
 IsLateProductFault Picture = IsLateDrawFault
+
+-- what a join that is asked for this gives
+abbrev pub JobGives : JoinJob → JoinFiles → Result (List ℕ) RunFault → Type 0
+JobGives job = ProductGives job.product (relation_of job.relation)
+
+-- what it makes of two layers
+abbrev pub IsMade : JoinJob → Layers → List ℕ → Type 0
+IsMade job = IsProduct job.product (relation_of job.relation)
+
+-- the faults that it may have, that of the sink aside
+abbrev pub IsJobFault : JoinJob → JoinFiles → RunFault → Type 0
+IsJobFault job = IsProductFault job.product

@@ -19,7 +19,7 @@ pub use deliver_core::Outcome;
 pub use draw_core::MAX_DRAWN;
 pub use fault::{Input, RunFault};
 pub use fault_text::fault_line;
-pub use joins::{JoinJob, JoinSources, Product, apply_edits, join, run_draw, run_join};
+pub use joins::{JoinJob, JoinSources, Product, apply_edits, join, run_join};
 pub use layer_run::DEFAULT_WORKERS;
 pub use options_core::{MAX_BATCH, MAX_CUT, MAX_WORKERS, OptionFault, Options};
 pub use parallel_core::{Gate, JoinFault, OpenGate};

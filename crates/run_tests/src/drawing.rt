@@ -1,4 +1,4 @@
-//! The rows of `run_draw`.
+//! The rows of a join that makes a picture.
 
 ghost use Rattle.std.specs.Prelude.{◌≡◌, false};
 ghost use Rattle.report_core.specs.ToWrite.{failed_of};
@@ -6,7 +6,7 @@ ghost use Rattle.report_core.specs.ToWrite.{failed_of};
 use crate::example::{LEFT, RIGHT};
 use crate::running::{Ended, Files, at_once, edited_example};
 use file_core::{FromRead, ReadFault};
-use join_core::{Input, JoinSources, MAX_DRAWN, OpenGate, Options, RunFault, ToWrite, run_draw};
+use join_core::{Input, JoinJob, JoinSources, MAX_DRAWN, Options, Product, RunFault, ToWrite};
 use layer_core::LayerFault;
 use relation_core::{JoinRelation, Relation};
 use std::hash::RandomState;
@@ -39,25 +39,19 @@ fn draw_into<R: Threads + Wait + Sync + RandomSource + AllocGlobal, W: Write>(
 ) -> Option<Result<(), RunFault>>
     requires { failed_of sink.old ≡ false }
 {
-    let relation = JoinRelation::new(Relation::Touches).ok()?;
-    let (options, scale) = (Options::new(4, 256, 2).ok()?, Scale::new(0)?);
+    let job = JoinJob {
+        scale: Scale::new(0)?,
+        relation: JoinRelation::new(Relation::Touches).ok()?,
+        options: Options::new(4, 256, 2).ok()?,
+        product: Product::Picture,
+    };
     let states = (RandomState::new(rt).ok()?, RandomState::new(rt).ok()?);
     let mut sources = JoinSources {
         left: FromRead::new(files.left),
         right: FromRead::new(files.right),
         edits: files.edits.map(|edits| FromRead::new(edits)),
     };
-    Some(run_draw(
-        rt,
-        rt.alloc(),
-        states,
-        scale,
-        &mut sources,
-        &relation,
-        &options,
-        &OpenGate,
-        sink,
-    ))
+    Some(job.run(rt, states, &mut sources, sink))
 }
 
 /// Draws files into a list of bytes.

@@ -4,13 +4,13 @@ ghost use Rattle.std.specs.Prelude.{◌≡◌, ◌<◌, Ok, Err, false, IfOk, If
 ghost use Rattle.relation_core.specs.JoinRelations.{relation_of};
 ghost use Rattle.layer_core.specs.Edits.{both};
 ghost use Rattle.draw_core.specs.Limits.{most_drawn};
-ghost use Rattle.join_core.specs.DrawRuns.{DrawGives, IsDrawFault, IsLateDrawFault, features_of};
+ghost use Rattle.parallel_core.specs.Faults.{IsWant};
+ghost use Rattle.join_core.specs.DrawRuns.{IsLateDrawFault, features_of};
 ghost use Rattle.join_core.specs.Inputs.{BlamesInput};
 ghost use Rattle.join_core.specs.Joins.{IsJoinList};
 ghost use Rattle.join_core.specs.JoinRuns.{files_of, JoinGives, IsJoinFault, IsLateFault};
-ghost use Rattle.parallel_core.specs.Faults.{IsWant};
-ghost use Rattle.join_core.specs.Products.{ProductGives, IsProduct, IsReported, IsDrawn};
-ghost use Rattle.join_core.specs.Products.{IsProductFault, IsLateProductFault};
+ghost use Rattle.join_core.specs.Products.{IsReported, IsDrawn, IsLateProductFault};
+ghost use Rattle.join_core.specs.Products.{JobGives, IsMade, IsJobFault};
 ghost use Rattle.join_core.specs.Runs.{NoTextFault, RunEnds};
 ghost use Rattle.join_core.specs.SourceStates.{AreFresh, HasFailed, TellsFailures};
 ghost use Rattle.join_core.specs.Texts.{bytes_of_text};
@@ -59,8 +59,7 @@ impl JoinJob {
         requires sink { S.has_failed sink.old ≡ false }
         ensures { let job = self.now in
             let files = files_of job.scale A.remaining B.remaining E.remaining sources.old in
-            RunEnds (ProductGives job.product (relation_of job.relation) files) NoTextFault
-            (IsProductFault job.product files)
+            RunEnds (JobGives job files) NoTextFault (IsJobFault job files)
             (HasFailed A.has_failed B.has_failed E.has_failed sources.new)
             S.written S.is_flushed S.has_failed sink.old sink.new result }
     {
@@ -109,41 +108,6 @@ pub fn run_join<R: Threads + Wait + Sync, A: Source, B: Source, E: Source, G: Ga
     run.write(states, sources, sink)
 }
 
-/// Writes the picture of two layers, after the edits of both, by workers that enter a gate before
-/// each task. All else is as [`JoinJob::run`] says.
-pub fn run_draw<R: Threads + Wait + Sync, A: Source, B: Source, E: Source, G: Gate + Sync, S: Sink>(
-    rt: &R,
-    alloc: Global,
-    states: (RandomState, RandomState),
-    scale: Scale,
-    sources: &mut JoinSources<A, B, E>,
-    relation: &JoinRelation,
-    options: &Options,
-    gate: &G,
-    sink: &mut S,
-) -> Result<(), RunFault>
-    requires sources { AreFresh A.has_failed B.has_failed E.has_failed sources.old }
-    requires sink { S.has_failed sink.old ≡ false }
-    ensures { let files = files_of scale A.remaining B.remaining E.remaining sources.old in
-        RunEnds (DrawGives (relation_of relation.now) files) NoTextFault (IsDrawFault files)
-        (HasFailed A.has_failed B.has_failed E.has_failed sources.new)
-        S.written S.is_flushed S.has_failed sink.old sink.new result }
-{
-    let job = JoinJob {
-        scale,
-        relation: *relation,
-        options: *options,
-        product: Product::Picture,
-    };
-    let run = JoinRun {
-        rt,
-        alloc,
-        gate,
-        job: &job,
-    };
-    run.write(states, sources, sink)
-}
-
 /// A job, and what it is done by: threads, memory, and the gate that its workers enter.
 #[derive(Drop)]
 struct JoinRun<'a, R, G> {
@@ -165,8 +129,7 @@ impl<R: Threads + Wait + Sync, G: Gate + Sync> JoinRun<'_, R, G> {
         requires sink { S.has_failed sink.old ≡ false }
         ensures { let job = self.now.job.now in
             let files = files_of job.scale A.remaining B.remaining E.remaining sources.old in
-            RunEnds (ProductGives job.product (relation_of job.relation) files) NoTextFault
-            (IsProductFault job.product files)
+            RunEnds (JobGives job files) NoTextFault (IsJobFault job files)
             (HasFailed A.has_failed B.has_failed E.has_failed sources.new)
             S.written S.is_flushed S.has_failed sink.old sink.new result }
     {
@@ -184,15 +147,13 @@ impl<R: Threads + Wait + Sync, G: Gate + Sync> JoinRun<'_, R, G> {
         requires { AreFresh A.has_failed B.has_failed E.has_failed sources.old }
         ensures ok { let job = self.now.job.now in
             let files = files_of job.scale A.remaining B.remaining E.remaining sources.old in
-            let gives = ProductGives job.product (relation_of job.relation) files in
-            IfOk result (λ text. gives (Ok (bytes_of_text text))) }
+            IfOk result (λ text. JobGives job files (Ok (bytes_of_text text))) }
         ensures fault { let job = self.now.job.now in
             let files = files_of job.scale A.remaining B.remaining E.remaining sources.old in
-            let gives = ProductGives job.product (relation_of job.relation) files in
-            IfErr result (λ f. BlamesInput f → gives (Err f)) }
+            IfErr result (λ f. BlamesInput f → JobGives job files (Err f)) }
         ensures faults { let job = self.now.job.now in
             let files = files_of job.scale A.remaining B.remaining E.remaining sources.old in
-            IfErr result (IsProductFault job.product files) }
+            IfErr result (IsJobFault job files) }
         ensures io { TellsFailures A.has_failed B.has_failed E.has_failed sources.new result }
     {
         let workers = self.job.options.workers();
@@ -210,9 +171,8 @@ impl<R: Threads + Wait + Sync, G: Gate + Sync> JoinRun<'_, R, G> {
 
     /// What is made of two layers.
     fn product(&self, left: &Layer, right: &Layer) -> Result<Text, RunFault>
-        ensures ok { let job = self.now.job.now in
-            IfOk result (λ text. IsProduct job.product (relation_of job.relation)
-            (both left.now.list right.now.list) (bytes_of_text text)) }
+        ensures ok { let layers = both left.now.list right.now.list in
+            IfOk result (λ text. IsMade self.now.job.now layers (bytes_of_text text)) }
         ensures many { let layers = both left.now.list right.now.list in
             IsErrOf result RunFault.TooManyToDraw → most_drawn < features_of layers }
         ensures err { IfErr result (IsLateProductFault self.now.job.now.product) }
