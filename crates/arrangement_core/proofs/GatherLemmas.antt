@@ -235,7 +235,7 @@ boxes_meet e f p wide he hf =
     (overlapping e.a.x e.b.x f.a.x f.b.x p.x p.w wide (along_x e p he) (along_x f p hf))
     (overlapping e.a.y e.b.y f.a.y f.b.y p.y p.w wide (along_y e p he) (along_y f p hf))
 
-at_first : (v : Vertex) → is_at v (at v) ≡ true
+pub at_first : (v : Vertex) → is_at v (at v) ≡ true
 at_first v = grind (arith, ints, one-times)
 
 pub meetings_none : (e : Edge) (ns : List Node) (f : Edge) → do_boxes_meet e f ≡ false → HasMeetings e ns f
@@ -274,17 +274,17 @@ place_same ns p q wp wq same h = record {
 level_coordinate : (x w a : ℤ) → int_eq x (w *ℤ a) ≡ true → x *ℤ pos 1 ≡ a *ℤ w
 level_coordinate x w a h = times-one x ∙ same_fact x (w *ℤ a) h ∙ times_comm w a
 
-at_same : (v : Vertex) (p : Point) → is_at v p ≡ true → IsSamePlace p (at v)
+pub at_same : (v : Vertex) (p : Point) → is_at v p ≡ true → IsSamePlace p (at v)
 at_same v p h = (
   level_coordinate p.x (pos p.w) v.x (and_first _ _ h),
   level_coordinate p.y (pos p.w) v.y (and_second (int_eq p.x (pos p.w *ℤ v.x)) _ h),
 )
 
-on_there : (e : Edge) (v : Vertex) (p : Point) → 0 < p.w → is_on e p ≡ true → IsSamePlace p (at v) → is_on e (at v) ≡ true
+pub on_there : (e : Edge) (v : Vertex) (p : Point) → 0 < p.w → is_on e p ≡ true → IsSamePlace p (at v) → is_on e (at v) ≡ true
 on_there e v p wide on same = sym (is_on-same_place e p (at v) wide (omega arith) same) ∙ on
 
 -- edges that are parallel to one edge are parallel
-parallel_both : (e f g : Edge) → HasLength e → turn_of e f ≡ pos 0 → turn_of e g ≡ pos 0 → turn_of f g ≡ pos 0
+pub parallel_both : (e f g : Edge) → HasLength e → turn_of e f ≡ pos 0 → turn_of e g ≡ pos 0 → turn_of f g ≡ pos 0
 parallel_both e f g long hf hg = by_zero (run e)
     (λ some. meeting_zero (run e) (turn_of f g) (run f) _ (run g) _ some (by_run (run e) (rise e) (run f) (rise f) (run g) (rise g)) hg hf)
     (λ no_run. by_zero (rise e)

@@ -2,6 +2,7 @@ pub mod AmongLemmas
 pub mod ArrangementLemmas
 pub mod BoxLemmas
 pub mod CrossLemmas
+pub mod ExistLemmas
 pub mod FaceLemmas
 pub mod FlipLemmas
 pub mod GatherLemmas
@@ -9,6 +10,7 @@ pub mod GrowthLemmas
 pub mod LawLemmas
 pub mod LineLemmas
 pub mod MatrixLemmas
+pub mod NearLemmas
 pub mod NodeLemmas
 pub mod OffPartLemmas
 pub mod OpenLemmas

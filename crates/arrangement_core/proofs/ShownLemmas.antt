@@ -28,12 +28,12 @@ use Rattle.plane_core.proofs.ScaleLemmas.{is_below-scaled}
 use Rattle.plane_core.proofs.PartScaleLemmas.{scaled_same, is_on-same_place, is_at-same_place}
 use Rattle.arrangement_core.specs.Nodes.{IsAmong, IsPointOf, AreNodesOf, Meeting, IsGapOf, middle}
 use Rattle.arrangement_core.specs.Marks.{rank}
-use Rattle.arrangement_core.specs.Growth.{Mark, HasGrownBy, mark_at, mark_above, mark_beside, piece_marks, transposed}
+use Rattle.arrangement_core.specs.Growth.{Mark, HasGrownBy, mark_at, mark_above, mark_beside, mark_in, piece_marks, transposed}
 use Rattle.arrangement_core.specs.ReadOffs.{outline_edges, AreEdgesOf, IsOneOf}
 use Rattle.arrangement_core.specs.Shown.{AreShown, all_parts, parts_above, rest_by, rest_parts, IsOnEdge, is_along, IsUncrossed, AreCuts, IsRepeated, IsGap, AreFacesShown, IsFaceShown}
 use Rattle.arrangement_core.proofs.OrderLemmas.{up_to_before, before_up_to}
 use Rattle.arrangement_core.proofs.LineLemmas.{IsForward, within_from_on, on_from_within}
-use Rattle.arrangement_core.proofs.FlipLemmas.{flip, is_on-flip, turn_of-turned, forward_or_flipped, first_level}
+use Rattle.arrangement_core.proofs.FlipLemmas.{flip, is_on-flip, turn_of-turned, forward_or_flipped, is_at-itself, first_level}
 use Rattle.arrangement_core.proofs.TestLemmas.{by_test, clash, first_holds, second_holds, not_true}
 use Rattle.arrangement_core.proofs.AmongLemmas.{among_left, among_right, none_any}
 use Rattle.arrangement_core.proofs.NodeLemmas.{all_among, IsWide, gap_first, gap_second, none_in_gap}
@@ -119,9 +119,11 @@ shown_of_rest m i other e p row x is h in_ apart =
     (h (outline_part other p) (in_rest other.kind other.ends.items other.edges.items p (off_others other e p in_ apart)))
 
 -- a place that adds nothing
-pub node_shown : (m : Matrix) (i : Part) (own other : Outline) (p : Point) (row : Parts Extent) → i ≡ outline_part own p → row ≡ pick i m.rows → AreShown row (all_parts other.kind) Dot → HasGrownBy (mark_at own other Dot p ∷ []) m m
-node_shown m i own other p row ei er h =
-    grown_none (mark_at own other Dot p) m (subst (λ (i : Part). 1 ≤ rank (entry m i (outline_part other p))) ei (shown_of_all m i other p row Dot er h))
+pub place_shown : (m : Matrix) (i : Part) (other : Outline) (p : Point) (row : Parts Extent) → row ≡ pick i m.rows → AreShown row (all_parts other.kind) Dot → HasGrownBy (mark_in i other p ∷ []) m m
+place_shown m i other p row e h = grown_none (mark_in i other p) m (shown_of_all m i other p row Dot e h)
+
+pub node_marked : (own other : Outline) (p : Point) (i : Part) (old new : Matrix) → i ≡ outline_part own p → HasGrownBy (mark_in i other p ∷ []) old new → HasGrownBy (mark_at own other Dot p ∷ []) old new
+node_marked own other p i old new e h = subst (λ (i : Part). HasGrownBy (mark_in i other p ∷ []) old new) e h
 
 pub above_shown : (m : Matrix) (own : Outline) (above : Part) (p : Point) (column : Parts Extent) → column ≡ pick above (transposed m).rows → AreShown column (parts_above own.kind) Area → HasGrownBy (mark_beside own above p ∷ []) m m
 above_shown m own above p column e h =
@@ -226,6 +228,25 @@ any_among q (y ∷ ys) x (inr k) h = right (q y) (list_any q ys) (any_among q ys
     right : (t u : Bool) → u ≡ true → (t || u) ≡ true
     right true u h = refl
     right false u h = h
+
+index_among : {A : Type 0} (xs : List A) (i : ℕ) (x : A) → i < length xs → x ≡ get_or xs i x → IsAmong x xs
+index_among [] i x lt h = absurd (none lt)
+  where
+    none : i < 0 → ⊥
+    none h = omega arith
+index_among (y ∷ ys) zero x lt h = inl h
+index_among (y ∷ ys) (suc i) x lt h = inr (index_among ys i x (omega arith) h)
+
+-- a single point is in the interior
+interior_point : (own : Outline) (v : Vertex) → own.kind ≡ Dots → IsAmong v own.ends.items → Interior ≡ outline_part own (at v)
+interior_point own v is one = sym (ap (λ (k : Kind). part_by k own.ends.items own.edges.items (at v)) is
+    ∙ ap (λ (t : Bool). if t then Interior else Exterior) (any_among (λ w. is_at w (at v)) own.ends.items v one (is_at-itself v)))
+
+pub point_marked : (own other : Outline) (vs : List Vertex) (i : ℕ) (v : Vertex) (p : Point) (old new : Matrix) → own.kind ≡ Dots → vs ≡ own.ends.items → i < length vs → v ≡ get_or vs i v → p ≡ at v
+    → HasGrownBy (mark_in Interior other p ∷ []) old new → HasGrownBy (mark_at own other Dot (at v) ∷ []) old new
+point_marked own other vs i v p old new is items lt at_i place h =
+    node_marked own other (at v) Interior old new (interior_point own v is (subst (IsAmong v) items (index_among vs i v lt at_i)))
+    (subst (λ (p : Point). HasGrownBy (mark_in Interior other p ∷ []) old new) place h)
 
 pub nodes_on : (own : Outline) (e : Edge) (ns : List Node) → IsAmong e own.edges.items → All (IsPointOf e) (map node_point ns) → All (λ n. IsOnEdge own (node_point n)) ns
 nodes_on own e [] one h = All-nil (λ n. IsOnEdge own (node_point n))
@@ -355,14 +376,6 @@ edges_of_second a b es long is =
 
 pub one_at : (own other : Outline) (es ds : List Edge) (i : ℕ) (e : Edge) → AreEdgesOf own other es → ds ≡ own.edges.items → i < length ds → e ≡ get_or ds i e → IsOneOf own other es e
 one_at own other es ds i e edges is lt at_i = record { edges = edges; one = subst (IsAmong e) is (index_among ds i e lt at_i) }
-  where
-    index_among : (xs : List Edge) (i : ℕ) (x : Edge) → i < length xs → x ≡ get_or xs i x → IsAmong x xs
-    index_among [] i x lt h = absurd (none lt)
-      where
-        none : i < 0 → ⊥
-        none h = omega arith
-    index_among (y ∷ ys) zero x lt h = inl h
-    index_among (y ∷ ys) (suc i) x lt h = inr (index_among ys i x (omega arith) h)
 
 -- nodes of one place
 pub same_order : (p q : Point) → is_eq (place_order p q) ≡ true → IsSamePlace p q

@@ -1,6 +1,6 @@
 -- Matrices and marks with the second geometry first.
-use Rattle.std.proofs.Common.{◌≡◌, ◌≤◌, inl, inr, refl, sym, subst, ap, ◌∙◌, true, false, List, [], ◌∷◌, ◌++◌, map}
-use Rattle.std.specs.Prelude.{Bool, if◌then◌else◌, pos}
+use Rattle.std.proofs.Common.{◌≡◌, ◌≤◌, ◌<◌, inl, inr, arith, refl, sym, subst, ap, ◌∙◌, true, false, suc, zero, List, [], ◌∷◌, ◌++◌, map, get_or, length}
+use Rattle.std.specs.Prelude.{ℕ, Bool, All, if◌then◌else◌, pos}
 use Rattle.std.specs.List.{flat_map}
 use Rattle.std.specs.Ordering.{int_eq, is_lt}
 use Rattle.std.proofs.lemmas.List.{map-append}
@@ -16,10 +16,14 @@ use Rattle.plane_core.specs.declared.outline.Outline.{Outline}
 use Rattle.plane_core.specs.Points.{Point, at, run}
 use Rattle.plane_core.specs.Places.{place_order}
 use Rattle.plane_core.specs.PlaneMatrices.{entry}
-use Rattle.arrangement_core.specs.Nodes.{IsAmong, NodedEdge, AreNoded, middle}
+use Rattle.plane_core.specs.Figures.{HasLength}
+use Rattle.arrangement_core.specs.Nodes.{IsAmong, IsNode, NodedEdge, AreNodesOf, AreNoded, middle}
+use Rattle.arrangement_core.specs.Nodes.IsNode.{FirstEnd, LastEnd, Meeting, Single}
 use Rattle.arrangement_core.specs.Marks.{rank}
 use Rattle.arrangement_core.specs.Growth.{Mark, HasGrownBy, mark_at, mark_above, piece_marks, gap_marks, gaps_marks, edge_marks, outside, transposed}
-use Rattle.arrangement_core.specs.ReadOffs.{outline_edges, outline_points, AreMarked, IsReadOffBy}
+use Rattle.arrangement_core.specs.ReadOffs.{points_by, outline_edges, outline_points, AreMarked, IsReadOffBy}
+use Rattle.arrangement_core.proofs.NodeLemmas.{all_among}
+use Rattle.arrangement_core.proofs.AmongLemmas.{among_left, among_right, among_either}
 use Rattle.arrangement_core.proofs.GrowthLemmas.{grown_as, grown-trans}
 use Rattle.arrangement_core.proofs.ReadOffLemmas.{among_map, map_among}
 
@@ -98,6 +102,21 @@ noded_both es vs [] ys (m ∷ ms) ns h k = absurd h
 noded_both es vs (x ∷ xs) ys [] ns h k = absurd h
 noded_both es vs (x ∷ xs) ys (m ∷ ms) ns h k = (h.0, h.1, noded_both es vs xs ys ms ns h.2 k)
 
+turn_points : (a b : Outline) (vs : List Vertex) → map turn (map (λ (v : Vertex). mark_at b a Dot (at v)) vs) ≡ map (λ (v : Vertex). mark_at a b Dot (at v)) vs
+turn_points a b [] = refl
+turn_points a b (v ∷ vs) = ap (λ (xs : List Mark). mark_at a b Dot (at v) ∷ xs) (turn_points a b vs)
+
+abbrev point_marks : Outline → Outline → List Vertex → List Mark
+point_marks a b vs = map (λ (v : Vertex). mark_at a b Dot (at v)) vs
+
+-- the single points of the one geometry, and then those of the other
+both_points : (a b : Outline) (vs ws : List Vertex) (old first second : Matrix) → HasGrownBy (point_marks a b vs) old first → HasGrownBy (point_marks b a ws) (transposed first) second
+    → HasGrownBy (point_marks a b (vs ++ ws)) old (transposed second)
+both_points a b vs ws old first second h k =
+    grown_as (point_marks a b vs ++ point_marks a b ws) (point_marks a b (vs ++ ws)) old (transposed second) (sym (map-append (λ (v : Vertex). mark_at a b Dot (at v)) vs ws))
+    (grown-trans (point_marks a b vs) (point_marks a b ws) old first (transposed second) h
+    (grown_as _ (point_marks a b ws) first (transposed second) (turn_points a b ws) (grown_turned (point_marks b a ws) first second k)))
+
 both_marked : (a b : Outline) (start first second new : Matrix)
     → AreMarked a b (outline_edges a b) (outline_points a b) a.edges.items start first
     → AreMarked b a (outline_edges a b) (outline_points a b) b.edges.items (transposed first) second
@@ -114,14 +133,74 @@ both_marked a b start first second new f s k is =
           (grown-trans (flat_map (edge_marks a b) (f.noded ++ s.noded)) (map (λ (v : Vertex). mark_at a b Dot (at v)) (outline_points a b)) start (transposed second) new all k);
     }
 
-pub all_marked : (a b : Outline) (es : List Edge) (vs : List Vertex) (start first turned second marked new : Matrix) → es ≡ outline_edges a b → vs ≡ outline_points a b → start ≡ outside
-    → AreMarked a b es vs a.edges.items start first → turned ≡ transposed first → AreMarked b a es vs b.edges.items turned second → marked ≡ transposed second
-    → HasGrownBy (map (λ (v : Vertex). mark_at a b Dot (at v)) vs) marked new → IsReadOffBy a b new
-all_marked a b es vs start first turned second marked new e v is f et s em k =
+-- nodes among edges are nodes among the same edges in another order
+node_among : (es fs : List Edge) (vs : List Vertex) (p : Point) → ((e : Edge) → IsAmong e fs → IsAmong e es) → IsNode fs vs p → IsNode es vs p
+node_among es fs vs p f (FirstEnd e one here) = FirstEnd e (f e one) here
+node_among es fs vs p f (LastEnd e one here) = LastEnd e (f e one) here
+node_among es fs vs p f (Meeting e g one other on also turning) = Meeting e g (f e one) (f g other) on also turning
+node_among es fs vs p f (Single v one here) = Single v one here
+
+nodes_among : (es fs : List Edge) (vs : List Vertex) (e : Edge) (ns : List Point) → ((d : Edge) → IsAmong d fs → IsAmong d es) → AreNodesOf es vs e ns → AreNodesOf fs vs e ns
+nodes_among es fs vs e ns f h = record {
+  points = h.points;
+  ascend = h.ascend;
+  first_end = h.first_end;
+  last_end = h.last_end;
+  nodes = λ p wide on node. h.nodes p wide on (node_among es fs vs p f node);
+}
+
+noded_among : (es fs : List Edge) (vs : List Vertex) (done : List Edge) (ns : List NodedEdge) → ((d : Edge) → IsAmong d fs → IsAmong d es) → AreNoded es vs done ns → AreNoded fs vs done ns
+noded_among es fs vs [] [] f h = tt
+noded_among es fs vs [] (n ∷ ns) f h = absurd h
+noded_among es fs vs (d ∷ done) [] f h = absurd h
+noded_among es fs vs (d ∷ done) (n ∷ ns) f h = (h.0, nodes_among es fs vs d n.nodes f h.1, noded_among es fs vs done ns f h.2)
+
+edges_turned : (a b : Outline) (e : Edge) → IsAmong e (outline_edges a b) → IsAmong e (outline_edges b a)
+edges_turned a b e one = elim (among_either e a.edges.items b.edges.items one) [
+  | inl k ↦ among_right e b.edges.items a.edges.items k
+  | inr k ↦ among_left e b.edges.items a.edges.items k
+]
+
+get_among : {A : Type 0} (xs : List A) (i : ℕ) (d : A) → i < length xs → IsAmong (get_or xs i d) xs
+get_among [] i d lt = absurd (none i lt)
+  where
+    none : (i : ℕ) → i < 0 → ⊥
+    none i lt = omega arith
+get_among (x ∷ xs) zero d lt = inl refl
+get_among (x ∷ xs) (suc i) d lt = inr (get_among xs i d (omega (arith, lt)))
+
+pub long_turned : (a b c d : Outline) → c ≡ b → d ≡ a → All HasLength (outline_edges a b) → All HasLength (outline_edges c d)
+long_turned a b c d hc hd long =
+    subst (λ (x : Outline). All HasLength (outline_edges x d)) (sym hc)
+    (subst (λ (x : Outline). All HasLength (outline_edges b x)) (sym hd)
+    (λ i e lt. all_among HasLength _ (outline_edges a b) long (edges_turned b a _ (get_among (outline_edges b a) i e lt))))
+
+turned_marked : (a b : Outline) (vs : List Vertex) (done : List Edge) (old new : Matrix) → AreMarked b a (outline_edges b a) vs done old new → AreMarked b a (outline_edges a b) vs done old new
+turned_marked a b vs done old new h = record {
+  noded = h.noded;
+  are_noded = noded_among (outline_edges b a) (outline_edges a b) vs done h.noded (edges_turned a b) h.are_noded;
+  grown = h.grown;
+}
+
+pub all_marked : (a b c d : Outline) (vs : List Vertex) (start first turned second marked points again all new : Matrix) → c ≡ b → d ≡ a → vs ≡ outline_points a b → start ≡ outside
+    → AreMarked a b (outline_edges a b) vs a.edges.items start first → turned ≡ transposed first
+    → AreMarked c d (outline_edges c d) vs c.edges.items turned second → marked ≡ transposed second
+    → HasGrownBy (map (λ (v : Vertex). mark_at d c Dot (at v)) (points_by d.kind d.ends.items)) marked points → again ≡ transposed points
+    → HasGrownBy (map (λ (v : Vertex). mark_at c d Dot (at v)) (points_by c.kind c.ends.items)) again all → new ≡ transposed all → IsReadOffBy a b new
+all_marked a b c d vs start first turned second marked points again all new hc hd v is f et s em k ea l en =
     both_marked a b start first second new
-    (subst (λ (x : List Vertex). AreMarked a b (outline_edges a b) x a.edges.items start first) v (subst (λ (x : List Edge). AreMarked a b x vs a.edges.items start first) e f))
-    (subst (λ (x : List Vertex). AreMarked b a (outline_edges a b) x b.edges.items (transposed first) second) v
-    (subst (λ (x : List Edge). AreMarked b a x vs b.edges.items (transposed first) second) e (subst (λ (x : Matrix). AreMarked b a es vs b.edges.items x second) et s)))
-    (subst (λ (x : List Vertex). HasGrownBy (map (λ (v : Vertex). mark_at a b Dot (at v)) x) (transposed second) new) v
-    (subst (λ (x : Matrix). HasGrownBy (map (λ (v : Vertex). mark_at a b Dot (at v)) vs) x new) em k))
+    (subst (λ (x : List Vertex). AreMarked a b (outline_edges a b) x a.edges.items start first) v f)
+    (turned_marked a b (outline_points a b) b.edges.items (transposed first) second
+    (subst (λ (x : List Vertex). AreMarked b a (outline_edges b a) x b.edges.items (transposed first) second) v
+    (subst (λ (x : Matrix). AreMarked b a (outline_edges b a) vs b.edges.items x second) et
+    (subst (λ (x : Outline). AreMarked b x (outline_edges b x) vs b.edges.items turned second) hd
+    (subst (λ (x : Outline). AreMarked x d (outline_edges x d) vs x.edges.items turned second) hc s)))))
+    (subst (λ (x : Matrix). HasGrownBy (point_marks a b (outline_points a b)) (transposed second) x) (sym en)
+    (both_points a b (points_by a.kind a.ends.items) (points_by b.kind b.ends.items) (transposed second) points all
+    (subst (λ (x : Matrix). HasGrownBy (point_marks a b (points_by a.kind a.ends.items)) x points) em
+    (subst (λ (x : Outline). HasGrownBy (point_marks a x (points_by a.kind a.ends.items)) marked points) hc
+    (subst (λ (x : Outline). HasGrownBy (point_marks x c (points_by x.kind x.ends.items)) marked points) hd k)))
+    (subst (λ (x : Matrix). HasGrownBy (point_marks b a (points_by b.kind b.ends.items)) x all) ea
+    (subst (λ (x : Outline). HasGrownBy (point_marks b x (points_by b.kind b.ends.items)) again all) hd
+    (subst (λ (x : Outline). HasGrownBy (point_marks x d (points_by x.kind x.ends.items)) again all) hc l)))))
     is

@@ -1,12 +1,13 @@
 -- Points of an edge that are gathered one by one, before they are put in order.
 use Rattle.std.specs.Prelude.{◌≡◌, ◌<◌, List, ◌++◌, true}
-use Rattle.std.specs.List.{Contains}
+use Rattle.std.specs.List.{Contains, slice_index_or}
 use Rattle.plane_core.specs.declared.edge.Edge.{Edge}
 use Rattle.plane_core.specs.declared.node.Node.{Node}
 use Rattle.plane_core.specs.declared.vertex.Vertex.{Vertex}
 use Rattle.plane_core.specs.Points.{Point, at, is_on, IsSamePlace}
 use Rattle.plane_core.specs.Places.{node_point}
 use Rattle.plane_core.specs.Meetings.{IsMeeting}
+use Rattle.rtree_core.specs.declared.node.Entry.{Entry}
 
 -- the same nodes, and more after them
 pub record Extends (old new : List Node) : Type 0 where
@@ -35,3 +36,7 @@ pub record HasMeetings (e : Edge) (ns : List Node) (f : Edge) : Type 0 where
   pub first : HasVertex e ns f.a
   pub last : HasVertex e ns f.b
   pub meeting : HasMeeting e ns f
+
+-- the same of the edge that an entry numbers
+abbrev pub HasEntryMeetings : Edge → List Edge → List Node → Entry → Type 0
+HasEntryMeetings e es ns x = (d : Edge) → HasMeetings e ns (slice_index_or es x.number d)

@@ -28,7 +28,11 @@ mark_at a b extent p = record { first = outline_part a p; second = outline_part 
 abbrev pub mark_above : Outline → Outline → Point → Mark
 mark_above a b p = record { first = outline_above a p; second = outline_above b p; extent = Area }
 
--- the same, where the second part is known
+-- a point's mark, where the first part is known
+abbrev pub mark_in : Part → Outline → Point → Mark
+mark_in part b p = record { first = part; second = outline_part b p; extent = Dot }
+
+-- the mark of what lies above a point, where the second part is known
 abbrev pub mark_beside : Outline → Part → Point → Mark
 mark_beside a above p = record { first = outline_above a p; second = above; extent = Area }
 
@@ -71,8 +75,18 @@ outside =
 
 -- rows as columns
 abbrev pub column : Part → Matrix → Parts Extent
-column j m = record { interior = entry m Interior j; boundary = entry m Boundary j; exterior = entry m Exterior j }
+column j m = record {
+  interior = entry m Interior j;
+  boundary = entry m Boundary j;
+  exterior = entry m Exterior j;
+}
 
 -- the matrix of the same geometries, the second one first
 abbrev pub transposed : Matrix → Matrix
-transposed m = record { rows = record { interior = column Interior m; boundary = column Boundary m; exterior = column Exterior m } }
+transposed m = record {
+  rows = record {
+    interior = column Interior m;
+    boundary = column Boundary m;
+    exterior = column Exterior m;
+  };
+}

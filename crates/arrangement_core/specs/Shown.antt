@@ -53,7 +53,8 @@ IsOnEdge o p = list_any (λ e. is_on e p) o.edges.items ≡ true
 
 -- edges of one line, whose boxes meet
 abbrev pub is_along : Edge → Edge → Bool
-is_along e f = do_boxes_meet e f && (int_eq (turn_of e f) (pos 0) && int_eq (side e (at f.a)) (pos 0))
+is_along e f =
+    do_boxes_meet e f && (int_eq (turn_of e f) (pos 0) && int_eq (side e (at f.a)) (pos 0))
 
 -- a point of an edge that is on no edge of the other geometry but on those along the same line
 pub record IsUncrossed (other : Outline) (e : Edge) (p : Point) : Type 0 where
@@ -67,13 +68,14 @@ pub record AreCuts (own other : Outline) (e : Edge) (ns : List Point) : Type 0 w
   pub others_long : (f : Edge) → IsAmong f other.edges.items → HasLength f
   pub points : All (IsPointOf e) ns
   pub ascend : Ascend ns
-  pub meetings : (f : Edge) (p : Point) → IsAmong f other.edges.items → 0 < p.w → is_on e p ≡ true → is_on f p ≡ true
-      → turn_of e f ≢ pos 0 → IsPlaceOf p ns
+  pub meetings : (f : Edge) (p : Point) → IsAmong f other.edges.items → 0 < p.w
+      → is_on e p ≡ true → is_on f p ≡ true → turn_of e f ≢ pos 0 → IsPlaceOf p ns
 
 -- the parts that can lie just above a point share areas, whichever they are
 abbrev pub AreFacesShown : Matrix → Kind → Kind → Type 0
 AreFacesShown m own other =
-    (i j : Part) → pick i (parts_above own) ≡ true → pick j (parts_above other) ≡ true → 3 ≤ rank (entry m i j)
+    (i j : Part) → pick i (parts_above own) ≡ true → pick j (parts_above other) ≡ true
+    → 3 ≤ rank (entry m i j)
 
 -- or nothing lies above the edge, as it is vertical
 abbrev pub IsFaceShown : Matrix → Kind → Kind → Edge → Type 0

@@ -3,7 +3,7 @@
 ghost use Rattle.std.specs.Prelude.{◌≡◌, [], ◌∷◌};
 ghost use Rattle.plane_core.specs.PlaneMatrices.{pick, entry};
 ghost use Rattle.arrangement_core.specs.Marks.{rank};
-ghost use Rattle.arrangement_core.specs.Growth.{HasGrownBy, with_part, outside, transposed};
+ghost use Rattle.arrangement_core.specs.Growth.{Mark, HasGrownBy, with_part, outside, transposed};
 
 use plane_core::Part;
 use relation_core::{Extent, Matrix, Parts};
@@ -130,7 +130,8 @@ fn with_row(rows: Parts<Parts<Extent>>, part: Part, row: Parts<Extent>) -> Parts
 
 /// A matrix with an entry raised to an extent at least.
 pub(crate) fn raised(matrix: Matrix, first: Part, second: Part, extent: Extent) -> Matrix
-    ensures { HasGrownBy (record { first = first; second = second; extent = extent } ∷ []) matrix result }
+    ensures { let mark : Mark = record { first = first; second = second; extent = extent } in
+        HasGrownBy (mark ∷ []) matrix result }
 {
     let row = row_of(&matrix, first);
     let known = entry_of(&row, second);

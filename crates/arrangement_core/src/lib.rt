@@ -5,7 +5,9 @@
 mod entries;
 mod marks;
 mod matrices;
+mod near;
 mod nodes;
+mod pair;
 mod shown;
 
 pub use matrices::relate;

@@ -9,32 +9,25 @@ ghost use Rattle.relation_core.specs.declared.extent.Extent.TheVariants.{Point a
 ghost use Rattle.plane_core.specs.Points.{at};
 ghost use Rattle.plane_core.specs.Places.{point_of, node_point};
 ghost use Rattle.arrangement_core.specs.Nodes.{NodedEdge};
-ghost use Rattle.arrangement_core.specs.Growth.{HasGrownBy, mark_at, gap_marks, gaps_marks, edge_marks};
-ghost use Rattle.arrangement_core.specs.Growth.{mark_beside, piece_marks};
+ghost use Rattle.arrangement_core.specs.Growth.{HasGrownBy, mark_at, mark_in, mark_beside};
+ghost use Rattle.arrangement_core.specs.Growth.{piece_marks, gap_marks, gaps_marks, edge_marks};
+ghost use Rattle.arrangement_core.specs.ReadOffs.{points_by};
 ghost use Rattle.arrangement_core.specs.Shown.{IsOnEdge, IsUncrossed, AreCuts, IsRepeated, IsGap};
 
 use crate::entries::{column_of, raised, row_of};
 use crate::shown::{all_parts, are_shown, is_piece_shown, part_on_edge, parts_above};
-use plane_core::{Edge, Node, Outline, Part, Place, Vertex};
+use edge_index_core::IndexedOutline;
+use plane_core::{Edge, Kind, Node, Part, Place};
 use relation_core::{Extent, Matrix};
 
-/// A matrix that shows the parts in which a point lies.
-fn mark_place(matrix: Matrix, a: &Outline, b: &Outline, p: &Place) -> Matrix
-    ensures { HasGrownBy (mark_at a.now b.now Dot (point_of p.now) ∷ []) matrix result }
+/// A matrix that shows a point of which one part is known, and the other one looked up only if the
+/// matrix doesn't show it whichever it is.
+fn mark_place(matrix: Matrix, part: Part, other: &IndexedOutline, p: &Place) -> Matrix
+    ensures { HasGrownBy (mark_in part other.now (point_of p.now) ∷ []) matrix result }
 {
-    let first = a.standing_at(p);
-    let second = b.standing_at(p);
-    raised(matrix, first.part, second.part, Extent::Point)
-}
-
-/// A matrix that shows the parts in which a point of an edge lies.
-fn mark_node(matrix: Matrix, own: &Outline, other: &Outline, p: &Place) -> Matrix
-    requires { IsOnEdge own.now (point_of p.now) }
-    ensures { HasGrownBy (mark_at own.now other.now Dot (point_of p.now) ∷ []) matrix result }
-{
-    let part = part_on_edge(own, p);
     let row = row_of(&matrix, part);
-    if are_shown(&row, &all_parts(other.kind), Extent::Point) {
+    let kind = other.outline().kind;
+    if are_shown(&row, &all_parts(kind), Extent::Point) {
         matrix
     } else {
         let standing = other.standing_at(p);
@@ -42,12 +35,22 @@ fn mark_node(matrix: Matrix, own: &Outline, other: &Outline, p: &Place) -> Matri
     }
 }
 
+/// A matrix that shows the parts in which a point of an edge lies.
+fn mark_node(matrix: Matrix, own: &IndexedOutline, other: &IndexedOutline, p: &Place) -> Matrix
+    requires { IsOnEdge own.now (point_of p.now) }
+    ensures { HasGrownBy (mark_at own.now other.now Dot (point_of p.now) ∷ []) matrix result }
+{
+    let part = part_on_edge(own.outline(), p);
+    mark_place(matrix, part, other, p)
+}
+
 /// A matrix that shows the face above a point, of which the part in the other geometry is known.
-fn mark_above(matrix: Matrix, own: &Outline, above: Part, p: &Place) -> Matrix
+fn mark_above(matrix: Matrix, own: &IndexedOutline, above: Part, p: &Place) -> Matrix
     ensures { HasGrownBy (mark_beside own.now above (point_of p.now) ∷ []) matrix result }
 {
     let column = column_of(&matrix, above);
-    if are_shown(&column, &parts_above(own.kind), Extent::Area) {
+    let kind = own.outline().kind;
+    if are_shown(&column, &parts_above(kind), Extent::Area) {
         matrix
     } else {
         let standing = own.standing_at(p);
@@ -56,11 +59,17 @@ fn mark_above(matrix: Matrix, own: &Outline, above: Part, p: &Place) -> Matrix
 }
 
 /// A matrix that shows the piece of an edge on which a point lies, and the face above it.
-fn place_piece(matrix: Matrix, own: &Outline, other: &Outline, e: &Edge, p: &Place) -> Matrix
+fn place_piece(
+    matrix: Matrix,
+    own: &IndexedOutline,
+    other: &IndexedOutline,
+    e: &Edge,
+    p: &Place,
+) -> Matrix
     requires { IsOnEdge own.now (point_of p.now) }
     ensures { HasGrownBy (piece_marks own.now other.now e.now (point_of p.now)) matrix result }
 {
-    let part = part_on_edge(own, p);
+    let part = part_on_edge(own.outline(), p);
     let standing = other.standing_at(p);
     let on = raised(matrix, part, standing.part, Extent::Line);
     if e.is_vertical() {
@@ -72,12 +81,18 @@ fn place_piece(matrix: Matrix, own: &Outline, other: &Outline, e: &Edge, p: &Pla
 
 /// A matrix that shows the piece of an edge on which a point lies, and the face above it: as it is,
 /// if it shows all that these can be.
-fn mark_piece(matrix: Matrix, own: &Outline, other: &Outline, e: &Edge, p: &Place) -> Matrix
+fn mark_piece(
+    matrix: Matrix,
+    own: &IndexedOutline,
+    other: &IndexedOutline,
+    e: &Edge,
+    p: &Place,
+) -> Matrix
     requires on { IsOnEdge own.now (point_of p.now) }
     requires uncrossed { IsUncrossed other.now e.now (point_of p.now) }
     ensures { HasGrownBy (piece_marks own.now other.now e.now (point_of p.now)) matrix result }
 {
-    if is_piece_shown(&matrix, own, other, e, p) {
+    if is_piece_shown(&matrix, own.outline(), other.outline(), e, p) {
         matrix
     } else {
         place_piece(matrix, own, other, e, p)
@@ -85,9 +100,17 @@ fn mark_piece(matrix: Matrix, own: &Outline, other: &Outline, e: &Edge, p: &Plac
 }
 
 /// A matrix that shows the piece of an edge between two of its points, where these differ.
-fn mark_gap(matrix: Matrix, own: &Outline, other: &Outline, e: &Edge, k: &Node, l: &Node) -> Matrix
+fn mark_gap(
+    matrix: Matrix,
+    own: &IndexedOutline,
+    other: &IndexedOutline,
+    e: &Edge,
+    k: &Node,
+    l: &Node,
+) -> Matrix
     requires { IsGap own.now other.now e.now (node_point k.now) (node_point l.now) }
-    ensures { HasGrownBy (gap_marks own.now other.now e.now (node_point k.now) (node_point l.now)) matrix result }
+    ensures { let marks = gap_marks own.now other.now e.now (node_point k.now) (node_point l.now) in
+        HasGrownBy marks matrix result }
 {
     if k.compare(l).is_lt() {
         mark_piece(matrix, own, other, e, &k.middle(l))
@@ -118,9 +141,15 @@ fn is_repeated(nodes: &[Node], i: usize) -> bool
 }
 
 /// A matrix that shows the nodes of an edge.
-fn mark_nodes(matrix: Matrix, own: &Outline, other: &Outline, nodes: &[Node]) -> Matrix
+fn mark_nodes(
+    matrix: Matrix,
+    own: &IndexedOutline,
+    other: &IndexedOutline,
+    nodes: &[Node],
+) -> Matrix
     requires { All (λ n. IsOnEdge own.now (node_point n)) nodes.now }
-    ensures { HasGrownBy (map (λ n. mark_at own.now other.now Dot (node_point n)) nodes.now) matrix result }
+    ensures { let marks = map (λ n. mark_at own.now other.now Dot (node_point n)) nodes.now in
+        HasGrownBy marks matrix result }
 {
     let mut grown = matrix;
     for i in 0..nodes.len() {
@@ -133,9 +162,16 @@ fn mark_nodes(matrix: Matrix, own: &Outline, other: &Outline, nodes: &[Node]) ->
 }
 
 /// A matrix that shows the pieces of an edge between its nodes, and the faces above these.
-fn mark_gaps(matrix: Matrix, own: &Outline, other: &Outline, e: &Edge, nodes: &[Node]) -> Matrix
+fn mark_gaps(
+    matrix: Matrix,
+    own: &IndexedOutline,
+    other: &IndexedOutline,
+    e: &Edge,
+    nodes: &[Node],
+) -> Matrix
     requires { AreCuts own.now other.now e.now (map node_point nodes.now) }
-    ensures { HasGrownBy (gaps_marks own.now other.now e.now (map node_point nodes.now)) matrix result }
+    ensures { let marks = gaps_marks own.now other.now e.now (map node_point nodes.now) in
+        HasGrownBy marks matrix result }
 {
     let mut grown = matrix;
     for i in 1..nodes.len() {
@@ -146,23 +182,38 @@ fn mark_gaps(matrix: Matrix, own: &Outline, other: &Outline, e: &Edge, nodes: &[
     grown
 }
 
-/// A matrix that shows single points.
-pub(crate) fn mark_points(matrix: Matrix, a: &Outline, b: &Outline, points: &[Vertex]) -> Matrix
-    ensures { HasGrownBy (map (λ v. mark_at a.now b.now Dot (at v)) points.now) matrix result }
+/// A matrix that shows single points, which are interior points of the first geometry.
+fn mark_each(matrix: Matrix, own: &IndexedOutline, other: &IndexedOutline) -> Matrix
+    requires { own.now.kind ≡ Kind.Points }
+    ensures { let marks = map (λ v. mark_at own.now other.now Dot (at v)) own.now.ends.items in
+        HasGrownBy marks matrix result }
 {
     let mut grown = matrix;
+    let points = own.outline().ends.as_slice();
     for v in points {
-        grown = mark_place(grown, a, b, &Place::at(v));
+        grown = mark_place(grown, Part::Interior, other, &Place::at(v));
     }
     grown
+}
+
+/// A matrix that shows the single points of the first geometry, if it is made of such.
+pub(crate) fn mark_points(matrix: Matrix, own: &IndexedOutline, other: &IndexedOutline) -> Matrix
+    ensures { let points = points_by own.now.kind own.now.ends.items in
+        HasGrownBy (map (λ v. mark_at own.now other.now Dot (at v)) points) matrix result }
+{
+    match own.outline().kind {
+        Kind::Points => mark_each(matrix, own, other),
+        Kind::Lines => matrix,
+        Kind::Areas => matrix,
+    }
 }
 
 /// A matrix that shows an edge of the first geometry by its nodes: these, its pieces, and the faces
 /// above these.
 pub(crate) fn mark_noded(
     matrix: Matrix,
-    own: &Outline,
-    other: &Outline,
+    own: &IndexedOutline,
+    other: &IndexedOutline,
     e: &Edge,
     nodes: &[Node],
 ) -> Matrix

@@ -4,23 +4,16 @@ ghost use Rattle.std.specs.Prelude.{◌≡◌, ◌++◌, All, OnOk, IfOk};
 ghost use Rattle.plane_core.specs.Figures.{HasLength};
 ghost use Rattle.plane_core.specs.PlaneMatrices.{IsPlaneMatrix};
 ghost use Rattle.arrangement_core.specs.ReadOffs.{points_by, outline_edges, outline_points};
-ghost use Rattle.arrangement_core.specs.ReadOffs.{AreEdgesOf, IsOneOf, IsEdgeMarked, AreMarked, IsReadOffBy, IsMatrixOf};
+ghost use Rattle.arrangement_core.specs.ReadOffs.{IsOneOf, IsEdgeMarked, AreMarked, IsReadOffBy, IsMatrixOf};
 
 use crate::entries::{outside, transposed};
 use crate::marks::{mark_noded, mark_points};
-use crate::nodes::nodes_of;
-use plane_core::{Edge, Geometry, Kind, Outline, Vertex};
+use crate::nodes::gather_nodes;
+use crate::pair::Pair;
+use edge_index_core::IndexedOutline;
+use plane_core::{Edge, Geometry, Kind, Node, Outline, Vertex};
 use relation_core::Matrix;
 use std::alloc::{AllocError, Global};
-
-/// The edges of both.
-fn all_edges(alloc: Global, a: &Outline, b: &Outline) -> Result<Vec<Edge>, AllocError>
-    ensures { IfOk result (λ v. v.items ≡ outline_edges a.now b.now) }
-{
-    let mut edges = Vec::from_slice(alloc, &a.edges)?;
-    edges.extend_from_slice(&b.edges)?;
-    Ok(edges)
-}
 
 /// Adds the single points of a geometry, if it is made of such.
 fn push_points(points: &mut Vec<Vertex>, a: &Outline) -> Result<(), AllocError>
@@ -46,68 +39,72 @@ fn all_points(alloc: Global, a: &Outline, b: &Outline) -> Result<Vec<Vertex>, Al
     Ok(points)
 }
 
-/// A matrix that shows an edge of the first geometry: its nodes, its pieces, and the faces above
-/// these.
+/// A matrix that shows an edge of the first geometry: its nodes, for which there is a list to
+/// reuse, its pieces, and the faces above these.
 fn mark_edge(
-    alloc: Global,
+    nodes: &mut Vec<Node>,
     matrix: Matrix,
-    own: &Outline,
-    other: &Outline,
-    e: &Edge,
-    edges: &[Edge],
+    pair: &Pair,
     points: &[Vertex],
+    e: &Edge,
 ) -> Result<Matrix, AllocError>
-    requires { IsOneOf own.now other.now edges.now e.now }
-    ensures { IfOk result (λ m. IsEdgeMarked own.now other.now edges.now points.now e.now matrix m) }
+    requires { IsOneOf pair.now.first pair.now.second (outline_edges pair.now.first pair.now.second) e.now }
+    ensures { let a = pair.now.first in let b = pair.now.second in
+        IfOk result (λ m. IsEdgeMarked a b (outline_edges a b) points.now e.now matrix m) }
 {
-    let nodes = nodes_of(alloc, e, edges, points)?;
-    Ok(mark_noded(matrix, own, other, e, &nodes))
+    gather_nodes(nodes, e, pair, points)?;
+    Ok(mark_noded(matrix, &pair.first, &pair.second, e, nodes))
 }
 
 /// A matrix that shows all edges of the first geometry.
 fn mark_edges(
     alloc: Global,
     matrix: Matrix,
-    own: &Outline,
-    other: &Outline,
-    edges: &[Edge],
+    pair: &Pair,
     points: &[Vertex],
 ) -> Result<Matrix, AllocError>
-    requires { AreEdgesOf own.now other.now edges.now }
-    ensures { let marked = AreMarked own.now other.now edges.now points.now own.now.edges.items in
+    requires { All HasLength (outline_edges pair.now.first pair.now.second) }
+    ensures { let a = pair.now.first in let b = pair.now.second in
+        let marked = AreMarked a b (outline_edges a b) points.now a.edges.items in
         IfOk result (λ m. marked matrix m) }
 {
+    let mut nodes = Vec::new(alloc);
     let mut grown = matrix;
-    let own_edges = own.edges.as_slice();
+    let own_edges = pair.first.edges();
     for e in own_edges {
-        grown = mark_edge(alloc, grown, own, other, e, edges, points)?;
+        grown = mark_edge(&mut nodes, grown, pair, points, e)?;
     }
     Ok(grown)
 }
 
 /// A matrix that shows all edges and single points of two geometries.
-fn read_off(alloc: Global, a: &Outline, b: &Outline) -> Result<Matrix, AllocError>
-    requires { All HasLength (outline_edges a.now b.now) }
-    ensures { IfOk result (λ m. IsReadOffBy a.now b.now m) }
+fn read_off(alloc: Global, pair: Pair) -> Result<Matrix, AllocError>
+    requires { All HasLength (outline_edges pair.first pair.second) }
+    ensures { IfOk result (λ m. IsReadOffBy pair.first pair.second m) }
 {
-    let edge_list = all_edges(alloc, a, b)?;
-    let point_list = all_points(alloc, a, b)?;
-    let edges = edge_list.as_slice();
+    let point_list = all_points(alloc, pair.first.outline(), pair.second.outline())?;
     let points = point_list.as_slice();
     let start = outside();
-    let first = mark_edges(alloc, start, a, b, edges, points)?;
+    let first = mark_edges(alloc, start, &pair, points)?;
     let turned = transposed(&first);
-    let second = mark_edges(alloc, turned, b, a, edges, points)?;
+    let turned_pair = pair.turned();
+    let second = mark_edges(alloc, turned, &turned_pair, points)?;
     let marked = transposed(&second);
-    Ok(mark_points(marked, a, b, points))
+    let with_first = mark_points(marked, &turned_pair.second, &turned_pair.first);
+    let turned_again = transposed(&with_first);
+    let with_second = mark_points(turned_again, &turned_pair.first, &turned_pair.second);
+    Ok(transposed(&with_second))
 }
 
 /// The matrix of the two geometries that have these outlines.
-fn relate_outlines(alloc: Global, a: &Outline, b: &Outline) -> Result<Matrix, AllocError>
-    requires { All HasLength (outline_edges a.now b.now) }
-    ensures { IfOk result (λ m. IsMatrixOf a.now b.now m) }
+fn relate_outlines(alloc: Global, a: Outline, b: Outline) -> Result<Matrix, AllocError>
+    requires { All HasLength (outline_edges a b) }
+    ensures { IfOk result (λ m. IsMatrixOf a b m) }
 {
-    let matrix = read_off(alloc, a, b)?;
+    let first = IndexedOutline::new(alloc, a)?;
+    let second = IndexedOutline::new(alloc, b)?;
+    let pair = Pair { first, second };
+    let matrix = read_off(alloc, pair)?;
     Ok(matrix)
 }
 
@@ -118,6 +115,6 @@ pub fn relate(alloc: Global, a: &Geometry, b: &Geometry) -> Result<Matrix, Alloc
 {
     let first = a.outline(alloc)?;
     let second = b.outline(alloc)?;
-    let matrix = relate_outlines(alloc, &first, &second)?;
+    let matrix = relate_outlines(alloc, first, second)?;
     Ok(matrix)
 }

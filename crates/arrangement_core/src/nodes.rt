@@ -1,14 +1,18 @@
 //! The nodes of an edge in order: its ends, and the points where edges or single points meet it.
 
-ghost use Rattle.std.specs.Prelude.{map, All, OnOk, IfOk};
+ghost use Rattle.std.specs.Prelude.{map, All, OnOk};
 ghost use Rattle.std.specs.List.Sorted.{IsPermutation};
 ghost use Rattle.plane_core.specs.Figures.{HasLength};
 ghost use Rattle.plane_core.specs.Places.{node_point};
 ghost use Rattle.arrangement_core.specs.Nodes.{Ascend, AreNodesOf};
 ghost use Rattle.arrangement_core.specs.Gathered.{Extends, IsOn, HasVertex, HasMeeting, HasMeetings};
+ghost use Rattle.arrangement_core.specs.ReadOffs.{outline_edges};
 
+use crate::near::push_node_meetings;
+use crate::pair::Pair;
+use edge_index_core::{IndexedOutline, bounds_of};
 use plane_core::{Edge, Node, Vertex};
-use std::alloc::{AllocError, Global};
+use std::alloc::AllocError;
 
 /// Adds a vertex where it lies on the edge.
 fn push_vertex(nodes: &mut Vec<Node>, e: &Edge, v: &Vertex) -> Result<(), AllocError>
@@ -38,7 +42,7 @@ fn push_meeting(nodes: &mut Vec<Node>, e: &Edge, f: &Edge) -> Result<(), AllocEr
 }
 
 /// Adds the ends of another edge that lie on the edge, and the point where the two meet.
-fn push_meetings(nodes: &mut Vec<Node>, e: &Edge, f: &Edge) -> Result<(), AllocError>
+pub(crate) fn push_meetings(nodes: &mut Vec<Node>, e: &Edge, f: &Edge) -> Result<(), AllocError>
     requires { All (IsOn e.now) nodes.old.items }
     ensures kept { OnOk result (Extends nodes.old.items nodes.new.items) }
     ensures on { OnOk result (All (IsOn e.now) nodes.new.items) }
@@ -53,7 +57,7 @@ fn push_meetings(nodes: &mut Vec<Node>, e: &Edge, f: &Edge) -> Result<(), AllocE
 }
 
 /// Adds the ends of other edges that lie on the edge, and the points where these meet it.
-fn push_all_meetings(nodes: &mut Vec<Node>, e: &Edge, edges: &[Edge]) -> Result<(), AllocError>
+fn push_each_meetings(nodes: &mut Vec<Node>, e: &Edge, edges: &[Edge]) -> Result<(), AllocError>
     requires { All (IsOn e.now) nodes.old.items }
     ensures kept { OnOk result (Extends nodes.old.items nodes.new.items) }
     ensures on { OnOk result (All (IsOn e.now) nodes.new.items) }
@@ -63,6 +67,29 @@ fn push_all_meetings(nodes: &mut Vec<Node>, e: &Edge, edges: &[Edge]) -> Result<
         push_meetings(nodes, e, f)?;
     }
     Ok(())
+}
+
+/// The same of the edges of an outline.
+fn push_all_meetings(
+    nodes: &mut Vec<Node>,
+    e: &Edge,
+    outline: &IndexedOutline,
+) -> Result<(), AllocError>
+    requires { All (IsOn e.now) nodes.old.items }
+    ensures kept { OnOk result (Extends nodes.old.items nodes.new.items) }
+    ensures on { OnOk result (All (IsOn e.now) nodes.new.items) }
+    ensures meetings { let edges = outline.now.edges.items in
+        OnOk result (All (HasMeetings e.now nodes.new.items) edges) }
+{
+    let edges = outline.edges();
+    match outline.root() {
+        Some(root) => {
+            let bounds = bounds_of(e);
+            push_node_meetings(nodes, e, &bounds, edges, root)?;
+            Ok(())
+        }
+        None => push_each_meetings(nodes, e, edges),
+    }
 }
 
 /// Adds the vertices that lie on the edge.
@@ -87,23 +114,26 @@ fn sort_nodes(nodes: &mut Vec<Node>) -> Result<(), AllocError>
     Ok(())
 }
 
-/// The nodes of an edge among edges and single points, from the least by (x, y) to the greatest.
+/// Replaces points by the nodes of an edge among the edges of two outlines and single points, from
+/// the least by (x, y) to the greatest.
 ///
 /// Nodes at one place may stand there more than once.
-pub(crate) fn nodes_of(
-    alloc: Global,
+pub(crate) fn gather_nodes(
+    nodes: &mut Vec<Node>,
     e: &Edge,
-    edges: &[Edge],
+    pair: &Pair,
     points: &[Vertex],
-) -> Result<Vec<Node>, AllocError>
+) -> Result<(), AllocError>
     requires { HasLength e.now }
-    ensures { IfOk result (λ v. AreNodesOf edges.now points.now e.now (map node_point v.items)) }
+    ensures { let edges = outline_edges pair.now.first pair.now.second in
+        OnOk result (AreNodesOf edges points.now e.now (map node_point nodes.new.items)) }
 {
-    let mut nodes = Vec::new(alloc);
-    push_vertex(&mut nodes, e, &e.a)?;
-    push_vertex(&mut nodes, e, &e.b)?;
-    push_all_meetings(&mut nodes, e, edges)?;
-    push_vertices(&mut nodes, e, points)?;
-    sort_nodes(&mut nodes)?;
-    Ok(nodes)
+    nodes.clear();
+    push_vertex(nodes, e, &e.a)?;
+    push_vertex(nodes, e, &e.b)?;
+    push_all_meetings(nodes, e, &pair.first)?;
+    push_all_meetings(nodes, e, &pair.second)?;
+    push_vertices(nodes, e, points)?;
+    sort_nodes(nodes)?;
+    Ok(())
 }

@@ -239,3 +239,65 @@ fn ring_twice(rt: HostRuntime) -> Result<(), Fail> {
     let b: Drawn<'_> = (Kind::Points, &[&[(1, 1)]]);
     check(&rt, a, b, b"FFFFF10F2")
 }
+
+#[test]
+fn areas_overlap(rt: HostRuntime) -> Result<(), Fail> {
+    let a: Drawn<'_> = (Kind::Areas, &[&[(0, 0), (4, 0), (4, 4), (0, 4), (0, 0)]]);
+    let b: Drawn<'_> = (Kind::Areas, &[&[(2, 2), (6, 2), (6, 6), (2, 6), (2, 2)]]);
+    check(&rt, a, b, b"212101212")
+}
+
+#[test]
+fn overlap_along_sides(rt: HostRuntime) -> Result<(), Fail> {
+    let a: Drawn<'_> = (Kind::Areas, &[&[(0, 0), (4, 0), (4, 4), (0, 4), (0, 0)]]);
+    let b: Drawn<'_> = (Kind::Areas, &[&[(2, 0), (6, 0), (6, 4), (2, 4), (2, 0)]]);
+    check(&rt, a, b, b"212111212")
+}
+
+#[test]
+fn last_edge_along(rt: HostRuntime) -> Result<(), Fail> {
+    let a: Drawn<'_> = (
+        Kind::Areas,
+        &[&[(0, 0), (6, 0), (6, 6), (3, 5), (0, 6), (0, 0)]],
+    );
+    let b: Drawn<'_> = (
+        Kind::Areas,
+        &[&[(-1, 1), (7, 2), (7, 7), (0, 7), (0, 4), (-1, 1)]],
+    );
+    check(&rt, a, b, b"212111212")
+}
+
+#[test]
+fn ring_in_ring(rt: HostRuntime) -> Result<(), Fail> {
+    let a: Drawn<'_> = (Kind::Areas, &[&[(1, 1), (3, 1), (3, 3), (1, 3), (1, 1)]]);
+    let b: Drawn<'_> = (Kind::Areas, &[&[(0, 0), (4, 0), (4, 4), (0, 4), (0, 0)]]);
+    check(&rt, a, b, b"2FF1FF212")
+}
+
+#[test]
+fn same_ring(rt: HostRuntime) -> Result<(), Fail> {
+    let a: Drawn<'_> = (Kind::Areas, &[&[(0, 0), (5, 1), (2, 4), (0, 0)]]);
+    let b: Drawn<'_> = (Kind::Areas, &[&[(2, 4), (0, 0), (5, 1), (2, 4)]]);
+    check(&rt, a, b, b"2FFF1FFF2")
+}
+
+#[test]
+fn line_through_area(rt: HostRuntime) -> Result<(), Fail> {
+    let a: Drawn<'_> = (Kind::Lines, &[&[(-1, 1), (9, 3)]]);
+    let b: Drawn<'_> = (Kind::Areas, &[&[(0, 0), (4, 0), (4, 4), (0, 4), (0, 0)]]);
+    check(&rt, a, b, b"101FF0212")
+}
+
+#[test]
+fn line_ends_in_area(rt: HostRuntime) -> Result<(), Fail> {
+    let a: Drawn<'_> = (Kind::Lines, &[&[(1, 1), (9, 3)]]);
+    let b: Drawn<'_> = (Kind::Areas, &[&[(0, 0), (4, 0), (4, 4), (0, 4), (0, 0)]]);
+    check(&rt, a, b, b"1010F0212")
+}
+
+#[test]
+fn end_on_middle(rt: HostRuntime) -> Result<(), Fail> {
+    let a: Drawn<'_> = (Kind::Lines, &[&[(0, 0), (4, 0)]]);
+    let b: Drawn<'_> = (Kind::Lines, &[&[(2, 0), (2, 3)]]);
+    check(&rt, a, b, b"F01FF0102")
+}

@@ -1,20 +1,25 @@
-use Rattle.std.proofs.Common.{rules, subst}
+use Rattle.std.proofs.Common.{rules, subst, refl, ◌∙◌, List}
 use Rattle.plane_core.specs.declared.edge.Edge.{Edge}
-use Rattle.std.proofs.Common.{List}
-use Rattle.arrangement_core.specs.ReadOffs.{AreMarked}
+use Rattle.arrangement_core.specs.ReadOffs.{AreMarked, outline_edges}
 use Rattle.arrangement_core.proofs.ReadOffLemmas.{marked_none, marked_more, marked_whole}
-use Rattle.arrangement_core.proofs.ShownLemmas.{one_at}
+use Rattle.arrangement_core.proofs.ShownLemmas.{edges_of_first, one_at}
 use Rattle.arrangement_core.proofs.matrices.mark_edges.Goals as goal
 
 pub loop-e-init : goal.loop-e-init
 loop-e-init c = marked_none _ _ _ _ _
 
 pub mark_edge-requires : goal.mark_edge-requires
-mark_edge-requires c = one_at c.args.own.now c.args.other.now c.args.edges.now c.as_slice-own_edges.result.now c.loop-e.e-index c.e-item.result c.requires c.as_slice-own_edges.ensures.value (search rules) (search rules)
+mark_edge-requires c =
+    let a = c.args.pair.now.first in
+    let b = c.args.pair.now.second in
+    one_at a b (outline_edges a b) c.edges-own_edges.result.now c.loop-e.e-index c.e-item.result (edges_of_first a b (outline_edges a b) c.requires refl) c.edges-own_edges.ensures (search rules) (search rules)
 
 pub loop-e-preserved : goal.loop-e-preserved
 loop-e-preserved c = marked_more _ _ _ _ _ _ _ _ _ _ (search rules) (search rules) c.loop-e.invariant c.in_ok-grown.ensures
 
 pub returns : goal.returns
-returns c = subst (λ (ds : List Edge). AreMarked c.args.own.now c.args.other.now c.args.edges.now c.args.points.now ds c.args.matrix c.loop-e.grown) c.as_slice-own_edges.ensures.value
+returns c =
+    let a = c.args.pair.now.first in
+    let b = c.args.pair.now.second in
+    subst (λ (ds : List Edge). AreMarked a b (outline_edges a b) c.args.points.now ds c.args.matrix c.loop-e.grown) c.edges-own_edges.ensures
     (marked_whole _ _ _ _ _ c.loop-e.e-index _ _ (search rules) c.loop-e.invariant)

@@ -2,7 +2,7 @@ use Rattle.std.proofs.Common.{rules, All, subst}
 use Rattle.std.proofs.lemmas.List.{take_all}
 use Rattle.arrangement_core.specs.Gathered.{HasMeetings}
 use Rattle.arrangement_core.proofs.GatherLemmas.{extends-trans, meetings_more}
-use Rattle.arrangement_core.proofs.nodes.push_all_meetings.Goals as goal
+use Rattle.arrangement_core.proofs.nodes.push_each_meetings.Goals as goal
 
 pub loop-f-preserved : goal.loop-f-preserved
 loop-f-preserved c = record {

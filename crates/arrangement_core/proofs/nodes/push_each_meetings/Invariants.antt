@@ -1,6 +1,6 @@
 use Rattle.std.proofs.Common.{All, take}
 use Rattle.arrangement_core.specs.Gathered.{Extends, IsOn, HasMeetings}
-use Rattle.arrangement_core.proofs.nodes.push_all_meetings.Given as goal
+use Rattle.arrangement_core.proofs.nodes.push_each_meetings.Given as goal
 
 abbrev pub invariant-loop-f : goal.invariant-loop-f
 invariant-loop-f l = record {
