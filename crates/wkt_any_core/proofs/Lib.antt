@@ -7,3 +7,5 @@ pub mod PathLemmas
 pub mod CutLemmas
 pub mod WideLemmas
 pub mod AnswerLemmas
+pub mod PrinterLemmas
+pub mod CanonicalLemmas

@@ -1,3 +1,4 @@
+pub mod Canonical
 pub mod Drawing
 pub mod FaultTexts
 pub mod Grammar

@@ -1,5 +1,6 @@
 //! Well-known text of any geometry (OGC 06-103r4, 7.2): points, polylines and polygons of any
-//! direction, and their MULTI forms, with coordinates in units of a `Scale` of `wkt_core`.
+//! direction, and their MULTI forms, read and printed, with coordinates in units of a `Scale` of
+//! `wkt_core`.
 //!
 //! At scale 0 a unit is 1:
 //!
@@ -21,8 +22,10 @@ mod figure;
 mod heading;
 mod list;
 mod paths;
+mod printer;
 mod reader;
 
 pub use fault::GeometryFault;
 pub use plane_core::Rings;
+pub use printer::print;
 pub use reader::read;

@@ -106,14 +106,14 @@ module _ (scale : Scale) where
 
   -- ---- points
 
-  InRange : Position → Type 0
+  abbrev pub InRange : Position → Type 0
   InRange p = IsCoordinate p.x × IsCoordinate p.y
 
-  raw : Position → RawPoint
+  pub raw : Position → RawPoint
   raw p = record { x = numeral p.x; y = numeral p.y }
 
-  point_printed : (p : Position) → InRange p → PointText (raw p) (pair scale p)
-  unfolding InRange raw
+  pub point_printed : (p : Position) → InRange p → PointText (raw p) (pair scale p)
+  unfolding raw
   point_printed p h = record {
     front = number scale p.x;
     back = 32 ∷ number scale p.y;
@@ -122,12 +122,12 @@ module _ (scale : Scale) where
     joined = append_assoc (number scale p.x) (codes " ") (number scale p.y);
   }
 
-  position_printed : (p : Position) → InRange p → position scale (raw p) ≡ p
-  unfolding InRange raw
+  pub position_printed : (p : Position) → InRange p → position scale (raw p) ≡ p
+  unfolding raw
   position_printed p h = λ i. record { x = value_printed p.x h.0 i; y = value_printed p.y h.1 i }
 
-  good_point : (p : Position) → InRange p → HasGoodNumbers scale (raw p)
-  unfolding InRange raw
+  pub good_point : (p : Position) → InRange p → HasGoodNumbers scale (raw p)
+  unfolding raw
   good_point p h = (good_printed p.x h.0, good_printed p.y h.1)
 
   -- ---- lists of points
@@ -270,7 +270,7 @@ module _ (scale : Scale) where
     high_y = (omega (arith, ints), omega (arith, ints))
 
     point_spelled : x1 s ≡ x2 s → y1 s ≡ y2 s → Spells scale (codes "POINT (" ++ listed scale (corner (x1 s) (y1 s) ∷ []) ++ codes ")") s
-    unfolding InRange AllInRange
+    unfolding AllInRange
     point_spelled e f =
         let p = corner (x1 s) (y1 s) in
         spelled_by _ Point (p ∷ []) s ((low_x, low_y), tt)
@@ -279,7 +279,7 @@ module _ (scale : Scale) where
 
     segment_spelled : (x1 s ≡ x2 s) ⊎ (y1 s ≡ y2 s) → (x1 s <ℤ x2 s) ⊎ (y1 s <ℤ y2 s)
         → Spells scale (codes "LINESTRING (" ++ listed scale (corner (x1 s) (y1 s) ∷ corner (x2 s) (y2 s) ∷ []) ++ codes ")") s
-    unfolding InRange AllInRange
+    unfolding AllInRange
     segment_spelled same apart =
         let p = corner (x1 s) (y1 s) in
         let q = corner (x2 s) (y2 s) in
@@ -294,7 +294,7 @@ module _ (scale : Scale) where
         })
 
     rectangle_spelled : x1 s <ℤ x2 s → y1 s <ℤ y2 s → Spells scale (codes "POLYGON ((" ++ listed scale (corners s ++ corner (x1 s) (y1 s) ∷ []) ++ codes "))") s
-    unfolding InRange AllInRange
+    unfolding AllInRange
     rectangle_spelled wide high =
         let a = corner (x1 s) (y1 s) in
         let rest = corner (x2 s) (y1 s) ∷ corner (x2 s) (y2 s) ∷ corner (x1 s) (y2 s) ∷ a ∷ [] in

@@ -44,7 +44,7 @@ pub use fault::WktFault;
 pub use keyword::Keyword;
 pub use laws::{migration_law, one_shape_law, widened_law};
 pub use position::{Position, ReadPoint, read_point};
-pub use printer::print;
+pub use printer::{print, push_point};
 pub use reader::read;
 pub use scale::Scale;
 pub use token::{Next, read_next, skip_blanks, skip_symbol, skip_word};

@@ -64,8 +64,11 @@ fn push_number(text: &mut String, units: i64, scale: Scale) -> Result<(), AllocE
     push_fraction(text, magnitude % one, scale)
 }
 
-/// Adds the two numbers of a point.
-fn push_point(text: &mut String, point: &Position, scale: Scale) -> Result<(), AllocError>
+/// Adds the two numbers of a point to a text, by the units of a scale, with a space between them.
+///
+/// # Errors
+/// Where memory is refused; the text may then end in a part of the point.
+pub fn push_point(text: &mut String, point: &Position, scale: Scale) -> Result<(), AllocError>
     ensures { OnOk result (string_bytes text.new
         ≡ string_bytes text.old ++ pair scale point.now) }
 {
