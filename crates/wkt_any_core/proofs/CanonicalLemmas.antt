@@ -5,7 +5,7 @@ use Rattle.std.specs.List.{AllByRecursion}
 use Rattle.std.proofs.lemmas.List.{append_assoc, append-nil}
 use Rattle.plane_core.specs.declared.vertex.Vertex.{Vertex}
 use Rattle.plane_core.specs.declared.rings.Rings.{Rings}
-use Rattle.plane_core.specs.Figures.{Figure, IsPath, IsRing, IsGeometry, edges}
+use Rattle.plane_core.specs.Figures.{Figure, IsPath, IsRing, IsGeometry}
 use Rattle.plane_core.specs.Figures.Figure.{Points, Lines, Areas}
 use Rattle.plane_core.specs.Outlines.{kind_of}
 use Rattle.plane_core.specs.Vertices.{paths_in}
@@ -22,7 +22,7 @@ use Rattle.wkt_any_core.specs.declared.heading.Heading.{Heading}
 use Rattle.wkt_any_core.specs.Canonical.{separated, vertex_text, path_text, point_text, part_text, points_text, lines_text, areas_text, canonical}
 use Rattle.wkt_any_core.specs.Drawing.{position_of, positions_of, kind_for, is_kept, skips_dots, drawn, Draws}
 use Rattle.wkt_any_core.specs.Grammar.{Member, BodyBy, Words, Raw, joined}
-use Rattle.wkt_any_core.specs.Spelling.{Shows, Spells}
+use Rattle.wkt_any_core.specs.Spelling.{Spells}
 
 -- ---- what is drawn is drawn again as it is
 

@@ -1,7 +1,7 @@
 -- The geometry that lists of points draw.
 use Rattle.std.specs.Prelude.{◌≡◌, ◌≢◌, ◌⊎◌, ◌==◌, ◌&&◌, ⊤, Bool}
 use Rattle.std.specs.Prelude.{true, false, not, ℤ, pos, ◌+ℤ◌, ◌*ℤ◌, List}
-use Rattle.std.specs.Prelude.{[], ◌∷◌, map, length, All}
+use Rattle.std.specs.Prelude.{map, length, All}
 use Rattle.std.specs.List.{filter}
 use Rattle.wkt_core.specs.declared.keyword.Keyword.{Keyword}
 use Rattle.wkt_core.specs.declared.keyword.Keyword.TheVariants.{Point, LineString, Polygon}

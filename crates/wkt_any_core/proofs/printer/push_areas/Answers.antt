@@ -1,4 +1,4 @@
-use Rattle.std.proofs.Common.{◌≡◌, ◌∙◌, sym, length}
+use Rattle.std.proofs.Common.{◌∙◌, sym, length}
 use Rattle.plane_core.specs.Vertices.{paths_in}
 use Rattle.wkt_any_core.proofs.PrinterLemmas.{one_text, many_text}
 use Rattle.wkt_any_core.proofs.printer.push_areas.Goals as goal
