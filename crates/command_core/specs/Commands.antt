@@ -1,6 +1,6 @@
 -- What a command gives, by what lies at the paths that it names.
-use Rattle.std.specs.Prelude.{◌≡◌, ◌≢◌, ⊤, ℕ, List, [], ◌∷◌, ◌++◌, Option, Some, None, Bool, Result, Ok, Err}
-use Rattle.std.specs.Prelude.{IfSome, IfErr}
+use Rattle.std.specs.Prelude.{◌≡◌, ◌≢◌, ⊤, ℕ, List, [], ◌∷◌, ◌++◌, Option, Some, None, Bool}
+use Rattle.std.specs.Prelude.{Result, Ok, Err, IfSome, IfErr}
 use Rattle.std.specs.Borrow.{Bor}
 use Rattle.relation_core.specs.JoinRelations.{relation_of}
 use Rattle.relation_core.specs.Matrices.{letters_of}
@@ -53,9 +53,10 @@ PathsGive Gives at join answer =
     AfterEdits at join.edits_path answer (λ e.
     Gives (record { scale = join.scale; left = Some l; right = Some r; edits = e }) answer)))
 
--- the letters of the matrix of two texts and a line feed, or the first text that is at fault, by the
--- geometries that are read
-abbrev pub GeometriesGive : Geometries → Scale → List ℕ → List ℕ → Result (List ℕ) RunFault → Type 0
+-- the letters of the matrix of two texts and a line feed, or the first text that is at fault, where
+-- these geometries are read
+abbrev pub GeometriesGive : Geometries → Scale → List ℕ → List ℕ → Result (List ℕ) RunFault
+    → Type 0
 GeometriesGive Box scale a b answer = RelateGives scale a b answer
 GeometriesGive (Any rings) scale a b (Ok line) =
     (m : Matrix) × IsTextMatrix scale rings a b m × (line ≡ letters_of m ++ 10 ∷ [])

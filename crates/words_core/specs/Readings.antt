@@ -1,6 +1,6 @@
 -- What the words of the command line are read as, by what `clap` finds in them.
-use Rattle.std.specs.Prelude.{◌≡◌, ◌≢◌, ◌<◌, ◌≤◌, ⊤, ◌⊎◌, ◌&&◌, ◌||◌, ℕ, Bool, true, false, List, []}
-use Rattle.std.specs.Prelude.{◌∷◌, ◌++◌, length, Option, Some, None, Result, Ok, Err, codes}
+use Rattle.std.specs.Prelude.{◌≡◌, ◌≢◌, ◌<◌, ◌≤◌, ⊤, ◌⊎◌, ◌&&◌, ◌||◌, ℕ, Bool, true, false, List}
+use Rattle.std.specs.Prelude.{[], ◌∷◌, ◌++◌, length, Option, Some, None, Result, Ok, Err, codes}
 use Rattle.std.specs.Prelude.{if◌then◌else◌, find, nat_le, nat_eq, option_map, option_and_then}
 use Rattle.std.specs.Prelude.{string_bytes}
 use Rattle.std.specs.Bool.{MatchBool}
