@@ -145,6 +145,8 @@ def judged(kind: str, way: str, plain: Ended, ended: Ended) -> str | None:
         return crash(ended)
     if line is None:
         return "another answer, although nothing failed"
+    if kind == "write" and ended.output == plain.output and ended.status == 0 and plain.errors.startswith(ended.errors):
+        return None  # a note that standard error hasn't taken
     if ended.status not in (1, plain.status) or ended.status == 0:
         return "another answer with status 0, or a wrong status"
     is_told = bool(re.fullmatch(line, ended.errors))

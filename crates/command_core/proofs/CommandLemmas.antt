@@ -1,6 +1,7 @@
 -- How a command ends, by what its files and its run did.
-use Rattle.std.proofs.Common.{◌≡◌, ◌≢◌, ◌↔◌, ℕ, List, Option, Some, None, Bool, false, Result, Ok, Err, IsErrAnd, ◌⊎◌, inl, inr, IfErr, IfSome}
+use Rattle.std.proofs.Common.{◌≡◌, ◌≢◌, ◌↔◌, ℕ, List, Option, Some, None, Bool, false, Result, Ok, Err, IsErrAnd, ◌⊎◌, inl, inr, IfErr, IfSome, IsTrue}
 use Rattle.std.proofs.Common.{refl, sym, subst, ◌∙◌}
+use Rattle.report_core.specs.Written.{AppendsPrefix}
 use Rattle.wkt_core.specs.declared.fault.WktFault.{WktFault}
 use Rattle.wkt_core.specs.declared.scale.Scale.{Scale}
 use Rattle.wkt_any_core.specs.declared.rings.Rings.{Rings}
@@ -141,6 +142,19 @@ pub text_blamed : {T : Type 0} (scale : Scale) (rings : Rings) (a b x y : List �
     → ((g : TextFault) → (answer ≡ Err g) ↔ HasTextFault scale rings x y g) → answer ≡ Err f → HasTextFault scale rings a b f
 text_blamed scale rings a b x y answer f first second exact is =
     subst (λ (q : List ℕ). HasTextFault scale rings a q f) second (subst (λ (p : List ℕ). HasTextFault scale rings p y f) first ((exact f).0 is))
+
+-- a text was begun, and the sink has failed
+pub write_failed : {T S : Type 0} (P : List ℕ → Type 0) (written : S → Option (List ℕ)) (is_flushed has_failed : S → Bool) (old new : S)
+    (result : Result T RunFault) (text : List ℕ) → IsErrAnd result (λ e. e ≡ run.Write) → P text → AppendsPrefix (written old) (written new) text
+    → IsTrue (has_failed new) → Ends P written is_flushed has_failed old new result
+write_failed P written is_flushed has_failed old new (Ok x) text h is front failed = absurd h
+write_failed P written is_flushed has_failed old new (Err e) text h is front failed = record {
+  ok = tt;
+  flushed = tt;
+  failed = ((λ q. failed), (λ q. cc));
+  partly = λ q. (text, is, front);
+  untouched = λ other. absurd (other h);
+}
 
 -- ---- opening
 

@@ -1,12 +1,13 @@
 -- What a command gives, by what lies at the paths that it names.
-use Rattle.std.specs.Prelude.{◌≡◌, ◌≢◌, ⊤, ℕ, List, [], ◌∷◌, ◌++◌, Option, Some, None, Bool}
+use Rattle.std.specs.Prelude.{◌≡◌, ◌≢◌, ⊤, ℕ, List, [], ◌∷◌, ◌++◌, Option, Some, None, Bool, false}
 use Rattle.std.specs.Prelude.{Result, Ok, Err, IfSome, IfErr}
 use Rattle.std.specs.Borrow.{Bor}
 use Rattle.relation_core.specs.JoinRelations.{relation_of}
 use Rattle.relation_core.specs.Matrices.{letters_of}
-use Rattle.relation_core.specs.declared.matrix.Matrix.{Matrix}
 use Rattle.wkt_core.specs.declared.scale.Scale.{Scale}
-use Rattle.relate_any_core.specs.TextMatrices.{HasTextFault, IsTextMatrix}
+use Rattle.relate_any_core.specs.TextMatrices.{HasTextFault, IsRelated}
+use Rattle.relate_any_core.specs.declared.improper.Improper.{Improper}
+use Rattle.relate_any_core.specs.declared.texts.Related.{Related}
 use Rattle.relate_any_core.specs.declared.texts.TextFault.TheVariants as texts
 use Rattle.join_core.specs.declared.fault.Input.{Input}
 use Rattle.join_core.specs.declared.fault.Input.TheVariants as input
@@ -59,7 +60,7 @@ abbrev pub GeometriesGive : Geometries → Scale → List ℕ → List ℕ → R
     → Type 0
 GeometriesGive Box scale a b answer = RelateGives scale a b answer
 GeometriesGive (Any rings) scale a b (Ok line) =
-    (m : Matrix) × IsTextMatrix scale rings a b m × (line ≡ letters_of m ++ 10 ∷ [])
+    (r : Related) × IsRelated scale rings a b r × (line ≡ letters_of r.matrix ++ 10 ∷ [])
 GeometriesGive (Any rings) scale a b (Err (run.Geometry input.First fault)) =
     HasTextFault scale rings a b (texts.First fault)
 GeometriesGive (Any rings) scale a b (Err (run.Geometry input.Second fault)) =
@@ -80,6 +81,22 @@ CommandGives at (Stats path scale) answer =
 CommandGives at (Bounds path scale) answer =
     AfterOpening input.Layer (at path.now) answer
     (λ l. LayerGives ListsCorners scale (Some l) answer)
+
+-- no geometry has improper rings
+abbrev pub none_improper : Improper
+none_improper = record { first = false; second = false }
+
+-- which of two texts spell geometries with improper rings
+abbrev pub AreImproper : Geometries → Scale → List ℕ → List ℕ → Improper → Type 0
+AreImproper Box scale a b improper = improper ≡ none_improper
+AreImproper (Any rings) scale a b improper =
+    (r : Related) × IsRelated scale rings a b r × (improper ≡ r.improper)
+
+-- which of the geometries of a command have improper rings
+abbrev pub HasImproper : Command → Improper → Type 0
+HasImproper (Relate request) improper =
+    AreImproper request.geometries request.scale request.a.now request.b.now improper
+HasImproper _ improper = improper ≡ none_improper
 
 -- the command that asks for this of a join
 abbrev pub command_of : Product → JoinRequest → Command

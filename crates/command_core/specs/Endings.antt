@@ -1,14 +1,16 @@
 -- What is told of how a command ended.
 use Rattle.std.specs.Prelude.{◌≡◌, ◌≢◌, ℕ, List, Option, Bool, false, Result, Ok, Err, MatchResult}
-use Rattle.std.specs.Prelude.{IsTrue}
+use Rattle.std.specs.Prelude.{IsTrue, OnOk, [], ◌++◌, ◌||◌, codes, if◌then◌else◌}
+use Rattle.std.specs.Bool.{MatchBool}
 use Rattle.std.specs.Io.KnownBytes.{Appends}
 use Rattle.join_core.specs.declared.fault.RunFault.{RunFault}
 use Rattle.join_core.specs.declared.fault.RunFault.TheVariants.{Write}
 use Rattle.join_core.specs.Lines.{run_line}
 use Rattle.report_core.specs.Written.{AppendsPrefix}
+use Rattle.relate_any_core.specs.declared.improper.Improper.{Improper}
 use Rattle.words_core.specs.declared.words.Command.{Command}
 use Rattle.words_core.specs.declared.words.WordFault.{WordFault}
-use Rattle.command_core.specs.Commands.{CommandEnds}
+use Rattle.command_core.specs.Commands.{CommandEnds, HasImproper}
 use Rattle.command_core.specs.Opening.{Files}
 use Rattle.words_core.specs.Readings.{IsUngiven, ReadAs}
 use Rattle.command_core.specs.WordFaults.{word_status_of, word_fault_line}
@@ -19,11 +21,26 @@ pub record IsLineOn {S : Type 0} (written : S → Option (List ℕ)) (has_failed
   pub whole : has_failed new ≡ false → Appends (written old) (written new) line
   pub front : IsTrue (has_failed new) → AppendsPrefix (written old) (written new) line
 
--- success is status 0 and no word; a fault is status 1 and its line
+-- that the rings of these geometries are taken by the even-odd rule, a line for each
+abbrev pub improper_text : Improper → List ℕ
+improper_text improper =
+    (if improper.first then codes "rjoin: first: even-odd rule for improper rings\n" else [])
+    ++ (if improper.second then codes "rjoin: second: even-odd rule for improper rings\n"
+    else [])
+
+-- known bytes grow by these lines, if there are any, or by a prefix where the sink has failed
+abbrev pub IsToldOf : {S : Type 0} → (S → Option (List ℕ)) → (S → Bool) → S → S
+    → Improper → Type 0
+IsToldOf written has_failed old new improper =
+    MatchBool (improper.first || improper.second)
+    (IsLineOn written has_failed old new (improper_text improper)) (new ≡ old)
+
+-- success is status 0 and no word but of improper rings; a fault is status 1 and its line
 abbrev pub IsToldBy : {S : Type 0} → (S → Option (List ℕ)) → (S → Bool) → S → S
-    → Result Unit RunFault → ℕ → Type 0
-IsToldBy written has_failed old new (Ok done) status = (status ≡ 0) × (new ≡ old)
-IsToldBy written has_failed old new (Err fault) status =
+    → Improper → Result Unit RunFault → ℕ → Type 0
+IsToldBy written has_failed old new improper (Ok done) status =
+    (status ≡ 0) × IsToldOf written has_failed old new improper
+IsToldBy written has_failed old new improper (Err fault) status =
     (status ≡ 1) × IsLineOn written has_failed old new (run_line fault)
 
 -- a fault of words is told on the errors' sink, with its status; help goes to the output, and where
@@ -48,9 +65,10 @@ abbrev pub CommandIsDone : {O E : Type 0} → Option Files
     → (E → Option (List ℕ)) → (E → Bool) → E → E → Command → ℕ → Type 0
 CommandIsDone known written is_flushed has_failed output output'
     told has_failed' errors errors' command status =
-    (outcome : Result Unit RunFault)
+    (outcome : Result Unit RunFault) × (improper : Improper)
     × CommandEnds known written is_flushed has_failed command output output' outcome
-    × IsToldBy told has_failed' errors errors' outcome status
+    × OnOk outcome (HasImproper command improper)
+    × IsToldBy told has_failed' errors errors' improper outcome status
 
 -- the words were read as a command, which is done, or as a fault, which is shown
 pub record WordsAreDone {O E : Type 0} (words : List (List ℕ)) (known : Option Files)

@@ -1,18 +1,20 @@
 //! What a command does: its files are opened, it runs, and its end is told by line and status.
 
-ghost use Rattle.std.specs.Prelude.{◌≡◌, false, IfOk, IfErr, IfSome};
+ghost use Rattle.std.specs.Prelude.{◌≡◌, false, IfOk, IfErr, IfSome, OnOk};
 ghost use Rattle.join_core.specs.JoinRuns.{bytes_of};
-ghost use Rattle.command_core.specs.Commands.{CommandEnds, command_of};
+ghost use Rattle.command_core.specs.Commands.{CommandEnds, HasImproper, command_of, none_improper};
 ghost use Rattle.command_core.specs.Opening.{IsAt, IsMissing, AreEditsAt, AreEditsMissing};
 ghost use Rattle.command_core.specs.Opening.{AreOpened, IsFirstMissing, IsLayerUnready};
 ghost use Rattle.command_core.specs.Endings.{CommandIsDone};
 
+use crate::improper::tell_improper;
 use crate::inputs::Inputs;
 use crate::relating::execute_relate;
 use join_core::{
     Input, JoinJob, JoinSources, Product, RunFault, Sink, fault_line, run_bounds, run_stats,
     run_window,
 };
+use relate_any_core::Improper;
 use std::hash::RandomState;
 use std::random::RandomSource;
 use std::sync::Wait;
@@ -23,7 +25,8 @@ use words_core::{Command, JoinRequest};
 pub const FAILED: u8 = 1;
 
 /// Does what a command asks for, and returns the exit status: 0 where all was written, else 1 with
-/// the line of the fault on `errors`.
+/// the line of the fault on `errors`. Improper rings that were taken by the even-odd rule are told
+/// there too.
 pub fn run_command<
     R: RandomSource + AllocGlobal + Threads + Wait + Sync,
     I: Inputs,
@@ -36,8 +39,15 @@ pub fn run_command<
         O.written O.is_flushed O.has_failed output.old output.new
         E.written E.has_failed errors.old errors.new command.now result }
 {
-    match execute(rt, inputs, command, output) {
-        Ok(()) => 0,
+    let mut improper = Improper {
+        first: false,
+        second: false,
+    };
+    match execute(rt, inputs, command, output, &mut improper) {
+        Ok(()) => {
+            tell_improper(&improper, errors);
+            0
+        }
         Err(fault) => {
             // Where standard error fails too, the status is all that is left to tell.
             let _ = fault_line(&fault, errors);
@@ -46,19 +56,23 @@ pub fn run_command<
     }
 }
 
-/// Does what a command asks for.
+/// Does what a command asks for, and answers in `improper` which of the geometries of `relate` have
+/// improper rings.
 fn execute<R: RandomSource + AllocGlobal + Threads + Wait + Sync, I: Inputs, O: Sink>(
     rt: &R,
     inputs: &I,
     command: &Command<'_>,
     output: &mut O,
+    improper: &mut Improper,
 ) -> Result<(), RunFault>
-    requires { O.has_failed output.old ≡ false }
-    ensures { CommandEnds (I.files inputs.now) O.written O.is_flushed O.has_failed
+    requires output { O.has_failed output.old ≡ false }
+    requires none { improper.old ≡ none_improper }
+    ensures ends { CommandEnds (I.files inputs.now) O.written O.is_flushed O.has_failed
         command.now output.old output.new result }
+    ensures improper { OnOk result (HasImproper command.now improper.new) }
 {
     match command {
-        Command::Relate(request) => execute_relate(rt.alloc(), request, output),
+        Command::Relate(request) => execute_relate(rt.alloc(), request, output, improper),
         Command::Join(join) => execute_join(rt, inputs, Product::Report, join, output),
         Command::Draw(join) => execute_join(rt, inputs, Product::Picture, join, output),
         Command::Window { path, wkt, scale } => {

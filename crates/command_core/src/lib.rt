@@ -3,6 +3,7 @@
 #![tactic(auto)]
 
 mod command;
+mod improper;
 mod inputs;
 mod program;
 mod relating;

@@ -189,13 +189,30 @@ fn transposed(alloc: Global, letters: &str) -> Result<String, Fail> {
     Ok(String::from_utf8(Vec::from_slice(alloc, exchanged.as_slice())?)?)
 }
 
-/// Whether the program relates the two geometries of a row so, under these options, and also where
-/// they are exchanged.
+/// Options, and what is said on standard error of the first of two geometries, and of the second
+/// once they are exchanged.
+type Rule = (&'static str, &'static str, &'static str);
+
+const BY_DEFAULT: Rule = ("", "", "");
+
+const BY_WORD: Rule = ("|--rings|proper", "", "");
+
+const STILL_PROPER: Rule = ("|--rings|even-odd", "", "");
+
+const IMPROPER: Rule = (
+    "|--rings|even-odd",
+    "rjoin: first: even-odd rule for improper rings\n",
+    "rjoin: second: even-odd rule for improper rings\n",
+);
+
+/// Whether the program relates the two geometries of a row so by a rule, and also where they are
+/// exchanged.
 fn relates<R: RandomSource + AllocGlobal + Threads + Wait + Sync>(
     rt: &R,
-    options: &str,
+    rule: &Rule,
     row: &Row,
 ) -> Result<bool, Fail> {
+    let (options, said, said_back) = *rule;
     let (_, a, b, letters) = *row;
     let given = format!(in rt.alloc(); "relate|--geometry|any{options}|{a}|{b}")?;
     let line = format!(in rt.alloc(); "{letters}\n")?;
@@ -203,33 +220,48 @@ fn relates<R: RandomSource + AllocGlobal + Threads + Wait + Sync>(
     let letters = transposed(rt.alloc(), letters)?;
     let back_line = format!(in rt.alloc(); "{letters}\n")?;
     Ok(
-        ends(rt, &[], &(given.as_str(), 0, line.as_str(), ""))?
-            && ends(rt, &[], &(back.as_str(), 0, back_line.as_str(), ""))?,
+        ends(rt, &[], &(given.as_str(), 0, line.as_str(), said))?
+            && ends(rt, &[], &(back.as_str(), 0, back_line.as_str(), said_back))?,
     )
 }
 
-/// Checks each row.
+/// Checks each row by a rule.
 fn check_rows<R: Abort + RandomSource + AllocGlobal + Threads + Wait + Sync>(
     rt: &R,
-    options: &str,
+    rule: &Rule,
     rows: &[Row],
 ) -> Result<(), Fail> {
     for row in rows {
-        assert!(rt; relates(rt, options, row)?, "{}", row.0);
+        assert!(rt; relates(rt, rule, row)?, "{}", row.0);
     }
     Ok(())
 }
 
 #[test]
 fn proper_rings(rt: HostRuntime) -> Result<(), Fail> {
-    check_rows(&rt, "", PROPER)?;
-    check_rows(&rt, "|--rings|proper", PROPER)
+    check_rows(&rt, &BY_DEFAULT, PROPER)?;
+    check_rows(&rt, &BY_WORD, PROPER)
 }
 
 #[test]
 fn even_odd_rings(rt: HostRuntime) -> Result<(), Fail> {
-    check_rows(&rt, "|--rings|even-odd", PROPER)?;
-    check_rows(&rt, "|--rings|even-odd", EVEN_ODD)
+    check_rows(&rt, &STILL_PROPER, PROPER)?;
+    check_rows(&rt, &IMPROPER, EVEN_ODD)
+}
+
+/// Of two geometries with improper rings each is told, in order.
+const BOTH_IMPROPER: &[Run] = &[(
+    "relate|--geometry|any|--rings|even-odd|POLYGON ((0 0, 4 4, 4 0, 0 4, 0 0))\
+     |POLYGON ((0 0, 4 4, 4 0, 0 4, 0 0))",
+    0,
+    "2FFF1FFF2\n",
+    "rjoin: first: even-odd rule for improper rings\n\
+     rjoin: second: even-odd rule for improper rings\n",
+)];
+
+#[test]
+fn both_improper(rt: HostRuntime) -> Result<(), Fail> {
+    check(&rt, &[], BOTH_IMPROPER)
 }
 
 /// Two squares of the boxes' rows, a scale, and texts in either place that spell no geometry.

@@ -1,6 +1,8 @@
 //! The matrix of two geometries of any direction that are given as texts.
 #![tactic(auto)]
 
+mod improper;
 mod texts;
 
-pub use texts::{TextFault, relate_texts};
+pub use improper::Improper;
+pub use texts::{Related, TextFault, relate_texts};

@@ -1,14 +1,22 @@
 //! Two texts, the geometries that they spell, and the matrix of these.
 
 ghost use Rattle.std.specs.Prelude.{◌≡◌, ◌↔◌, Err, IfOk};
-ghost use Rattle.relate_any_core.specs.TextMatrices.{HasTextFault, IsTextMatrix};
+ghost use Rattle.relate_any_core.specs.TextMatrices.{HasTextFault, IsRelated};
 
+use crate::improper::{Improper, is_improper};
 use arrangement_core::relate;
 use relation_core::Matrix;
 use std::alloc::{AllocError, Global};
 use thiserror::Error;
 use wkt_any_core::{GeometryFault, Rings, read};
 use wkt_core::Scale;
+
+/// How two geometries lie to each other.
+#[derive(Clone, Copy, Debug, PartialEq, Eq)]
+pub struct Related {
+    pub matrix: Matrix,
+    pub improper: Improper,
+}
 
 /// The first of two texts that spells no geometry, and why.
 #[derive(Clone, Copy, Debug, PartialEq, Eq, Error)]
@@ -22,7 +30,8 @@ pub enum TextFault {
 }
 
 /// The nine-intersection matrix of the geometries that two texts spell, with rings of areas that
-/// the rule allows (OGC 06-103r4, 6.1.15.2), or the first text that is at fault.
+/// the rule allows (OGC 06-103r4, 6.1.15.2), and which of them have improper rings; or the first
+/// text that is at fault.
 ///
 /// # Errors
 /// Out of memory.
@@ -32,9 +41,9 @@ pub fn relate_texts(
     rings: Rings,
     a: &[u8],
     b: &[u8],
-) -> Result<Result<Matrix, TextFault>, AllocError>
-    ensures matrix { IfOk result (λ answer.
-        IfOk answer (IsTextMatrix scale rings a.now b.now)) }
+) -> Result<Result<Related, TextFault>, AllocError>
+    ensures related { IfOk result (λ answer.
+        IfOk answer (IsRelated scale rings a.now b.now)) }
     ensures fault { IfOk result (λ answer. (f : TextFault) →
         (answer ≡ Err f) ↔ HasTextFault scale rings a.now b.now f) }
 {
@@ -49,5 +58,9 @@ pub fn relate_texts(
         Err(fault) => return Ok(Err(TextFault::Second(fault))),
     };
     let matrix = relate(alloc, &first, &second)?;
-    Ok(Ok(matrix))
+    let improper = Improper {
+        first: is_improper(alloc, rings, &first)?,
+        second: is_improper(alloc, rings, &second)?,
+    };
+    Ok(Ok(Related { matrix, improper }))
 }

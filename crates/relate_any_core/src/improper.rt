@@ -1,0 +1,34 @@
+//! Which geometries have rings that the even-odd rule alone allows.
+
+ghost use Rattle.std.specs.Prelude.{◌↔◌, IsTrue, IfOk};
+ghost use Rattle.relate_any_core.specs.TextMatrices.{IsImproper};
+
+use plane_core::Geometry;
+use ring_core::has_proper_rings;
+use std::alloc::{AllocError, Global};
+use wkt_any_core::Rings;
+
+/// Which of two geometries have improper rings: by the even-odd rule, with rings that cross or run
+/// along each other, as those of a flat ring do.
+#[derive(Clone, Copy, Debug, PartialEq, Eq)]
+pub struct Improper {
+    pub first: bool,
+    pub second: bool,
+}
+
+/// Whether the geometry, which was read by this rule, has improper rings.
+pub(crate) fn is_improper(
+    alloc: Global,
+    rings: Rings,
+    geometry: &Geometry,
+) -> Result<bool, AllocError>
+    ensures { IfOk result (λ found. IsTrue found ↔ IsImproper rings geometry.now) }
+{
+    match rings {
+        Rings::Proper => Ok(false),
+        Rings::EvenOdd => {
+            let is_proper = has_proper_rings(alloc, geometry)?;
+            Ok(!is_proper)
+        }
+    }
+}
