@@ -1,0 +1,12 @@
+//! Tests of `refine_core` from outside: lists of numbers refined by one worker and by several,
+//! memory that is refused, and how many workers decide at once.
+#![tactic(auto)]
+
+#[cfg(test)]
+mod even_sums;
+#[cfg(test)]
+mod lists;
+#[cfg(test)]
+mod meeting;
+#[cfg(test)]
+mod refused;
