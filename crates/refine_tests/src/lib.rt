@@ -5,8 +5,8 @@
 #[cfg(test)]
 mod even_sums;
 #[cfg(test)]
+mod giving_up;
+#[cfg(test)]
 mod lists;
 #[cfg(test)]
 mod meeting;
-#[cfg(test)]
-mod refused;

@@ -32,7 +32,7 @@ impl Condition for RefusedAt {
 }
 
 #[test]
-fn without_memory_at_a_pair(rt: HostRuntime) -> Result<(), Fail> {
+fn gives_no_list(rt: HostRuntime) -> Result<(), Fail> {
     let alloc = rt.alloc();
     let pairs = close_pairs(alloc, 2_000)?;
     for refused in [0, 999, 1_999] {
