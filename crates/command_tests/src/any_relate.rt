@@ -309,6 +309,19 @@ const TEXTS: &[Run] = &[
         "rjoin: second: a line without length, or a ring that is not closed or is flat\n",
     ),
     (
+        "relate|--geometry|any|POLYGON ((0 0, 4 4, 4 0, 0 4, 0 0))|POINT (0 0)",
+        1,
+        "",
+        "rjoin: first: rings cross or overlap\n",
+    ),
+    (
+        "relate|--geometry|any|--rings|proper|POINT (0 0)\
+         |MULTIPOLYGON (((0 0, 4 0, 0 4, 0 0)), ((4 0, 4 4, 0 4, 4 0)))",
+        1,
+        "",
+        "rjoin: second: rings cross or overlap\n",
+    ),
+    (
         "relate|--geometry|any|LINESTRING (1 1, 1 1)|POINT (0 0)",
         1,
         "",
