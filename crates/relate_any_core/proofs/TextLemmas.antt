@@ -3,7 +3,7 @@ use Rattle.std.proofs.Common.{◌≡◌, ℕ, List, Result, Ok, Err, subst, ◌�
 use Rattle.plane_core.specs.Figures.{Figure}
 use Rattle.wkt_core.specs.declared.scale.Scale.{Scale}
 use Rattle.wkt_any_core.specs.declared.fault.GeometryFault.{GeometryFault}
-use Rattle.wkt_any_core.specs.declared.rings.Rings.{Rings}
+use Rattle.plane_core.specs.declared.rings.Rings.{Rings}
 use Rattle.wkt_any_core.specs.Readings.{Reads}
 use Rattle.relate_any_core.specs.declared.texts.TextFault.{TextFault}
 use Rattle.relate_any_core.specs.declared.texts.TextFault.TheVariants.{First, Second}

@@ -4,8 +4,8 @@ use Rattle.plane_core.specs.Figures.{Figure}
 use Rattle.plane_core.specs.PlaneMatrices.{IsPlaneMatrix}
 use Rattle.plane_core.specs.ProperRings.{HasProperRings}
 use Rattle.wkt_core.specs.declared.scale.Scale.{Scale}
-use Rattle.wkt_any_core.specs.declared.rings.Rings.{Rings}
-use Rattle.wkt_any_core.specs.declared.rings.Rings.TheVariants.{Proper, EvenOdd}
+use Rattle.plane_core.specs.declared.rings.Rings.{Rings}
+use Rattle.plane_core.specs.declared.rings.Rings.TheVariants.{Proper, EvenOdd}
 use Rattle.wkt_any_core.specs.Readings.{Reads}
 use Rattle.relate_any_core.specs.declared.texts.Related.{Related}
 use Rattle.relate_any_core.specs.declared.texts.TextFault.{TextFault}

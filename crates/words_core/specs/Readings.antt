@@ -30,8 +30,8 @@ use Rattle.options_core.specs.Options.{workers_of, batch_of, cut_of, AreWorkers,
 use Rattle.options_core.specs.declared.options.Options.{Options}
 use Rattle.options_core.specs.declared.options.OptionFault.TheVariants as range
 use Rattle.words_core.specs.Usage.{program_usage}
-use Rattle.wkt_any_core.specs.declared.rings.Rings.{Rings}
-use Rattle.wkt_any_core.specs.declared.rings.Rings.TheVariants.{Proper, EvenOdd}
+use Rattle.plane_core.specs.declared.rings.Rings.{Rings}
+use Rattle.plane_core.specs.declared.rings.Rings.TheVariants.{Proper, EvenOdd}
 use Rattle.words_core.specs.declared.words.Command.{Command}
 use Rattle.words_core.specs.declared.words.Command.TheVariants.{Relate, Join, Draw, Window, Stats}
 use Rattle.words_core.specs.declared.words.Command.TheVariants.{Bounds}
