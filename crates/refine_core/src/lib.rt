@@ -11,7 +11,7 @@ mod refined;
 mod worker;
 
 pub use condition::Condition;
-pub use options_core::MAX_WORKERS;
 pub use laws::refinement_law;
+pub use options_core::MAX_WORKERS;
 pub use refine::refine_pairs;
 pub use refined::Refined;
