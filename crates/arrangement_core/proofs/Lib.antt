@@ -1,5 +1,6 @@
 pub mod AmongLemmas
 pub mod ArrangementLemmas
+pub mod BeyondLemmas
 pub mod BoxLemmas
 pub mod CrossLemmas
 pub mod ExistLemmas

@@ -60,7 +60,7 @@ map_among f [] x h = absurd h
 map_among f (y ∷ xs) x (inl e) = inl (ap f e)
 map_among f (y ∷ xs) x (inr h) = inr (map_among f xs x h)
 
-among_each : {A B : Type 0} (f : A → List B) (xs : List A) (y : B) → IsAmong y (flat_map f xs) → (x : A) × IsAmong x xs × IsAmong y (f x)
+pub among_each : {A B : Type 0} (f : A → List B) (xs : List A) (y : B) → IsAmong y (flat_map f xs) → (x : A) × IsAmong x xs × IsAmong y (f x)
 among_each f [] y h = absurd h
 among_each f (x ∷ xs) y h = elim (among_either y (f x) (flat_map f xs) h) [
   | inl l ↦ (x, inl refl, l)
@@ -94,7 +94,7 @@ before_order p q h = plain (p.x *ℤ pos q.w) (q.x *ℤ pos p.w) (p.y *ℤ pos q
 level : (z : ℤ) → int_eq z (pos 0) ≡ true → z ≡ pos 0
 level z h = grind (arith, ints)
 
-not_level : (z : ℤ) → int_eq z (pos 0) ≡ false → z ≢ pos 0
+pub not_level : (z : ℤ) → int_eq z (pos 0) ≡ false → z ≢ pos 0
 not_level z h k = true_false (int_eq z (pos 0)) (is_zero z k) h
   where
     is_zero : (z : ℤ) → z ≡ pos 0 → int_eq z (pos 0) ≡ true

@@ -58,7 +58,7 @@ in_all Dots ends es p = one_of_two (list_any (λ v. is_at v p) ends) false
 in_all Polylines ends es p = one_of_three (part_by Polylines ends es p)
 in_all Rings ends es p = one_of_three (part_by Rings ends es p)
 
-in_above : (k : Kind) (es : List Edge) (p : Point) → pick (above_by k es p) (parts_above k) ≡ true
+pub in_above : (k : Kind) (es : List Edge) (p : Point) → pick (above_by k es p) (parts_above k) ≡ true
 in_above Dots es p = refl
 in_above Polylines es p = refl
 in_above Rings es p = one_of_two (is_odd (count_by (λ e. is_at_or_below e p) es)) false
@@ -96,7 +96,7 @@ shown_row row parts x t u v ht hu hv = (each, all)
     all h = both (t && u) v (both t u (ht.1 (h Interior)) (hu.1 (h Boundary))) (hv.1 (h Exterior))
 
 -- edges along another
-among_all : {A : Type 0} (q : A → Bool) (xs : List A) (x : A) → list_all q xs ≡ true → IsAmong x xs → q x ≡ true
+pub among_all : {A : Type 0} (q : A → Bool) (xs : List A) (x : A) → list_all q xs ≡ true → IsAmong x xs → q x ≡ true
 among_all q [] x h k = absurd k
 among_all q (y ∷ ys) x h (inl e) = ap q e ∙ first_holds _ _ h
 among_all q (y ∷ ys) x h (inr k) = among_all q ys x (second_holds (q y) _ h) k
@@ -217,7 +217,7 @@ grown_new own other ns i n old grown mid new lt at_i is h k =
     subst (λ (m : Matrix). HasGrownBy (map f (take (i + 1) ns)) old m) (sym is) (grown_more f ns i n old grown mid lt at_i h k)
 
 -- a point of an edge is on an edge
-any_among : {A : Type 0} (q : A → Bool) (xs : List A) (x : A) → IsAmong x xs → q x ≡ true → list_any q xs ≡ true
+pub any_among : {A : Type 0} (q : A → Bool) (xs : List A) (x : A) → IsAmong x xs → q x ≡ true → list_any q xs ≡ true
 any_among q [] x k h = absurd k
 any_among q (y ∷ ys) x (inl e) h = left (q y) (list_any q ys) (ap q (sym e) ∙ h)
   where
@@ -267,7 +267,7 @@ forward_on f k l fw wk wl on_k on_l before =
       to_ = inl (before_up_to (middle k l) l (at f.b) wm wl (omega arith) (middle_before k l before) in_l.to_);
     })
 
-middle_on : (e : Edge) (k l : Point) → HasLength e → IsPointOf e k → IsPointOf e l → IsBefore k l → is_on e (middle k l) ≡ true
+pub middle_on : (e : Edge) (k l : Point) → HasLength e → IsPointOf e k → IsPointOf e l → IsBefore k l → is_on e (middle k l) ≡ true
 middle_on e k l long of_k of_l before = elim (forward_or_flipped e long) [
   | inl fw ↦ forward_on e k l fw of_k.wide of_l.wide of_k.on of_l.on before
   | inr fw ↦ sym (is_on-flip e (middle k l)) ∙ forward_on (flip e) k l fw of_k.wide of_l.wide (is_on-flip e k ∙ of_k.on) (is_on-flip e l ∙ of_l.on) before

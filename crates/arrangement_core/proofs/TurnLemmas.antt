@@ -27,7 +27,7 @@ use Rattle.arrangement_core.proofs.AmongLemmas.{among_left, among_right, among_e
 use Rattle.arrangement_core.proofs.GrowthLemmas.{grown_as, grown-trans}
 use Rattle.arrangement_core.proofs.ReadOffLemmas.{among_map, map_among}
 
-entry-transposed : (m : Matrix) (i j : Part) → entry (transposed m) i j ≡ entry m j i
+pub entry-transposed : (m : Matrix) (i j : Part) → entry (transposed m) i j ≡ entry m j i
 entry-transposed m Interior Interior = refl
 entry-transposed m Interior Boundary = refl
 entry-transposed m Interior Exterior = refl

@@ -1,3 +1,4 @@
+pub mod Beyond
 pub mod Gathered
 pub mod Growth
 pub mod Marks

@@ -2,6 +2,7 @@
 //! the matrix of the two geometries, which can be read off these.
 #![tactic(auto)]
 
+mod beyond;
 mod entries;
 mod marks;
 mod matrices;

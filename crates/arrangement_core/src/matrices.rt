@@ -1,11 +1,14 @@
 //! The matrix of two geometries.
 
-ghost use Rattle.std.specs.Prelude.{◌≡◌, ◌++◌, All, OnOk, IfOk};
-ghost use Rattle.plane_core.specs.Figures.{HasLength};
+ghost use Rattle.std.specs.Prelude.{◌≡◌, ◌++◌, All, List, OnOk, IfOk, IsTrue};
+ghost use Rattle.plane_core.specs.Figures.{HasLength, IsGeometry};
+ghost use Rattle.plane_core.specs.Outlines.{IsOutlineOf};
 ghost use Rattle.plane_core.specs.PlaneMatrices.{IsPlaneMatrix};
+ghost use Rattle.arrangement_core.specs.Beyond.{IsBounded};
 ghost use Rattle.arrangement_core.specs.ReadOffs.{points_by, outline_edges, outline_points};
-ghost use Rattle.arrangement_core.specs.ReadOffs.{IsOneOf, IsEdgeMarked, AreMarked, IsReadOffBy, IsMatrixOf};
+ghost use Rattle.arrangement_core.specs.ReadOffs.{IsOneOf, IsEdgeMarked, AreMarked, IsReadOffBy};
 
+use crate::beyond::{is_beyond, is_edge_shown};
 use crate::entries::{outside, transposed};
 use crate::marks::{mark_noded, mark_points};
 use crate::nodes::gather_nodes;
@@ -41,6 +44,41 @@ fn all_points(alloc: Global, a: &Outline, b: &Outline) -> Result<Vec<Vertex>, Al
 
 /// A matrix that shows an edge of the first geometry: its nodes, for which there is a list to
 /// reuse, its pieces, and the faces above these.
+fn mark_near_edge(
+    nodes: &mut Vec<Node>,
+    matrix: Matrix,
+    pair: &Pair,
+    points: &[Vertex],
+    e: &Edge,
+) -> Result<Matrix, AllocError>
+    requires { let a = pair.now.first in let b = pair.now.second in
+        IsOneOf a b (outline_edges a b) e.now }
+    ensures { let a = pair.now.first in let b = pair.now.second in
+        IfOk result (λ m. IsEdgeMarked a b (outline_edges a b) points.now e.now matrix m) }
+{
+    gather_nodes(nodes, e, pair, points)?;
+    Ok(mark_noded(matrix, &pair.first, &pair.second, e, nodes))
+}
+
+/// Whether an edge of the first geometry lies beyond the box of the second, and the matrix has all
+/// that it can show.
+fn adds_none(matrix: &Matrix, pair: &Pair, e: &Edge) -> bool
+    requires bounded { IsBounded pair.now.second pair.now.second_box }
+    requires one { let a = pair.now.first in let b = pair.now.second in
+        IsOneOf a b (outline_edges a b) e.now }
+    ensures { let a = pair.now.first in let b = pair.now.second in
+        (points : List Vertex) → IsTrue result
+        → IsEdgeMarked a b (outline_edges a b) points e.now matrix.now matrix.now }
+{
+    if is_beyond(e, &pair.second_box) {
+        is_edge_shown(matrix, pair.first.outline(), e)
+    } else {
+        false
+    }
+}
+
+/// The same matrix, if an edge of the first geometry can add nothing to it, and else one that shows
+/// the edge.
 fn mark_edge(
     nodes: &mut Vec<Node>,
     matrix: Matrix,
@@ -48,12 +86,17 @@ fn mark_edge(
     points: &[Vertex],
     e: &Edge,
 ) -> Result<Matrix, AllocError>
-    requires { IsOneOf pair.now.first pair.now.second (outline_edges pair.now.first pair.now.second) e.now }
+    requires bounded { IsBounded pair.now.second pair.now.second_box }
+    requires one { let a = pair.now.first in let b = pair.now.second in
+        IsOneOf a b (outline_edges a b) e.now }
     ensures { let a = pair.now.first in let b = pair.now.second in
         IfOk result (λ m. IsEdgeMarked a b (outline_edges a b) points.now e.now matrix m) }
 {
-    gather_nodes(nodes, e, pair, points)?;
-    Ok(mark_noded(matrix, &pair.first, &pair.second, e, nodes))
+    if adds_none(&matrix, pair, e) {
+        Ok(matrix)
+    } else {
+        mark_near_edge(nodes, matrix, pair, points, e)
+    }
 }
 
 /// A matrix that shows all edges of the first geometry.
@@ -63,7 +106,8 @@ fn mark_edges(
     pair: &Pair,
     points: &[Vertex],
 ) -> Result<Matrix, AllocError>
-    requires { All HasLength (outline_edges pair.now.first pair.now.second) }
+    requires long { All HasLength (outline_edges pair.now.first pair.now.second) }
+    requires bounded { IsBounded pair.now.second pair.now.second_box }
     ensures { let a = pair.now.first in let b = pair.now.second in
         let marked = AreMarked a b (outline_edges a b) points.now a.edges.items in
         IfOk result (λ m. marked matrix m) }
@@ -79,7 +123,9 @@ fn mark_edges(
 
 /// A matrix that shows all edges and single points of two geometries.
 fn read_off(alloc: Global, pair: Pair) -> Result<Matrix, AllocError>
-    requires { All HasLength (outline_edges pair.first pair.second) }
+    requires long { All HasLength (outline_edges pair.first pair.second) }
+    requires first { IsBounded pair.first pair.first_box }
+    requires second { IsBounded pair.second pair.second_box }
     ensures { IfOk result (λ m. IsReadOffBy pair.first pair.second m) }
 {
     let point_list = all_points(alloc, pair.first.outline(), pair.second.outline())?;
@@ -96,16 +142,13 @@ fn read_off(alloc: Global, pair: Pair) -> Result<Matrix, AllocError>
     Ok(transposed(&with_second))
 }
 
-/// The matrix of the two geometries that have these outlines.
-fn relate_outlines(alloc: Global, a: Outline, b: Outline) -> Result<Matrix, AllocError>
-    requires { All HasLength (outline_edges a b) }
-    ensures { IfOk result (λ m. IsMatrixOf a b m) }
+/// The outline of a geometry with a tree over its edges.
+fn indexed(alloc: Global, geometry: &Geometry) -> Result<IndexedOutline, AllocError>
+    ensures outline { IfOk result (IsOutlineOf geometry.now) }
+    ensures geometry { OnOk result (IsGeometry geometry.now) }
 {
-    let first = IndexedOutline::new(alloc, a)?;
-    let second = IndexedOutline::new(alloc, b)?;
-    let pair = Pair { first, second };
-    let matrix = read_off(alloc, pair)?;
-    Ok(matrix)
+    let outline = geometry.outline(alloc)?;
+    IndexedOutline::new(alloc, outline)
 }
 
 /// The nine-intersection matrix of two geometries: for each part of the first and each part of the
@@ -113,8 +156,14 @@ fn relate_outlines(alloc: Global, a: Outline, b: Outline) -> Result<Matrix, Allo
 pub fn relate(alloc: Global, a: &Geometry, b: &Geometry) -> Result<Matrix, AllocError>
     ensures { IfOk result (λ m. IsPlaneMatrix a.now b.now m) }
 {
-    let first = a.outline(alloc)?;
-    let second = b.outline(alloc)?;
-    let matrix = relate_outlines(alloc, first, second)?;
+    let first = indexed(alloc, a)?;
+    let second = indexed(alloc, b)?;
+    let pair = Pair {
+        first,
+        first_box: a.bounds(),
+        second,
+        second_box: b.bounds(),
+    };
+    let matrix = read_off(alloc, pair)?;
     Ok(matrix)
 }

@@ -1,4 +1,4 @@
-use Rattle.std.proofs.Common.{rules, subst, refl, ◌∙◌, List}
+use Rattle.std.proofs.Common.{rules, subst, refl, List}
 use Rattle.plane_core.specs.declared.edge.Edge.{Edge}
 use Rattle.arrangement_core.specs.ReadOffs.{AreMarked, outline_edges}
 use Rattle.arrangement_core.proofs.ReadOffLemmas.{marked_none, marked_more, marked_whole}
@@ -8,11 +8,11 @@ use Rattle.arrangement_core.proofs.matrices.mark_edges.Goals as goal
 pub loop-e-init : goal.loop-e-init
 loop-e-init c = marked_none _ _ _ _ _
 
-pub mark_edge-requires : goal.mark_edge-requires
-mark_edge-requires c =
+pub mark_edge-requires-clause-one : goal.mark_edge-requires-clause-one
+mark_edge-requires-clause-one c =
     let a = c.args.pair.now.first in
     let b = c.args.pair.now.second in
-    one_at a b (outline_edges a b) c.edges-own_edges.result.now c.loop-e.e-index c.e-item.result (edges_of_first a b (outline_edges a b) c.requires refl) c.edges-own_edges.ensures (search rules) (search rules)
+    one_at a b (outline_edges a b) c.edges-own_edges.result.now c.loop-e.e-index c.e-item.result (edges_of_first a b (outline_edges a b) c.requires.long refl) c.edges-own_edges.ensures (search rules) (search rules)
 
 pub loop-e-preserved : goal.loop-e-preserved
 loop-e-preserved c = marked_more _ _ _ _ _ _ _ _ _ _ (search rules) (search rules) c.loop-e.invariant c.in_ok-grown.ensures

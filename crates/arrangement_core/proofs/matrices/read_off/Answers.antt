@@ -2,8 +2,11 @@ use Rattle.std.proofs.Common.{◌∙◌}
 use Rattle.arrangement_core.proofs.TurnLemmas.{all_marked, long_turned}
 use Rattle.arrangement_core.proofs.matrices.read_off.Goals as goal
 
-pub mark_edges-requires-2 : goal.mark_edges-requires-2
-mark_edges-requires-2 c = long_turned c.args.pair.first c.args.pair.second _ _ c.turned-turned_pair.ensures.first c.turned-turned_pair.ensures.second c.requires
+pub mark_edges-requires-2-clause-long : goal.mark_edges-requires-2-clause-long
+mark_edges-requires-2-clause-long c = long_turned c.args.pair.first c.args.pair.second _ _ c.turned-turned_pair.ensures.first c.turned-turned_pair.ensures.second c.requires.long
+
+pub mark_edges-requires-2-clause-bounded : goal.mark_edges-requires-2-clause-bounded
+mark_edges-requires-2-clause-bounded c = rw (c.turned-turned_pair.ensures.second, c.turned-turned_pair.ensures.second_box) c.requires.first
 
 pub returns : goal.returns
 returns c = all_marked c.args.pair.first c.args.pair.second _ _ _ _ _ _ _ _ _ _ _ _

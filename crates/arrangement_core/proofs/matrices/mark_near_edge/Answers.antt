@@ -3,7 +3,7 @@ use Rattle.arrangement_core.specs.ReadOffs.{outline_edges}
 use Rattle.arrangement_core.proofs.NodeLemmas.{all_among}
 use Rattle.arrangement_core.proofs.ReadOffLemmas.{edge_marked}
 use Rattle.arrangement_core.proofs.ShownLemmas.{cuts_at}
-use Rattle.arrangement_core.proofs.matrices.mark_edge.Goals as goal
+use Rattle.arrangement_core.proofs.matrices.mark_near_edge.Goals as goal
 
 pub mark_noded-requires : goal.mark_noded-requires
 mark_noded-requires c = cuts_at _ _ _ _ _ _ c.deref.result.now c.requires c.in_ok-gather_nodes.ensures c.deref.ensures.value
