@@ -1,7 +1,7 @@
 -- What a place can add to a matrix, by the parts in which it may lie.
 use Rattle.std.specs.Prelude.{◌≡◌, ◌≢◌, ℕ, ◌≤◌, ◌<◌, ◌-◌, pos, Bool, true, false, ◌&&◌, not, List, All, count_by}
 use Rattle.std.specs.Ordering.{int_eq, is_lt}
-use Rattle.std.specs.List.{list_any, slice_index_or}
+use Rattle.std.specs.List.{list_any, list_all, slice_index_or}
 use Rattle.relation_core.specs.declared.extent.Extent.{Extent}
 use Rattle.relation_core.specs.declared.part.Parts.{Parts}
 use Rattle.relation_core.specs.declared.matrix.Matrix.{Matrix}
@@ -16,6 +16,7 @@ use Rattle.plane_core.specs.Points.{Point, at, run, is_on, is_at, side, turn_of,
 use Rattle.plane_core.specs.Places.{node_point, place_order}
 use Rattle.plane_core.specs.Figures.{HasLength, is_odd}
 use Rattle.plane_core.specs.PlaneMatrices.{pick, entry}
+use Rattle.arrangement_core.specs.declared.shown.Course.{Course}
 use Rattle.arrangement_core.specs.Nodes.{IsAmong, IsPlaceOf, IsPointOf, Ascend, middle}
 use Rattle.arrangement_core.specs.Marks.{rank}
 
@@ -60,6 +61,10 @@ is_along e f =
 pub record IsUncrossed (other : Outline) (e : Edge) (p : Point) : Type 0 where
   pub on : is_on e p ≡ true
   pub along : (f : Edge) → IsAmong f other.edges.items → is_on f p ≡ true → is_along e f ≡ true
+
+-- an edge that is known to run along none of a geometry does so
+abbrev pub IsKnownApart : Outline → Course → Type 0
+IsKnownApart o c = c.is_apart ≡ true → list_all (λ f. not (is_along c.edge f)) o.edges.items ≡ true
 
 -- nodes of an edge of a geometry in order, those among them where it meets an edge of the other one
 pub record AreCuts (own other : Outline) (e : Edge) (ns : List Point) : Type 0 where

@@ -12,10 +12,12 @@ ghost use Rattle.arrangement_core.specs.Nodes.{NodedEdge};
 ghost use Rattle.arrangement_core.specs.Growth.{HasGrownBy, mark_at, mark_in, mark_beside};
 ghost use Rattle.arrangement_core.specs.Growth.{piece_marks, gap_marks, gaps_marks, edge_marks};
 ghost use Rattle.arrangement_core.specs.ReadOffs.{points_by};
-ghost use Rattle.arrangement_core.specs.Shown.{IsOnEdge, IsUncrossed, AreCuts, IsRepeated, IsGap};
+ghost use Rattle.arrangement_core.specs.Shown.{IsOnEdge, IsUncrossed, IsKnownApart, AreCuts, IsRepeated, IsGap};
 
 use crate::entries::{column_of, raised, row_of};
-use crate::shown::{all_parts, are_shown, is_piece_shown, part_on_edge, parts_above};
+use crate::shown::{
+    Course, all_parts, are_shown, course_of, is_piece_shown, part_on_edge, parts_above,
+};
 use edge_index_core::IndexedOutline;
 use plane_core::{Edge, Kind, Node, Part, Place};
 use relation_core::{Extent, Matrix};
@@ -85,17 +87,18 @@ fn mark_piece(
     matrix: Matrix,
     own: &IndexedOutline,
     other: &IndexedOutline,
-    e: &Edge,
+    course: &Course,
     p: &Place,
 ) -> Matrix
     requires on { IsOnEdge own.now (point_of p.now) }
-    requires uncrossed { IsUncrossed other.now e.now (point_of p.now) }
-    ensures { HasGrownBy (piece_marks own.now other.now e.now (point_of p.now)) matrix result }
+    requires uncrossed { IsUncrossed other.now course.now.edge (point_of p.now) }
+    requires apart { IsKnownApart other.now course.now }
+    ensures { HasGrownBy (piece_marks own.now other.now course.now.edge (point_of p.now)) matrix result }
 {
-    if is_piece_shown(&matrix, own.outline(), other.outline(), e, p) {
+    if is_piece_shown(&matrix, own.outline(), other.outline(), course, p) {
         matrix
     } else {
-        place_piece(matrix, own, other, e, p)
+        place_piece(matrix, own, other, &course.edge, p)
     }
 }
 
@@ -104,16 +107,17 @@ fn mark_gap(
     matrix: Matrix,
     own: &IndexedOutline,
     other: &IndexedOutline,
-    e: &Edge,
+    course: &Course,
     k: &Node,
     l: &Node,
 ) -> Matrix
-    requires { IsGap own.now other.now e.now (node_point k.now) (node_point l.now) }
-    ensures { let marks = gap_marks own.now other.now e.now (node_point k.now) (node_point l.now) in
+    requires gap { IsGap own.now other.now course.now.edge (node_point k.now) (node_point l.now) }
+    requires apart { IsKnownApart other.now course.now }
+    ensures { let marks = gap_marks own.now other.now course.now.edge (node_point k.now) (node_point l.now) in
         HasGrownBy marks matrix result }
 {
     if k.compare(l).is_lt() {
-        mark_piece(matrix, own, other, e, &k.middle(l))
+        mark_piece(matrix, own, other, course, &k.middle(l))
     } else {
         matrix
     }
@@ -166,18 +170,19 @@ fn mark_gaps(
     matrix: Matrix,
     own: &IndexedOutline,
     other: &IndexedOutline,
-    e: &Edge,
+    course: &Course,
     nodes: &[Node],
 ) -> Matrix
-    requires { AreCuts own.now other.now e.now (map node_point nodes.now) }
-    ensures { let marks = gaps_marks own.now other.now e.now (map node_point nodes.now) in
+    requires cuts { AreCuts own.now other.now course.now.edge (map node_point nodes.now) }
+    requires apart { IsKnownApart other.now course.now }
+    ensures { let marks = gaps_marks own.now other.now course.now.edge (map node_point nodes.now) in
         HasGrownBy marks matrix result }
 {
     let mut grown = matrix;
     for i in 1..nodes.len() {
         let k = node_at(nodes, i - 1);
         let l = node_at(nodes, i);
-        grown = mark_gap(grown, own, other, e, &k, &l);
+        grown = mark_gap(grown, own, other, course, &k, &l);
     }
     grown
 }
@@ -222,5 +227,6 @@ pub(crate) fn mark_noded(
         HasGrownBy (edge_marks own.now other.now noded) matrix result }
 {
     let with_nodes = mark_nodes(matrix, own, other, nodes);
-    mark_gaps(with_nodes, own, other, e, nodes)
+    let course = course_of(&with_nodes, own.outline().kind, other.outline(), e);
+    mark_gaps(with_nodes, own, other, &course, nodes)
 }

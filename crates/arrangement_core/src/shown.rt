@@ -10,7 +10,7 @@ ghost use Rattle.plane_core.specs.Outlines.{outline_part};
 ghost use Rattle.plane_core.specs.PlaneMatrices.{pick, entry};
 ghost use Rattle.arrangement_core.specs.Marks.{rank};
 ghost use Rattle.arrangement_core.specs.Shown.{AreShown, all_parts, parts_above, rest_parts};
-ghost use Rattle.arrangement_core.specs.Shown.{is_along, IsOnEdge, IsUncrossed};
+ghost use Rattle.arrangement_core.specs.Shown.{is_along, IsOnEdge, IsUncrossed, IsKnownApart};
 ghost use Rattle.arrangement_core.specs.Shown.{AreFacesShown, IsFaceShown};
 ghost use Rattle.arrangement_core.specs.Growth.{HasGrownBy, piece_marks};
 
@@ -124,6 +124,45 @@ fn is_apart(e: &Edge, others: &[Edge]) -> bool
     others.iter().all(|f| !is_along(e, f))
 }
 
+/// An edge of a geometry, and whether it is known to run along no edge of the other one.
+#[derive(Clone, Copy)]
+pub(crate) struct Course {
+    pub(crate) edge: Edge,
+    pub(crate) is_apart: bool,
+}
+
+/// Whether a matrix has so much that it is worth knowing if an edge runs along none of the other
+/// geometry.
+fn has_most(matrix: &Matrix, own: Kind, other: Kind) -> bool {
+    let part = match own {
+        Kind::Areas => Part::Boundary,
+        Kind::Points | Kind::Lines => Part::Interior,
+    };
+    let row = row_of(matrix, part);
+    let rest = Parts {
+        interior: other == Kind::Areas,
+        boundary: false,
+        exterior: true,
+    };
+    are_shown(&row, &rest, Extent::Line)
+}
+
+/// The course of an edge.
+pub(crate) fn course_of(matrix: &Matrix, own: Kind, other: &Outline, e: &Edge) -> Course
+    ensures edge { result.edge ≡ e.now }
+    ensures apart { IsKnownApart other.now result }
+{
+    if has_most(matrix, own, other.kind) {
+        let is_apart = is_apart(e, &other.edges);
+        Course { edge: *e, is_apart }
+    } else {
+        Course {
+            edge: *e,
+            is_apart: false,
+        }
+    }
+}
+
 /// The part of a geometry in which a point of one of its edges lies.
 pub(crate) fn part_on_edge(own: &Outline, p: &Place) -> Part
     requires { IsOnEdge own.now (point_of p.now) }
@@ -143,16 +182,17 @@ pub(crate) fn part_on_edge(own: &Outline, p: &Place) -> Part
 }
 
 /// Whether a matrix shows the line on which a point of an edge lies, of which one part is known.
-fn is_line_shown(matrix: &Matrix, part: Part, other: &Outline, e: &Edge, p: &Place) -> bool
-    requires { IsUncrossed other.now e.now (point_of p.now) }
+fn is_line_shown(matrix: &Matrix, part: Part, other: &Outline, course: &Course, p: &Place) -> bool
+    requires uncrossed { IsUncrossed other.now course.now.edge (point_of p.now) }
+    requires apart { IsKnownApart other.now course.now }
     ensures { let second = outline_part other.now (point_of p.now) in
         IsTrue result → 2 ≤ rank (entry matrix.now part second) }
 {
     let row = row_of(matrix, part);
     if are_shown(&row, &all_parts(other.kind), Extent::Line) {
         true
-    } else if are_shown(&row, &rest_parts(other, p), Extent::Line) {
-        is_apart(e, &other.edges)
+    } else if course.is_apart {
+        are_shown(&row, &rest_parts(other, p), Extent::Line)
     } else {
         false
     }
@@ -191,17 +231,18 @@ pub(crate) fn is_piece_shown(
     matrix: &Matrix,
     own: &Outline,
     other: &Outline,
-    e: &Edge,
+    course: &Course,
     p: &Place,
 ) -> bool
     requires on { IsOnEdge own.now (point_of p.now) }
-    requires uncrossed { IsUncrossed other.now e.now (point_of p.now) }
-    ensures { let marks = piece_marks own.now other.now e.now (point_of p.now) in
+    requires uncrossed { IsUncrossed other.now course.now.edge (point_of p.now) }
+    requires apart { IsKnownApart other.now course.now }
+    ensures { let marks = piece_marks own.now other.now course.now.edge (point_of p.now) in
         IsTrue result → HasGrownBy marks matrix.now matrix.now }
 {
-    if is_face_shown(matrix, own.kind, other.kind, e) {
+    if is_face_shown(matrix, own.kind, other.kind, &course.edge) {
         let part = part_on_edge(own, p);
-        is_line_shown(matrix, part, other, e, p)
+        is_line_shown(matrix, part, other, course, p)
     } else {
         false
     }

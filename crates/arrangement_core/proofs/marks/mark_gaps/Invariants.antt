@@ -4,4 +4,4 @@ use Rattle.arrangement_core.specs.Growth.{HasGrownBy, gaps_marks}
 use Rattle.arrangement_core.proofs.marks.mark_gaps.Given as goal
 
 abbrev pub invariant-loop-i : goal.invariant-loop-i
-invariant-loop-i l = HasGrownBy (gaps_marks l.own l.other l.e (map node_point (take l.i l.nodes))) l.fn.matrix l.grown
+invariant-loop-i l = HasGrownBy (gaps_marks l.own l.other l.course.edge (map node_point (take l.i l.nodes))) l.fn.matrix l.grown
