@@ -111,7 +111,7 @@ class Packages(unittest.TestCase):
         self.assertEqual(self.calls(9), ["update", "install a b"] * 3 + ["install a", "install b"])
 
     def test_missing_names_and_installs_nothing(self) -> None:
-        words = [HERE / "install.py", "--missing", "nothing"]
+        words = [str(HERE / "install.py"), "--missing", "nothing"]
         ended = subprocess.run(words, capture_output=True, text=True, check=False)
         self.assertEqual((ended.returncode, ended.stderr), (2, "install: no part nothing\n"))
 
