@@ -20,7 +20,7 @@ use std::thread;
 use std::thread::Threads;
 
 /// The pairs of a list that stand in a condition, in the order of the list, each with its answer.
-/// So many workers decide them, the caller's thread among them: one worker starts no thread.
+/// `workers` workers decide them, the caller's thread among them: one worker starts no thread.
 ///
 /// Each worker draws chunks of the list until none is left. Where a thread can't be started, the
 /// others do its work.

@@ -13,7 +13,7 @@
 //! | `POINT EMPTY`, `POINT (1,2)`, `POINT (1 2) x` | [`GeometryFault::Text`] |
 //! | `POINT (1.5 0)`, `POINT (1000000000001 0)` | [`GeometryFault::Number`] |
 //! | `LINESTRING (1 1, 1 1)`, `POLYGON ((0 0, 4 0, 0 4, 1 1))` | [`GeometryFault::Form`] |
-//! | `POLYGON ((0 0, 4 4, 4 0, 0 4, 0 0))` | [`GeometryFault::Rings`], or an area by the even-odd rule |
+//! | `POLYGON ((0 0, 4 4, 4 0, 0 4, 0 0))` | [`GeometryFault::Rings`], or an even-odd area |
 #![tactic(auto)]
 
 mod body;
