@@ -1,4 +1,5 @@
-//! What a command does: its files are opened, it runs, and its end is told by line and status.
+//! Executing a command: its files are opened, it runs, and its exit status and any fault line
+//! follow.
 
 ghost use Rattle.std.specs.Prelude.{◌≡◌, false, IfOk, IfErr, IfSome, OnOk};
 ghost use Rattle.join_core.specs.JoinRuns.{bytes_of};
@@ -21,12 +22,12 @@ use std::sync::Wait;
 use std::thread::Threads;
 use words_core::{Command, JoinRequest};
 
-/// The status of a command that failed.
+/// The exit status of a command that failed.
 pub const FAILED: u8 = 1;
 
-/// Does what a command asks for, and returns the exit status: 0 where all was written, else 1 with
-/// the line of the fault on `errors`. Improper rings that were taken by the even-odd rule are told
-/// there too.
+/// Executes a command and returns the exit status: 0 if everything was written, otherwise 1 with
+/// the line of the fault on `errors`. Lines on `errors` also name the geometries of `relate` whose
+/// improper rings were accepted under the even-odd rule.
 pub fn run_command<
     R: RandomSource + AllocGlobal + Threads + Wait + Sync,
     I: Inputs,
@@ -49,15 +50,15 @@ pub fn run_command<
             0
         }
         Err(fault) => {
-            // Where standard error fails too, the status is all that is left to tell.
+            // If standard error fails too, only the status is left to report the fault.
             let _ = fault_line(&fault, errors);
             FAILED
         }
     }
 }
 
-/// Does what a command asks for, and answers in `improper` which of the geometries of `relate` have
-/// improper rings.
+/// Executes a command, and records in `improper` which of the geometries of `relate` have improper
+/// rings.
 fn execute<R: RandomSource + AllocGlobal + Threads + Wait + Sync, I: Inputs, O: Sink>(
     rt: &R,
     inputs: &I,
@@ -114,7 +115,7 @@ fn execute_join<R: RandomSource + AllocGlobal + Threads + Wait + Sync, I: Inputs
     job.run(rt, states, &mut sources, output)
 }
 
-/// The files of a join, opened in the order left, right, edits.
+/// Opens the files of a join, in the order left, right, edits.
 fn open_sources<I: Inputs>(
     inputs: &I,
     join: &JoinRequest<'_>,
@@ -134,7 +135,7 @@ fn open_sources<I: Inputs>(
     Ok(JoinSources { left, right, edits })
 }
 
-/// The file of a layer, and random keys by which its ids are hashed.
+/// Opens the file of a layer, and draws random keys for hashing its ids.
 fn open_layer<R: RandomSource, I: Inputs>(
     rt: &R,
     inputs: &I,
@@ -150,7 +151,7 @@ fn open_layer<R: RandomSource, I: Inputs>(
     Ok((layer, state))
 }
 
-/// The file of an input.
+/// Opens the file of an input.
 fn open_input<I: Inputs>(inputs: &I, input: Input, path: &str) -> Result<I::File, RunFault>
     ensures ok { IfOk result (λ file.
         IsAt (I.files inputs.now) path.now (I.File.remaining file)) }
@@ -164,7 +165,7 @@ fn open_input<I: Inputs>(inputs: &I, input: Input, path: &str) -> Result<I::File
     }
 }
 
-/// The file of edits, if one is asked for.
+/// Opens the file of edits, if one is given.
 fn open_edits<I: Inputs>(inputs: &I, path: Option<&str>) -> Result<Option<I::File>, RunFault>
     ensures ok { IfOk result (λ edits.
         AreEditsAt (I.files inputs.now) path.entry (bytes_of I.File.remaining edits)) }
@@ -178,7 +179,7 @@ fn open_edits<I: Inputs>(inputs: &I, path: Option<&str>) -> Result<Option<I::Fil
     }
 }
 
-/// Random keys by which the ids of a layer are hashed.
+/// Random keys for hashing the ids of a layer.
 fn hash_state<R: RandomSource>(rt: &R) -> Result<RandomState, RunFault>
     ensures { IfErr result (λ f. f ≡ RunFault.NoKeys) }
 {
@@ -188,7 +189,7 @@ fn hash_state<R: RandomSource>(rt: &R) -> Result<RandomState, RunFault>
     }
 }
 
-/// Random keys by which the ids of the left and of the right layer are hashed.
+/// Random keys for hashing the ids of the left and of the right layer.
 fn hash_states<R: RandomSource>(rt: &R) -> Result<(RandomState, RandomState), RunFault>
     ensures { IfErr result (λ f. f ≡ RunFault.NoKeys) }
 {

@@ -1,4 +1,4 @@
-//! What is said of geometries with improper rings, once their matrix is written.
+//! Messages on geometries with improper rings, written after their matrix.
 
 ghost use Rattle.std.specs.Prelude.{◌≡◌, false};
 ghost use Rattle.command_core.specs.Endings.{IsToldOf, improper_text};
@@ -6,18 +6,18 @@ ghost use Rattle.command_core.specs.Endings.{IsToldOf, improper_text};
 use join_core::{Sink, write_text};
 use relate_any_core::Improper;
 
-/// Says of each geometry with improper rings that the even-odd rule holds for it.
+/// Writes one line for each geometry with improper rings: the even-odd rule was applied to it.
 pub fn tell_improper<E: Sink>(improper: &Improper, errors: &mut E)
     requires { E.has_failed errors.old ≡ false }
     ensures { IsToldOf E.written E.has_failed errors.old errors.new improper.now }
 {
     if improper.first || improper.second {
-        // Where standard error fails, nothing is left to tell.
+        // If standard error fails, nothing more can be reported.
         let _ = write_text(errors, improper_text(improper).as_bytes());
     }
 }
 
-/// The lines on geometries with improper rings.
+/// The lines for the geometries with improper rings.
 fn improper_text(improper: &Improper) -> &'static str
     ensures { result.now ≡ improper_text improper.now }
 {

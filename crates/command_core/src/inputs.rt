@@ -1,4 +1,4 @@
-//! Where the files of a command are opened.
+//! How a command opens its files.
 
 ghost use Rattle.std.specs.Prelude.{◌≡◌, ℕ, List, Option, None, false, IfOk, IfSome};
 ghost use Rattle.command_core.specs.Opening.{Opens};
@@ -11,11 +11,11 @@ use thiserror::Error;
 #[error("cannot be opened")]
 pub struct NotOpened;
 
-/// What opens files by their paths.
+/// Opens files by their paths.
 pub trait Inputs {
     type File: Source + Drop;
 
-    /// What lies at each path, where that is known: bytes, or nothing that can be opened.
+    /// The content of the file at each path, if known: its bytes, or `None` if it can't be opened.
     ghost files: { Self → Option (List ℕ → Option (List ℕ)) } = { λ _. None };
 
     /// Opens the file at a path, for reading from its start.

@@ -1,5 +1,5 @@
-//! The commands of rjoin as a library: from the words of the command line, over what opens files,
-//! to what is written and said, and the exit status.
+//! The commands of rjoin as a library: from the words of the command line to the output, the fault
+//! lines and the exit status, over any implementation of [`Inputs`].
 #![tactic(auto)]
 
 mod command;

@@ -16,8 +16,8 @@ use std::thread::Threads;
 use std::{env, io};
 use words_core::{WordFault, read_words};
 
-/// Does what the words of the command line ask for, and returns the exit status. What they ask for,
-/// help included, goes to `output`, and the line of a fault to `errors`.
+/// Runs the program on the words of the command line and returns the exit status. Results and help
+/// go to `output`, the line of a fault to `errors`.
 pub fn run_program<
     R: Env + RandomSource + AllocGlobal + Threads + Wait + Sync,
     I: Inputs,
@@ -50,7 +50,7 @@ fn given_words<R: Env + AllocGlobal>(rt: &R) -> Result<Vec<String>, WordFault>
     }
 }
 
-/// Does what words ask for.
+/// Runs the program on the given words.
 pub fn run_words<
     R: RandomSource + AllocGlobal + Threads + Wait + Sync,
     I: Inputs,
@@ -69,7 +69,7 @@ pub fn run_words<
     }
 }
 
-/// The words as texts.
+/// The words as string slices.
 fn texts_of(alloc: Global, words: &[String]) -> Result<Vec<&str>, AllocError>
     ensures { IfOk result (λ texts.
         map (λ text. text.now) texts.items ≡ map string_bytes words.now) }
@@ -81,7 +81,7 @@ fn texts_of(alloc: Global, words: &[String]) -> Result<Vec<&str>, AllocError>
     Ok(texts)
 }
 
-/// Reads words as a command, which is run, or as the fault that is shown.
+/// Reads the words as a command and runs it, or shows why they are none.
 fn run_read<R: RandomSource + AllocGlobal + Threads + Wait + Sync, I: Inputs, O: Sink, E: Sink>(
     rt: &R,
     words: &[&str],
@@ -101,7 +101,7 @@ fn run_read<R: RandomSource + AllocGlobal + Threads + Wait + Sync, I: Inputs, O:
     }
 }
 
-/// Shows what is wrong with words, or the help that they ask for, and returns the exit status.
+/// Shows the fault of the words, or the help they ask for, and returns the exit status.
 fn show_word_fault<O: Sink, E: Sink>(fault: &WordFault, output: &mut O, errors: &mut E) -> u8
     requires output { O.has_failed output.old ≡ false }
     requires errors { E.has_failed errors.old ≡ false }

@@ -1,4 +1,4 @@
-//! The matrix of two geometries that are given as texts.
+//! The matrix of two geometries given as texts.
 
 ghost use Rattle.std.specs.Prelude.{◌≡◌, ◌≢◌, Option, Ok, Err, false, IfOk, IfErr, OnOk};
 ghost use Rattle.command_core.specs.Commands.{AreImproper, BlamesCommand, CommandEnds};
@@ -15,7 +15,7 @@ use std::alloc::Global;
 use wkt_any_core::Rings;
 use words_core::{Geometries, RelateRequest};
 
-/// Writes the matrix of two geometries, and answers in `improper` which of them have improper
+/// Writes the matrix of two geometries, and records in `improper` which of them have improper
 /// rings.
 pub fn execute_relate<O: Sink>(
     alloc: Global,
@@ -67,8 +67,8 @@ fn relate_any<O: Sink>(
     Ok(())
 }
 
-/// How two geometries of any direction lie to each other. The first text that spells none is at
-/// fault.
+/// The matrix of two geometries of any direction, and which of them have improper rings. If a text
+/// spells no geometry, the fault names the first such text.
 fn related_any(
     alloc: Global,
     request: &RelateRequest<'_>,

@@ -1,4 +1,4 @@
-//! What is shown of words that are no command, and the status that they end with.
+//! The message for words that are no command, and the exit status.
 
 ghost use Rattle.std.specs.Prelude.{◌≡◌, ◌+◌, ◌≤◌, ◌↔◌, ◌++◌, ◌∷◌, [], false, length, IsTrue};
 ghost use Rattle.std.specs.Prelude.{IsErr, OnOk, OnErr};
@@ -11,7 +11,7 @@ use join_core::{ShortText, Sink, WriteFailed, write_text};
 use relation_core::{AllowsDisjoint, MaskFault};
 use words_core::WordFault;
 
-/// The exit status: 0 for help, 1 where memory ran out, and else 2.
+/// The exit status: 0 for help, 1 if memory ran out, otherwise 2.
 pub fn word_status(fault: &WordFault) -> u8
     ensures { result ≡ word_status_of fault.now }
 {
@@ -29,8 +29,8 @@ pub fn word_status(fault: &WordFault) -> u8
     }
 }
 
-/// Writes what to show of words that are no command: the text of `clap`, or a line of the
-/// program's own.
+/// Writes the message for words that are no command: the text from `clap`, or one of the program's
+/// own lines.
 pub fn word_line<S: Sink>(fault: &WordFault, sink: &mut S) -> Result<(), WriteFailed>
     requires { S.has_failed sink.old ≡ false }
     ensures ok { OnOk result (Appends (S.written sink.old) (S.written sink.new)

@@ -16,21 +16,21 @@ use layer_core::Layer;
 use std::alloc::{AllocError, Global};
 use std::collections::BTreeSet;
 
-/// How many features of both layers together a picture may have: with more, its reader sees
-/// nothing but strokes.
+/// The greatest number of features, of both layers together, that a picture may have: more would
+/// be drawn as nothing but strokes.
 pub const MAX_DRAWN: usize = 100_000;
 
-/// The root element's start, up to its height.
+/// The start of the root element, up to its height.
 const OPENING: &str = "<svg xmlns=\"http://www.w3.org/2000/svg\" version=\"1.1\" \
 width=\"1000\" height=\"";
 
-/// From there to the height of the part that it shows.
+/// What follows, up to the height of the view box.
 const SHOWN: &str = "\" viewBox=\"0 0 1000 ";
 
-/// From there to the legend: what the classes look like.
+/// What follows, up to the legend: the style of each class.
 ///
-/// Widths of strokes are parts of the picture's size, so a point is seen at any extent. The two
-/// colours are blue and vermillion of Okabe and Ito, which colour-blind readers tell apart.
+/// Stroke widths are percentages of the picture's size, so a point is visible at any extent. The
+/// two colours are blue and vermillion of Okabe and Ito, which colour-blind readers tell apart.
 const STYLE: &str = "\">\n\
 <style>\
 text{font:16px sans-serif}\
@@ -43,18 +43,18 @@ path{stroke-width:.1%;stroke-linecap:round;stroke-linejoin:round;fill-opacity:.0
 </style>\n\
 <rect width=\"100%\" height=\"100%\" fill=\"#fff\"/>\n";
 
-/// How high the legend is.
+/// The height of the legend.
 const LEGEND_HEIGHT: u64 = 40;
 
 /// The legend up to the number of left features.
 const LEFT_KEY: &str = "<path class=\"left\" d=\"M20 12h16v16h-16z\"/>\
 <text x=\"46\" y=\"26\">left features: ";
 
-/// From there to the number of right features.
+/// What follows, up to the number of right features.
 const RIGHT_KEY: &str = "</text>\n<path class=\"right\" d=\"M320 12h16v16h-16z\"/>\
 <text x=\"346\" y=\"26\">right features: ";
 
-/// From there to the number of pairs.
+/// What follows, up to the number of pairs.
 const MATCH_KEY: &str = "</text>\n<path class=\"left match\" d=\"M620 12h16v16h-16z\"/>\
 <path class=\"right match\" d=\"M642 12h16v16h-16z\"/>\
 <text x=\"668\" y=\"26\">matching pairs: ";
@@ -65,13 +65,13 @@ const LEGEND_END: &str = "</text>\n";
 /// The start of the element that shows the frame, up to its height.
 const CANVAS: &str = "<svg y=\"40\" width=\"1000\" height=\"";
 
-/// From there to the frame's width.
+/// What follows, up to the frame's width.
 const FRAME: &str = "\" preserveAspectRatio=\"xMidYMin\" viewBox=\"0 0 ";
 
-/// The ends of the frame's element and of the root.
+/// The end tags of the frame's element and of the root.
 const CLOSING: &str = "</svg>\n</svg>\n";
 
-/// Whether a picture may have this many features.
+/// Whether a picture may show the features of both layers: at most [`MAX_DRAWN`].
 pub fn can_be_drawn(left: &Layer, right: &Layer) -> bool
     ensures { IsTrue result
         ↔ (length left.now.list.features + length right.now.list.features ≤ most_drawn) }
@@ -89,7 +89,7 @@ fn push_counted(text: &mut String, before: &str, count: u64) -> Result<(), Alloc
     text.push_str(digits.format(count))
 }
 
-/// Adds what stands before the legend of a picture that is so high: its size and its style.
+/// Adds what precedes the legend of a picture of this height: its size and its style.
 fn push_opening(text: &mut String, height: u64) -> Result<(), AllocError>
     ensures { OnOk result (string_bytes text.new ≡ string_bytes text.old ++ opening height) }
 {
@@ -98,7 +98,7 @@ fn push_opening(text: &mut String, height: u64) -> Result<(), AllocError>
     text.push_str(STYLE)
 }
 
-/// Adds the legend: each colour, and how many features or pairs have it.
+/// Adds the legend: each colour with its number of features or pairs.
 fn push_legend(text: &mut String, left: usize, right: usize, pairs: usize) -> Result<(), AllocError>
     ensures { OnOk result
         (string_bytes text.new ≡ string_bytes text.old ++ legend left right pairs) }
@@ -109,7 +109,7 @@ fn push_legend(text: &mut String, left: usize, right: usize, pairs: usize) -> Re
     text.push_str(LEGEND_END)
 }
 
-/// Adds the start of the element that shows the frame and is so high.
+/// Adds the start tag of the element that shows the frame at this height.
 fn push_canvas(text: &mut String, height: u64, frame: &Frame) -> Result<(), AllocError>
     ensures { OnOk result
         (string_bytes text.new ≡ string_bytes text.old ++ canvas height frame.now) }
@@ -120,7 +120,7 @@ fn push_canvas(text: &mut String, height: u64, frame: &Frame) -> Result<(), Allo
     text.push_str("\">\n")
 }
 
-/// Adds the features of a layer, where those with these numbers are highlighted.
+/// Adds the features of a layer, and highlights those whose numbers are in `matches`.
 fn push_group(
     text: &mut String,
     side: &str,
@@ -141,17 +141,17 @@ fn push_group(
 }
 
 /// The picture of two layers, as SVG 1.1: a legend with three counts, and below it each feature of
-/// the left layer and then each of the right one, in layer order, with its id as its title. Those
-/// that occur in a pair of numbers are highlighted.
+/// the left layer and then each of the right one, in layer order, with its id as its title.
+/// Features that occur in `pairs` are highlighted.
 ///
-/// It is 1,000 wide, and as high as the frame of the features needs, which is 2,000 at most and the
-/// legend.
+/// The picture is 1,000 wide. Its height is that of the legend and the drawn frame, which is at
+/// most 2,000 high.
 ///
-/// Each shape stands at its place from the frame's upper left corner, with the second axis
-/// upwards, in units of the grid.
+/// Shapes are drawn relative to the frame's upper left corner, in units of the grid, with the
+/// second axis upwards.
 ///
 /// # Errors
-/// Where memory is refused.
+/// If an allocation fails.
 pub fn picture(
     alloc: Global,
     left: &Layer,

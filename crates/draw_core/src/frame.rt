@@ -8,12 +8,12 @@ use geom_core::Shape;
 use layer_core::Layer;
 use std::marker::Model;
 
-/// The most that a frame is drawn high, where it is 1,000 wide: twice as high as it is wide.
+/// The greatest height at which a frame is drawn, twice the picture's width of 1,000.
 const MAX_HEIGHT: u64 = 2000;
 
-/// The part of the plane that a picture shows: the cover of all shapes, and a margin about it.
+/// The part of the plane that a picture shows: the cover of all shapes, with a margin around it.
 ///
-/// Coordinates of the picture count from its upper left corner, to the right and downwards.
+/// Coordinates of the picture count from the frame's upper left corner, to the right and downwards.
 #[derive(Drop)]
 pub(crate) struct Frame {
     left: i64,
@@ -38,7 +38,7 @@ impl Model for Frame {
     ghost invariant = { λ f. IsNear f.left × IsNear f.top × HasSize f.width f.height };
 }
 
-/// How far apart two coordinates are.
+/// The distance between two coordinates.
 fn distance(a: i64, b: i64) -> u64
     requires first { IsCoordinate a }
     requires second { IsCoordinate b }
@@ -48,7 +48,7 @@ fn distance(a: i64, b: i64) -> u64
     b.abs_diff(a)
 }
 
-/// A twentieth of the longer side, and one unit more.
+/// A twentieth of the longer side, plus one unit.
 fn margin_of(width: u64, height: u64) -> u64
     requires width { width ≤ greatest_distance }
     requires height { height ≤ greatest_distance }
@@ -76,7 +76,7 @@ impl Frame {
     ghost use Rattle.geom_core.specs.Shapes.{x1, y2, AreCorners};
     ghost use Rattle.draw_core.specs.Views.{view_around, view_of, drawn_height};
 
-    /// The frame of two layers, about the origin where they have no features.
+    /// The frame of two layers, or that of the origin if they have no features.
     pub(crate) fn new(left: &Layer, right: &Layer) -> Frame
         ensures { result ≡ view_of left.now.list right.now.list }
     {
@@ -86,8 +86,8 @@ impl Frame {
         }
     }
 
-    /// The frame about the corners of a shape, with a twentieth of its longer side and one unit
-    /// more on each side, so that it has a width and a height.
+    /// The frame around the corners of a shape, with a margin on each side of a twentieth of the
+    /// shape's longer side plus one unit, so that its width and height are positive.
     fn around(x1: i64, y1: i64, x2: i64, y2: i64) -> Frame
         requires { AreCorners x1 y1 x2 y2 }
         ensures { result ≡ view_around x1 y1 x2 y2 }
@@ -102,21 +102,21 @@ impl Frame {
         }
     }
 
-    /// How far the shape's left side is from the frame's.
+    /// The distance from the frame's left side to the shape's.
     pub(crate) fn x_of(&self, shape: &Shape) -> i64
         ensures { result ≡ x1 shape.now -ℤ self.now.left }
     {
         shape.x1() - self.left
     }
 
-    /// How far the shape's upper side is below the frame's.
+    /// The distance from the frame's upper side down to the shape's.
     pub(crate) fn y_of(&self, shape: &Shape) -> i64
         ensures { result ≡ self.now.top -ℤ y2 shape.now }
     {
         self.top - shape.y2()
     }
 
-    /// How high the frame is drawn at a width of 1,000.
+    /// The height at which the frame is drawn in a picture that is 1,000 wide.
     pub(crate) fn drawn_height(&self) -> u64
         ensures height { result ≡ drawn_height self.now }
         ensures bound { result ≤ 2000 }
@@ -124,14 +124,14 @@ impl Frame {
         (1000 * self.height).div_ceil(self.width).min(MAX_HEIGHT)
     }
 
-    /// How wide the frame is.
+    /// The width of the frame, in units of the grid.
     pub(crate) fn width(&self) -> u64
         ensures { result ≡ self.now.width }
     {
         self.width
     }
 
-    /// How high the frame is.
+    /// The height of the frame, in units of the grid.
     pub(crate) fn height(&self) -> u64
         ensures { result ≡ self.now.height }
     {

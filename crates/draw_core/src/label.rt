@@ -6,17 +6,17 @@ ghost use Rattle.draw_core.specs.Labels.{is_xml_char, label_char, label};
 
 use std::alloc::AllocError;
 
-/// What stands for a character that no XML text may have.
+/// Replaces each character that XML text may not contain.
 const REPLACEMENT: char = '\u{FFFD}';
 
-/// Whether an XML text may have the character (XML 1.0, section 2.2).
+/// Whether XML text may contain the character (XML 1.0, section 2.2).
 fn is_xml_char(c: char) -> bool
     ensures { result ≡ is_xml_char c }
 {
     c == '\t' || c == '\n' || c == '\r' || c >= ' ' && c != '\u{FFFE}' && c != '\u{FFFF}'
 }
 
-/// Adds a character, as a reference where it is part of the markup (XML 1.0, section 2.4).
+/// Adds a character, as a reference if it is a character of the markup (XML 1.0, section 2.4).
 fn push_char(text: &mut String, c: char) -> Result<(), AllocError>
     ensures { OnOk result (string_bytes text.new ≡ string_bytes text.old ++ label_char c) }
 {
@@ -31,7 +31,7 @@ fn push_char(text: &mut String, c: char) -> Result<(), AllocError>
     }
 }
 
-/// Adds an id, so that an XML reader gives it back but for the characters that XML forbids.
+/// Adds an id. An XML reader gives it back, except for the characters that XML forbids.
 pub(crate) fn push_label(text: &mut String, id: &str) -> Result<(), AllocError>
     ensures { OnOk result (string_bytes text.new ≡ string_bytes text.old ++ label id.now) }
 {

@@ -1,4 +1,4 @@
-//! A picture of two layers and of the pairs that were found in them, as SVG 1.1.
+//! A picture of two layers and of their matching pairs, as SVG 1.1.
 #![tactic(auto)]
 
 mod drawing;

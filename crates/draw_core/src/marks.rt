@@ -14,7 +14,7 @@ pub(crate) struct Marks {
 }
 
 impl Marks {
-    /// The features of these pairs.
+    /// The features that occur in these pairs.
     pub(crate) fn new(alloc: Global, pairs: &[(u32, u32)]) -> Result<Marks, AllocError>
         ensures left { IfOk result (λ marks. HoldsExactly marks.left (has_left pairs.now)) }
         ensures right { IfOk result (λ marks. HoldsExactly marks.right (has_right pairs.now)) }

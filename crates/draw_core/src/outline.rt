@@ -14,7 +14,7 @@ use itoa::Buffer;
 use layer_core::FeatureRef;
 use std::alloc::AllocError;
 
-/// Adds a command of a path, and its number.
+/// Adds a path command and its number.
 fn push_number(text: &mut String, command: &str, number: i64) -> Result<(), AllocError>
     ensures { OnOk result
         (string_bytes text.new ≡ string_bytes text.old ++ numbered command.now number) }
@@ -24,14 +24,14 @@ fn push_number(text: &mut String, command: &str, number: i64) -> Result<(), Allo
     text.push_str(digits.format(number))
 }
 
-/// How wide a shape is.
+/// The width of a shape.
 fn width(shape: &Shape) -> i64
     ensures { result ≡ x2 shape.now -ℤ x1 shape.now }
 {
     shape.x2() - shape.x1()
 }
 
-/// How high a shape is.
+/// The height of a shape.
 fn height(shape: &Shape) -> i64
     ensures { result ≡ y2 shape.now -ℤ y1 shape.now }
 {
@@ -47,7 +47,7 @@ fn push_corner(text: &mut String, frame: &Frame, shape: &Shape) -> Result<(), Al
     push_number(text, " ", frame.y_of(shape))
 }
 
-/// Adds the way back to the upper left corner, where the shape is a rectangle.
+/// Adds the way back to the upper left corner, if the shape is a rectangle.
 fn push_return(text: &mut String, shape: &Shape) -> Result<(), AllocError>
     ensures { OnOk result
         (string_bytes text.new ≡ string_bytes text.old ++ way_back shape.now) }
@@ -59,7 +59,7 @@ fn push_return(text: &mut String, shape: &Shape) -> Result<(), AllocError>
     text.push_str("z")
 }
 
-/// Adds the path of a shape: from its upper left corner across, down and back.
+/// Adds the path of a shape, which goes from its upper left corner across, down and back.
 fn push_outline(text: &mut String, frame: &Frame, shape: &Shape) -> Result<(), AllocError>
     ensures { OnOk result
         (string_bytes text.new ≡ string_bytes text.old ++ outline frame.now shape.now) }
@@ -79,7 +79,7 @@ fn push_title(text: &mut String, id: &str) -> Result<(), AllocError>
     text.push_str("</title>")
 }
 
-/// Adds the start of a path's element, with a class where it is a point or a match.
+/// Adds the start of a path element, with its class if it is a point or a match.
 fn push_start(text: &mut String, dim: u8, is_match: bool) -> Result<(), AllocError>
     ensures { OnOk result
         (string_bytes text.new ≡ string_bytes text.old ++ start_of dim is_match) }
@@ -92,7 +92,7 @@ fn push_start(text: &mut String, dim: u8, is_match: bool) -> Result<(), AllocErr
     })
 }
 
-/// Adds the element of a feature, whose title is its id.
+/// Adds the path element of a feature, with its id as title.
 pub(crate) fn push_element(
     text: &mut String,
     frame: &Frame,

@@ -24,12 +24,14 @@ use std::hash::RandomState;
 use std::thread::Threads;
 use wkt_core::Scale;
 
-/// Writes the corners of the features of a layer: a CSV record `id,x1,y1,x2,y2`, and then one for
-/// each feature, in layer order.
+/// Writes the corners of the features of a layer: a CSV record `id,x1,y1,x2,y2`, and then a record
+/// for each feature, in layer order.
 ///
 /// Each coordinate is a whole number of units of the last decimal that the scale allows. Several
-/// threads read the layer. `state` hashes the ids. A fault of the layer is answered, and then
-/// nothing is written.
+/// threads read the layer. `state` hashes the ids.
+///
+/// # Errors
+/// A fault of the layer, after which nothing is written, or a fault of the output.
 pub fn run_bounds<R: Threads + Sync, L: Source, S: Sink>(
     rt: &R,
     alloc: Global,
@@ -54,7 +56,7 @@ pub fn run_bounds<R: Threads + Sync, L: Source, S: Sink>(
     run_on_layer(&reader, state, layer, &Corners, sink)
 }
 
-/// The list of the corners of a layer's features.
+/// The text of `run_bounds`: the corners of a layer's features.
 #[derive(Drop)]
 struct Corners;
 

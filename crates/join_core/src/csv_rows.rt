@@ -1,4 +1,4 @@
-//! Rows of CSV that are written to memory.
+//! CSV rows in memory.
 
 ghost use Rattle.std.specs.Prelude.{◌≡◌, [], List, ℕ, IfOk, OnOk, map};
 ghost use Rattle.report_core.specs.CsvTexts.{csv_text};
@@ -7,17 +7,17 @@ ghost use Rattle.join_core.specs.CsvWriting.{HasRows, AddsRow};
 use csv::Writer;
 use std::alloc::{AllocError, Global};
 
-/// A writer over memory that has written no row.
+/// A CSV writer over memory, without rows yet.
 pub(crate) fn new_rows(alloc: Global) -> Writer<Vec<u8>>
     ensures { HasRows result [] }
 {
     Writer::from_writer(Vec::new(alloc))
 }
 
-/// Writes a row behind those that the writer has written, with quotes where a field needs them.
+/// Adds a row after those written so far, with quotes around the fields that need them.
 ///
 /// # Errors
-/// Only where memory runs out: a writer over memory fails for nothing else.
+/// If memory runs out; a writer over memory has no other error.
 #[tactic(auto, using(crate::proofs::CsvLemmas::row_pushed))]
 pub(crate) fn push_row(writer: &mut Writer<Vec<u8>>, row: &[&[u8]]) -> Result<(), AllocError>
     ensures { OnOk result (AddsRow writer.old writer.new (map (λ field. field.now) row.now)) }
@@ -28,10 +28,10 @@ pub(crate) fn push_row(writer: &mut Writer<Vec<u8>>, row: &[&[u8]]) -> Result<()
     }
 }
 
-/// The text of the rows that the writer has written, each with a line feed.
+/// The text of the rows written, each with a line feed.
 ///
 /// # Errors
-/// Only where memory runs out.
+/// If memory runs out.
 pub(crate) fn rows_text(writer: Writer<Vec<u8>>) -> Result<Vec<u8>, AllocError>
     ensures { IfOk result (λ text. (rows : List (List (List ℕ))) → HasRows writer rows
         → text.items ≡ csv_text rows) }

@@ -1,4 +1,4 @@
-//! What ends a run, and the input that it speaks of.
+//! The faults that end a run, and the input at fault.
 
 ghost use Rattle.std.specs.Prelude.{◌≡◌};
 ghost use Rattle.join_core.specs.declared.fault.RunFault.TheVariants as run_faults;
@@ -25,7 +25,7 @@ pub enum Input {
     Right,
     /// The list of edits.
     Edits,
-    /// A layer that is asked about.
+    /// The layer of a command that reads only one.
     Layer,
     /// The geometry of a window.
     Window,
@@ -35,7 +35,7 @@ impl Input {
     ghost use Rattle.std.specs.Prelude.{◌≤◌, length};
     ghost use Rattle.join_core.specs.FaultTexts.{input_word};
 
-    /// The word by which a message names it.
+    /// The name of the input in messages.
     pub fn word(self) -> &'static str
         ensures word { result.now ≡ input_word self }
         ensures short { length result.now ≤ 6 }
@@ -52,19 +52,19 @@ impl Input {
     }
 }
 
-/// Why a run ended without its work done. Rows are counted from 1, after the header.
+/// Why a run failed. Rows are counted from 1, after the header.
 #[derive(Clone, Copy, Debug, PartialEq, Eq, Error)]
 pub enum RunFault {
     /// The file of an input can't be opened.
     #[error("{input}: cannot be opened", input = .0.word())]
     NoFile(Input),
-    /// A file can't be read.
+    /// The file of an input can't be read.
     #[error("{input}: {1}", input = .0.word())]
     Read(Input, ReadFault),
-    /// A point, segment or rectangle can't be read.
+    /// The text of a point, segment or rectangle can't be read.
     #[error("{input}: {1}", input = .0.word())]
     Wkt(Input, WktFault),
-    /// A geometry of any direction can't be read.
+    /// The text of a geometry of any direction can't be read.
     #[error("{input}: {1}", input = .0.word())]
     Geometry(Input, GeometryFault),
     /// The edit of this row is refused.
@@ -76,13 +76,13 @@ pub enum RunFault {
     /// The layers have more features than a picture may have.
     #[error("more than 100000 features to draw")]
     TooManyToDraw,
-    /// The output has failed.
+    /// Writing to the output failed.
     #[error("write failed")]
     Write,
     /// Memory ran out.
     #[error("no memory")]
     Memory,
-    /// The system gives no random keys, by which ids are hashed.
+    /// The system provides no random keys for hashing ids.
     #[error("no random keys for hashing")]
     NoKeys,
 }

@@ -1,4 +1,4 @@
-//! What a fault says, and the line that is written of it.
+//! The text of a fault, and writing it as a line.
 
 ghost use Rattle.std.specs.Prelude.{◌≡◌, ◌+◌, ◌≤◌, ◌↔◌, ◌++◌, false, length, IsTrue, IsErr, OnOk};
 ghost use Rattle.std.specs.Prelude.{OnErr};
@@ -14,8 +14,8 @@ use file_core::ReadFault;
 use parallel_core::JoinFault;
 use report_core::{ROOM, ShortText, Sink, WriteFailed};
 
-/// Writes the line of a fault: the program's name, what was at fault and what is wrong with it.
-/// It takes no memory.
+/// Writes the line of a fault: the program's name, the input at fault and the fault. It allocates
+/// no memory.
 pub fn fault_line<S: Sink>(fault: &RunFault, sink: &mut S) -> Result<(), WriteFailed>
     requires { S.has_failed sink.old ≡ false }
     ensures ok { OnOk result (Appends (S.written sink.old) (S.written sink.new)
@@ -79,7 +79,7 @@ fn push_read_text(line: &mut ShortText, fault: &ReadFault)
     line.push(fault.text());
 }
 
-/// Adds the number of a row, and what parts it from what is said of it.
+/// Adds the number of a row and the separator after it.
 fn push_row(line: &mut ShortText, row: u32)
     requires { length line.old + 16 ≤ ROOM }
     ensures text { line.new ≡ line.old ++ row_text row }

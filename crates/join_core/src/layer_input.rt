@@ -1,5 +1,5 @@
-//! The layer that a file's bytes or a source is read as, with or without its tree, by several
-//! threads where there is much of it.
+//! Reading a file or a source as a layer, with or without its tree, by several threads if it is
+//! large.
 
 ghost use Rattle.std.specs.Prelude.{◌≡◌, ◌↔◌, false, IsTrue, IsErrOf};
 ghost use Rattle.join_core.specs.Inputs.{Builds, Reads, ReadsFeatures};
@@ -19,7 +19,7 @@ pub(crate) struct LayerReader<'a, R> {
     pub(crate) rt: &'a R,
     pub(crate) alloc: Global,
     pub(crate) scale: Scale,
-    /// By how many threads a file is read, unless it has few bytes.
+    /// The number of threads for reading a file, unless it is small.
     pub(crate) threads: u32,
 }
 
@@ -32,7 +32,7 @@ impl<R: Threads + Sync> LayerReader<'_, R> {
         layer_of_bytes(self.alloc, state, bytes, self.scale, threads, self.rt)
     }
 
-    /// The layer that a source is read as.
+    /// Reads a source as a layer.
     pub(crate) fn read<S: Source>(
         &self,
         state: RandomState,
@@ -46,7 +46,7 @@ impl<R: Threads + Sync> LayerReader<'_, R> {
         self.build(state, bytes)
     }
 
-    /// The features of the layer that a source is read as.
+    /// Reads a source as the features of a layer.
     pub(crate) fn read_features<S: Source>(
         &self,
         state: RandomState,
@@ -68,7 +68,7 @@ impl<R: Threads + Sync> LayerReader<'_, R> {
         )
     }
 
-    /// The threads that read these bytes: one for few bytes.
+    /// The number of threads for reading these bytes: 1 if they are few.
     fn threads_for(&self, bytes: &[u8]) -> u32 {
         if bytes.len() >= MIN_THREADED_BYTES {
             self.threads

@@ -1,4 +1,4 @@
-//! Runs over one layer: its features are read, and a text that is made of them is written.
+//! Runs over one layer: its features are read, and a text made of them is written.
 
 ghost use Rattle.std.specs.Prelude.{◌≡◌, ◌↔◌, ℕ, List, Ok, Err, false, IsTrue, IsErrOf, IfErr};
 ghost use Rattle.std.specs.Prelude.{IfOk};
@@ -20,20 +20,21 @@ use std::alloc::{AllocError, Global};
 use std::hash::RandomState;
 use std::thread::Threads;
 
-/// How many workers a join has where none are asked for, and how many threads read one layer.
+/// The default number of workers of a join, and the number of threads that read a single layer.
 pub const DEFAULT_WORKERS: u32 = 4;
 
-/// What a run makes of a layer's features. None needs the layer's tree, so none is packed.
+/// The text that a run makes of a layer's features. No run needs the layer's tree, so it isn't
+/// packed.
 pub(crate) trait LayerText {
     ghost is_text_of: { Self → Contents → List ℕ → Type 0 };
 
-    /// The text of a layer, given its features.
+    /// The text of a layer, made of its features.
     fn text(&self, alloc: Global, features: &FeatureList) -> Result<Text, AllocError>
         ensures { IfOk result (λ text. is_text_of self.now features.now (bytes_of_text text)) };
 }
 
-/// Reads a layer, whose ids `state` hashes, and writes the text that is made of it. After a fault
-/// of the layer nothing is written.
+/// Reads a layer, whose ids `state` hashes, and writes the text made of it. After a fault of the
+/// layer, nothing is written.
 pub(crate) fn run_on_layer<R: Threads + Sync, L: Source, T: LayerText, S: Sink>(
     reader: &LayerReader<'_, R>,
     state: RandomState,
@@ -54,7 +55,7 @@ pub(crate) fn run_on_layer<R: Threads + Sync, L: Source, T: LayerText, S: Sink>(
     Ok(())
 }
 
-/// The text that is made of the layer that a source is read as.
+/// The text made of the layer that a source is read as.
 fn text_of<R: Threads + Sync, L: Source, T: LayerText>(
     reader: &LayerReader<'_, R>,
     state: RandomState,
@@ -79,7 +80,7 @@ fn text_of<R: Threads + Sync, L: Source, T: LayerText>(
     }
 }
 
-/// The text that is made of a layer's features.
+/// The text made of a layer's features.
 fn text_from<T: LayerText>(
     alloc: Global,
     features: &FeatureList,

@@ -1,5 +1,5 @@
 //! The spatial join of two layers as a library: options, edits, pairs and report, from the bytes of
-//! the files to the bytes that are written.
+//! the files to the bytes of the output.
 #![tactic(auto)]
 
 mod bounds;

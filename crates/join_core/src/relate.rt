@@ -1,4 +1,4 @@
-//! The matrix of two geometries that are given as texts.
+//! The matrix of two geometries given as texts.
 
 ghost use Rattle.std.specs.Prelude.{◌≡◌, ◌↔◌, ◌++◌, ◌∷◌, [], Err, false, IfOk, IfErr};
 ghost use Rattle.relation_core.specs.Matrices.{letters_of};
@@ -17,8 +17,10 @@ const LINE: usize = 10;
 
 /// Writes how two geometries lie to each other: the nine letters of their matrix and a line feed.
 ///
-/// Both are read before anything is written, and no memory is taken. The first text that spells no
-/// shape is at fault.
+/// Both texts are read before anything is written, and no memory is allocated.
+///
+/// # Errors
+/// The fault of the first text that spells no shape, or a fault of the output.
 pub fn run_relate<S: Sink>(scale: Scale, a: &[u8], b: &[u8], sink: &mut S) -> Result<(), RunFault>
     requires { S.has_failed sink.old ≡ false }
     ensures { RunEnds (RelateGives scale a.now b.now) (HasFirstFault scale a.now b.now)
@@ -29,7 +31,7 @@ pub fn run_relate<S: Sink>(scale: Scale, a: &[u8], b: &[u8], sink: &mut S) -> Re
     Ok(())
 }
 
-/// The matrix of two geometries, which are given as texts, as a line.
+/// The line of the matrix of two geometries, which are given as texts.
 fn related(scale: Scale, a: &[u8], b: &[u8]) -> Result<[u8; LINE], RunFault>
     ensures ok { IfOk result (λ line. IsMatrixLine scale a.now b.now line) }
     ensures wkt { (i : Input) (f : WktFault) →

@@ -19,11 +19,13 @@ use std::hash::RandomState;
 use std::thread::Threads;
 use wkt_core::Scale;
 
-/// Writes how many features a layer has, how many of them are points, segments and rectangles, and
-/// how high a tree is that is packed from them: five lines, each a word, a space and a number.
+/// Writes the number of features of a layer, the numbers of points, segments and rectangles among
+/// them, and the height of a tree packed from them: five lines, each a word, a space and a number.
 ///
-/// Several threads read the layer. `state` hashes the ids. A fault of the layer is answered, and
-/// then nothing is written.
+/// Several threads read the layer. `state` hashes the ids.
+///
+/// # Errors
+/// A fault of the layer, after which nothing is written, or a fault of the output.
 pub fn run_stats<R: Threads + Sync, L: Source, S: Sink>(
     rt: &R,
     alloc: Global,
@@ -48,7 +50,7 @@ pub fn run_stats<R: Threads + Sync, L: Source, S: Sink>(
     run_on_layer(&reader, state, layer, &Counts, sink)
 }
 
-/// The counts of a layer's features.
+/// The text of `run_stats`: the counts of a layer's features.
 #[derive(Drop)]
 struct Counts;
 

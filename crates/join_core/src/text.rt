@@ -21,7 +21,7 @@ pub(crate) enum Text {
 }
 
 impl Text {
-    /// Writes and flushes it. Where the device fails, a prefix of it was written.
+    /// Writes and flushes the text. If the device fails, a prefix of it was written.
     pub(crate) fn write<S: Sink>(&self, sink: &mut S) -> Result<(), WriteFailed>
         requires { S.has_failed sink.old ≡ false }
         ensures ok { OnOk result

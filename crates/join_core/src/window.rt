@@ -21,12 +21,15 @@ use std::hash::RandomState;
 use std::thread::Threads;
 use wkt_core::Scale;
 
-/// Writes which features of a layer meet a window: a CSV record `id`, and then one with the id of
-/// each feature whose shape shares a point with the window's, in layer order.
+/// Writes the ids of the features of a layer that meet a window: a CSV record `id`, and then one
+/// record for each feature whose shape shares a point with the window's, in layer order.
 ///
 /// The text of the window is read first, then the layer, by several threads; `state` hashes its
-/// ids. Each feature is looked at once, which takes less time than packing a tree for one question.
-/// The first fault is answered, and then nothing is written.
+/// ids. Each feature is tested once, which takes less time than packing a tree for one query.
+///
+/// # Errors
+/// The first fault of the window or the layer, after which nothing is written, or a fault of the
+/// output.
 pub fn run_window<R: Threads + Sync, L: Source, S: Sink>(
     rt: &R,
     alloc: Global,
@@ -57,7 +60,7 @@ pub fn run_window<R: Threads + Sync, L: Source, S: Sink>(
     }
 }
 
-/// The list of a layer's features that meet a window.
+/// The text of `run_window`: the ids of a layer's features that meet the window.
 #[derive(Drop)]
 struct Meeting {
     window: Shape,

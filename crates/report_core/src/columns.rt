@@ -1,4 +1,4 @@
-//! The ids of the features of two layers, as CSV fields, found by number.
+//! The ids of the features of two layers, as CSV fields, by number.
 
 ghost use Rattle.std.specs.Prelude.{◌≡◌, ◌≤◌, ◌<◌, ◌+◌, ◌++◌, ◌^◌, All, length};
 ghost use Rattle.std.specs.Prelude.{IfOk, OnOk, IsSomeAnd};
@@ -12,16 +12,16 @@ use std::alloc::{AllocError, Global};
 use std::thread;
 use std::thread::Threads;
 
-/// How many bytes the letters of a matrix and the end of a record have.
+/// The number of bytes of a matrix's letters and the end of a record.
 const LETTERS_AND_END: usize = 10;
 
 /// The ids of a layer's features, as CSV fields with their commas, by number.
 ///
-/// A report asks for right features in no order. Here their ids stand together, where a layer
-/// would look at a slot and at the id in its place.
+/// A report needs right features in no particular order. Here their ids are contiguous; in a layer
+/// each access would read a slot and then the id that it refers to.
 #[derive(Drop)]
 pub(crate) struct Column {
-    /// Where the field of each number starts, and at last where the fields end. The field of a
+    /// Where the field of each number starts, followed by the end of the last field. The field of a
     /// number without a feature is empty.
     starts: Vec<usize>,
     /// The fields, one after another.
@@ -36,7 +36,7 @@ pub(crate) struct Columns {
 }
 
 impl Column {
-    /// The column of the features of a layer whose numbers are below a bound.
+    /// The column of the features of a layer whose numbers are less than `bound`.
     fn new(alloc: Global, layer: &Layer, bound: usize) -> Result<Column, AllocError>
         requires { bound ≤ 2 ^ 32 }
         ensures fields { IfOk result
@@ -66,29 +66,29 @@ impl Column {
         self.text.get(start..end)
     }
 
-    /// How many bytes a field has on average.
+    /// The average number of bytes of a field.
     fn likely_field(&self) -> usize {
         self.text.len().div_ceil(self.starts.len().max(1))
     }
 }
 
 impl Columns {
-    /// How many bytes a record of the report is likely to have. Another number costs time or
-    /// memory alone.
+    /// The expected number of bytes of a record of the report. It is an estimate, which affects
+    /// time and memory only.
     pub(crate) fn likely_record(&self) -> usize {
         let left = self.left.likely_field();
         let right = self.right.likely_field();
         LETTERS_AND_END.saturating_add(left).saturating_add(right)
     }
 
-    /// About how many bytes the record of a pair needs.
+    /// An estimate of the number of bytes of a pair's record.
     pub(crate) fn room_of(&self, pair: &(u32, u32)) -> usize {
         let left = self.left.at(pair.0).map_or(0, room_of_field);
         let right = self.right.at(pair.1).map_or(0, room_of_field);
         LETTERS_AND_END.saturating_add(left).saturating_add(right)
     }
 
-    /// The columns of two layers, as far as these pairs of numbers need them.
+    /// The columns of two layers, up to the greatest numbers that occur in the pairs.
     pub(crate) fn new(
         alloc: Global,
         left: &Layer,
@@ -105,7 +105,7 @@ impl Columns {
         })
     }
 
-    /// The columns of two layers, made side by side.
+    /// The same columns, the left and the right one made in parallel.
     pub(crate) fn side_by_side<R: Threads + Sync>(
         alloc: Global,
         left: &Layer,
@@ -129,7 +129,7 @@ impl Columns {
     }
 }
 
-/// One more than the greatest number of each side.
+/// One more than the greatest number of each side, or 0 without pairs.
 fn bounds(pairs: &[(u32, u32)]) -> (usize, usize)
     ensures above { All (λ pair. (pair.0 < result.0) × (pair.1 < result.1)) pairs.now }
     ensures few { (result.0 ≤ 2 ^ 32) × (result.1 ≤ 2 ^ 32) }
@@ -142,8 +142,8 @@ fn bounds(pairs: &[(u32, u32)]) -> (usize, usize)
     (left, right)
 }
 
-/// About how many bytes the fields of a layer need: as many as its ids have, and a comma each. So a
-/// column isn't moved while it grows.
+/// An estimate of the number of bytes of a layer's fields: the lengths of its ids, plus a comma
+/// each. It is reserved, so that a column is not moved as it grows.
 fn likely_room(layer: &Layer) -> usize {
     let mut room: usize = 0;
     for feature in layer.iter() {
@@ -152,14 +152,14 @@ fn likely_room(layer: &Layer) -> usize {
     room
 }
 
-/// About how many bytes a field needs. Its first byte is read, so that the processor fetches the
-/// field; one byte of room more or less makes no difference.
+/// An estimate of the number of bytes of a field. It reads the field's first byte, so that the
+/// processor fetches the field; an estimate that is one byte off does no harm.
 fn room_of_field(field: &[u8]) -> usize {
     let is_quoted = field.first() == Some(&b'"');
     field.len().saturating_add(is_quoted.into())
 }
 
-/// Adds the field of the feature with this number to a text, if there is one.
+/// Adds the field of the feature with this number, if there is one, to `text`.
 fn push_field(
     alloc: Global,
     text: &mut Vec<u8>,

@@ -7,7 +7,7 @@ ghost use Rattle.report_core.specs.CsvTexts.{leading_field};
 use csv::Writer;
 use std::alloc::{AllocError, Global};
 
-/// Adds a field to a text, and the comma behind it.
+/// Adds a field and the comma after it.
 pub(crate) fn push_leading_field(
     alloc: Global,
     text: &mut Vec<u8>,
@@ -20,7 +20,7 @@ pub(crate) fn push_leading_field(
     Ok(())
 }
 
-/// Adds a field to a text, between quotes where it needs them.
+/// Adds a field, in quotes if it needs them.
 fn push_field(alloc: Global, text: &mut Vec<u8>, field: &[u8]) -> Result<(), AllocError>
     ensures { OnOk result
         (text.new.items ≡ text.old.items ++ field_text default_writer field.now) }
@@ -33,7 +33,7 @@ fn push_field(alloc: Global, text: &mut Vec<u8>, field: &[u8]) -> Result<(), All
     }
 }
 
-/// Whether a field needs quotes. Few do, and only these are left to a writer.
+/// Whether a field needs quotes. Few fields do, and only these are passed to a CSV writer.
 fn needs_quotes(field: &[u8]) -> bool
     ensures { result ≡ needs_quotes default_writer field.now }
 {
@@ -42,7 +42,7 @@ fn needs_quotes(field: &[u8]) -> bool
         .any(|byte| matches!(*byte, b',' | b'"' | b'\r' | b'\n'))
 }
 
-/// A field as a writer writes it.
+/// A field as a CSV writer writes it.
 fn field_text(alloc: Global, field: &[u8]) -> Result<Vec<u8>, AllocError>
     ensures { IfOk result (λ text. text.items ≡ field_text default_writer field.now) }
 {

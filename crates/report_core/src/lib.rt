@@ -1,4 +1,4 @@
-//! What a run writes: the report of a join, short texts, and the devices that take text.
+//! The output of a run: the report of a join, short texts, and the sinks that they are written to.
 #![tactic(auto)]
 
 mod columns;

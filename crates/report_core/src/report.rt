@@ -16,12 +16,15 @@ use std::alloc::{AllocError, Global};
 use std::thread;
 use std::thread::Threads;
 
-/// How many pairs are looked up together before their records are written.
+/// The number of pairs whose room is reserved before their records are written.
 const BLOCK: usize = 32;
 
-/// The report of these pairs, as texts to be concatenated: a CSV record `left,right,matrix`, and
-/// for each pair one with the ids of its features and the letters of their matrix. It is written
-/// by at most as many threads as there are workers, each to a text of its own.
+/// The report of these pairs, as texts to be concatenated: a CSV record `left,right,matrix`, then
+/// one record for each pair, with the ids of its features and the letters of their matrix. At most
+/// `workers` threads write it, each to a text of its own.
+///
+/// # Errors
+/// If an allocation fails.
 pub fn report_texts<R: Threads + Sync>(
     alloc: Global,
     left: &Layer,
@@ -42,7 +45,7 @@ pub fn report_texts<R: Threads + Sync>(
     }
 }
 
-/// The report as a text for each chunk of the pairs, behind one for the header.
+/// The report as a text for the header and one for each chunk of the pairs.
 #[tactic(auto, using(crate::proofs::ReportLemmas::report_pushed))]
 fn chunked_report<R: Threads + Sync>(
     alloc: Global,
@@ -81,7 +84,7 @@ fn whole_report(
     Ok(texts)
 }
 
-/// The report in one text.
+/// The report as one text.
 fn whole_text(
     alloc: Global,
     left: &Layer,
@@ -97,8 +100,8 @@ fn whole_text(
     Ok(text)
 }
 
-/// Adds the texts of the report: the header, and those of the chunks of the pairs, each written
-/// by a thread of its own.
+/// Adds the texts of the report: the header, then one text for each chunk of the pairs, each
+/// written by a thread of its own.
 fn push_texts<R: Threads + Sync>(
     alloc: Global,
     texts: &mut Vec<Vec<u8>>,
@@ -132,7 +135,7 @@ fn header_text(alloc: Global) -> Result<Vec<u8>, AllocError>
     Ok(text)
 }
 
-/// The records of each chunk of so many pairs, the last of which may be shorter.
+/// The records of each chunk of `size` pairs; the last chunk may be shorter.
 fn chunk_rows<R: Threads + Sync>(
     alloc: Global,
     left: &Layer,
@@ -188,7 +191,7 @@ fn push_rows(
     for place in 0..pairs.len() {
         make_room(text, right, columns, pairs, place)?;
         let pair = pairs[place];
-        // Looked up first, so that the processor fetches ids and shapes at the same time.
+        // These are read first, so that the processor fetches ids and shapes at the same time.
         let left_field = columns.left.at(pair.0);
         let left_id = left_field.unwrap();
         let right_field = columns.right.at(pair.1);
@@ -201,8 +204,8 @@ fn push_rows(
     Ok(())
 }
 
-/// Makes room for the records of a block of pairs, if one begins here. What it looks up for that
-/// lies in no order: so the processor fetches at the same time what many records need next.
+/// Reserves room for the records of a block of pairs, if one begins at `place`. The lookups for it
+/// are spread over memory, so the processor fetches the data of many records at the same time.
 fn make_room(
     text: &mut Vec<u8>,
     right: &Layer,
@@ -223,19 +226,19 @@ fn make_room(
     text.reserve(room)
 }
 
-/// About how many bytes the record of a pair needs.
+/// An estimate of the number of bytes of a pair's record.
 fn room_of_record(right: &Layer, columns: &Columns, pair: &(u32, u32)) -> usize {
     let Some(shape) = right.shape(pair.1) else {
         return 0;
     };
-    // Both ends of the shape are read, since they may lie in two lines of the cache.
+    // Both ends of the shape are read, since they may lie in two cache lines.
     if shape.y1() > shape.y2() {
         return 0;
     }
     columns.room_of(pair)
 }
 
-/// Adds the record of two ids, as CSV fields with their commas, and the letters of a matrix.
+/// Adds the record of two ids, given as CSV fields with their commas, and the letters of a matrix.
 fn push_row(
     text: &mut Vec<u8>,
     left: &[u8],
@@ -252,7 +255,7 @@ fn push_row(
     Ok(())
 }
 
-/// Adds these texts, unless memory was refused to one of them.
+/// Adds these texts, or returns the error if an allocation failed for one of them.
 fn push_all(
     texts: &mut Vec<Vec<u8>>,
     parts: Vec<Result<Vec<u8>, AllocError>>,

@@ -1,4 +1,4 @@
-//! A short text, made on the stack: one line of a message, or the lines of a layer's counts.
+//! Short texts on the stack: the line of a message, or the lines of a layer's counts.
 
 ghost use Rattle.std.specs.Prelude.{◌≡◌, ◌+◌, ◌<◌, ◌≤◌, ◌↔◌, List, ℕ, [], ◌∷◌, ◌++◌, false, length};
 ghost use Rattle.std.specs.Prelude.{decimal, codes, IsTrue, IsErr, OnOk, OnErr};
@@ -10,10 +10,10 @@ use arrayvec::ArrayString;
 use itoa::Buffer;
 use std::marker::Model;
 
-/// Room for the longest of these texts, in bytes.
+/// The capacity of such a text, in bytes.
 pub const ROOM: usize = 128;
 
-/// A line, or a few, that are being made, seen as their bytes.
+/// A text of one or a few lines, of at most [`ROOM`] bytes.
 #[derive(Drop)]
 pub struct ShortText {
     text: ArrayString<ROOM>,
@@ -26,7 +26,7 @@ impl Model for ShortText {
 }
 
 impl ShortText {
-    /// The empty line.
+    /// The empty text.
     pub fn new() -> ShortText
         ensures { result ≡ [] }
     {
@@ -35,7 +35,7 @@ impl ShortText {
         }
     }
 
-    /// A line that begins as each line of a message does, with the program's name.
+    /// A text that begins like each line of a message, with the program's name.
     pub fn begun() -> ShortText
         ensures text { result ≡ codes "rjoin: " }
         ensures len { length result ≡ 7 }
@@ -63,14 +63,14 @@ impl ShortText {
         self.push(Buffer::new().format(number));
     }
 
-    /// The line so far.
+    /// The text so far.
     pub fn as_str(&self) -> &str
         ensures { result.now ≡ self.now }
     {
         self.text.as_str()
     }
 
-    /// Ends the line and writes it.
+    /// Ends the line with a line feed and writes the text.
     pub fn write<S: Sink>(mut self, sink: &mut S) -> Result<(), WriteFailed>
         requires room { length self < ROOM }
         requires fresh { S.has_failed sink.old ≡ false }

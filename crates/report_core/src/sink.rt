@@ -1,4 +1,4 @@
-//! Devices that text is written to, and writing whole texts to one.
+//! Output devices, and writing whole texts to one.
 
 ghost use Rattle.std.specs.Prelude.{◌≡◌, ℕ, ◌<◌, ◌≤◌, ◌↔◌, List, Option, Bool, false, length};
 ghost use Rattle.std.specs.Prelude.{IsTrue, IsErr, IfOk, OnOk, OnErr};
@@ -12,21 +12,21 @@ use thiserror::Error;
 #[error("write failed")]
 pub struct WriteFailed;
 
-/// A device that text is written to, and that fails for good.
+/// An output device. Once it has failed, it stays failed.
 ///
-/// Each call needs a device that hasn't failed yet.
+/// A call requires that the device hasn't failed yet.
 pub trait Sink {
-    /// What was written so far, or `None` where the device doesn't tell.
+    /// All that was written so far, or `None` if the device doesn't report it.
     ghost written: { Self → Option (List ℕ) };
 
-    /// Whether all that was written has been flushed.
+    /// Whether everything written has been flushed.
     ghost is_flushed: { Self → Bool };
 
     /// Whether the device has failed.
     ghost has_failed: { Self → Bool };
 
-    /// Takes a prefix of the text, and says how long it is: of a text that isn't empty at least one
-    /// byte.
+    /// Takes a prefix of the text and returns its length, which is at least 1 unless the text is
+    /// empty.
     fn write(&mut self, text: &[u8]) -> Result<usize, WriteFailed>
         requires { has_failed self.old ≡ false }
         ensures within { IfOk result (λ n. n ≤ length text.now) }
@@ -34,7 +34,7 @@ pub trait Sink {
         ensures bytes { WriteAppends (written self.old) (written self.new) result text.now }
         ensures failed { IsErr result ↔ IsTrue (has_failed self.new) };
 
-    /// Hands on what was taken.
+    /// Flushes what was written.
     fn flush(&mut self) -> Result<(), WriteFailed>
         requires { has_failed self.old ≡ false }
         ensures bytes { Keeps (written self.old) (written self.new) }
@@ -46,7 +46,7 @@ pub trait Sink {
         ensures { result ≡ has_failed self.now };
 }
 
-/// Writes the whole text and flushes it. Where the device fails, a prefix of the text was written.
+/// Writes the whole text and flushes it. If the device fails, a prefix of the text was written.
 pub fn write_text<S: Sink>(sink: &mut S, text: &[u8]) -> Result<(), WriteFailed>
     requires { S.has_failed sink.old ≡ false }
     ensures ok { OnOk result (Appends (S.written sink.old) (S.written sink.new) text.now) }
@@ -58,8 +58,8 @@ pub fn write_text<S: Sink>(sink: &mut S, text: &[u8]) -> Result<(), WriteFailed>
     sink.flush()
 }
 
-/// Writes these texts in order and flushes them. Where the device fails, a prefix of
-/// them was written.
+/// Writes these texts in order and flushes them. If the device fails, a prefix of their
+/// concatenation was written.
 pub fn write_texts<S: Sink>(sink: &mut S, texts: &[Vec<u8>]) -> Result<(), WriteFailed>
     requires { S.has_failed sink.old ≡ false }
     ensures ok { OnOk result (Appends (S.written sink.old) (S.written sink.new)

@@ -1,21 +1,21 @@
-//! A writer of the standard library as a sink.
+//! A sink over a writer of the standard library.
 
 ghost use Rattle.std.specs.Prelude.{◌≡◌, false};
 
 use crate::sink::{Sink, WriteFailed};
 use std::io::{ErrorKind, Write};
 
-/// What a writer's last call left.
+/// The state in which a writer's last call left it.
 #[derive(Clone, Copy, Debug, PartialEq, Eq)]
 enum State {
-    /// Text was taken since the last flush, or none was flushed yet.
+    /// Text was written since the last flush, or nothing was flushed yet.
     Open,
     Flushed,
     Failed,
 }
 
-/// A sink over a writer. It has failed once the writer answered an error or took no byte, and
-/// tells what was written where the writer does.
+/// A sink over a writer. It has failed once the writer returned an error or took no byte, and
+/// reports what was written if the writer does.
 #[derive(Drop)]
 pub struct ToWrite<W> {
     writer: W,
@@ -36,7 +36,7 @@ impl<W: Write> ToWrite<W> {
         }
     }
 
-    /// The writer.
+    /// Returns the writer.
     pub fn into_inner(self) -> W
         ensures { result ≡ writer_of self }
     {
@@ -60,7 +60,7 @@ impl<W: Write> Sink for ToWrite<W> {
             match self.writer.write(text) {
                 Ok(0) => break,
                 Ok(taken) => return Ok(taken),
-                // A signal came before a byte was taken.
+                // A signal interrupted the call before a byte was written.
                 Err(error) if error.kind() == ErrorKind::Interrupted => {}
                 Err(_) => break,
             }

@@ -7,13 +7,13 @@ use std::io::{Input, Read};
 use std::rt::Files;
 use std::{fs, io};
 
-/// The files of the host, of which nothing is known before they are read.
+/// The files of the host. Nothing is known of them before they are read.
 #[derive(Drop)]
 pub struct HostFiles<'a, R> {
     pub rt: &'a R,
 }
 
-/// What lies at a path of the host.
+/// The file at a path of the host, or standard input.
 #[derive(Drop)]
 pub enum HostFile<F, S> {
     Named(F),
@@ -23,7 +23,7 @@ pub enum HostFile<F, S> {
 impl<F: Read, S: Read> Read for HostFile<F, S> {
     ghost use Rattle.rjoin.specs.HostFiles.{bytes_left};
 
-    // It gives what is read of the file or of standard input, byte for byte.
+    // The remaining bytes of the file or of standard input.
     ghost remaining = { bytes_left F.remaining S.remaining };
 
     fn read(&mut self, buffer: &mut [u8]) -> io::Result<usize> {
@@ -51,7 +51,7 @@ impl<'a, R: Files + Input> Inputs for HostFiles<'a, R> {
     }
 }
 
-/// How many bytes a file is said to have, or 0 where nothing is said.
+/// The length of a file in bytes as the host reports it, or 0 if it reports none.
 fn likely_len<F: OpenFile>(file: &F) -> usize {
     match file.metadata() {
         Ok(metadata) => metadata.len() as usize,

@@ -1,4 +1,4 @@
-//! The texts of help, of the program and of each command.
+//! The help texts of the program and of each command.
 
 pub(crate) const PROGRAM: &str = "\
 Layers are CSV files with the header id,wkt and a feature a row:

@@ -1,4 +1,4 @@
-//! Which relation a mistyped word may have meant.
+//! Which relation a mistyped word may mean.
 
 ghost use Rattle.std.specs.Prelude.{◌≡◌, find, map, IfOk};
 ghost use Rattle.words_core.specs.Readings.{hint_of, is_near, text_in};
@@ -17,10 +17,10 @@ const NAMES: [&str; 7] = [
     "equals",
 ];
 
-/// In how many letters a word may differ from what was meant.
+/// The greatest edit distance at which a name is suggested for a word.
 const MOST_TYPOS: usize = 2;
 
-/// The first name of a relation that differs from the word in few letters, if there is one.
+/// The first relation name that is at most two edits from the word, or `None`.
 pub fn nearest_relation(alloc: Global, word: &str) -> Result<Option<&'static str>, AllocError>
     ensures { IfOk result (λ found. text_in found ≡ hint_of word.now) }
 {
@@ -28,7 +28,7 @@ pub fn nearest_relation(alloc: Global, word: &str) -> Result<Option<&'static str
     nearest(alloc, word, names)
 }
 
-/// The first of the names that differs from the word in few letters, if there is one.
+/// The first of the names that is at most `MOST_TYPOS` edits from the word, or `None`.
 fn nearest<'a>(alloc: Global, word: &str, names: &[&'a str]) -> Result<Option<&'a str>, AllocError>
     ensures { IfOk result (λ found. text_in found
         ≡ find (is_near word.now) (map (λ name. name.now) names.now)) }

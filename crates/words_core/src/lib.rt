@@ -1,5 +1,5 @@
-//! The words of the command line as a library: what `clap` is told of them, and the command that
-//! they are read as, or the fault.
+//! The words of the command line as a library: the `clap` definition, and reading the words as a
+//! command or a fault.
 #![tactic(auto)]
 
 mod help;

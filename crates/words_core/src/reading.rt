@@ -1,4 +1,4 @@
-//! What `clap` found in the words, read as a command.
+//! Reading the matches of `clap` as a command.
 
 ghost use Rattle.std.specs.Prelude.{◌≡◌, ◌≢◌, ◌≤◌, Some, None, true, false, codes, IfOk, IfErr};
 ghost use Rattle.std.specs.Prelude.{IfSome, IfNone, OnOk, string_bytes};
@@ -38,7 +38,7 @@ pub fn read_command<'a>(alloc: Global, matches: &ArgMatches<'a>) -> Result<Comma
     }
 }
 
-/// Reads the command of this name, of what was given for it.
+/// Reads the command of this name from the matches of its arguments.
 fn read_named<'a>(
     alloc: Global,
     name: &str,
@@ -75,7 +75,7 @@ fn read_relate<'a>(alloc: Global, given: &ArgMatches<'a>) -> Result<Command<'a>,
     }))
 }
 
-/// The geometries that the words ask for.
+/// Reads the kind of geometries.
 fn read_geometries(alloc: Global, given: &ArgMatches<'_>) -> Result<Geometries, WordFault>
     ensures ok { IfOk result (AreGeometriesIn (found_in given.now)) }
     ensures err { IfErr result (λ f. f ≢ WordFault.Memory
@@ -96,7 +96,7 @@ fn read_geometries(alloc: Global, given: &ArgMatches<'_>) -> Result<Geometries, 
     }
 }
 
-/// The rule for rings that a word names; proper rings where none is given.
+/// The rule for rings that a word names; proper rings without a word.
 fn ring_rule(word: Option<&str>) -> Option<Rings>
     ensures some { IfSome result (NamesRings (text_in word.entry)) }
     ensures none { IfNone result (IsNoRingRule (text_in word.entry)) }
@@ -146,7 +146,8 @@ fn read_request<'a>(alloc: Global, given: &ArgMatches<'a>) -> Result<JoinRequest
     })
 }
 
-/// The path of the edits, if one is given, beside the paths of the two layers.
+/// Reads the path of the edits, if one is given, and checks that at most one path is standard
+/// input.
 fn read_edits_path<'a>(
     alloc: Global,
     given: &ArgMatches<'a>,
@@ -168,7 +169,7 @@ fn read_edits_path<'a>(
     Ok(edits)
 }
 
-/// The relation that a word names, or that it spells as a mask.
+/// Reads a relation: a name or a mask.
 fn read_relation(alloc: Global, word: &str) -> Result<JoinRelation, WordFault>
     ensures ok { IfOk result (λ relation. Spells (relation_of relation) word.now) }
     ensures err { IfErr result (λ f. f ≢ WordFault.Memory → IsRelationFault word.now f) }
@@ -179,7 +180,7 @@ fn read_relation(alloc: Global, word: &str) -> Result<JoinRelation, WordFault>
     }
 }
 
-/// The fault of a word that is no relation, with a hint where it is nearly a name.
+/// The fault of a word that is no relation, with a hint if the word is close to a name.
 fn relation_fault(alloc: Global, word: &str, fault: MaskFault) -> Result<WordFault, AllocError>
     requires { IsNoRelation word.now fault }
     ensures { IfOk result (IsRelationFault word.now) }
@@ -191,7 +192,7 @@ fn relation_fault(alloc: Global, word: &str, fault: MaskFault) -> Result<WordFau
     Ok(WordFault::Usage { text, help: false })
 }
 
-/// The line of a fault, and below it the name that may be meant.
+/// The line of a fault, and below it the name that was probably meant.
 fn hinted(alloc: Global, fault: MaskFault, name: &str) -> Result<String, AllocError>
     ensures { IfOk result (λ text. string_bytes text ≡ hint_text fault name.now) }
 {
@@ -206,7 +207,7 @@ fn hinted(alloc: Global, fault: MaskFault, name: &str) -> Result<String, AllocEr
     }
 }
 
-/// The fault of two files that are both to be standard input, which can be read only once.
+/// The fault of two files that are both standard input, which can be read only once.
 fn shared_input(alloc: Global) -> WordFault
     ensures { result ≢ WordFault.Memory → Says shared_text result }
 {
@@ -220,7 +221,7 @@ fn shared_input(alloc: Global) -> WordFault
     }
 }
 
-/// Whether two of the files of a join are to be read from standard input.
+/// Whether at least two of the files of a join are standard input.
 fn shares_input(left: &str, right: &str, edits: Option<&str>) -> bool
     ensures { result ≡ share_input left.now right.now (text_in edits.entry) }
 {
@@ -296,14 +297,14 @@ fn required<'a>(alloc: Global, given: &ArgMatches<'a>, name: &str) -> Result<&'a
     }
 }
 
-/// The value of an argument that may be left out.
+/// The value of an optional argument.
 fn optional<'a>(given: &ArgMatches<'a>, name: &str) -> Option<&'a str>
     ensures { first_of name.now (found_in given.now) ≡ text_in result }
 {
     given.get_str(name)
 }
 
-/// The value of a number, which `clap` requires or has a default for.
+/// The value of a number, which is required or has a default.
 fn number(alloc: Global, given: &ArgMatches<'_>, name: &str) -> Result<u32, WordFault>
     ensures ok { IfOk result (λ value. number_at name.now (found_in given.now) ≡ Some value) }
     ensures none { IfErr result (λ _. number_at name.now (found_in given.now) ≡ None) }
@@ -315,7 +316,7 @@ fn number(alloc: Global, given: &ArgMatches<'_>, name: &str) -> Result<u32, Word
     }
 }
 
-/// The fault of a word that isn't there.
+/// The fault of an argument without a value.
 fn missing(alloc: Global, name: &str) -> WordFault
     ensures { result ≢ WordFault.Memory → Says (missing_text name.now) result }
 {

@@ -1,4 +1,4 @@
-//! What the program tells of its words: commands, options and help.
+//! The `clap` definition of the program: commands, options and help.
 
 ghost use Rattle.std.specs.Prelude.{◌≡◌, [], codes, map, IfOk};
 ghost use Rattle.clap.specs.Simple.{new_shape};
@@ -16,18 +16,18 @@ use crate::help;
 use clap::{Arg, Command, value_parser};
 use std::alloc::{AllocError, Global};
 
-/// A command, or that there was no memory for it.
+/// A command, or an error if an allocation fails.
 type Built<'a> = Result<Command<'a>, AllocError>;
 
 /// An argument of a command.
 #[derive(Clone, Copy)]
 enum Argument {
-    /// It has to be given, by its place.
+    /// A required positional argument.
     Positional {
         name: &'static str,
         help: &'static str,
     },
-    /// An option that is a whole number.
+    /// An option with an unsigned integer value.
     Number {
         name: &'static str,
         help: &'static str,
@@ -39,7 +39,7 @@ enum Argument {
     Rings,
 }
 
-/// A command of the program, as help tells it.
+/// A command of the program.
 #[derive(Clone, Copy)]
 struct Subcommand {
     name: &'static str,
@@ -109,14 +109,14 @@ const LAYER: Argument = Argument::Positional {
     help: "CSV file of the layer",
 };
 
-/// The option of every command: decimals of all coordinates.
+/// The option that all commands have: the number of decimals of all coordinates.
 const SCALE: Argument = Argument::Number {
     name: "scale",
     help: "Decimals that a coordinate may have, 0 to 6",
     default: "0",
 };
 
-/// What `clap` is told of the program.
+/// The `clap` definition of the program.
 pub fn usage<'a>(alloc: Global) -> Result<Command<'a>, AllocError>
     ensures { IfOk result (HasUsage program_usage) }
 {
@@ -222,7 +222,7 @@ fn program_begun<'a>(alloc: Global) -> Command<'a>
     .subcommand_required(true)
 }
 
-/// What `clap` is told of a command.
+/// The `clap` definition of a command.
 fn declared_command<'a>(alloc: Global, command: &Subcommand) -> Built<'a>
     ensures { IfOk result (HasUsage (record { top = shape_told command.now; subs = [] })) }
 {
@@ -230,7 +230,7 @@ fn declared_command<'a>(alloc: Global, command: &Subcommand) -> Built<'a>
     with_arguments(alloc, begun, command.arguments)
 }
 
-/// The command with these arguments more.
+/// The command with these arguments added.
 fn with_arguments<'a>(alloc: Global, command: Command<'a>, arguments: &[Argument]) -> Built<'a>
     ensures { IfOk result (AddsRules command.entry (map argument_rule arguments.now)) }
 {
@@ -242,7 +242,7 @@ fn with_arguments<'a>(alloc: Global, command: Command<'a>, arguments: &[Argument
     Ok(command)
 }
 
-/// What `clap` is told of the argument.
+/// The `clap` definition of an argument.
 fn declared_argument<'a>(alloc: Global, argument: Argument) -> Arg<'a>
     ensures { IsArgument (argument_rule argument) result }
 {
@@ -260,21 +260,21 @@ fn declared_argument<'a>(alloc: Global, argument: Argument) -> Arg<'a>
     }
 }
 
-/// A command with no argument yet.
+/// A command without arguments.
 fn begun<'a>(alloc: Global, name: &'a str, about: &'a str, help: &'a str) -> Command<'a>
     ensures { IsBegun (new_shape name.entry.now) about.entry.now result }
 {
     Command::new(alloc, name).about(about).after_help(help)
 }
 
-/// An argument that has to be given, by its place.
+/// A required positional argument.
 fn positional<'a>(alloc: Global, name: &'a str, help: &'a str) -> Arg<'a>
     ensures { IsArgument (positional_rule name.entry.now) result }
 {
     Arg::new(alloc, name).help(help).required(true)
 }
 
-/// An option that is a whole number.
+/// An option with an unsigned integer value.
 fn numeric<'a>(alloc: Global, name: &'a str, help: &'a str, default: &'a str) -> Arg<'a>
     ensures { IsArgument (numeric_rule name.entry.now default.entry.now) result }
 {

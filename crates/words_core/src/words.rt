@@ -1,4 +1,4 @@
-//! The words of the command line.
+//! The commands that the words of the command line may ask for.
 
 ghost use Rattle.std.specs.Prelude.{◌≡◌, ◌≢◌, map};
 ghost use Rattle.clap.specs.Words.{kind_of};
@@ -15,16 +15,16 @@ use thiserror::Error;
 use wkt_any_core::Rings;
 use wkt_core::Scale;
 
-/// Which geometries a command takes.
+/// The kind of geometries that a command takes.
 #[derive(Clone, Copy, Debug, PartialEq, Eq)]
 pub enum Geometries {
     /// Points, segments parallel to an axis, and rectangles.
     Box,
-    /// Points, polylines and areas of any direction, with such rings.
+    /// Points, polylines and areas of any direction, with this rule for rings.
     Any(Rings),
 }
 
-/// Two geometries that are given as texts, and how these are read.
+/// Two geometries given as texts, and how to read them.
 #[derive(Clone, Copy, Debug, PartialEq, Eq)]
 pub struct RelateRequest<'a> {
     pub a: &'a str,
@@ -33,7 +33,7 @@ pub struct RelateRequest<'a> {
     pub geometries: Geometries,
 }
 
-/// Two layers that are to be joined after edits, and how.
+/// Two layers to join after edits, and how to join them.
 #[derive(Clone, Copy, Debug, PartialEq, Eq)]
 pub struct JoinRequest<'a> {
     pub left_path: &'a str,
@@ -44,7 +44,7 @@ pub struct JoinRequest<'a> {
     pub scale: Scale,
 }
 
-/// What the program is asked to do. Texts and paths are borrowed from the words.
+/// What the program is asked to do. Texts and paths borrow from the words.
 #[derive(Clone, Copy, Debug, PartialEq, Eq)]
 pub enum Command<'a> {
     /// Write the matrix of two geometries.
@@ -74,7 +74,7 @@ pub enum Command<'a> {
 /// Why the words are no command.
 #[derive(Debug, Drop, Error)]
 pub enum WordFault {
-    /// The words don't fit the usage, or ask for help: `text` is what to show.
+    /// The words don't fit the usage, or ask for help: `text` is the text to show.
     #[error("{text}")]
     Usage { text: String, help: bool },
     /// The relation is neither a name nor a mask.
@@ -86,7 +86,7 @@ pub enum WordFault {
     /// A number is out of its range.
     #[error(transparent)]
     Options(OptionFault),
-    /// More decimals are asked for than a coordinate keeps.
+    /// The number of decimals is greater than a coordinate can have.
     #[error("--scale must be 0 to 6")]
     Scale,
     /// The word of `--geometry` is neither `box` nor `any`.

@@ -23,12 +23,12 @@ use std::hash::RandomState;
 use std::thread::Threads;
 use wkt_core::Scale;
 
-/// The layers that are read, after the edits of both. `states` hash their ids.
+/// Reads two layers and applies the edits to them. `states` hash their ids.
 ///
-/// The left source is read first, then its layer is built and the right source is read and built,
-/// side by side where there is more than one thread. Then the edits are read, and made in order.
-/// The first fault is answered, but that a right source which fails comes before a fault in the
-/// bytes of the left.
+/// The left source is read first, then its layer is built while the right source is read and built,
+/// in parallel if there is more than one thread. Then the edits are read and applied in order. The
+/// first fault is returned, except that a failing right source comes before a fault in the bytes of
+/// the left.
 pub(crate) fn edited_layers<R: Threads + Sync, A: Source, B: Source, E: Source>(
     reader: &LayerReader<'_, R>,
     states: (RandomState, RandomState),
@@ -49,7 +49,7 @@ pub(crate) fn edited_layers<R: Threads + Sync, A: Source, B: Source, E: Source>(
     Ok(layers)
 }
 
-/// Makes the edits of a file in order, if there is one, up to the first that is refused.
+/// Applies the edits of a file in order, if there is one, up to the first that is refused.
 fn edit_layers<E: Source>(
     alloc: Global,
     scale: Scale,

@@ -1,4 +1,4 @@
-//! Edits of two layers, made in turn.
+//! Applying edits to two layers in order.
 
 ghost use Rattle.std.specs.Prelude.{◌≡◌, ◌<◌, ◌^◌, ℕ, Ok, IfErr, OnOk, length, map};
 ghost use Rattle.layer_core.specs.declared.fault.LayerFault.{LayerFault};
@@ -8,7 +8,7 @@ ghost use Rattle.join_core.specs.JoinRuns.{EndsAt};
 use crate::fault::RunFault;
 use layer_core::{Edit, Layer};
 
-/// Makes the edits in order, up to the first that is refused. Edit k is row k + 1.
+/// Applies the edits in order, up to the first that is refused. Edit k is that of row k + 1.
 pub fn apply_edits(edits: &[Edit], left: &mut Layer, right: &mut Layer) -> Result<(), RunFault>
     requires { length edits.now < 2 ^ 32 }
     ensures ok { OnOk result

@@ -1,4 +1,4 @@
-//! The two layers that a join reads.
+//! Reading the two layers of a join.
 
 ghost use Rattle.std.specs.Prelude.{◌≡◌, ◌↔◌, Ok, Err, false, IsTrue, IfOk, IfErr, IsErrOf};
 ghost use Rattle.file_core.specs.declared.read_fault.ReadFault.{ReadFault};
@@ -14,12 +14,12 @@ use std::hash::RandomState;
 use std::thread::Threads;
 use std::{mem, thread};
 
-/// The layers that the left and the right source are read as. `states` hash their ids.
+/// Reads the layers of the left and the right source. `states` hash their ids.
 ///
-/// The left source is read first. Then its layer is built, and the right source is read and its
-/// layer built: side by side where there is more than one thread, and each by as many threads.
-/// A left source that fails is answered at once, and the right one isn't read; a right source that
-/// fails is answered before a fault in what was read of the left one.
+/// The left source is read first. Then its layer is built while the right source is read and its
+/// layer built, in parallel if there is more than one thread; each layer is built by up to
+/// `reader.threads` threads. If the left source fails, its fault is returned at once and the right
+/// source isn't read. A failing right source comes before a fault in the bytes of the left.
 pub(crate) fn read_layers<R: Threads + Sync, A: Source, B: Source>(
     reader: &LayerReader<'_, R>,
     states: (RandomState, RandomState),
@@ -53,7 +53,7 @@ pub(crate) fn read_layers<R: Threads + Sync, A: Source, B: Source>(
     }
 }
 
-/// The fault that is told where the right layer has one, and the left one may have another.
+/// The fault to report if the right layer has one and the left one may have another.
 fn first_fault(left: Option<ReadFault>, right: ReadFault) -> RunFault
     ensures { result ≡ first_fault left right }
 {
@@ -63,7 +63,7 @@ fn first_fault(left: Option<ReadFault>, right: ReadFault) -> RunFault
     }
 }
 
-/// The layer of the left file's bytes, and that which the right source is read as.
+/// The layer of the left file's bytes, and the layer of the right source.
 fn build_and_read<R: Threads + Sync, B: Source>(
     reader: &LayerReader<'_, R>,
     states: (RandomState, RandomState),
@@ -91,8 +91,8 @@ fn build_and_read<R: Threads + Sync, B: Source>(
     }
 }
 
-/// The layer of a file's bytes, which are taken out of `bytes`: a closure that threads share
-/// borrows what it captures.
+/// The layer of a file's bytes, which are taken out of `bytes`, since the closure that calls this
+/// only borrows them.
 fn build_taken<R: Threads + Sync>(
     reader: &LayerReader<'_, R>,
     state: RandomState,
@@ -104,7 +104,7 @@ fn build_taken<R: Threads + Sync>(
     reader.build(state, taken)
 }
 
-/// Frees both layers: side by side where there is more than one worker.
+/// Frees both layers, in parallel if there is more than one worker.
 pub(crate) fn free_layers<R: Threads>(rt: &R, left: Layer, right: Layer, workers: u32) {
     if workers > 1 {
         thread::join(rt, move || drop(left), move || drop(right));

@@ -17,15 +17,15 @@ use std::alloc::{AllocError, Global};
 use std::sync::Wait;
 use std::thread::Threads;
 
-/// The numbers of each left and right feature that stand in the relation, in order, with the marks
-/// of how they were delivered.
+/// The pairs of numbers of the left and right features that stand in the relation, in order, with
+/// the marks of their delivery.
 ///
-/// The trees of the two layers are cut into tasks, as deep as the options say. Workers, each in a
-/// thread of its own, draw the tasks, enter the gate with each and descend its two subtrees. All
-/// of them have ended when the call returns.
+/// The trees of the two layers are cut into tasks, to the depth that the options give. Workers,
+/// each in a thread of its own, draw the tasks, enter the gate before each and descend its two
+/// subtrees. All workers have ended when the call returns.
 ///
 /// # Errors
-/// `Memory` where memory was refused, and `NoThread` where there was no thread for a worker.
+/// `Memory` if an allocation fails, and `NoThread` if a worker's thread can't be started.
 #[tactic(auto, using(crate::proofs::TreeJoinLemmas::delivered))]
 pub fn join<R: Threads + Wait + Sync, G: Gate + Sync>(
     rt: &R,
@@ -57,7 +57,7 @@ fn plan_of<'a>(
     ensures plan { IfOk result (IsPlan left.now.root right.now.root cut) }
     ensures rows { IfOk result (RowsAreJoinList left.now.list right.now.list) }
 {
-    // That numbers rise along a layer is what the layer says of itself.
+    // The invariant of a layer says that numbers rise along it.
     let _lens = (left.len(), right.len());
     let left_tree = left.tree();
     let right_tree = right.tree();

@@ -1,4 +1,4 @@
-//! Joins of two files of layers, after a file of edits, and what is made of their pairs.
+//! Joins of two layer files after a file of edits, and the output made of their pairs.
 
 ghost use Rattle.std.specs.Prelude.{◌≡◌, ◌<◌, Ok, Err, false, IfOk, IfErr, IsErrOf};
 ghost use Rattle.relation_core.specs.JoinRelations.{relation_of};
@@ -38,16 +38,18 @@ use std::thread::Threads;
 use wkt_core::Scale;
 
 impl JoinJob {
-    /// Writes what is made of the pairs of two layers, after the edits of both.
+    /// Writes the product of a join of two layers, after the edits of both. `states` hash the ids
+    /// of the two layers.
     ///
-    /// The left file is read first; then its layer is built and the right file is read and built,
-    /// side by side where there is more than one worker. Then the file of the edits is read, the
-    /// edits are made in order, and the layers joined. The first fault is answered, and then
-    /// nothing is written: of the left file, the right one, that of the edits and the edits, in
-    /// this order, but that a right source which fails comes before a fault in the bytes of the
-    /// left one. Where a picture is asked for and the edited layers have more than `MAX_DRAWN`
-    /// features together, they aren't joined, and `TooManyToDraw` is answered. `states` hash the
-    /// ids of the two layers.
+    /// The left file is read first; then its layer is built while the right file is read and built,
+    /// in parallel if there is more than one worker. Then the file of the edits is read, the edits
+    /// are applied in order, and the layers are joined.
+    ///
+    /// # Errors
+    /// The first fault of the left file, the right one, that of the edits and the edits, in this
+    /// order, except that a failing right source comes before a fault in the bytes of the left one;
+    /// then nothing is written. If a picture is asked for and the edited layers have more than
+    /// `MAX_DRAWN` features together, they aren't joined, and the fault is `TooManyToDraw`.
     pub fn run<R: AllocGlobal + Threads + Wait + Sync, A: Source, B: Source, E: Source, S: Sink>(
         &self,
         rt: &R,
@@ -74,7 +76,7 @@ impl JoinJob {
 }
 
 /// Writes the report of two layers, after the edits of both, by workers that enter a gate before
-/// each task. All else is as [`JoinJob::run`] says.
+/// each task. Otherwise it does the same as [`JoinJob::run`].
 pub fn run_join<R: Threads + Wait + Sync, A: Source, B: Source, E: Source, G: Gate + Sync, S: Sink>(
     rt: &R,
     alloc: Global,
@@ -108,7 +110,7 @@ pub fn run_join<R: Threads + Wait + Sync, A: Source, B: Source, E: Source, G: Ga
     run.write(states, sources, sink)
 }
 
-/// A job, and what it is done by: threads, memory, and the gate that its workers enter.
+/// A job with its resources: threads, memory, and the gate that its workers enter.
 #[derive(Drop)]
 struct JoinRun<'a, R, G> {
     rt: &'a R,
@@ -118,7 +120,7 @@ struct JoinRun<'a, R, G> {
 }
 
 impl<R: Threads + Wait + Sync, G: Gate + Sync> JoinRun<'_, R, G> {
-    /// Makes the text and writes it. After a fault of an input nothing is written.
+    /// Makes the text and writes it. After a fault of an input, nothing is written.
     fn write<A: Source, B: Source, E: Source, S: Sink>(
         &self,
         states: (RandomState, RandomState),
@@ -138,7 +140,7 @@ impl<R: Threads + Wait + Sync, G: Gate + Sync> JoinRun<'_, R, G> {
         Ok(())
     }
 
-    /// The text, or the first fault.
+    /// The text of the product, or the first fault.
     fn text<A: Source, B: Source, E: Source>(
         &self,
         states: (RandomState, RandomState),
@@ -169,7 +171,7 @@ impl<R: Threads + Wait + Sync, G: Gate + Sync> JoinRun<'_, R, G> {
         text
     }
 
-    /// What is made of two layers.
+    /// The product of two layers.
     fn product(&self, left: &Layer, right: &Layer) -> Result<Text, RunFault>
         ensures ok { let layers = both left.now.list right.now.list in
             IfOk result (λ text. IsMade self.now.job.now layers (bytes_of_text text)) }

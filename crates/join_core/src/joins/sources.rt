@@ -1,4 +1,4 @@
-//! What a join reads.
+//! The sources of a join.
 
 /// The sources of a join's two layers, and of edits if there are any.
 #[derive(Drop)]
