@@ -19,20 +19,20 @@ use std::thread;
 use std::thread::Threads;
 use wkt_core::Scale;
 
-/// How many rows one after another a batch has where more may follow.
+/// The number of rows in a batch that is read row by row, unless the file ends first.
 const BATCH_ROWS: usize = 4_096;
 
-/// About how many bytes a part has.
+/// The approximate number of bytes of a part.
 const PART_BYTES: usize = 262_144;
 
-/// How many bytes are worth more than one thread.
+/// The number of bytes from which more than one thread is worth its cost.
 pub const MIN_THREADED_BYTES: usize = 65_536;
 
-/// Consecutive rows of a file, part by part.
+/// Consecutive rows of a file, in parts.
 #[derive(Drop)]
 pub(crate) struct Batch {
     pub(crate) rows: Vec<Vec<ReadRow>>,
-    /// Whether there may be more rows behind them, or the fault of the next row.
+    /// Whether more rows may follow, or the fault of the next row.
     pub(crate) more: Result<bool, ReadFault>,
 }
 
@@ -49,13 +49,13 @@ fn read_batch<'a>(alloc: Global, unread: Unread<'a>, scale: Scale) -> (Unread<'a
                 rows: no_rows,
                 more: Err(ReadFault::Memory),
             };
-            // Nothing is read behind a fault.
+            // Nothing is read after a fault.
             (Unread::Text(b"".as_slice(), 0), batch)
         }
     }
 }
 
-/// The next rows, read one after another, or none where memory is refused.
+/// The next rows, read one after another, or the error if an allocation fails.
 fn read_rows<'a>(
     alloc: Global,
     unread: Unread<'a>,
@@ -73,7 +73,7 @@ fn read_rows<'a>(
     Ok((Unread::Rows(rows), Batch { rows: parts, more }))
 }
 
-/// Reads the next rows, at most `most`, into an empty list, and says whether there may be more.
+/// Reads the next rows, at most `most`, into an empty list, and returns whether more may follow.
 pub(crate) fn fill(
     alloc: Global,
     read: &mut Vec<ReadRow>,
@@ -102,8 +102,7 @@ pub(crate) fn fill(
     Ok(true)
 }
 
-/// Reads the next rows, as many parts of their text as `parts` reads, and otherwise one after
-/// another.
+/// Reads the next rows in parallel by `parts`, or else one after another.
 fn read_ahead<'a, P: ReadParts>(
     alloc: Global,
     unread: Unread<'a>,
@@ -119,7 +118,7 @@ fn read_ahead<'a, P: ReadParts>(
     }
 }
 
-/// The next rows, read as parts, where they are those of a text that isn't short.
+/// The next rows, read by `parts`, if they are those of a text that isn't short.
 fn read_parts<'a, P: ReadParts>(
     alloc: Global,
     unread: &Unread<'a>,
@@ -149,7 +148,7 @@ fn read_parts<'a, P: ReadParts>(
     Some((Unread::Text(rest, behind), batch))
 }
 
-/// How rows are inserted and the next batch is read.
+/// The order in which rows are inserted and the next batch is read.
 pub(crate) trait Order {
     /// Reads the next batch.
     fn read<'a>(&self, alloc: Global, scale: Scale, unread: Unread<'a>) -> (Unread<'a>, Batch)
@@ -157,7 +156,7 @@ pub(crate) trait Order {
         ensures { IsBatch scale unread.entry (all_rows result.1.rows.items) result.1.more
             result.0 };
 
-    /// Inserts some rows, and reads the next batch whether or not they are all inserted.
+    /// Inserts the given rows, and reads the next batch even if a row is refused.
     fn add_and_read<'a>(
         &self,
         alloc: Global,
@@ -196,7 +195,7 @@ impl Order for InTurn {
     }
 }
 
-/// At the same time, by one thread and by those that read parts.
+/// In parallel: one thread inserts while those of `P` read.
 #[derive(Drop)]
 pub(crate) struct SideBySide<'r, R, P>(pub(crate) &'r R, pub(crate) P);
 
@@ -227,7 +226,7 @@ impl<R: Threads + Sync, P: ReadParts + Sync> Order for SideBySide<'_, R, P> {
     }
 }
 
-/// The layer with the rows of these parts.
+/// The features, with the rows of these parts inserted.
 fn with_parts(mut loading: FeatureList, read: Vec<Vec<ReadRow>>) -> Result<FeatureList, ReadFault>
     requires { All HasId (all_rows read.items) }
     ensures { AnswersRows loading (all_rows read.items) result }

@@ -1,4 +1,4 @@
-//! Where a text of records is cut into parts, and whether a part is as one that ends a record.
+//! Where a text of records is cut into parts, and tests of the ends of a part.
 
 ghost use Rattle.std.specs.Prelude.{◌≡◌, ◌≤◌, ◌++◌, ◌↔◌, false, length, IsTrue, Bool};
 ghost use Rattle.csv.specs.Records.{fields_of};
@@ -6,13 +6,13 @@ ghost use Rattle.file_core.specs.Cuts.{EndsWithFeed, IsClosed, IsPlain};
 
 use csv::ByteRecord;
 
-/// How far before a place a cut is looked for.
+/// The number of bytes before a place in which a cut is searched for.
 const WINDOW: usize = 4096;
 
-/// The text in two parts, the first of which has about `near` bytes.
+/// Splits the text into two parts, the first of which has about `near` bytes.
 ///
-/// It is cut behind a line feed, if there is one near, and preferably behind one that follows a
-/// quote, since a line feed within a quoted field seldom does. A wrong cut only costs time.
+/// The cut is after a line feed, if there is one near, preferably one that follows a quote, since a
+/// line feed within a quoted field seldom does. A wrong cut only costs time.
 pub(crate) fn cut(text: &[u8], near: usize) -> (&[u8], &[u8])
     ensures { result.0.now ++ result.1.now ≡ text.now }
 {
@@ -22,7 +22,7 @@ pub(crate) fn cut(text: &[u8], near: usize) -> (&[u8], &[u8])
     text.split_at(place.min(text.len()))
 }
 
-/// Behind the last line feed that follows a quote, or else behind the last one, or else 0.
+/// The place after the last line feed that follows a quote, else after the last one, else 0.
 fn last_end(window: &[u8]) -> usize {
     let mut last = 0;
     let mut quoted = 0;
@@ -41,11 +41,11 @@ fn last_end(window: &[u8]) -> usize {
     if quoted > 0 { quoted } else { last }
 }
 
-/// The longest text whose line feeds are counted in eight bits, in bytes: a multiple of what is
-/// compared at once, and less than 256.
+/// The greatest length in bytes of a text whose line feeds are counted in eight bits: less than
+/// 256, and a multiple of the number of bytes that are compared at once.
 const COUNTED: usize = 224;
 
-/// How many line feeds a text has.
+/// The number of line feeds in a text.
 pub(crate) fn line_feeds(text: &[u8]) -> usize {
     let mut count: usize = 0;
     for chunk in text.chunks(COUNTED) {
@@ -54,11 +54,11 @@ pub(crate) fn line_feeds(text: &[u8]) -> usize {
     count
 }
 
-/// How many line feeds a text of at most [`COUNTED`] bytes has.
+/// The number of line feeds in a text of at most [`COUNTED`] bytes.
 fn few_line_feeds(text: &[u8]) -> u8 {
     let mut count: u8 = 0;
     for byte in text {
-        // A sum that isn't checked, so that many bytes are compared at once. It never wraps.
+        // An unchecked sum lets the compiler compare many bytes at once. It never wraps.
         count = count.wrapping_add((*byte == b'\n').into());
     }
     count
@@ -74,7 +74,7 @@ pub(crate) fn ends_with_feed(text: &[u8]) -> bool
     }
 }
 
-/// Whether the last field of a record ends with a line feed, as one that a cut has cut off does.
+/// Whether the last field of a record ends with a line feed, as it does if a cut was within it.
 #[tactic(auto, using(crate::proofs::PartLemmas::ended_closed))]
 pub(crate) fn is_unended(row: &ByteRecord) -> bool
     ensures { result ≡ false → IsClosed (fields_of row.now) }
@@ -88,7 +88,7 @@ pub(crate) fn is_unended(row: &ByteRecord) -> bool
     }
 }
 
-/// Whether a text doesn't begin as a byte order mark does.
+/// Whether a text doesn't begin like a byte order mark.
 #[tactic(auto, using(crate::proofs::PartLemmas::plain))]
 pub(crate) fn is_plain(text: &[u8]) -> bool
     ensures { IsTrue result → IsPlain text.now }

@@ -20,15 +20,15 @@ use wkt_core::Scale;
 /// The columns of a file of edits.
 const COLUMNS: [&str; 4] = ["op", "layer", "id", "wkt"];
 
-/// The edits that a CSV file stands for, in the order of its rows.
+/// The edits of a CSV file, in the order of its rows.
 ///
-/// The file is of the same kind as that of a layer ([`crate::features_of_bytes`]). Its header is
+/// The file has the form of a layer's ([`crate::features_of_bytes`]). Its header is
 /// `op,layer,id,wkt`. A row's `op` is `insert` or `delete`, its `layer` is `left` or `right`, and
-/// in a deletion the last field is empty. Ids are looked up by [`Edit::apply`] alone.
+/// in a deletion the last field is empty. Only [`Edit::apply`] looks up the ids.
 ///
 /// # Errors
 /// [`ReadFault::TooLong`] and [`ReadFault::Header`], in this order, and then the fault of the
-/// first row that has one: [`ReadFault::Row`] where its fields aren't as above, else
+/// first row that has one: [`ReadFault::Row`] if its fields aren't as above, else
 /// [`LayerFault::BadId`], else, in an insertion, [`ReadFault::Wkt`]. [`ReadFault::Memory`] may
 /// come in place of any other.
 pub fn edits_of_bytes(alloc: Global, bytes: &[u8], scale: Scale) -> Result<Vec<Edit>, ReadFault>
@@ -48,7 +48,7 @@ pub fn edits_of_bytes(alloc: Global, bytes: &[u8], scale: Scale) -> Result<Vec<E
     Ok(edits)
 }
 
-/// The edits that a file stands for, which is read from a source that hasn't failed.
+/// The edits of a file, which is read from a source that hasn't failed.
 ///
 /// # Errors
 /// Those of [`read_all`], and then those of [`edits_of_bytes`].

@@ -1,4 +1,4 @@
-//! The fields of a record, and their meaning.
+//! Decoding the fields of a record.
 
 ghost use Rattle.std.specs.Prelude.{◌≡◌, ◌≢◌, [], ◌∷◌, codes, length, IsTrue, ◌↔◌, IfSome, IfNone};
 ghost use Rattle.csv.specs.Records.{fields_of};
@@ -8,7 +8,7 @@ use csv::ByteRecord;
 use layer_core::{Side, is_id};
 use std::str::from_utf8;
 
-/// The fields of a record that has two.
+/// The fields of a record, if it has two.
 #[tactic(auto, using(crate::proofs::FieldLemmas::of_two))]
 pub(crate) fn two_fields(row: &ByteRecord) -> Option<(&[u8], &[u8])>
     ensures some { IfSome result (λ f. fields_of row.now ≡ f.0.now ∷ f.1.now ∷ []) }
@@ -20,7 +20,7 @@ pub(crate) fn two_fields(row: &ByteRecord) -> Option<(&[u8], &[u8])>
     Some((row.get(0)?, row.get(1)?))
 }
 
-/// The fields of a record that has four.
+/// The fields of a record, if it has four.
 #[tactic(auto, using(crate::proofs::FieldLemmas::of_four))]
 pub(crate) fn four_fields(row: &ByteRecord) -> Option<(&[u8], &[u8], &[u8], &[u8])>
     ensures some { IfSome result
@@ -33,7 +33,7 @@ pub(crate) fn four_fields(row: &ByteRecord) -> Option<(&[u8], &[u8], &[u8], &[u8
     Some((row.get(0)?, row.get(1)?, row.get(2)?, row.get(3)?))
 }
 
-/// The id in a field, if it is one.
+/// The id in a field, if it is valid.
 pub(crate) fn id_in(field: &[u8]) -> Option<&str>
     ensures some { IfSome result (λ id. IsId field.now × (id.now ≡ field.now)) }
     ensures none { IfNone result (¬ (IsId field.now)) }
@@ -44,7 +44,7 @@ pub(crate) fn id_in(field: &[u8]) -> Option<&str>
     }
 }
 
-/// The side that a field names.
+/// The side that a field names, if any.
 pub(crate) fn side_in(field: &[u8]) -> Option<Side>
     ensures { result ≡ side_named field.now }
 {

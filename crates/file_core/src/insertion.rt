@@ -1,4 +1,4 @@
-//! Rows of a layer's file are inserted into the layer that is loaded.
+//! Inserting the rows of a layer's file.
 
 ghost use Rattle.std.specs.Prelude.{◌≡◌, ◌≢◌, ◌+◌, Ok, Err, All, OnOk, IfErr};
 ghost use Rattle.file_core.specs.Batches.{HasId, all_rows, with_rows};
@@ -9,7 +9,7 @@ use crate::layer_row::ReadRow;
 use crate::read_fault::ReadFault;
 use layer_core::FeatureList;
 
-/// Inserts the feature of a row, before which each row of its file has inserted one.
+/// Inserts the feature of a row. Each row before it has inserted one.
 pub(crate) fn add_row(loading: &mut FeatureList, row: ReadRow) -> Result<(), ReadFault>
     requires { HasId row }
     ensures ok { OnOk result
@@ -25,7 +25,7 @@ pub(crate) fn add_row(loading: &mut FeatureList, row: ReadRow) -> Result<(), Rea
     }
 }
 
-/// Inserts the features of some rows in turn, up to the first that is refused.
+/// Inserts the features of the rows in turn, up to the first that is refused.
 pub(crate) fn add_rows(loading: &mut FeatureList, rows: Vec<ReadRow>) -> Result<(), ReadFault>
     requires { All HasId rows.items }
     ensures ok { OnOk result (with_rows loading.old rows.items ≡ Ok loading.new) }
@@ -39,7 +39,7 @@ pub(crate) fn add_rows(loading: &mut FeatureList, rows: Vec<ReadRow>) -> Result<
     Ok(())
 }
 
-/// Inserts the features of the rows of some parts in turn, up to the first that is refused.
+/// Inserts the features of the rows of the parts in turn, up to the first that is refused.
 pub(crate) fn add_parts(
     loading: &mut FeatureList,
     parts: Vec<Vec<ReadRow>>,

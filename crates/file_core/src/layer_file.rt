@@ -21,13 +21,13 @@ use std::hash::RandomState;
 use std::thread::Threads;
 use wkt_core::Scale;
 
-/// From how many bytes at its start the number of a file's rows is guessed.
+/// The number of bytes at the start of a file from which its number of rows is estimated.
 const SAMPLE: usize = 65_536;
 
-/// The features of the layer that a CSV file stands for. `state` hashes the ids.
+/// The features of a layer's CSV file. `state` hashes the ids.
 ///
-/// Where `threads` is more than 1, several threads read parts of the file ahead while another
-/// inserts the rows before them. The answer is the same.
+/// If `threads` is more than 1, several threads read parts of the file ahead while another inserts
+/// the rows before them. The result is the same.
 ///
 /// The file is records of comma-separated fields with double quotes where needed (RFC 4180), with
 /// line ends LF or CR LF. Its header is `id,wkt`, in any ASCII case, with or without a byte order
@@ -35,7 +35,7 @@ const SAMPLE: usize = 65_536;
 ///
 /// # Errors
 /// [`ReadFault::TooLong`] and [`ReadFault::Header`], in this order, and then the fault of the
-/// first row that has one: [`ReadFault::Row`] where it hasn't two fields, else
+/// first row that has one: [`ReadFault::Row`] if it doesn't have two fields, else
 /// [`LayerFault::BadId`], else [`ReadFault::Wkt`], else [`LayerFault::DoubleId`], else
 /// [`LayerFault::LayerFull`]. [`ReadFault::Memory`] may come in place of any other.
 pub fn features_of_bytes<R: Threads + Sync>(
@@ -62,7 +62,8 @@ pub fn features_of_bytes<R: Threads + Sync>(
     }
 }
 
-/// The layer that a CSV file stands for: that of its features, whose tree is packed by threads too.
+/// The layer of a CSV file, read as by [`features_of_bytes`]. At most `threads` threads pack its
+/// tree.
 ///
 /// # Errors
 /// Those of [`features_of_bytes`].
@@ -79,12 +80,12 @@ pub fn layer_of_bytes<R: Threads + Sync>(
     ensures no_io { result ≢ Err ReadFault.Io }
 {
     let loading = features_of_bytes(alloc, state, bytes.as_slice(), scale, threads, rt)?;
-    // The tree is packed when the file's memory is free again.
+    // The file's memory is freed before the tree is packed.
     drop(bytes);
     Ok(loading.finish_by_threads(alloc, threads, rt)?)
 }
 
-/// The layer that a file stands for, which is read from a source that hasn't failed.
+/// The layer of a file, which is read from a source that hasn't failed.
 ///
 /// # Errors
 /// Those of [`read_all`], and then those of [`layer_of_bytes`].
@@ -101,12 +102,12 @@ pub fn read_layer<S: Source>(
 {
     let bytes = read_all(alloc, source)?;
     let loading = load(alloc, state, bytes.as_slice(), scale, &InTurn)?;
-    // The tree is packed when the file's memory is free again.
+    // The file's memory is freed before the tree is packed.
     drop(bytes);
     Ok(loading.finish(alloc)?)
 }
 
-/// The features of a file, batch by batch of its rows.
+/// The features of a file, read and inserted batch by batch.
 fn load<O: Order>(
     alloc: Global,
     state: RandomState,
@@ -132,7 +133,7 @@ fn load<O: Order>(
     add_last(loading, batch)
 }
 
-/// How far a file is read: the features that were inserted, the batch behind them, and the rest.
+/// The state of reading a file: the features inserted, the batch after them, and the unread rest.
 #[derive(Drop)]
 struct Round<'a> {
     loading: FeatureList,
@@ -170,7 +171,7 @@ fn next_round<'a, O: Order>(
     })
 }
 
-/// Inserts the features of the last batch, behind which a row has a fault or there is none.
+/// Inserts the features of the last batch, and returns the fault of the row after it, if any.
 fn add_last(mut loading: FeatureList, batch: Batch) -> Result<FeatureList, ReadFault>
     requires ids { All HasId (all_rows batch.rows.items) }
     requires no_io { batch.more ≢ Err ReadFault.Io }
@@ -183,8 +184,8 @@ fn add_last(mut loading: FeatureList, batch: Batch) -> Result<FeatureList, ReadF
     Ok(loading)
 }
 
-/// How many rows a file is likely to have that a layer can take, judged by its first lines. A wrong
-/// guess costs time or memory alone.
+/// An estimate of the number of a file's rows, by its first lines, at most [`MAX_FEATURES`]. A
+/// wrong estimate costs only time or memory.
 fn likely_rows(bytes: &[u8]) -> usize
     ensures { result ≤ most_features }
 {

@@ -1,4 +1,4 @@
-//! What a row of a layer's file says by itself.
+//! Reading a single row of a layer's file.
 
 ghost use Rattle.std.specs.Prelude.{◌≡◌, ◌≢◌, Ok, Err, IfOk, IfErr};
 ghost use Rattle.csv.specs.Records.{fields_of};
@@ -13,15 +13,15 @@ use layer_core::{Id, LayerFault};
 use std::alloc::Global;
 use wkt_core::Scale;
 
-/// A row that was read well: the id and the shape of its feature.
+/// A valid row: the id and the shape of its feature.
 #[derive(Drop)]
 pub(crate) struct ReadRow {
     pub(crate) id: Id,
     pub(crate) shape: Shape,
 }
 
-/// What the row of this number says, or its own fault: that its fields aren't two, else that the
-/// id isn't one, else that of the geometry.
+/// Reads the row with this number. The fault is that of the number of fields, else that of the id,
+/// else that of the geometry.
 pub(crate) fn read_row(
     alloc: Global,
     number: u32,

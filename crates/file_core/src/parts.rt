@@ -1,4 +1,4 @@
-//! Parts of a text of records that are read side by side.
+//! Parts of a text of records that are read in parallel.
 
 ghost use Rattle.std.specs.Prelude.{◌≡◌, ◌++◌, IfSome};
 ghost use Rattle.file_core.specs.Parts.{IsBoth, IsOnePart, IsParts};
@@ -13,16 +13,16 @@ use std::thread;
 use std::thread::Threads;
 use wkt_core::Scale;
 
-/// The rows of a text, part by part.
+/// The rows of a text, in parts.
 #[derive(Drop)]
 pub(crate) struct Parts {
     pub(crate) rows: Vec<Vec<ReadRow>>,
-    /// How many rows there are.
+    /// The number of rows.
     pub(crate) count: u32,
 }
 
 impl Parts {
-    /// These rows, and those of the text behind theirs.
+    /// These rows, followed by those of the text after theirs.
     #[tactic(auto, using(crate::proofs::BatchLemmas::all_rows_append))]
     fn and(self, mut others: Parts) -> Option<Parts>
         ensures { IfSome result (λ all. IsBoth self others all) }
@@ -34,18 +34,18 @@ impl Parts {
     }
 }
 
-/// How the rows of a text are read, all of them or none.
+/// A way to read all rows of a text, or none.
 pub(crate) trait ReadParts {
-    /// The rows of a text that begins and ends between two records. None may be answered for any
-    /// text, and is where that isn't seen or a row has a fault.
+    /// The rows of a text that begins and ends between two records. The result may be `None` for
+    /// any text; it is `None` if the text isn't seen to be one, or if a row has a fault.
     fn read(&self, alloc: Global, scale: Scale, text: &[u8]) -> Option<Parts>
         ensures { IfSome result (IsParts scale text.now) };
 
-    /// How many parts are read.
+    /// The number of parts that are read.
     fn count(&self) -> usize;
 }
 
-/// As one part.
+/// Reads the text as one part.
 #[derive(Drop)]
 pub(crate) struct Whole;
 
@@ -59,7 +59,7 @@ impl ReadParts for Whole {
     }
 }
 
-/// A part in a thread of its own, and the parts behind it in another way.
+/// Reads the first part in a thread of its own, and the rest by `P`.
 #[derive(Drop)]
 pub(crate) struct Beside<'r, R, P>(pub(crate) &'r R, pub(crate) P);
 
@@ -84,7 +84,7 @@ impl<R: Threads + Sync, P: ReadParts> ReadParts for Beside<'_, R, P> {
     }
 }
 
-/// The rows of a text that begins and ends between two records, where this is seen.
+/// The rows of a text, if it is seen to begin and end between two records.
 #[tactic(auto, using(crate::proofs::PartLemmas::one_whole))]
 fn read_whole(alloc: Global, scale: Scale, text: &[u8]) -> Option<Parts>
     ensures { IfSome result (IsParts scale text.now) }
@@ -96,7 +96,7 @@ fn read_whole(alloc: Global, scale: Scale, text: &[u8]) -> Option<Parts>
         return None;
     };
     let mut read = Vec::new(alloc);
-    // Rows that end otherwise may be more, and are read one after another.
+    // With other line ends there may be more rows; the text is then read row by row.
     let most = line_feeds(text).saturating_add(1);
     match fill(alloc, &mut read, &mut reader, scale, most) {
         Ok(false) if !reader.has_unended() => one_part(alloc, read),

@@ -1,11 +1,11 @@
-//! Why a file can't be read.
+//! The faults of reading a file.
 
 use layer_core::LayerFault;
 use std::alloc::AllocError;
 use thiserror::Error;
 use wkt_core::WktFault;
 
-/// Why a file can't be read. Rows are counted from 1, the header aside.
+/// Why a file can't be read. Rows are counted from 1, after the header.
 #[derive(Clone, Copy, Debug, PartialEq, Eq, Error)]
 pub enum ReadFault {
     /// A read failed.
@@ -17,7 +17,7 @@ pub enum ReadFault {
     /// The file doesn't begin with the names of its columns.
     #[error("wrong header")]
     Header,
-    /// The fields of this row aren't those of its kind of file.
+    /// This row doesn't have the fields of its kind of file.
     #[error("row {0}: wrong fields")]
     Row(u32),
     /// The geometry of this row can't be read.
@@ -26,7 +26,7 @@ pub enum ReadFault {
     /// The layer refuses this row.
     #[error("row {0}: {1}")]
     Layer(u32, LayerFault),
-    /// Memory was refused.
+    /// Memory ran out.
     #[error("no memory")]
     Memory,
 }
@@ -36,7 +36,7 @@ impl ReadFault {
     ghost use Rattle.file_core.specs.FaultTexts.{cause_text, row_of};
     ghost use Rattle.file_core.specs.LayerFiles.{fault_of_row};
 
-    /// The layer's refusal of a row. Being out of memory is no fault of the row.
+    /// The fault of a row that the layer refuses. Lack of memory is no fault of the row.
     pub(crate) fn of_row(number: u32, fault: LayerFault) -> ReadFault
         ensures fault { result ≡ fault_of_row number fault }
         ensures no_io { result ≢ ReadFault.Io }
@@ -47,7 +47,7 @@ impl ReadFault {
         }
     }
 
-    /// The row that is at fault, if one is.
+    /// The number of the row at fault, if there is one.
     pub fn row(&self) -> Option<u32>
         ensures { result ≡ row_of self.now }
     {
@@ -57,7 +57,7 @@ impl ReadFault {
         }
     }
 
-    /// What is wrong, with the row where one is at fault, in a few words of at most 50 bytes.
+    /// The fault in a few words, at most 50 bytes, without the row's number.
     pub fn text(&self) -> &'static str
         ensures text { result.now ≡ cause_text self.now }
         ensures short { length result.now ≤ 50 }

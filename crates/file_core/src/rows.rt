@@ -17,19 +17,19 @@ use std::alloc::{AllocError, Global};
 /// The rows of a file, in turn.
 #[derive(Drop)]
 pub(crate) struct Rows<'a> {
-    /// Boxed, so that rows are moved and dropped as one pointer.
+    /// Boxed, so that moving or dropping the rows handles one pointer.
     records: Box<TextRecords<'a>>,
-    /// How many rows were read.
+    /// The number of rows read.
     count: u32,
     /// Whether a record was read whose last field ends with a line feed.
     unended: bool,
 }
 
-/// The records that are left of a text.
+/// The remaining records of a text.
 #[derive(Drop)]
 struct TextRecords<'a> {
     reader: Reader<&'a [u8]>,
-    /// The record that was read last.
+    /// The last record read.
     last: ByteRecord,
 }
 
@@ -40,7 +40,7 @@ impl<'a> Rows<'a> {
     ghost use Rattle.file_core.specs.Rows.{last_row, rows_left, AreRows, IsOpened, IsReading};
     ghost use Rattle.file_core.specs.Rows.{most_rows, IsEnded, ReadsRow};
 
-    /// The rows of a file, behind its header, which names these columns in any ASCII case.
+    /// The rows of a file after its header, which must name these columns in any ASCII case.
     pub(crate) fn open(
         alloc: Global,
         file: &'a [u8],
@@ -68,7 +68,7 @@ impl<'a> Rows<'a> {
         })
     }
 
-    /// All records of a text as rows, behind `count` others.
+    /// All records of a text as rows, which follow `count` others.
     pub(crate) fn behind(alloc: Global, text: &'a [u8], count: u32) -> Result<Rows<'a>, AllocError>
         requires plain { IsPlain text.now }
         requires few { count + length (records default_config text.now) ≤ most_rows }
@@ -90,7 +90,7 @@ impl<'a> Rows<'a> {
         self.unended
     }
 
-    /// Reads the next row, and answers its number. The first is 1.
+    /// Reads the next row and returns its number, from 1, or `None` at the end.
     pub(crate) fn next(&mut self) -> Result<Option<u32>, AllocError>
         requires { IsReading self.old }
         ensures { IfOk result (λ row. MatchOption row
@@ -105,7 +105,7 @@ impl<'a> Rows<'a> {
         Ok(Some(self.count))
     }
 
-    /// The row that was read last.
+    /// The last row read.
     pub(crate) fn row(&self) -> &ByteRecord
         ensures { fields_of result.now ≡ last_row self.now }
     {
@@ -113,7 +113,7 @@ impl<'a> Rows<'a> {
     }
 }
 
-/// All records of the text. They may differ in length, and the first is like any other.
+/// A reader of all records of a text. They may differ in length, and none is taken as a header.
 fn records(alloc: Global, text: &[u8]) -> Result<Box<TextRecords<'_>>, AllocError>
     ensures reading { IfOk result (λ all. IsBetweenRecords all.value.reader) }
     ensures records { IfOk result (λ all. records_left all.value.reader ≡ records_of text.now) }
@@ -126,7 +126,7 @@ fn records(alloc: Global, text: &[u8]) -> Result<Box<TextRecords<'_>>, AllocErro
     Ok(Box::new(alloc, TextRecords { reader, last })?)
 }
 
-/// Reads the next record and answers true, or false where there is none left.
+/// Reads the next record. Returns false if none is left.
 #[tactic(auto, using(crate::proofs::RecordLemmas::record_read))]
 fn next_record(records: &mut TextRecords) -> Result<bool, AllocError>
     requires { IsBetweenRecords records.old.reader }
@@ -141,7 +141,7 @@ fn next_record(records: &mut TextRecords) -> Result<bool, AllocError>
     }
 }
 
-/// Bytes in memory are always read, so an error that is no record's is lack of memory.
+/// The fault of a read that failed: bytes in memory can always be read, so memory ran out.
 fn want_of_memory(error: Error) -> AllocError
     requires { IsRefusedOrUnread (error_kind error) }
 {

@@ -1,4 +1,4 @@
-//! Where bytes are read from, and reading all of them.
+//! Sources of bytes, and reading all bytes of one.
 
 ghost use Rattle.std.specs.Prelude.{◌≡◌, ◌≤◌, ◌<◌, ◌↔◌, ℕ, List, Option, None, Bool, true, false};
 ghost use Rattle.std.specs.Prelude.{length, is_err, IfOk, IfErr, IfSome, IsErrOf, IsTrue};
@@ -11,10 +11,10 @@ use std::alloc::Global;
 use std::io::{ErrorKind, Read};
 use thiserror::Error;
 
-/// How many bytes a file may have.
+/// The greatest number of bytes of a file.
 pub const MAX_FILE_BYTES: usize = 134_217_728;
 
-/// How many bytes one read may give.
+/// The number of bytes that one read asks for.
 const CHUNK: usize = 65_536;
 
 /// A read that failed.
@@ -22,16 +22,16 @@ const CHUNK: usize = 65_536;
 #[error("read failed")]
 pub struct Failed;
 
-/// What bytes are read from, and what remembers that a read failed.
+/// A source of bytes, which remembers whether a read failed.
 pub trait Source {
-    /// The bytes that reads will give from here on, where they are known.
+    /// The bytes that remain to be read, if they are known.
     ghost remaining: { Self → Option (List ℕ) } = { λ _. None };
 
     /// Whether a read has failed.
     ghost has_failed: { Self → Bool };
 
-    /// Reads some bytes into the buffer, and answers how many: none only at the end, or where the
-    /// buffer is empty. Where it fails, no byte is taken.
+    /// Reads some bytes into the buffer and returns their number, which is 0 only at the end or if
+    /// the buffer is empty. If it fails, no byte is consumed.
     fn read(&mut self, buffer: &mut [u8]) -> Result<usize, Failed>
         requires { has_failed self.old ≡ false }
         ensures bound { IfOk result (λ n. n ≤ length buffer.new) }
@@ -42,11 +42,11 @@ pub trait Source {
     fn failed(&self) -> bool
         ensures { result ≡ has_failed self.now };
 
-    /// How many bytes it is thought to give in all. Where this is wrong, it costs time or memory.
+    /// The expected number of bytes in all. A wrong estimate costs only time or memory.
     fn likely_len(&self) -> usize;
 }
 
-/// The source of a reader's bytes. A read that a signal interrupts is tried again.
+/// The source of a reader's bytes. A read interrupted by a signal is tried again.
 #[derive(Drop)]
 pub struct FromRead<R> {
     reader: R,
@@ -63,7 +63,7 @@ impl<R: Read> FromRead<R> {
         FromRead::with_likely_len(reader, 0)
     }
 
-    /// A source that is likely to give `likely_len` bytes, for which room is made at once.
+    /// A source of about `likely_len` bytes, for which memory is reserved at once.
     pub fn with_likely_len(reader: R, likely_len: usize) -> FromRead<R>
         ensures remaining { ⟦<FromRead<R> as Source>⟧.remaining result ≡ R.remaining reader }
         ensures fresh { ⟦<FromRead<R> as Source>⟧.has_failed result ≡ false }
@@ -105,8 +105,8 @@ impl<R: Read> Source for FromRead<R> {
 /// All bytes of a source that hasn't failed.
 ///
 /// # Errors
-/// [`ReadFault::Io`] where a read fails, [`ReadFault::TooLong`] where more than
-/// [`MAX_FILE_BYTES`] come, and [`ReadFault::Memory`].
+/// [`ReadFault::Io`] if a read fails, [`ReadFault::TooLong`] if there are more than
+/// [`MAX_FILE_BYTES`] bytes, and [`ReadFault::Memory`].
 pub fn read_all<S: Source>(alloc: Global, source: &mut S) -> Result<Vec<u8>, ReadFault>
     requires { S.has_failed source.old ≡ false }
     ensures bytes { IfOk result

@@ -1,4 +1,4 @@
-//! What of a layer's file isn't read yet.
+//! The part of a layer's file that isn't read yet.
 
 ghost use Rattle.std.specs.Prelude.{◌≡◌, ◌≢◌, ◌++◌, Err, IfOk, IfErr, IfSome, IsTrue};
 ghost use Rattle.file_core.specs.LayerFiles.{layer_columns};
@@ -15,15 +15,15 @@ use std::alloc::{AllocError, Global};
 /// The columns of a layer's file.
 pub(crate) const COLUMNS: [&str; 2] = ["id", "wkt"];
 
-/// How many bytes a byte order mark has.
+/// The number of bytes of a byte order mark.
 const MARK: usize = 3;
 
-/// The rows that are left of a file.
+/// The remaining rows of a file.
 #[derive(Drop)]
 pub(crate) enum Unread<'a> {
-    /// Those of a text that begins between two records, behind a number of rows.
+    /// Those of a text that begins between two records, and the number of rows before it.
     Text(&'a [u8], u32),
-    /// Those that a reader has left.
+    /// Those that a reader hasn't read yet.
     Rows(Rows<'a>),
 }
 
@@ -55,7 +55,7 @@ impl<'a> Unread<'a> {
     }
 }
 
-/// What is behind the header, where that is the first line by itself.
+/// The text after the header, if the header is a line by itself.
 #[tactic(auto, using(crate::proofs::PartLemmas::header_cut))]
 fn behind_header(alloc: Global, bytes: &[u8]) -> Option<&[u8]>
     ensures { IfSome result (λ text. IsUnreadFile bytes.now (Unread.Text text 0)) }
@@ -65,7 +65,7 @@ fn behind_header(alloc: Global, bytes: &[u8]) -> Option<&[u8]>
     headed_rest(alloc, bytes, line, rest)
 }
 
-/// What is behind the first line of a file, where that is a header and this is plain.
+/// The text after the first line of a file, if that line is the header and the text is plain.
 fn headed_rest<'a>(alloc: Global, bytes: &[u8], line: &[u8], rest: &'a [u8]) -> Option<&'a [u8]>
     requires { line.now ++ rest.now ≡ bytes.now }
     ensures { IfSome result (λ text. IsHeaded bytes.now text.now) }
@@ -77,7 +77,7 @@ fn headed_rest<'a>(alloc: Global, bytes: &[u8], line: &[u8], rest: &'a [u8]) -> 
     }
 }
 
-/// Whether a line is a header and nothing else.
+/// Whether a line consists of the header alone.
 #[tactic(auto, using(crate::proofs::PartLemmas::header_line))]
 fn is_header_line(alloc: Global, line: &[u8]) -> bool
     ensures { IsTrue result → IsHeaderLine layer_columns line.now }

@@ -11,7 +11,7 @@ pub enum Side {
     Right,
 }
 
-/// An insertion into one of two layers, or a deletion from it.
+/// An insertion into one of two layers, or a deletion from one.
 #[derive(Debug, Drop)]
 pub enum Edit {
     Insert {
@@ -31,7 +31,7 @@ impl Edit {
     ghost use Rattle.layer_core.specs.Edits.{content_of, edited, refusal, both, edited_layers};
     ghost use Rattle.layer_core.specs.Edits.{edit_refusal};
 
-    /// The layer that is edited.
+    /// The side of the layer that is edited.
     pub fn side(&self) -> Side
         ensures { result ≡ (content_of self.now).side }
     {
@@ -41,8 +41,8 @@ impl Edit {
         }
     }
 
-    /// Edits the layer on its side, by [`Layer::insert`] or [`Layer::remove`], whose refusals it
-    /// answers. A refusal changes neither layer.
+    /// Edits the layer on its side, by [`Layer::insert`] or [`Layer::remove`], and returns their
+    /// fault. A refused edit changes neither layer.
     pub fn apply(&self, left: &mut Layer, right: &mut Layer) -> Result<(), LayerFault>
         ensures ok { OnOk result (both left.new.list right.new.list
             ≡ edited_layers (both left.old.list right.old.list) (content_of self.now)) }
@@ -57,7 +57,7 @@ impl Edit {
         }
     }
 
-    /// Edits this layer, whichever side it is on.
+    /// Applies the edit to this layer, regardless of the side.
     fn apply_to(&self, layer: &mut Layer) -> Result<(), LayerFault>
         ensures ok { OnOk result (layer.new.list ≡ edited layer.old.list (content_of self.now)) }
         ensures err { OnErr result (layer.new ≡ layer.old) }

@@ -1,5 +1,5 @@
-//! The features of a layer without a tree: they go in one by one, and then a tree is packed, if one
-//! is asked for.
+//! The features of a layer without a tree: they are inserted one by one, and then a tree may be
+//! packed from them.
 
 ghost use Rattle.std.specs.Prelude.{◌≡◌, IfOk};
 ghost use Rattle.layer_core.specs.LayerTrees.{entries_for};
@@ -17,7 +17,7 @@ use std::hash::RandomState;
 use std::marker::Model;
 use std::thread::Threads;
 
-/// The features of a layer, which has no tree. They are boxed, as they are in a layer.
+/// The features of a layer, without a tree. They are boxed, as they are in a layer.
 #[derive(Drop)]
 pub struct FeatureList {
     features: Box<Features>,
@@ -44,7 +44,7 @@ impl FeatureList {
     ghost use Rattle.layer_core.specs.Refusals.{is_id, AnswersWith, insert_refusal};
     ghost use Rattle.layer_core.specs.Statistics.{counts_of};
 
-    /// No features, and room for `room` of them. `state` hashes the ids.
+    /// An empty list with room for `room` features. `state` hashes the ids.
     pub fn new(alloc: Global, state: RandomState, room: usize) -> Result<FeatureList, AllocError>
         ensures { IfOk result (λ loading. loading ≡ empty) }
     {
@@ -53,7 +53,7 @@ impl FeatureList {
         })
     }
 
-    /// How many features were inserted.
+    /// The number of features that were inserted.
     pub fn inserted(&self) -> u32
         ensures count { result ≡ self.now.next }
         ensures few { result ≤ most_features }
@@ -63,8 +63,8 @@ impl FeatureList {
 
     /// Inserts a feature at the end, under an id that [`crate::is_id`] allows.
     ///
-    /// It is refused, in this order, as `DoubleId` and `LayerFull`, and as `Memory` where neither
-    /// holds. A refusal changes nothing.
+    /// # Errors
+    /// `DoubleId`, else `LayerFull`, else `Memory`. The list is then unchanged.
     pub fn add(&mut self, id: Id, shape: Shape) -> Result<(), LayerFault>
         requires { IsTrue (is_id (id_bytes id)) }
         ensures ok { OnOk result (self.new ≡ inserted self.old (id_bytes id) shape) }
@@ -92,8 +92,8 @@ impl FeatureList {
         self.features.iter()
     }
 
-    /// How many features there are of each dimension, and how high a tree is that is packed from
-    /// them. It goes over all features, and packs none.
+    /// The numbers of features of each dimension, and the height of a tree packed from them. It
+    /// visits every feature, and packs no tree.
     pub fn stats(&self) -> Stats
         ensures counts { result ≡ counts_of self.now result.height }
         ensures height { IsPackedHeight (length self.now.features) result.height }
@@ -130,7 +130,7 @@ impl FeatureList {
     }
 }
 
-/// What a tree holds of these features.
+/// The entries of a tree over these features.
 fn entries_of(alloc: Global, features: &Features) -> Result<Vec<Entry>, AllocError>
     ensures { IfOk result (λ entries. entries.items ≡ entries_for features.now.list) }
 {

@@ -13,27 +13,27 @@ use std::alloc::{AllocError, Global};
 use std::hash::RandomState;
 use std::marker::Model;
 
-/// How many features may ever be inserted in a layer, deleted ones included.
+/// The greatest number of features ever inserted into a layer, including deleted ones.
 pub const MAX_FEATURES: usize = 1_000_000;
 
-/// A feature, as its number finds it.
+/// A feature, as stored under its number.
 #[derive(Clone, Copy)]
 pub(crate) struct Slot {
-    /// The place of its id.
+    /// The place of its id in the layer's ids.
     pub(crate) place: usize,
     pub(crate) shape: Shape,
 }
 
 /// Features by id and by number.
 ///
-/// An id that was ever inserted keeps its place, and has the number of its feature or, once
-/// deleted, none. The slots are in the order of numbers, and a deleted feature's slot is empty. So
-/// no edit moves anything.
+/// An id that was ever inserted keeps its place. It has the number of its feature, or none if that
+/// was deleted. The slots are in the order of numbers, and the slot of a deleted feature is empty,
+/// so no edit moves anything.
 #[derive(Drop)]
 pub(crate) struct Features {
     ids: Ids,
     slots: Vec<Option<Slot>>,
-    /// How many slots are filled.
+    /// The number of filled slots.
     count: usize,
 }
 
@@ -96,7 +96,7 @@ impl Features {
         }
     }
 
-    /// No features, and room for `count` whose ids rise.
+    /// No features, and room for `count` features with ascending ids.
     pub(crate) fn with_room(
         alloc: Global,
         state: RandomState,
@@ -112,7 +112,7 @@ impl Features {
         })
     }
 
-    /// How many features there are.
+    /// The number of features.
     pub(crate) fn len(&self) -> usize
         ensures len { result ≡ length self.now.list.features }
         ensures few { result ≤ most_features }
@@ -121,14 +121,14 @@ impl Features {
         self.count
     }
 
-    /// An id as the layer will own it.
+    /// A copy of an id that the layer can own.
     pub(crate) fn owned(&self, id: &str) -> Result<Id, AllocError>
         ensures { IfOk result (λ own. id_bytes own ≡ id.now) }
     {
         Id::from_str(self.ids.allocator(), id)
     }
 
-    /// The number that the next feature gets: how many were ever inserted.
+    /// The number of the next feature, which is the number of features ever inserted.
     pub(crate) fn next(&self) -> usize
         ensures next { result ≡ self.now.list.next }
         ensures few { result ≤ most_features }
@@ -158,7 +158,7 @@ impl Features {
         Some((text, slot.shape))
     }
 
-    /// The shape of the feature with this number, which is found without its id.
+    /// The shape of the feature with this number, which is found without reading its id.
     pub(crate) fn shape(&self, number: u32) -> Option<Shape>
         ensures { result ≡ option_map (λ f. f.shape) (with_number number self.now.list) }
     {
@@ -177,7 +177,7 @@ impl Features {
         Iter::new(&self.ids, slots)
     }
 
-    /// How many features there are, in all and of each dimension, beside this height.
+    /// The numbers of features, in all and of each dimension, with this height.
     pub(crate) fn stats(&self, height: u32) -> Stats
         ensures { result ≡ counts_of self.now.list height }
     {
@@ -194,7 +194,7 @@ impl Features {
         stats
     }
 
-    /// Deletes the feature with this id, and gives its shape.
+    /// Deletes the feature with this id and returns its shape.
     pub(crate) fn delete(&mut self, id: &str) -> Option<Shape>
         ensures shape { result ≡ option_map (λ f. f.shape) (with_id id.now self.old.list) }
         ensures deleted { self.new.list ≡ deleted self.old.list id.now }
@@ -208,7 +208,7 @@ impl Features {
         Some(slot.shape)
     }
 
-    /// Makes room for one more feature.
+    /// Reserves room for one more feature.
     pub(crate) fn reserve(&mut self) -> Result<(), AllocError>
         ensures same { self.new.list ≡ self.old.list }
         ensures room { OnOk result (0 < self.new.room) }
@@ -218,7 +218,8 @@ impl Features {
         Ok(())
     }
 
-    /// What `insert` answers where a slot was refused: false where the id has a feature.
+    /// The result of `insert` if no slot can be allocated: false if a feature has the id, else the
+    /// error.
     fn double_or_refused(&self, id: &str) -> Result<bool, AllocError>
         ensures double { IfOk result
             (λ added. (added ≡ false) × (is_some (with_id id.now self.now.list) ≡ true)) }
@@ -230,8 +231,8 @@ impl Features {
         }
     }
 
-    /// Inserts a feature, or answers false where the id has one. Memory is refused to a new id
-    /// alone.
+    /// Inserts a feature, or returns false if a feature has its id already. Only a new id can fail
+    /// for lack of memory.
     pub(crate) fn insert(&mut self, id: Id, shape: Shape) -> Result<bool, AllocError>
         requires { self.old.list.next < most_features }
         ensures absent { IfOk result
@@ -243,7 +244,7 @@ impl Features {
         ensures succeeds { 0 < self.old.room → IsOk result }
     {
         let number = self.slots.len() as u32;
-        // From here to the insertion of the id nothing changes that a refusal would have to undo.
+        // From here to the insertion of the id, nothing changes that an error would have to undo.
         let reserved = self.slots.reserve(1);
         if reserved.is_err() {
             return self.double_or_refused(id.as_str());
@@ -251,7 +252,7 @@ impl Features {
         let (place, before) = self.ids.insert(id, Some(number))?;
         match before.flatten() {
             Some(live) => {
-                // The id's feature keeps its number.
+                // The feature that has the id keeps its number.
                 self.ids.set_number(place, Some(live));
                 Ok(false)
             }

@@ -44,7 +44,7 @@ impl<'a> Model for Iter<'a> {
 }
 
 impl<'a> Iter<'a> {
-    /// The features in these slots, where the first has the number 0.
+    /// The features in these slots, of which the first has the number 0.
     pub(crate) fn new(ids: &'a Ids, slots: &'a [Option<Slot>]) -> Iter<'a>
         requires { IsWalk ids.now.entries 0 slots.now }
         ensures { result ≡ features_from (ids_of (keys_of ids.now.entries)) 0 slots.now }

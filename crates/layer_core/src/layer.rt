@@ -14,20 +14,21 @@ use std::hash::RandomState;
 use std::marker::Model;
 use std::thread::Threads;
 
-/// How many bytes an id may have. It has at least one.
+/// The greatest number of bytes of an id. The least is one.
 pub const MAX_ID_BYTES: usize = 64;
 
 /// A list of features in the order of insertion, each with an id of its own, a number and a shape.
 ///
-/// Numbers begin at 0, rise by one with each insertion and are never used again, so a feature that
+/// Numbers start at 0, increase by one with each insertion and are never reused, so a feature that
 /// is deleted and inserted again goes to the end. An id has 1 to [`MAX_ID_BYTES`] bytes of UTF-8,
 /// and ids are compared by bytes. At most [`MAX_FEATURES`] features are ever inserted.
 ///
-/// An R-tree holds exactly these features, each as its shape with its number. Both are boxed, so
-/// that a layer is moved and dropped as two pointers.
+/// An R-tree holds exactly these features, each as an entry of its shape and number. List and tree
+/// are boxed, so that moving or dropping a layer handles two pointers.
 ///
-/// A look-up by number takes constant time, one by id constant time, or logarithmic time where ids
-/// were inserted in rising order, and an edit logarithmic time, amortised where the layer grows.
+/// A lookup by number takes constant time. A lookup by id takes constant time, or logarithmic time
+/// if the ids were inserted in ascending order. An edit takes logarithmic time, amortised while the
+/// layer grows.
 #[derive(Drop)]
 pub struct Layer {
     features: Box<Features>,
@@ -49,7 +50,7 @@ impl Model for Layer {
     ghost invariant = { λ layer. HoldsExactly layer.features.value.list layer.tree.value };
 }
 
-/// Whether a text has 1 to [`MAX_ID_BYTES`] bytes, as an id has.
+/// Whether a text is an id: it has 1 to [`MAX_ID_BYTES`] bytes.
 pub fn is_id(id: &str) -> bool
     ensures { result ≡ is_id id.now }
 {
@@ -92,7 +93,7 @@ impl Layer {
         ensures height { IfOk result
             (λ layer. IsPackedHeight (length features.value.list.features) (height_of layer.root)) }
     {
-        // That numbers differ, which packing asks for, is what the features say of themselves.
+        // Packing requires distinct numbers, which the invariant of the features gives.
         let _len = features.len();
         let packed = RTree::pack(alloc, entries);
         Ok(Layer {
@@ -124,7 +125,7 @@ impl Layer {
         })
     }
 
-    /// How many features the layer has.
+    /// The number of features of the layer.
     pub fn len(&self) -> usize
         ensures len { result ≡ length self.now.list.features }
         ensures layer { IsLayer self.now.list }
@@ -139,8 +140,8 @@ impl Layer {
         self.len() == 0
     }
 
-    /// How many features there are of each dimension, and how high the tree is. It goes over all
-    /// features.
+    /// The numbers of features of each dimension, and the height of the tree. It visits every
+    /// feature.
     pub fn stats(&self) -> Stats
         ensures { result ≡ stats_of self.now }
     {
@@ -152,7 +153,7 @@ impl Layer {
         ensures root { result.now ≡ self.now.root }
         ensures exact { IsTreeOf self.now.list self.now.root }
     {
-        // That it is lawful is what the tree says of itself.
+        // The invariant of the tree gives that it is lawful.
         let _root = self.tree.root();
         &self.tree
     }
@@ -173,7 +174,7 @@ impl Layer {
         self.features.at(number)
     }
 
-    /// The shape of the feature with this number, for which only its slot is looked at.
+    /// The shape of the feature with this number, for which only its slot is read.
     pub fn shape(&self, number: u32) -> Option<Shape>
         ensures { result ≡ option_map (λ f. f.shape) (with_number number self.now.list) }
     {
@@ -182,8 +183,8 @@ impl Layer {
 
     /// Inserts a feature at the end of the layer.
     ///
-    /// It is refused, in this order, as `BadId`, `DoubleId`, `LayerFull`, and as `Memory` where
-    /// none of these holds. A refusal changes nothing.
+    /// # Errors
+    /// `BadId`, else `DoubleId`, else `LayerFull`, else `Memory`. The layer is then unchanged.
     pub fn insert(&mut self, id: &str, shape: Shape) -> Result<(), LayerFault>
         ensures ok { OnOk result (self.new.list ≡ inserted self.old.list id.now shape) }
         ensures err { OnErr result (self.new ≡ self.old) }
@@ -196,14 +197,14 @@ impl Layer {
         let id = self.features.owned(id)?;
         let number = self.features.next() as u32;
         self.tree.insert(Entry { shape, number })?;
-        // There is room for it, so no refusal comes after the tree has changed.
+        // Its room is reserved, so nothing fails after the tree has changed.
         match self.features.insert(id, shape) {
             Ok(_) => Ok(()),
             Err(_) => unreachable!(),
         }
     }
 
-    /// Why a feature with this id can't be inserted, running out of memory aside.
+    /// Why a feature with this id can't be inserted, apart from lack of memory.
     fn insert_refusal(&self, id: &str) -> Option<LayerFault>
         ensures refusal { result ≡ insert_refusal self.now.list id.now }
         ensures absent { IfNone result (with_id id.now self.now.list ≡ None) }
@@ -222,10 +223,10 @@ impl Layer {
         None
     }
 
-    /// Deletes the feature with this id, and gives its shape.
+    /// Deletes the feature with this id and returns its shape.
     ///
-    /// It is refused, in this order, as `BadId` and `NoSuchId`, and as `Memory` where neither
-    /// holds. A refusal changes nothing.
+    /// # Errors
+    /// `BadId`, else `NoSuchId`, else `Memory`. The layer is then unchanged.
     pub fn remove(&mut self, id: &str) -> Result<Shape, LayerFault>
         ensures ok { OnOk result (self.new.list ≡ deleted self.old.list id.now) }
         ensures shape { IfOk result
@@ -238,7 +239,7 @@ impl Layer {
         }
         let found = self.features.find(id);
         let (number, shape) = found.ok_or(LayerFault::NoSuchId)?;
-        // The tree holds an entry for each feature, so it always answers true.
+        // The tree holds an entry for each feature, so the result is always true.
         let _held = self.tree.remove(&Entry { shape, number })?;
         let _shape = self.features.delete(id);
         Ok(shape)
