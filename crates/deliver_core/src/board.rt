@@ -17,8 +17,8 @@ pub use seat::BoardSeat;
 use std::alloc::{AllocError, Global};
 use std::marker::Model;
 
-/// The numbers of tasks, from 0, each of which one seat draws, once. It is one atomic word, the
-/// number that is drawn next.
+/// Hands out the task numbers from 0, each to one seat once. Its state is one atomic word, the next
+/// number to draw.
 #[derive(Drop)]
 pub struct Board {
     table: Table<(), SeatView, Size, EachOnce, Global>,
@@ -43,8 +43,8 @@ impl Board {
     ghost use Rattle.deliver_core.specs.Boards.{fresh_seat, spent_seat, size_of, IsSeatOf};
     ghost use Rattle.deliver_core.specs.Boards.{IsAfterNumber, IsAfterEnd, IsDraw};
 
-    /// A board of this many tasks, and its seats, at most [`options_core::MAX_WORKERS`], none of which has
-    /// drawn.
+    /// A board of `tasks` tasks and its seats, which have drawn nothing. There are at most
+    /// [`options_core::MAX_WORKERS`] seats.
     pub fn new(alloc: Global, tasks: u32, seats: u32) -> Result<(Board, Vec<BoardSeat>), AllocError>
         requires { (1 ≤ seats) × (seats ≤ most_workers) }
         ensures board { IfOk result (λ r. (r.0.tasks ≡ tasks) × (r.0.seats ≡ seats)) }
@@ -60,24 +60,25 @@ impl Board {
         Ok((Board { table, tasks }, given))
     }
 
-    /// Draws the next number for this seat, or tells that there is none left.
+    /// Draws the next number for this seat, or returns `None` if none is left.
     ///
-    /// It is one `fetch_add` of 1 on the board's word, or no step at all where the seat has met the
-    /// end before. It takes no memory, waits for nobody and always returns.
+    /// A draw is one `fetch_add` of 1 on the board's word; a seat that has already met the end does
+    /// nothing. The call allocates no memory, never waits and always returns.
     #[tactic(auto, using(crate::proofs::BoardMoves::word_bound))]
     pub fn claim(&self, seat: &mut BoardSeat) -> Option<u32>
         requires { IsSeatOf self.now seat.old }
         ensures seat { IsSeatOf self.now seat.new }
 
-        // The number of a task, above all that the seat has drawn, which gains it.
+        // The number is that of a task, greater than all that the seat has drawn, and is added to
+        // them.
         ensures number { IfSome result (IsAfterNumber self.now seat.old seat.new) }
         ensures none { IfNone result (IsAfterEnd seat.old seat.new) }
 
-        // A seat that isn't done makes a draw at the board's table, which found some word. One that
-        // is makes no step.
+        // A seat that isn't done makes a draw at the board's table, whatever the word was. A seat
+        // that is done makes no step.
         ensures draw { seat.old.done ≡ false → IsDraw self.now seat.old seat.new }
 
-        // Whatever the word and what the seats know are, while the board's rule holds of them.
+        // For every word and every knowledge of the seats that obey the board's rule.
         ensures word_bound { (word : ℕ) (views : List SeatView)
             → ObeysRule (size_of self.now) word views → word ≤ self.now.tasks + self.now.seats }
     {
@@ -97,13 +98,13 @@ impl Board {
         }
     }
 
-    /// Closes the board, to which all its seats have come. They come back spent, in the same order.
+    /// Closes the board, given all its seats. They are returned spent, in the same order.
     pub fn close(self, mut seats: Vec<BoardSeat>) -> Vec<BoardSeat>
         requires all { length seats.items ≡ self.seats }
         requires own { All (IsSeatOf self) seats.items }
 
-        // Each number that was drawn is one task's, and one seat drew it, once. All tasks' were
-        // drawn, where a seat has met the end.
+        // Each number that was drawn is that of a task, and one seat drew it, once. If a seat has
+        // met the end, the numbers of all tasks were drawn.
         ensures numbers { (n : ℕ) × (n ≤ self.tasks)
             × AreNumbersBelow n (flat_map (λ s. s.drawn) seats.items)
             × (Any (λ s. s.done ≡ true) seats.items → n ≡ self.tasks) }

@@ -5,13 +5,13 @@ ghost use Rattle.std.specs.Prelude.{count_by, sum_by, flat_map};
 ghost use Rattle.std.specs.List.Sorted.{IsStrictlyIncreasing};
 ghost use Rattle.deliver_core.specs.Draws.{AreNumbersBelow, after_draws};
 
-/// The laws of a board with any number of tasks and of seats, after every list of draws, each named
-/// by the place of its seat.
+/// The laws of a board with any number of tasks and seats, after every list of draws, each given by
+/// the index of its seat.
 ///
-/// The seats' lists together are the numbers below the word, as far as there are tasks, each once,
-/// and each list rises. The word is the number of all these and of the seats that are done. Where
-/// any seat is done, the word has passed the number of tasks; and it never passes the numbers of
-/// tasks and seats together.
+/// The lists of the seats together are the numbers of tasks below the word, each once, and each
+/// list ascends. The word is the count of all these numbers and of the seats that are done. If any
+/// seat is done, the word is greater than the number of tasks; and it never exceeds the sum of the
+/// numbers of tasks and seats.
 pub fn draws_law()
     ensures numbers { (tasks seats : ℕ) (events : List ℕ)
         → let b = after_draws tasks seats events in

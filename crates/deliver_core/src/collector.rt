@@ -1,5 +1,5 @@
-//! The collector: it accepts each task's batches in order, each once, and then its end, and gives
-//! all pairs in ascending order.
+//! The collector, which accepts each task's batches in order, each once, and then its end, and
+//! returns all pairs in ascending order.
 
 ghost use Rattle.std.specs.Prelude.{◌≡◌, ◌↔◌, ◌<◌, [], true, false, length, All, IfOk, IfErr, IsOk};
 ghost use Rattle.std.specs.Prelude.{OnOk, OnErr, IsOkUnless, IfSome, IfNone, IsPermutation};
@@ -19,14 +19,14 @@ use std::alloc::{AllocError, Global};
 use std::marker::Model;
 use std::thread::Threads;
 
-/// How far a task has come: how many batches of it were accepted, and whether its end was.
+/// The progress of a task: the number of batches accepted, and whether its end was.
 #[derive(Clone, Copy)]
 struct Progress {
     next: u64,
     ended: bool,
 }
 
-/// Gathers the batches of a number of tasks, in whatever order the tasks' messages interleave.
+/// Collects the batches of tasks, however the messages of different tasks interleave.
 #[derive(Drop)]
 pub struct Collector {
     /// By task.
@@ -67,7 +67,7 @@ impl Collector {
         })
     }
 
-    /// The marks of what was accepted, in this order.
+    /// The marks of the accepted messages, in the order of acceptance.
     pub fn taken(&self) -> &[Mark]
         ensures marks { result.now ≡ self.now.marks }
         ensures history { IsLegalHistory self.now.tasks result.now }
@@ -75,13 +75,14 @@ impl Collector {
         self.marks.as_slice()
     }
 
-    /// Accepts a message, or refuses and drops it. A refusal changes nothing, and only
-    /// `Memory` comes of memory: a message that is refused for another cause asks for none.
+    /// Accepts a message, or refuses and drops it. A refusal changes nothing. `Memory` is returned
+    /// only for a message that would be accepted otherwise.
     pub fn offer(&mut self, message: Message) -> Result<(), Refusal>
         ensures ok { OnOk result (self.new ≡ accept self.old (content_of message)) }
         ensures err { OnErr result (self.new ≡ self.old) }
 
-        // Which messages are refused, and why. Only memory can refuse another one, and no bye.
+        // Which messages are refused, and why. Any other is refused only for lack of memory, and a
+        // bye never is.
         ensures refused { IfSome (refusal_of self.old (content_of message))
             (λ refusal. result ≡ Err refusal) }
         ensures accepted { IfNone (refusal_of self.old (content_of message))
@@ -100,13 +101,13 @@ impl Collector {
         }
     }
 
-    /// Ends with all pairs in ascending order, or names the least task that has no end.
-    /// It takes no memory.
+    /// Returns all pairs in ascending order, or the least task that has no end. It allocates no
+    /// memory.
     pub fn finish(self) -> Result<Outcome, Finish>
         ensures closed { IsOk result ↔ IsClosed self.tasks self.marks }
         ensures least_open { IfErr result (IsLeastOpen self) }
 
-        // The pairs are those that were accepted, as often, and ascend.
+        // The pairs are the accepted ones, with multiplicity, in ascending order.
         ensures as_often { IfOk result (λ outcome. IsPermutation self.pairs outcome.pairs) }
         ensures ascending { IfOk result (λ outcome. IsSorted pair_cmp outcome.pairs) }
 
@@ -118,12 +119,12 @@ impl Collector {
         Ok(outcome)
     }
 
-    /// Ends as `finish` does. Threads share the sort, up to two for each processor.
+    /// Does the same as `finish`. Threads share the sort, up to two for each processor.
     pub fn finish_by_threads<R: Threads + Sync>(self, rt: &R) -> Result<Outcome, Finish>
         ensures closed { IsOk result ↔ IsClosed self.tasks self.marks }
         ensures least_open { IfErr result (IsLeastOpen self) }
 
-        // The pairs are those that were accepted, as often, and ascend.
+        // The pairs are the accepted ones, with multiplicity, in ascending order.
         ensures as_often { IfOk result (λ outcome. IsPermutation self.pairs outcome.pairs) }
         ensures ascending { IfOk result (λ outcome. IsSorted pair_cmp outcome.pairs) }
 
@@ -135,8 +136,8 @@ impl Collector {
         Ok(outcome)
     }
 
-    /// All pairs and marks, still in the order in which they were accepted, or the least task that
-    /// has no end.
+    /// All pairs and marks in the order in which they were accepted, or the least task that has no
+    /// end.
     fn ended(self) -> Result<Outcome, Finish>
         ensures closed { IsOk result ↔ IsClosed self.tasks self.marks }
         ensures least_open { IfErr result (IsLeastOpen self) }
@@ -201,7 +202,7 @@ impl Collector {
         Ok(())
     }
 
-    /// The number that the next batch of a task has to have.
+    /// The number that the next batch of a task must have.
     #[tactic(auto, using(crate::proofs::Histories::counter))]
     fn awaited(&self, task: u32) -> Result<u64, Refusal>
         ensures { result ≡ awaited self.now task }
@@ -225,13 +226,13 @@ fn first_open(progress: &[Progress]) -> Option<usize>
     progress.iter().position(|p| !p.ended)
 }
 
-/// Law of refusals: a collector refuses a message, but for lack of memory, exactly where
-/// accepting it would leave no legal history.
+/// Law of refusals: a collector refuses a message, other than for lack of memory, if and only if
+/// accepting it would make the history illegal.
 pub fn refusal_law()
     ensures { RefusesIllegal }
 {}
 
-/// All pairs and marks of a collector that was finished.
+/// All pairs and marks of a finished collector.
 #[derive(Drop)]
 pub struct Outcome {
     marks: Vec<Mark>,
@@ -247,7 +248,7 @@ impl Model for Outcome {
 }
 
 impl Outcome {
-    /// Puts the pairs into ascending order.
+    /// Sorts the pairs in ascending order.
     #[tactic(auto, using(pair_core::proofs::SortLemmas::written_sorted))]
     fn sort(&mut self)
         ensures as_often { IsPermutation self.old.pairs self.new.pairs }
@@ -257,7 +258,7 @@ impl Outcome {
         sort_pairs(self.pairs.as_mut_slice());
     }
 
-    /// Puts the pairs into ascending order. Threads share the work, up to two for each processor.
+    /// Sorts the pairs in ascending order. Threads share the work, up to two for each processor.
     #[tactic(auto, using(pair_core::proofs::SortLemmas::written_sorted))]
     fn sort_by_threads<R: Threads + Sync>(&mut self, rt: &R)
         ensures as_often { IsPermutation self.old.pairs self.new.pairs }
@@ -274,7 +275,7 @@ impl Outcome {
         self.pairs.as_slice()
     }
 
-    /// The marks of what was accepted, in this order.
+    /// The marks of the accepted messages, in the order of acceptance.
     pub fn taken(&self) -> &[Mark]
         ensures { result.now ≡ self.now.marks }
     {

@@ -3,25 +3,25 @@
 use std::alloc::AllocError;
 use thiserror::Error;
 
-/// Why a collector refuses a message; the first that applies is answered.
+/// Why a collector refuses a message; the first that applies is returned.
 #[derive(Clone, Copy, Debug, PartialEq, Eq, Error)]
 pub enum Refusal {
-    /// The task isn't one of the collector's.
+    /// The collector has no such task.
     #[error("the task isn't one of the collector's")]
     Stranger,
-    /// The task has ended.
+    /// The task has already ended.
     #[error("the task has ended")]
     AfterEnd,
-    /// The batch was accepted before.
+    /// The batch was already accepted.
     #[error("the batch was accepted before")]
     Double,
     /// A batch before this one is missing.
     #[error("a batch before this one is missing")]
     Gap,
-    /// The end doesn't give the number of the task's batches.
+    /// The count in the end message isn't the number of the task's batches.
     #[error("the end doesn't give the number of the task's batches")]
     WrongCount,
-    /// Out of memory.
+    /// Memory ran out.
     #[error("out of memory")]
     Memory,
 }
@@ -37,7 +37,7 @@ impl From<AllocError> for Refusal {
     }
 }
 
-/// Why a collector can't be finished.
+/// Why a collector can't finish.
 #[derive(Clone, Copy, Debug, PartialEq, Eq, Error)]
 pub enum Finish {
     /// The least task without an end.

@@ -1,4 +1,4 @@
-//! Delivery: numbered tasks are drawn by workers from one atomic word, and their batches reach one
+//! Delivery: workers draw numbered tasks from one atomic word, and send their batches to one
 //! collector through one bounded queue.
 #![tactic(auto)]
 

@@ -1,10 +1,10 @@
-//! The marks by which a collector notes what it accepted.
+//! The marks by which a collector records the messages that it accepted.
 
-/// What an accepted batch or end leaves in the history: all of it but the pairs.
+/// The record of an accepted batch or end: all of it except the pairs.
 #[derive(Clone, Copy, Debug, PartialEq, Eq)]
 pub enum Mark {
-    /// A task, and the number of one of its batches, from 0 on.
+    /// A task, and the number of one of its batches, from 0.
     Batch(u32, u64),
-    /// A task, and how many batches it had.
+    /// A task, and the number of its batches.
     End(u32, u64),
 }

@@ -1,22 +1,22 @@
-//! What workers send to the collector.
+//! The messages that workers send to the collector.
 
 /// A message of one worker about one task.
 #[derive(Debug, PartialEq, Eq, Drop)]
 pub struct Message {
     /// The port of the worker that sends it.
     pub port: u32,
-    /// The task, which in a `Bye` is 0 and isn't read.
+    /// The number of the task; in a `Bye` it is 0 and isn't read.
     pub task: u32,
     pub body: Body,
 }
 
-/// What a message says.
+/// The content of a message.
 #[derive(Debug, PartialEq, Eq, Drop)]
 pub enum Body {
-    /// The next pairs of the task, with the number of this batch, from 0 on.
+    /// The number of a batch of the task, from 0, and its pairs.
     Batch(u64, Vec<(u32, u32)>),
-    /// The task has had all its batches, and these many.
+    /// The end of the task, with the number of its batches.
     End(u64),
-    /// The worker sends nothing more; false where memory failed it.
+    /// The end of the worker's messages: true, or false if it ran out of memory.
     Bye(bool),
 }

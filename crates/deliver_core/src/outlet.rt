@@ -1,4 +1,4 @@
-//! The outlet: one bounded queue by which the messages of every port reach the tap.
+//! The outlet, a bounded queue that carries the messages of all ports to the tap.
 
 use crate::message::{Body, Message};
 use crate::pass_view::{InOrder, Make, Meet, PassView, Put, Take};
@@ -9,14 +9,14 @@ use std::alloc::{AllocError, Global};
 use std::sync::Wait;
 use std::thread;
 
-/// How many messages may wait in an outlet.
+/// The capacity of an outlet, in messages.
 pub const MAX_WAITING: usize = 64;
 
 type Queue = RuledArrayQueue<Message, PassView, InOrder>;
 
-/// A queue of [`MAX_WAITING`] messages, which the ports fill and the tap empties. Each put is one
-/// successful push and each take one successful pop, so the messages of a port are taken in the
-/// order in which it sent them.
+/// A queue of at most [`MAX_WAITING`] messages, which the ports fill and the tap empties. Each put
+/// is one successful push and each take one successful pop, so the messages of a port are taken in
+/// the order in which it sent them.
 #[derive(Drop)]
 pub struct Outlet {
     queue: Queue,
@@ -42,8 +42,8 @@ impl Outlet {
     ghost use Rattle.deliver_core.specs.Ports.{port_count, room_of, IsTapOf};
     ghost use Rattle.options_core.specs.Limits.{most_workers};
 
-    /// An outlet, in which [`MAX_WAITING`] messages may wait, its ports, in the order of their
-    /// indexes, and its tap. It fails only where memory runs out.
+    /// An outlet of [`MAX_WAITING`] messages, its `ports` ports in the order of their indexes, and
+    /// its tap. It fails only if memory runs out.
     #[tactic(auto, using(crate::proofs::OutletRule::begins))]
     pub fn new(alloc: Global, ports: u32) -> Result<(Outlet, Vec<Port>, Tap), AllocError>
         requires ports { (1 ≤ ports) × (ports ≤ most_workers) }
@@ -63,7 +63,8 @@ impl Outlet {
         Ok((Outlet { queue }, all, Tap { pass }))
     }
 
-    /// Puts a message, which has the port's index and is no Bye. It waits while the outlet is full.
+    /// Sends a message, which has the port's index and is no Bye. It waits while the outlet is
+    /// full.
     pub fn put<R: Wait>(&self, rt: &R, port: &mut Port, message: Message)
         requires port { IsOpenPort self.now port.old }
         requires message { IsForPort port.old message }
@@ -97,8 +98,8 @@ impl Outlet {
         port.said_bye = true;
     }
 
-    /// Takes the message that has waited longest. `None` says that nothing waited at one moment of
-    /// the call.
+    /// Takes the oldest message, or returns `None` if the outlet was empty at some moment of the
+    /// call.
     pub fn take<R: Wait>(&self, rt: &R, tap: &mut Tap) -> Option<Message>
         requires { IsTapOf self.now tap.old }
         ensures tap { IsTapOf self.now tap.new }
@@ -107,16 +108,16 @@ impl Outlet {
         ensures some { IfSome result (IsAfterTaking tap.old tap.new) }
         ensures none { IfNone result (IsAfterNothing tap.old tap.new) }
 
-        // Of each port that was met, a prefix was taken.
+        // The messages taken of each port that was met are a prefix of those sent.
         ensures begins { All (λ p. IsPrefix (of_port p.index (taken_by tap.new)) p.sent)
             (met_by tap.new) }
     {
         self.receive(rt, &mut tap.pass)
     }
 
-    /// Ties the tap's list to that of a port that has said bye: what was taken of the port is a
-    /// beginning of what it sent, and all of it where its Bye was taken. The port comes back spent,
-    /// and to meet it again changes nothing. The call waits for nobody.
+    /// Relates the tap's list to that of a port that has said bye: the messages taken of the port
+    /// are a prefix of those that it sent, and all of them if its Bye was taken. The port is
+    /// returned spent; meeting it again changes nothing. The call never waits.
     pub fn meet<R: Wait>(&self, _rt: &R, tap: &mut Tap, mut port: Port) -> Port
         requires tap { IsTapOf self.now tap.old }
         requires port { IsEndedPort self.now port }
@@ -131,7 +132,7 @@ impl Outlet {
         port
     }
 
-    /// Pushes the message, and tries again while the queue is full.
+    /// Pushes the message; while the queue is full, it tries again.
     fn send<R: Wait>(&self, rt: &R, pass: &mut Pass<Message, PassView>, mut message: Message)
         requires queue { IsPassOf self.now.queue pass.old }
         requires sender { sender_of (view pass.old) ≡ Some message.port }
@@ -150,7 +151,7 @@ impl Outlet {
         unreachable!()
     }
 
-    /// Pops a message, if one waits.
+    /// Pops a message, if there is one.
     #[tactic(auto, using(crate::proofs::OutletCalls::begins_after))]
     fn receive<R: Wait>(&self, rt: &R, pass: &mut Pass<Message, PassView>) -> Option<Message>
         requires queue { IsPassOf self.now.queue pass.old }
@@ -163,7 +164,7 @@ impl Outlet {
         self.queue.pop_as::<Take, R>(rt, pass)
     }
 
-    /// Joins the pass of a port to the tap's, and looks at what waits.
+    /// Joins the pass of a port to the tap's, and reads which messages wait.
     fn join(&self, pass: &mut Pass<Message, PassView>, port: Pass<Message, PassView>)
         requires queue { IsPassOf self.now.queue pass.old × IsPassOf self.now.queue port }
         requires receiver { is_receiver (view pass.old) ≡ true }

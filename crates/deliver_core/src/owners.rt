@@ -9,13 +9,14 @@ ghost use Rattle.deliver_core.specs.Owners.{IsScript, owned_tasks, owned_numbers
 ghost use Rattle.deliver_core.specs.Owners.{collection};
 ghost use Rattle.deliver_core.specs.Scripts.{of_task};
 
-/// Law of owners, for any number of ports: where no task has two owners, and each port sends the
-/// scripts of its own tasks in order, or a prefix of them, then the messages of each task come
-/// as in its script, whichever way those of the ports interleave, and a new collector refuses none
-/// of them but for lack of memory.
+/// Law of owners, for any number of ports: if no task has two owners, and each port sends the
+/// scripts of its own tasks in order, or a prefix of them, then the messages of each task arrive as
+/// in its script, however the messages of the ports interleave, and a new collector refuses none of
+/// them except for lack of memory.
 ///
-/// Where besides each task has an owner and each port has sent all, the history is closed, each
-/// task's messages are its script, and the pairs are those of the rows, with multiplicity.
+/// If, moreover, each task has an owner and each port has sent all its messages, then the history
+/// is closed, each task's messages are its script, and the pairs are those of the rows, with
+/// multiplicity.
 pub fn owners_law()
     ensures begins { (o : Owners) → KeepsOwners o → All (BeginsScript o) (owned_tasks o) }
     ensures unowned { (o : Owners) → KeepsOwners o

@@ -1,27 +1,27 @@
-//! What the passes of an outlet's queue know, and the rule that ties it to what waits. It exists in
-//! proofs alone.
+//! What the passes of an outlet's queue know, and the rule that relates it to the waiting messages.
+//! It exists only in proofs.
 
 use crate::message::Message;
 use crossbeam_queue::protocol::{Join, Lesson, Outcome, Protocol, Split};
 use std::collections::LinkedList;
 
-/// A port that was met: its index, and all that it sent.
+/// A port that was met: its index, and all messages that it sent.
 pub struct Met {
     pub index: u32,
     pub sent: LinkedList<Message>,
 }
 
-/// The view of a pass. No value of it is made.
+/// The view of a pass. No value of this type is ever made.
 pub enum PassView {
-    /// Of a port: its index, and what it has sent.
+    /// Of a port: its index, and the messages that it has sent.
     Sender(u32, LinkedList<Message>),
-    /// Of the tap: how many ports were made, what it has taken, and which ports it met.
+    /// Of the tap: the number of ports, the messages that it has taken, and the ports that it met.
     Receiver(u32, LinkedList<Message>, LinkedList<Met>),
     /// Of a port that was met.
     Spent,
 }
 
-/// The rule: of each port, what was taken and then what waits is what it sent.
+/// The rule: for each port, the messages taken followed by those that wait are those that it sent.
 pub struct InOrder;
 
 impl Protocol<Message, PassView> for InOrder {
@@ -59,7 +59,7 @@ impl Lesson<Message, PassView> for Put {
     ghost fact = { λ v items. Unit {0} };
 }
 
-/// The tap takes a message, or looks at what waits.
+/// The tap takes a message, or reads which messages wait.
 pub struct Take;
 
 impl Outcome<Message, PassView> for Take {

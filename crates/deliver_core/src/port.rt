@@ -10,8 +10,8 @@ use crate::message::Message;
 use crate::pass_view::PassView;
 use crossbeam_queue::Pass;
 
-/// The right of one sender to put messages into its outlet. Contracts see which messages it has
-/// put; a port that was met is spent, and the tap has that list in its place.
+/// The right of one sender to put messages into its outlet. Contracts see the messages that it has
+/// sent; a port that was met is spent, and its list of messages is the tap's.
 #[derive(Drop)]
 pub struct Port {
     pub(crate) pass: Option<Pass<Message, PassView>>,
@@ -37,7 +37,7 @@ impl Port {
         }
     }
 
-    /// The number of the port among its outlet's, from 0.
+    /// The index of the port in its outlet, from 0.
     pub fn index(&self) -> u32
         ensures { result ≡ index_of self.now }
     {

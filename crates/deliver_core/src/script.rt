@@ -5,8 +5,8 @@ ghost use Rattle.std.specs.List.{flat_map};
 ghost use Rattle.deliver_core.specs.Marks.{script_marks};
 ghost use Rattle.deliver_core.specs.Scripts.{script, batches_for, piece_of, marks_in, pairs_in};
 
-/// Law of scripts: the batches of a task's script have, in order, the pairs of its row, each
-/// `size` of them but the last, which has at least one, and its marks are those of such a script.
+/// Law of scripts: the batches of a task's script contain, in order, the pairs of its row, `size`
+/// each except the last, which has at least one, and its marks are those of such a script.
 pub fn script_law(task: u32, size: u32, row: &[(u32, u32)])
     requires { 0 < size }
     ensures pairs { flat_map pairs_in (script task size row.now) ≡ row.now }

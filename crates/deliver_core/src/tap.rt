@@ -8,8 +8,8 @@ use crate::message::Message;
 use crate::pass_view::PassView;
 use crossbeam_queue::Pass;
 
-/// The right to take messages out of an outlet. Contracts see which messages it has taken, and of
-/// each port that it met what the port had sent.
+/// The right to take messages out of an outlet. Contracts see the messages that it has taken, and
+/// for each port that it met, the messages that the port had sent.
 #[derive(Drop)]
 pub struct Tap {
     pub(crate) pass: Pass<Message, PassView>,

@@ -1,4 +1,4 @@
-//! The synchronized descent of two R-trees: the plan of a join's tasks, and the pairs of each.
+//! The synchronised traversal of two R-trees: the plan of a join's tasks, and the pairs of each.
 #![tactic(auto)]
 
 mod lower;

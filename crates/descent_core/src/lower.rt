@@ -1,4 +1,4 @@
-//! What stands one level below a node on the way to its entries.
+//! The nodes one level below a node on the way to its entries.
 
 ghost use Rattle.std.specs.Prelude.{◌≡◌};
 ghost use Rattle.rtree_core.specs.Nodes.{IsLawful};
@@ -8,9 +8,9 @@ ghost use Rattle.descent_core.specs.Steps.{IsOneLower};
 use rtree_core::Node;
 use std::slice;
 
-/// The children of a node; a leaf, which has none, stands for itself.
+/// The children of a node, or the node itself if it is a leaf.
 ///
-/// So the four rules of a pair of nodes, by which of the two are leaves, are one.
+/// So one rule covers all four cases of a pair of nodes, by which of the two are leaves.
 pub(crate) fn lower(node: &Node) -> &[Node]
     requires { IsLawful node.now }
     ensures nodes { result.now ≡ lower node.now }

@@ -7,8 +7,8 @@ use std::marker::Model;
 
 /// The tasks of a join of two trees, which are pairs of a left and a right node.
 ///
-/// Each two entries that meet, one of each tree, lie below exactly one of the pairs. So tasks can
-/// be done in any order, and none has to know of another.
+/// Each two entries that meet, one of each tree, lie below exactly one of the pairs. So tasks are
+/// independent and can be processed in any order.
 #[derive(Drop)]
 pub struct Plan<'a> {
     tasks: Vec<Task<'a>>,
@@ -40,12 +40,12 @@ impl<'a> Plan<'a> {
     ghost use Rattle.descent_core.specs.Plans.{most_tasks, IsPlan, IsTask};
     ghost use Rattle.descent_core.specs.Shares.{ShareOut, RowsJoin};
 
-    /// The pairs of nodes at the greatest depth, up to `cut`, that makes no more than
-    /// [`MAX_TASKS`] of them, nor does any depth above it.
+    /// The pairs of nodes at the greatest depth, up to `cut`, at which there are no more than
+    /// [`MAX_TASKS`] pairs, nor at any lesser depth.
     ///
-    /// At depth 0 stand the roots. A leaf takes part in greater depths, as itself. Only pairs whose
-    /// covers meet are tasks, in the order of the trees: by the places on the two paths from the
-    /// roots, taken in turn, left first.
+    /// At depth 0 are the roots. A leaf stays in the pairs of greater depths. Only pairs whose
+    /// covers meet are tasks. They are ordered by the positions on the two paths from the roots,
+    /// taken alternately, left first.
     #[tactic(auto, using(crate::proofs::TaskLemmas::length_nodes))]
     pub fn new(
         alloc: Global,
@@ -80,7 +80,7 @@ impl<'a> Plan<'a> {
         self.tasks.is_empty()
     }
 
-    /// The task of this number, a left and a right node.
+    /// The task with this number, a left and a right node. `k` is less than [`Plan::len`].
     pub fn task(&self, k: u32) -> (&Node, &Node)
         requires { k < length self.now }
         ensures task { slice_get self.now k ≡ Some (result.0.now, result.1.now) }
@@ -93,7 +93,7 @@ impl<'a> Plan<'a> {
 ghost use Rattle.std.specs.Prelude.{IfOk};
 ghost use Rattle.descent_core.specs.Steps.{nodes_of, AreTop};
 
-/// The pair of the two roots, where both trees have one and their covers meet.
+/// The pair of the two roots, if both trees have one and their covers meet.
 fn meeting_roots<'a>(
     alloc: Global,
     left: &'a RTree,

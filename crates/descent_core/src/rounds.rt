@@ -1,4 +1,4 @@
-//! The rounds in which a plan's tasks are made: each goes one level down.
+//! The rounds that make a plan's tasks: each goes one level down.
 
 ghost use Rattle.std.specs.Prelude.{◌≤◌, length, map, All, IfOk};
 ghost use Rattle.std.specs.List.{flat_map};
@@ -11,13 +11,13 @@ use crate::lower::lower;
 use rtree_core::Node;
 use std::alloc::{AllocError, Global};
 
-/// The most tasks of a plan.
+/// The greatest number of tasks of a plan.
 pub const MAX_TASKS: usize = 65_536;
 
 /// A left and a right node.
 pub(crate) type Task<'a> = (&'a Node, &'a Node);
 
-/// Goes down round by round, so many times at most, until a round would make too many tasks.
+/// Goes down at most `rounds` levels, until a further one would make too many tasks.
 pub(crate) fn go_down<'a>(
     alloc: Global,
     mut tasks: Vec<Task<'a>>,
@@ -38,7 +38,7 @@ pub(crate) fn go_down<'a>(
     Ok(tasks)
 }
 
-/// The tasks one level below these, or `None` where they are too many.
+/// The tasks one level below these, or `None` if they are too many.
 fn next_round<'a>(alloc: Global, tasks: &[Task<'a>]) -> Result<Option<Vec<Task<'a>>>, AllocError>
     requires { All AreMeeting (nodes_of tasks.now) }
     ensures { let offered = flat_map lower_pairs (nodes_of tasks.now) in
@@ -54,7 +54,7 @@ fn next_round<'a>(alloc: Global, tasks: &[Task<'a>]) -> Result<Option<Vec<Task<'
     Ok(Some(next))
 }
 
-/// Adds the tasks one level below this one, and says whether there was room.
+/// Adds the tasks one level below this one. Returns whether there was room for them.
 fn push_below<'a>(task: &Task<'a>, next: &mut Vec<Task<'a>>) -> Result<bool, AllocError>
     requires meeting { AreMeeting (nodes task.now) }
     requires few { length next.old.items ≤ most_tasks }
@@ -64,7 +64,7 @@ fn push_below<'a>(task: &Task<'a>, next: &mut Vec<Task<'a>>) -> Result<bool, All
     push_lower(lower(task.0), lower(task.1), next)
 }
 
-/// Adds the pairs of a left and a right node whose covers meet, and says whether there was room.
+/// Adds the pairs of a left and a right node whose covers meet. Returns whether there was room.
 fn push_lower<'a>(
     lefts: &'a [Node],
     rights: &'a [Node],
@@ -83,7 +83,7 @@ fn push_lower<'a>(
     Ok(true)
 }
 
-/// Adds the pairs of this node and one of those whose covers meet, and says whether there was room.
+/// Adds the pairs of `left` and a right node whose covers meet. Returns whether there was room.
 fn push_beside<'a>(
     left: &'a Node,
     rights: &'a [Node],

@@ -1,4 +1,4 @@
-//! The pairs of a task: the descent of its two subtrees, side by side.
+//! The pairs of a task, found by traversing its two subtrees together.
 
 ghost use Rattle.std.specs.Prelude.{◌<◌, [], ◌∷◌, length, All, IfOk, OnOk, IsSomeAnd, slice_get};
 ghost use Rattle.std.specs.Prelude.{IsPermutation, IsSorted};
@@ -16,9 +16,10 @@ use relation_core::JoinRelation;
 use rtree_core::{Entry, Node};
 use std::alloc::{AllocError, Global};
 
-/// The number pairs of the entries of a task's two subtrees that stand in the relation, ascending.
+/// The pairs of numbers of the entries of a task's two subtrees that stand in the relation, in
+/// ascending order.
 ///
-/// The two subtrees are descended side by side, and children whose covers don't meet are left out
+/// The two subtrees are traversed together, and children whose covers don't meet are skipped
 /// (Brinkhoff, Kriegel and Seeger 1993).
 pub fn row(
     alloc: Global,
@@ -47,7 +48,8 @@ fn sorted(mut pairs: Vec<(u32, u32)>) -> Vec<(u32, u32)>
     pairs
 }
 
-/// Adds the pairs of two subtrees: of two leaves their entries', else those of what stands below.
+/// Adds the pairs of two subtrees: those of their entries if both are leaves, else those of the
+/// nodes below.
 #[cycle(descent)]
 fn descend(
     left: &Node,
@@ -76,7 +78,7 @@ fn descend(
     Ok(())
 }
 
-/// Adds the pairs of one subtree with each of these.
+/// Adds the pairs of one subtree with each of these subtrees.
 #[cycle(descent)]
 fn descend_beside(
     left: &Node,
@@ -100,7 +102,7 @@ fn descend_beside(
     Ok(())
 }
 
-/// Adds the pairs of these entries with those of a leaf.
+/// Adds the pairs of these entries with the entries of a leaf.
 fn push_entries(
     lefts: &[Entry],
     right: &Node,
@@ -123,7 +125,7 @@ fn push_entries(
     Ok(())
 }
 
-/// Adds the pairs of one entry with each of these.
+/// Adds the pairs of one entry with each of these entries.
 fn push_beside(
     left: &Entry,
     rights: &[Entry],

@@ -1,4 +1,4 @@
-//! How a join is run: how many workers there are, how large their batches and how fine the tasks.
+//! How a join is run: the number of workers, the size of batches and the depth of the tasks.
 #![tactic(auto)]
 
 mod limits;

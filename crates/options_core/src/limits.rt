@@ -1,10 +1,11 @@
-//! How many workers, pairs and rounds there are at most, as contracts state it.
+//! The greatest numbers of workers, pairs and rounds, as contracts state them.
 
-/// The most workers of a join, each with a seat at the board and a port of the outlet.
+/// The greatest number of workers of a join, each with a seat at the board and a port of the
+/// outlet.
 pub const MAX_WORKERS: u32 = 16;
 
-/// The most pairs of a batch.
+/// The greatest number of pairs of a batch.
 pub const MAX_BATCH: u32 = 4096;
 
-/// The most rounds of cutting the two trees into tasks.
+/// The greatest number of rounds in which the two trees are cut into tasks.
 pub const MAX_CUT: u8 = 8;

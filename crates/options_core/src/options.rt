@@ -6,7 +6,7 @@ ghost use Rattle.options_core.specs.Limits.{most_workers, most_batch, most_cut};
 use crate::limits::{MAX_BATCH, MAX_CUT, MAX_WORKERS};
 use thiserror::Error;
 
-/// How a join is run.
+/// The number of workers of a join, the size of its batches and the depth of its tasks.
 #[derive(Clone, Copy, Debug, PartialEq, Eq)]
 pub struct Options {
     workers: u32,
@@ -22,13 +22,13 @@ pub struct Options {
 /// The first of the three numbers that is out of range.
 #[derive(Clone, Copy, Debug, PartialEq, Eq, Error)]
 pub enum OptionFault {
-    /// Workers are 1 to [`MAX_WORKERS`].
+    /// The number of workers isn't 1 to [`MAX_WORKERS`].
     #[error("--workers must be 1 to 16")]
     Workers,
-    /// A batch has 1 to [`MAX_BATCH`] pairs.
+    /// The number of pairs in a batch isn't 1 to [`MAX_BATCH`].
     #[error("--batch must be 1 to 4096")]
     Batch,
-    /// The cut is 0 to [`MAX_CUT`].
+    /// The cut isn't 0 to [`MAX_CUT`].
     #[error("--cut must be 0 to 8")]
     Cut,
 }
@@ -37,7 +37,7 @@ impl OptionFault {
     ghost use Rattle.std.specs.Prelude.{◌≡◌, length};
     ghost use Rattle.options_core.specs.OptionTexts.{option_text};
 
-    /// What is wrong, in the words of the command line.
+    /// The text of the fault, in the words of the command line.
     pub fn text(self) -> &'static str
         ensures text { result.now ≡ option_text self }
         ensures short { length result.now ≤ 50 }

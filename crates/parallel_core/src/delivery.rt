@@ -1,4 +1,4 @@
-//! The workers of a join: they process the tasks of a plan side by side.
+//! The workers of a join, which process the tasks of a plan in parallel.
 
 ghost use Rattle.std.specs.Prelude.{◌≡◌, ◌≤◌, true, false, IfErr, IfOk};
 ghost use Rattle.relation_core.specs.JoinRelations.{relation_of};
@@ -18,11 +18,12 @@ use std::alloc::Global;
 use std::sync::Wait;
 use std::thread::Threads;
 
-/// Processes the tasks of a plan by so many workers, each in a thread of its own, and gives what
-/// they delivered. Each of them enters the gate with each task that it draws.
+/// Processes the tasks of a plan by `workers` workers, each in a thread of its own, and returns the
+/// pairs that they delivered. A worker enters the gate with each task that it draws. All workers
+/// have ended when the call returns.
 ///
-/// All of them have ended when the call returns. It answers `Memory` where memory was refused, and
-/// `NoThread` where there was no thread for a worker; nothing else is ever answered.
+/// # Errors
+/// `Memory` if an allocation fails, `NoThread` if a worker's thread can't be started, and no other.
 pub fn run_workers<'a, R: Threads + Wait + Sync, P: Rows + Sync, G: Gate + Sync>(
     rt: &R,
     alloc: Global,
@@ -65,7 +66,7 @@ pub fn run_workers<'a, R: Threads + Wait + Sync, P: Rows + Sync, G: Gate + Sync>
     fused.finish(rt, workers, all_ok)
 }
 
-/// Refuses a team in which some worker had no thread.
+/// Refuses a team if the thread of some worker could not be started.
 fn are_started(all_started: bool) -> Result<(), JoinFault>
     ensures ok { IfOk result (λ _. all_started ≡ true) }
     ensures err { IfErr result (λ fault. (all_started ≡ false) × (fault ≡ JoinFault.NoThread)) }

@@ -1,4 +1,4 @@
-//! Why workers couldn't process a plan.
+//! The faults of processing a plan.
 
 ghost use Rattle.std.specs.Prelude.{◌≡◌};
 ghost use Rattle.parallel_core.specs.declared.fault.JoinFault.TheVariants as join_faults;
@@ -20,7 +20,7 @@ pub enum JoinFault {
     /// The collector refused a message.
     #[error("a message was refused")]
     Refused(Refusal),
-    /// The task of this number has no end.
+    /// The task with this number has no end.
     #[error("task {0} was not ended")]
     Open(u32),
 }

@@ -1,4 +1,4 @@
-//! A fused collector: one that is offered messages until it refuses one.
+//! A fused collector: after its first refusal it is offered no further message.
 
 ghost use Rattle.std.specs.Prelude.{◌≡◌, List, [], ◌∷◌, ◌++◌, true, false, IsOk, IsPermutation};
 ghost use Rattle.std.specs.Prelude.{IsSorted, IfOk, IfErr};
@@ -13,7 +13,7 @@ use deliver_core::{Collector, Message, Outcome, Refusal};
 use std::alloc::{AllocError, Global};
 use std::thread::Threads;
 
-/// A collector, and the first refusal of it.
+/// A collector and its first refusal, if any.
 #[derive(Drop)]
 pub(crate) struct FusedCollector {
     collector: Collector,
@@ -21,7 +21,7 @@ pub(crate) struct FusedCollector {
 }
 
 impl FusedCollector {
-    /// A fused collector of this many tasks.
+    /// A fused collector of `tasks` tasks.
     pub(crate) fn new(alloc: Global, tasks: u32) -> Result<FusedCollector, AllocError>
         ensures tasks { IfOk result (λ it. it.collector.tasks ≡ tasks) }
         ensures empty { IfOk result (λ it. HasTakenIn [] it.collector it.accepted) }
@@ -32,7 +32,7 @@ impl FusedCollector {
         })
     }
 
-    /// Offers a message to the collector, or drops it where a message was refused before.
+    /// Offers a message to the collector, or drops it if a message was refused before.
     #[tactic(auto, using(crate::proofs::TakingIn::not_ok))]
     pub(crate) fn take_in(&mut self, message: Message)
         ensures tasks { self.new.collector.tasks ≡ self.old.collector.tasks }
@@ -46,8 +46,8 @@ impl FusedCollector {
         }
     }
 
-    /// The outcome, or why there is none: the first refusal, a worker out of memory, or a task
-    /// without an end. Threads share the sort of the pairs where there is more than one worker.
+    /// The outcome, or the reason that there is none: the first refusal, a worker out of memory, or
+    /// a task without an end. With more than one worker, threads share the sort of the pairs.
     pub(crate) fn finish<R: Threads + Sync>(
         self,
         rt: &R,

@@ -3,14 +3,14 @@
 use std::sync::Wait;
 use std::thread::Threads;
 
-/// What each worker of a join enters with the task that it has drawn, before it works on it. All
-/// workers share one gate, and it may let them wait.
+/// A hook that each worker of a join enters with a task that it has drawn, before processing it.
+/// All workers share one gate, which may make them wait.
 pub trait Gate {
-    /// Lets the worker on to this task.
+    /// Returns when the worker may process this task.
     fn enter<R: Threads + Wait + Sync>(&self, rt: &R, task: u32);
 }
 
-/// A gate that lets everyone on at once.
+/// A gate that never makes a worker wait.
 #[derive(Clone, Copy)]
 pub struct OpenGate;
 

@@ -1,5 +1,5 @@
-//! The workers of a join: each draws tasks from the board and sends their scripts by its port, and
-//! who has started them receives what they send.
+//! The workers of a join: each draws tasks from the board and sends their scripts through its port,
+//! and the thread that started them receives the messages.
 #![tactic(auto)]
 
 mod delivery;

@@ -1,4 +1,4 @@
-//! How one who waits for messages passes the time.
+//! Waiting for messages.
 
 ghost use Rattle.std.specs.Prelude.{◌≡◌, ◌+◌, ◌<◌, ◌≤◌};
 
@@ -7,13 +7,13 @@ use std::thread;
 use std::thread::Parker;
 use std::time::Duration;
 
-/// How often it yields before it sleeps.
+/// The number of yields before the first sleep.
 const YIELDS: u32 = 64;
 
-/// How long it sleeps at a time.
+/// The length of one sleep, in microseconds.
 const NAP_MICROS: u64 = 50;
 
-/// Lets other threads run: it yields at first, and then sleeps.
+/// Lets other threads run, at first by yielding and later by sleeping.
 #[derive(Drop)]
 pub(crate) struct Pause {
     parker: Parker,
@@ -21,7 +21,7 @@ pub(crate) struct Pause {
 }
 
 impl Pause {
-    /// A pause that begins with yielding.
+    /// A pause that starts with yields.
     pub(crate) fn new() -> Pause
         ensures { result.yields ≡ 0 }
     {
@@ -31,7 +31,7 @@ impl Pause {
         }
     }
 
-    /// Passes a short time.
+    /// Yields once, or sleeps for a short time.
     pub(crate) fn rest<R: Wait>(&mut self, rt: &R)
         ensures yields { self.old.yields < YIELDS → self.new.yields ≡ self.old.yields + 1 }
         ensures sleeps { YIELDS ≤ self.old.yields → self.new.yields ≡ self.old.yields }
@@ -45,7 +45,7 @@ impl Pause {
         }
     }
 
-    /// Begins with yielding again.
+    /// Starts with yields again.
     pub(crate) fn begin_again(&mut self)
         ensures { self.new.yields ≡ 0 }
     {

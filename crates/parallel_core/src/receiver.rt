@@ -1,4 +1,4 @@
-//! The receiver: it takes what the workers send, and offers it to the collector.
+//! The receiver, which takes the workers' messages and offers them to the collector.
 
 ghost use Rattle.std.specs.Prelude.{◌≡◌, ◌<◌, ◌⊎◌, ℕ, true, false, Some, IfOk, length, map};
 ghost use Rattle.std.specs.Prelude.{slice_get};
@@ -18,17 +18,17 @@ use deliver_core::{Body, Message, Outlet, Port, Tap};
 use std::alloc::{AllocError, Global};
 use std::sync::Wait;
 
-/// What takes the messages of an outlet, and what was taken so far.
+/// The receiving end of an outlet, and the messages taken so far.
 #[derive(Drop)]
 pub(crate) struct Receiver {
     tap: Tap,
-    /// Whether the Bye was taken, by port.
+    /// For each port, whether its Bye was taken.
     ended: Vec<bool>,
     pub(crate) fused: FusedCollector,
 }
 
 impl Receiver {
-    /// The receiver of this many ports and tasks, which has taken nothing.
+    /// The receiver of `ports` ports and `tasks` tasks, which has taken nothing.
     pub(crate) fn new(
         alloc: Global,
         outlet: &Outlet,
@@ -48,7 +48,7 @@ impl Receiver {
         })
     }
 
-    /// Takes in messages until the Bye of this port was taken.
+    /// Takes messages until the Bye of this port was taken.
     #[tactic(auto, using(crate::proofs::Receivers::goes_on))]
     pub(crate) fn take_until_bye<R: Wait>(&mut self, rt: &R, outlet: &Outlet, port: u32)
         requires receives { ReceivesFrom outlet.now self.old }
@@ -70,7 +70,7 @@ impl Receiver {
         unreachable!()
     }
 
-    /// Ties what was taken of a port to what it sent.
+    /// Relates the messages taken of a port to those that it sent.
     #[tactic(auto, using(crate::proofs::Receivers::continues_same))]
     pub(crate) fn meet<R: Wait>(&mut self, rt: &R, outlet: &Outlet, port: Port)
         requires receives { ReceivesFrom outlet.now self.old }
@@ -83,7 +83,7 @@ impl Receiver {
         outlet.meet(rt, &mut self.tap, port);
     }
 
-    /// Takes in a message, if one waits.
+    /// Takes a message, if one waits, and returns whether one did.
     fn take_in<R: Wait>(&mut self, rt: &R, outlet: &Outlet) -> bool
         requires { ReceivesFrom outlet.now self.old }
         ensures continues { Continues outlet.now self.old self.new }
@@ -100,7 +100,7 @@ impl Receiver {
     }
 }
 
-/// Notes of which port a Bye is.
+/// If a message is a Bye, records that its port has ended.
 fn note_bye(ended: &mut Vec<bool>, message: &Message)
     requires { message.now.port < length ended.old.items }
     ensures ports { length ended.new.items ≡ length ended.old.items }

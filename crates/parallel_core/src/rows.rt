@@ -1,4 +1,4 @@
-//! Where a worker has the rows of its tasks from.
+//! The rows of tasks, as a worker gets them.
 
 ghost use Rattle.std.specs.Prelude.{◌≡◌, ◌<◌, ◌≤◌, List, length, IfOk};
 ghost use Rattle.relation_core.specs.JoinRelations.{relation_of};
@@ -10,18 +10,18 @@ use descent_core::{Plan, row};
 use relation_core::JoinRelation;
 use std::alloc::{AllocError, Global};
 
-/// What gives the rows of numbered tasks. Threads share it in place of the plan, which has a
-/// lifetime of its own.
+/// Provides the rows of numbered tasks. Threads share it in place of the plan, which has a lifetime
+/// parameter.
 pub trait Rows {
     /// The tasks, in the order of their numbers.
     ghost tasks: { Self → List (Node × Node) };
 
-    /// How many tasks there are.
+    /// The number of tasks.
     fn len(&self) -> u32
         ensures len { result ≡ length (tasks self.now) }
         ensures few { result ≤ most_tasks };
 
-    /// The row of the task of this number.
+    /// The row of the task with this number.
     fn row_of(
         &self,
         alloc: Global,

@@ -1,4 +1,4 @@
-//! Scripts, as they are sent: the batches of a task's row, and then its end.
+//! Sending scripts: the batches of a task's row, and then its end.
 
 ghost use Rattle.std.specs.Prelude.{◌≡◌, ◌<◌, ◌++◌, ◌∷◌, [], false, IfErr, IfOk};
 ghost use Rattle.deliver_core.specs.Byes.{is_bye_body};
@@ -10,8 +10,8 @@ use deliver_core::{Body, Message, Outlet, Port};
 use std::alloc::{AllocError, Global};
 use std::sync::Wait;
 
-/// Sends the script of a task: its row in batches of so many pairs, the last of which is what is
-/// left, and then the end. Where memory is refused, it stops after a whole message.
+/// Sends the script of a task: its row in batches of `batch` pairs, the last of which may have
+/// fewer, and then the end. If an allocation fails, it stops between two messages.
 #[tactic(auto, using(crate::proofs::Scripts::says_part))]
 pub(crate) fn send_script<R: Wait>(
     rt: &R,
@@ -37,7 +37,7 @@ pub(crate) fn send_script<R: Wait>(
     Ok(())
 }
 
-/// Sends a batch of a task, or nothing where memory is refused.
+/// Sends a batch of a task, or nothing if an allocation fails.
 fn send_batch<R: Wait>(
     rt: &R,
     alloc: Global,
@@ -57,7 +57,7 @@ fn send_batch<R: Wait>(
     Ok(())
 }
 
-/// Sends what a message says of a task, which is no Bye.
+/// Sends a message of a task, which is no Bye.
 #[tactic(auto, using(crate::proofs::Scripts::says_one))]
 fn send<R: Wait>(rt: &R, outlet: &Outlet, port: &mut Port, task: u32, body: Body)
     requires port { IsOpenPort outlet.now port.old }

@@ -1,4 +1,4 @@
-//! A team of workers, each in a thread of its own, while their starter receives what they send.
+//! A team of workers, each in a thread of its own, while the starting thread receives.
 
 ghost use Rattle.std.specs.Prelude.{◌≡◌, ◌+◌, ◌≤◌, true, length, vec_capacity, IfSome, IfNone};
 ghost use Rattle.std.specs.Thread.{IsSync};
@@ -24,16 +24,16 @@ use std::sync::Wait;
 use std::thread;
 use std::thread::{Promise, Threads};
 
-/// The seats and ports of workers that are still to be started, and then the seats of those that
+/// The seats and ports of workers that are still to be started, and later the seats of those that
 /// have ended, in the order of their ports.
 #[derive(Drop)]
 pub(crate) struct Team {
     pub(crate) seats: Vec<BoardSeat>,
     pub(crate) ports: Vec<Port>,
     pub(crate) receiver: Receiver,
-    /// Whether there was a thread for each worker.
+    /// Whether a thread was started for each worker.
     pub(crate) all_started: bool,
-    /// Whether each worker that has ended was ok.
+    /// Whether each worker that has ended was successful.
     pub(crate) all_ok: bool,
 }
 
@@ -73,7 +73,7 @@ impl Team {
     }
 }
 
-/// What a worker's thread gives back, by what it was given.
+/// The promise of a worker's thread on its result, given its inputs.
 #[derive(Drop)]
 struct Working<'a, P, G> {
     shared: Shared<'a, P, G>,
@@ -84,10 +84,10 @@ impl<'a, P: Rows, G> Promise<Worked> for Working<'a, P, G> {
     ghost kept_by = { λ p w. ComesBack (shared_of P.tasks p.shared) p.index w };
 }
 
-/// Runs the workers of a team side by side, and receives until all that were started have ended.
+/// Runs the workers of a team in parallel, and receives until all that were started have ended.
 ///
-/// The next worker gets a thread, the rest of the team runs, and then what is left of the worker's
-/// messages is taken. Each level takes the messages of all ports, so none waits for another.
+/// It starts the next worker in a thread, runs the rest of the team, and then takes the worker's
+/// remaining messages. Each level takes the messages of all ports, so no worker waits for another.
 pub(crate) fn run<'a, R: Threads + Wait + Sync, P: Rows + Sync, G: Gate + Sync>(
     rt: &R,
     alloc: Global,
@@ -104,7 +104,7 @@ pub(crate) fn run<'a, R: Threads + Wait + Sync, P: Rows + Sync, G: Gate + Sync>(
         return team;
     };
     let index = port.index();
-    // A closure that captured the struct itself would have no contract.
+    // A closure that captures the struct itself would have no contract.
     let Shared {
         plan,
         relation,

@@ -1,4 +1,4 @@
-//! The worker: it processes tasks until the board has none left.
+//! The worker, which processes tasks until the board has none left.
 
 ghost use Rattle.std.specs.Prelude.{◌≡◌, ◌<◌, ◌≤◌, ◌∷◌, [], true, length, IfErr, IfOk};
 ghost use Rattle.relation_core.specs.JoinRelations.{relation_of};
@@ -23,18 +23,18 @@ use std::alloc::{AllocError, Global};
 use std::sync::Wait;
 use std::thread::Threads;
 
-/// A worker's seat and port, when it has said bye.
+/// A worker's seat and port after it has said bye.
 #[derive(Drop)]
 pub struct Worked {
     pub seat: BoardSeat,
     pub port: Port,
-    /// Whether it has processed tasks until none was left; false where memory was refused.
+    /// Whether it has processed tasks until none was left; false if an allocation failed.
     pub ok: bool,
 }
 
-/// Draws tasks and sends the script of each, until there are none left, and then says bye. Before
-/// each task it enters the gate. Where memory is refused, it stops after a whole message and says
-/// bye with false.
+/// Draws tasks and sends the script of each until none is left, and then says bye. Before each task
+/// it enters the gate. If an allocation fails, it stops between two messages and says bye with
+/// false.
 pub fn worker<'a, R: Threads + Wait + Sync>(
     rt: &R,
     alloc: Global,
@@ -68,7 +68,7 @@ pub fn worker<'a, R: Threads + Wait + Sync>(
     work(rt, alloc, &shared, seat, port)
 }
 
-/// A worker whose tasks' rows come from anything that has them, as a plan does.
+/// A worker that takes the rows of its tasks from any [`Rows`].
 #[tactic(auto, using(crate::proofs::Workers::comes_back))]
 pub(crate) fn work<R: Threads + Wait + Sync, P: Rows, G: Gate>(
     rt: &R,
@@ -89,7 +89,7 @@ pub(crate) fn work<R: Threads + Wait + Sync, P: Rows, G: Gate>(
     Worked { seat, port, ok }
 }
 
-/// Processes tasks until the seat meets the end of them.
+/// Processes tasks until the seat meets the end of the numbers.
 #[tactic(auto, using(crate::proofs::Workers::stopped))]
 fn process_tasks<R: Threads + Wait + Sync, P: Rows, G: Gate>(
     rt: &R,

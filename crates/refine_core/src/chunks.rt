@@ -3,18 +3,18 @@
 ghost use Rattle.std.specs.Prelude.{◌≡◌, ◌*◌, ◌<◌, ◌≤◌, ℕ, length};
 ghost use Rattle.refine_core.specs.Chunks.{most_chunks, chunk_size, chunk_of, IsChunkNumber};
 
-/// The most chunks of a list: many more than workers, so that a pair that takes long to decide
-/// keeps few others waiting, and so few that what each chunk costs doesn't count.
+/// The greatest number of chunks: many more than workers, so that a pair that takes long to decide
+/// delays few others, and few enough that the cost per chunk is negligible.
 const MAX_CHUNKS: usize = 4096;
 
-/// How many pairs a chunk of a list of this many pairs has; the last may have fewer.
+/// The number of pairs in a chunk of a list of `len` pairs; the last chunk may have fewer.
 fn chunk_size(len: usize) -> usize
     ensures { result ≡ chunk_size len }
 {
     len / MAX_CHUNKS + 1
 }
 
-/// How many chunks a list of this many pairs has.
+/// The number of chunks of a list of `len` pairs.
 pub(crate) fn chunk_count(len: usize) -> u32
     ensures few { result ≤ most_chunks }
     ensures numbers { (number : ℕ) → number < result → IsChunkNumber len number }
@@ -23,7 +23,7 @@ pub(crate) fn chunk_count(len: usize) -> u32
     len.div_ceil(chunk_size(len)) as u32
 }
 
-/// The chunk of this number.
+/// The chunk with this number.
 pub(crate) fn chunk(pairs: &[(u32, u32)], number: u32) -> &[(u32, u32)]
     requires { IsChunkNumber (length pairs.now) number }
     ensures { result.now ≡ chunk_of pairs.now number }

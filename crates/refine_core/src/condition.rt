@@ -6,25 +6,25 @@ ghost use Rattle.refine_core.specs.Refinements.{IsDecision};
 use std::alloc::{AllocError, Global};
 
 /// A condition on a left and a right feature, each given by its number, such as a relation of their
-/// geometries. A filter finds the pairs that are near, and [`Condition::decide`] tells which of
-/// these stand in the condition.
+/// geometries. A filter finds the pairs that are near, and [`Condition::decide`] decides which of
+/// these satisfy the condition.
 pub trait Condition {
-    /// What is kept of each pair that stands, such as its matrix.
+    /// The value kept for each pair that satisfies the condition, such as its matrix.
     type Answer;
 
     /// The pairs that the filter finds, such as those whose boxes meet.
     ghost near: { Self → ℕ → ℕ → Type 0 };
 
-    /// The pairs that stand in the condition.
+    /// The pairs that satisfy the condition.
     ghost stands: { Self → ℕ → ℕ → Type 0 };
 
-    /// What may be kept of a pair that stands.
+    /// The answers that are correct for a pair that satisfies the condition.
     ghost answers: { Self → ℕ → ℕ → Self.Answer → Type 0 };
 
-    /// Decides whether a near pair stands: an answer where it does, and `None` where it doesn't.
+    /// Decides whether a near pair satisfies the condition: its answer if it does, else `None`.
     ///
     /// # Errors
-    /// Memory was refused.
+    /// If an allocation fails.
     fn decide(
         &self,
         alloc: Global,
@@ -35,6 +35,6 @@ pub trait Condition {
         ensures { let condition = self.now in
             IfOk result (IsDecision (stands condition) (answers condition) (left, right)) };
 
-    /// The filter misses no pair that stands.
+    /// The filter misses no pair that satisfies the condition.
     ghost stands_near: { (c : Self) (left right : ℕ) → stands c left right → near c left right };
 }

@@ -1,4 +1,4 @@
-//! What workers have refined, put into the order of the list.
+//! Putting the results of the workers into the order of the list.
 
 ghost use Rattle.std.specs.Prelude.{◌≡◌, ◌<◌, ◌++◌, ℕ, All, Contains, IfOk, OnOk, IsOk, length};
 ghost use Rattle.std.specs.Prelude.{flat_map};
@@ -9,7 +9,7 @@ use crate::worker::{Part, Share};
 use deliver_core::BoardSeat;
 use std::alloc::{AllocError, Global};
 
-/// The seats of all workers and the parts of all chunks, unless memory was refused to a worker.
+/// The seats of all workers and the parts of all chunks, or the error of a worker.
 pub(crate) fn gather<A: Drop>(
     alloc: Global,
     shares: Vec<Result<Share<A>, AllocError>>,
@@ -31,7 +31,7 @@ pub(crate) fn gather<A: Drop>(
     Ok((seats, parts))
 }
 
-/// What stands of each chunk, in the order of the chunks.
+/// The pairs of each chunk that satisfy the condition, in the order of the chunks.
 pub(crate) fn rows_of<A: Drop>(
     alloc: Global,
     chunks: u32,
@@ -49,7 +49,7 @@ pub(crate) fn rows_of<A: Drop>(
     Ok(rows)
 }
 
-/// So many empty rows.
+/// `chunks` empty rows.
 fn empty_rows<A: Drop>(alloc: Global, chunks: u32) -> Result<Vec<Vec<Refined<A>>>, AllocError>
     ensures { IfOk result (λ rows. length rows.items ≡ chunks) }
 {
@@ -60,7 +60,7 @@ fn empty_rows<A: Drop>(alloc: Global, chunks: u32) -> Result<Vec<Vec<Refined<A>>
     Ok(rows)
 }
 
-/// The rows one after another.
+/// The rows, concatenated.
 pub(crate) fn join_rows<A: Drop>(
     alloc: Global,
     rows: Vec<Vec<Refined<A>>>,

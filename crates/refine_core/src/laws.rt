@@ -6,8 +6,8 @@ ghost use Rattle.refine_core.specs.Refinements.{AreRefined, HoldsEachOnce, pairs
 
 use crate::condition::Condition;
 
-/// Law of filter and refinement, for any condition: of a list that holds each near pair once and no
-/// other, those that stand are each standing pair once and no other.
+/// Law of filter and refinement, for any condition: if a list contains each near pair once and no
+/// other, then the pairs of it that satisfy the condition are all such pairs, each once.
 pub fn refinement_law<C: Condition>(condition: &C)
     ensures each_once { let stands = C.stands condition.now in
         let answers = C.answers condition.now in

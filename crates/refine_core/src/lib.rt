@@ -1,4 +1,4 @@
-//! Refinement: which pairs of a list stand in a condition, as threads decide it, with the answer of
+//! Refinement: threads decide which pairs of a list satisfy a condition, and return the answer of
 //! each.
 #![tactic(auto)]
 

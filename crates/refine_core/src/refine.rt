@@ -19,14 +19,14 @@ use std::alloc::{AllocError, Global};
 use std::thread;
 use std::thread::Threads;
 
-/// The pairs of a list that stand in a condition, in the order of the list, each with its answer.
-/// `workers` workers decide them, the caller's thread among them: one worker starts no thread.
+/// The pairs of a list that satisfy a condition, in the order of the list, each with its answer.
+/// `workers` workers decide them, including the caller's thread: one worker starts no thread.
 ///
-/// Each worker draws chunks of the list until none is left. Where a thread can't be started, the
+/// Each worker draws chunks of the list until none is left. If a thread can't be started, the
 /// others do its work.
 ///
 /// # Errors
-/// Memory was refused.
+/// If an allocation fails.
 pub fn refine_pairs<C: Condition + Sync, R: Threads + Sync>(
     rt: &R,
     alloc: Global,
@@ -51,7 +51,8 @@ where
     refine_by_workers(rt, alloc, condition, pairs, workers)
 }
 
-/// What stands of a list. It starts no thread where there is one worker, or one pair at most.
+/// The pairs of a list that satisfy the condition. With one worker, or at most one pair, it starts
+/// no thread.
 fn refine_by_workers<C: Condition + Sync, R: Threads + Sync>(
     rt: &R,
     alloc: Global,
@@ -79,7 +80,7 @@ where
     join_rows(alloc, rows)
 }
 
-/// What each worker gives, which has one of these seats.
+/// The results of the workers, one for each of these seats.
 fn run_workers<C: Condition + Sync, R: Threads + Sync>(
     rt: &R,
     alloc: Global,

@@ -1,4 +1,4 @@
-//! A worker: it draws chunks from the board until none is left, and refines each.
+//! A worker, which draws chunks from the board until none is left, and refines each.
 
 ghost use Rattle.std.specs.Prelude.{◌≡◌, ◌<◌, ◌++◌, ℕ, All, IfOk, OnOk, length};
 ghost use Rattle.deliver_core.specs.Boards.{fresh_seat};
@@ -12,14 +12,14 @@ use crate::refined::Refined;
 use deliver_core::{Board, BoardSeat};
 use std::alloc::{AllocError, Global};
 
-/// What stands of a chunk.
+/// The pairs of a chunk that satisfy the condition.
 #[derive(Drop)]
 pub(crate) struct Part<A> {
     pub(crate) chunk: u32,
     pub(crate) refined: Vec<Refined<A>>,
 }
 
-/// A worker's seat, which has met the end of the chunks, and the parts of those that it drew.
+/// A worker's seat, which has met the end of the chunks, and the parts of the chunks that it drew.
 #[derive(Drop)]
 pub(crate) struct Share<A> {
     pub(crate) seat: BoardSeat,
@@ -77,7 +77,7 @@ where
     Ok(refined)
 }
 
-/// Adds a pair that has an answer.
+/// Adds a pair if it has an answer.
 fn push_found<A: Drop>(
     refined: &mut Vec<Refined<A>>,
     pair: (u32, u32),

@@ -3,16 +3,16 @@
 use atomic_table::{Join, Play, Split, TableRule};
 use std::collections::LinkedList;
 
-/// The numbers of tasks and of seats that a board is made for.
+/// The number of tasks and of seats of a board.
 #[derive(Clone, Copy)]
 pub struct Size {
     pub tasks: u32,
     pub seats: u32,
 }
 
-/// What a seat at the board's table knows: the board's numbers of tasks and of seats, how many of
-/// these seats it stands for (its parts), what they have drawn, and how many of their draws found
-/// no number. No value of it is made.
+/// What a seat at the board's table knows: the board's numbers of tasks and seats, the number of
+/// seats that it stands for (its parts), the numbers that they have drawn, and how many of their
+/// draws found no number. No value of this type is ever made.
 pub struct SeatView {
     pub tasks: u32,
     pub seats: u32,
@@ -21,7 +21,7 @@ pub struct SeatView {
     pub over: u32,
 }
 
-/// The numbers below the word, as far as there are tasks, were drawn, each once.
+/// Each number below the word that is a task's was drawn once.
 pub struct EachOnce;
 
 impl TableRule<(), SeatView, Size> for EachOnce {
@@ -42,7 +42,7 @@ impl Play<(), SeatView> for Draw {
     ghost then = { Drew };
 }
 
-/// One of the seats that a view stands for goes to a view of its own.
+/// Gives one of the seats that a view stands for a view of its own.
 pub struct SplitSeat;
 
 impl Split<SeatView> for SplitSeat {
@@ -54,7 +54,7 @@ impl Split<SeatView> for SplitSeat {
     ghost right = { λ v. seat_view v.tasks v.seats 1 [] 0 };
 }
 
-/// One view takes over another's seats and what they drew.
+/// Adds another view's seats, and the numbers that they drew, to this view.
 pub struct JoinSeats;
 
 impl Join<SeatView> for JoinSeats {

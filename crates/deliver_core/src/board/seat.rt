@@ -6,8 +6,8 @@ use super::rule::SeatView;
 use atomic_table::Seat;
 use std::marker::Model;
 
-/// The right of one worker to draw from one board. It counts what it has drawn; the numbers
-/// themselves only contracts see.
+/// The right of one worker to draw from one board. It counts the numbers that it has drawn; the
+/// numbers themselves are visible to contracts only.
 #[derive(Drop)]
 pub struct BoardSeat {
     /// The seat at the board's table, until the board is closed.
@@ -43,7 +43,7 @@ impl BoardSeat {
         }
     }
 
-    /// Takes the seat at the table out, and leaves the seat spent.
+    /// Takes out the seat at the table, and leaves this seat spent.
     pub(super) fn retire(&mut self) -> Seat<(), SeatView>
         requires { IsSome self.old.board }
         ensures spent { self.new ≡ spent_seat self.old }
@@ -57,7 +57,7 @@ impl BoardSeat {
         place
     }
 
-    /// How many numbers it has drawn.
+    /// The number of draws that gave a number.
     pub fn count(&self) -> u32
         ensures count { result ≡ self.now.count }
         ensures drawn { IsSome self.now.board → result ≡ length self.now.drawn }
