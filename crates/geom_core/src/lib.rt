@@ -1,4 +1,4 @@
-//! Shapes on the grid of whole numbers, as sets of its cells.
+//! Shapes on the integer grid, as sets of its cells.
 #![tactic(auto)]
 
 mod sets;

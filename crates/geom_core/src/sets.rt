@@ -1,4 +1,4 @@
-//! How two shapes lie as sets of points: which contains which, and whether their interiors meet.
+//! The relations of two shapes as sets of points: containment, and whether their interiors meet.
 
 use crate::shape::Shape;
 use crate::span::Span;
@@ -7,7 +7,7 @@ impl Span {
     ghost use Rattle.std.specs.Prelude.{◌≡◌, ◌<ℤ◌, ℤ, ◌↔◌, IsTrue};
     ghost use Rattle.geom_core.specs.Cells.{IsInner, IsWithin};
 
-    /// Whether each number of the interval is one of the other.
+    /// Whether each number of the interval is in the other.
     #[inline(always)]
     #[tactic(auto, using(crate::proofs::SetLaws::inside))]
     fn is_in(&self, other: &Span) -> bool
@@ -16,7 +16,7 @@ impl Span {
         other.lo <= self.lo && self.hi <= other.hi
     }
 
-    /// Whether each begins before the other ends.
+    /// Whether each starts before the other ends.
     #[inline(always)]
     fn interleaves(&self, other: &Span) -> bool
         ensures { IsTrue result
@@ -34,7 +34,7 @@ impl Span {
         self.lo == other.lo && self.hi == other.hi
     }
 
-    /// Whether the inner parts share a number: a single number is its own inner part.
+    /// Whether the inner parts share a number; a single number is its own inner part.
     #[inline(always)]
     #[tactic(auto, using(crate::proofs::SetLaws::inner_meeting))]
     fn inner_meets(&self, other: &Span) -> bool
@@ -49,7 +49,7 @@ impl Shape {
     ghost use Rattle.geom_core.specs.Cells.{IsIn};
     ghost use Rattle.geom_core.specs.Sets.{AreSameSet, AreTouching, InteriorsMeet, LiesWithin};
 
-    /// Whether the closed shapes share a point, and their interiors none.
+    /// Whether the closed shapes share a point, and their interiors share none.
     #[inline(always)]
     pub fn touches(&self, other: &Shape) -> bool
         ensures { IsTrue result ↔ AreTouching self.now other.now }
@@ -75,7 +75,7 @@ impl Shape {
         inside && other.is_in(self)
     }
 
-    /// Whether each point of the closed shape is one of the other.
+    /// Whether each point of the closed shape is a point of the other.
     #[inline(always)]
     #[tactic(auto, using(crate::proofs::SetLaws::axes_in))]
     pub fn is_in(&self, other: &Shape) -> bool

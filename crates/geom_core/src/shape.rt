@@ -1,4 +1,4 @@
-//! A point, an axis-parallel segment or a rectangle, by its corners.
+//! A point, axis-parallel segment or rectangle, given by its corners.
 
 use crate::span::{LIMIT, Span};
 
@@ -7,9 +7,9 @@ pub type Area = u128;
 
 /// The closed set of points from the corner `(x1, y1)` to the corner `(x2, y2)`.
 ///
-/// Where both corners are one it is a point, where they share one coordinate a segment along an
-/// axis, and else a rectangle (OGC 06-103r4, 6.1.4, 6.1.7 and 6.1.11, for these three kinds).
-/// Each coordinate is a whole number from `-LIMIT` to `LIMIT`.
+/// It is a point if the corners are equal, an axis-parallel segment if they share one coordinate,
+/// and otherwise a rectangle (OGC 06-103r4, 6.1.4, 6.1.7 and 6.1.11, for these three kinds).
+/// Each coordinate is an integer from `-LIMIT` to `LIMIT`.
 #[derive(Clone, Copy, Debug, PartialEq, Eq)]
 pub struct Shape {
     x: Span,
@@ -22,8 +22,8 @@ impl Shape {
     ghost use Rattle.geom_core.specs.Shapes.{x1, y1, x2, y2, AreCorners, HasCorners, area_of};
     ghost use Rattle.geom_core.specs.Shapes.{greatest_area, cover_of, dim_of};
 
-    /// The shape from `(x1, y1)` to `(x2, y2)`, or `None` where these are out of order or a
-    /// coordinate is out of range.
+    /// The shape from `(x1, y1)` to `(x2, y2)`, or `None` if these are out of order or a coordinate
+    /// is out of range.
     pub fn new(x1: i64, y1: i64, x2: i64, y2: i64) -> Option<Shape>
         ensures some { IsSome result ↔ AreCorners x1 y1 x2 y2 }
         ensures corners { IfSome result (HasCorners x1 y1 x2 y2) }
@@ -33,7 +33,7 @@ impl Shape {
         Some(Shape { x, y })
     }
 
-    /// What the shape covers of the first axis.
+    /// The extent of the shape along the first axis.
     #[inline(always)]
     pub fn x(&self) -> &Span
         ensures { result.now ≡ self.now.x }
@@ -41,7 +41,7 @@ impl Shape {
         &self.x
     }
 
-    /// What the shape covers of the second axis.
+    /// The extent of the shape along the second axis.
     #[inline(always)]
     pub fn y(&self) -> &Span
         ensures { result.now ≡ self.now.y }

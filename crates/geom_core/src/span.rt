@@ -1,4 +1,4 @@
-//! A closed interval of whole numbers: what a shape covers of one axis.
+//! A closed interval of integers: the extent of a shape along one axis.
 
 ghost use Rattle.std.specs.Prelude.{◌≤ℤ◌, pos, neg_ℤ};
 ghost use Rattle.geom_core.specs.Limits.{greatest_coordinate};
@@ -8,7 +8,7 @@ use crate::shape::Area;
 /// The greatest absolute value of a coordinate.
 pub const LIMIT: i64 = 1_000_000_000_000;
 
-/// A closed interval of one axis, at most from `-LIMIT` to `LIMIT`.
+/// A closed interval of one axis, within `-LIMIT` to `LIMIT`.
 #[derive(Clone, Copy, Debug, PartialEq, Eq)]
 pub struct Span {
     pub lo: i64,
@@ -23,7 +23,7 @@ impl Span {
     ghost use Rattle.geom_core.specs.Cells.{IsWithin};
     ghost use Rattle.geom_core.specs.Shapes.{AreEnds, joined, span_dim};
 
-    /// The interval from `lo` to `hi`, or `None` where these are out of order or out of range.
+    /// The interval from `lo` to `hi`, or `None` if these are out of order or out of range.
     pub fn new(lo: i64, hi: i64) -> Option<Span>
         ensures some { IsSome result ↔ AreEnds lo hi }
         ensures lo { IfSome result (λ s. s.lo ≡ lo) }
@@ -36,7 +36,7 @@ impl Span {
         }
     }
 
-    /// 1 where the ends differ, else 0.
+    /// 1 if the ends differ, otherwise 0.
     #[inline(always)]
     pub fn dim(&self) -> u8
         ensures { result ≡ span_dim self.now }
@@ -63,7 +63,7 @@ impl Span {
         Span { lo, hi }
     }
 
-    /// How far the end is from the beginning.
+    /// The difference of the two ends.
     #[inline(always)]
     pub fn length(&self) -> Area
         ensures { result ≡ nat_abs (self.now.hi -ℤ self.now.lo) }

@@ -1,7 +1,7 @@
-//! What the parts of two intervals of one axis share, each part taken narrowly and widely.
+//! The intersections of the parts of two intervals of one axis, by narrow and wide zones.
 //!
-//! A part of the plane is made of two products of zones of the axes, a narrow zone of one axis by
-//! a wide zone of the other:
+//! A part of the plane is the union of two products of zones of the axes, each of them the narrow
+//! zone of one axis by the wide zone of the other:
 //!
 //! | Part | Narrow zone | Wide zone |
 //! |---|---|---|
@@ -15,7 +15,8 @@ ghost use Rattle.relation_core.specs.Axes.{larger_of, joined_row, widened, pairs
 use crate::meeting::{Meeting, Shared};
 use crate::part::Parts;
 
-/// What the two zones of a part of the first interval share with those of a part of the second.
+/// The intersections of the two zones of a part of the first interval with those of a part of the
+/// second.
 #[derive(Clone, Copy)]
 pub struct ZonePairs {
     pub narrow_narrow: Shared,
@@ -24,7 +25,7 @@ pub struct ZonePairs {
     pub wide_wide: Shared,
 }
 
-/// What is shared with two sets together.
+/// The intersection with the union of two sets, given that with each.
 #[inline(always)]
 pub fn larger(a: Shared, b: Shared) -> Shared
     ensures { result ≡ larger_of a b }
@@ -38,7 +39,7 @@ pub fn larger(a: Shared, b: Shared) -> Shared
     }
 }
 
-/// What two zones of the first interval share together with each zone of the second.
+/// The intersections of the union of two zones of the first interval with each zone of the second.
 #[inline(always)]
 fn join(a: Parts<Shared>, b: Parts<Shared>) -> Parts<Shared>
     ensures { result ≡ joined_row a b }
@@ -50,7 +51,7 @@ fn join(a: Parts<Shared>, b: Parts<Shared>) -> Parts<Shared>
     }
 }
 
-/// What a zone of the first interval shares with each wide zone of the second.
+/// The intersections of a zone of the first interval with each wide zone of the second.
 #[inline(always)]
 fn widen(row: Parts<Shared>) -> Parts<Shared>
     ensures { result ≡ widened row }
@@ -63,7 +64,7 @@ fn widen(row: Parts<Shared>) -> Parts<Shared>
     }
 }
 
-/// What a part of the first interval shares with each part of the second.
+/// The intersections of a part of the first interval with each part of the second.
 #[inline(always)]
 fn pairs(narrow: Parts<Shared>, wide: Parts<Shared>) -> Parts<ZonePairs>
     ensures { result ≡ pairs_of narrow wide }
@@ -92,7 +93,7 @@ fn pairs(narrow: Parts<Shared>, wide: Parts<Shared>) -> Parts<ZonePairs>
     }
 }
 
-/// What each part of the first interval shares with each part of the second.
+/// The intersections of each part of the first interval with each part of the second.
 #[inline(always)]
 pub fn axis_table(meeting: Meeting) -> Parts<Parts<ZonePairs>>
     ensures { result ≡ axis_of meeting }

@@ -1,15 +1,15 @@
-//! What two parts of the plane share: the entries of a matrix.
+//! The dimension of the intersection of two parts of the plane: an entry of a matrix.
 
 /// The greatest dimension of the intersection of two parts.
 #[derive(Clone, Copy, Debug, PartialEq, Eq)]
 pub enum Extent {
-    /// They share nothing.
+    /// The intersection is empty.
     Empty,
-    /// They share points alone.
+    /// The intersection consists of points only.
     Point,
-    /// They share a piece of a line, and no area.
+    /// The intersection contains a piece of a line, but no area.
     Line,
-    /// They share an area.
+    /// The intersection contains an area.
     Area,
 }
 

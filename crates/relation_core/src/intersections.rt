@@ -1,4 +1,4 @@
-//! The matrix of two shapes, from how they lie along each axis.
+//! The matrix of two shapes, from their meetings along each axis.
 
 ghost use Rattle.std.specs.Prelude.{◌≡◌};
 ghost use Rattle.relation_core.specs.Axes.{entries_of, entry_of, product_of, larger_extent};
@@ -13,10 +13,10 @@ use crate::part::Parts;
 use geom_core::Shape;
 
 /// The nine-intersection matrix of `a` and `b`: for each part of `a` and each part of `b` the
-/// greatest dimension of what they share (OGC 06-103r4, 6.1.15.2).
+/// dimension of their intersection (OGC 06-103r4, 6.1.15.2).
 ///
-/// The boundary of a point is empty, that of a segment its two ends, that of a rectangle its ring
-/// (OGC 06-103r4, 6.1.4, 6.1.6 and 6.1.10).
+/// The boundary of a point is empty, that of a segment consists of its two ends, and that of a
+/// rectangle is its ring (OGC 06-103r4, 6.1.4, 6.1.6 and 6.1.10).
 #[tactic(auto, using(crate::proofs::PartLemmas::matrix_holds))]
 pub fn relate(a: &Shape, b: &Shape) -> Matrix
     ensures { IsMatrix a.now b.now result }
@@ -24,7 +24,7 @@ pub fn relate(a: &Shape, b: &Shape) -> Matrix
     matrix_by(Meeting::of(a.x(), b.x()), Meeting::of(a.y(), b.y()))
 }
 
-/// The matrix of two shapes that lie so along each axis.
+/// The matrix of two shapes with these meetings along the two axes.
 #[inline(always)]
 pub(crate) fn matrix_by(x: Meeting, y: Meeting) -> Matrix
     ensures { result ≡ matrix_by x y }
@@ -39,7 +39,7 @@ pub(crate) fn matrix_by(x: Meeting, y: Meeting) -> Matrix
     Matrix { rows }
 }
 
-/// What a part of the first shape shares with each part of the second.
+/// The intersections of a part of the first shape with each part of the second.
 #[inline(always)]
 fn entries(x: &Parts<ZonePairs>, y: &Parts<ZonePairs>) -> Parts<Extent>
     ensures { result ≡ entries_of x.now y.now }
@@ -51,7 +51,8 @@ fn entries(x: &Parts<ZonePairs>, y: &Parts<ZonePairs>) -> Parts<Extent>
     }
 }
 
-/// What two parts share: each is made of two products of zones, so four pairs of products meet.
+/// The intersection of two parts. Each is the union of two products of zones, so four pairs of
+/// products meet.
 #[inline(always)]
 fn entry(x: &ZonePairs, y: &ZonePairs) -> Extent
     ensures { result ≡ entry_of x.now y.now }
@@ -67,7 +68,7 @@ fn entry(x: &ZonePairs, y: &ZonePairs) -> Extent
     larger(first, second)
 }
 
-/// What two products of zones share, where `x` and `y` are what their sides share.
+/// The intersection of two products of zones, where `x` and `y` are those of their factors.
 #[inline(always)]
 fn product(x: Shared, y: Shared) -> Extent
     ensures { result ≡ product_of x y }

@@ -25,7 +25,7 @@ impl AllowsDisjoint {
     ghost use Rattle.std.specs.Prelude.{◌≡◌};
     ghost use Rattle.relation_core.specs.FaultTexts.{allows_disjoint_text};
 
-    /// What a user reads of the fault.
+    /// The text of the fault, as the user reads it.
     pub fn text(&self) -> &'static str
         ensures { result.now ≡ allows_disjoint_text }
     {
@@ -39,10 +39,10 @@ impl JoinRelation {
     ghost use Rattle.relation_core.specs.Relations.{Holds, HoldsForDisjoint};
     ghost use Rattle.relation_core.specs.JoinRelations.{relation_of};
 
-    /// The relation, if no two disjoint shapes of any dimensions stand in it.
+    /// The relation, if it holds for no two disjoint shapes of any dimensions.
     ///
     /// # Errors
-    /// `AllowsDisjoint` where two such shapes do.
+    /// `AllowsDisjoint` if it holds for two such shapes.
     pub fn new(relation: Relation) -> Result<JoinRelation, AllowsDisjoint>
         ensures ok { IsOk result ↔ ForbidsDisjoint relation }
         ensures same { IfOk result (λ join. relation_of join ≡ relation) }
@@ -65,7 +65,7 @@ impl JoinRelation {
     }
 
     /// Whether the relation holds for two shapes, which then meet. This is the inner test of a
-    /// join: shapes that don't meet cost four comparisons.
+    /// join: shapes that don't meet cost at most four comparisons.
     #[inline(always)]
     pub fn holds(&self, a: &Shape, b: &Shape) -> bool
         ensures holds { IsTrue result ↔ Holds (relation_of self.now) a.now b.now }
@@ -94,7 +94,7 @@ fn allows_disjoint(relation: &Relation) -> bool
     false
 }
 
-/// Whether a mask fits where the first of the two disjoint shapes has this dimension.
+/// Whether a mask fits the matrix of two disjoint shapes, the first of which has this dimension.
 fn allows_disjoint_after(relation: &Relation, first_dim: u8) -> bool
     requires { first_dim < 3 }
     ensures { IsTrue result ↔
@@ -133,7 +133,7 @@ fn disjoint_matrix(first_dim: u8, second_dim: u8) -> Matrix
     }
 }
 
-/// What the interior of a shape of this dimension amounts to.
+/// The dimension of the interior of a shape of this dimension.
 fn interior_extent(dim: u8) -> Extent
     ensures { result ≡ interior_extent dim }
 {
@@ -144,7 +144,7 @@ fn interior_extent(dim: u8) -> Extent
     }
 }
 
-/// What its boundary amounts to.
+/// The dimension of its boundary.
 fn boundary_extent(dim: u8) -> Extent
     ensures { result ≡ boundary_extent dim }
 {

@@ -1,4 +1,4 @@
-//! The letters of matrices, looked up by how two shapes lie along each axis.
+//! The letters of matrices, looked up by the meetings of two shapes along the axes.
 
 ghost use Rattle.std.specs.Prelude.{◌≡◌, ◌<◌};
 ghost use Rattle.std.proofs.Props.{props};
@@ -19,11 +19,11 @@ struct NineLetters {
 /// The letters for one meeting along the first axis.
 #[derive(Drop)]
 struct LetterRow {
-    /// By the place of the meeting along the second axis.
+    /// By the index of the meeting along the second axis.
     columns: [NineLetters; 16],
 }
 
-/// The meetings, each at its place.
+/// The meetings, in the order of their indexes.
 const MEETINGS: [Meeting; 16] = [
     Meeting::Disjoint,
     Meeting::Meet,
@@ -43,11 +43,11 @@ const MEETINGS: [Meeting; 16] = [
     Meeting::PointsEqual,
 ];
 
-/// The letters of all matrices that two shapes can have, worked out once. A report needs those of
-/// each of its pairs, and a look-up costs less than working them out.
+/// The letters of all matrices that two shapes can have, computed once. A report needs those of
+/// each of its pairs, and a lookup costs less than computing them.
 #[derive(Drop)]
 pub struct Letters {
-    /// By the place of the meeting along the first axis.
+    /// By the index of the meeting along the first axis.
     rows: [LetterRow; 16],
     ghost all: { IsLetterTable rows } by { Prim.hlevel props },
 }
@@ -55,12 +55,12 @@ pub struct Letters {
 impl Letters {
     ghost use Rattle.relation_core.specs.Letters.{AreLetters};
 
-    /// Works out the letters.
+    /// Computes the letters.
     pub fn new() -> Letters {
         Letters { rows: rows() }
     }
 
-    /// The letters of the matrix of `a` and `b`, as `relate` and [`Matrix::text`] give them.
+    /// The letters of the matrix of `a` and `b`, equal to those of `relate` and [`Matrix::text`].
     ///
     /// [`Matrix::text`]: crate::Matrix::text
     #[inline(always)]
@@ -74,7 +74,7 @@ impl Letters {
     }
 }
 
-/// Where a meeting stands among all.
+/// The index of a meeting.
 #[inline(always)]
 fn place(meeting: Meeting) -> usize
     ensures place { result ≡ place_of meeting }
@@ -94,7 +94,7 @@ fn rows() -> [LetterRow; 16]
     )
 }
 
-/// The letters of shapes that lie so along the first axis, in a row.
+/// The letters for this meeting along the first axis, as a row.
 #[tactic(auto, using(crate::proofs::LetterLemmas::row_is))]
 fn row_of(x: Meeting) -> LetterRow
     ensures { IsLetterRow x result }
@@ -104,7 +104,7 @@ fn row_of(x: Meeting) -> LetterRow
     }
 }
 
-/// The letters of shapes that lie so along the first axis.
+/// The letters for this meeting along the first axis.
 fn columns(x: Meeting) -> [NineLetters; 16]
     ensures { AreColumns x result }
 {

@@ -1,4 +1,4 @@
-//! Masks of the matrix: nine places, each with a condition on its entry.
+//! Masks of the matrix: nine conditions, one on each entry.
 
 use crate::extent::Extent;
 use crate::matrix::Matrix;
@@ -15,10 +15,10 @@ pub struct Mask {
 /// Why a text is no mask.
 #[derive(Clone, Copy, Debug, PartialEq, Eq, Error)]
 pub enum MaskFault {
-    /// It hasn't nine bytes.
+    /// The text doesn't have nine bytes.
     #[error("not a name or a mask of nine letters")]
     Length,
-    /// At this place, counted from 0, is the first byte that is no letter of a mask.
+    /// The byte at this index is the first that is no letter of a mask.
     #[error("bad letter at place {0}")]
     Letter(u32),
 }
@@ -27,7 +27,7 @@ impl MaskFault {
     ghost use Rattle.std.specs.Prelude.{◌≡◌};
     ghost use Rattle.relation_core.specs.FaultTexts.{mask_words};
 
-    /// What a user reads of the fault, without the place.
+    /// The text of the fault, as the user reads it, without the index.
     pub fn text(&self) -> &'static str
         ensures { result.now ≡ mask_words self.now }
     {
@@ -43,10 +43,10 @@ impl Mask {
     ghost use Rattle.relation_core.specs.Masks.{Fits, HasBadLetter, SpellsMask, text_of};
 
     /// Reads nine letters of `T`, `F`, `*`, `0`, `1` and `2`, in the order of
-    /// [`Matrix::text`]; `T` and `F` may be small.
+    /// [`Matrix::text`]; `T` and `F` may be lower case.
     ///
     /// # Errors
-    /// `Length` where the text hasn't nine bytes, else `Letter` with the place of the first bad
+    /// `Length` if the text doesn't have nine bytes, else `Letter` with the index of the first bad
     /// byte.
     pub fn read(text: &[u8]) -> Result<Mask, MaskFault>
         ensures ok { (mask : Mask) → (result ≡ Ok mask) ↔ SpellsMask text.now mask }
@@ -62,7 +62,7 @@ impl Mask {
         Ok(Mask { rows })
     }
 
-    /// The nine letters, `T` and `F` as capitals.
+    /// The nine letters, with `T` and `F` in upper case.
     pub fn text(&self) -> [u8; 9]
         ensures { result ≡ text_of self.now }
     {
@@ -84,7 +84,7 @@ impl Mask {
         ]
     }
 
-    /// Whether each of the nine places allows its entry.
+    /// Whether each of the nine conditions allows its entry.
     #[inline(always)]
     pub fn fits(&self, matrix: &Matrix) -> bool
         ensures { IsTrue result ↔ Fits self.now matrix.now }
@@ -101,7 +101,7 @@ impl Default for Mask {
 
     ghost is_default = { λ mask. mask ≡ asks_nothing };
 
-    /// Nine `*`, which each matrix fits.
+    /// Nine `*`, which fits every matrix.
     fn default() -> Mask {
         let row = Parts {
             interior: PatternValue::Any,
@@ -122,7 +122,7 @@ ghost use Rattle.std.specs.Prelude.{◌≡◌, ℕ, ◌+◌, ◌<◌, ◌≤◌,
 ghost use Rattle.std.specs.Prelude.{IsTrue};
 ghost use Rattle.relation_core.specs.Masks.{FitsRow, IsLetterOf, SpellsRow, SpellsRows, TellsBad};
 
-/// The values that the nine bytes stand for, row by row.
+/// The conditions that the nine bytes stand for, row by row.
 fn read_rows(text: &[u8]) -> Result<Parts<Parts<PatternValue>>, MaskFault>
     requires { length text.now ≡ 9 }
     ensures ok { IfOk result (SpellsRows text.now) }
@@ -138,7 +138,7 @@ fn read_rows(text: &[u8]) -> Result<Parts<Parts<PatternValue>>, MaskFault>
     })
 }
 
-/// The values that the three bytes from `first` on stand for.
+/// The conditions that the three bytes from index `first` stand for.
 fn read_row(text: &[u8], first: u32) -> Result<Parts<PatternValue>, MaskFault>
     requires within { first + 3 ≤ length text.now }
     requires short { length text.now ≡ 9 }
@@ -155,7 +155,7 @@ fn read_row(text: &[u8], first: u32) -> Result<Parts<PatternValue>, MaskFault>
     })
 }
 
-/// The value that the byte at a place stands for.
+/// The condition that the byte at an index stands for.
 fn read_value(text: &[u8], place: u32) -> Result<PatternValue, MaskFault>
     requires { place < length text.now }
     ensures ok { IfOk result (λ value. IsLetterOf value (slice_index text.now place)) }

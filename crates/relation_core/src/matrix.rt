@@ -3,7 +3,8 @@
 use crate::extent::Extent;
 use crate::part::Parts;
 
-/// What each part of a first geometry shares with each part of a second (OGC 06-103r4, 6.1.15.2).
+/// The dimension of the intersection of each part of one geometry with each part of another (OGC
+/// 06-103r4, 6.1.15.2).
 #[derive(Clone, Copy, Debug, PartialEq, Eq)]
 pub struct Matrix {
     pub rows: Parts<Parts<Extent>>,

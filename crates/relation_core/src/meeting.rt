@@ -1,4 +1,4 @@
-//! How two intervals of one axis lie to each other, and what their parts then share.
+//! The meeting of two intervals of one axis, and the intersections of their parts.
 
 ghost use Rattle.std.specs.Prelude.{◌≡◌, ◌<ℤ◌};
 ghost use Rattle.relation_core.specs.Meetings.{IsMeeting, shares, interior_of, boundary_of};
@@ -9,20 +9,20 @@ use Shared::{Interval, Nothing, Point};
 use geom_core::Span;
 use std::cmp::Ordering::{Equal, Greater, Less};
 
-/// What two parts of one axis share.
+/// The intersection of two parts of one axis.
 #[derive(Clone, Copy)]
 pub enum Shared {
-    /// Nothing.
+    /// It is empty.
     Nothing,
-    /// Single coordinates.
+    /// It consists of single coordinates.
     Point,
-    /// An open interval.
+    /// It contains an open interval.
     Interval,
 }
 
-/// How two intervals of an axis lie to each other, where left and right make no difference: the
-/// eight relations of Egenhofer and Franzosa (1991) between two intervals that have a length, and
-/// those with one or two intervals that are a single coordinate.
+/// How two intervals of an axis lie to each other, without regard to direction: the eight relations
+/// of Egenhofer and Franzosa (1991) between two intervals of positive length, and the cases in
+/// which one or both intervals are a single coordinate.
 #[derive(Clone, Copy)]
 pub enum Meeting {
     Disjoint,
@@ -43,7 +43,7 @@ pub enum Meeting {
     PointsEqual,
 }
 
-/// How two intervals lie that both have a length.
+/// The meeting of two intervals of positive length.
 #[inline(always)]
 fn of_intervals(a: &Span, b: &Span) -> Meeting
     requires first { a.now.lo <ℤ a.now.hi }
@@ -59,7 +59,7 @@ fn of_intervals(a: &Span, b: &Span) -> Meeting
     }
 }
 
-/// How two intervals lie that have an interval in common.
+/// The meeting of two intervals whose intersection has positive length.
 #[inline(always)]
 fn of_crossing(a: &Span, b: &Span) -> Meeting
     requires first { a.now.lo <ℤ a.now.hi }
@@ -81,7 +81,7 @@ fn of_crossing(a: &Span, b: &Span) -> Meeting
     }
 }
 
-/// How an interval that has a length lies to one that is a single coordinate.
+/// The meeting of an interval of positive length with a single coordinate.
 #[inline(always)]
 fn of_interval_and_point(a: &Span, b: &Span) -> Meeting
     requires first { a.now.lo <ℤ a.now.hi }
@@ -97,7 +97,7 @@ fn of_interval_and_point(a: &Span, b: &Span) -> Meeting
     }
 }
 
-/// How a single coordinate lies to an interval that has a length.
+/// The meeting of a single coordinate with an interval of positive length.
 #[inline(always)]
 fn of_point_and_interval(a: &Span, b: &Span) -> Meeting
     requires first { a.now.lo ≡ a.now.hi }
@@ -113,7 +113,7 @@ fn of_point_and_interval(a: &Span, b: &Span) -> Meeting
     }
 }
 
-/// How two single coordinates lie.
+/// The meeting of two single coordinates.
 #[inline(always)]
 fn of_points(a: &Span, b: &Span) -> Meeting
     requires first { a.now.lo ≡ a.now.hi }
@@ -139,7 +139,7 @@ fn row(interior: Shared, boundary: Shared, exterior: Shared) -> Parts<Shared>
 }
 
 impl Meeting {
-    /// How `a` and `b` lie to each other.
+    /// The meeting of `a` and `b`.
     #[inline(always)]
     pub fn of(a: &Span, b: &Span) -> Meeting
         ensures { IsMeeting result a.now b.now }
@@ -152,7 +152,7 @@ impl Meeting {
         }
     }
 
-    /// What the inner part of the first interval shares with each part of the second.
+    /// The intersections of the inner part of the first interval with each part of the second.
     #[inline(always)]
     pub fn interior(self) -> Parts<Shared>
         ensures { result ≡ interior_of self }
@@ -174,7 +174,7 @@ impl Meeting {
         }
     }
 
-    /// What the ends of the first interval share with each part of the second.
+    /// The intersections of the ends of the first interval with each part of the second.
     #[inline(always)]
     pub fn boundary(self) -> Parts<Shared>
         ensures { result ≡ boundary_of self }
@@ -197,7 +197,7 @@ impl Meeting {
         }
     }
 
-    /// What the outside of the first interval shares with each part of the second.
+    /// The intersections of the outside of the first interval with each part of the second.
     #[inline(always)]
     pub fn exterior(self) -> Parts<Shared>
         ensures { result ≡ exterior_of self }

@@ -1,4 +1,4 @@
-//! The three parts of the plane that a geometry makes: interior, boundary and exterior.
+//! The three parts into which a geometry divides the plane: interior, boundary and exterior.
 
 /// One value for each part (OGC 06-103r4, 6.1.15.1).
 #[derive(Clone, Copy, Debug, PartialEq, Eq)]

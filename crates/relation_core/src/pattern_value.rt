@@ -7,7 +7,7 @@ use crate::extent::Extent;
 pub enum PatternValue {
     /// `*`: anything.
     Any,
-    /// `T`: the two parts share something.
+    /// `T`: the intersection isn't empty.
     NotEmpty,
     /// `F`, `0`, `1` or `2`: exactly this entry.
     Exactly(Extent),
@@ -17,7 +17,7 @@ impl PatternValue {
     ghost use Rattle.std.specs.Prelude.{◌≡◌, ◌↔◌, MatchOption, IsTrue};
     ghost use Rattle.relation_core.specs.Masks.{Allows, IsLetter, IsLetterOf, letter_of_value};
 
-    /// The value that a letter stands for, `T` and `F` in either case.
+    /// The condition of a letter, with `T` and `F` in either case.
     pub(crate) fn of_letter(letter: u8) -> Option<PatternValue>
         ensures { MatchOption result (¬ (IsLetter letter)) (λ value. IsLetterOf value letter) }
     {
@@ -32,7 +32,7 @@ impl PatternValue {
         }
     }
 
-    /// The letter, `T` and `F` as capitals.
+    /// The letter, with `T` and `F` in upper case.
     pub(crate) fn letter(self) -> u8
         ensures { result ≡ letter_of_value self }
     {
@@ -43,7 +43,7 @@ impl PatternValue {
         }
     }
 
-    /// Whether an entry is as asked.
+    /// Whether the condition holds for an entry.
     #[inline(always)]
     pub(crate) fn allows(self, extent: Extent) -> bool
         ensures { IsTrue result ↔ Allows self extent }

@@ -30,21 +30,21 @@ const ANY: PatternValue = PatternValue::Any;
 pub enum Relation {
     /// The mask fits.
     Mask(Mask),
-    /// The closed shapes share nothing.
+    /// The closed shapes share no point.
     Disjoint,
-    /// The closed shapes share something.
+    /// The closed shapes share a point.
     Intersects,
-    /// The closed shapes share something, and their interiors nothing.
+    /// The closed shapes share a point, and their interiors share none.
     Touches,
-    /// The interiors share something of a lower dimension than the greater of the two, and
+    /// The intersection of the interiors has a lower dimension than the greater of the two, and
     /// neither shape contains the other.
     Crosses,
-    /// The first shape lies in the second, and their interiors share something.
+    /// The first shape lies in the second, and their interiors share a point.
     Within,
-    /// The second shape lies in the first, and their interiors share something.
+    /// The second shape lies in the first, and their interiors share a point.
     Contains,
-    /// The interiors of two shapes of one dimension share something of that dimension, and each
-    /// has some of the other's exterior.
+    /// The shapes have the same dimension, which the intersection of their interiors has too, and
+    /// each meets the exterior of the other.
     Overlaps,
     /// Each shape lies in the other.
     Equals,
@@ -56,7 +56,7 @@ impl Relation {
     ghost use Rattle.relation_core.specs.Relations.{FitsOne, Holds, Spells, SpellsNothing, masks};
     ghost use Rattle.relation_core.specs.Relations.{HoldsOfSets};
 
-    /// Reads one of the eight names, in any ASCII case, or else a mask.
+    /// Reads one of the eight names, in any ASCII case, or otherwise a mask.
     ///
     /// # Errors
     /// Those of [`Mask::read`]. No name has nine letters.
@@ -76,8 +76,8 @@ impl Relation {
         }
     }
 
-    /// The masks of which one has to fit, for shapes of these two dimensions (OGC 06-103r4,
-    /// 6.1.15.3), in order. No masks mean that the relation doesn't hold.
+    /// The masks for shapes of these two dimensions (OGC 06-103r4, 6.1.15.3), of which at least one
+    /// must fit, in order. Without masks, the relation doesn't hold.
     pub fn masks(&self, first_dim: u8, second_dim: u8) -> ArrayVec<Mask, 4>
         requires first { first_dim ≤ 2 }
         requires second { second_dim ≤ 2 }
@@ -111,7 +111,7 @@ impl Relation {
         }
     }
 
-    /// Whether one of the masks for two geometries of these dimensions fits their matrix.
+    /// Whether one of the masks for geometries of these dimensions fits their matrix.
     pub fn fits(&self, matrix: &Matrix, first_dim: u8, second_dim: u8) -> bool
         requires first { first_dim ≤ 2 }
         requires second { second_dim ≤ 2 }
@@ -122,7 +122,7 @@ impl Relation {
     }
 
     /// Whether one of the masks for the two dimensions fits the matrix of the two shapes. Most
-    /// names are tested as sets of points, which costs no matrix.
+    /// names are tested as sets of points, without computing the matrix.
     #[inline(always)]
     pub fn holds(&self, a: &Shape, b: &Shape) -> bool
         ensures masks { IsTrue result ↔ Holds self.now a.now b.now }
@@ -146,7 +146,7 @@ ghost use Rattle.std.specs.Prelude.{◌≡◌, ◌≤◌, ◌↔◌, length, IfS
 ghost use Rattle.relation_core.specs.Masks.{row};
 ghost use Rattle.relation_core.specs.Relations.{FitsOne, IsNamed, Spells, mask, masks};
 
-/// The relation of a name.
+/// The relation with this name, in any ASCII case.
 fn named(text: &[u8]) -> Option<Relation>
     ensures some { IfSome result (λ relation. IsNamed relation × Spells relation text.now) }
     ensures none { IfNone result
@@ -228,7 +228,7 @@ fn one_fits(masks: &[Mask], matrix: &Matrix) -> bool
     masks.iter().any(|mask| mask.fits(matrix))
 }
 
-/// What a mask asks of one part of the first shape with each part of the second.
+/// The conditions of a mask on one part of the first shape with each part of the second.
 fn row(
     interior: PatternValue,
     boundary: PatternValue,
@@ -243,7 +243,7 @@ fn row(
     }
 }
 
-/// The mask of three rows.
+/// The mask with three rows.
 fn mask(
     interior: Parts<PatternValue>,
     boundary: Parts<PatternValue>,

@@ -1,5 +1,5 @@
-//! Condensing after a removal: what nodes set aside hold goes back in, and a lone child of the root
-//! takes its place.
+//! Condensing after a removal: the items of nodes set aside are inserted again, and a root with a
+//! single child is replaced by it.
 
 use crate::editable_tree::EditableTree;
 use crate::insert::Insertable;
@@ -13,7 +13,7 @@ impl EditableTree {
     ghost use Rattle.rtree_core.specs.Trees.{entries_in};
     ghost use Rattle.rtree_core.specs.EditableTrees.{IsSound, IsRooted, CanTake, HasTakenIn};
 
-    /// Inserts again what the nodes set aside hold, lowest level first (Guttman 1984, 3.3, CT6).
+    /// Inserts the items of the nodes set aside again, lowest level first (Guttman 1984, 3.3, CT6).
     #[tactic(auto, using(crate::proofs::EditableTreeLemmas::took_none))]
     pub(crate) fn reinsert(&mut self, aside: &mut Vec<Node>)
         requires sound { IsSound self.old }
@@ -32,7 +32,7 @@ impl EditableTree {
         }
     }
 
-    /// Inserts again what a node of a level holds.
+    /// Inserts the items of a node of a level again.
     #[tactic(auto, using(crate::proofs::Rules::reinsert_node))]
     fn reinsert_node(&mut self, node: Node, level: u32)
         requires sound { IsSound self.old }
@@ -48,7 +48,7 @@ impl EditableTree {
         }
     }
 
-    /// Inserts items in turn, each into a node of a level, which the tree has.
+    /// Inserts items in turn, each into a node of a level of the tree.
     fn insert_all<T: Insertable>(&mut self, items: Vec<T>, level: u32)
         requires sound { IsSound self.old }
         requires fit { All (T.fits level) items.items }
@@ -61,7 +61,7 @@ impl EditableTree {
         }
     }
 
-    /// Makes the child of an inner root that has no other the root.
+    /// If the root is an inner node with a single child, makes the child the root.
     pub(crate) fn collapse(&mut self)
         requires { IsSound self.old }
         ensures rooted { IsRooted self.new }

@@ -1,4 +1,4 @@
-//! A root with its height and the free lists that edits take, and insertion into it.
+//! A root with its height and the free lists that edits use, and insertion into it.
 
 use crate::free_lists::{FreeLists, fill, take_list};
 use crate::insert::{Insertable, insert_into};
@@ -6,7 +6,7 @@ use crate::item::Item;
 use crate::node::{Entry, Node};
 use std::alloc::{AllocError, Global};
 
-/// A root with its height, and the free lists that edits take.
+/// A root with its height, and the free lists that edits use.
 #[derive(Drop)]
 pub(crate) struct EditableTree {
     pub(crate) root: Option<Node>,
@@ -22,7 +22,7 @@ impl EditableTree {
     ghost use Rattle.rtree_core.specs.FreeLists.{AreFree};
     ghost use Rattle.rtree_core.specs.EditableTrees.{IsSound, CanTake, HasTakenIn, HasGrownBy};
 
-    /// The one without a root.
+    /// A tree without a root.
     pub(crate) fn new(alloc: Global) -> EditableTree
         ensures sound { IsSound result }
         ensures empty { result.root ≡ None }
@@ -34,11 +34,11 @@ impl EditableTree {
         }
     }
 
-    /// Reserves the lists that `count` insertions may take.
+    /// Reserves the lists that `count` insertions may need.
     ///
-    /// Each may split a node on every level and put a level over the root, and it gives the list
-    /// of a node that it splits back. A tree has at most 32 levels, so the bound asked for is far
-    /// off.
+    /// Each insertion may split a node on every level and add a level above the root; the list of a
+    /// node that is split is returned to the free lists. A tree has at most 32 levels, so the
+    /// required bound on the height is never reached.
     pub(crate) fn reserve_lists(&mut self, count: u32) -> Result<(), AllocError>
         requires sound { IsSound self.old }
         requires small { self.old.height + count ≤ 1000 }
@@ -81,7 +81,7 @@ impl EditableTree {
         self.height = 1;
     }
 
-    /// Inserts an item into a node of a level, which the tree has.
+    /// Inserts an item into a node of a level of the tree.
     #[tactic(auto, using(crate::proofs::Rules::insert))]
     pub(crate) fn insert<T: Insertable>(&mut self, item: T, level: u32)
         requires sound { IsSound self.old }
@@ -102,7 +102,7 @@ impl EditableTree {
         }
     }
 
-    /// Puts a node over the root and its second half.
+    /// Makes the root and its second half the children of a new root.
     #[tactic(auto, using(crate::proofs::EditableTreeLemmas::of_two))]
     fn add_level(&mut self, second: Node)
         requires first { IsSomeAnd self.old.root (FitsInner (suc (level_of second))) }

@@ -1,4 +1,4 @@
-//! The free lists that edits take, reserved before anything changes.
+//! The free lists that edits use, reserved before anything changes.
 
 ghost use Rattle.std.specs.Prelude.{◌≡◌, ◌+◌, ◌<◌, ◌≤◌, vec_len, vec_capacity, OnOk};
 ghost use Rattle.split_core.specs.Splits.{IsRoom};
@@ -8,7 +8,7 @@ use crate::node::{Entry, Node};
 use split_core::split::MOST;
 use std::alloc::{AllocError, Global};
 
-/// Empty lists for the nodes that an edit makes, with room for nine each.
+/// Empty lists with a capacity of nine, for the nodes that an edit creates.
 #[derive(Drop)]
 pub(crate) struct FreeLists {
     pub(crate) leaves: Vec<Vec<Entry>>,
@@ -42,7 +42,7 @@ pub(crate) fn fill<T>(lists: &mut Vec<Vec<T>>, count: usize) -> Result<(), Alloc
     Ok(())
 }
 
-/// Takes one of the lists, which are empty.
+/// Takes one of the free lists, which are empty.
 pub(crate) fn take_list<T>(free: &mut Vec<Vec<T>>) -> Vec<T>
     requires some { 0 < vec_len free.old }
     requires free { IsFree free.old.items }

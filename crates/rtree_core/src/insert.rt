@@ -1,4 +1,5 @@
-//! Insertion of an item into a subtree: down by least enlargement, and up with what split off.
+//! Insertion of an item into a subtree: descending by least enlargement, and ascending with the
+//! nodes split off.
 
 ghost use Rattle.std.specs.Prelude.{◌≡◌, ◌+◌, ◌-◌, ◌≤◌, ◌++◌, ◌∷◌, [], vec_len, MatchOption};
 ghost use Rattle.rtree_core.specs.Insertions.{IsHalved, IsInserted};
@@ -16,13 +17,13 @@ use split_core::measures::cover_all;
 use split_core::split::{MOST, split};
 use std::mem;
 
-/// What can be put into the list of a node.
+/// An item that can be inserted into the list of a node.
 pub(crate) trait Insertable: Item {
     ghost use Rattle.rtree_core.specs.Insertions.{IsInserted};
     ghost use Rattle.rtree_core.specs.Nodes.{level_of, IsLawful};
     ghost use Rattle.rtree_core.specs.FreeLists.{IsReady, IsSpent};
 
-    /// Puts it at the end of a node's list, and gives the node's second half where it was split.
+    /// Appends the item to a node's list, and returns the node's second half if it was split.
     fn add_to(self, node: &mut Node, free: &mut FreeLists) -> Option<Node>
         requires lawful { IsLawful node.old }
         requires fits { Self.fits (level_of node.old) self }
@@ -55,7 +56,7 @@ impl Insertable for Node {
     }
 }
 
-/// Puts an entry at the end of a leaf's list, and gives the leaf's second half where it was split.
+/// Appends an entry to a leaf's list, and returns the leaf's second half if it was split.
 #[tactic(auto, using(crate::proofs::Rules::add_entry))]
 fn add_entry(
     cover: &mut Shape,
@@ -72,8 +73,7 @@ fn add_entry(
     add(cover, entries, entry, free)
 }
 
-/// Puts a node at the end of its parent's list, and gives the parent's second half where it was
-/// split.
+/// Appends a node to its parent's list, and returns the parent's second half if it was split.
 #[tactic(auto, using(crate::proofs::Rules::add_child))]
 fn add_child(
     cover: &mut Shape,
@@ -91,7 +91,7 @@ fn add_child(
     add(cover, children, child, free)
 }
 
-/// Puts an item at the end of a node's list, and gives the node's second half where it was split.
+/// Appends an item to a node's list, and returns the node's second half if it was split.
 fn add<T: Item>(
     cover: &mut Shape,
     list: &mut Vec<T>,
@@ -116,7 +116,7 @@ fn add<T: Item>(
     second
 }
 
-/// Splits a list of nine, which keeps the first group, and gives the node of the second.
+/// Splits a list of nine, which keeps the first group, and returns the node of the second.
 fn halve<T: Item>(list: &mut Vec<T>, free: &mut Vec<Vec<T>>) -> Node
     requires nine { vec_len list.old ≡ most + 1 }
     requires free { HasFree 2 free.old }
@@ -133,8 +133,8 @@ fn halve<T: Item>(list: &mut Vec<T>, free: &mut Vec<Vec<T>>) -> Node
     second
 }
 
-/// Puts an item into a node that lies `steps` levels below this one, or into this one, and gives
-/// the second half of this one if it was split.
+/// Inserts an item into a node that is `steps` levels below this one, or into this one if `steps`
+/// is 0, and returns the second half of this one if it was split.
 #[cycle(insertion)]
 pub(crate) fn insert_into<T: Insertable>(
     node: &mut Node,
@@ -158,8 +158,8 @@ pub(crate) fn insert_into<T: Insertable>(
     }
 }
 
-/// Puts an item into the subtree of the child that needs least enlargement to take it in, `steps`
-/// levels below that child.
+/// Inserts an item into the subtree of the child that needs the least enlargement to include it,
+/// `steps` levels below that child.
 #[cycle(insertion)]
 fn insert_below<T: Insertable>(
     cover: &mut Shape,

@@ -1,9 +1,9 @@
-//! What a node holds: entries, or the nodes of the level below.
+//! The items of a node: entries, or the nodes of the level below.
 
 use crate::node::{Below, Entry, Node};
 use split_core::measures::{Covered, cover_all};
 
-/// What a node holds: an entry, or a node of the level below.
+/// An item of a node: an entry, or a node of the level below.
 pub(crate) trait Item: Covered + Drop {
     ghost use Rattle.std.specs.Prelude.{◌≡◌, ℕ, List};
     ghost use Rattle.rtree_core.specs.declared.node.Entry.{Entry};
@@ -11,19 +11,19 @@ pub(crate) trait Item: Covered + Drop {
     ghost use Rattle.rtree_core.specs.Items.{IsNodeList, IsNodeOf};
     ghost use Rattle.rtree_core.specs.Packed.{IsPackedOf};
 
-    /// The entries below it.
+    /// The entries of the item's subtree.
     ghost entries: { Self → List Entry };
 
-    /// The list of a node that holds such.
+    /// The list of items of a node of their type.
     ghost list_of: { Node → List Self };
 
-    /// A node of this level may hold it.
+    /// Whether a node of this level may hold the item.
     ghost fits: { ℕ → Self → Type 0 };
 
-    /// A node of this level may hold it in a packed tree.
+    /// Whether a node of this level may hold the item in a packed tree.
     ghost fits_packed: { ℕ → Self → Type 0 };
 
-    /// The node of a list.
+    /// The node with this list.
     fn node_of(page: Vec<Self>) -> Node
         requires { IsNodeList page }
         ensures node { IsNodeOf Self.cover entries fits page.items result }

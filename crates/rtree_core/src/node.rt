@@ -3,12 +3,12 @@
 use geom_core::Shape;
 use split_core::measures::Covered;
 
-/// A shape with the number that names it.
+/// A shape, and the number that identifies it.
 #[derive(Clone, Copy, Debug, PartialEq, Eq)]
 pub struct Entry {
-    /// What is indexed.
+    /// The indexed shape.
     pub shape: Shape,
-    /// Differs from that of every other entry of one tree.
+    /// The number, which no other entry of the tree has.
     pub number: u32,
 }
 
@@ -43,7 +43,7 @@ impl Node {
     ghost use Rattle.rtree_core.specs.Nodes.{node_cover, IsLeaf, IsLawful, AreLawfulChildren};
     ghost use Rattle.split_core.specs.Covers.{IsLeastCover};
 
-    /// Whether it holds entries and no children: it is on level 0.
+    /// Whether the node holds entries and no children: it is on level 0.
     #[tactic(auto, using(crate::proofs::Rules::is_leaf))]
     pub fn is_leaf(&self) -> bool
         ensures leaf { IsTrue result ↔ IsLeaf self.now }
@@ -52,7 +52,7 @@ impl Node {
         matches!(self.below, Below::Entries(_))
     }
 
-    /// The entries of a leaf, of which there is at least one.
+    /// The entries of a leaf, at least one.
     pub fn entries(&self) -> &[Entry]
         requires { IsLeaf self.now }
         ensures entries { result.now ≡ entries_of self.now }
@@ -64,7 +64,7 @@ impl Node {
         }
     }
 
-    /// The children of an inner node, of which there is at least one.
+    /// The children of an inner node, at least one.
     #[tactic(auto, using(crate::proofs::Rules::children))]
     pub fn children(&self) -> &[Node]
         requires { IsLeaf self.now → ⊥ }
@@ -78,7 +78,7 @@ impl Node {
         }
     }
 
-    /// How many entries or children it has.
+    /// The number of entries or children.
     pub(crate) fn size(&self) -> usize
         ensures { result ≡ size_of self.now }
     {

@@ -1,11 +1,11 @@
-//! Packing by Sort-Tile-Recursive: a tree made from all its entries at once.
+//! Packing by Sort-Tile-Recursive: building a tree from all its entries at once.
 //!
-//! The items of a level, at first the entries, are to make P pages of at most eight. They are cut
-//! into slices of √P pages, rounded up, by the centres of their covers along the first axis; each
-//! slice is sorted along the second axis and cut into its pages. Page sizes differ by one at most,
-//! larger ones first. The pages are the items of the next level, until there is one, the root
-//! (Leutenegger, Lopez and Edgington 1997, 2.2). Ties go by number, and among nodes by their
-//! places.
+//! The items of a level, initially the entries, are divided into P pages of at most eight. They are
+//! cut into slices of √P pages, rounded up, by the centres of their covers along the first axis;
+//! each slice is sorted along the second axis and cut into its pages. Page sizes differ by at most
+//! one, larger ones first. The pages are the items of the next level, until there is only one, the
+//! root (Leutenegger, Lopez and Edgington 1997, 2.2). Ties are broken by number, and among nodes by
+//! their positions.
 
 ghost use Rattle.std.specs.Prelude.{◌≡◌, ℕ, ◌+◌, ◌<◌, ◌≤◌, ◌++◌, map, length};
 ghost use Rattle.std.specs.Prelude.{vec_len, vec_capacity, count_by, All, IfOk, OnOk};
@@ -29,19 +29,19 @@ use split_core::tile::{Ranked, items_in, tile};
 use std::alloc::{AllocError, Global};
 use std::vec::IntoIter;
 
-/// What is packed into a level: entries, or the nodes of the level below.
+/// An item that is packed into a level: an entry, or a node of the level below.
 pub(crate) trait Packable: Ranked + Drop {
     ghost use Rattle.std.specs.Prelude.{◌≡◌};
 
-    /// What a node of the level holds of it.
+    /// The part of the item that the node of the level holds.
     type Held: Item;
 
     ghost held: { Self → Self.Held };
 
-    /// What its type says of its numbers.
+    /// The numbers of a value of the type are in the ranges of their types.
     ghost in_range: { Self.Held → Type 0 };
 
-    /// Drops what only the sorts read.
+    /// Drops the data that only the sorts read.
     fn into_held(self) -> Self::Held
         ensures held { result ≡ held self }
         ensures in_range { in_range (held self) };
@@ -71,7 +71,7 @@ impl Packable for Entry {
     }
 }
 
-/// A node with its place in the list of its level.
+/// A node with its position in the list of its level.
 #[derive(Drop)]
 pub(crate) struct Placed {
     node: Node,
@@ -109,7 +109,7 @@ impl Packable for Placed {
     }
 }
 
-/// How many of some items go into the first of some pages.
+/// The size of the first of `pages` pages that share `items` items.
 #[tactic(auto, using(crate::proofs::PackLemmas::share_of))]
 fn page_size(items: usize, pages: usize) -> usize
     requires { 0 < pages }
@@ -119,7 +119,7 @@ fn page_size(items: usize, pages: usize) -> usize
     items_in(1, pages, items)
 }
 
-/// Takes the first `size` items into a list, which has room for one more than the most.
+/// Moves the first `size` items into a list with a capacity one more than the greatest node size.
 #[tactic(auto, using(crate::proofs::PackLemmas::page_none))]
 fn next_page<T: Packable>(
     alloc: Global,
@@ -144,7 +144,7 @@ fn next_page<T: Packable>(
     Ok(page)
 }
 
-/// The nodes of a level, given their contents, in the order of their pages.
+/// The nodes of a level, made of their items in the order of their pages.
 #[tactic(auto, using(crate::proofs::PackLemmas::shares))]
 fn nodes_of<T: Packable>(alloc: Global, items: Vec<T>) -> Result<Vec<Placed>, AllocError>
     ensures nodes { let held = map T.held items.items in
@@ -185,7 +185,7 @@ fn level_above(alloc: Global, mut nodes: Vec<Placed>) -> Result<Vec<Placed>, All
     nodes_of(alloc, nodes)
 }
 
-/// The root of the packed tree of entries that are in the order of their pages, and its height.
+/// The root of the packed tree of entries in the order of their pages, and its height.
 pub(crate) fn pack_entries(alloc: Global, entries: Vec<Entry>) -> Result<(Node, u32), AllocError>
     requires some { 0 < vec_len entries }
     requires distinct { (k : ℕ) → count_by (has_number k) entries.items ≤ 1 }

@@ -1,4 +1,4 @@
-//! Removal of an entry from a tree and a subtree; nodes that are left with too few are set aside.
+//! Removal of an entry from a tree and a subtree; nodes left with too few items are set aside.
 
 ghost use Rattle.std.specs.Prelude.{◌≡◌, ◌+◌, ◌≤◌, ◌↔◌, [], vec_len, vec_capacity, All, Contains};
 ghost use Rattle.std.specs.Prelude.{IsTrue, IsFalse, IsSome, IfSome, IfNone};
@@ -21,7 +21,7 @@ impl EditableTree {
     ghost use Rattle.rtree_core.specs.Trees.{entries_in};
     ghost use Rattle.rtree_core.specs.EditableTrees.{IsRooted, CanRemove};
 
-    /// Takes an entry out, and says whether it was there.
+    /// Removes an entry, and returns whether it was there.
     #[tactic(auto, using(crate::proofs::Rules::remove))]
     pub(crate) fn remove(&mut self, entry: &Entry, aside: &mut Vec<Node>) -> bool
         requires { CanRemove self.old aside.old }
@@ -47,7 +47,7 @@ impl EditableTree {
         true
     }
 
-    /// Empties a tree whose one entry is this one.
+    /// Empties a tree whose only entry is this one.
     #[tactic(auto, using(crate::proofs::Rules::remove_last))]
     fn remove_last(&mut self, entry: &Entry) -> bool
         requires leaf { IsSomeAnd self.old.root (λ n. IsLawfulAt 0 n × (size_of n ≡ 1)) }
@@ -66,10 +66,11 @@ impl EditableTree {
     }
 }
 
-/// Takes an entry out of the subtree of a node that has two items at least, and says whether it was
-/// there.
+/// Removes an entry from the subtree of a node that has at least two items, and returns whether it
+/// was there.
 ///
-/// Nodes below it that are left with fewer than three are moved to `aside`, lowest level first.
+/// Nodes below it that are left with fewer than three items are moved to `aside`, lowest level
+/// first.
 #[cycle(removal)]
 pub(crate) fn take_out(node: &mut Node, entry: &Entry, aside: &mut Vec<Node>) -> bool
     requires can_take_out { CanTakeOut (vec_capacity aside.old) node.old }
@@ -85,7 +86,7 @@ pub(crate) fn take_out(node: &mut Node, entry: &Entry, aside: &mut Vec<Node>) ->
     }
 }
 
-/// Takes an entry out of a leaf's list, and says whether it was there.
+/// Removes an entry from a leaf's list, and returns whether it was there.
 fn take_from_leaf(cover: &mut Shape, entries: &mut Vec<Entry>, entry: &Entry) -> bool
     requires lawful { IsPage (λ e. e.shape) cover.old entries.old }
     requires two { 2 ≤ vec_len entries.old }
@@ -103,8 +104,8 @@ fn take_from_leaf(cover: &mut Shape, entries: &mut Vec<Entry>, entry: &Entry) ->
     true
 }
 
-/// Takes an entry out of the subtree of one of a node's children, and that child out of the list
-/// where it is left with fewer than three. Says whether the entry was there.
+/// Removes an entry from the subtree of one of a node's children, and that child from the list if
+/// it is left with fewer than three items. Returns whether the entry was there.
 #[cycle(removal)]
 #[tactic(auto, using(crate::proofs::ItemLemmas::inner_size))]
 fn take_from_inner(
@@ -139,7 +140,7 @@ fn take_from_inner(
     true
 }
 
-/// Takes an entry out of the subtree of one of some nodes, and gives the place of that node.
+/// Removes an entry from the subtree of one of these nodes, and returns the index of that node.
 #[cycle(removal)]
 fn take_from_one(nodes: &mut [Node], entry: &Entry, aside: &mut Vec<Node>) -> Option<usize>
     requires can_take_out { All (CanTakeOut (vec_capacity aside.old)) nodes.old }
@@ -158,7 +159,7 @@ fn take_from_one(nodes: &mut [Node], entry: &Entry, aside: &mut Vec<Node>) -> Op
     None
 }
 
-/// The place of an entry in a list.
+/// The index of an entry in a list.
 #[tactic(auto, using(crate::proofs::Rules::place_of))]
 fn place_of(entries: &[Entry], entry: &Entry) -> Option<usize>
     ensures found { IfSome result (IsPlaceOf entries.now entry.now) }

@@ -1,4 +1,4 @@
-//! The tree: its root, and the edits and questions of the whole.
+//! The tree: its root, and the edits and queries of the whole.
 
 ghost use Rattle.std.specs.Prelude.{◌≡◌, ◌+◌, ◌≤◌, [], ◌∷◌, length, vec_len, IsSome, OnOk, OnErr};
 ghost use Rattle.std.specs.Prelude.{option_copied};
@@ -14,15 +14,15 @@ use std::alloc::{AllocError, Global};
 use std::marker::Model;
 use std::thread::Threads;
 
-/// Guttman's R-tree over entries, no two of which have one number.
+/// Guttman's R-tree over entries with distinct numbers.
 ///
-/// Every node other than the root has 3 to 8 entries or children, a root that is a leaf 1 to 8
-/// entries, and one that is inner 2 to 8 children. All leaves are on one level (Guttman 1984, 2).
+/// Every node other than the root has 3 to 8 entries or children. A root that is a leaf has 1 to 8
+/// entries, and an inner root has 2 to 8 children. All leaves are on one level (Guttman 1984, 2).
 #[derive(Drop)]
 pub struct RTree {
     tree: EditableTree,
     len: usize,
-    /// The nodes that a removal sets aside, none between edits.
+    /// The nodes that a removal has set aside; there are none between edits.
     aside: Vec<Node>,
 }
 
@@ -65,10 +65,11 @@ impl RTree {
         }
     }
 
-    /// Packs entries, no two of which have one number, by Sort-Tile-Recursive (Leutenegger, Lopez
-    /// and Edgington 1997).
+    /// Packs entries with distinct numbers by Sort-Tile-Recursive (Leutenegger, Lopez and Edgington
+    /// 1997).
     ///
-    /// Each node below the root has 4 to 8 entries or children. An `Err` drops the list.
+    /// Each node below the root has 4 to 8 entries or children. On an error, the entries are
+    /// dropped.
     #[tactic(auto, using(crate::proofs::PackLemmas::list_tiled))]
     pub fn pack(alloc: Global, mut entries: Vec<Entry>) -> Result<RTree, AllocError>
         requires distinct { (k : ℕ) → count_by (has_number k) entries.items ≤ 1 }
@@ -83,7 +84,7 @@ impl RTree {
 
     /// Packs entries into the same tree as `pack` does, with at most `threads` threads.
     ///
-    /// 0 and 1 start no thread. An `Err` drops the list.
+    /// 0 and 1 start no thread. On an error, the entries are dropped.
     #[tactic(auto, using(crate::proofs::PackLemmas::list_tiled))]
     pub fn pack_by_threads<R: Threads + Sync>(
         alloc: Global,
@@ -101,7 +102,7 @@ impl RTree {
         RTree::from_pages(alloc, entries)
     }
 
-    /// The height of the tree into which `entries` entries are packed.
+    /// The height of the tree packed from `entries` entries.
     pub fn packed_height(entries: u32) -> u32
         ensures { IsPackedHeight entries result }
     {
@@ -109,7 +110,7 @@ impl RTree {
             return 0;
         }
         let mut height = 1;
-        // How many entries so many levels can hold.
+        // The greatest number of entries of a tree of `height` levels.
         let mut room = MOST as u64;
         while room < u64::from(entries) {
             room *= MOST as u64;
@@ -118,7 +119,7 @@ impl RTree {
         height
     }
 
-    /// The packed tree of entries that are in the order of their pages.
+    /// The packed tree of entries in the order of their pages.
     #[tactic(auto, using(crate::proofs::Rules::from_pages))]
     fn from_pages(alloc: Global, entries: Vec<Entry>) -> Result<RTree, AllocError>
         requires distinct { (k : ℕ) → count_by (has_number k) entries.items ≤ 1 }
@@ -145,7 +146,7 @@ impl RTree {
         })
     }
 
-    /// The root, or `None` where the tree is empty.
+    /// The root, or `None` if the tree is empty.
     pub fn root(&self) -> Option<&Node>
         ensures root { option_copied result ≡ self.now }
         ensures lawful { IsTree self.now }
@@ -160,23 +161,23 @@ impl RTree {
         self.len
     }
 
-    /// Whether it holds no entry.
+    /// Whether the tree holds no entry.
     pub fn is_empty(&self) -> bool
         ensures { IsTrue result ↔ (self.now ≡ None) }
     {
         self.tree.root.is_none()
     }
 
-    /// The number of levels: 0 for the empty tree, 1 where the root is a leaf.
+    /// The number of levels: 0 for the empty tree, 1 if the root is a leaf.
     pub fn height(&self) -> u32
         ensures { result ≡ height_of self.now }
     {
         self.tree.height
     }
 
-    /// Inserts an entry, whose number the tree doesn't hold.
+    /// Inserts an entry whose number the tree doesn't hold.
     ///
-    /// An `Err` leaves the tree as it was.
+    /// On an error, the tree is unchanged.
     #[tactic(auto, using(crate::proofs::Rules::insert_tree))]
     pub fn insert(&mut self, entry: Entry) -> Result<(), AllocError>
         requires { IsFresh entry.number self.old }
@@ -189,9 +190,9 @@ impl RTree {
         Ok(())
     }
 
-    /// Removes an entry, equal in shape and number, and says whether the tree held it.
+    /// Removes the entry with this shape and number, and returns whether the tree held it.
     ///
-    /// An `Err` leaves the tree as it was.
+    /// On an error, the tree is unchanged.
     #[tactic(auto, using(crate::proofs::TreeLemmas::tree_height))]
     pub fn remove(&mut self, entry: &Entry) -> Result<bool, AllocError>
         ensures held { let there = Contains (entries_in self.old) entry.now in

@@ -9,8 +9,8 @@ use crate::node::{Below, Entry, Node};
 use geom_core::Shape;
 use std::alloc::AllocError;
 
-/// What a search asks for: the shapes that meet a window. It is asked once for each child of a node
-/// that is visited, of its bounding box, and once for each entry of a leaf.
+/// The query of a search: the shapes that meet a window. `admits` is called once for the bounding
+/// box of each child of a visited node, and once for each entry of a visited leaf.
 pub trait Window {
     ghost use Rattle.std.specs.Prelude.{◌↔◌, IsTrue};
     ghost use Rattle.geom_core.specs.declared.shape.Shape.{Shape};
@@ -33,7 +33,7 @@ impl Window for Shape {
     }
 }
 
-/// Adds the numbers of a node's entries that meet the window, from left to right.
+/// Adds the numbers of the entries below a node that meet the window, from left to right.
 #[cycle(window)]
 #[tactic(auto, using(crate::proofs::WindowLemmas::list_step))]
 pub(crate) fn collect<W: Window>(
@@ -51,7 +51,7 @@ pub(crate) fn collect<W: Window>(
     }
 }
 
-/// Goes down into the children whose covers meet the window.
+/// Descends into the children whose covers meet the window.
 #[cycle(window)]
 #[tactic(auto, using(crate::proofs::WindowLemmas::child_step))]
 fn collect_children<W: Window>(
@@ -73,7 +73,7 @@ fn collect_children<W: Window>(
     Ok(())
 }
 
-/// Adds the numbers of the entries that meet the window.
+/// Adds the numbers of those entries that meet the window.
 #[tactic(auto, using(crate::proofs::WindowLemmas::adds_none))]
 fn collect_entries<W: Window>(
     entries: &[Entry],

@@ -1,4 +1,4 @@
-//! The choices of insertion: which child takes a shape in, and which items a split deals first.
+//! The choices of insertion: which child takes a shape, and which items a split assigns first.
 
 ghost use Rattle.std.specs.Prelude.{◌+◌, ◌<◌, ◌≤◌, length};
 ghost use Rattle.split_core.specs.Choices.{IsChoice, IsNext, AreSeeds};
@@ -7,9 +7,9 @@ ghost use Rattle.split_core.specs.Seeds.{IsBestBefore};
 use crate::measures::{AreaDifference, Covered, Need, difference, waste};
 use geom_core::Shape;
 
-/// The place of the item whose cover needs least enlargement to take in a shape.
+/// The index of the item whose cover needs the least enlargement to include a shape.
 ///
-/// Ties go to the smallest area, and then to the lowest place (Guttman 1984, ChooseLeaf).
+/// Ties go to the smallest area, and then to the lowest index (Guttman 1984, ChooseLeaf).
 pub fn choose<T: Covered>(items: &[T], shape: &Shape) -> usize
     requires { 0 < length items.now }
     ensures { IsChoice T.cover items.now shape.now result }
@@ -28,10 +28,10 @@ pub fn choose<T: Covered>(items: &[T], shape: &Shape) -> usize
     best
 }
 
-/// The place of the item for which the choice between two covers matters most.
+/// The index of the item for which the choice between two covers matters most.
 ///
-/// That is the one whose enlargements of the two differ most; ties go to the lowest place (Guttman
-/// 1984, PickNext).
+/// It is the item for which the enlargements of the two covers differ most; ties go to the lowest
+/// index (Guttman 1984, PickNext).
 pub fn pick_next<T: Covered>(rest: &[T], one: &Shape, two: &Shape) -> usize
     requires { 0 < length rest.now }
     ensures { IsNext T.cover rest.now one.now two.now result }
@@ -50,7 +50,7 @@ pub fn pick_next<T: Covered>(rest: &[T], one: &Shape, two: &Shape) -> usize
     best
 }
 
-/// A pair of places and the waste of the items there.
+/// A pair of indexes and the waste of the items there.
 #[derive(Clone, Copy)]
 struct Seeds {
     first: usize,
@@ -90,9 +90,9 @@ impl Seeds {
     }
 }
 
-/// The places of the two items that waste most together, the lower one first.
+/// The indexes of the two items that would waste the most area together, the lower one first.
 ///
-/// Ties go to the first pair, by the first place and then by the second (Guttman 1984, PickSeeds).
+/// Ties go to the first pair, by the first index and then by the second (Guttman 1984, PickSeeds).
 #[tactic(auto, using(crate::proofs::SeedLemmas::best_all))]
 pub fn pick_seeds<T: Covered>(items: &[T]) -> (usize, usize)
     requires { 2 ≤ length items.now }
@@ -105,7 +105,7 @@ pub fn pick_seeds<T: Covered>(items: &[T]) -> (usize, usize)
     (best.first, best.second)
 }
 
-/// The best of `best` and the pairs that begin at `first`.
+/// The best of `best` and the pairs whose first index is `first`.
 fn best_of_row<T: Covered>(items: &[T], first: usize, mut best: Seeds) -> Seeds
     requires in_range { first < length items.now }
     requires best { IsBestBefore T.cover items.now first 0 best }

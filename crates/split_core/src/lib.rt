@@ -1,5 +1,5 @@
-//! How the items of a node or a level are shared out: Guttman's choices by the measures of covers,
-//! the quadratic split of a full node, and Sort-Tile-Recursive's order of a level's pages.
+//! How the items of a node or a level are divided: Guttman's choices by the measures of covers, the
+//! quadratic split of a full node, and the order of a level's pages by Sort-Tile-Recursive.
 #![tactic(auto)]
 
 pub mod choices;

@@ -1,5 +1,5 @@
-//! The measures of covers: the cover of a list, what a cover grows to take in a shape, and what two
-//! covers waste together.
+//! The measures of covers: the cover of a list, the enlargement of a cover by a shape, and the
+//! waste of two covers.
 
 ghost use Rattle.std.specs.Prelude.{◌≡◌, ◌<◌, ◌≤◌, length};
 ghost use Rattle.geom_core.specs.Shapes.{greatest_area};
@@ -8,17 +8,17 @@ ghost use Rattle.split_core.specs.Covers.{IsLeastCover};
 
 use geom_core::{Area, Shape};
 
-/// A difference of areas, which may be below 0.
+/// A difference of areas, which may be negative.
 pub type AreaDifference = i128;
 
-/// What an R-tree can hold: it has a cover, the smallest shape that contains it.
+/// An item that an R-tree can hold: it has a cover, the smallest shape that contains it.
 pub trait Covered {
     ghost use Rattle.std.specs.Prelude.{◌≡◌};
     ghost use Rattle.geom_core.specs.declared.shape.Shape.{Shape};
 
     ghost cover: { Self → Shape };
 
-    /// The smallest shape that contains it.
+    /// The smallest shape that contains the item.
     fn cover(&self) -> Shape
         ensures { result ≡ cover self.now };
 }
@@ -35,7 +35,7 @@ pub fn cover_all<T: Covered>(items: &[T]) -> Shape
     cover
 }
 
-/// By how much the area of a cover grows where it takes in a shape.
+/// The increase in the area of a cover that includes a shape.
 #[inline(always)]
 #[tactic(auto, using(crate::proofs::Areas::area_grows))]
 pub fn enlargement(cover: &Shape, shape: &Shape) -> Area
@@ -45,7 +45,7 @@ pub fn enlargement(cover: &Shape, shape: &Shape) -> Area
     cover.cover(shape).area() - cover.area()
 }
 
-/// The area of the cover of two shapes beyond their own: below 0 where they overlap much.
+/// The area of the cover of two shapes minus their own areas; negative if they overlap much.
 #[inline(always)]
 pub fn waste(one: &Shape, two: &Shape) -> AreaDifference
     ensures { result ≡ choices.waste one.now two.now }
@@ -55,7 +55,7 @@ pub fn waste(one: &Shape, two: &Shape) -> AreaDifference
     growth as AreaDifference - area as AreaDifference
 }
 
-/// The difference between the enlargements of two covers that take in a shape.
+/// The difference between the enlargements of two covers by a shape.
 #[inline(always)]
 pub(crate) fn difference(one: &Shape, two: &Shape, shape: &Shape) -> Area
     ensures { result ≡ choices.difference one.now two.now shape.now }
@@ -63,7 +63,7 @@ pub(crate) fn difference(one: &Shape, two: &Shape, shape: &Shape) -> Area
     enlargement(one, shape).abs_diff(enlargement(two, shape))
 }
 
-/// What a cover needs to take in a shape, least first.
+/// The cost for a cover to include a shape, compared by enlargement and then by area.
 #[derive(Clone, Copy, PartialEq, Eq, PartialOrd, Ord)]
 pub(crate) struct Need {
     pub(crate) enlargement: Area,

@@ -9,13 +9,13 @@ use crate::choices::{pick_next, pick_seeds};
 use crate::measures::{Covered, Need};
 use geom_core::Shape;
 
-/// The fewest items of a group, and of a node other than the root (Guttman's m).
+/// The least number of items in a group, and in a node other than the root (Guttman's m).
 pub const FEWEST: usize = 3;
 
-/// The most entries or children of a node (Guttman's M).
+/// The greatest number of entries or children of a node (Guttman's M).
 pub const MOST: usize = 8;
 
-/// What a group of a split needs to take in an item: by enlargement, then area, then size.
+/// The cost for a group of a split to take an item: by enlargement, then area, then size.
 #[derive(Clone, Copy, PartialEq, Eq, PartialOrd, Ord)]
 struct Cost {
     need: Need,
@@ -57,11 +57,11 @@ struct Covers {
 
 /// Splits nine items into two groups of 3 to 6, by Guttman's quadratic split.
 ///
-/// The two that waste most together begin the groups. Then the item for which the choice matters
-/// most goes to the group that needs less enlargement, then to the one of smaller area, then to the
-/// smaller one, then to the first. Where a group needs all that remain to have 3, they go to it in
-/// order. Afterwards `rest` is empty, and each group has its items in the order of assignment
-/// (Guttman 1984, QuadraticSplit).
+/// The two items that waste the most area together start the groups. Then the item for which the
+/// choice matters most goes to the group that needs less enlargement, then to the one of smaller
+/// area, then to the one with fewer items, then to the first. If a group needs all remaining items
+/// to have 3, they go to it in order. Afterwards `rest` is empty, and each group has its items in
+/// the order of assignment (Guttman 1984, QuadraticSplit).
 pub fn split<T: Covered>(rest: &mut Vec<T>, one: &mut Vec<T>, two: &mut Vec<T>)
     requires { CanSplit rest.old one.old two.old }
     ensures groups { AreGroups T.cover rest.old.items one.new.items two.new.items }
@@ -82,7 +82,7 @@ pub fn split<T: Covered>(rest: &mut Vec<T>, one: &mut Vec<T>, two: &mut Vec<T>)
     deal(rest, one, two, covers);
 }
 
-/// Deals the rest to the two groups, whose covers are given.
+/// Assigns the remaining items to the two groups, given their covers.
 fn deal<T: Covered>(rest: &mut Vec<T>, one: &mut Vec<T>, two: &mut Vec<T>, mut covers: Covers)
     requires { CanDeal (dealing rest.old one.old two.old covers) }
     ensures dealt { let start = dealing rest.old one.old two.old covers in
@@ -103,7 +103,7 @@ fn deal<T: Covered>(rest: &mut Vec<T>, one: &mut Vec<T>, two: &mut Vec<T>, mut c
     }
 }
 
-/// Whether something is left, and neither group needs all of it.
+/// Whether items remain and neither group needs all of them.
 fn can_choose(rest: usize, one: usize, two: usize) -> bool
     requires { one + two + rest ≤ most + 1 }
     ensures { IsTrue result ↔ CanChoose rest one two }
@@ -111,7 +111,7 @@ fn can_choose(rest: usize, one: usize, two: usize) -> bool
     rest > 0 && one + rest != FEWEST && two + rest != FEWEST
 }
 
-/// Deals the one item for which the choice between the groups matters most.
+/// Assigns the item for which the choice between the groups matters most.
 #[tactic(auto, using(crate::proofs::SplitLemmas::step_taken))]
 fn deal_next<T: Covered>(rest: &mut Vec<T>, one: &mut Vec<T>, two: &mut Vec<T>, covers: &mut Covers)
     requires { CanDealOne (dealing rest.old one.old two.old covers.old) }
@@ -132,7 +132,7 @@ fn deal_next<T: Covered>(rest: &mut Vec<T>, one: &mut Vec<T>, two: &mut Vec<T>, 
     }
 }
 
-/// Moves all items of `from` to the end of `to`, which has room for them.
+/// Moves all items of `from` to the end of `to`, whose capacity suffices.
 fn append_reserved<T>(to: &mut Vec<T>, from: &mut Vec<T>)
     requires { vec_len to.old + vec_len from.old ≤ vec_capacity to.old }
     ensures items { to.new.items ≡ to.old.items ++ from.old.items }

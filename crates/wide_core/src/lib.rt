@@ -1,4 +1,4 @@
-//! Exact arithmetic beyond 128 bits: the order of products of 128-bit numbers.
+//! Exact arithmetic beyond 128 bits: comparing products of 128-bit numbers.
 #![tactic(auto)]
 
 mod product;

@@ -1,4 +1,4 @@
-//! Which of two products is greater.
+//! Comparing two products.
 
 ghost use Rattle.std.specs.Prelude.{◌≡◌, ◌*ℤ◌, ◌≤◌, ◌^◌, nat_abs, IsTrue};
 ghost use Rattle.std.specs.Ordering.{int_cmp};
@@ -7,10 +7,10 @@ ghost use Rattle.wide_core.specs.Wides.{signed, value_of};
 use crate::wide::Wide;
 use std::cmp::Ordering;
 
-/// Numbers up to here, of either sign, have products that fit 128 bits.
+/// Numbers of at most this absolute value have products that fit into 128 bits.
 const NARROW: i128 = 1 << 63;
 
-/// Compares `a * b` with `c * d`, however large both are.
+/// Compares `a * b` with `c * d`, without overflow.
 #[inline]
 pub fn compare_products(a: i128, b: i128, c: i128, d: i128) -> Ordering
     ensures { result ≡ int_cmp (a *ℤ b) (c *ℤ d) }
@@ -30,7 +30,7 @@ fn is_narrow(n: i128) -> bool
     -NARROW <= n && n <= NARROW
 }
 
-/// Compares products that fit 128 bits.
+/// Compares products that fit into 128 bits.
 #[inline]
 fn compare_narrow(a: i128, b: i128, c: i128, d: i128) -> Ordering
     requires a { nat_abs a ≤ 2 ^ 63 }
@@ -42,7 +42,7 @@ fn compare_narrow(a: i128, b: i128, c: i128, d: i128) -> Ordering
     (a * b).cmp(&(c * d))
 }
 
-/// Compares products of any numbers of 128 bits.
+/// Compares products of any 128-bit numbers.
 fn compare_wide(a: i128, b: i128, c: i128, d: i128) -> Ordering
     ensures { result ≡ int_cmp (a *ℤ b) (c *ℤ d) }
 {
@@ -51,7 +51,7 @@ fn compare_wide(a: i128, b: i128, c: i128, d: i128) -> Ordering
     compare_signed((a < 0) != (b < 0), left, (c < 0) != (d < 0), right)
 }
 
-/// Compares two numbers that are given by a sign, which says nothing of 0, and a size.
+/// Compares two numbers that are given by sign and absolute value. The sign of 0 is ignored.
 fn compare_signed(left_is_less: bool, left: Wide, right_is_less: bool, right: Wide) -> Ordering
     ensures { result ≡ int_cmp
         (signed left_is_less (value_of left))

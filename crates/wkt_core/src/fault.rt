@@ -1,17 +1,17 @@
-//! Why a text stands for no shape.
+//! The faults of a text that spells no shape.
 
 use thiserror::Error;
 
-/// Why a text stands for no shape. Where several hold, the first is named.
+/// Why a text spells no shape. If several apply, it is the first of them.
 #[derive(Clone, Copy, Debug, PartialEq, Eq, Error)]
 pub enum WktFault {
-    /// The bytes are no text of the grammar.
+    /// The text isn't in the grammar.
     #[error("not a geometry text")]
     Text,
     /// Some number isn't a whole number of the scale's units, or is out of range.
     #[error("number not whole or out of range")]
     Number,
-    /// The points are those of no point, axis-parallel segment or rectangle.
+    /// The points don't form a point, axis-parallel segment or rectangle.
     #[error("not a point, axis-parallel segment or rectangle")]
     Form,
 }
@@ -20,7 +20,7 @@ impl WktFault {
     ghost use Rattle.std.specs.Prelude.{◌≡◌, ◌≤◌, length};
     ghost use Rattle.wkt_core.specs.FaultTexts.{wkt_text};
 
-    /// The fault in a few words, of at most 50 bytes.
+    /// The fault in a few words, at most 50 bytes.
     pub fn text(&self) -> &'static str
         ensures text { result.now ≡ wkt_text self.now }
         ensures short { length result.now ≤ 50 }

@@ -1,4 +1,4 @@
-//! The shape that a walk along the points of a text draws.
+//! The shape that the points of a text form.
 
 ghost use Rattle.std.specs.Prelude.{◌↔◌, IsTrue, IfSome, IfNone};
 ghost use Rattle.geom_core.specs.declared.shape.Shape.{Shape};
@@ -14,7 +14,7 @@ use crate::position::Position;
 use crate::walk::{Walk, is_straight};
 use geom_core::Shape;
 
-/// The smallest shape that has both points, where these are in range.
+/// The smallest shape that contains both points, if they are in range.
 #[inline(always)]
 fn spanned(p: &Position, q: &Position) -> Option<Shape>
     ensures some { IfSome result (λ s. IsSpanned p.now q.now s) }
@@ -44,7 +44,7 @@ fn segment(p: &Position, q: &Position) -> Option<Shape>
     }
 }
 
-/// Whether the way leads along the first axis, along the second, and along both again.
+/// Whether the path leads along the first axis, along the second, and along both again.
 #[inline(always)]
 fn leads_round(a: &Position, b: &Position, c: &Position, d: &Position) -> bool
     ensures { IsTrue result ↔ LeadsRound a.now b.now c.now d.now }
@@ -52,7 +52,7 @@ fn leads_round(a: &Position, b: &Position, c: &Position, d: &Position) -> bool
     a.y == b.y && b.x == c.x && c.y == d.y && d.x == a.x
 }
 
-/// Whether these are the corners of a rectangle, in order round it.
+/// Whether these are the corners of a rectangle, in order around it.
 #[inline(always)]
 fn has_four_corners(a: &Position, b: &Position, c: &Position, d: &Position) -> bool
     ensures { IsTrue result ↔ HasFourCorners a.now b.now c.now d.now }
@@ -61,7 +61,7 @@ fn has_four_corners(a: &Position, b: &Position, c: &Position, d: &Position) -> b
     round && a.x != c.x && a.y != c.y
 }
 
-/// What the first and the third of these span, where they are the corners of a rectangle.
+/// The cover of the first and the third of these, if they are the corners of a rectangle.
 #[inline(always)]
 #[tactic(auto, using(crate::proofs::FormLemmas::none_within))]
 fn within_corners(a: &Position, b: &Position, c: &Position, d: &Position) -> Option<Shape>
@@ -75,7 +75,7 @@ fn within_corners(a: &Position, b: &Position, c: &Position, d: &Position) -> Opt
     }
 }
 
-/// The rectangle with these corners, in order round it.
+/// The rectangle with these corners, in order around it.
 #[tactic(auto, using(crate::proofs::FormLemmas::rectangles))]
 fn rectangle(a: &Position, b: &Position, c: &Position, d: &Position) -> Option<Shape>
     ensures some { IfSome result (λ s. IsRectangle a.now b.now c.now d.now s) }
@@ -84,7 +84,7 @@ fn rectangle(a: &Position, b: &Position, c: &Position, d: &Position) -> Option<S
     within_corners(a, b, c, d)
 }
 
-/// The rectangle that a walk with these turns goes round, where it ends at the last point.
+/// The rectangle around which a walk with these turns leads, if it ends at the last point.
 fn ring(turns: &[Position], last: &Position) -> Option<Shape>
     ensures some { IfSome result (λ s. DrawnBy Polygon turns.now last.now s) }
     ensures none { IfNone result ((s : Shape) → DrawnBy Polygon turns.now last.now s → ⊥) }
@@ -96,7 +96,7 @@ fn ring(turns: &[Position], last: &Position) -> Option<Shape>
     }
 }
 
-/// The shape that a walk draws in a text with this keyword.
+/// The shape that a walk forms in a text with this keyword.
 pub(crate) fn shape_of(keyword: Keyword, walk: &Walk) -> Option<Shape>
     ensures some { IfSome result (λ s.
         IsDrawnBy keyword walk.now.turns.items walk.now.last s) }

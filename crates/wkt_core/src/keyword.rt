@@ -1,4 +1,4 @@
-//! The keyword that a text begins with.
+//! The keyword at the start of a text.
 
 use crate::token::skip_word;
 
@@ -14,7 +14,7 @@ impl Keyword {
     ghost use Rattle.std.specs.Prelude.{ℕ, List, IfSome, IfNone};
     ghost use Rattle.wkt_core.specs.ListSteps.{TakesWord};
 
-    /// The keyword at the front of a text, in any case, and what follows it.
+    /// The keyword at the start of a text, in any case, and the text after it.
     #[inline(always)]
     pub fn read(text: &[u8]) -> Option<(Keyword, &[u8])>
         ensures some { IfSome result (λ r. TakesWord text.now r.0 r.1.now) }
@@ -27,7 +27,7 @@ impl Keyword {
         }
     }
 
-    /// The keyword at the front of a text in capitals, as it mostly is, and what follows it.
+    /// The keyword at the start of a text, in upper case as is usual, and the text after it.
     #[inline(always)]
     fn read_capitals(text: &[u8]) -> Option<(Keyword, &[u8])>
         ensures { IfSome result (λ r. TakesWord text.now r.0 r.1.now) }
@@ -47,7 +47,7 @@ impl Keyword {
         None
     }
 
-    /// The keyword at the front of a text, in any case, and what follows it.
+    /// The keyword at the start of a text, in any case, and the text after it.
     #[cold]
     #[inline(never)]
     fn read_any_case(text: &[u8]) -> Option<(Keyword, &[u8])>

@@ -1,4 +1,4 @@
-//! Laws of the texts.
+//! The laws of the texts.
 
 ghost use Rattle.std.specs.Prelude.{◌≡◌, List, ℕ};
 ghost use Rattle.geom_core.specs.declared.shape.Shape.{Shape};
@@ -12,7 +12,7 @@ ghost use Rattle.wkt_core.specs.Scales.{digits_of};
 ghost use Rattle.wkt_core.specs.SpelledBefore.{SpelledBefore};
 ghost use Rattle.wkt_core.specs.Spelling.{Spells};
 
-/// A text has at most one raw form, and spells at most one shape at a scale.
+/// A text has at most one raw form, and spells at most one shape at a given scale.
 pub fn one_shape_law()
     ensures one_raw_form { (text : List ℕ) (k l : Keyword) (xs ys : List (List RawPoint))
         → Raw text k xs → Raw text l ys → (k ≡ l) × (xs ≡ ys) }
@@ -20,15 +20,15 @@ pub fn one_shape_law()
         → Spells scale text s → Spells scale text t → s ≡ t }
 {}
 
-/// What lists of two and of five points drew, when no further ones were read, they draw now.
+/// Lists of two and of five points that formed a shape before longer lists were read still form it.
 #[tactic(auto, using(crate::proofs::DrawnLemmas::drawn_still))]
 pub fn widened_law()
     ensures drawn_still { (keyword : Keyword) (ps : List Position) (s : Shape)
         → DrewBefore keyword ps s → Draws keyword ps s }
 {}
 
-/// What a text spelled, when numbers were whole and within 10^9, it spells now at a scale of no
-/// decimals.
+/// A text that spelled a shape when numbers had to be integers of absolute value at most 10^9 still
+/// spells it at scale 0.
 #[tactic(auto, using(crate::proofs::MigrationLemmas::spelled_still))]
 pub fn migration_law()
     ensures spelled_still { (scale : Scale) (text : List ℕ) (s : Shape)

@@ -1,4 +1,4 @@
-//! Points in parentheses: one, a list, and a list of lists.
+//! Points in parentheses: a single one, a list, and a list of lists.
 
 ghost use Rattle.std.specs.Prelude.{◌≡◌, [], ◌∷◌, List, ℕ, IfSome, IfNone};
 ghost use Rattle.wkt_core.specs.Grammar.{RawPoint};
@@ -10,8 +10,8 @@ use crate::read_list::{ReadList, ReadLists};
 use crate::scale::Scale;
 use crate::token::{Next, read_next, skip_blanks, skip_symbol};
 
-/// Reads the list of points at the front of a text into one of no points, and answers what
-/// follows it.
+/// Reads the list of points at the start of a text into an empty one, and returns the text after
+/// it.
 pub(crate) fn read_points<'a>(text: &'a [u8], scale: Scale, list: &mut ReadList) -> Option<&'a [u8]>
     requires { IsReadOf scale list.old [] }
     ensures some { IfSome result (λ rest.
@@ -32,8 +32,8 @@ pub(crate) fn read_points<'a>(text: &'a [u8], scale: Scale, list: &mut ReadList)
     }
 }
 
-/// Reads the one point in parentheses at the front of a text into a list of no points, and answers
-/// what follows it.
+/// Reads the single point in parentheses at the start of a text into an empty list, and returns the
+/// text after it.
 pub(crate) fn read_one_point<'a>(
     text: &'a [u8],
     scale: Scale,
@@ -52,7 +52,8 @@ pub(crate) fn read_one_point<'a>(
     Some(behind)
 }
 
-/// Reads the lists of points in parentheses at the front of a text, and answers what follows them.
+/// Reads the lists of points in parentheses at the start of a text, and returns the text after
+/// them.
 pub(crate) fn read_lists<'a>(
     text: &'a [u8],
     scale: Scale,

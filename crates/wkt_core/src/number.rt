@@ -1,4 +1,4 @@
-//! One number of a text.
+//! Reading one number of a text.
 
 ghost use Rattle.std.specs.Prelude.{◌≡◌, ◌==◌, ◌+◌, ◌*◌, ℕ, suc, ◌∷◌, drop};
 ghost use Rattle.std.specs.Char.{digit_value};
@@ -17,26 +17,27 @@ use geom_core::LIMIT;
 /// The greatest absolute value of a coordinate.
 const LARGEST: u64 = LIMIT as u64;
 
-/// How many digits are read with one test of the room for them and none of their sum, which fits.
+/// The number of digits that are read with one length check and no overflow check; their value
+/// fits.
 const FEW: usize = 6;
 
-/// What is read of a number.
+/// A number that was read.
 #[derive(Drop)]
 pub(crate) struct ReadNumber {
-    /// The whole units of the scale, where they are in range.
+    /// The number in whole units of the scale, if it is in range.
     pub(crate) value: Option<i64>,
-    /// Whether no digit but 0 stands behind the decimals that the scale keeps.
+    /// Whether all digits after the decimals of the scale are 0.
     pub(crate) whole: bool,
 }
 
-/// Whether a minus stands at the front, and the text behind the sign.
+/// Whether the text starts with a minus sign, and the text after the sign.
 #[inline(always)]
 fn sign(text: &[u8]) -> (bool, &[u8])
     ensures negative { result.0 ≡ (sign_at text.now).0 }
     ensures rest { result.1.now ≡ (sign_at text.now).1 }
 {
     match text {
-        // Digits mostly stand there, and both signs are below them.
+        // The text mostly starts with a digit, and both signs sort below the digits.
         [first, ..] if *first >= b'0' => (false, text),
         [b'+', rest @ ..] => (false, rest),
         [b'-', rest @ ..] => (true, rest),
@@ -44,7 +45,8 @@ fn sign(text: &[u8]) -> (bool, &[u8])
     }
 }
 
-/// The number with one more digit. A number beyond `LARGEST` stands for each that is.
+/// The number with one more digit. All numbers greater than `LARGEST` are represented by one of
+/// them.
 #[inline(always)]
 fn with_digit(number: u64, digit: u8) -> u64
     requires { IsDigit digit }
@@ -58,7 +60,7 @@ fn with_digit(number: u64, digit: u8) -> u64
     }
 }
 
-/// The number with all the digits at the front behind its own, and what follows them.
+/// The number with all the digits at the start of the text appended, and the text after them.
 #[inline(always)]
 fn with_digits(number: u64, text: &[u8]) -> (u64, &[u8])
     ensures value { (total : ℕ) → IsCapped number total
@@ -74,8 +76,8 @@ fn with_digits(number: u64, text: &[u8]) -> (u64, &[u8])
     (sum, rest)
 }
 
-/// The number that the digits at the front write, and what follows them. Where it is beyond
-/// `LARGEST`, some number beyond `LARGEST` stands for it, however many digits there are.
+/// The number of the digits at the start of the text, and the text after them. If it is greater
+/// than `LARGEST`, the result is some number greater than `LARGEST`, however many digits there are.
 #[inline(always)]
 fn magnitude(text: &[u8]) -> (u64, &[u8])
     ensures value { IsCapped result.0 (digits_value 10 (digits_at text.now)) }
@@ -94,7 +96,7 @@ fn magnitude(text: &[u8]) -> (u64, &[u8])
     with_digits(sum, &text[FEW..])
 }
 
-/// The digit at the front, or a 0 where there is none, and what follows it.
+/// The digit at the start of the text, or a 0 if there is none, and the text after it.
 #[inline(always)]
 #[tactic(auto, using(crate::proofs::NumberLemmas::no_digit))]
 fn next_decimal(text: &[u8]) -> (u8, &[u8])
@@ -110,8 +112,8 @@ fn next_decimal(text: &[u8]) -> (u8, &[u8])
     }
 }
 
-/// The number with this many digits more, those at the front and a 0 for each that is absent, and
-/// what follows them.
+/// The number with `count` more digits, those at the start of the text and a 0 for each missing
+/// one, and the text after them.
 #[inline(always)]
 fn with_decimals(number: u64, count: u8, text: &[u8]) -> (u64, &[u8])
     ensures value { (total : ℕ) → IsCapped number total
@@ -129,7 +131,7 @@ fn with_decimals(number: u64, count: u8, text: &[u8]) -> (u64, &[u8])
     (sum, rest)
 }
 
-/// Whether each digit at the front is 0, and what follows the digits.
+/// Whether all digits at the start of the text are 0, and the text after the digits.
 #[inline(always)]
 fn zeros(text: &[u8]) -> (bool, &[u8])
     ensures zeros { result.0 ≡ list_all (λ d. d == 48) (digits_at text.now) }
@@ -144,8 +146,8 @@ fn zeros(text: &[u8]) -> (bool, &[u8])
     (all, rest)
 }
 
-/// The units of the scale that a whole part and the decimals at the front make, whether no digit
-/// but 0 stands behind those that the scale keeps, and what follows the decimals.
+/// The units of the scale for a whole part and the decimals at the start of the text, whether all
+/// digits after the decimals of the scale are 0, and the text after the decimals.
 #[inline(always)]
 fn units(whole_part: u64, scale: Scale, text: &[u8]) -> (u64, bool, &[u8])
     ensures value { (total : ℕ) → IsCapped whole_part total → IsCapped result.0
@@ -167,7 +169,7 @@ fn units(whole_part: u64, scale: Scale, text: &[u8]) -> (u64, bool, &[u8])
     }
 }
 
-/// The number with this sign, where it is in range.
+/// The number with this sign, if it is in range.
 #[inline(always)]
 fn signed_number(negative: bool, magnitude: u64) -> Option<i64>
     ensures { result ≡ ranged negative magnitude }
@@ -179,8 +181,8 @@ fn signed_number(negative: bool, magnitude: u64) -> Option<i64>
     Some(if negative { -number } else { number })
 }
 
-/// What is read of the number at the front of a text, and what follows it: `None` where no number
-/// stands there.
+/// Reads the number at the start of a text, and returns it with the text after it, or `None` if
+/// there is no number.
 #[inline(always)]
 pub(crate) fn read_number(text: &[u8], scale: Scale) -> Option<(ReadNumber, &[u8])>
     ensures { answer_view result ≡ number_answer scale (number_at text.now) }

@@ -1,4 +1,4 @@
-//! The points of a text.
+//! Reading the points of a text.
 
 ghost use Rattle.std.specs.Prelude.{◌≡◌};
 ghost use Rattle.wkt_core.specs.TokenSteps.{answer_view};
@@ -26,16 +26,16 @@ impl Position {
     }
 }
 
-/// What is read of a point.
+/// A point that was read.
 #[derive(Drop)]
 pub struct ReadPoint {
-    /// The whole units of both numbers, where these are in range.
+    /// The point in whole units of the scale, if both coordinates are in range.
     pub position: Option<Position>,
     /// Whether both are whole numbers of units.
     pub whole: bool,
 }
 
-/// The position with these coordinates, where there are both.
+/// The position with these coordinates, if there are both.
 #[inline(always)]
 fn both(x: Option<i64>, y: Option<i64>) -> Option<Position>
     ensures { result ≡ position_from x y }
@@ -46,7 +46,7 @@ fn both(x: Option<i64>, y: Option<i64>) -> Option<Position>
     }
 }
 
-/// What is read of a point with these numbers.
+/// The point with these numbers.
 #[inline(always)]
 fn point(x: ReadNumber, y: ReadNumber) -> ReadPoint
     ensures { result ≡ point_from x y }
@@ -57,8 +57,8 @@ fn point(x: ReadNumber, y: ReadNumber) -> ReadPoint
     }
 }
 
-/// What is read of the point at the front of a text, and what follows it: `None` where no point
-/// stands there.
+/// Reads the point at the start of a text, and returns it with the text after it, or `None` if
+/// there is no point.
 #[inline(always)]
 pub fn read_point(text: &[u8], scale: Scale) -> Option<(ReadPoint, &[u8])>
     ensures { answer_view result ≡ point_answer scale (point_at text.now) }

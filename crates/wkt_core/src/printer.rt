@@ -14,10 +14,10 @@ use geom_core::Shape;
 use itoa::Buffer;
 use std::alloc::{AllocError, Global};
 
-/// Room for the longest text, a rectangle with ten numbers of at most fourteen bytes.
+/// The greatest length in bytes of a text, a rectangle with ten numbers of at most fourteen bytes.
 const LONGEST: usize = 165;
 
-/// Adds the digits of a fraction of 1 in units of the scale, up to the last that isn't 0.
+/// Adds the digits of a fraction in units of the scale, up to the last that isn't 0.
 fn push_decimals(text: &mut String, units: u64, scale: Scale) -> Result<(), AllocError>
     requires { units < 10 ^ digits_of scale }
     ensures { OnOk result (string_bytes text.new
@@ -35,7 +35,7 @@ fn push_decimals(text: &mut String, units: u64, scale: Scale) -> Result<(), Allo
     Ok(())
 }
 
-/// Adds a fraction of 1 in units of the scale, where it isn't 0.
+/// Adds a fraction in units of the scale, with its dot, if it isn't 0.
 fn push_fraction(text: &mut String, units: u64, scale: Scale) -> Result<(), AllocError>
     requires { units < 10 ^ digits_of scale }
     ensures { OnOk result (string_bytes text.new
@@ -64,10 +64,10 @@ fn push_number(text: &mut String, units: i64, scale: Scale) -> Result<(), AllocE
     push_fraction(text, magnitude % one, scale)
 }
 
-/// Adds the two numbers of a point to a text, by the units of a scale, with a space between them.
+/// Adds the two numbers of a point to a text, in units of a scale, with a space between them.
 ///
 /// # Errors
-/// Where memory is refused; the text may then end in a part of the point.
+/// If an allocation fails; the text may then end with a part of the point.
 pub fn push_point(text: &mut String, point: &Position, scale: Scale) -> Result<(), AllocError>
     ensures { OnOk result (string_bytes text.new
         ≡ string_bytes text.old ++ pair scale point.now) }
@@ -110,7 +110,7 @@ fn push_geometry(
     text.push_str(closing)
 }
 
-/// Adds the canonical spelling of a shape.
+/// Adds the canonical text of a shape.
 fn push_shape(text: &mut String, shape: &Shape, scale: Scale) -> Result<(), AllocError>
     ensures { OnOk result (string_bytes text.new
         ≡ string_bytes text.old ++ canonical scale shape.now) }
@@ -127,17 +127,17 @@ fn push_shape(text: &mut String, shape: &Shape, scale: Scale) -> Result<(), Allo
     }
 }
 
-/// The canonical spelling of the shape: plain decimal numbers, one space between the two numbers of
-/// a point, a comma and a space between points, and the ring of a rectangle from its lowest corner
-/// along the first axis. A number has no zero before its whole part nor at its fraction's end, and
-/// a dot only where its fraction isn't 0: at scale 2, 125 units are `1.25` and -5 are `-0.05`.
+/// The canonical text of the shape: plain decimal numbers, one space between the two numbers of a
+/// point, a comma and a space between points, and the ring of a rectangle from its lowest corner
+/// along the first axis. A number has no superfluous zeros, and a dot only if its fraction isn't 0:
+/// at scale 2, 125 units are `1.25` and -5 are `-0.05`.
 ///
 /// # Errors
-/// Where memory is refused.
+/// If an allocation fails.
 #[tactic(auto, using(crate::proofs::CanonicalLemmas::canonical_spells))]
 pub fn print(alloc: Global, shape: &Shape, scale: Scale) -> Result<String, AllocError>
     ensures text { IfOk result (λ text. string_bytes text ≡ canonical scale shape.now) }
-    // The spelling is read again as the shape.
+    // Reading the text gives the shape.
     ensures spells { Spells scale (canonical scale shape.now) shape.now }
 {
     let mut text = String::with_capacity(alloc, LONGEST)?;

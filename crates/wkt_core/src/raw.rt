@@ -1,4 +1,4 @@
-//! A whole text by the grammar, and what its points draw.
+//! Reading a whole text by the grammar, and the shape that its points form.
 
 use crate::form::shape_of;
 use crate::keyword::Keyword;
@@ -26,7 +26,7 @@ impl RawText {
     ghost use Rattle.wkt_core.specs.ListSteps.{TakesBody, TakesText};
     ghost use Rattle.wkt_core.specs.ReadLists.{IsReadOf, AreReadOf, are_in_range};
 
-    /// Reads the lists behind the keyword, and answers what follows them.
+    /// Reads the lists after the keyword, and returns the text after them.
     #[inline(always)]
     fn read_body<'a>(
         keyword: Keyword,
@@ -74,7 +74,7 @@ impl RawText {
         }
     }
 
-    /// Whether each number is a whole number of units.
+    /// Whether each number is a whole number of units of the scale.
     #[inline(always)]
     fn is_whole(&self) -> bool
         ensures { result ≡ self.now.lists.whole }
@@ -82,7 +82,7 @@ impl RawText {
         self.lists.is_whole()
     }
 
-    /// Whether each number, in whole units, is in range.
+    /// Whether each number is in range, in whole units.
     #[inline(always)]
     pub(crate) fn is_in_range(&self) -> bool
         ensures { result ≡ self.now.lists.in_range }
@@ -98,7 +98,7 @@ impl RawText {
         self.is_whole() && self.is_in_range()
     }
 
-    /// The shape that the points draw, where each of their numbers is in range.
+    /// The shape that the points form, if all their numbers are in range.
     #[inline(always)]
     pub(crate) fn shape(&self) -> Option<Shape>
         ensures some { IfSome result (λ s.

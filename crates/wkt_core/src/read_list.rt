@@ -1,12 +1,12 @@
-//! What is read of the points in parentheses: of one list, and of all lists of a text.
+//! The points in parentheses as they are read: those of one list, and those of all lists of a text.
 
 use crate::position::ReadPoint;
 use crate::walk::Walk;
 
-/// What is read of a list of points.
+/// A list of points that was read.
 #[derive(Drop)]
 pub(crate) struct ReadList {
-    /// Along the points, where all numbers are in range.
+    /// The walk along the points, if all their numbers are in range.
     walk: Walk,
     whole: bool,
     in_range: bool,
@@ -19,7 +19,7 @@ impl ReadList {
     ghost use Rattle.wkt_core.specs.PointSteps.{point_read};
     ghost use Rattle.wkt_core.specs.ReadLists.{IsReadOf};
 
-    /// Of no points.
+    /// The empty list.
     #[inline(always)]
     pub(crate) fn new() -> ReadList
         ensures { (scale : Scale) → IsReadOf scale result [] }
@@ -48,7 +48,7 @@ impl ReadList {
     }
 }
 
-/// The first list, whether it stands alone, and whether the numbers of all lists are good.
+/// The first list, whether it is the only one, and whether the numbers of all lists are good.
 #[derive(Drop)]
 pub(crate) struct ReadLists {
     pub(crate) first: ReadList,
@@ -63,7 +63,7 @@ impl ReadLists {
     ghost use Rattle.wkt_core.specs.Grammar.{RawPoint};
     ghost use Rattle.wkt_core.specs.ReadLists.{IsReadOf, AreReadOf};
 
-    /// Before the first list is read.
+    /// The state before the first list is read.
     #[inline(always)]
     pub(crate) fn new() -> ReadLists
         ensures { (scale : Scale) → IsReadOf scale result.first [] }
@@ -76,7 +76,7 @@ impl ReadLists {
         }
     }
 
-    /// Takes in the first list, which stands alone as long as no other is added.
+    /// Records that the first list was read. It is the only one until another is added.
     #[inline(always)]
     pub(crate) fn first_was_read(&mut self)
         ensures { (scale : Scale) (ps : List RawPoint)
@@ -99,7 +99,7 @@ impl ReadLists {
         self.in_range = self.in_range && further.in_range;
     }
 
-    /// Whether each number of the lists is a whole number of units.
+    /// Whether each number of the lists is a whole number of units of the scale.
     #[inline(always)]
     pub(crate) fn is_whole(&self) -> bool
         ensures { result ≡ self.now.whole }
@@ -107,7 +107,7 @@ impl ReadLists {
         self.whole
     }
 
-    /// Whether each number of the lists, in whole units, is in range.
+    /// Whether each number of the lists is in range, in whole units.
     #[inline(always)]
     pub(crate) fn is_in_range(&self) -> bool
         ensures { result ≡ self.now.in_range }
@@ -115,7 +115,7 @@ impl ReadLists {
         self.in_range
     }
 
-    /// The walk along a list that stands alone.
+    /// The walk along the list, if it is the only one.
     #[inline(always)]
     pub(crate) fn alone(&self) -> Option<&Walk>
         ensures some { IfSome result (λ walk.

@@ -19,25 +19,25 @@ use geom_core::Shape;
 ///
 /// A text is `POINT (x y)`, `LINESTRING (x y, ..)` or `POLYGON ((x y, ..), ..)` (OGC 06-103r4,
 /// 7.2), with the keyword in any ASCII case. White space (space, tab, carriage return, line feed)
-/// may stand between any two parts and at both ends, and has to stand between the two numbers of a
-/// point. A number has an optional sign, one digit or more, and an optional dot with any count of
-/// digits behind it.
+/// may be between any two tokens and at both ends, and must be between the two numbers of a point.
+/// A number has an optional sign, one digit or more, and an optional dot with any number of digits
+/// after it.
 ///
-/// The number is read in units of the scale, by its digits and the decimals that the scale keeps:
-/// at scale 2, `1.250` is 125 units and `-0.1` is -10.
+/// The number is read in units of the scale, from its digits and the decimals of the scale: at
+/// scale 2, `1.250` is 125 units and `-0.1` is -10.
 ///
-/// A list may have any count of points and takes no memory. A point that is equal to the one
-/// before it changes nothing.
+/// A list may have any number of points and takes no memory. A point equal to the one before it
+/// is ignored.
 ///
 /// # Errors
-/// - [`WktFault::Text`] where the bytes are no text of this grammar, with any count of points and
-///   lists of points where the grammar has a list.
-/// - [`WktFault::Number`] where some number has a digit other than 0 behind the decimals that the
-///   scale keeps, or is more than [`geom_core::LIMIT`] units from 0.
-/// - [`WktFault::Form`] where a `LINESTRING` isn't two different points or more that go straight
-///   along an axis, or a `POLYGON` isn't one ring that ends where it begins and goes once round a
-///   rectangle with a width and a height: over its four corners and any points inside its sides,
-///   in order, from any of them, in either direction.
+/// - [`WktFault::Text`] if the bytes aren't a text of this grammar, in which a list may have any
+/// number of points or lists of points.
+/// - [`WktFault::Number`] if some number has a digit other than 0 after the decimals of the scale,
+/// or is more than [`geom_core::LIMIT`] units from 0.
+/// - [`WktFault::Form`] if a `LINESTRING` doesn't have two or more distinct points that go straight
+/// along an axis, or if a `POLYGON` isn't a single closed ring that goes once around a rectangle of
+/// positive width and height: through its four corners and any points within its sides, in order,
+/// from any of them, in either direction.
 pub fn read(text: &[u8], scale: Scale) -> Result<Shape, WktFault>
     ensures reads { Reads scale text.now result }
     ensures only { (answer : Result Shape WktFault)
@@ -46,7 +46,7 @@ pub fn read(text: &[u8], scale: Scale) -> Result<Shape, WktFault>
     reading(text, scale, RawText::read(text, scale))
 }
 
-/// The one answer of a text, from its keyword and lists.
+/// The result of a text, from its keyword and lists.
 #[inline(always)]
 fn reading(text: &[u8], scale: Scale, read: Option<RawText>) -> Result<Shape, WktFault>
     requires some { IfSome read (λ raw. (lists : List (List RawPoint))
@@ -58,7 +58,7 @@ fn reading(text: &[u8], scale: Scale, read: Option<RawText>) -> Result<Shape, Wk
     answer(read)
 }
 
-/// The answer for a keyword and lists.
+/// The result of a keyword and lists.
 #[inline(always)]
 fn answer(read: Option<RawText>) -> Result<Shape, WktFault>
     ensures { IsAnswerOf read result }

@@ -1,12 +1,12 @@
-//! How many decimals a coordinate keeps.
+//! The number of decimals of a coordinate.
 
 ghost use Rattle.std.specs.Prelude.{◌≤◌};
 ghost use Rattle.wkt_core.specs.ScaleLimits.{most_digits};
 
-/// The most decimals.
+/// The greatest number of decimals.
 const MOST_DIGITS: u8 = 6;
 
-/// How many decimals the coordinates of all inputs keep, 0 to 6.
+/// The number of decimals of all coordinates, 0 to 6.
 ///
 /// At scale k a coordinate is a whole number of units of 10^-k.
 #[derive(Clone, Copy, Debug, PartialEq, Eq)]
@@ -20,7 +20,7 @@ impl Scale {
     ghost use Rattle.wkt_core.specs.ScaleLimits.{most_digits};
     ghost use Rattle.wkt_core.specs.Scales.{digits_of};
 
-    /// The scale of this many decimals, or `None` above 6.
+    /// The scale with this number of decimals, or `None` if it is greater than 6.
     pub fn new(digits: u32) -> Option<Scale>
         ensures some { IsSome result ↔ (digits ≤ most_digits) }
         ensures digits { IfSome result (λ scale. digits_of scale ≡ digits) }
@@ -34,7 +34,7 @@ impl Scale {
         }
     }
 
-    /// How many decimals a coordinate keeps.
+    /// The number of decimals of a coordinate.
     pub fn digits(&self) -> u8
         ensures digits { result ≡ digits_of self.now }
         ensures few { result ≤ most_digits }
@@ -42,7 +42,7 @@ impl Scale {
         self.digits
     }
 
-    /// How many units make 1.
+    /// The number of units in 1.
     pub(crate) fn units_in_one(&self) -> u64
         ensures { result ≡ 10 ^ digits_of self.now }
     {

@@ -1,11 +1,11 @@
-//! The tokens of a text that carry no number: white space, words and symbols.
+//! The tokens of a text other than numbers: white space, words and symbols.
 
 ghost use Rattle.std.specs.Prelude.{◌≡◌, ℕ, List, IfSome, IfNone};
 ghost use Rattle.wkt_core.specs.Grammar.{is_blank};
 ghost use Rattle.wkt_core.specs.TokenSteps.{skip, gap_at, symbol_at, rest_view};
 ghost use Rattle.wkt_core.specs.TokenSteps.{TakesLetters, StandsNext};
 
-/// Space, tab, carriage return or line feed.
+/// Whether the byte is a space, tab, carriage return or line feed.
 #[inline(always)]
 fn is_blank(byte: u8) -> bool
     ensures { result ≡ is_blank byte }
@@ -13,7 +13,7 @@ fn is_blank(byte: u8) -> bool
     matches!(byte, b' ' | b'\t' | b'\r' | b'\n')
 }
 
-/// The text behind its white space, of any length.
+/// The text after its leading white space, of any length.
 #[cold]
 #[inline(never)]
 fn skip_all_blanks(mut text: &[u8]) -> &[u8]
@@ -27,12 +27,12 @@ fn skip_all_blanks(mut text: &[u8]) -> &[u8]
     text
 }
 
-/// The text behind its white space.
+/// The text after its leading white space.
 #[inline(always)]
 pub fn skip_blanks(text: &[u8]) -> &[u8]
     ensures { result.now ≡ skip text.now }
 {
-    // There is mostly none or one space, and every byte of white space is at most a space.
+    // Mostly there is no or one space, and every byte of white space is at most a space.
     match text {
         [] => text,
         [first, ..] if *first > b' ' => text,
@@ -41,7 +41,7 @@ pub fn skip_blanks(text: &[u8]) -> &[u8]
     }
 }
 
-/// The text behind its white space, of which there is some.
+/// The text after its leading white space, or `None` if it has none.
 #[inline(always)]
 pub(crate) fn skip_gap(text: &[u8]) -> Option<&[u8]>
     ensures { rest_view result ≡ gap_at text.now }
@@ -52,7 +52,7 @@ pub(crate) fn skip_gap(text: &[u8]) -> Option<&[u8]>
     }
 }
 
-/// The text behind this byte.
+/// The text after this byte, or `None` if it doesn't start with it.
 #[inline(always)]
 pub fn skip_symbol(text: &[u8], symbol: u8) -> Option<&[u8]>
     ensures { rest_view result ≡ symbol_at symbol text.now }
@@ -63,13 +63,13 @@ pub fn skip_symbol(text: &[u8], symbol: u8) -> Option<&[u8]>
     }
 }
 
-/// What follows an item of a list: a comma or the closing parenthesis, and the text behind it.
+/// The token after an item of a list, a comma or the closing parenthesis, with the text after it.
 pub enum Next<'a> {
     Item(&'a [u8]),
     End(&'a [u8]),
 }
 
-/// What follows an item, where no white space stands between.
+/// The token after an item, without white space before it.
 #[inline(always)]
 fn read_symbol(text: &[u8]) -> Option<Next<'_>>
     ensures { StandsNext text.now result }
@@ -81,7 +81,7 @@ fn read_symbol(text: &[u8]) -> Option<Next<'_>>
     }
 }
 
-/// What follows an item and its white space, of which there is mostly none.
+/// The token after an item and its white space, of which there mostly is none.
 #[inline(always)]
 pub fn read_next(text: &[u8]) -> Option<Next<'_>>
     ensures { StandsNext (skip text.now) result }
@@ -92,7 +92,7 @@ pub fn read_next(text: &[u8]) -> Option<Next<'_>>
     }
 }
 
-/// The text behind this word, in any case.
+/// The text after this word in any ASCII case, or `None` if it doesn't start with it.
 #[inline(always)]
 pub fn skip_word<'a>(text: &'a [u8], word: &[u8]) -> Option<&'a [u8]>
     ensures some { IfSome result (λ rest. TakesLetters word.now text.now rest.now) }

@@ -1,4 +1,4 @@
-//! A walk along the points of a list, of which only the beginning, the turns and the end are kept.
+//! A walk along the points of a list, of which only the start, the turns and the end are kept.
 
 ghost use Rattle.std.specs.Prelude.{◌≡◌};
 ghost use Rattle.wkt_core.specs.Walks.{is_inside, is_vertical, is_horizontal, is_straight};
@@ -6,11 +6,11 @@ ghost use Rattle.wkt_core.specs.Walks.{is_inside, is_vertical, is_horizontal, is
 use crate::position::Position;
 use arrayvec::ArrayVec;
 
-/// One more than the points at which the walk of a shape begins and turns: a ring may begin inside
-/// a side and turn at four corners.
+/// One more than the greatest number of points at which the walk of a shape starts and turns: a
+/// ring may start within a side and turn at four corners.
 const ENOUGH: usize = 6;
 
-/// Whether the second number lies strictly between the first and the third.
+/// Whether the second number is strictly between the first and the third.
 #[inline(always)]
 #[tactic(auto, unfolding(crate::specs::Walks::is_inside))]
 fn is_inside(a: i64, b: i64, c: i64) -> bool
@@ -19,7 +19,7 @@ fn is_inside(a: i64, b: i64, c: i64) -> bool
     (a < b && b < c) || (c < b && b < a)
 }
 
-/// Whether the second point lies between the first and the third on a vertical line.
+/// Whether the second point is strictly between the first and the third on a vertical line.
 #[inline(always)]
 #[tactic(auto, using(crate::proofs::HeldLemmas::held))]
 fn is_vertical(p: &Position, q: &Position, r: &Position) -> bool
@@ -28,7 +28,7 @@ fn is_vertical(p: &Position, q: &Position, r: &Position) -> bool
     p.x == q.x && q.x == r.x && is_inside(p.y, q.y, r.y)
 }
 
-/// Whether the second point lies between the first and the third on a horizontal line.
+/// Whether the second point is strictly between the first and the third on a horizontal line.
 #[inline(always)]
 #[tactic(auto, using(crate::proofs::HeldLemmas::held))]
 fn is_horizontal(p: &Position, q: &Position, r: &Position) -> bool
@@ -37,7 +37,8 @@ fn is_horizontal(p: &Position, q: &Position, r: &Position) -> bool
     p.y == q.y && q.y == r.y && is_inside(p.x, q.x, r.x)
 }
 
-/// Whether the way from the first point over the second to the third is straight and along an axis.
+/// Whether the path from the first point through the second to the third is straight and along an
+/// axis.
 #[inline(always)]
 pub(crate) fn is_straight(p: &Position, q: &Position, r: &Position) -> bool
     ensures { result ≡ is_straight p.now q.now r.now }
@@ -45,12 +46,12 @@ pub(crate) fn is_straight(p: &Position, q: &Position, r: &Position) -> bool
     is_vertical(p, q, r) || is_horizontal(p, q, r)
 }
 
-/// What is kept of a walk.
+/// The kept points of a walk.
 #[derive(Drop)]
 pub(crate) struct Walk {
-    /// The first of the points at which it began and turned.
+    /// The first of the points at which it started and turned.
     turns: ArrayVec<Position, ENOUGH>,
-    /// Where it is, as long as there is room for turns.
+    /// The current position, as long as there is room for turns.
     last: Option<Position>,
 }
 
@@ -59,7 +60,7 @@ impl Walk {
     ghost use Rattle.wkt_core.specs.declared.position.Position.{Position};
     ghost use Rattle.wkt_core.specs.Walks.{goes_on, way_of, IsKeptOf};
 
-    /// Along no points.
+    /// The walk along no points.
     #[inline(always)]
     pub(crate) fn new() -> Walk
         ensures { IsKeptOf result (way_of []) }
@@ -70,7 +71,7 @@ impl Walk {
         }
     }
 
-    /// Whether the walk goes straight on over the last point to a further one.
+    /// Whether the walk goes straight on through the last point to a further one.
     #[inline(always)]
     fn goes_on(&self, last: &Position, point: &Position) -> bool
         ensures { result ≡ goes_on self.now.turns.items last.now point.now }
@@ -81,7 +82,7 @@ impl Walk {
         }
     }
 
-    /// Goes on to a point.
+    /// Extends the walk to a point.
     #[inline(always)]
     pub(crate) fn push(&mut self, point: Position)
         ensures { (ps : List Position)
@@ -101,7 +102,7 @@ impl Walk {
         self.last = Some(point);
     }
 
-    /// The points at which the walk began and turned.
+    /// The points at which the walk started and turned.
     #[inline(always)]
     pub(crate) fn turns(&self) -> &[Position]
         ensures { result.now ≡ self.now.turns.items }
@@ -109,7 +110,7 @@ impl Walk {
         self.turns.as_slice()
     }
 
-    /// Where the walk is.
+    /// The current position of the walk.
     #[inline(always)]
     pub(crate) fn last(&self) -> Option<Position>
         ensures { result ≡ self.now.last }
