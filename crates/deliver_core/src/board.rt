@@ -78,7 +78,7 @@ impl Board {
         // that is done makes no step.
         ensures draw { seat.old.done ≡ false → IsDraw self.now seat.old seat.new }
 
-        // For every word and every knowledge of the seats that obey the board's rule.
+        // For every word and all knowledge of the seats that satisfy the board's rule.
         ensures word_bound { (word : ℕ) (views : List SeatView)
             → ObeysRule (size_of self.now) word views → word ≤ self.now.tasks + self.now.seats }
     {
