@@ -7,8 +7,8 @@ ghost use Rattle.plane_core.specs.Figures.{Figure};
 ghost use Rattle.plane_core.specs.PlaneMatrices.{IsPlaneMatrix};
 ghost use Rattle.agreement_core.specs.BoxFigures.{IsBoxFigure};
 
-/// The matrix of two shapes by cells of the grid is the matrix of their geometries by points of the
-/// plane. So two boxes are related by comparing the ends of their intervals.
+/// The matrix of two shapes by cells of the grid equals the matrix of their geometries by points of
+/// the plane. So two boxes can be related by comparing the ends of their intervals.
 #[tactic(auto, using(crate::proofs::FigureLemmas::agreement_of_boxes))]
 pub fn agreement_law()
     ensures { (a b : Shape) (g h : Figure) (m : Matrix) → IsBoxFigure a g → IsBoxFigure b h

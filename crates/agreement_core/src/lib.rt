@@ -1,5 +1,5 @@
-//! Agreement: points, axis-parallel segments and rectangles have one matrix, whether they are seen as
-//! cells of the grid or as geometries of the plane.
+//! Agreement: points, axis-parallel segments and rectangles have the same matrix as cells of the
+//! grid and as geometries of the plane.
 #![tactic(auto)]
 
 mod laws;

@@ -20,10 +20,10 @@ impl AnyRelation {
     ghost use Rattle.any_relation_core.specs.PlaneRelations.{HoldsForDisjoint};
     ghost use Rattle.any_relation_core.specs.AnyRelations.{relation_of, rings_of};
 
-    /// The relation, if no two disjoint geometries with such rings stand in it.
+    /// The relation, if it holds for no two disjoint geometries with rings of this rule.
     ///
     /// # Errors
-    /// `AllowsDisjoint` where two such geometries do.
+    /// `AllowsDisjoint` if it holds for two such geometries.
     pub fn new(relation: Relation, rings: Rings) -> Result<AnyRelation, AllowsDisjoint>
         ensures ok { IsOk result ↔ ForbidsDisjoint rings relation }
         ensures same { IfOk result (λ join. relation_of join ≡ relation) }
@@ -46,7 +46,7 @@ impl AnyRelation {
         &self.relation
     }
 
-    /// Which rings the geometries may have.
+    /// The rule for the rings of the geometries.
     pub fn rings(&self) -> Rings
         ensures { result ≡ rings_of self.now }
     {
@@ -67,7 +67,7 @@ fn allows_apart(relation: &Relation, rings: Rings) -> bool
         .any(|first| allows_beside(relation, rings, *first))
 }
 
-/// The same, where the first of the two is of this class.
+/// The same, if the first geometry is of this class.
 fn allows_beside(relation: &Relation, rings: Rings, first: Class) -> bool
     ensures { IsTrue result ↔ AllowsBeside rings relation.now first }
 {

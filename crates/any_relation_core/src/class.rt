@@ -1,4 +1,4 @@
-//! Classes of geometries by what their parts amount to.
+//! Classes of geometries by the dimensions of their interior and boundary.
 
 ghost use Rattle.std.specs.Prelude.{◌≡◌, ◌≤◌};
 ghost use Rattle.any_relation_core.specs.Classes.{apart_matrix, class_dim, classes};
@@ -7,22 +7,22 @@ ghost use Rattle.any_relation_core.specs.Classes.{boundary_of, interior_of};
 use plane_core::Rings;
 use relation_core::{Extent, Matrix, Parts};
 
-/// Geometries whose interiors and boundaries amount to the same.
+/// Geometries whose interiors and boundaries have the same dimensions.
 #[derive(Clone, Copy, Debug, PartialEq, Eq)]
 pub(crate) enum Class {
     /// Points, which have no boundary.
     Points,
     /// Lines with a boundary.
     OpenLines,
-    /// Lines without, as closed ones.
+    /// Lines without a boundary, such as closed ones.
     ClosedLines,
     /// Areas with an interior.
     Areas,
-    /// Areas without, by the even-odd rule.
+    /// Areas without an interior, by the even-odd rule.
     HollowAreas,
 }
 
-/// The classes of geometries whose areas have such rings.
+/// The classes of the geometries whose areas have rings of this rule.
 pub(crate) fn classes_of(rings: Rings) -> &'static [Class]
     ensures { result.now ≡ classes rings }
 {
@@ -56,7 +56,7 @@ impl Class {
         }
     }
 
-    /// What the interior amounts to.
+    /// The dimension of the interior.
     fn interior(self) -> Extent
         ensures { result ≡ interior_of self }
     {
@@ -68,7 +68,7 @@ impl Class {
         }
     }
 
-    /// What the boundary amounts to.
+    /// The dimension of the boundary.
     fn boundary(self) -> Extent
         ensures { result ≡ boundary_of self }
     {

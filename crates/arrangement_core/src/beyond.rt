@@ -1,4 +1,4 @@
-//! Edges beyond the box of the other geometry, which can add nothing more to a matrix.
+//! Edges beyond the box of the other geometry, which can't add anything to a matrix.
 
 ghost use Rattle.std.specs.Prelude.{◌≡◌, ◌≢◌, pos, IsTrue};
 ghost use Rattle.relation_core.specs.declared.extent.Extent.TheVariants.{Area};
@@ -41,7 +41,7 @@ fn is_high(e: &Edge, bounds: &Shape) -> bool
     limit < e.a.y && limit < e.b.y
 }
 
-/// Whether an edge lies wholly on one side of a box.
+/// Whether an edge lies entirely on one side of a box.
 pub(crate) fn is_beyond(e: &Edge, bounds: &Shape) -> bool
     ensures { result ≡ is_beyond bounds.now e.now }
 {
@@ -52,7 +52,7 @@ pub(crate) fn is_beyond(e: &Edge, bounds: &Shape) -> bool
     left | right | low | high
 }
 
-/// The part in which the points of an edge lie at which no polyline ends.
+/// The part in which the points of an edge lie, except where polylines end.
 fn parts_along(kind: Kind) -> Parts<bool>
     ensures { result ≡ parts_along kind }
 {
@@ -70,7 +70,7 @@ fn has_no_end(own: &Outline, e: &Edge) -> bool
     own.ends.iter().all(|v| !e.is_on_vertex(v))
 }
 
-/// The same, of polylines alone.
+/// The same for polylines; true for other kinds.
 fn is_free(own: &Outline, e: &Edge) -> bool
     ensures { IsTrue result → own.now.kind ≡ Kind.Lines → IsTrue (has_no_end own.now e.now) }
 {
@@ -81,7 +81,7 @@ fn is_free(own: &Outline, e: &Edge) -> bool
     }
 }
 
-/// Whether a column of a matrix has each face that can lie above an edge.
+/// Whether a column of a matrix includes each face that can lie above an edge.
 fn are_faces_in(column: &Parts<Extent>, kind: Kind, e: &Edge) -> bool
     ensures { IsTrue result → run e.now ≢ pos 0 → AreShown column.now (parts_above kind) Area }
 {
@@ -92,7 +92,7 @@ fn are_faces_in(column: &Parts<Extent>, kind: Kind, e: &Edge) -> bool
     }
 }
 
-/// Whether a matrix has all that an edge can show of the exterior of the other geometry.
+/// Whether a matrix includes all that an edge can add in the exterior of the other geometry.
 pub(crate) fn is_edge_shown(matrix: &Matrix, own: &Outline, e: &Edge) -> bool
     ensures { IsTrue result → IsEdgeShown matrix.now own.now e.now }
 {

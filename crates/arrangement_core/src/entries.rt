@@ -1,4 +1,4 @@
-//! The entries of a matrix that grows.
+//! The entries of a matrix while it is built.
 
 ghost use Rattle.std.specs.Prelude.{◌≡◌, [], ◌∷◌};
 ghost use Rattle.plane_core.specs.PlaneMatrices.{pick, entry};
@@ -8,7 +8,7 @@ ghost use Rattle.arrangement_core.specs.Growth.{Mark, HasGrownBy, with_part, out
 use plane_core::Part;
 use relation_core::{Extent, Matrix, Parts};
 
-/// The matrix of which nothing is known but that the exteriors share an area.
+/// The matrix that includes only the common area of the exteriors.
 pub(crate) fn outside() -> Matrix
     ensures { result ≡ outside }
 {
@@ -31,7 +31,7 @@ pub(crate) fn outside() -> Matrix
     }
 }
 
-/// The place of an extent in the order of extents.
+/// The rank of an extent in the order of extents.
 pub(crate) fn rank(extent: Extent) -> u8
     ensures { result ≡ rank extent }
 {
@@ -43,7 +43,7 @@ pub(crate) fn rank(extent: Extent) -> u8
     }
 }
 
-/// What a part of the first geometry shares with the parts of the second.
+/// The intersections of a part of the first geometry with the parts of the second.
 pub(crate) fn row_of(matrix: &Matrix, part: Part) -> Parts<Extent>
     ensures { result ≡ pick part matrix.now.rows }
 {
@@ -64,7 +64,7 @@ fn entry_of(row: &Parts<Extent>, part: Part) -> Extent
     }
 }
 
-/// What a part of the second geometry shares with the parts of the first.
+/// The intersections of a part of the second geometry with the parts of the first.
 pub(crate) fn column_of(matrix: &Matrix, part: Part) -> Parts<Extent>
     ensures { result ≡ pick part (transposed matrix.now).rows }
 {
@@ -75,7 +75,7 @@ pub(crate) fn column_of(matrix: &Matrix, part: Part) -> Parts<Extent>
     }
 }
 
-/// The matrix of the same geometries, the second one first.
+/// The matrix of the same geometries in reverse order.
 pub(crate) fn transposed(matrix: &Matrix) -> Matrix
     ensures { result ≡ transposed matrix.now }
 {
@@ -88,7 +88,7 @@ pub(crate) fn transposed(matrix: &Matrix) -> Matrix
     }
 }
 
-/// A row with another entry in a place.
+/// A row with one entry replaced.
 fn with_entry(row: Parts<Extent>, part: Part, extent: Extent) -> Parts<Extent>
     ensures { result ≡ with_part part extent row }
 {
@@ -108,7 +108,7 @@ fn with_entry(row: Parts<Extent>, part: Part, extent: Extent) -> Parts<Extent>
     }
 }
 
-/// Rows with another row in a place.
+/// Rows with one row replaced.
 fn with_row(rows: Parts<Parts<Extent>>, part: Part, row: Parts<Extent>) -> Parts<Parts<Extent>>
     ensures { result ≡ with_part part row rows }
 {
@@ -128,7 +128,7 @@ fn with_row(rows: Parts<Parts<Extent>>, part: Part, row: Parts<Extent>) -> Parts
     }
 }
 
-/// A matrix with an entry raised to an extent at least.
+/// A matrix with an entry raised to at least an extent.
 pub(crate) fn raised(matrix: Matrix, first: Part, second: Part, extent: Extent) -> Matrix
     ensures { let mark : Mark = record { first = first; second = second; extent = extent } in
         HasGrownBy (mark ∷ []) matrix result }

@@ -1,5 +1,5 @@
 //! The arrangement of the edges of two geometries: its nodes, the pieces of edges between them, and
-//! the matrix of the two geometries, which can be read off these.
+//! the matrix of the two geometries, which is read off these.
 #![tactic(auto)]
 
 mod beyond;

@@ -1,7 +1,7 @@
-//! What nodes, pieces of edges and the faces above these show of a matrix.
+//! Adding nodes, pieces of edges and the faces above these to a matrix.
 //!
-//! The edges are those of one of the two geometries, `own`, and matrices have its parts first. A
-//! place is looked up in the other geometry only where it can still change the matrix.
+//! The edges are those of one of the two geometries, `own`, and the rows of matrices are its parts.
+//! A point is located in the other geometry only if this can still change the matrix.
 
 ghost use Rattle.std.specs.Prelude.{◌≡◌, ◌<◌, [], ◌∷◌, map, length, true, All, IsTrue};
 ghost use Rattle.std.specs.List.{slice_index_or};
@@ -22,8 +22,8 @@ use edge_index_core::IndexedOutline;
 use plane_core::{Edge, Kind, Node, Part, Place};
 use relation_core::{Extent, Matrix};
 
-/// A matrix that shows a point of which one part is known, and the other one looked up only if the
-/// matrix doesn't show it whichever it is.
+/// The matrix with a point of which one part is known. The other part is located only if the matrix
+/// may not include the point yet.
 fn mark_place(matrix: Matrix, part: Part, other: &IndexedOutline, p: &Place) -> Matrix
     ensures { HasGrownBy (mark_in part other.now (point_of p.now) ∷ []) matrix result }
 {
@@ -37,7 +37,7 @@ fn mark_place(matrix: Matrix, part: Part, other: &IndexedOutline, p: &Place) -> 
     }
 }
 
-/// A matrix that shows the parts in which a point of an edge lies.
+/// The matrix with a point of an edge.
 fn mark_node(matrix: Matrix, own: &IndexedOutline, other: &IndexedOutline, p: &Place) -> Matrix
     requires { IsOnEdge own.now (point_of p.now) }
     ensures { HasGrownBy (mark_at own.now other.now Dot (point_of p.now) ∷ []) matrix result }
@@ -46,7 +46,7 @@ fn mark_node(matrix: Matrix, own: &IndexedOutline, other: &IndexedOutline, p: &P
     mark_place(matrix, part, other, p)
 }
 
-/// A matrix that shows the face above a point, of which the part in the other geometry is known.
+/// The matrix with the face above a point, of which the part in the other geometry is known.
 fn mark_above(matrix: Matrix, own: &IndexedOutline, above: Part, p: &Place) -> Matrix
     ensures { HasGrownBy (mark_beside own.now above (point_of p.now) ∷ []) matrix result }
 {
@@ -60,7 +60,7 @@ fn mark_above(matrix: Matrix, own: &IndexedOutline, above: Part, p: &Place) -> M
     }
 }
 
-/// A matrix that shows the piece of an edge on which a point lies, and the face above it.
+/// The matrix with the piece of an edge on which a point lies, and the face above it.
 fn place_piece(
     matrix: Matrix,
     own: &IndexedOutline,
@@ -81,8 +81,8 @@ fn place_piece(
     }
 }
 
-/// A matrix that shows the piece of an edge on which a point lies, and the face above it: as it is,
-/// if it shows all that these can be.
+/// The matrix with the piece of an edge on which a point lies, and the face above it. It is
+/// unchanged if it includes all that these can be.
 fn mark_piece(
     matrix: Matrix,
     own: &IndexedOutline,
@@ -102,7 +102,7 @@ fn mark_piece(
     }
 }
 
-/// A matrix that shows the piece of an edge between two of its points, where these differ.
+/// The matrix with the piece of an edge between two of its points, if these differ.
 fn mark_gap(
     matrix: Matrix,
     own: &IndexedOutline,
@@ -130,7 +130,7 @@ fn node_at(nodes: &[Node], i: usize) -> Node
     nodes[i]
 }
 
-/// Whether a node has the place of the one before it.
+/// Whether a node is at the same point as the one before it.
 fn is_repeated(nodes: &[Node], i: usize) -> bool
     requires { i < length nodes.now }
     ensures { IsTrue result → IsRepeated nodes.now i }
@@ -144,7 +144,7 @@ fn is_repeated(nodes: &[Node], i: usize) -> bool
     }
 }
 
-/// A matrix that shows the nodes of an edge.
+/// The matrix with the nodes of an edge.
 fn mark_nodes(
     matrix: Matrix,
     own: &IndexedOutline,
@@ -165,7 +165,7 @@ fn mark_nodes(
     grown
 }
 
-/// A matrix that shows the pieces of an edge between its nodes, and the faces above these.
+/// The matrix with the pieces of an edge between its nodes, and the faces above these.
 fn mark_gaps(
     matrix: Matrix,
     own: &IndexedOutline,
@@ -187,7 +187,7 @@ fn mark_gaps(
     grown
 }
 
-/// A matrix that shows single points, which are interior points of the first geometry.
+/// The matrix with single points, which are interior points of the first geometry.
 fn mark_each(matrix: Matrix, own: &IndexedOutline, other: &IndexedOutline) -> Matrix
     requires { own.now.kind ≡ Kind.Points }
     ensures { let marks = map (λ v. mark_at own.now other.now Dot (at v)) own.now.ends.items in
@@ -201,7 +201,7 @@ fn mark_each(matrix: Matrix, own: &IndexedOutline, other: &IndexedOutline) -> Ma
     grown
 }
 
-/// A matrix that shows the single points of the first geometry, if it is made of such.
+/// The matrix with the points of the first geometry, if that consists of points.
 pub(crate) fn mark_points(matrix: Matrix, own: &IndexedOutline, other: &IndexedOutline) -> Matrix
     ensures { let points = points_by own.now.kind own.now.ends.items in
         HasGrownBy (map (λ v. mark_at own.now other.now Dot (at v)) points) matrix result }
@@ -213,7 +213,7 @@ pub(crate) fn mark_points(matrix: Matrix, own: &IndexedOutline, other: &IndexedO
     }
 }
 
-/// A matrix that shows an edge of the first geometry by its nodes: these, its pieces, and the faces
+/// The matrix with an edge of the first geometry, given its nodes: these, its pieces, and the faces
 /// above these.
 pub(crate) fn mark_noded(
     matrix: Matrix,

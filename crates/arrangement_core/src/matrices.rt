@@ -18,7 +18,7 @@ use plane_core::{Edge, Geometry, Kind, Node, Outline, Vertex};
 use relation_core::Matrix;
 use std::alloc::{AllocError, Global};
 
-/// Adds the single points of a geometry, if it is made of such.
+/// Adds the points of a geometry, if it consists of points.
 fn push_points(points: &mut Vec<Vertex>, a: &Outline) -> Result<(), AllocError>
     ensures { OnOk result (points.new.items ≡ points.old.items ++ points_by a.now.kind a.now.ends.items) }
 {
@@ -32,7 +32,7 @@ fn push_points(points: &mut Vec<Vertex>, a: &Outline) -> Result<(), AllocError>
     }
 }
 
-/// The single points of both.
+/// The points of both geometries.
 fn all_points(alloc: Global, a: &Outline, b: &Outline) -> Result<Vec<Vertex>, AllocError>
     ensures { IfOk result (λ v. v.items ≡ outline_points a.now b.now) }
 {
@@ -42,8 +42,8 @@ fn all_points(alloc: Global, a: &Outline, b: &Outline) -> Result<Vec<Vertex>, Al
     Ok(points)
 }
 
-/// A matrix that shows an edge of the first geometry: its nodes, for which there is a list to
-/// reuse, its pieces, and the faces above these.
+/// The matrix with an edge of the first geometry: its nodes, its pieces, and the faces above these.
+/// `nodes` is a list to reuse.
 fn mark_near_edge(
     nodes: &mut Vec<Node>,
     matrix: Matrix,
@@ -60,8 +60,8 @@ fn mark_near_edge(
     Ok(mark_noded(matrix, &pair.first, &pair.second, e, nodes))
 }
 
-/// Whether an edge of the first geometry lies beyond the box of the second, and the matrix has all
-/// that it can show.
+/// Whether an edge of the first geometry lies beyond the box of the second, and the matrix includes
+/// all that it can add.
 fn adds_none(matrix: &Matrix, pair: &Pair, e: &Edge) -> bool
     requires bounded { IsBounded pair.now.second pair.now.second_box }
     requires one { let a = pair.now.first in let b = pair.now.second in
@@ -77,8 +77,7 @@ fn adds_none(matrix: &Matrix, pair: &Pair, e: &Edge) -> bool
     }
 }
 
-/// The same matrix, if an edge of the first geometry can add nothing to it, and else one that shows
-/// the edge.
+/// The matrix with an edge of the first geometry. It is unchanged if the edge can add nothing.
 fn mark_edge(
     nodes: &mut Vec<Node>,
     matrix: Matrix,
@@ -99,7 +98,7 @@ fn mark_edge(
     }
 }
 
-/// A matrix that shows all edges of the first geometry.
+/// The matrix with all edges of the first geometry.
 fn mark_edges(
     alloc: Global,
     matrix: Matrix,
@@ -121,7 +120,7 @@ fn mark_edges(
     Ok(grown)
 }
 
-/// A matrix that shows all edges and single points of two geometries.
+/// The matrix with all edges and points of two geometries.
 fn read_off(alloc: Global, pair: Pair) -> Result<Matrix, AllocError>
     requires long { All HasLength (outline_edges pair.first pair.second) }
     requires first { IsBounded pair.first pair.first_box }
@@ -152,7 +151,10 @@ fn indexed(alloc: Global, geometry: &Geometry) -> Result<IndexedOutline, AllocEr
 }
 
 /// The nine-intersection matrix of two geometries: for each part of the first and each part of the
-/// second the greatest dimension of what they share (OGC 06-103r4, 6.1.15.2).
+/// second the dimension of their intersection (OGC 06-103r4, 6.1.15.2).
+///
+/// # Errors
+/// If an allocation fails.
 pub fn relate(alloc: Global, a: &Geometry, b: &Geometry) -> Result<Matrix, AllocError>
     ensures { IfOk result (λ m. IsPlaneMatrix a.now b.now m) }
 {

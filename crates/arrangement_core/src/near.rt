@@ -1,4 +1,4 @@
-//! The points where the edges of a tree meet an edge.
+//! The points where the edges in a tree meet an edge.
 
 ghost use Rattle.std.specs.Prelude.{All, OnOk};
 ghost use Rattle.std.specs.List.{flat_map};
@@ -13,7 +13,7 @@ use plane_core::{Edge, Node};
 use rtree_core::{Entry, Node as TreeNode};
 use std::alloc::AllocError;
 
-/// Adds the points where the edges of a leaf meet the edge, whose box is given.
+/// Adds the points where the edges of a leaf meet the edge, whose bounding box is `bounds`.
 fn push_entry_meetings(
     nodes: &mut Vec<Node>,
     e: &Edge,
@@ -40,8 +40,8 @@ fn push_entry_meetings(
     Ok(())
 }
 
-/// Adds those of the edges below some nodes of a tree. Edges below a node whose cover doesn't meet
-/// the edge's box don't meet the edge.
+/// Adds those of the edges below nodes of a tree. A node is skipped if its cover doesn't meet the
+/// edge's box.
 #[cycle(near)]
 fn push_nodes_meetings(
     nodes: &mut Vec<Node>,

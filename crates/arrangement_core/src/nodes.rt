@@ -14,7 +14,7 @@ use edge_index_core::{IndexedOutline, bounds_of};
 use plane_core::{Edge, Node, Vertex};
 use std::alloc::AllocError;
 
-/// Adds a vertex where it lies on the edge.
+/// Adds a vertex if it lies on the edge.
 fn push_vertex(nodes: &mut Vec<Node>, e: &Edge, v: &Vertex) -> Result<(), AllocError>
     requires { All (IsOn e.now) nodes.old.items }
     ensures kept { OnOk result (Extends nodes.old.items nodes.new.items) }
@@ -28,7 +28,7 @@ fn push_vertex(nodes: &mut Vec<Node>, e: &Edge, v: &Vertex) -> Result<(), AllocE
     Ok(())
 }
 
-/// Adds the point where another edge that isn't parallel meets the edge.
+/// Adds the point where another edge meets the edge, unless they are parallel.
 fn push_meeting(nodes: &mut Vec<Node>, e: &Edge, f: &Edge) -> Result<(), AllocError>
     requires { All (IsOn e.now) nodes.old.items }
     ensures kept { OnOk result (Extends nodes.old.items nodes.new.items) }
@@ -56,7 +56,7 @@ pub(crate) fn push_meetings(nodes: &mut Vec<Node>, e: &Edge, f: &Edge) -> Result
     Ok(())
 }
 
-/// Adds the ends of other edges that lie on the edge, and the points where these meet it.
+/// Adds the ends of other edges that lie on the edge, and the points where those edges meet it.
 fn push_each_meetings(nodes: &mut Vec<Node>, e: &Edge, edges: &[Edge]) -> Result<(), AllocError>
     requires { All (IsOn e.now) nodes.old.items }
     ensures kept { OnOk result (Extends nodes.old.items nodes.new.items) }
@@ -69,7 +69,7 @@ fn push_each_meetings(nodes: &mut Vec<Node>, e: &Edge, edges: &[Edge]) -> Result
     Ok(())
 }
 
-/// The same of the edges of an outline.
+/// The same for the edges of an outline.
 fn push_all_meetings(
     nodes: &mut Vec<Node>,
     e: &Edge,
@@ -114,10 +114,10 @@ fn sort_nodes(nodes: &mut Vec<Node>) -> Result<(), AllocError>
     Ok(())
 }
 
-/// Replaces points by the nodes of an edge among the edges of two outlines and single points, from
-/// the least by (x, y) to the greatest.
+/// Replaces `nodes` by the nodes of an edge among the edges of two outlines and single points,
+/// sorted by (x, y).
 ///
-/// Nodes at one place may stand there more than once.
+/// Nodes at the same point may occur more than once.
 pub(crate) fn gather_nodes(
     nodes: &mut Vec<Node>,
     e: &Edge,

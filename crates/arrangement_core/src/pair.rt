@@ -1,9 +1,9 @@
-//! The two geometries whose matrix is sought.
+//! Two geometries whose matrix is computed.
 
 use edge_index_core::IndexedOutline;
 use geom_core::Shape;
 
-/// The outlines of the two, with trees over their edges, and the boxes of their vertices.
+/// The outlines of both, with trees over their edges, and the boxes of their vertices.
 #[derive(Drop)]
 pub(crate) struct Pair {
     pub(crate) first: IndexedOutline,
@@ -15,7 +15,7 @@ pub(crate) struct Pair {
 impl Pair {
     ghost use Rattle.std.specs.Prelude.{◌≡◌};
 
-    /// The second geometry, and then the first.
+    /// The pair in reverse order.
     pub(crate) fn turned(self) -> Pair
         ensures first { result.first ≡ self.second }
         ensures first_box { result.first_box ≡ self.second_box }

@@ -1,4 +1,4 @@
-//! Whether a matrix shows already all that a place could add to it.
+//! Whether a matrix already includes all that a point could add to it.
 
 ghost use Rattle.std.specs.Prelude.{◌≡◌, ◌≤◌, ◌↔◌, pos, not, IsTrue, count_by};
 ghost use Rattle.std.specs.List.{list_all};
@@ -40,7 +40,7 @@ pub(crate) fn parts_above(kind: Kind) -> Parts<bool>
     }
 }
 
-/// Whether an entry has an extent, or a greater one, if its part is possible.
+/// Whether an entry is at least an extent, or its part is impossible.
 fn is_shown(is_possible: bool, known: Extent, extent: Extent) -> bool
     ensures { IsTrue result ↔ (IsTrue is_possible → rank extent ≤ rank known) }
 {
@@ -53,7 +53,7 @@ fn is_shown(is_possible: bool, known: Extent, extent: Extent) -> bool
     }
 }
 
-/// Whether each entry of a row at some parts has an extent, or a greater one.
+/// Whether each entry of a row at the given parts is at least an extent.
 pub(crate) fn are_shown(row: &Parts<Extent>, parts: &Parts<bool>, extent: Extent) -> bool
     ensures { IsTrue result ↔ AreShown row.now parts.now extent }
 {
@@ -63,14 +63,14 @@ pub(crate) fn are_shown(row: &Parts<Extent>, parts: &Parts<bool>, extent: Extent
     interior & boundary & exterior
 }
 
-/// Whether a point ends an odd number of polylines.
+/// Whether a point is the end of an odd number of polylines.
 pub(crate) fn is_odd_end(ends: &[Vertex], p: &Place) -> bool
     ensures { result ≡ is_odd (count_by (λ v. is_at v (point_of p.now)) ends.now) }
 {
     ends.iter().filter(|v| p.is_at(v)).count() % 2 == 1
 }
 
-/// The parts in which a point that is on no edge may lie.
+/// The parts in which a point that is on no edge can lie.
 fn rest_parts(other: &Outline, p: &Place) -> Parts<bool>
     ensures { result ≡ rest_parts other.now (point_of p.now) }
 {
@@ -104,7 +104,7 @@ fn is_level(e: &Edge, v: &Vertex) -> bool
     e.side_of(v) == 0
 }
 
-/// Whether two edges are on one line and their boxes meet.
+/// Whether two edges are on the same line and their boxes meet.
 fn is_along(e: &Edge, f: &Edge) -> bool
     ensures { result ≡ is_along e.now f.now }
 {
@@ -117,22 +117,22 @@ fn is_along(e: &Edge, f: &Edge) -> bool
     }
 }
 
-/// Whether an edge runs along none of others.
+/// Whether an edge runs along none of the others.
 fn is_apart(e: &Edge, others: &[Edge]) -> bool
     ensures { result ≡ list_all (λ f. not (is_along e.now f)) others.now }
 {
     others.iter().all(|f| !is_along(e, f))
 }
 
-/// An edge of a geometry, and whether it is known to run along no edge of the other one.
+/// An edge of a geometry, and whether it is known to run along no edge of the other geometry.
 #[derive(Clone, Copy)]
 pub(crate) struct Course {
     pub(crate) edge: Edge,
     pub(crate) is_apart: bool,
 }
 
-/// Whether a matrix has so much that it is worth knowing if an edge runs along none of the other
-/// geometry.
+/// Whether a matrix includes so much that it pays to find out if an edge runs along none of the
+/// other geometry's.
 fn has_most(matrix: &Matrix, own: Kind, other: Kind) -> bool {
     let part = match own {
         Kind::Areas => Part::Boundary,
@@ -147,7 +147,7 @@ fn has_most(matrix: &Matrix, own: Kind, other: Kind) -> bool {
     are_shown(&row, &rest, Extent::Line)
 }
 
-/// The course of an edge.
+/// The course of an edge. Whether it runs along another is found out only if that pays.
 pub(crate) fn course_of(matrix: &Matrix, own: Kind, other: &Outline, e: &Edge) -> Course
     ensures edge { result.edge ≡ e.now }
     ensures apart { IsKnownApart other.now result }
@@ -181,7 +181,7 @@ pub(crate) fn part_on_edge(own: &Outline, p: &Place) -> Part
     }
 }
 
-/// Whether a matrix shows the line on which a point of an edge lies, of which one part is known.
+/// Whether a matrix includes the line on which a point of an edge lies, of which one part is known.
 fn is_line_shown(matrix: &Matrix, part: Part, other: &Outline, course: &Course, p: &Place) -> bool
     requires uncrossed { IsUncrossed other.now course.now.edge (point_of p.now) }
     requires apart { IsKnownApart other.now course.now }
@@ -198,7 +198,7 @@ fn is_line_shown(matrix: &Matrix, part: Part, other: &Outline, course: &Course, 
     }
 }
 
-/// Whether a matrix shows each face that can lie above an edge.
+/// Whether a matrix includes each face that can lie above an edge.
 fn are_faces_shown(matrix: &Matrix, own: Kind, other: Kind) -> bool
     ensures { IsTrue result ↔ AreFacesShown matrix.now own other }
 {
@@ -214,7 +214,7 @@ fn are_faces_shown(matrix: &Matrix, own: Kind, other: Kind) -> bool
     }
 }
 
-/// Whether a matrix shows the face above an edge, if there is one.
+/// Whether a matrix includes the face above an edge, if there is one.
 fn is_face_shown(matrix: &Matrix, own: Kind, other: Kind, e: &Edge) -> bool
     ensures { IsTrue result → IsFaceShown matrix.now own other e.now }
 {
@@ -225,8 +225,8 @@ fn is_face_shown(matrix: &Matrix, own: Kind, other: Kind, e: &Edge) -> bool
     }
 }
 
-/// Whether a matrix shows the piece of an edge on which a point lies, and the face above it,
-/// whatever their parts in the other geometry are.
+/// Whether a matrix includes the piece of an edge on which a point lies, and the face above it,
+/// in whichever parts of the other geometry they are.
 pub(crate) fn is_piece_shown(
     matrix: &Matrix,
     own: &Outline,

@@ -1,4 +1,4 @@
-//! The box of an edge.
+//! The bounding box of an edge.
 
 ghost use Rattle.edge_index_core.specs.Bounds.{IsBoxOf};
 

@@ -1,4 +1,4 @@
-//! The boxes of edges, as entries of a tree.
+//! The bounding boxes of edges, as entries of a tree.
 
 ghost use Rattle.std.specs.Prelude.{◌≤◌, ◌^◌, ◌<◌, ℕ, length, count_by, IfOk};
 ghost use Rattle.rtree_core.specs.Trees.{has_number};
@@ -9,7 +9,7 @@ use plane_core::Edge;
 use rtree_core::Entry;
 use std::alloc::{AllocError, Global};
 
-/// The boxes of edges, numbered by their places.
+/// The bounding boxes of edges, numbered by the edges' indexes.
 pub fn entries_of(alloc: Global, edges: &[Edge]) -> Result<Vec<Entry>, AllocError>
     requires { length edges.now < 2 ^ 32 }
     ensures entries { IfOk result (λ v. AreEntriesOf edges.now v.items) }

@@ -1,4 +1,4 @@
-//! The outline of a geometry, with a tree over the boxes of its edges where they are many.
+//! The outline of a geometry, with a tree over the boxes of its edges if they are many.
 
 ghost use Rattle.std.specs.Prelude.{◌≡◌, IfOk, IfSome};
 ghost use Rattle.plane_core.specs.Places.{point_of};
@@ -13,10 +13,10 @@ use rtree_core::{Node, RTree};
 use std::alloc::{AllocError, Global};
 use std::marker::Model;
 
-/// The greatest number of edges that are looked at one by one.
+/// The greatest number of edges that are scanned without a tree.
 const FEW: usize = 16;
 
-/// An outline, as contracts see it, that finds its edges by their boxes.
+/// An outline that finds its edges by their boxes. In contracts its value is the outline.
 #[derive(Drop)]
 pub struct IndexedOutline {
     outline: Outline,
@@ -36,7 +36,7 @@ impl Model for IndexedOutline {
     ghost invariant = { λ i. IfSome i.tree (λ t. HoldsEdges i.outline.edges.items (entries_in t)) };
 }
 
-/// A tree over the boxes of edges, where they are many.
+/// A tree over the boxes of edges, if they are many.
 fn tree_of(alloc: Global, edges: &[Edge]) -> Result<Option<RTree>, AllocError>
     ensures { IfOk result (λ found. IfSome found (λ t. HoldsEdges edges.now (entries_in t))) }
 {
@@ -48,7 +48,7 @@ fn tree_of(alloc: Global, edges: &[Edge]) -> Result<Option<RTree>, AllocError>
     Ok(Some(tree))
 }
 
-/// How the edges below the root of a tree lie to a point.
+/// The scan of the edges below the root of a tree at a point.
 fn scan_of(root: &Node, edges: &[Edge], p: &Place) -> Scan
     requires { IsTreeOf edges.now root.now }
     ensures { IsScan edges.now (point_of p.now) result }
@@ -66,7 +66,7 @@ impl IndexedOutline {
         Ok(IndexedOutline { outline, tree })
     }
 
-    /// The outline alone.
+    /// The outline without the index.
     pub fn outline(&self) -> &Outline
         ensures { result.now ≡ self.now }
     {
@@ -80,7 +80,7 @@ impl IndexedOutline {
         &self.outline.edges
     }
 
-    /// The root of the tree over the boxes of the edges, or `None` where these are few.
+    /// The root of the tree over the boxes of the edges, or `None` if they are few.
     pub fn root(&self) -> Option<&Node>
         ensures { IfSome result (λ n. IsTreeOf self.now.edges.items n.now) }
     {
@@ -90,7 +90,7 @@ impl IndexedOutline {
         }
     }
 
-    /// The part in which a point lies, and the one just above it.
+    /// The part in which a point lies, and the part just above it.
     pub fn standing_at(&self, p: &Place) -> Standing
         ensures part { result.part ≡ outline_part self.now (point_of p.now) }
         ensures above { result.above ≡ outline_above self.now (point_of p.now) }

@@ -1,5 +1,5 @@
-//! The outline of a geometry, with a tree over the boxes of its edges by which those near a place
-//! are found.
+//! The outline of a geometry, with a tree over the boxes of its edges, by which the edges near a
+//! point are found.
 #![tactic(auto)]
 
 mod bounds;

@@ -1,4 +1,4 @@
-//! How edges lie to a point, by a tree over their boxes.
+//! Scanning edges at a point, by a tree over their boxes.
 
 ghost use Rattle.std.specs.Prelude.{All};
 ghost use Rattle.std.specs.List.{flat_map};
@@ -10,7 +10,7 @@ ghost use Rattle.edge_index_core.specs.Scans.{AddsScan};
 use plane_core::{Edge, Place, Scan};
 use rtree_core::{Entry, Node};
 
-/// Adds the edges of a leaf. An edge over whose box the point isn't changes nothing.
+/// Adds the edges of a leaf to a scan. An edge is skipped unless the point is over its box.
 fn scan_entries(entries: &[Entry], edges: &[Edge], p: &Place, scan: Scan) -> Scan
     requires { All (IsEntryIn edges.now) entries.now }
     ensures { AddsScan edges.now (point_of p.now) entries.now scan result }
@@ -27,8 +27,8 @@ fn scan_entries(entries: &[Entry], edges: &[Edge], p: &Place, scan: Scan) -> Sca
     grown
 }
 
-/// Adds the edges below some nodes of a tree. Those below a node over whose cover the point isn't
-/// change nothing.
+/// Adds the edges below nodes of a tree to a scan. A node is skipped unless the point is over its
+/// cover.
 #[cycle(scan)]
 fn scan_nodes(nodes: &[Node], edges: &[Edge], p: &Place, scan: Scan) -> Scan
     requires lawful { All IsLawful nodes.now }
@@ -48,7 +48,7 @@ fn scan_nodes(nodes: &[Node], edges: &[Edge], p: &Place, scan: Scan) -> Scan
     grown
 }
 
-/// Adds the edges below a node of a tree.
+/// Adds the edges below a node of a tree to a scan.
 #[cycle(scan)]
 pub(crate) fn scan_node(node: &Node, edges: &[Edge], p: &Place, scan: Scan) -> Scan
     requires lawful { IsLawful node.now }

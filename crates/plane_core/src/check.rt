@@ -1,4 +1,4 @@
-//! Whether vertices and the ends of paths make a geometry.
+//! Whether vertices and the ends of paths form a geometry.
 
 ghost use Rattle.std.specs.Prelude.{◌≡◌, length, IsTrue};
 ghost use Rattle.plane_core.specs.Stored.{AreCuts, paths_of};
@@ -11,7 +11,7 @@ use crate::outline::Kind;
 use crate::path::{edge_at, last_or};
 use crate::vertex::Vertex;
 
-/// Whether no path ends before it starts, and the last one at the end.
+/// Whether no path ends before it starts, and the last one ends with the vertices.
 fn are_cuts(ends: &[u32], n: usize) -> bool
     ensures { result ≡ are_cuts 0 ends.now n }
 {
@@ -40,7 +40,7 @@ fn has_length(e: &Edge) -> bool
     !is_same_vertex(&e.a, &e.b)
 }
 
-/// Whether a path has two vertices or more, and no two in a row are the same.
+/// Whether a path has at least two vertices, and consecutive ones differ.
 fn is_path(path: &[Vertex]) -> bool
     ensures { result ≡ is_path path.now }
 {
@@ -54,7 +54,7 @@ fn is_path(path: &[Vertex]) -> bool
     is_stepping & is_long
 }
 
-/// Whether the last vertex of a path is its first one again.
+/// Whether the last vertex of a path equals its first.
 fn is_closed(path: &[Vertex]) -> bool
     ensures { result ≡ is_closed path.now }
 {
@@ -105,7 +105,7 @@ fn are_rings(ends: &[u32], vertices: &[Vertex]) -> bool
     are_right
 }
 
-/// Whether there is a path, and each is one of a kind.
+/// Whether there is at least one path, and each has the form that the kind requires.
 fn is_filled(kind: Kind, ends: &[u32], vertices: &[Vertex]) -> bool
     requires { AreCuts 0 ends.now (length vertices.now) }
     ensures { result ≡ is_filled kind ends.now vertices.now }
@@ -125,7 +125,8 @@ fn is_filled(kind: Kind, ends: &[u32], vertices: &[Vertex]) -> bool
     }
 }
 
-/// Whether the vertices of paths in a row, and where each path ends, make a geometry of a kind.
+/// Whether the concatenated vertices of paths, with the end of each path, form a geometry of a
+/// kind.
 pub(crate) fn is_stored(kind: Kind, ends: &[u32], vertices: &[Vertex]) -> bool
     ensures { result ≡ is_stored kind ends.now vertices.now }
 {

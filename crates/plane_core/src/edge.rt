@@ -1,4 +1,4 @@
-//! The straight way from one vertex to another, and how it lies to vertices and to other edges.
+//! Edges between two vertices, and how they lie to vertices and to other edges.
 
 ghost use Rattle.std.specs.Prelude.{◌≡◌, ◌≤◌, ◌↔◌, pos, nat_abs, IsTrue};
 ghost use Rattle.std.specs.Ordering.{int_eq};
@@ -16,7 +16,7 @@ pub struct Edge {
     pub b: Vertex,
 }
 
-/// Whether a number lies between two others, or is one of them.
+/// Whether a number is between two others, inclusive.
 #[inline]
 fn is_between(a: i64, b: i64, z: i64) -> bool
     ensures { result ≡ is_between a b 1 z }
@@ -24,7 +24,7 @@ fn is_between(a: i64, b: i64, z: i64) -> bool
     a <= z && z <= b || b <= z && z <= a
 }
 
-/// Whether one of the first two numbers is no less than one of the last two.
+/// Whether the greater of the first two numbers is at least the lesser of the last two.
 #[inline]
 fn reaches(a: i64, b: i64, c: i64, d: i64) -> bool
     ensures { result ≡ does_reach a b c d }
@@ -32,7 +32,7 @@ fn reaches(a: i64, b: i64, c: i64, d: i64) -> bool
     c <= a || c <= b || d <= a || d <= b
 }
 
-/// Whether two intervals, each by its ends in any order, share a number.
+/// Whether two intervals, each given by its ends in any order, share a number.
 #[inline]
 fn overlap(a: i64, b: i64, c: i64, d: i64) -> bool
     ensures { result ≡ do_overlap a b c d }
@@ -43,7 +43,7 @@ fn overlap(a: i64, b: i64, c: i64, d: i64) -> bool
 }
 
 impl Edge {
-    /// Whether it runs straight up or down.
+    /// Whether the edge is vertical.
     #[inline]
     pub fn is_vertical(&self) -> bool
         ensures { IsTrue result ↔ (run self.now ≡ pos 0) }
@@ -51,8 +51,8 @@ impl Edge {
         self.a.x == self.b.x
     }
 
-    /// The cross product of the edge and of the way from its first end to a vertex: positive where
-    /// the vertex lies left of it, seen from `a` to `b`, and 0 where it lies on its line.
+    /// The cross product of the edge and the vector from `a` to a vertex: positive if the vertex is
+    /// to the left of the edge, seen from `a` to `b`, and 0 if it is on its line.
     #[inline]
     pub fn side_of(&self, v: &Vertex) -> i128
         ensures value { result ≡ side self.now (at v.now) }
@@ -65,7 +65,7 @@ impl Edge {
         cross(run, up, rise, across)
     }
 
-    /// The cross product of the directions of two edges: 0 where they are parallel.
+    /// The cross product of the directions of two edges: 0 if they are parallel.
     #[inline]
     pub fn turn_to(&self, other: &Edge) -> i128
         ensures value { result ≡ turn_of self.now other.now }
@@ -86,7 +86,7 @@ impl Edge {
         self.side_of(v) == 0
     }
 
-    /// Whether a vertex lies on the edge, its ends included.
+    /// Whether a vertex lies on the edge, including its ends.
     #[inline]
     pub fn is_on_vertex(&self, v: &Vertex) -> bool
         ensures { result ≡ is_on self.now (at v.now) }
@@ -97,7 +97,7 @@ impl Edge {
         level & along_x & along_y
     }
 
-    /// Whether the closed boxes round two edges share a point.
+    /// Whether the closed bounding boxes of two edges share a point.
     #[inline]
     pub fn is_box_meeting(&self, other: &Edge) -> bool
         ensures { result ≡ do_boxes_meet self.now other.now }

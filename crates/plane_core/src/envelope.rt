@@ -1,4 +1,4 @@
-//! The smallest box round vertices.
+//! The bounding box of vertices.
 
 ghost use Rattle.std.specs.Prelude.{◌<◌, All, length};
 ghost use Rattle.geom_core.specs.declared.shape.Shape.{Shape};
@@ -19,7 +19,7 @@ fn shape_at(v: &Vertex) -> Shape
     }
 }
 
-/// The smallest shape that contains some vertices.
+/// The smallest shape that contains the vertices.
 pub(crate) fn envelope_of(vertices: &[Vertex]) -> Shape
     requires { 0 < length vertices.now }
     ensures holds { All (HoldsVertex result) vertices.now }

@@ -22,8 +22,8 @@ use geom_core::Shape;
 use std::alloc::{AllocError, Global};
 use std::marker::Model;
 
-/// Points, polylines, or the rings of polygons: the vertices of all paths in a row, and where each
-/// path ends.
+/// Points, polylines, or the rings of polygons: the concatenated vertices of all paths, and the end
+/// of each path.
 #[derive(Drop)]
 pub struct Geometry {
     kind: Kind,
@@ -142,12 +142,12 @@ fn points_outline(alloc: Global, cuts: &[u32], vertices: &[Vertex]) -> Result<Ou
 }
 
 impl Geometry {
-    /// The geometry of a kind from the vertices of its paths in a row and from where each path
-    /// ends, or `None` where these make none.
+    /// The geometry of a kind from the concatenated vertices of its paths and the end of each path,
+    /// or `None` if these form none.
     ///
-    /// Of points each vertex is one. A polyline has two vertices or more, no two in a row the
-    /// same; a ring is such a polyline whose last vertex is its first one again. No path may be
-    /// missing.
+    /// For points, each vertex is a point. A polyline has at least two vertices, and consecutive
+    /// ones differ; a ring is a polyline whose last vertex equals its first. There must be at least
+    /// one path.
     pub fn new(kind: Kind, ends: Vec<u32>, vertices: Vec<Vertex>) -> Option<Geometry>
         ensures some { IsSome result ↔ IsStored kind ends.items vertices.items }
         ensures figure { IfSome result (λ g. g ≡ stored_figure kind ends.items vertices.items) }
@@ -174,14 +174,14 @@ impl Geometry {
         }
     }
 
-    /// How many paths the geometry has: polylines or rings, or one of all its points.
+    /// The number of paths: of polylines or rings, or 1 for points.
     pub fn path_count(&self) -> usize
         ensures { result ≡ length (paths_in self.now) }
     {
         path_count(self.kind, &self.ends, &self.vertices)
     }
 
-    /// The vertices of the path at a place.
+    /// The vertices of the path at this index.
     pub fn path(&self, i: usize) -> &[Vertex]
         requires { i < length (paths_in self.now) }
         ensures { (none : List Vertex) → result.now ≡ slice_index_or (paths_in self.now) i none }
@@ -198,7 +198,7 @@ impl Geometry {
         envelope_of(&self.vertices)
     }
 
-    /// The edges of the geometry, with its points or its polylines' ends.
+    /// The edges of the geometry, with its points or the ends of its polylines.
     pub fn outline(&self, alloc: Global) -> Result<Outline, AllocError>
         ensures outline { IfOk result (IsOutlineOf self.now) }
         ensures geometry { OnOk result (IsGeometry self.now) }

@@ -1,5 +1,5 @@
-//! The plane of whole coordinates: points, polylines and areas of any direction, and the parts that
-//! they make of it.
+//! The plane with integer coordinates: points, polylines and areas of any direction, and the parts
+//! into which they divide it.
 #![tactic(auto)]
 
 mod check;

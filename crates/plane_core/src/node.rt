@@ -12,14 +12,14 @@ use crate::vertex::Vertex;
 use std::cmp::Ordering;
 use wide_core::compare_products;
 
-/// A vertex, or the point where two edges that aren't parallel meet.
+/// A vertex, or the intersection of two edges that aren't parallel.
 #[derive(Clone, Copy, Debug)]
 pub struct Node {
     pub place: Place,
     ghost narrow: { nat_abs place.w ≤ greatest_turn },
 }
 
-/// Whether 0 lies between two numbers, or is one of them.
+/// Whether 0 is between two numbers, inclusive.
 #[inline]
 fn is_zero_between(a: i128, b: i128) -> bool
     ensures { result ≡ is_zero_between a b }
@@ -35,7 +35,7 @@ fn is_some(a: i128) -> bool
     a < 0 || 0 < a
 }
 
-/// Whether a number is less than 0.
+/// Whether a number is negative.
 #[inline]
 fn is_low(a: i128) -> bool
     ensures { result ≡ int_lt a (pos 0) }
@@ -43,8 +43,8 @@ fn is_low(a: i128) -> bool
     a < 0
 }
 
-/// Whether two edges aren't parallel and share a point: the ends of each lie on either side of the
-/// other, or on its line.
+/// Whether two edges aren't parallel and share a point: the ends of each lie on different sides of
+/// the other, or on its line.
 fn do_cross(e: &Edge, f: &Edge) -> bool
     ensures { result ≡ do_cross e.now f.now }
 {
@@ -73,7 +73,7 @@ impl Node {
         }
     }
 
-    /// The point that two edges share, where they aren't parallel and share one.
+    /// The point that two edges share, if they aren't parallel and share one.
     pub fn meeting(e: &Edge, f: &Edge) -> Option<Node>
         ensures some { IfSome result (λ n. IsMeeting e.now f.now (node_point n)) }
         ensures none { IfNone result (HaveNoMeeting e.now f.now) }
@@ -85,7 +85,7 @@ impl Node {
         }
     }
 
-    /// The point in which two edges cross.
+    /// The intersection of two edges that cross.
     fn crossing(e: &Edge, f: &Edge) -> Node
         requires { IsTrue (do_cross e.now f.now) }
         ensures { IsMeeting e.now f.now (node_point result) }
@@ -99,7 +99,7 @@ impl Node {
         }
     }
 
-    /// The point of an edge that divides it as `n` divides `w`.
+    /// The point of an edge at the fraction `n / w` of its length from `a`.
     fn along(e: &Edge, n: i128, w: i128) -> Node
         requires not_before { pos 0 ≤ℤ n }
         requires not_beyond { n ≤ℤ w }
@@ -116,7 +116,8 @@ impl Node {
         }
     }
 
-    /// The middle of two nodes, by their triples: some point strictly between them.
+    /// The mediant of two nodes, by the sums of their numerators and of their denominators: a point
+    /// strictly between them if they differ.
     pub fn middle(&self, other: &Node) -> Place
         ensures { point_of result ≡ mix 1 (node_point self.now) 1 (node_point other.now) }
     {
@@ -128,7 +129,7 @@ impl Node {
         }
     }
 
-    /// `Less` where it lies further left than another, or straight below.
+    /// The order by first coordinate, and then by second.
     pub fn compare(&self, other: &Node) -> Ordering
         ensures { result ≡ place_order (node_point self.now) (node_point other.now) }
     {
@@ -139,7 +140,7 @@ impl Node {
         }
     }
 
-    /// `Less` where it lies further left than another.
+    /// The order by first coordinate.
     fn compare_x(&self, other: &Node) -> Ordering
         ensures { let p = node_point self.now in
             let q = node_point other.now in
@@ -148,7 +149,7 @@ impl Node {
         compare_products(self.place.x, other.place.w, other.place.x, self.place.w)
     }
 
-    /// `Less` where it lies lower than another.
+    /// The order by second coordinate.
     fn compare_y(&self, other: &Node) -> Ordering
         ensures { let p = node_point self.now in
             let q = node_point other.now in

@@ -1,4 +1,4 @@
-//! What decides the part of a geometry in which a point lies: its edges, and its points or ends.
+//! The outline of a geometry: its edges with its points or ends, which decide where a point lies.
 
 ghost use Rattle.std.specs.Prelude.{◌≡◌, List, [], ◌∷◌, ◌++◌, count_by};
 ghost use Rattle.std.specs.List.{list_any};
@@ -14,18 +14,18 @@ use crate::part::Part;
 use crate::place::Place;
 use crate::vertex::Vertex;
 
-/// What a geometry is made of, by its dimension.
+/// The kind of a geometry, by its dimension.
 #[derive(Clone, Copy, Debug, PartialEq, Eq)]
 pub enum Kind {
     /// Single points.
     Points,
     /// Polylines.
     Lines,
-    /// The rings of polygons, shells and holes alike.
+    /// The rings of polygons, both shells and holes.
     Areas,
 }
 
-/// The edges of a geometry, with its points or with both ends of each of its polylines.
+/// The edges of a geometry, with its points or both ends of each of its polylines.
 #[derive(Drop)]
 pub struct Outline {
     pub kind: Kind,
@@ -33,26 +33,27 @@ pub struct Outline {
     pub ends: Vec<Vertex>,
 }
 
-/// The part of a geometry in which a point lies, and the part of all points just above it.
+/// The part of a geometry in which a point lies, and the part in which the points just above it
+/// lie.
 #[derive(Clone, Copy, Debug, PartialEq, Eq)]
 pub struct Standing {
     pub part: Part,
     pub above: Part,
 }
 
-/// How edges lie to a point, all together.
+/// How a set of edges lies to a point.
 #[derive(Clone, Copy, Debug, PartialEq, Eq)]
 pub struct Scan {
     /// The point is on one of the edges.
     pub is_on: bool,
-    /// An odd number of them pass strictly below the point, their right ends not counted.
+    /// The number of edges that pass strictly below the point, excluding their right ends, is odd.
     pub is_odd_below: bool,
-    /// The same, with those that pass through the point.
+    /// The same, including edges that pass through the point.
     pub is_odd_at_or_below: bool,
 }
 
 impl Scan {
-    /// How no edges lie to a point.
+    /// The scan of no edges.
     pub fn empty() -> Scan
         ensures { (p : Point) → IsScan [] p result }
     {
@@ -63,7 +64,7 @@ impl Scan {
         }
     }
 
-    /// How the edges and one more lie to the point.
+    /// The scan with one more edge.
     #[inline]
     pub fn with(self, e: &Edge, p: &Place) -> Scan
         ensures { let q = point_of p.now in
@@ -78,7 +79,7 @@ impl Scan {
     }
 }
 
-/// How edges lie to a point, all together.
+/// The scan of some edges.
 fn scan_of(edges: &[Edge], p: &Place) -> Scan
     ensures { IsScan edges.now (point_of p.now) result }
 {
@@ -89,14 +90,14 @@ fn scan_of(edges: &[Edge], p: &Place) -> Scan
     scan
 }
 
-/// Whether some vertex is the point.
+/// Whether some vertex equals the point.
 fn is_any_at(vertices: &[Vertex], p: &Place) -> bool
     ensures { result ≡ list_any (λ v. is_at v (point_of p.now)) vertices.now }
 {
     vertices.iter().any(|v| p.is_at(v))
 }
 
-/// Whether the number of vertices that are the point is odd.
+/// Whether the number of vertices equal to the point is odd.
 fn is_odd_at(vertices: &[Vertex], p: &Place) -> bool
     ensures { result ≡ is_odd (count_by (λ v. is_at v (point_of p.now)) vertices.now) }
 {
@@ -108,7 +109,7 @@ fn is_odd_at(vertices: &[Vertex], p: &Place) -> bool
     is_odd
 }
 
-/// The part of rings of points off their edges, above an odd number of them or not.
+/// The part of rings for a point that is on no edge, by whether an odd number of edges is below it.
 fn inside(is_odd: bool) -> Part
     ensures { result ≡ inside is_odd }
 {
@@ -134,7 +135,7 @@ fn points_standing(points: &[Vertex], p: &Place) -> Standing
     }
 }
 
-/// The standing of a point of polylines, by their ends and a scan of their edges.
+/// The standing of a point in polylines, from their ends and a scan of their edges.
 fn lines_standing(ends: &[Vertex], p: &Place, scan: Scan) -> Standing
     ensures part { let q = point_of p.now in
         (es : List Edge) → IsScan es q scan → result.part ≡ ends_part ends.now es q }
@@ -153,7 +154,7 @@ fn lines_standing(ends: &[Vertex], p: &Place, scan: Scan) -> Standing
     }
 }
 
-/// The standing of a point of rings, by a scan of their edges.
+/// The standing of a point in rings, from a scan of their edges.
 fn areas_standing(scan: Scan) -> Standing
     ensures part { (es : List Edge) (p : Point) → IsScan es p scan → result.part ≡ areas_part es p }
     ensures above { (es : List Edge) (p : Point) → IsScan es p scan
@@ -171,7 +172,7 @@ fn areas_standing(scan: Scan) -> Standing
 }
 
 impl Outline {
-    /// The part in which a point lies, and the one just above it.
+    /// The part in which a point lies, and the part just above it.
     pub fn standing_at(&self, p: &Place) -> Standing
         ensures part { result.part ≡ outline_part self.now (point_of p.now) }
         ensures above { result.above ≡ outline_above self.now (point_of p.now) }
@@ -179,7 +180,7 @@ impl Outline {
         self.standing_by(p, scan_of(&self.edges, p))
     }
 
-    /// The same, by a scan of the edges that was made already.
+    /// The same, from a scan of all edges.
     pub fn standing_by(&self, p: &Place, scan: Scan) -> Standing
         requires { IsScan self.now.edges.items (point_of p.now) scan }
         ensures part { result.part ≡ outline_part self.now (point_of p.now) }

@@ -7,7 +7,7 @@ ghost use Rattle.plane_core.specs.Paths.{IsEdgeAt};
 use crate::edge::Edge;
 use crate::vertex::Vertex;
 
-/// The edge to the vertex at a place from the one before it.
+/// The edge to the vertex at this index from the one before it.
 pub(crate) fn edge_at(path: &[Vertex], i: usize) -> Edge
     requires after { 1 ≤ i }
     requires within { i < length path.now }
@@ -18,7 +18,7 @@ pub(crate) fn edge_at(path: &[Vertex], i: usize) -> Edge
     Edge { a, b }
 }
 
-/// The last of some vertices, or a given one where there are none.
+/// The last of the vertices, or `first` if there are none.
 pub(crate) fn last_or(first: Vertex, rest: &[Vertex]) -> Vertex
     ensures { result ≡ last_or first rest.now }
 {

@@ -1,4 +1,4 @@
-//! A point of the plane with rational coordinates, and how an edge lies to it.
+//! A point of the plane with rational coordinates, and how edges lie to it.
 
 ghost use Rattle.std.specs.Prelude.{◌≡◌, ◌*◌, ◌≤◌, pos, nat_abs, ◌<ℤ◌};
 ghost use Rattle.geom_core.specs.Shapes.{x1, y1, x2, y2};
@@ -11,7 +11,7 @@ use geom_core::Shape;
 use std::cmp::Ordering;
 use wide_core::compare_products;
 
-/// The point `(x / w, y / w)`, in the box of all vertices.
+/// The point `(x / w, y / w)`, within the range of vertices.
 #[derive(Clone, Copy, Debug)]
 pub struct Place {
     pub x: i128,
@@ -28,9 +28,9 @@ pub struct Place {
 pub struct Lie {
     /// The point is on the edge.
     pub is_on: bool,
-    /// The edge passes strictly below the point, its right end not counted.
+    /// The edge passes strictly below the point, excluding the edge's right end.
     pub is_below: bool,
-    /// The same, or it passes through the point.
+    /// The same, or the edge passes through the point.
     pub is_at_or_below: bool,
 }
 
@@ -76,7 +76,7 @@ impl Place {
         }
     }
 
-    /// How far it lies to the right of a vertex, times `w`.
+    /// The distance to the right of a vertex, times `w`; negative to the left.
     #[inline]
     fn run_from(&self, v: &Vertex) -> i128
         ensures value { result ≡ self.now.x -ℤ self.now.w *ℤ v.now.x }
@@ -85,7 +85,7 @@ impl Place {
         cross(self.x, 1, self.w, i128::from(v.x))
     }
 
-    /// How far it lies above a vertex, times `w`.
+    /// The distance above a vertex, times `w`; negative below.
     #[inline]
     fn rise_from(&self, v: &Vertex) -> i128
         ensures value { result ≡ self.now.y -ℤ self.now.w *ℤ v.now.y }
@@ -94,7 +94,7 @@ impl Place {
         cross(self.y, 1, self.w, i128::from(v.y))
     }
 
-    /// Whether it lies at a vertex's first coordinate or further right.
+    /// Whether the first coordinate is at least that of a vertex.
     #[inline]
     fn is_from_x(&self, v: &Vertex) -> bool
         ensures { let p = point_of self.now in result ≡ int_le (pos p.w *ℤ v.now.x) p.x }
@@ -102,7 +102,7 @@ impl Place {
         self.run_from(v) >= 0
     }
 
-    /// Whether it lies at a vertex's first coordinate or further left.
+    /// Whether the first coordinate is at most that of a vertex.
     #[inline]
     fn is_to_x(&self, v: &Vertex) -> bool
         ensures { let p = point_of self.now in result ≡ int_le p.x (pos p.w *ℤ v.now.x) }
@@ -110,7 +110,7 @@ impl Place {
         self.run_from(v) <= 0
     }
 
-    /// Whether it lies further left than a vertex.
+    /// Whether the first coordinate is less than that of a vertex.
     #[inline]
     fn is_left_of(&self, v: &Vertex) -> bool
         ensures { let p = point_of self.now in result ≡ int_lt p.x (pos p.w *ℤ v.now.x) }
@@ -118,7 +118,7 @@ impl Place {
         self.run_from(v) < 0
     }
 
-    /// Whether it lies at a vertex's second coordinate or above.
+    /// Whether the second coordinate is at least that of a vertex.
     #[inline]
     fn is_from_y(&self, v: &Vertex) -> bool
         ensures { let p = point_of self.now in result ≡ int_le (pos p.w *ℤ v.now.y) p.y }
@@ -126,7 +126,7 @@ impl Place {
         self.rise_from(v) >= 0
     }
 
-    /// Whether it lies at a vertex's second coordinate or below.
+    /// Whether the second coordinate is at most that of a vertex.
     #[inline]
     fn is_to_y(&self, v: &Vertex) -> bool
         ensures { let p = point_of self.now in result ≡ int_le p.y (pos p.w *ℤ v.now.y) }
@@ -134,7 +134,7 @@ impl Place {
         self.rise_from(v) <= 0
     }
 
-    /// Whether it has the first coordinate of some point of a shape, and isn't below the shape.
+    /// Whether the point is within the extent of a shape along the first axis, and not below it.
     #[inline]
     pub fn is_over_box(&self, s: &Shape) -> bool
         ensures { result ≡ is_over s.now (point_of self.now) }
@@ -143,7 +143,7 @@ impl Place {
         self.is_from_x(&least) && self.is_to_x(&greatest) && self.is_from_y(&least)
     }
 
-    /// Whether it is a vertex.
+    /// Whether the point equals a vertex.
     pub fn is_at(&self, v: &Vertex) -> bool
         ensures { result ≡ is_at v.now (point_of self.now) }
     {
@@ -152,7 +152,7 @@ impl Place {
         level_x & level_y
     }
 
-    /// On which side of an edge it lies: `Greater` is left of it, seen from `a` to `b`.
+    /// The side of an edge on which the point lies: `Greater` is left, seen from `a` to `b`.
     pub fn side_of(&self, e: &Edge) -> Ordering
         ensures { result ≡ int_cmp (side e.now (point_of self.now)) (pos 0) }
     {
@@ -163,7 +163,7 @@ impl Place {
         compare_products(run, up, rise, across)
     }
 
-    /// Whether it is within an edge's box along the first axis.
+    /// Whether the point is within the extent of an edge along the first axis.
     #[inline]
     fn is_along_x(&self, e: &Edge) -> bool
         ensures { let p = point_of self.now in result ≡ is_between e.now.a.x e.now.b.x p.w p.x }
@@ -173,7 +173,7 @@ impl Place {
         from_a & to_b | from_b & to_a
     }
 
-    /// Whether it is within an edge's box along the second axis.
+    /// Whether the point is within the extent of an edge along the second axis.
     #[inline]
     fn is_along_y(&self, e: &Edge) -> bool
         ensures { let p = point_of self.now in result ≡ is_between e.now.a.y e.now.b.y p.w p.y }
@@ -183,7 +183,7 @@ impl Place {
         from_a & to_b | from_b & to_a
     }
 
-    /// Whether it is over an edge that runs right from `a` to `b`, the place of `b` not counted.
+    /// Whether the first coordinate is from that of `a` to less than that of `b`.
     #[inline]
     fn is_over(&self, a: &Vertex, b: &Vertex) -> bool
         ensures { let p = point_of self.now in result ≡ is_from_to a.now.x b.now.x p.w p.x }
@@ -193,7 +193,7 @@ impl Place {
         from_a & before_b
     }
 
-    /// How an edge lies to it.
+    /// How an edge lies to the point.
     pub fn lie_of(&self, e: &Edge) -> Lie
         ensures { IsLie e.now (point_of self.now) result }
     {
@@ -208,7 +208,7 @@ impl Place {
         }
     }
 
-    /// The same, where the side matters.
+    /// The same, for a point within the extent of the edge along the first axis.
     fn lie_along(&self, e: &Edge) -> Lie
         requires { let p = point_of self.now in IsTrue (is_between e.now.a.x e.now.b.x p.w p.x) }
         ensures { IsLie e.now (point_of self.now) result }

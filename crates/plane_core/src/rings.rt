@@ -1,10 +1,10 @@
-//! Which rings areas may have.
+//! The rule for the rings of areas.
 
-/// Which rings areas may have.
+/// The rings that areas may have.
 #[derive(Clone, Copy, Debug, PartialEq, Eq)]
 pub enum Rings {
-    /// Rings with an area that neither cross nor run along each other or themselves, so that each
-    /// geometry of them has an interior.
+    /// Rings with an area that neither cross nor run along each other or themselves, so that every
+    /// geometry has an interior.
     Proper,
     /// Any closed rings, whose interior is that of the even-odd rule and may be empty.
     EvenOdd,

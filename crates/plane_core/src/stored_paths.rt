@@ -1,4 +1,4 @@
-//! The paths of a stored geometry, by their places.
+//! The paths of a stored geometry, by their indexes.
 
 ghost use Rattle.std.specs.Prelude.{◌≡◌, ◌<◌, List, length};
 ghost use Rattle.std.specs.List.{slice_index_or};
@@ -9,7 +9,7 @@ ghost use Rattle.plane_core.specs.Vertices.{paths_in, start_of};
 use crate::outline::Kind;
 use crate::vertex::Vertex;
 
-/// Where the path at a place begins.
+/// The start of the path at this index.
 fn start_at(ends: &[u32], i: usize) -> usize
     requires { i < length ends.now }
     ensures { result ≡ start_of ends.now i }
@@ -17,7 +17,7 @@ fn start_at(ends: &[u32], i: usize) -> usize
     if i == 0 { 0 } else { ends[i - 1] as usize }
 }
 
-/// The path at a place, between two ends.
+/// The path at this index, between two ends.
 fn part_at<'a>(ends: &[u32], vertices: &'a [Vertex], i: usize) -> &'a [Vertex]
     requires cuts { AreCuts 0 ends.now (length vertices.now) }
     requires within { i < length ends.now }
@@ -29,7 +29,7 @@ fn part_at<'a>(ends: &[u32], vertices: &'a [Vertex], i: usize) -> &'a [Vertex]
     &vertices[start..end]
 }
 
-/// How many paths a geometry of a kind has.
+/// The number of paths of a geometry of a kind.
 pub(crate) fn path_count(kind: Kind, ends: &[u32], vertices: &[Vertex]) -> usize
     ensures { result ≡ length (paths_in (stored_figure kind ends.now vertices.now)) }
 {
@@ -40,7 +40,7 @@ pub(crate) fn path_count(kind: Kind, ends: &[u32], vertices: &[Vertex]) -> usize
     }
 }
 
-/// The path at a place of a geometry of a kind.
+/// The path at this index of a geometry of a kind.
 pub(crate) fn path_at<'a>(
     kind: Kind,
     ends: &[u32],

@@ -1,10 +1,10 @@
-//! A point with whole coordinates.
+//! A point with integer coordinates.
 
 ghost use Rattle.geom_core.specs.Limits.{IsCoordinate};
 
 use geom_core::LIMIT;
 
-/// A point whose coordinates are whole numbers from `-LIMIT` to `LIMIT` of `geom_core`.
+/// A point whose coordinates are integers from `-LIMIT` to `LIMIT` of `geom_core`.
 #[derive(Clone, Copy, Debug, PartialEq, Eq)]
 pub struct Vertex {
     pub x: i64,
@@ -17,7 +17,7 @@ impl Vertex {
     ghost use Rattle.std.specs.Prelude.{◌≡◌, ◌↔◌, ◌*◌, ◌≤◌, ◌-ℤ◌, nat_abs, IsSome, IfSome};
     ghost use Rattle.geom_core.specs.Limits.{greatest_coordinate};
 
-    /// The point `(x, y)`, or `None` where a coordinate is out of range.
+    /// The point `(x, y)`, or `None` if a coordinate is out of range.
     pub fn new(x: i64, y: i64) -> Option<Vertex>
         ensures some { IsSome result ↔ (IsCoordinate x × IsCoordinate y) }
         ensures x { IfSome result (λ v. v.x ≡ x) }
@@ -30,7 +30,7 @@ impl Vertex {
         }
     }
 
-    /// How far another vertex lies to the right.
+    /// The difference of the first coordinates, from this vertex to another.
     #[inline]
     pub(crate) fn run_to(&self, other: &Vertex) -> i128
         ensures value { result ≡ other.now.x -ℤ self.now.x }
@@ -39,7 +39,7 @@ impl Vertex {
         i128::from(other.x - self.x)
     }
 
-    /// How far another vertex lies above.
+    /// The difference of the second coordinates, from this vertex to another.
     #[inline]
     pub(crate) fn rise_to(&self, other: &Vertex) -> i128
         ensures value { result ≡ other.now.y -ℤ self.now.y }

@@ -1,4 +1,4 @@
-//! Which geometries have rings that the even-odd rule alone allows.
+//! Which geometries have rings that only the even-odd rule allows.
 
 ghost use Rattle.std.specs.Prelude.{◌↔◌, IsTrue, IfOk};
 ghost use Rattle.relate_any_core.specs.TextMatrices.{IsImproper};
@@ -8,8 +8,8 @@ use ring_core::has_proper_rings;
 use std::alloc::{AllocError, Global};
 use wkt_any_core::Rings;
 
-/// Which of two geometries have improper rings: by the even-odd rule, with rings that cross or run
-/// along each other, as those of a flat ring do.
+/// Which of two geometries have improper rings: rings read by the even-odd rule that cross or run
+/// along each other or themselves, as a flat ring does.
 #[derive(Clone, Copy, Debug, PartialEq, Eq)]
 pub struct Improper {
     pub first: bool,

@@ -1,4 +1,4 @@
-//! The matrix of two geometries of any direction that are given as texts.
+//! The matrix of two geometries of any direction, given as texts.
 #![tactic(auto)]
 
 mod improper;

@@ -1,4 +1,4 @@
-//! Two texts, the geometries that they spell, and the matrix of these.
+//! Relating two geometries that are given as texts.
 
 ghost use Rattle.std.specs.Prelude.{◌≡◌, ◌↔◌, Err, IfOk};
 ghost use Rattle.relate_any_core.specs.TextMatrices.{HasTextFault, IsRelated};
@@ -11,14 +11,14 @@ use thiserror::Error;
 use wkt_any_core::{GeometryFault, Rings, read};
 use wkt_core::Scale;
 
-/// How two geometries lie to each other.
+/// The matrix of two geometries, and which of them have improper rings.
 #[derive(Clone, Copy, Debug, PartialEq, Eq)]
 pub struct Related {
     pub matrix: Matrix,
     pub improper: Improper,
 }
 
-/// The first of two texts that spells no geometry, and why.
+/// The first of two texts that spells no geometry, and its fault.
 #[derive(Clone, Copy, Debug, PartialEq, Eq, Error)]
 pub enum TextFault {
     /// The first text spells none.
@@ -29,12 +29,12 @@ pub enum TextFault {
     Second(GeometryFault),
 }
 
-/// The nine-intersection matrix of the geometries that two texts spell, with rings of areas that
-/// the rule allows (OGC 06-103r4, 6.1.15.2), and which of them have improper rings; or the first
-/// text that is at fault.
+/// The nine-intersection matrix of the geometries that two texts spell (OGC 06-103r4, 6.1.15.2),
+/// and which of them have improper rings, or the fault of the first text that spells none. `rings`
+/// is the rule for the rings of areas.
 ///
 /// # Errors
-/// Out of memory.
+/// If an allocation fails.
 pub fn relate_texts(
     alloc: Global,
     scale: Scale,

@@ -1,4 +1,4 @@
-//! How long it takes to relate a pair.
+//! Measuring the time to relate a pair.
 
 use crate::pair::Pair;
 use std::alloc::{AllocError, Global};
@@ -6,26 +6,27 @@ use std::io;
 use std::rt::Clock;
 use std::time::{CpuClock, Duration, Instant};
 
-/// How many more batches of calls are measured at most, of which the fastest counts.
+/// The greatest number of further batches of calls; the fastest batch counts.
 const MOST_BATCHES: u64 = 6;
 
-/// How long a batch takes at least.
+/// The least processor time of a batch, in nanoseconds.
 const BATCH_NANOS: u64 = 10_000_000;
 
-/// How long all batches may take.
+/// The greatest processor time of all further batches, in nanoseconds.
 const ALL_NANOS: u64 = 1_000_000_000;
 
-/// How often the number of calls in a batch is doubled at most.
+/// The greatest number of times that the number of calls in a batch is doubled.
 const DOUBLINGS: u32 = 40;
 
-/// What calls take, in nanoseconds by the clock and of the processor.
+/// The time of calls, in nanoseconds by the clock and of the processor.
 #[derive(Clone, Copy)]
 pub(crate) struct Cost {
     pub(crate) clock: u64,
     pub(crate) processor: u64,
 }
 
-/// Relates a pair some times, and adds up a letter of each matrix, so that no call is left out.
+/// Relates a pair `times` times. The sum of the matrices' first letters keeps calls from being
+/// optimised away.
 fn relate_times(alloc: Global, pair: &Pair, times: u64) -> Result<u64, AllocError> {
     let mut sum = 0u64;
     for _ in 0..times {
@@ -39,7 +40,7 @@ fn nanos(time: Duration) -> u64 {
     u64::try_from(time.as_nanos()).unwrap_or(u64::MAX)
 }
 
-/// What a batch of calls takes.
+/// The time of a batch of calls.
 fn batch(rt: &(impl Clock + CpuClock + AllocGlobal), pair: &Pair, times: u64) -> io::Result<Cost> {
     let start = Instant::now(rt)?;
     let used = rt.thread_cpu_time()?;
@@ -52,7 +53,7 @@ fn batch(rt: &(impl Clock + CpuClock + AllocGlobal), pair: &Pair, times: u64) ->
     })
 }
 
-/// How many calls make a batch that is long enough, and what it takes.
+/// The number of calls in a batch that is long enough, and its time.
 fn first_batch(rt: &(impl Clock + CpuClock + AllocGlobal), pair: &Pair) -> io::Result<(u64, Cost)> {
     let mut times = 1u64;
     let mut cost = batch(rt, pair, times)?;
@@ -66,7 +67,7 @@ fn first_batch(rt: &(impl Clock + CpuClock + AllocGlobal), pair: &Pair) -> io::R
     Ok((times, cost))
 }
 
-/// What it takes to relate a pair once.
+/// The time to relate a pair once.
 pub(crate) fn cost_of(rt: &(impl Clock + CpuClock + AllocGlobal), pair: &Pair) -> io::Result<Cost> {
     let (times, mut best) = first_batch(rt, pair)?;
     let more = ALL_NANOS.checked_div(best.processor).unwrap_or(0);

@@ -1,10 +1,10 @@
 //! Relates pairs of geometries, to compare the matrices with others and to measure the time.
 //!
-//! Of each line of standard input, two well-known texts with a tab between, it writes the nine
-//! letters of the matrix. With the word `times` a name and a tab stand before the texts; it writes
-//! the name, the letters, and the nanoseconds that it takes to relate the two once, by the clock
-//! and of the processor, with tabs between. Reading the texts isn't in them. Coordinates are whole,
-//! and rings are taken by the even-odd rule.
+//! Each line of standard input holds two well-known texts with a tab between; for each the program
+//! writes the nine letters of the matrix. With the argument `times`, a name and a tab precede the
+//! texts; the program writes the name, the letters, and the nanoseconds to relate the two once, by
+//! the clock and of the processor, with tabs between. Reading the texts isn't measured. Coordinates
+//! are integers, and rings are read by the even-odd rule.
 #![tactic(auto)]
 
 mod cost;
@@ -24,7 +24,7 @@ fn print_matrix(rt: &(impl Print + AllocGlobal), pair: &Pair) -> io::Result<()> 
     print!(rt; "{a}{b}{c}{d}{e}{f}{g}{h}{i}")
 }
 
-/// Writes the matrix of a line's pair.
+/// Writes the matrix of the pair on a line.
 fn relate_line(rt: &(impl Print + AllocGlobal), line: &str) -> io::Result<()> {
     match Pair::read(rt.alloc(), line)? {
         Some(pair) => print_matrix(rt, &pair)?,
@@ -33,7 +33,7 @@ fn relate_line(rt: &(impl Print + AllocGlobal), line: &str) -> io::Result<()> {
     rt.println("")
 }
 
-/// Writes the name of a line, the matrix of its pair, and what it costs to relate it.
+/// Writes the name on a line, the matrix of its pair, and the time to relate it.
 fn time_line(rt: &(impl Print + AllocGlobal + Clock + CpuClock), line: &str) -> io::Result<()> {
     let (name, texts) = line.split_once('\t').unwrap_or((line, ""));
     rt.print(name)?;
@@ -48,7 +48,7 @@ fn time_line(rt: &(impl Print + AllocGlobal + Clock + CpuClock), line: &str) -> 
     println!(rt; "\t{clock}\t{processor}")
 }
 
-/// Whether a word asks for times.
+/// Whether an argument is `times`.
 fn is_timed(rt: &(impl Env + AllocGlobal)) -> io::Result<bool> {
     let mut is_timed = false;
     for word in env::args(rt)? {

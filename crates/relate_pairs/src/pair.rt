@@ -1,4 +1,4 @@
-//! A line that holds two geometries, with a tab between.
+//! A line with two geometries and a tab between.
 
 ghost use Rattle.std.specs.Prelude.{◌≡◌, IfOk};
 ghost use Rattle.relation_core.specs.declared.matrix.Matrix.{Matrix};
@@ -18,7 +18,7 @@ pub(crate) struct Pair {
     second: Geometry,
 }
 
-/// The geometry of a text by the even-odd rule, in whole units.
+/// The geometry of a text by the even-odd rule, with integer coordinates.
 fn geometry(alloc: Global, text: &str) -> Result<Option<Geometry>, AllocError> {
     let Some(scale) = Scale::new(0) else {
         return Ok(None);
@@ -30,7 +30,7 @@ fn geometry(alloc: Global, text: &str) -> Result<Option<Geometry>, AllocError> {
 }
 
 impl Pair {
-    /// The pair of a line, or `None` where it holds none.
+    /// The pair of a line, or `None` if the line holds none.
     pub(crate) fn read(alloc: Global, line: &str) -> Result<Option<Pair>, AllocError> {
         let Some((first, second)) = line.split_once('\t') else {
             return Ok(None);
@@ -44,7 +44,7 @@ impl Pair {
         Ok(Some(Pair { first, second }))
     }
 
-    /// The nine letters of its matrix.
+    /// The nine letters of the pair's matrix.
     pub(crate) fn letters(&self, alloc: Global) -> Result<[u8; 9], AllocError>
         ensures { IfOk result (λ text. (m : Matrix) × IsPlaneMatrix self.now.first self.now.second m
             × (text ≡ letters_of m)) }

@@ -1,4 +1,4 @@
-//! Whether two edges share one point at most, and that as an end of one of them.
+//! Whether two edges share at most one point, which is an end of one of them.
 
 ghost use Rattle.std.specs.Prelude.{◌≡◌, ◌↔◌, pos, IsTrue};
 ghost use Rattle.std.specs.Ordering.{int_eq};
@@ -9,7 +9,7 @@ ghost use Rattle.ring_core.specs.PairTests.{do_run_along};
 
 use plane_core::{Edge, Vertex};
 
-/// Whether two numbers lie on different sides of 0.
+/// Whether two numbers have opposite signs.
 #[inline]
 fn are_opposite(a: i128, b: i128) -> bool
     ensures { result ≡ are_opposite a b }
@@ -17,7 +17,7 @@ fn are_opposite(a: i128, b: i128) -> bool
     a < 0 && 0 < b || b < 0 && 0 < a
 }
 
-/// Whether two intervals, each by its ends in any order, share more than one number.
+/// Whether two intervals, each given by its ends in any order, share more than one number.
 #[inline]
 fn share_interval(a: i64, b: i64, c: i64, d: i64) -> bool
     ensures { result ≡ share_interval a b c d }
@@ -27,7 +27,7 @@ fn share_interval(a: i64, b: i64, c: i64, d: i64) -> bool
     from < to
 }
 
-/// Whether two edges cross in a point that is an end of neither: the ends of each lie on different
+/// Whether two edges cross at a point that is an end of neither: the ends of each lie on opposite
 /// sides of the other.
 fn do_cross_inside(e: &Edge, f: &Edge) -> bool
     ensures { result ≡ do_cross_inside e.now f.now }
@@ -48,7 +48,7 @@ fn is_level(e: &Edge, v: &Vertex) -> bool
     e.side_of(v) == 0
 }
 
-/// Whether two edges lie on one line and share more than a point of it.
+/// Whether two edges lie on the same line and share more than one point.
 fn do_run_along(e: &Edge, f: &Edge) -> bool
     ensures { result ≡ do_run_along e.now f.now }
 {
@@ -59,7 +59,7 @@ fn do_run_along(e: &Edge, f: &Edge) -> bool
     is_first & is_last & (along_x | along_y)
 }
 
-/// Whether two edges share one point at most, which is an end of one of them.
+/// Whether two edges share at most one point, which is an end of one of them.
 pub fn meet_properly(e: &Edge, f: &Edge) -> bool
     ensures { IsTrue result ↔ MeetProperly e.now f.now }
 {

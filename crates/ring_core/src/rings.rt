@@ -1,4 +1,4 @@
-//! Whether each two of many edges meet properly.
+//! Whether the edges of rings pairwise meet properly.
 
 ghost use Rattle.std.specs.Prelude.{◌↔◌, All, IsTrue, IfOk};
 ghost use Rattle.rtree_core.specs.Trees.{entries_in};
@@ -12,10 +12,10 @@ use plane_core::{Edge, Geometry, Kind};
 use rtree_core::RTree;
 use std::alloc::{AllocError, Global};
 
-/// The greatest number of edges that are compared each with each other.
+/// The greatest number of edges that are compared pairwise without a tree.
 const FEW: usize = 16;
 
-/// Whether an edge meets each of some others properly.
+/// Whether an edge meets each of the others properly.
 fn meets_all(e: &Edge, others: &[Edge]) -> bool
     ensures { IsTrue result ↔ All (MeetProperly e.now) others.now }
 {
@@ -34,8 +34,7 @@ fn are_all_proper(edges: &[Edge]) -> bool
     true
 }
 
-/// Whether an edge, which is at place `i`, meets properly the one at place `k` where that comes
-/// later.
+/// Whether an edge, which has index `i`, properly meets the one with index `k`, if `k` is greater.
 fn meets_later(edges: &[Edge], e: &Edge, i: usize, k: usize) -> bool
     ensures { IsTrue result ↔ MeetsLater edges.now e.now i k }
 {
@@ -46,7 +45,7 @@ fn meets_later(edges: &[Edge], e: &Edge, i: usize, k: usize) -> bool
     }
 }
 
-/// The same of each of some places.
+/// The same for each of several indexes.
 fn meets_each_later(edges: &[Edge], e: &Edge, i: usize, places: &[u32]) -> bool
     ensures { IsTrue result ↔ All (MeetsLater edges.now e.now i) places.now }
 {
@@ -58,7 +57,8 @@ fn meets_each_later(edges: &[Edge], e: &Edge, i: usize, places: &[u32]) -> bool
     true
 }
 
-/// Whether each two edges meet properly, by comparing each with those whose boxes meet its own.
+/// Whether each two edges meet properly, by comparing each edge with those whose boxes meet its
+/// own.
 fn are_near_proper(alloc: Global, tree: &RTree, edges: &[Edge]) -> Result<bool, AllocError>
     requires { HasEntriesOf edges.now (entries_in tree.now) }
     ensures { IfOk result (λ is_proper. IsTrue is_proper ↔ AreProper edges.now) }
@@ -72,7 +72,7 @@ fn are_near_proper(alloc: Global, tree: &RTree, edges: &[Edge]) -> Result<bool, 
     Ok(true)
 }
 
-/// Whether each two edges, at different places of the list, share one point at most, which is an
+/// Whether each two edges, at different indexes of the list, share at most one point, which is an
 /// end of one of them.
 pub fn is_proper(alloc: Global, edges: &[Edge]) -> Result<bool, AllocError>
     ensures { IfOk result (λ is_proper. IsTrue is_proper ↔ AreProper edges.now) }
@@ -85,8 +85,8 @@ pub fn is_proper(alloc: Global, edges: &[Edge]) -> Result<bool, AllocError>
 }
 
 /// Whether the rings of a geometry neither cross nor run along each other or themselves: each two
-/// of their edges share one point at most, which is an end of one of them. Points and lines have
-/// no rings.
+/// of their edges share at most one point, which is an end of one of them. Points and polylines
+/// have no rings.
 pub fn has_proper_rings(alloc: Global, geometry: &Geometry) -> Result<bool, AllocError>
     ensures { IfOk result (λ is_proper. IsTrue is_proper ↔ HasProperRings geometry.now) }
 {

@@ -1,5 +1,5 @@
-//! Data for the tests of the other crates: numbers and shapes that look random, layer files of
-//! them, trees of points, and trees as text.
+//! Data for the tests of the other crates: pseudo-random numbers and shapes, layer files of them,
+//! trees of points, and trees as text.
 #![tactic(auto)]
 
 mod outlines;

@@ -6,8 +6,8 @@ use rtree_core::{Entry, Node, RTree};
 use std::alloc::{AllocError, Global};
 use std::fmt::Write;
 
-/// The nodes of a tree from left to right, each before what is below it: its cover, how many
-/// children it has or that it is a leaf, and the shapes and numbers of a leaf's entries.
+/// The nodes of a tree from left to right, each before the nodes below it: its cover, its number of
+/// children or that it is a leaf, and the shapes and numbers of a leaf's entries.
 pub fn outline(alloc: Global, tree: &RTree) -> Result<String, AllocError> {
     let mut text = String::new(alloc);
     if let Some(root) = tree.root() {
@@ -16,7 +16,7 @@ pub fn outline(alloc: Global, tree: &RTree) -> Result<String, AllocError> {
     Ok(text)
 }
 
-/// Adds a node, and what is below it.
+/// Adds a node and the nodes below it.
 fn push_node(text: &mut String, node: &Node) -> Result<(), AllocError>
     requires { IsLawful node.now }
 {

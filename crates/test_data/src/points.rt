@@ -1,4 +1,4 @@
-//! Packed trees of points in a row.
+//! Packed trees of points on a line.
 
 ghost use Rattle.std.specs.Prelude.{◌≡◌, ℕ, ◌≤◌, IfOk, count_by};
 ghost use Rattle.rtree_core.specs.Trees.{has_number};
@@ -7,8 +7,8 @@ use geom_core::Shape;
 use rtree_core::{Entry, RTree};
 use std::alloc::{AllocError, Global};
 
-/// What is seen of two packed trees, each of so many points and with such a step. A tree is made
-/// again where memory was refused once.
+/// Calls `see` with two packed trees of points, each given by the number of points and the step
+/// between them. If an allocation fails, the tree is packed once more.
 pub fn on_packed<T, F: FnOnce(&RTree, &RTree) -> T>(
     alloc: Global,
     left: (u16, u16),
@@ -22,7 +22,7 @@ pub fn on_packed<T, F: FnOnce(&RTree, &RTree) -> T>(
     Ok(see(&left, &right))
 }
 
-/// The packed tree of points, made again where memory was refused once.
+/// The packed tree of points, packed once more if an allocation fails.
 fn packed_at_last(alloc: Global, points: (u16, u16)) -> Result<RTree, AllocError> {
     match packed(alloc, points) {
         Ok(tree) => Ok(tree),
@@ -30,12 +30,12 @@ fn packed_at_last(alloc: Global, points: (u16, u16)) -> Result<RTree, AllocError
     }
 }
 
-/// The packed tree of so many points, each a step to the right of the one before.
+/// The packed tree of `count` points, each `step` to the right of the one before.
 fn packed(alloc: Global, (count, step): (u16, u16)) -> Result<RTree, AllocError> {
     RTree::pack(alloc, listed(alloc, count, step)?)
 }
 
-/// The points (0, 0), (step, 0), (2 step, 0) and on, by their numbers.
+/// The points (0, 0), (step, 0), (2 step, 0) and so on, with their indexes as numbers.
 fn listed(alloc: Global, count: u16, step: u16) -> Result<Vec<Entry>, AllocError>
     ensures { IfOk result (λ v. (k : ℕ) → count_by (has_number k) v.items ≤ 1) }
 {
@@ -46,7 +46,7 @@ fn listed(alloc: Global, count: u16, step: u16) -> Result<Vec<Entry>, AllocError
     Ok(entries)
 }
 
-/// The point of this number.
+/// The point with this number.
 fn entry(number: u16, step: u16) -> Entry
     ensures { result.number ≡ number }
 {
@@ -55,7 +55,7 @@ fn entry(number: u16, step: u16) -> Entry
     Entry { shape, number }
 }
 
-/// A point on the first axis, or the origin where that is out of range.
+/// A point on the first axis, or the origin if `x` is out of range.
 fn point(x: i64) -> Shape {
     Shape::new(x, 0, x, 0).unwrap_or(Shape::new(0, 0, 0, 0).unwrap())
 }

@@ -1,4 +1,4 @@
-//! What stands behind the heading of a text.
+//! The text after the heading.
 
 ghost use Rattle.std.specs.Prelude.{List, ℕ, IfOk, IfSome, IfNone};
 ghost use Rattle.wkt_core.specs.Grammar.{RawPoint};
@@ -12,7 +12,7 @@ use crate::paths::Paths;
 use std::alloc::AllocError;
 use wkt_core::{Keyword, Scale};
 
-/// Reads the lists behind a keyword by itself, and answers what follows them.
+/// Reads the lists after a keyword without `MULTI`, and returns the text after them.
 fn read_one<'a>(
     keyword: Keyword,
     text: &'a [u8],
@@ -31,7 +31,7 @@ fn read_one<'a>(
     }
 }
 
-/// Reads the lists behind a keyword of many, and answers what follows them.
+/// Reads the lists after a keyword with `MULTI`, and returns the text after them.
 fn read_many<'a>(
     keyword: Keyword,
     text: &'a [u8],
@@ -50,7 +50,7 @@ fn read_many<'a>(
     }
 }
 
-/// Reads the lists behind a heading, and answers what follows them.
+/// Reads the lists after a heading, and returns the text after them.
 pub(crate) fn read_body<'a>(
     heading: Heading,
     text: &'a [u8],

@@ -1,20 +1,20 @@
-//! Why a text stands for no geometry.
+//! The faults of a text that spells no geometry.
 
 use thiserror::Error;
 
-/// Why a text stands for no geometry. Where several hold, the first is named.
+/// Why a text spells no geometry. If several apply, it is the first of them.
 #[derive(Clone, Copy, Debug, PartialEq, Eq, Error)]
 pub enum GeometryFault {
-    /// The bytes are no text of the grammar.
+    /// The text isn't in the grammar.
     #[error("not a geometry text")]
     Text,
     /// Some number isn't a whole number of the scale's units, or is out of range.
     #[error("number not whole or out of range")]
     Number,
-    /// A polyline has no two different vertices, or a ring is not closed or is flat.
+    /// A polyline doesn't have two distinct vertices, or a ring is not closed or is flat.
     #[error("a line without length, or a ring that is not closed or is flat")]
     Form,
-    /// Two edges of rings cross inside or run along each other, where rings have to be proper.
+    /// Two edges of rings cross inside or run along each other, although rings must be proper.
     #[error("rings cross or overlap")]
     Rings,
 }
@@ -23,7 +23,7 @@ impl GeometryFault {
     ghost use Rattle.std.specs.Prelude.{◌≡◌, ◌≤◌, length};
     ghost use Rattle.wkt_any_core.specs.FaultTexts.{geometry_text};
 
-    /// The fault in a few words, of at most 70 bytes.
+    /// The fault in a few words, at most 70 bytes.
     pub fn text(&self) -> &'static str
         ensures text { result.now ≡ geometry_text self.now }
         ensures short { length result.now ≤ 70 }

@@ -1,4 +1,4 @@
-//! The geometry that the paths of a text draw.
+//! The geometry that the paths of a text form.
 
 ghost use Rattle.std.specs.Prelude.{◌≡◌, length, IfSome, IfNone};
 ghost use Rattle.std.specs.List.{list_all};
@@ -28,14 +28,14 @@ fn is_level(edge: &Edge, vertex: &Vertex) -> bool
     edge.side_of(vertex) == 0
 }
 
-/// Whether vertices lie on the line of an edge.
+/// Whether the vertices lie on the line of an edge.
 fn are_level(edge: &Edge, vertices: &[Vertex]) -> bool
     ensures { result ≡ list_all (is_level edge.now) vertices.now }
 {
     vertices.iter().all(|v| is_level(edge, v))
 }
 
-/// Whether some vertex lies beside the line of the first two.
+/// Whether some vertex doesn't lie on the line of the first two.
 fn is_wide(ring: &[Vertex]) -> bool
     ensures { result ≡ is_wide ring.now }
 {
@@ -48,7 +48,7 @@ fn is_wide(ring: &[Vertex]) -> bool
     }
 }
 
-/// Whether the vertices of no ring are on one line.
+/// Whether no ring has all its vertices on one line.
 fn are_wide(ends: &[u32], vertices: &[Vertex]) -> bool
     requires { AreCuts 0 ends.now (length vertices.now) }
     ensures { result ≡ list_all is_wide (paths_of 0 ends.now vertices.now) }
@@ -78,7 +78,7 @@ fn are_allowed(kind: Kind, rings: Rings, ends: &[u32], vertices: &[Vertex]) -> b
     }
 }
 
-/// The geometry of the paths under a keyword, where they draw one.
+/// The geometry of the paths under a keyword, if they form one.
 pub(crate) fn geometry_of(keyword: Keyword, paths: Paths, rings: Rings) -> Option<Geometry>
     requires { AreCuts 0 paths.ends.items (length paths.vertices.items) }
     ensures some { IfSome result (λ g.

@@ -1,8 +1,8 @@
-//! What a text begins with: a keyword, by itself or behind `MULTI`.
+//! The heading of a text: a keyword, by itself or after `MULTI`.
 
 use wkt_core::{Keyword, skip_word};
 
-/// The kind of a geometry, as its text names it: one point, polyline or polygon, or many.
+/// The kind of a geometry as its text names it: a single point, polyline or polygon, or many.
 #[derive(Clone, Copy)]
 pub(crate) struct Heading {
     pub(crate) is_multi: bool,
@@ -13,7 +13,7 @@ impl Heading {
     ghost use Rattle.std.specs.Prelude.{ℕ, List, IfSome, IfNone};
     ghost use Rattle.wkt_any_core.specs.Steps.{TakesHeading};
 
-    /// The heading at the front of a text, in any case, and what follows it.
+    /// The heading at the start of a text, in any case, and the text after it.
     pub(crate) fn read(text: &[u8]) -> Option<(Heading, &[u8])>
         ensures some { IfSome result (λ r. TakesHeading text.now r.0 r.1.now) }
         ensures none { IfNone result

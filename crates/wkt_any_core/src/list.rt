@@ -1,4 +1,4 @@
-//! Points in parentheses: one, a list, a list of lists, and a list of these.
+//! Points in parentheses: a single one, a list, a list of lists, and a list of these.
 
 ghost use Rattle.std.specs.Prelude.{◌≡◌, [], ◌∷◌, List, ℕ, IfOk, IfSome, IfNone};
 ghost use Rattle.wkt_core.specs.Grammar.{RawPoint};
@@ -11,7 +11,7 @@ use crate::paths::Paths;
 use std::alloc::AllocError;
 use wkt_core::{Next, Scale, read_next, read_point, skip_blanks, skip_symbol};
 
-/// Reads the point at the front of a text, and answers what follows it.
+/// Reads the point at the start of a text, and returns the text after it.
 fn read_bare_point<'a>(
     text: &'a [u8],
     scale: Scale,
@@ -29,7 +29,7 @@ fn read_bare_point<'a>(
     Ok(Some(rest))
 }
 
-/// Reads the one point in parentheses at the front of a text, and answers what follows it.
+/// Reads the single point in parentheses at the start of a text, and returns the text after it.
 fn read_enclosed_point<'a>(
     text: &'a [u8],
     scale: Scale,
@@ -53,7 +53,7 @@ fn read_enclosed_point<'a>(
     Ok(Some(behind))
 }
 
-/// Reads a path of one point in parentheses at the front of a text, and answers what follows it.
+/// Reads a path of one point in parentheses at the start of a text, and returns the text after it.
 pub(crate) fn read_single<'a>(
     text: &'a [u8],
     scale: Scale,
@@ -72,7 +72,8 @@ pub(crate) fn read_single<'a>(
     Ok(Some(rest))
 }
 
-/// Reads a point, as it is or in parentheses, at the front of a text, and answers what follows it.
+/// Reads a point, with or without parentheses, at the start of a text, and returns the text after
+/// it.
 fn read_member<'a>(
     text: &'a [u8],
     scale: Scale,
@@ -89,7 +90,7 @@ fn read_member<'a>(
     }
 }
 
-/// Reads the path of points at the front of a text, and answers what follows it.
+/// Reads the path of points at the start of a text, and returns the text after it.
 pub(crate) fn read_points<'a>(
     text: &'a [u8],
     scale: Scale,
@@ -121,8 +122,8 @@ pub(crate) fn read_points<'a>(
     }
 }
 
-/// Reads points, each as it is or in parentheses, at the front of a text, as one path, and answers
-/// what follows them.
+/// Reads points, each with or without parentheses, at the start of a text, as one path, and returns
+/// the text after them.
 pub(crate) fn read_members<'a>(
     text: &'a [u8],
     scale: Scale,
@@ -154,8 +155,8 @@ pub(crate) fn read_members<'a>(
     }
 }
 
-/// Reads the lists of points in parentheses at the front of a text, each as a path, and answers
-/// what follows them.
+/// Reads the lists of points in parentheses at the start of a text, each as a path, and returns the
+/// text after them.
 pub(crate) fn read_lists<'a>(
     text: &'a [u8],
     scale: Scale,
@@ -184,8 +185,8 @@ pub(crate) fn read_lists<'a>(
     }
 }
 
-/// Reads the polygons in parentheses at the front of a text, each of their lists as a path, and
-/// answers what follows them.
+/// Reads the polygons in parentheses at the start of a text, each of their lists as a path, and
+/// returns the text after them.
 pub(crate) fn read_polygons<'a>(
     text: &'a [u8],
     scale: Scale,

@@ -1,4 +1,4 @@
-//! The vertices of all paths of a text, gathered as they are read.
+//! The vertices of all paths of a text, collected as they are read.
 
 ghost use Rattle.std.specs.Prelude.{◌≡◌};
 ghost use Rattle.wkt_core.specs.declared.scale.Scale.{Scale};
@@ -10,7 +10,8 @@ use plane_core::Vertex;
 use std::alloc::{AllocError, Global};
 use wkt_core::ReadPoint;
 
-/// The vertices of all paths in a row, and where each path ends, with the path that is being read.
+/// The concatenated vertices of all paths and the end of each path, with the path that is being
+/// read.
 #[derive(Drop)]
 pub(crate) struct Paths {
     pub(crate) vertices: Vec<Vertex>,
@@ -19,11 +20,11 @@ pub(crate) struct Paths {
     open: Vec<Vertex>,
     /// Whether each number so far is a whole number of units and in range.
     pub(crate) are_good: bool,
-    /// Whether a path whose points are all the same is left out.
+    /// Whether a path whose points are all equal is left out.
     skips_dots: bool,
 }
 
-/// The vertex of a point that was read, where its numbers are whole and in range.
+/// The vertex of a point that was read, if its numbers are whole and in range.
 fn vertex_of(point: &ReadPoint) -> Option<Vertex>
     ensures { (scale : Scale) (p : RawPoint)
         → point.now ≡ point_read scale p → IsVertexOf scale p result }
@@ -42,7 +43,7 @@ impl Paths {
     ghost use Rattle.wkt_core.specs.PointSteps.{point_read};
     ghost use Rattle.wkt_any_core.specs.Held.{IsRead, AddsPoint, IsStepped, IsKept, IsTaken};
 
-    /// Before anything is read.
+    /// No paths; nothing has been read.
     pub(crate) fn new(alloc: Global, skips_dots: bool) -> Paths
         ensures { (scale : Scale) → IsRead scale skips_dots result [] [] }
     {
@@ -55,7 +56,7 @@ impl Paths {
         }
     }
 
-    /// Goes on to a vertex, unless the path is there already.
+    /// Extends the path to a vertex, unless it is there already.
     fn step_to(&mut self, vertex: Vertex) -> Result<(), AllocError>
         ensures { OnOk result (IsStepped self.old vertex self.new) }
     {

@@ -14,7 +14,7 @@ use plane_core::{Geometry, Vertex};
 use std::alloc::{AllocError, Global};
 use wkt_core::{Position, Scale, push_point};
 
-/// Adds what stands before the item at a place.
+/// Adds the separator before the item at this index.
 #[tactic(auto, using(crate::proofs::PrinterLemmas::before_item))]
 fn push_separator(text: &mut String, i: usize) -> Result<(), AllocError>
     ensures { OnOk result (string_bytes text.new ≡ string_bytes text.old ++ separator i) }
@@ -102,7 +102,7 @@ fn push_parts(
     Ok(())
 }
 
-/// Adds the spelling of points.
+/// Adds the text of points.
 fn push_any_points(text: &mut String, points: &[Vertex], scale: Scale) -> Result<(), AllocError>
     ensures { OnOk result (string_bytes text.new
         ≡ string_bytes text.old ++ points_text scale points.now) }
@@ -149,7 +149,7 @@ fn push_many(
     text.push_str(")")
 }
 
-/// Adds the spelling of polylines.
+/// Adds the text of polylines.
 fn push_lines(text: &mut String, geometry: &Geometry, scale: Scale) -> Result<(), AllocError>
     ensures { OnOk result (string_bytes text.new
         ≡ string_bytes text.old ++ lines_text scale (paths_in geometry.now)) }
@@ -161,7 +161,7 @@ fn push_lines(text: &mut String, geometry: &Geometry, scale: Scale) -> Result<()
     }
 }
 
-/// Adds the spelling of rings.
+/// Adds the text of rings.
 fn push_areas(text: &mut String, geometry: &Geometry, scale: Scale) -> Result<(), AllocError>
     ensures { OnOk result (string_bytes text.new
         ≡ string_bytes text.old ++ areas_text scale (paths_in geometry.now)) }
@@ -173,7 +173,7 @@ fn push_areas(text: &mut String, geometry: &Geometry, scale: Scale) -> Result<()
     }
 }
 
-/// Adds the canonical spelling of a geometry.
+/// Adds the canonical text of a geometry.
 fn push_geometry(text: &mut String, geometry: &Geometry, scale: Scale) -> Result<(), AllocError>
     ensures { OnOk result (string_bytes text.new
         ≡ string_bytes text.old ++ canonical scale geometry.now) }
@@ -185,19 +185,20 @@ fn push_geometry(text: &mut String, geometry: &Geometry, scale: Scale) -> Result
     }
 }
 
-/// The canonical spelling of the geometry: that of one point, polyline or polygon where it has one
-/// vertex or one path, and else the `MULTI` form, with the vertices as they were read. Numbers are
-/// those of `wkt_core::print`; one space stands behind the keyword and between the two numbers of a
-/// point, and a comma and a space between points and between lists.
+/// The canonical text of the geometry: that of a single point, polyline or polygon if it has one
+/// vertex or one path, otherwise the `MULTI` form, with the vertices as they were read. Numbers
+/// have the form of `wkt_core::print`; one space follows the keyword and separates the two numbers
+/// of a point, and a comma and a space separate points and lists.
 ///
-/// A geometry doesn't keep which rings were of one polygon, so each of several rings is printed as
-/// a polygon of its own, a hole too. By the even-odd rule that is the same area.
+/// A geometry doesn't record which rings belong to one polygon, so each of several rings is printed
+/// as a polygon of its own, even a hole. By the even-odd rule that is the same area.
 ///
 /// # Errors
-/// Where memory is refused.
+/// If an allocation fails.
 pub fn print(alloc: Global, geometry: &Geometry, scale: Scale) -> Result<String, AllocError>
     ensures text { IfOk result (λ text. string_bytes text ≡ canonical scale geometry.now) }
-    // What was read, by any rule and at any scale, is printed so that it is read again.
+    // A geometry that was read, by any rule and at any scale, is printed such that it reads the
+    // same.
     ensures again { (rings : Rings) (from : Scale) (read : List ℕ)
         → Spells from rings read geometry.now
         → Spells scale rings (canonical scale geometry.now) geometry.now }

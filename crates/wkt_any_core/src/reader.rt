@@ -22,14 +22,14 @@ use ring_core::has_proper_rings;
 use std::alloc::{AllocError, Global};
 use wkt_core::{Keyword, Scale, skip_blanks};
 
-/// The keyword of a text of the grammar, and what is read of its lists.
+/// The keyword of a text of the grammar, and the paths read from its lists.
 #[derive(Drop)]
 pub(crate) struct RawText {
     keyword: Keyword,
     paths: Paths,
 }
 
-/// Whether a ring whose points are all the same is left out.
+/// Whether rings whose points are all equal are left out.
 fn skips_dots(rings: Rings, keyword: Keyword) -> bool
     ensures { result ≡ skips_dots rings keyword }
 {
@@ -39,7 +39,7 @@ fn skips_dots(rings: Rings, keyword: Keyword) -> bool
     }
 }
 
-/// The keyword of the text and what is read of its lists, where the grammar has it.
+/// The keyword of the text and the paths of its lists, if the text is in the grammar.
 fn read_raw(
     alloc: Global,
     text: &[u8],
@@ -69,7 +69,7 @@ fn read_raw(
     }
 }
 
-/// The geometry that a text shows by what was read of it, or the text's fault.
+/// The geometry of a text from its raw form, or the text's fault.
 fn shown(
     text: &[u8],
     scale: Scale,
@@ -94,7 +94,7 @@ fn shown(
     }
 }
 
-/// Whether the rings of a geometry are proper, where they have to be.
+/// Whether the rings of a geometry are proper, if they have to be.
 fn takes_rings(alloc: Global, geometry: &Geometry, rings: Rings) -> Result<bool, AllocError>
     ensures { IfOk result (λ is_taken. IsTrue is_taken ↔ TakesRings rings geometry.now) }
 {
@@ -104,7 +104,7 @@ fn takes_rings(alloc: Global, geometry: &Geometry, rings: Rings) -> Result<bool,
     }
 }
 
-/// The geometry that a text shows, if the text reads as it, or the fault of its rings.
+/// The geometry, if the rule allows its rings, or else their fault.
 fn answer(
     alloc: Global,
     text: &[u8],
@@ -128,21 +128,21 @@ fn answer(
 /// A text is `POINT (x y)`, `LINESTRING (x y, ..)`, `POLYGON ((x y, ..), ..)`, or `MULTIPOINT`,
 /// `MULTILINESTRING` or `MULTIPOLYGON` with many of these in parentheses (OGC 06-103r4, 7.2), with
 /// the keyword in any ASCII case. White space and numbers are those of `wkt_core`. A point of a
-/// `MULTIPOINT` may stand in parentheses.
+/// `MULTIPOINT` may be in parentheses.
 ///
-/// A point that is equal to the one before it changes nothing.
+/// A point equal to the one before it is ignored.
 ///
 /// # Errors
-/// - [`GeometryFault::Text`] where the bytes are no text of this grammar.
-/// - [`GeometryFault::Number`] where some number has a digit other than 0 behind the decimals that
-///   the scale keeps, or is more than [`geom_core::LIMIT`] units from 0.
-/// - [`GeometryFault::Form`] where a polyline has no two different vertices, or a ring's last point
-///   isn't its first, or its points lie on one line. With [`Rings::EvenOdd`] a ring may lie on one
-///   line; one whose points are all the same adds nothing, and some ring has to be left.
-/// - [`GeometryFault::Rings`] where two edges of rings share more than one point, or one that is an
-///   end of neither. With [`Rings::EvenOdd`] it doesn't come.
+/// - [`GeometryFault::Text`] if the bytes aren't a text of this grammar.
+/// - [`GeometryFault::Number`] if some number has a digit other than 0 after the decimals of the
+///   scale, or is more than [`geom_core::LIMIT`] units from 0.
+/// - [`GeometryFault::Form`] if a polyline doesn't have two distinct vertices, or a ring's last
+///   point isn't its first, or its points lie on one line. With [`Rings::EvenOdd`] a ring may lie on
+///   one line; a ring whose points are all equal is ignored, and some other ring must remain.
+/// - [`GeometryFault::Rings`] if two edges of rings share more than one point, or one that is an
+///   end of neither. With [`Rings::EvenOdd`] this fault doesn't occur.
 ///
-/// An error outside these is a want of memory, or 2^32 vertices or more.
+/// The outer error means that memory ran out, or that there are 2^32 vertices or more.
 pub fn read(
     alloc: Global,
     text: &[u8],

@@ -31,13 +31,13 @@ use geom_core::Shape;
 ///
 /// # Errors
 /// - [`WktFault::Text`] if the bytes aren't a text of this grammar, in which a list may have any
-/// number of points or lists of points.
+///   number of points or lists of points.
 /// - [`WktFault::Number`] if some number has a digit other than 0 after the decimals of the scale,
-/// or is more than [`geom_core::LIMIT`] units from 0.
+///   or is more than [`geom_core::LIMIT`] units from 0.
 /// - [`WktFault::Form`] if a `LINESTRING` doesn't have two or more distinct points that go straight
-/// along an axis, or if a `POLYGON` isn't a single closed ring that goes once around a rectangle of
-/// positive width and height: through its four corners and any points within its sides, in order,
-/// from any of them, in either direction.
+///   along an axis, or if a `POLYGON` isn't a single closed ring that goes once around a rectangle
+///   of positive width and height: through its four corners and any points within its sides, in
+///   order, from any of them, in either direction.
 pub fn read(text: &[u8], scale: Scale) -> Result<Shape, WktFault>
     ensures reads { Reads scale text.now result }
     ensures only { (answer : Result Shape WktFault)
