@@ -137,8 +137,8 @@ fn answer(
 /// - [`GeometryFault::Number`] if some number has a digit other than 0 after the decimals of the
 ///   scale, or is more than [`geom_core::LIMIT`] units from 0.
 /// - [`GeometryFault::Form`] if a polyline doesn't have two distinct vertices, or a ring's last
-///   point isn't its first, or its points lie on one line. With [`Rings::EvenOdd`] a ring may lie on
-///   one line; a ring whose points are all equal is ignored, and some other ring must remain.
+///   point isn't its first, or its points lie on one line. With [`Rings::EvenOdd`] a ring may lie
+///   on one line; a ring whose points are all equal is ignored, and some other ring must remain.
 /// - [`GeometryFault::Rings`] if two edges of rings share more than one point, or one that is an
 ///   end of neither. With [`Rings::EvenOdd`] this fault doesn't occur.
 ///
