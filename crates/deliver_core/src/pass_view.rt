@@ -1,5 +1,5 @@
-//! What the passes of an outlet's queue know, and the rule that relates it to the waiting messages.
-//! It exists only in proofs.
+//! The knowledge of the passes of an outlet's queue, and the rule that relates it to the waiting
+//! messages. It exists only in proofs.
 
 use crate::message::Message;
 use crossbeam_queue::protocol::{Join, Lesson, Outcome, Protocol, Split};

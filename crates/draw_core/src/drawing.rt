@@ -24,10 +24,10 @@ pub const MAX_DRAWN: usize = 100_000;
 const OPENING: &str = "<svg xmlns=\"http://www.w3.org/2000/svg\" version=\"1.1\" \
 width=\"1000\" height=\"";
 
-/// What follows, up to the height of the view box.
+/// The text between that height and the height of the view box.
 const SHOWN: &str = "\" viewBox=\"0 0 1000 ";
 
-/// What follows, up to the legend: the style of each class.
+/// The text between the two heights and the legend: the style of each class.
 ///
 /// Stroke widths are percentages of the picture's size, so a point is visible at any extent. The
 /// two colours are blue and vermillion of Okabe and Ito, which colour-blind readers tell apart.
@@ -50,11 +50,11 @@ const LEGEND_HEIGHT: u64 = 40;
 const LEFT_KEY: &str = "<path class=\"left\" d=\"M20 12h16v16h-16z\"/>\
 <text x=\"46\" y=\"26\">left features: ";
 
-/// What follows, up to the number of right features.
+/// The legend between the numbers of left and of right features.
 const RIGHT_KEY: &str = "</text>\n<path class=\"right\" d=\"M320 12h16v16h-16z\"/>\
 <text x=\"346\" y=\"26\">right features: ";
 
-/// What follows, up to the number of pairs.
+/// The legend between the numbers of right features and of pairs.
 const MATCH_KEY: &str = "</text>\n<path class=\"left match\" d=\"M620 12h16v16h-16z\"/>\
 <path class=\"right match\" d=\"M642 12h16v16h-16z\"/>\
 <text x=\"668\" y=\"26\">matching pairs: ";
@@ -65,7 +65,7 @@ const LEGEND_END: &str = "</text>\n";
 /// The start of the element that shows the frame, up to its height.
 const CANVAS: &str = "<svg y=\"40\" width=\"1000\" height=\"";
 
-/// What follows, up to the frame's width.
+/// The text between that height and the frame's width.
 const FRAME: &str = "\" preserveAspectRatio=\"xMidYMin\" viewBox=\"0 0 ";
 
 /// The end tags of the frame's element and of the root.
@@ -89,7 +89,7 @@ fn push_counted(text: &mut String, before: &str, count: u64) -> Result<(), Alloc
     text.push_str(digits.format(count))
 }
 
-/// Adds what precedes the legend of a picture of this height: its size and its style.
+/// Adds the start of a picture of this height, up to the legend: its size and its style.
 fn push_opening(text: &mut String, height: u64) -> Result<(), AllocError>
     ensures { OnOk result (string_bytes text.new ≡ string_bytes text.old ++ opening height) }
 {

@@ -1,4 +1,4 @@
-//! Where a text of records is cut into parts, and tests of the ends of a part.
+//! Cutting a text of records into parts, and tests of the ends of a part.
 
 ghost use Rattle.std.specs.Prelude.{◌≡◌, ◌≤◌, ◌++◌, ◌↔◌, false, length, IsTrue, Bool};
 ghost use Rattle.csv.specs.Records.{fields_of};

@@ -153,7 +153,7 @@ impl Layer {
         ensures root { result.now ≡ self.now.root }
         ensures exact { IsTreeOf self.now.list self.now.root }
     {
-        // The invariant of the tree gives that it is lawful.
+        // By its invariant, the tree is lawful.
         let _root = self.tree.root();
         &self.tree
     }

@@ -10,7 +10,7 @@ use arrayvec::ArrayString;
 use itoa::Buffer;
 use std::marker::Model;
 
-/// The capacity of such a text, in bytes.
+/// The capacity of a short text, in bytes.
 pub const ROOM: usize = 128;
 
 /// A text of one or a few lines, of at most [`ROOM`] bytes.

@@ -34,7 +34,7 @@ pub trait Sink {
         ensures bytes { WriteAppends (written self.old) (written self.new) result text.now }
         ensures failed { IsErr result ↔ IsTrue (has_failed self.new) };
 
-    /// Flushes what was written.
+    /// Flushes the text written so far.
     fn flush(&mut self) -> Result<(), WriteFailed>
         requires { has_failed self.old ≡ false }
         ensures bytes { Keeps (written self.old) (written self.new) }

@@ -44,7 +44,7 @@ pub struct JoinRequest<'a> {
     pub scale: Scale,
 }
 
-/// What the program is asked to do. Texts and paths borrow from the words.
+/// A command of the program, with its arguments. Texts and paths borrow from the words.
 #[derive(Clone, Copy, Debug, PartialEq, Eq)]
 pub enum Command<'a> {
     /// Write the matrix of two geometries.
@@ -146,7 +146,7 @@ pub fn read_words<'a>(alloc: Global, words: &'a [&'a str]) -> Result<Command<'a>
     }
 }
 
-/// What `clap` refuses, or shows when it is asked for help.
+/// The fault of words that `clap` refuses, or that ask for help.
 fn usage_fault(alloc: Global, error: &clap::Error) -> WordFault
     ensures memory { kind_of error.now ≡ ErrorKind.OutOfMemory → result ≡ WordFault.Memory }
     ensures told { result ≢ WordFault.Memory → IsUsageFault (kind_of error.now) result }

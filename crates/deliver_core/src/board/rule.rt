@@ -10,7 +10,7 @@ pub struct Size {
     pub seats: u32,
 }
 
-/// What a seat at the board's table knows: the board's numbers of tasks and seats, the number of
+/// The knowledge of a seat at the board's table: the board's numbers of tasks and seats, the number of
 /// seats that it stands for (its parts), the numbers that they have drawn, and how many of their
 /// draws found no number. No value of this type is ever made.
 pub struct SeatView {
