@@ -1,4 +1,4 @@
-//! The matrices of geometries of any direction, under the names of their rows, and texts at fault.
+//! The matrices of named pairs of geometries of any direction, and faults of texts.
 
 use crate::runs::{Run, check, ends};
 use std::alloc::Global;
@@ -180,7 +180,7 @@ const EVEN_ODD: &[Row] = &[
     ),
 ];
 
-/// The letters of the matrix of two geometries that are exchanged.
+/// The letters of the matrix of two geometries in reverse order.
 fn transposed(alloc: Global, letters: &str) -> Result<String, Fail> {
     let [ii, ib, ie, bi, bb, be, ei, eb, ee] = *letters.as_bytes() else {
         return Err(Fail::from("a matrix has nine letters"));
@@ -189,8 +189,8 @@ fn transposed(alloc: Global, letters: &str) -> Result<String, Fail> {
     Ok(String::from_utf8(Vec::from_slice(alloc, exchanged.as_slice())?)?)
 }
 
-/// Options, and what is said on standard error of the first of two geometries, and of the second
-/// once they are exchanged.
+/// Options, and the text on standard error when the first geometry has improper rings, and when the
+/// second has them.
 type Rule = (&'static str, &'static str, &'static str);
 
 const BY_DEFAULT: Rule = ("", "", "");
@@ -205,8 +205,7 @@ const IMPROPER: Rule = (
     "rjoin: second: even-odd rule for improper rings\n",
 );
 
-/// Whether the program relates the two geometries of a row so by a rule, and also where they are
-/// exchanged.
+/// Whether `relate` with a rule's options writes the matrix of a row's geometries, in either order.
 fn relates<R: RandomSource + AllocGlobal + Threads + Wait + Sync>(
     rt: &R,
     rule: &Rule,
@@ -225,7 +224,7 @@ fn relates<R: RandomSource + AllocGlobal + Threads + Wait + Sync>(
     )
 }
 
-/// Checks each row by a rule.
+/// Checks that `relate` gives the matrix of each row.
 fn check_rows<R: Abort + RandomSource + AllocGlobal + Threads + Wait + Sync>(
     rt: &R,
     rule: &Rule,
@@ -249,7 +248,7 @@ fn even_odd_rings(rt: HostRuntime) -> Result<(), Fail> {
     check_rows(&rt, &IMPROPER, EVEN_ODD)
 }
 
-/// Of two geometries with improper rings each is told, in order.
+/// Two geometries with improper rings are both reported, in order.
 const BOTH_IMPROPER: &[Run] = &[(
     "relate|--geometry|any|--rings|even-odd|POLYGON ((0 0, 4 4, 4 0, 0 4, 0 0))\
      |POLYGON ((0 0, 4 4, 4 0, 0 4, 0 0))",
@@ -264,7 +263,7 @@ fn both_improper(rt: HostRuntime) -> Result<(), Fail> {
     check(&rt, &[], BOTH_IMPROPER)
 }
 
-/// Two squares of the boxes' rows, a scale, and texts in either place that spell no geometry.
+/// Two points at a scale, and first or second texts that spell no geometry.
 const TEXTS: &[Run] = &[
     (
         "relate|--geometry|any|--scale|2|POINT (9 9.25)|POINT (9 9.250)",
@@ -340,7 +339,7 @@ fn texts_at_fault(rt: HostRuntime) -> Result<(), Fail> {
     check(&rt, &[], TEXTS)
 }
 
-/// Boxes are read where nothing else is asked for.
+/// By default geometries are boxes.
 const BOXES: &[Run] = &[
     (
         "relate|--geometry|box|LINESTRING (1 0, 3 0)|POLYGON ((0 0, 4 0, 4 4, 0 4, 0 0))",

@@ -1,4 +1,4 @@
-//! What commands write over files in memory.
+//! The output of commands over files in memory.
 
 use crate::runs::{Run, check, writes};
 use crate::shelf::FILES;
@@ -69,7 +69,7 @@ const CORNERS_OF_A_LAYER: [Run; 3] = [
     ("bounds|-", 1, "", "rjoin: layer: cannot be opened\n"),
 ];
 
-/// Layers at paths that another word would lead to, if words were trimmed, lowered or cut.
+/// Layers at paths that would be confused if words were trimmed, lower-cased or truncated.
 const PATHS: [(&str, &str); 5] = [
     ("-", "id,wkt\ninput,POINT (0 0)\n"),
     ("-l.csv", "id,wkt\ndash,POINT (1 1)\n"),
@@ -148,10 +148,12 @@ const GEOMETRIES_IN_ORDER: [Run; 4] = [
     ),
 ];
 
-/// A picture of FILES, after their edits: the left point is gone, and the right one is there.
+/// The command for a picture of FILES after their edits: the left point is deleted, and the right
+/// one is inserted.
 const PICTURE_WORDS: &str = "draw|left.csv|right.csv|--relation|intersects|--edits|edits.csv";
 
-/// Its end: the cover goes from (0, 0) to (4, 4), so the corner of the frame is (-1, 5).
+/// The end of the picture: the cover goes from (0, 0) to (4, 4), so the corner of the frame is
+/// (-1, 5).
 const PICTURE_END: &str = " viewBox=\"0 0 6 6\">\n<g class=\"left\">\n\
     <path class=\"match\" d=\"M2 5h2v0\"><title>b</title></path>\n\
     </g>\n<g class=\"right\">\n\

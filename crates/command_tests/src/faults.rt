@@ -1,4 +1,4 @@
-//! What commands say of files and words at fault, and their status.
+//! The fault lines and the status of commands with faults of files and words.
 
 use crate::runs::{Run, check};
 use crate::shelf::FILES;

@@ -1,4 +1,4 @@
-//! What help tells of commands, inputs and limits.
+//! The help on commands, inputs and limits.
 
 use crate::help_texts::{
     OF_BOUNDS, OF_DRAW, OF_JOIN, OF_RELATE, OF_STATS, OF_THE_PROGRAM, OF_WINDOW,
@@ -8,7 +8,7 @@ use join_core::{DEFAULT_WORKERS, MAX_BATCH, MAX_CUT, MAX_DRAWN, MAX_WORKERS};
 use std::alloc::Global;
 use std::test::Fail;
 
-/// Words that ask for help or the version, and what they show.
+/// Words that ask for help or the version, and the text shown.
 const HELP: &[(&str, &str)] = &[
     ("rjoin|--version", "rjoin 0.2.0\n"),
     ("rjoin|--help", OF_THE_PROGRAM),
@@ -23,20 +23,20 @@ const HELP: &[(&str, &str)] = &[
     ("rjoin|help|bounds", OF_BOUNDS),
 ];
 
-/// What the help of a join has before a limit, the limit, and the default.
+/// Parts of the help of `join`: the text before a limit, the limit, and the default.
 const LIMITS: &[(&str, u32, u32)] = &[
     ("Threads that join, 1 to", MAX_WORKERS, DEFAULT_WORKERS),
     ("Pairs a batch, 1 to", MAX_BATCH, 256),
     ("into tasks, 0 to", MAX_CUT as u32, 2),
 ];
 
-/// Whether words show a text with this part, and end with success.
+/// Whether words show a text that contains this part, and end with success.
 fn helps(alloc: Global, words: &'static str, part: &str) -> Result<bool, Fail> {
     let (help, status) = shown(alloc, parted(alloc, words)?.as_slice())?;
     Ok(status == 0 && String::from_utf8(help)?.as_str().contains(part))
 }
 
-/// Whether words show this text and nothing else, and end with success.
+/// Whether words show exactly this text, and end with success.
 fn shows_all(alloc: Global, words: &'static str, text: &str) -> Result<bool, Fail> {
     let (help, status) = shown(alloc, parted(alloc, words)?.as_slice())?;
     Ok(status == 0 && help.as_slice() == text.as_bytes())
@@ -50,7 +50,7 @@ fn help_and_version(rt: HostRuntime) -> Result<(), Fail> {
     Ok(())
 }
 
-/// Whether the help of a join has this text, followed by this limit and this default.
+/// Whether the help of `join` has this text followed by this limit and this default.
 fn tells_limit(alloc: Global, front: &str, limit: u32, default: u32) -> Result<bool, Fail> {
     let part = format!(in alloc; "{front} {limit} [default: {default}]")?;
     helps(alloc, "rjoin|join|--help", part.as_str())

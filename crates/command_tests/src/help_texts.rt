@@ -1,4 +1,4 @@
-//! What help shows of the program and of each command, whole.
+//! The whole help texts of the program and of each command.
 
 pub(crate) const OF_THE_PROGRAM: &str = "\
 Joins two layers of geometries by a spatial relation

@@ -1,4 +1,4 @@
-//! Tests of commands, from outside: their words, and what they do over files in memory.
+//! Tests of commands, from outside: their words, and their runs over files in memory.
 #![tactic(auto)]
 
 #[cfg(test)]

@@ -1,4 +1,4 @@
-//! Commands that are run over files in memory, and how they end.
+//! Running commands over files in memory, and checking their results.
 
 use crate::shelf::Shelf;
 use command_core::run_words;
@@ -10,10 +10,10 @@ use std::sync::Wait;
 use std::test::Fail;
 use std::thread::Threads;
 
-/// The words of a run with `|` between them, its status, and what it writes and says.
+/// The words of a run with `|` between them, its status, its output and its text on standard error.
 pub type Run = (&'static str, u8, &'static str, &'static str);
 
-/// How a run ended.
+/// The result of a run.
 #[derive(Drop)]
 struct Ended {
     status: u8,
@@ -31,7 +31,7 @@ fn given_words(alloc: Global, words: &str) -> Result<Vec<String>, AllocError> {
     Ok(given)
 }
 
-/// Runs words over files.
+/// Runs the words over the files.
 fn run_on<R: RandomSource + AllocGlobal + Threads + Wait + Sync>(
     rt: &R,
     files: &[(&str, &str)],
@@ -47,7 +47,7 @@ fn run_on<R: RandomSource + AllocGlobal + Threads + Wait + Sync>(
     }
 }
 
-/// Whether a run ends with its status, and writes and says what it has to.
+/// Whether a run has the expected status, output and text on standard error.
 pub fn ends<R: RandomSource + AllocGlobal + Threads + Wait + Sync>(
     rt: &R,
     files: &[(&str, &str)],
@@ -62,7 +62,7 @@ pub fn ends<R: RandomSource + AllocGlobal + Threads + Wait + Sync>(
     )
 }
 
-/// Whether a run succeeds, and writes a text with this beginning and this end.
+/// Whether a run succeeds, and writes a text that starts and ends as given.
 pub fn writes<R: RandomSource + AllocGlobal + Threads + Wait + Sync>(
     rt: &R,
     files: &[(&str, &str)],

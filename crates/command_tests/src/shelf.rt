@@ -3,7 +3,7 @@
 use command_core::{Inputs, NotOpened};
 use file_core::FromRead;
 
-/// Two layers, edits, a layer at fault, and edits on standard input.
+/// Two layers, edits, a layer with a fault, and edits on standard input.
 pub const FILES: [(&str, &str); 5] = [
     (
         "left.csv",

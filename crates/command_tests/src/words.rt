@@ -11,7 +11,7 @@ use std::test::Fail;
 use wkt_any_core::Rings;
 use wkt_core::Scale;
 
-/// Words, of which each follows a `|`, that don't fit the usage.
+/// Words that don't fit the usage, with `|` between them.
 const USAGE_FAULTS: &[&str] = &[
     "rjoin",
     "rjoin|relate|x",
@@ -45,7 +45,7 @@ const USAGE_FAULTS: &[&str] = &[
     "rjoin|draw|-|-|--relation|touches",
 ];
 
-/// Words of a join behind its files, and the line of their fault.
+/// Words of a join after its files, and the line of their fault.
 const OPTION_FAULTS: &[(&str, &str)] = &[
     (
         "--relation|disjoint|--workers|17",
@@ -111,7 +111,7 @@ const OPTION_FAULTS: &[(&str, &str)] = &[
     ),
 ];
 
-/// Words of a join within, behind its files, with the edits, the three numbers and the decimals
+/// Words of a join by `within` after its files, with the edits, the three numbers and the decimals
 /// that they ask for.
 const JOINS: &[(&str, Option<&str>, (u32, u32, u32), u32)] = &[
     ("--relation|within", None, (4, 256, 2), 0),
@@ -133,19 +133,19 @@ const JOINS: &[(&str, Option<&str>, (u32, u32, u32), u32)] = &[
     ),
 ];
 
-/// The words that stand between `|`.
+/// The words between `|`.
 pub(crate) fn parted(alloc: Global, words: &'static str) -> Result<Vec<&'static str>, Fail> {
     Ok(words.split('|').collect(alloc)?)
 }
 
-/// What is shown of a fault.
+/// The text shown for a fault.
 fn line_of(alloc: Global, fault: &WordFault) -> Result<Vec<u8>, Fail> {
     let mut sink = ToWrite::new(Vec::new(alloc));
     word_line(fault, &mut sink)?;
     Ok(sink.into_inner())
 }
 
-/// What is shown of words that are no command, or nothing where they are one, and their status.
+/// The text shown for words and the status; no text if the words are a command.
 pub(crate) fn shown(alloc: Global, words: &[&str]) -> Result<(Vec<u8>, u8), Fail> {
     match read_words(alloc, words) {
         Ok(_) => Ok((Vec::new(alloc), 0)),
@@ -158,7 +158,7 @@ fn reads(alloc: Global, words: &'static str, wanted: Command<'_>) -> Result<bool
     Ok(read_words(alloc, parted(alloc, words)?.as_slice())? == wanted)
 }
 
-/// Words of `relate` behind its two geometries, and the geometries that they ask for.
+/// Words of `relate` after its two geometries, and the geometries that they ask for.
 const GEOMETRIES: &[(&str, Geometries)] = &[
     ("--scale|0", Geometries::Box),
     ("--geometry|box", Geometries::Box),
@@ -173,7 +173,7 @@ const GEOMETRIES: &[(&str, Geometries)] = &[
     ),
 ];
 
-/// Whether words on two geometries that end so are read as this request.
+/// Whether `relate` on two geometries, followed by these words, is read as this request.
 fn asks_to_relate(
     alloc: Global,
     last: &'static str,
@@ -233,7 +233,7 @@ fn layer_words(rt: HostRuntime) -> Result<(), Fail> {
     Ok(())
 }
 
-/// The status of words that don't fit the usage, or nothing where they do.
+/// The status of words that don't fit the usage, or `None` if they fit.
 fn usage_status(alloc: Global, words: &[&str]) -> Option<u8> {
     match read_words(alloc, words) {
         Err(fault @ WordFault::Usage { .. }) => Some(word_status(&fault)),
@@ -259,7 +259,7 @@ fn no_memory_line(rt: HostRuntime) -> Result<(), Fail> {
     Ok(())
 }
 
-/// The words of a command on two files that end so.
+/// The words of a command on two files, followed by these words.
 fn join_words(
     alloc: Global,
     command: &'static str,
@@ -271,7 +271,7 @@ fn join_words(
     Ok(words)
 }
 
-/// Whether the line of a fault is what it shows as, after the program's name.
+/// Whether the line of a fault is its displayed text after the program's name.
 fn shows_its_line(alloc: Global, fault: &WordFault) -> Result<bool, Fail> {
     let line = format!(in alloc; "rjoin: {fault}\n")?;
     Ok(line_of(alloc, fault)?.as_slice() == line.as_bytes())
@@ -307,7 +307,7 @@ fn a_file_that_is_not_opened(rt: HostRuntime) -> Result<(), Fail> {
     Ok(())
 }
 
-/// Whether a command on two files that ends so is refused by this line.
+/// Whether a command on two files, followed by these words, is refused with this line.
 fn is_refused(
     alloc: Global,
     command: &'static str,
@@ -327,7 +327,7 @@ fn option_faults(rt: HostRuntime) -> Result<(), Fail> {
     Ok(())
 }
 
-/// Whether a command on two files that ends so is read as this one.
+/// Whether a command on two files, followed by these words, is read as this command.
 fn asks(
     alloc: Global,
     command: &'static str,

@@ -1,7 +1,7 @@
 //! Layers for the tests, and their pictures.
 //!
-//! The proof of a function grows with the square of its length where it owns a layer. So layers
-//! are filled and drawn by functions that borrow them.
+//! The proof of a function that owns a layer grows with the square of its length, so layers are
+//! filled and drawn by functions that borrow them.
 
 use draw_core::{can_be_drawn, picture};
 use geom_core::Shape;
@@ -12,12 +12,12 @@ use std::hash::RandomState;
 /// A feature: its id, and the corners of its shape.
 pub(crate) type Row<'a> = (&'a str, (i64, i64, i64, i64));
 
-/// A layer with no features, or none without memory or random keys.
+/// A layer without features, or `None` without memory or random keys.
 fn empty_layer(rt: &HostRuntime) -> Option<Layer> {
     Layer::new(rt.alloc(), RandomState::new(rt).ok()?).ok()
 }
 
-/// Inserts these features, or answers none where one is refused.
+/// Inserts these features, or returns `None` if one is refused.
 fn insert_all(layer: &mut Layer, rows: &[Row<'_>]) -> Option<()> {
     for (id, (x1, y1, x2, y2)) in rows {
         layer.insert(id, Shape::new(*x1, *y1, *x2, *y2)?).ok()?;
@@ -25,13 +25,13 @@ fn insert_all(layer: &mut Layer, rows: &[Row<'_>]) -> Option<()> {
     Some(())
 }
 
-/// The layer of these features, or none where one is refused.
+/// The layer of these features, or `None` if one is refused.
 fn layer_of(rt: &HostRuntime, rows: &[Row<'_>]) -> Option<Layer> {
     let mut layer = empty_layer(rt)?;
     insert_all(&mut layer, rows).map(|()| layer)
 }
 
-/// The picture of two layers and these pairs, or none where it can't be drawn.
+/// The picture of two layers and these pairs, or `None` if it can't be drawn.
 fn drawn(alloc: Global, left: &Layer, right: &Layer, pairs: &[(u32, u32)]) -> Option<String> {
     if !can_be_drawn(left, right) {
         return None;
@@ -39,7 +39,7 @@ fn drawn(alloc: Global, left: &Layer, right: &Layer, pairs: &[(u32, u32)]) -> Op
     picture(alloc, left, right, pairs).ok()
 }
 
-/// The picture of these features and pairs, or none where something is refused.
+/// The picture of these features and pairs, or `None` if something is refused.
 pub(crate) fn picture_of(
     rt: &HostRuntime,
     left: &[Row<'_>],

@@ -1,4 +1,4 @@
-//! Tests of the picture, from outside: texts that were written by hand from its description.
+//! Tests of the picture, from outside: texts written by hand from its description.
 #![tactic(auto)]
 
 #[cfg(test)]

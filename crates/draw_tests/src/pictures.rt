@@ -1,9 +1,9 @@
-//! Pictures by hand.
+//! Pictures written by hand.
 
 use crate::layers::{Row, picture_of};
 
-/// What a picture has to say: its height and that of the drawing in it, the counts of the legend,
-/// and the drawing from the size of its frame to the end.
+/// The parts of a picture to compare: its height and that of the drawing in it, the counts of the
+/// legend, and the drawing from the size of its frame to the end.
 #[derive(Clone, Copy)]
 struct Expected {
     heights: [&'static str; 2],
@@ -11,21 +11,21 @@ struct Expected {
     drawing: &'static str,
 }
 
-/// The number that stands after these words, up to this end.
+/// The number after these words, up to this end.
 fn count_after<'a>(text: &'a str, words: &str, end: &str) -> Option<&'a str> {
     let (_, rest) = text.split_once(words)?;
     let (count, _) = rest.split_once(end)?;
     Some(count)
 }
 
-/// What stands after the legend, from the size of the frame on.
+/// The text after the legend, from the size of the frame.
 fn drawing(text: &str) -> Option<&str> {
     let (_, rest) = text.split_once("</text>\n<svg ")?;
     let (_, drawing) = rest.split_once(" viewBox=\"0 0 ")?;
     Some(drawing)
 }
 
-/// Whether a picture has this height, and the drawing in it that one.
+/// Whether a picture and the drawing in it have these heights.
 fn heights(text: &str, expected: [&str; 2]) -> bool {
     let shown = "\" viewBox=\"0 0 1000 ";
     let rest = text.strip_prefix(
@@ -44,14 +44,14 @@ fn counts(text: &str, expected: [&str; 3]) -> bool {
         && count_after(text, "matching pairs: ", "</text>") == Some(expected[2])
 }
 
-/// Whether a picture says this, and begins as SVG.
+/// Whether a picture has these parts, and starts as SVG.
 fn says(text: &str, expected: &Expected) -> bool {
     heights(text, expected.heights)
         && counts(text, expected.counts)
         && drawing(text) == Some(expected.drawing)
 }
 
-/// A picture of a left and a right point that match: SVG 1.1, with what its classes look like. The
+/// A picture of a matching left and right point: SVG 1.1, with the style of its classes. The
 /// colours are the blue and the vermillion of Okabe and Ito.
 const WHOLE: &str = "<svg xmlns=\"http://www.w3.org/2000/svg\" version=\"1.1\" \
     width=\"1000\" height=\"1040\" viewBox=\"0 0 1000 1040\">\n\
@@ -83,7 +83,7 @@ fn whole_picture(rt: HostRuntime) {
     assert!(rt; text.is_some_and(|text| text.as_str() == WHOLE));
 }
 
-/// Whether the picture of these features and pairs says this.
+/// Whether the picture of these features and pairs has these parts.
 fn draws(
     rt: &HostRuntime,
     left: &[Row<'_>],
@@ -94,7 +94,7 @@ fn draws(
     picture_of(rt, left, right, pairs).is_some_and(|text| says(text.as_str(), expected))
 }
 
-/// With no features the frame is about the origin, one unit to each side.
+/// Without features the frame is around the origin, one unit on each side.
 #[test]
 fn nothing_drawn(rt: HostRuntime) {
     let expected = Expected {
@@ -107,7 +107,7 @@ fn nothing_drawn(rt: HostRuntime) {
     assert!(rt; draws(&rt, &[], &[], &[], &expected));
 }
 
-/// One point stands in the middle of a frame of two units.
+/// One point is in the middle of a frame of two units.
 #[test]
 fn point_drawn(rt: HostRuntime) {
     let expected = Expected {
@@ -122,8 +122,8 @@ fn point_drawn(rt: HostRuntime) {
 }
 
 /// The cover goes from (0, -10) to (40, 20), so the margin is 40 / 20 + 1 = 3 and the corner of the
-/// frame (-3, 23). It is 46 wide and 36 high, so 1,000 and 783 as drawn. The right layer's second
-/// feature is in two pairs, and its first one in none.
+/// frame is (-3, 23). The frame is 46 wide and 36 high, so it is drawn 1,000 wide and 783 high. The
+/// right layer's second feature is in two pairs, and its first is in none.
 #[test]
 fn matches_drawn(rt: HostRuntime) {
     let left = [
@@ -147,7 +147,7 @@ fn matches_drawn(rt: HostRuntime) {
     assert!(rt; draws(&rt, &left, &right, &[(1, 1), (2, 1)], &expected));
 }
 
-/// The whole plane: both lengths are 2 * 10^12, and the margin a twentieth of that and one.
+/// The whole plane: both lengths are 2 * 10^12, and the margin is a twentieth of that plus one.
 #[test]
 fn plane_drawn(rt: HostRuntime) {
     const FAR: i64 = 1_000_000_000_000;
@@ -167,8 +167,8 @@ fn plane_drawn(rt: HostRuntime) {
     assert!(rt; draws(&rt, &left, &right, &[], &expected));
 }
 
-/// A segment of 100 units upwards: the margin is 6, and the frame 12 wide and 112 high. It is drawn
-/// twice as high as it is wide, which is the most.
+/// A vertical segment of 100 units: the margin is 6, and the frame is 12 wide and 112 high. It is
+/// drawn at the greatest height, twice the width.
 #[test]
 fn tall_drawn(rt: HostRuntime) {
     let expected = Expected {
@@ -182,7 +182,7 @@ fn tall_drawn(rt: HostRuntime) {
     assert!(rt; draws(&rt, &[("mast", (0, 0, 0, 100))], &[], &[], &expected));
 }
 
-/// XML 1.0, sections 2.2 and 2.4: markup by reference, and U+FFFD for what is forbidden.
+/// XML 1.0, sections 2.2 and 2.4: markup as references, and U+FFFD for forbidden characters.
 #[test]
 fn ids_escaped(rt: HostRuntime) {
     let right = [

@@ -1,15 +1,15 @@
-//! A picture with each growth refused in turn.
+//! A picture with each allocation refused in turn.
 
 use crate::layers::picture_of;
 
-/// The end of the picture of a rectangle and a point that match.
+/// The end of the picture of a matching rectangle and point.
 const END: &str = "<g class=\"left\">\n\
     <path class=\"match\" d=\"M1 1h4v2h-4z\"><title>a</title></path>\n</g>\n\
     <g class=\"right\">\n\
     <path class=\"point match\" d=\"M5 1h0v0\"><title>b</title></path>\n</g>\n\
     </svg>\n</svg>\n";
 
-/// The picture of a rectangle and a point that match, made again where memory was refused.
+/// The picture of a matching rectangle and point, made again if an allocation fails.
 fn picture_at_last(rt: &HostRuntime) -> Option<String> {
     let left = [("a", (0, 0, 4, 2))];
     let right = [("b", (4, 2, 4, 2))];
@@ -21,8 +21,7 @@ fn picture_at_last(rt: &HostRuntime) -> Option<String> {
     None
 }
 
-/// Run with each allocation failing in turn, it ends as with ample memory: where it is refused, the
-/// same call gives the same text afterwards.
+/// Passes with each allocation failing in turn: after a failure, the same call gives the same text.
 #[test]
 fn refused_picture(rt: HostRuntime) {
     assert!(rt; picture_at_last(&rt).is_some_and(|text| text.as_str().ends_with(END)));

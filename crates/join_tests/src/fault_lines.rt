@@ -16,24 +16,24 @@ fn line_of(alloc: Global, fault: &RunFault) -> Option<Vec<u8>> {
     Some(sink.into_inner())
 }
 
-/// Whether the line of a fault says this text.
+/// Whether the line of a fault has this text.
 fn has_line(alloc: Global, fault: &RunFault, text: &str) -> Option<bool> {
     let written = line_of(alloc, fault)?;
     let line = format!(in alloc; "rjoin: {text}\n").ok()?;
     Some(written.as_slice() == line.as_bytes())
 }
 
-/// Whether a fault shows as this text.
+/// Whether a fault is displayed as this text.
 fn shows(alloc: Global, fault: &RunFault, text: &str) -> Option<bool> {
     Some(format!(in alloc; "{fault}").ok()?.as_str() == text)
 }
 
-/// Whether the line of a fault says this text, and the fault shows as it.
+/// Whether the line of a fault has this text, and the fault is displayed as it.
 fn says(alloc: Global, fault: &RunFault, text: &str) -> bool {
     has_line(alloc, fault, text) == Some(true) && shows(alloc, fault, text) == Some(true)
 }
 
-/// Whether each of these faults says its text.
+/// Whether each of these faults has its text.
 fn all_say(alloc: Global, lines: &[(RunFault, &str)]) -> bool {
     for (fault, text) in lines {
         if !says(alloc, fault, text) {

@@ -1,4 +1,5 @@
-//! Joins of mixed, clustered and coincident features, packed and edited, beside a nested loop.
+//! Joins of mixed, clustered and coincident features, packed and edited, compared with a nested
+//! loop.
 
 use crate::layers::{edited, seen};
 use join_core::{OpenGate, Options, join};
@@ -26,7 +27,7 @@ fn push_pairs(
     Ok(())
 }
 
-/// The pairs, by comparing each left feature with each right one.
+/// The pairs found by comparing each left feature with each right one.
 fn nested_loop(
     alloc: Global,
     left: &Layer,
@@ -40,7 +41,7 @@ fn nested_loop(
     Ok(pairs)
 }
 
-/// Numbers of workers, batches and cuts.
+/// The options of joins: workers, batch and cut.
 const WAYS: &[(u32, u32, u32)] = &[
     (1, 256, 0),
     (2, 1, 1),
@@ -49,7 +50,7 @@ const WAYS: &[(u32, u32, u32)] = &[
     (16, 4096, 8),
 ];
 
-/// Two layers, and the relation that they are joined by.
+/// Two layers, and the relation by which they are joined.
 #[derive(Clone, Copy)]
 struct Joined<'a> {
     left: &'a Layer,
@@ -57,7 +58,7 @@ struct Joined<'a> {
     relation: &'a JoinRelation,
 }
 
-/// Whether a join with these options has the wanted pairs.
+/// Whether a join with these options has the expected pairs.
 fn has_pairs<R: Threads + Wait + Sync>(
     rt: &R,
     alloc: Global,
@@ -74,7 +75,7 @@ fn has_pairs<R: Threads + Wait + Sync>(
     Ok(outcome.map(|outcome| outcome.pairs() == wanted)?)
 }
 
-/// Sees that a join has the wanted pairs in each of these ways.
+/// Checks that a join with any of these options has the expected pairs.
 fn see_ways<R: Threads + Wait + Sync>(
     rt: &R,
     alloc: Global,
@@ -95,7 +96,7 @@ fn see_ways<R: Threads + Wait + Sync>(
     Ok(())
 }
 
-/// Sees that a join has the pairs of the nested loop.
+/// Checks that a join has the pairs of the nested loop.
 fn see_join<R: Threads + Wait + Sync>(
     rt: &R,
     alloc: Global,
@@ -105,7 +106,7 @@ fn see_join<R: Threads + Wait + Sync>(
     see_ways(rt, alloc, joined, wanted.as_slice())
 }
 
-/// Sees the same of two layers in either order.
+/// Checks the same for two layers in either order.
 fn see_both_orders<'a, R: Threads + Wait + Sync>(
     rt: &R,
     alloc: Global,
@@ -135,7 +136,7 @@ fn layers<R: RandomSource + AllocGlobal>(rt: &R) -> Result<(Layer, Layer), Fail>
     edited(rt, &mut random, 500, 500).map(|other| (packed, other))
 }
 
-/// Sees that a join of such layers by this relation has the pairs of the nested loop.
+/// Checks that a join of these layers by a relation has the pairs of the nested loop.
 fn see_relation<R: Threads + Wait + Sync + RandomSource + AllocGlobal>(
     rt: &R,
     name: &[u8],

@@ -10,19 +10,19 @@ use std::test::Fail;
 use test_data::{Random, points_text, shapes_text};
 use wkt_core::Scale;
 
-/// The scale of whole numbers.
+/// The scale without decimals.
 pub(crate) fn whole() -> Result<Scale, Fail> {
     Ok(Scale::new(0).ok_or("a scale")?)
 }
 
-/// What is seen of a value. The proof of a function that drops a layer itself takes long.
+/// The result of `see` on a value. It takes long to prove a function that drops a layer itself.
 pub(crate) fn seen<V: Drop, T, F: FnOnce(&V) -> T>(value: V, see: F) -> T
     requires { F.IsAlwaysCallable see }
 {
     see(&value)
 }
 
-/// What a file with this text is read as.
+/// The result of reading a file with this text.
 fn read_text<R: RandomSource + AllocGlobal>(
     rt: &R,
     text: &str,
@@ -37,7 +37,7 @@ pub(crate) fn layer_of<R: RandomSource + AllocGlobal>(rt: &R, text: &str) -> Res
     Ok(read_text(rt, text)??)
 }
 
-/// The layer of so many points, read again where memory is refused.
+/// The layer of `count` points, read again if an allocation fails.
 pub(crate) fn points<R: RandomSource + AllocGlobal>(rt: &R, count: u32) -> Result<Layer, Fail> {
     let text = points_text_at_last(rt.alloc(), count)?;
     match read_text(rt, text.as_str())? {
@@ -46,7 +46,7 @@ pub(crate) fn points<R: RandomSource + AllocGlobal>(rt: &R, count: u32) -> Resul
     }
 }
 
-/// The text of a file of so many points, written again where memory is refused.
+/// The text of a file of `count` points, written again if an allocation fails.
 fn points_text_at_last(alloc: Global, count: u32) -> Result<String, AllocError> {
     match points_text(alloc, count) {
         Ok(text) => Ok(text),
@@ -64,8 +64,8 @@ fn remove(alloc: Global, layer: &mut Layer, number: u32) -> Option<Shape> {
     layer.remove(id.as_str()).ok()
 }
 
-/// Inserts a feature with each of these numbers as its id, and after every third deletes one of
-/// those that were read; none where one is refused.
+/// Inserts `count` features with the ids e0, e1 and so on, and after every third deletes one of
+/// those that were read. Returns `None` if an edit is refused.
 fn edit(alloc: Global, layer: &mut Layer, random: &mut Random, count: u32) -> Option<()> {
     for number in 0..count {
         insert(alloc, layer, number, random.shape()?)?;
@@ -76,7 +76,7 @@ fn edit(alloc: Global, layer: &mut Layer, random: &mut Random, count: u32) -> Op
     Some(())
 }
 
-/// A layer that was packed from so many shapes.
+/// A layer packed from `count` shapes.
 fn packed<R: RandomSource + AllocGlobal>(
     rt: &R,
     random: &mut Random,
@@ -90,7 +90,7 @@ fn packed<R: RandomSource + AllocGlobal>(
     )
 }
 
-/// A layer that was packed from so many shapes and then edited.
+/// A layer packed from `count` shapes, after `edits` insertions and a third as many deletions.
 pub(crate) fn edited<R: RandomSource + AllocGlobal>(
     rt: &R,
     random: &mut Random,

@@ -1,4 +1,4 @@
-//! What the workers of a join deliver, by the marks of its outcome and by the gate that they enter.
+//! The deliveries of a join's workers, checked by the marks of its outcome and by a gate.
 
 use crate::layers::{points, seen};
 use deliver_core::Mark;
@@ -37,14 +37,14 @@ const BY_SEVEN: &[Mark] = &[
 
 const OF_NOTHING: &[Mark] = &[Mark::End(0, 0), Mark::End(1, 0), Mark::End(2, 0)];
 
-/// The marks of joins of 20 points by one worker, by these relations and with so long batches.
+/// The marks of joins of 20 points by one worker, for these relations and batch sizes.
 const SCRIPTS: &[(Relation, u32, &[Mark])] = &[
     (Relation::Equals, 3, BY_THREE),
     (Relation::Equals, 7, BY_SEVEN),
     (Relation::Touches, 7, OF_NOTHING),
 ];
 
-/// How two layers are joined.
+/// The relation and the options of a join.
 #[derive(Clone, Copy)]
 struct Way {
     relation: Relation,
@@ -53,7 +53,7 @@ struct Way {
     cut: u32,
 }
 
-/// Two layers of points (0, 0), (1, 0) and on.
+/// Two layers of the points (0, 0), (1, 0) and so on.
 #[derive(Drop)]
 struct Points {
     left: Layer,
@@ -61,13 +61,13 @@ struct Points {
 }
 
 impl Points {
-    /// Layers of so many points each.
+    /// Layers of `count` points each.
     fn new<R: RandomSource + AllocGlobal>(rt: &R, count: u32) -> Result<Points, Fail> {
         let left = points(rt, count)?;
         points(rt, count).map(|right| Points { left, right })
     }
 
-    /// What a join of them in this way answers.
+    /// The result of joining the layers.
     fn answer<R: Threads + Wait + Sync + AllocGlobal, G: Gate + Sync>(
         &self,
         rt: &R,
@@ -87,7 +87,7 @@ impl Points {
         ))
     }
 
-    /// Joins them in this way.
+    /// The outcome of joining the layers.
     fn join<R: Threads + Wait + Sync + AllocGlobal, G: Gate + Sync>(
         &self,
         rt: &R,
@@ -97,7 +97,7 @@ impl Points {
         Ok(self.answer(rt, way, gate)??)
     }
 
-    /// Whether a join in this way gives these marks.
+    /// Whether a join gives these marks.
     fn gives_marks<R: Threads + Wait + Sync + AllocGlobal>(
         &self,
         rt: &R,
@@ -107,7 +107,7 @@ impl Points {
         Ok(self.join(rt, way, &OpenGate)?.taken() == marks)
     }
 
-    /// Whether a join in this way gives so many pairs of equal numbers, each in a batch of its own.
+    /// Whether a join gives `count` pairs of equal numbers, each in a batch of its own.
     fn gives_batches<R: Threads + Wait + Sync + AllocGlobal>(
         &self,
         rt: &R,
@@ -117,7 +117,7 @@ impl Points {
         Ok(has_batches(&self.join(rt, way, &OpenGate)?, count))
     }
 
-    /// Whether a join in this way through a gate gives so many pairs of equal numbers.
+    /// Whether a join through a gate gives `count` pairs of equal numbers.
     fn passes<R: Threads + Wait + Sync + AllocGlobal, G: Gate + Sync>(
         &self,
         rt: &R,
@@ -129,7 +129,7 @@ impl Points {
     }
 }
 
-/// What is seen of two layers of so many points each.
+/// The result of `see` on two layers of `count` points each.
 fn on_points<R: RandomSource + AllocGlobal, F: FnOnce(&Points) -> Result<bool, Fail>>(
     rt: &R,
     count: u32,
@@ -140,7 +140,7 @@ fn on_points<R: RandomSource + AllocGlobal, F: FnOnce(&Points) -> Result<bool, F
     seen(Points::new(rt, count)?, see)
 }
 
-/// Whether the pairs are (0, 0), (1, 1) and on, this many.
+/// Whether the pairs are the `count` pairs (0, 0), (1, 1) and so on.
 fn are_diagonal(pairs: &[(u32, u32)], count: u32) -> bool {
     for n in 0..count {
         if pairs.get(n as usize) != Some(&(n, n)) {
@@ -157,7 +157,7 @@ fn count_batches(marks: &[Mark]) -> usize {
         .count()
 }
 
-/// Whether an outcome has so many pairs of equal numbers, and so many batches.
+/// Whether an outcome has `count` pairs of equal numbers and `count` batches.
 fn has_batches(outcome: &Outcome, count: u32) -> bool {
     are_diagonal(outcome.pairs(), count) && count_batches(outcome.taken()) == count as usize
 }
@@ -211,7 +211,7 @@ fn empty_layers(rt: HostRuntime) -> Result<(), Fail> {
     Ok(())
 }
 
-/// Whether joins of 1000 points, with 1 to 16 workers and one pair a batch, give all pairs.
+/// Whether joins of 1000 points, with 1 to 16 workers and one pair per batch, give all pairs.
 fn gives_all<R: Threads + Wait + Sync + AllocGlobal>(
     rt: &R,
     points: &Points,
@@ -237,11 +237,11 @@ fn no_refusal(rt: HostRuntime) -> Result<(), Fail> {
     Ok(())
 }
 
-/// How often a worker that waits for another gives way to it, at most.
+/// The greatest number of times that a worker yields while it waits for another.
 const TURNS: u32 = 10_000_000;
 
-/// A gate of three tasks that holds the first worker until a second one has entered, and counts
-/// who enters with which task, and whose turns ran out.
+/// A gate of three tasks that holds the first worker until a second one has entered. It counts the
+/// entries with each task, and the workers that waited in vain.
 #[derive(Drop)]
 struct PairGate {
     inside: AtomicU32,
@@ -278,7 +278,7 @@ impl PairGate {
         }
     }
 
-    /// Whether each of the three tasks was entered once, and nobody's turns ran out.
+    /// Whether each of the three tasks was entered once, and no worker waited in vain.
     fn has_paired(&self) -> bool {
         let has_entered = |times: &AtomicU32| times.load(Ordering::SeqCst) == 1;
         self.inside.load(Ordering::SeqCst) == 3
@@ -287,7 +287,7 @@ impl PairGate {
     }
 }
 
-/// How the layers of the gate are joined, of 20 points each.
+/// The join of two layers of 20 points through the gate.
 const OF_GATE: Way = Way {
     relation: Relation::Equals,
     workers: 2,
@@ -309,8 +309,7 @@ fn gate_two_workers(rt: HostRuntime) -> Result<(), Fail> {
     Ok(())
 }
 
-/// Whether the join of the gate, which stands open, gives its 20 pairs, tried again where memory is
-/// refused.
+/// Whether that join with an open gate gives its 20 pairs, tried again if an allocation fails.
 fn passes_at_last<R: Threads + Wait + Sync + AllocGlobal>(
     rt: &R,
     points: &Points,
@@ -323,7 +322,7 @@ fn passes_at_last<R: Threads + Wait + Sync + AllocGlobal>(
     }
 }
 
-/// Run with each allocation failing in turn, it ends as with ample memory.
+/// Passes with each allocation failing in turn.
 #[test]
 fn join_without_memory(rt: HostRuntime) -> Result<(), Fail> {
     let shared = &rt;

@@ -1,8 +1,8 @@
-//! What the contracts leave open, and worked examples of what they say.
+//! Behaviour that the contracts leave open, and worked examples of them.
 //!
-//! The proof of a function grows with the square of its length where it owns a layer, and takes two
-//! seconds where it drops one. So what is seen of a layer is told by functions that borrow it, and
-//! those that own one give it to `seen`.
+//! The proof of a function that owns a layer grows with the square of its length, and takes two
+//! seconds more if it drops the layer. So layers are examined by functions that borrow them, and
+//! functions that own one pass it to `seen`.
 
 mod broken;
 mod devices;
@@ -30,19 +30,19 @@ fn point(x: i64, y: i64) -> Result<Shape, Fail> {
     Ok(Shape::new(x, y, x, y).ok_or("a point in range")?)
 }
 
-/// The scale of whole numbers.
+/// The scale without decimals.
 fn whole() -> Result<Scale, Fail> {
     Ok(Scale::new(0).ok_or("a scale")?)
 }
 
-/// What is seen of a value.
+/// The result of `see` on a value.
 fn seen<V: Drop, T, F: FnOnce(&mut V) -> T>(mut value: V, see: F) -> T
     requires { F.IsAlwaysCallable see }
 {
     see(&mut value)
 }
 
-/// What loading these bytes of a file answers, as so many threads do it.
+/// The result of loading the bytes of a file by `threads` threads.
 fn answer_by<R: Threads + Sync + RandomSource + AllocGlobal>(
     rt: &R,
     bytes: &[u8],
@@ -64,7 +64,7 @@ fn layer_of_copy<R: Threads + Sync + AllocGlobal>(
     layer_of_bytes(rt.alloc(), state, copy, scale, threads, rt)
 }
 
-/// The layer that these bytes of a file stand for, as so many threads load it.
+/// The layer of a file of these bytes, loaded by `threads` threads.
 fn layer_by<R: Threads + Sync + RandomSource + AllocGlobal>(
     rt: &R,
     bytes: &[u8],
@@ -73,7 +73,7 @@ fn layer_by<R: Threads + Sync + RandomSource + AllocGlobal>(
     Ok(answer_by(rt, bytes, threads)??)
 }
 
-/// The layer that these bytes of a file stand for, as two threads load it.
+/// The layer of a file of these bytes, loaded by two threads.
 fn layer_of<R: Threads + Sync + RandomSource + AllocGlobal>(
     rt: &R,
     bytes: &[u8],
@@ -81,7 +81,7 @@ fn layer_of<R: Threads + Sync + RandomSource + AllocGlobal>(
     layer_by(rt, bytes, 2)
 }
 
-/// The fault of a layer's file, if it has one, as so many threads load it.
+/// The fault of a layer's file loaded by `threads` threads, if it has one.
 fn fault_by<R: Threads + Sync + RandomSource + AllocGlobal>(
     rt: &R,
     bytes: &[u8],
@@ -90,7 +90,7 @@ fn fault_by<R: Threads + Sync + RandomSource + AllocGlobal>(
     Ok(answer_by(rt, bytes, threads)?.err())
 }
 
-/// The fault of a layer's file, if it has one, and the same by one thread as by two.
+/// The fault of a layer's file, if it has one. It must be the same for one thread and for two.
 fn fault_of<R: Threads + Sync + RandomSource + AllocGlobal>(
     rt: &R,
     bytes: &[u8],
@@ -102,8 +102,8 @@ fn fault_of<R: Threads + Sync + RandomSource + AllocGlobal>(
     Ok(fault)
 }
 
-/// Whether the layer of these bytes has exactly these features, in this order, by one thread and by
-/// two.
+/// Whether the layer of these bytes has exactly these features, in this order, loaded by one thread
+/// and by two.
 fn reads_as<R: Threads + Sync + RandomSource + AllocGlobal>(
     rt: &R,
     bytes: &[u8],
@@ -112,7 +112,7 @@ fn reads_as<R: Threads + Sync + RandomSource + AllocGlobal>(
     Ok(reads_by(rt, bytes, 1, features)? && reads_by(rt, bytes, 2, features)?)
 }
 
-/// Whether so many threads load exactly these features, in this order.
+/// Whether `threads` threads load exactly these features, in this order.
 fn reads_by<R: Threads + Sync + RandomSource + AllocGlobal>(
     rt: &R,
     bytes: &[u8],
@@ -133,13 +133,13 @@ fn has_features(layer: &Layer, features: &[(&str, Shape)]) -> bool {
     layer.len() == features.len()
 }
 
-/// Whether the layer finds this shape under the id, with this number.
+/// Whether the layer finds this shape and number under the id.
 fn finds(layer: &Layer, id: &str, number: u32, shape: Shape) -> bool {
     layer.find(id) == Some((number, shape))
 }
 
-/// All that is seen of a layer: each feature by its id, number and shape, the counts, and each node
-/// of the tree.
+/// A layer as text: each feature by its id, number and shape, the counts, and each node of the
+/// tree.
 fn state(alloc: Global, layer: &Layer) -> Result<String, AllocError> {
     let mut text = outline(alloc, layer.tree())?;
     writeln!(text, "{:?}", layer.stats())?;
@@ -150,12 +150,12 @@ fn state(alloc: Global, layer: &Layer) -> Result<String, AllocError> {
     Ok(text)
 }
 
-/// A layer with no features.
+/// A layer without features.
 fn empty_layer(rt: &HostRuntime) -> Result<Layer, Fail> {
     Ok(Layer::new(rt.alloc(), RandomState::new(rt)?)?)
 }
 
-/// What is seen of a layer with no features.
+/// The result of `see` on a layer without features.
 fn on_empty<F: FnOnce(&mut Layer) -> Result<bool, Fail>>(
     rt: &HostRuntime,
     see: F,
@@ -165,7 +165,7 @@ fn on_empty<F: FnOnce(&mut Layer) -> Result<bool, Fail>>(
     seen(empty_layer(rt)?, see)
 }
 
-/// The bytes of a layer file of points (0 0), (1 0), .., with the ids p0, p1, ..
+/// A layer file of the points (0 0), (1 0), .., with the ids p0, p1, ..
 fn points_file(alloc: Global, count: u32) -> Result<String, AllocError> {
     let mut file = String::from_str(alloc, "id,wkt\n")?;
     for i in 0..count {

@@ -1,4 +1,4 @@
-//! The rows of `run_bounds`, and devices that fail under it.
+//! Rows of `run_bounds`, and devices that fail during it.
 
 ghost use Rattle.std.specs.Prelude.{◌≡◌, false};
 ghost use Rattle.report_core.specs.ToWrite.{failed_of};
@@ -21,7 +21,7 @@ use wkt_core::{Scale, WktFault};
 /// The corners of the layer LEFT.
 const CORNERS: &str = "id,x1,y1,x2,y2\na,0,0,4,4\nb,4,4,4,4\nc,1,0,3,0\n";
 
-/// What listing the corners of a layer at a scale answers that writes into this sink.
+/// The result of listing the corners of a layer at a scale into this sink.
 fn bounds<R: Threads + Sync + RandomSource + AllocGlobal, W: Write>(
     rt: &R,
     decimals: u32,
@@ -35,7 +35,7 @@ fn bounds<R: Threads + Sync + RandomSource + AllocGlobal, W: Write>(
     Some(run_bounds(rt, rt.alloc(), state, scale, &mut layer, sink))
 }
 
-/// Whether listing the corners of a layer at a scale answers and writes this.
+/// Whether listing the corners of a layer at a scale has this result and writes this text.
 fn lists<R: Threads + Sync + RandomSource + AllocGlobal>(
     rt: &R,
     decimals: u32,
@@ -84,7 +84,7 @@ fn ids_as_fields_in_layer_order(rt: HostRuntime) {
     assert!(rt; lists(&rt, 0, at_once(layer), Ok(()), text) == Some(true));
 }
 
-/// The corners of so many points (0, 0), (1, 0) and on.
+/// The corners of the `count` points (0, 0), (1, 0) and so on.
 fn corners_of_points(alloc: Global, count: u32) -> Result<String, AllocError> {
     let mut text = String::from_str(alloc, "id,x1,y1,x2,y2\n")?;
     for x in 0..count {
@@ -128,7 +128,7 @@ fn layer_at_fault(rt: HostRuntime) {
     }
 }
 
-/// Whether a device with this room is given the front of the corners that it has room for.
+/// Whether a device of this capacity receives the prefix of the corners that fits.
 fn lists_front<R: Threads + Sync + RandomSource + AllocGlobal>(
     rt: &R,
     room: usize,

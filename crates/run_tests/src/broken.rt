@@ -1,5 +1,4 @@
-//! Joins whose readers or writers fail or move one byte at a time, and of an id that has to be
-//! quoted.
+//! Joins whose readers or writers fail or transfer one byte at a time, and ids that need quotes.
 
 use crate::device::{has_front, make_device};
 use crate::example::{EDITED, REPORT, RIGHT};
@@ -22,7 +21,7 @@ fn broken_9(rt: HostRuntime) {
     assert!(rt; ends(&rt, &files, Ok(()), report) == Some(true));
 }
 
-/// The files of the example with its edits, one of which fails after so many reads.
+/// The files of the example with its edits, one of which fails after `reads` reads.
 fn failing(input: Input, reads: usize) -> Files<'static> {
     let mut files = edited_example();
     match input {
@@ -61,8 +60,8 @@ fn right_that_fails_before_left_at_fault(rt: HostRuntime) {
     assert!(rt; ends(&rt, &files, Err(fault), "") == Some(true));
 }
 
-/// Whether a device with this room that takes so many bytes a call is given the front of the report
-/// that it has room for.
+/// Whether a device of capacity `room` that takes at most `step` bytes per call receives the prefix
+/// of the report that fits.
 fn writes_front<R: Threads + Wait + Sync + RandomSource + AllocGlobal>(
     rt: &R,
     room: usize,

@@ -8,8 +8,8 @@ use std::alloc::Global;
 use std::io;
 use std::io::{ErrorKind, Write};
 
-/// A writer that takes at most `step` bytes a call, answers each other call by an interruption,
-/// and fails once it has taken `room` bytes.
+/// A writer that takes at most `step` bytes per call, interrupts every other call, and fails once
+/// it has taken `room` bytes.
 #[derive(Drop)]
 pub struct Device {
     pub taken: Vec<u8>,
@@ -38,7 +38,7 @@ impl Write for Device {
     }
 }
 
-/// A sink over a device with this room.
+/// A sink over such a device.
 pub fn make_device(alloc: Global, room: usize, step: usize) -> ToWrite<Device>
     ensures { failed_of result ≡ false }
 {
@@ -51,8 +51,8 @@ pub fn make_device(alloc: Global, room: usize, step: usize) -> ToWrite<Device>
     })
 }
 
-/// Whether a run answers as it has to over a device with this room, and the front of the text that
-/// the device has room for was taken.
+/// Whether a run over a device of capacity `room` has the right result, and the device took the
+/// prefix of the text that fits.
 pub fn has_front(outcome: Result<(), RunFault>, taken: &[u8], text: &[u8], room: usize) -> bool {
     let answer = if room < text.len() {
         Err(RunFault::Write)

@@ -1,4 +1,4 @@
-//! The rows of a join that makes a picture.
+//! Rows of joins that make a picture.
 
 ghost use Rattle.std.specs.Prelude.{◌≡◌, false};
 ghost use Rattle.report_core.specs.ToWrite.{failed_of};
@@ -18,8 +18,8 @@ use std::thread::Threads;
 use test_data::points_text;
 use wkt_core::Scale;
 
-/// The picture of the edited example behind its legend. The cover goes from (0, 0) to (8, 8), so
-/// the margin is 1 and the corner of the frame (-1, 9).
+/// The picture of the edited example after its legend. The cover goes from (0, 0) to (8, 8), so
+/// the margin is 1 and the corner of the frame is (-1, 9).
 const DRAWN: &str = " viewBox=\"0 0 10 10\">\n<g class=\"left\">\n\
     <path class=\"point match\" d=\"M5 5h0v0\"><title>b</title></path>\n\
     <path d=\"M2 9h2v0\"><title>c</title></path>\n\
@@ -30,8 +30,7 @@ const DRAWN: &str = " viewBox=\"0 0 10 10\">\n<g class=\"left\">\n\
     <path class=\"match\" d=\"M1 9h5v0\"><title>z</title></path>\n\
     </g>\n</svg>\n</svg>\n";
 
-/// What a picture answers that is written into this sink; none where there were no keys for
-/// hashing.
+/// The result of a picture written into this sink, or `None` if there are no keys for hashing.
 fn draw_into<R: Threads + Wait + Sync + RandomSource + AllocGlobal, W: Write>(
     rt: &R,
     files: &Files<'_>,
@@ -54,7 +53,7 @@ fn draw_into<R: Threads + Wait + Sync + RandomSource + AllocGlobal, W: Write>(
     Some(job.run(rt, states, &mut sources, sink))
 }
 
-/// Draws files into a list of bytes.
+/// Draws the files into a list of bytes.
 fn draw<R: Threads + Wait + Sync + RandomSource + AllocGlobal>(
     rt: &R,
     files: &Files<'_>,
@@ -64,7 +63,7 @@ fn draw<R: Threads + Wait + Sync + RandomSource + AllocGlobal>(
     Some(Ended::new(outcome, sink.into_inner()))
 }
 
-/// Whether files can't be drawn for this fault, and nothing is written.
+/// Whether drawing the files fails with this fault, and nothing is written.
 fn fails<R: Threads + Wait + Sync + RandomSource + AllocGlobal>(
     rt: &R,
     files: &Files<'_>,
@@ -73,7 +72,7 @@ fn fails<R: Threads + Wait + Sync + RandomSource + AllocGlobal>(
     draw(rt, files).is_some_and(|ended| ended.is(Err(fault), ""))
 }
 
-/// Whether a picture was written that ends so.
+/// Whether a picture was written that ends with this text.
 fn ends_drawn(ended: &Ended, end: &str) -> bool {
     ended.outcome.is_ok() && ended.written.as_slice().ends_with(end.as_bytes())
 }
@@ -100,13 +99,13 @@ fn first_fault_before_drawing(rt: HostRuntime) {
     assert!(rt; fails(&rt, &files, RunFault::Edit(1, LayerFault::DoubleId)));
 }
 
-/// One feature more than a picture may have: so many points, and the point of the right layer.
+/// With the left layer of as many points as a picture may have, one feature too many.
 const ONE_MORE: &str = "id,wkt\nlast,POINT (0 0)\n";
 
-/// An edit by which there are as many as a picture may have.
+/// An edit that leaves as many features as a picture may have.
 const ONE_LESS: &str = "op,layer,id,wkt\ndelete,right,last,\n";
 
-/// How the picture of a text of points and of one more ends, after edits.
+/// The picture of a layer of points and a layer of one more, after edits.
 fn draw_points<R: Threads + Wait + Sync + RandomSource + AllocGlobal>(
     rt: &R,
     points: &str,

@@ -1,4 +1,4 @@
-//! The files of the worked example, which are joined by touches, and what is written of them.
+//! The files of the worked example, a join by touches, and its output.
 
 pub const LEFT: &str = "id,wkt\na,\"POLYGON ((0 0, 4 0, 4 4, 0 4, 0 0))\"\n\
      b,POINT (4 4)\nc,\"LINESTRING (1 0, 3 0)\"\n";
@@ -9,7 +9,7 @@ pub const RIGHT: &str = "id,wkt\nx,\"POLYGON ((4 4, 8 4, 8 8, 4 8, 4 4))\"\n\
 
 pub const REPORT: &str = "left,right,matrix\na,x,FF2F01212\na,z,FF2101102\nb,x,F0FFFF212\n";
 
-/// Edits that take the first feature of the left layer out and put it behind the others.
+/// Edits that delete the first feature of the left layer and insert it after the others.
 pub const EDITS: &str =
     "op,layer,id,wkt\ndelete,left,a,\ninsert,left,a,\"POLYGON ((0 0, 4 0, 4 4, 0 4, 0 0))\"\n";
 

@@ -1,4 +1,4 @@
-//! The rows of `run_join`.
+//! Rows of `run_join`.
 
 use crate::example::{EDITED, LEFT, REPORT, RIGHT};
 use crate::running::{Files, at_once, edited_example, ends, example, join};
@@ -11,8 +11,7 @@ use std::sync::Wait;
 use std::thread::Threads;
 use wkt_core::WktFault;
 
-/// Whether a join of the example by touches, with so many workers, so long batches and this cut,
-/// writes its report.
+/// Whether a join of the example by touches with these options writes its report.
 fn reports<R: Threads + Wait + Sync + RandomSource + AllocGlobal>(
     rt: &R,
     workers: u32,
@@ -42,7 +41,8 @@ const EQUAL_POINTS: &str = "left,right,matrix\n\"a,1\",\"a,1\",0FFFFFFF2\n\
      b,b,0FFFFFFF2\nc,c,0FFFFFFF2\n\"d \"\"4\"\"\",\"d \"\"4\"\"\",0FFFFFFF2\n\
      e,e,0FFFFFFF2\nf,f,0FFFFFFF2\ng,g,0FFFFFFF2\n";
 
-/// Whether a join of the points with themselves by equals, with so many workers, writes its report.
+/// Whether a join of the points with themselves by equals, with `workers` workers, writes its
+/// report.
 fn reports_points<R: Threads + Wait + Sync + RandomSource + AllocGlobal>(
     rt: &R,
     workers: u32,
@@ -56,7 +56,7 @@ fn reports_points<R: Threads + Wait + Sync + RandomSource + AllocGlobal>(
     Some(join(rt, &files, Relation::Equals, &options)?.is(Ok(()), EQUAL_POINTS))
 }
 
-/// Three threads write 3, 3 and 1 of the pairs, and four write 2, 2, 2 and 1.
+/// Three threads write 3, 3 and 1 of the pairs, and four threads write 2, 2, 2 and 1.
 #[test]
 fn report_in_chunks(rt: HostRuntime) {
     for workers in [1, 3, 4] {

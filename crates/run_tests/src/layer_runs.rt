@@ -1,4 +1,4 @@
-//! The rows of `run_window` and `run_stats`, and devices that fail under them.
+//! Rows of `run_window` and `run_stats`, and devices that fail during them.
 
 ghost use Rattle.std.specs.Prelude.{◌≡◌, false};
 ghost use Rattle.report_core.specs.ToWrite.{failed_of};
@@ -19,7 +19,7 @@ use wkt_core::{Scale, WktFault};
 
 const COUNTS: &str = "features 3\npoints 1\nsegments 1\nrectangles 1\nheight 1\n";
 
-/// What a window over a layer answers that writes into this sink.
+/// The result of a window over a layer into this sink.
 fn window<R: Threads + Sync + RandomSource + AllocGlobal, W: Write>(
     rt: &R,
     layer: &str,
@@ -41,7 +41,7 @@ fn window<R: Threads + Sync + RandomSource + AllocGlobal, W: Write>(
     ))
 }
 
-/// What counting a layer answers that writes into this sink.
+/// The result of counting a layer into this sink.
 fn stats<R: Threads + Sync + RandomSource + AllocGlobal, W: Write>(
     rt: &R,
     layer: &str,
@@ -54,7 +54,7 @@ fn stats<R: Threads + Sync + RandomSource + AllocGlobal, W: Write>(
     Some(run_stats(rt, rt.alloc(), state, scale, &mut layer, sink))
 }
 
-/// Whether a window over a layer answers and writes this.
+/// Whether a window over a layer has this result and writes this text.
 fn finds<R: Threads + Sync + RandomSource + AllocGlobal>(
     rt: &R,
     layer: &str,
@@ -67,7 +67,7 @@ fn finds<R: Threads + Sync + RandomSource + AllocGlobal>(
     Some(Ended::new(ended, sink.into_inner()).is(outcome, text))
 }
 
-/// Whether counting a layer answers and writes this.
+/// Whether counting a layer has this result and writes this text.
 fn counts<R: Threads + Sync + RandomSource + AllocGlobal>(
     rt: &R,
     layer: &str,
@@ -112,8 +112,9 @@ fn first_fault_is_answered(rt: HostRuntime) {
     assert!(rt; counts(&rt, file, Err(double), "") == Some(true));
 }
 
-/// The file has more than 64 KiB, so several threads read it: 20,000 points. A node has eight at
-/// most, so the levels of the tree have 2,500 leaves, 313 nodes, 40, 5 and the root.
+/// The file of 20,000 points has more than 64 KiB, so several threads read it. A node has at most
+/// eight items, so the levels of the tree have 2,500 leaves, then 313, 40 and 5 nodes, and the
+/// root.
 #[test]
 fn many_points_by_threads(rt: HostRuntime) -> Result<(), AllocError> {
     let layer = points_text(rt.alloc(), 20_000)?;
@@ -126,7 +127,7 @@ fn many_points_by_threads(rt: HostRuntime) -> Result<(), AllocError> {
     Ok(())
 }
 
-/// Whether a device with this room is given the front of a list of ids that it has room for.
+/// Whether a device of this capacity receives the prefix of a list of ids that fits.
 fn lists_front<R: Threads + Sync + RandomSource + AllocGlobal>(
     rt: &R,
     ids: &str,
@@ -150,7 +151,7 @@ fn list_to_failing_device(rt: HostRuntime) {
     }
 }
 
-/// Whether a device with this room is given the front of the counts that it has room for.
+/// Whether a device of this capacity receives the prefix of the counts that fits.
 fn counts_front<R: Threads + Sync + RandomSource + AllocGlobal>(
     rt: &R,
     room: usize,

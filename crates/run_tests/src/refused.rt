@@ -1,4 +1,4 @@
-//! A join with each growth refused in turn.
+//! A join with each allocation refused in turn.
 
 use crate::example::EDITED;
 use crate::running::{edited_example, join};
@@ -10,7 +10,7 @@ use std::random::RandomSource;
 use std::sync::Wait;
 use std::thread::Threads;
 
-/// Whether a fault is that memory ran out, or a thread's.
+/// Whether a fault is that memory ran out or a thread can't be started.
 fn is_want(fault: &RunFault) -> bool {
     matches!(
         fault,
@@ -21,8 +21,8 @@ fn is_want(fault: &RunFault) -> bool {
     )
 }
 
-/// What a join answered, and whether it wrote what belongs to that; none where there was no memory
-/// to write into.
+/// The result of a join, and whether its output belongs to it, or `None` without memory to write
+/// into.
 fn attempt<R: Threads + Wait + Sync + RandomSource + AllocGlobal>(
     rt: &R,
 ) -> Option<(Result<(), RunFault>, bool)> {
@@ -32,7 +32,7 @@ fn attempt<R: Threads + Wait + Sync + RandomSource + AllocGlobal>(
     Some((ended.outcome, ended.is(ended.outcome, text)))
 }
 
-/// Run with each allocation failing in turn, it ends as with ample memory.
+/// Passes with each allocation failing in turn.
 #[test]
 fn refused_7(rt: HostRuntime) {
     for _ in 0..10 {

@@ -1,4 +1,4 @@
-//! The rows of `run_relate`, and devices that fail under it.
+//! Rows of `run_relate`, and devices that fail during it.
 
 ghost use Rattle.std.specs.Prelude.{◌≡◌, false};
 ghost use Rattle.report_core.specs.ToWrite.{failed_of};
@@ -14,7 +14,7 @@ const SQUARE: &str = "POLYGON ((0 0, 4 0, 4 4, 0 4, 0 0))";
 
 const OTHER: &str = "POLYGON ((2 2, 6 2, 6 6, 2 6, 2 2))";
 
-/// Whether `run_relate` with so many decimals answers and writes this.
+/// Whether `run_relate` with `digits` decimals has this result and writes this text.
 fn relates(
     rt: &HostRuntime,
     digits: u32,
@@ -28,7 +28,7 @@ fn relates(
     Some(Ended::new(ended, sink.into_inner()).is(outcome, text))
 }
 
-/// Whether the line of the matrix of two geometries in whole numbers is this.
+/// Whether this is the line of the matrix of two geometries with integer coordinates.
 fn has_line(rt: &HostRuntime, a: &str, b: &str, line: &str) -> bool {
     relates(rt, 0, (a, b), Ok(()), line) == Some(true)
 }
@@ -98,8 +98,8 @@ fn first_fault_is_answered(rt: HostRuntime) {
     assert!(rt; relates(&rt, 0, texts, Err(form), "") == Some(true));
 }
 
-/// Whether a device with this room that takes so many bytes a call is given the front of a line
-/// that it has room for, and the sink has failed where it hasn't room for all.
+/// Whether a device of capacity `room` that takes at most `step` bytes per call receives the prefix
+/// of a line that fits, and the sink has failed unless all of it fits.
 fn writes_front(rt: &HostRuntime, room: usize, step: usize) -> Option<bool> {
     let line = b"FF0FFF0F2\n";
     let mut sink = make_device(rt.alloc(), room, step);
@@ -126,7 +126,7 @@ fn line_to_failing_device(rt: HostRuntime) {
     assert!(rt; written.as_slice() == b"rjoin".as_slice());
 }
 
-/// A writer that takes all bytes, and whose flush fails.
+/// A writer that takes all bytes, but fails to flush.
 #[derive(Drop)]
 struct Unflushed;
 
@@ -140,7 +140,7 @@ impl Write for Unflushed {
     }
 }
 
-/// A writer that takes four bytes, and then none.
+/// A writer that takes four bytes in all.
 #[derive(Drop)]
 struct Stuck {
     taken: Vec<u8>,
@@ -158,21 +158,21 @@ impl Write for Stuck {
     }
 }
 
-/// What relating the two squares answers that writes into this sink.
+/// The result of relating the two squares into this sink.
 fn squares<W: Write>(sink: &mut ToWrite<W>) -> Option<Result<(), RunFault>>
     requires { failed_of sink.old ≡ false }
 {
     Some(run_relate(Scale::new(0)?, SQUARE.as_bytes(), OTHER.as_bytes(), sink))
 }
 
-/// What is written of the two squares into a device with room for four bytes.
+/// The output of relating the two squares into a device of capacity four.
 fn to_full(rt: &HostRuntime) -> Option<Ended> {
     let mut sink = make_device(rt.alloc(), 4, 100);
     let outcome = squares(&mut sink)?;
     Some(Ended::new(outcome, sink.into_inner().taken))
 }
 
-/// What is written of the two squares by a writer that takes four bytes, and then none.
+/// The output of relating the two squares into a writer that takes four bytes in all.
 fn to_stuck(rt: &HostRuntime) -> Option<Ended> {
     let taken = Vec::new(rt.alloc());
     let mut sink = ToWrite::new(Stuck { taken });
@@ -180,7 +180,7 @@ fn to_stuck(rt: &HostRuntime) -> Option<Ended> {
     Some(Ended::new(outcome, sink.into_inner().taken))
 }
 
-/// Whether a run has failed to write, and four letters were taken.
+/// Whether a run failed to write after four letters.
 fn is_cut(ended: Option<Ended>) -> bool {
     ended.is_some_and(|ended| ended.is(Err(RunFault::Write), "2121"))
 }

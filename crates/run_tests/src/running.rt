@@ -1,4 +1,4 @@
-//! Runs of joins over files that stand in memory.
+//! Runs of joins over files in memory.
 
 ghost use Rattle.std.specs.Prelude.{◌≡◌, false};
 ghost use Rattle.report_core.specs.ToWrite.{failed_of};
@@ -15,7 +15,7 @@ use std::sync::Wait;
 use std::thread::Threads;
 use wkt_core::Scale;
 
-/// A text, and how it is read: at most `step` bytes a read, and after so many reads a failure.
+/// A text, read with at most `step` bytes per read, whose reads fail after a number of them.
 #[derive(Drop, Clone, Copy)]
 pub struct Reading<'a> {
     text: &'a [u8],
@@ -24,18 +24,18 @@ pub struct Reading<'a> {
 }
 
 impl Reading<'_> {
-    /// This text, read in steps of so many bytes.
+    /// The text, read in steps of `step` bytes.
     pub fn by(self, step: usize) -> Self {
         Reading { step, ..self }
     }
 
-    /// This text, read with a failure after so many reads.
+    /// The text, whose reads fail after `reads` of them.
     pub fn failing_after(self, reads: usize) -> Self {
         Reading { reads, ..self }
     }
 }
 
-/// More than any text that fails has bytes.
+/// More than the number of bytes of any text.
 const MANY: usize = 10_000_000;
 
 /// A text that is read at once.
@@ -61,7 +61,7 @@ impl Read for Reading<'_> {
     }
 }
 
-/// What is joined.
+/// The files of a join.
 #[derive(Clone, Copy)]
 pub struct Files<'a> {
     pub left: Reading<'a>,
@@ -86,7 +86,7 @@ pub fn edited_example() -> Files<'static> {
     }
 }
 
-/// What a join answers that writes into this sink; none where there were no keys for hashing.
+/// The result of a join into this sink, or `None` if there are no keys for hashing.
 pub fn run<R: Threads + Wait + Sync + RandomSource + AllocGlobal, W: Write>(
     rt: &R,
     files: &Files<'_>,
@@ -117,7 +117,7 @@ pub fn run<R: Threads + Wait + Sync + RandomSource + AllocGlobal, W: Write>(
     ))
 }
 
-/// What a run answered, and what it wrote.
+/// The result of a run, and its output.
 #[derive(Drop)]
 pub struct Ended {
     pub outcome: Result<(), RunFault>,
@@ -129,17 +129,17 @@ impl Ended {
         Ended { outcome, written }
     }
 
-    /// Whether the answer and the text are these.
+    /// Whether the result and the output are these.
     pub fn is(&self, outcome: Result<(), RunFault>, text: &str) -> bool {
         self.outcome == outcome && self.written.as_slice() == text.as_bytes()
     }
 }
 
-/// The room for a report that is there before a join, so that those of the example take no memory
-/// to write.
+/// The capacity reserved for a report before a join, so that writing the report of the example
+/// allocates no memory.
 const ROOM: usize = 200;
 
-/// Joins files into a list of bytes; none where there was no memory for it.
+/// Joins the files into a list of bytes, or returns `None` without memory for it.
 pub fn join<R: Threads + Wait + Sync + RandomSource + AllocGlobal>(
     rt: &R,
     files: &Files<'_>,
@@ -151,7 +151,7 @@ pub fn join<R: Threads + Wait + Sync + RandomSource + AllocGlobal>(
     Some(Ended::new(outcome, sink.into_inner()))
 }
 
-/// Whether a join by touches with four workers answers and writes this.
+/// Whether a join by touches with four workers has this result and writes this text.
 pub fn ends<R: Threads + Wait + Sync + RandomSource + AllocGlobal>(
     rt: &R,
     files: &Files<'_>,

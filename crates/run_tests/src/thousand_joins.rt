@@ -1,4 +1,4 @@
-//! A thousand joins, with few and many workers, short and long batches, and each depth of cut: all
+//! A thousand joins with few and many workers, small and large batches, and each depth of cut: all
 //! joins of the same two layers write the same bytes.
 
 use crate::running::{Files, at_once, join};
@@ -20,7 +20,7 @@ fn report<R: Threads + Wait + Sync + RandomSource + AllocGlobal>(
     Some(ended.written)
 }
 
-/// Whether a join, with so many workers, so long batches and this cut, writes the wanted report.
+/// Whether a join with these workers, batch and cut writes the expected report.
 fn writes<R: Threads + Wait + Sync + RandomSource + AllocGlobal>(
     rt: &R,
     files: &Files<'_>,
@@ -31,10 +31,10 @@ fn writes<R: Threads + Wait + Sync + RandomSource + AllocGlobal>(
     Some(report(rt, files, &options)?.as_slice() == wanted)
 }
 
-/// How many workers a join has.
+/// The numbers of workers of the joins.
 const WORKERS: [u32; 5] = [1, 2, 3, 8, 16];
 
-/// Whether nine joins of two files by so many workers write the wanted report.
+/// Whether nine joins of two files by `workers` workers write the expected report.
 fn all_write<R: Threads + Wait + Sync + RandomSource + AllocGlobal>(
     rt: &R,
     files: &Files<'_>,
@@ -72,7 +72,7 @@ fn are_same<'a, R: Threads + Wait + Sync + RandomSource + AllocGlobal>(
     Some(true)
 }
 
-/// Whether the joins of two files with so many features do.
+/// Whether the joins of two files of these numbers of features write the same report.
 fn are_same_of<R: Threads + Wait + Sync + RandomSource + AllocGlobal>(
     rt: &R,
     random: &mut Random,
@@ -84,7 +84,7 @@ fn are_same_of<R: Threads + Wait + Sync + RandomSource + AllocGlobal>(
     are_same(rt, left.as_str(), right.as_str(), numbers)
 }
 
-/// The joins of small layers are two tests, so that each has time on a busy machine.
+/// The joins of small layers are divided among two tests, so that each has time on a busy machine.
 #[test]
 fn thousand_joins_few_on_the_left(rt: HostRuntime) {
     let mut random = Random::new(2);

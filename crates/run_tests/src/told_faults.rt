@@ -1,4 +1,4 @@
-//! The lines of faults that runs end with.
+//! The lines of the faults of runs.
 
 use crate::example::{LEFT, RIGHT};
 use crate::running::{Files, at_once, join};
@@ -10,7 +10,7 @@ use std::sync::Wait;
 use std::thread::Threads;
 use test_data::points_text;
 
-/// Whether a join by touches fails, writes nothing and is told by this line.
+/// Whether a join by touches fails, writes nothing and has this fault line.
 fn is_told<R: Threads + Wait + Sync + RandomSource + AllocGlobal>(
     rt: &R,
     files: &Files<'_>,
@@ -25,7 +25,7 @@ fn is_told<R: Threads + Wait + Sync + RandomSource + AllocGlobal>(
     Some(ended.written.is_empty() && told.as_slice() == line.as_bytes())
 }
 
-/// The first row can be made.
+/// Edits of which only the first is applied.
 const UNKNOWN_ID: &str = "op,layer,id,wkt\ndelete,left,a,\ndelete,right,a,\ndelete,left,b,\n";
 
 #[test]

@@ -10,8 +10,8 @@ pub struct Size {
     pub seats: u32,
 }
 
-/// The knowledge of a seat at the board's table: the board's numbers of tasks and seats, the number of
-/// seats that it stands for (its parts), the numbers that they have drawn, and how many of their
+/// The knowledge of a seat at the board's table: the board's numbers of tasks and seats, the number
+/// of seats that it stands for (its parts), the numbers that they have drawn, and how many of their
 /// draws found no number. No value of this type is ever made.
 pub struct SeatView {
     pub tasks: u32,

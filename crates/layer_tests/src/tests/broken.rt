@@ -1,19 +1,19 @@
-//! Files that are cut short, or whose bytes are no text.
+//! Files that are truncated, or whose bytes aren't text.
 
 use super::*;
 use wkt_core::WktFault;
 
-/// The left layer of the row of a join by touches.
+/// The left layer of the example of a join by touches.
 const LEFT: &str = "id,wkt\na,\"POLYGON ((0 0, 4 0, 4 4, 0 4, 0 0))\"\n\
      b,POINT (4 4)\nc,\"LINESTRING (1 0, 3 0)\"\n";
 
-/// The text of the left layer up to this part of it, which it has once.
+/// The text of the left layer up to this part, which occurs in it once.
 fn cut_after(part: &str) -> Option<&'static [u8]> {
     let at = LEFT.find(part)?;
     LEFT.as_bytes().get(..at.checked_add(part.len())?)
 }
 
-/// Whether no layer is read of these bytes, for this fault.
+/// Whether reading a layer from these bytes fails with this fault.
 fn has_fault<R: Threads + Sync + RandomSource + AllocGlobal>(
     rt: &R,
     bytes: &[u8],
@@ -22,7 +22,7 @@ fn has_fault<R: Threads + Sync + RandomSource + AllocGlobal>(
     Ok(fault_of(rt, bytes)? == Some(fault))
 }
 
-/// Whether no layer is read of the left layer up to this part, for this fault.
+/// Whether reading the left layer up to this part fails with this fault.
 fn has_fault_after<R: Threads + Sync + RandomSource + AllocGlobal>(
     rt: &R,
     part: &str,

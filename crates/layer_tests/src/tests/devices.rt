@@ -1,15 +1,15 @@
-//! Readers that fail, that give little at a time, and that never end.
+//! Readers that fail, give few bytes at a time, or never end.
 
 use super::*;
 use std::io::{Error, ErrorKind, Read, Result as IoResult};
 
-/// A reader that gives some bytes of a text with each read, and fails after so many reads.
+/// A reader that gives some bytes of a text with each read, and fails after a number of reads.
 #[derive(Drop)]
 pub(super) struct Device<'a> {
     text: &'a [u8],
     chunk: usize,
     good_reads: u32,
-    /// How often the next read was interrupted.
+    /// The number of times that the next read was interrupted.
     interruptions: u32,
 }
 
@@ -101,7 +101,7 @@ fn lengths_that_are_wrong(rt: HostRuntime) -> Result<(), Fail> {
     Ok(())
 }
 
-/// The layer of this text, which is read one byte at a time.
+/// The layer of this text, read one byte at a time.
 fn layer_bytewise(rt: &HostRuntime, text: &[u8]) -> Result<Layer, Fail> {
     let (state, scale) = (RandomState::new(rt)?, whole()?);
     let mut source = FromRead::new(Device::new(text, 1, 1_000));

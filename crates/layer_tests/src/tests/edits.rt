@@ -12,7 +12,7 @@ const SHORT: &str = "0123456789abcdef";
 
 const LONGER: &str = "0123456789abcdefg";
 
-/// An insertion of a point under an id and at a place on the diagonal, and its answer.
+/// An insertion of a point under an id and at a place on the diagonal, and its result.
 type Insertion = (&'static str, i64, Result<(), LayerFault>);
 
 const ROW: &[Insertion] = &[
@@ -32,7 +32,7 @@ const OF_MANY_LENGTHS: &[Insertion] = &[
     (LONGER, 5, Err(LayerFault::DoubleId)),
 ];
 
-/// Ids that rise, the shorter ones first, and then others.
+/// Ascending ids, the shorter ones first, and then others.
 const IN_ANY_ORDER: &[Insertion] = &[
     ("b", 0, Ok(())),
     ("c", 1, Ok(())),
@@ -46,7 +46,7 @@ const IN_ANY_ORDER: &[Insertion] = &[
     ("b0", 9, Err(LayerFault::DoubleId)),
 ];
 
-/// Ids before, between and behind them.
+/// Ids before, between and after them.
 const ABSENT: &[&str] = &["0", "bb", "d", "b1"];
 
 const ONCE_MORE: &[Insertion] = &[("aa", 2, Ok(())), ("a", 5, Ok(())), ("c0", 7, Ok(()))];
@@ -60,7 +60,7 @@ const LISTED: &[(&str, u32)] = &[("b", 1), ("c", 2), ("a", 3)];
 const EDITS: &[u8] = b"op,layer,id,wkt\r\ninsert,left,a,POINT (1 2)\r\n\
       insert,right,b,\"LINESTRING (0 0, 0 3)\"\r\ndelete,left,a,\r\n";
 
-/// Makes insertions, and says whether each is answered so, and changes nothing where it is refused.
+/// Whether each insertion has its result, and changes the layer unless it is refused.
 fn inserts(alloc: Global, layer: &mut Layer, points: &[Insertion]) -> Result<bool, Fail> {
     for (id, x, answer) in points {
         let before = state(alloc, layer)?;
@@ -73,19 +73,19 @@ fn inserts(alloc: Global, layer: &mut Layer, points: &[Insertion]) -> Result<boo
     Ok(true)
 }
 
-/// Whether no feature has this id, for a removal, which changes nothing.
+/// Whether the removal of an id fails because no feature has it, and changes nothing.
 fn removes_none(alloc: Global, layer: &mut Layer, id: &str) -> Result<bool, Fail> {
     let before = state(alloc, layer)?;
     let is_refused = layer.remove(id) == Err(LayerFault::NoSuchId);
     Ok(is_refused && state(alloc, layer)?.as_str() == before.as_str())
 }
 
-/// Removes the feature with this id, and says whether this shape is answered.
+/// Whether the removal of the feature with this id returns this shape.
 fn removes(layer: &mut Layer, id: &str, shape: Shape) -> bool {
     layer.remove(id) == Ok(shape)
 }
 
-/// Whether an empty layer takes the row's insertions, and then refuses a removal.
+/// Whether an empty layer accepts the insertions of the example, and then refuses a removal.
 fn takes_row(alloc: Global, layer: &mut Layer) -> Result<bool, Fail> {
     let inserted = inserts(alloc, layer, ROW)? && finds(layer, "a", 0, point(0, 0)?);
     Ok(inserted && removes_none(alloc, layer, "q")? && layer.len() == 2)
@@ -105,7 +105,7 @@ fn id_texts(rt: HostRuntime) -> Result<(), Fail> {
     Ok(())
 }
 
-/// Whether an empty layer takes ids of many lengths, finds them, and loses but the one removed.
+/// Whether an empty layer accepts ids of many lengths, finds them, and loses only the removed one.
 fn takes_many_lengths(alloc: Global, layer: &mut Layer) -> Result<bool, Fail> {
     let (short, longer) = (point(1, 1)?, point(2, 2)?);
     let inserted = inserts(alloc, layer, OF_MANY_LENGTHS)? && finds(layer, SHORT, 1, short);
@@ -124,14 +124,14 @@ fn finds_none(layer: &Layer, ids: &[&str]) -> bool {
     ids.iter().all(|id| layer.find(id).is_none())
 }
 
-/// Whether an empty layer takes ids in any order, finds them, and none beside them.
+/// Whether an empty layer accepts ids in any order, and finds them and no others.
 fn takes_any_order(alloc: Global, layer: &mut Layer) -> Result<bool, Fail> {
     let listed = inserts(alloc, layer, IN_ANY_ORDER)? && finds(layer, "ab", 3, point(3, 3)?);
     let others = finds(layer, "a", 4, point(5, 5)?) && finds(layer, "b0", 5, point(6, 6)?);
     Ok(listed && others && finds_none(layer, ABSENT))
 }
 
-/// Whether it loses an id of each kind, and takes both again.
+/// Whether the layer removes an id of each kind, and accepts both again.
 fn takes_any_order_again(alloc: Global, layer: &mut Layer) -> Result<bool, Fail> {
     let first = takes_any_order(alloc, layer)?;
     let removed = removes(layer, "aa", point(2, 2)?) && removes(layer, "a", point(5, 5)?);
@@ -162,14 +162,14 @@ fn add_point(alloc: Global, loading: &mut FeatureList, id: &str, x: i64) -> Resu
     Ok(())
 }
 
-/// The layer of points that were added one by one.
+/// The layer of points added one by one.
 fn layer_of_added<R: RandomSource + AllocGlobal>(rt: &R, ids: &[&str]) -> Result<Layer, Fail> {
     let mut loading = FeatureList::new(rt.alloc(), RandomState::new(rt)?, ids.len())?;
     add_points(rt.alloc(), &mut loading, ids)?;
     Ok(loading.finish(rt.alloc())?)
 }
 
-/// Whether the layer of three points that were added one by one has these.
+/// Whether the layer of three points added one by one has them.
 fn has_added<R: RandomSource + AllocGlobal>(rt: &R) -> Result<bool, Fail> {
     let features = [
         ("a", point(0, 0)?),
@@ -186,12 +186,13 @@ fn features_one_by_one(rt: HostRuntime) -> Result<(), Fail> {
     Ok(())
 }
 
-/// A layer that was read from as many rows as one may have features.
+/// A layer read from as many rows as the greatest number of features.
 fn full_layer<R: Threads + Sync + RandomSource + AllocGlobal>(rt: &R) -> Result<Layer, Fail> {
     layer_of(rt, points_file(rt.alloc(), 1_000_000)?.as_bytes())
 }
 
-/// What is seen of a layer whose features are too many to be listed for each refusal.
+/// A summary of a layer: its counts, the length of its tree and the feature `new`. A full layer has
+/// too many features to list them after each refusal.
 fn sight(layer: &Layer) -> (Stats, usize, Option<(u32, Shape)>) {
     (layer.stats(), layer.tree().len(), layer.find("new"))
 }
@@ -203,7 +204,7 @@ fn refuses_new(full: &mut Layer) -> Result<bool, Fail> {
     Ok(is_refused && before.2.is_none() && sight(full) == before)
 }
 
-/// Whether a full layer refuses a new id, and still does so after one removal.
+/// Whether a full layer refuses a new id, even after a removal.
 fn stays_full(full: &mut Layer) -> Result<bool, Fail> {
     let is_full = full.len() == 1_000_000 && refuses_new(full)?;
     Ok(is_full && removes(full, "p7", point(7, 0)?) && refuses_new(full)?)
@@ -213,21 +214,21 @@ fn is_full_for_good<R: Threads + Sync + RandomSource + AllocGlobal>(rt: &R) -> R
     seen(full_layer(rt)?, stays_full)
 }
 
-/// The last part of the row on edits of a layer.
+/// The last part of the example on edits of a layer.
 #[test]
 fn layer_edits_when_full(rt: HostRuntime) -> Result<(), Fail> {
     assert!(rt; is_full_for_good(&rt)?);
     Ok(())
 }
 
-/// Deletes a of a layer that has three points, and inserts it again.
+/// Deletes the feature a of a layer of three points, and inserts it again.
 fn inserts_again(alloc: Global, layer: &mut Layer) -> Result<bool, Fail> {
     let removed = removes(layer, "a", point(0, 0)?);
     let is_gone = layer.at(0).is_none() && layer.shape(0).is_none();
     Ok(removed && is_gone && inserts(alloc, layer, AGAIN)?)
 }
 
-/// Whether an empty layer takes three points, and the first of them again behind the others.
+/// Whether an empty layer accepts three points, and then the first of them again after the others.
 fn takes_again(alloc: Global, layer: &mut Layer) -> Result<bool, Fail> {
     let inserted = layer.is_empty()
         && inserts(alloc, layer, THREE)?
@@ -235,8 +236,8 @@ fn takes_again(alloc: Global, layer: &mut Layer) -> Result<bool, Fail> {
     Ok(inserted && finds(layer, "a", 3, point(9, 9)?) && layer.len() == 3)
 }
 
-/// Whether this is the feature of the id and the number, and the layer finds it and its shape by
-/// its number.
+/// Whether this feature has the id and the number, and the layer finds it and its shape by its
+/// number.
 fn is_listed(layer: &Layer, feature: &FeatureRef<'_>, id: &str, number: u32) -> bool {
     match layer.at(number) {
         Some(found) => {
@@ -249,7 +250,7 @@ fn is_listed(layer: &Layer, feature: &FeatureRef<'_>, id: &str, number: u32) -> 
     }
 }
 
-/// Whether the iterator gives features of these ids and numbers, in this order, and no more.
+/// Whether the iterator gives exactly the features of these ids and numbers, in this order.
 fn has_listed(layer: &Layer, wanted: &[(&str, u32)]) -> bool {
     let mut features = layer.iter();
     for (id, number) in wanted {
@@ -261,7 +262,7 @@ fn has_listed(layer: &Layer, wanted: &[(&str, u32)]) -> bool {
     features.next().is_none()
 }
 
-/// Whether a layer without features is edited as wanted, and lists its features so.
+/// Whether an edited layer, initially empty, lists the expected features.
 fn lists_again(alloc: Global, layer: &mut Layer) -> Result<bool, Fail> {
     Ok(takes_again(alloc, layer)? && has_listed(layer, LISTED))
 }
@@ -279,7 +280,7 @@ fn apply_all(edits: &[Edit], left: &mut Layer, right: &mut Layer) -> Result<(), 
     Ok(())
 }
 
-/// Whether each edit of the right layer is refused, since its id is there.
+/// Whether each edit of the right layer is refused because its id exists.
 fn are_doubles(edits: &[Edit], left: &mut Layer, right: &mut Layer) -> bool {
     for edit in edits {
         if edit.side() == Side::Right && edit.apply(left, right) != Err(LayerFault::DoubleId) {
@@ -289,7 +290,7 @@ fn are_doubles(edits: &[Edit], left: &mut Layer, right: &mut Layer) -> bool {
     true
 }
 
-/// Whether each edit of the right layer is refused, and leaves both layers as they were.
+/// Whether each edit of the right layer is refused, and leaves both layers unchanged.
 fn are_doubles_alone(
     alloc: Global,
     edits: &[Edit],
@@ -302,7 +303,7 @@ fn are_doubles_alone(
     Ok(are_doubles && is_left_same && state(alloc, right)?.as_str() == before.1.as_str())
 }
 
-/// Makes the edits, and then those of the right layer again.
+/// Applies the edits, and then those of the right layer again.
 fn edits_twice(
     alloc: Global,
     edits: &[Edit],
@@ -315,13 +316,13 @@ fn edits_twice(
     Ok(edited && are_doubles_alone(alloc, edits, left, right)? && right.len() == 1)
 }
 
-/// Whether a list of edits is read, and does to two layers without features what it says.
+/// Whether a list of edits is read, and has the expected effect on two empty layers.
 fn reads_edits(alloc: Global, left: &mut Layer, right: &mut Layer) -> Result<bool, Fail> {
     let edits = edits_of_bytes(alloc, EDITS, whole()?)?;
     Ok(edits.len() == 3 && edits_twice(alloc, &edits, left, right)?)
 }
 
-/// Whether edits of a left layer and a new right one are read and made.
+/// Whether edits of a left layer and a new right one are read and applied.
 fn reads_edits_of(rt: &HostRuntime, left: &mut Layer) -> Result<bool, Fail> {
     on_empty(rt, |right| reads_edits(rt.alloc(), left, right))
 }

@@ -76,7 +76,7 @@ fn edits_fault(alloc: Global, bytes: &[u8]) -> Result<Option<ReadFault>, Fail> {
     Ok(edits_of_bytes(alloc, bytes, whole()?).err())
 }
 
-/// The fault of a layer that is read from this source, if it has one.
+/// The fault of reading a layer from this source, if it has one.
 fn fault_from<S: Source>(rt: &HostRuntime, source: &mut S) -> Result<Option<ReadFault>, Fail>
     requires { S.has_failed source.old ≡ false }
 {
@@ -100,7 +100,7 @@ fn endless_layer(rt: HostRuntime) -> Result<(), Fail> {
     Ok(())
 }
 
-/// The place of the first of the broken layers that has another fault.
+/// The index of the first of the broken layers whose fault isn't the expected one.
 fn first_other_layer<R: Threads + Sync + RandomSource + AllocGlobal>(
     rt: &R,
 ) -> Result<Option<usize>, Fail> {
@@ -112,7 +112,7 @@ fn first_other_layer<R: Threads + Sync + RandomSource + AllocGlobal>(
     Ok(None)
 }
 
-/// The place of the first of the broken lists of edits that has another fault.
+/// The index of the first of the broken lists of edits whose fault isn't the expected one.
 fn first_other_edits(alloc: Global) -> Result<Option<usize>, Fail> {
     for (place, (bytes, fault)) in BROKEN_EDITS.iter().enumerate() {
         if edits_fault(alloc, bytes)? != Some(*fault) {
@@ -139,7 +139,7 @@ fn spelled_files(rt: HostRuntime) -> Result<(), Fail> {
     Ok(())
 }
 
-/// The fault of the file of so many points with these rows behind them, if it has one.
+/// The fault of a file of `count` points followed by these rows, if it has one.
 fn fault_behind<R: Threads + Sync + RandomSource + AllocGlobal>(
     rt: &R,
     count: u32,
@@ -150,7 +150,7 @@ fn fault_behind<R: Threads + Sync + RandomSource + AllocGlobal>(
     fault_of(rt, file.as_bytes())
 }
 
-/// The fault of the file of a million points with this row behind them, as so many threads load it.
+/// The fault of a file of a million points followed by this row, loaded by `threads` threads.
 fn fault_behind_million<R: Threads + Sync + RandomSource + AllocGlobal>(
     rt: &R,
     row: &str,
@@ -189,7 +189,7 @@ fn full_file_new_id_by_two(rt: HostRuntime) -> Result<(), Fail> {
     Ok(())
 }
 
-/// A row that is at fault is told by its number and as what it is, and not as a lack of memory.
+/// The fault of a row is reported with its number, and not as lack of memory.
 #[test]
 fn faults_behind_a_thousand_rows(rt: HostRuntime) -> Result<(), Fail> {
     let ragged = fault_behind(&rt, 1_000, "a\n")?;
@@ -199,7 +199,7 @@ fn faults_behind_a_thousand_rows(rt: HostRuntime) -> Result<(), Fail> {
     Ok(())
 }
 
-/// An id of 64 bytes is one, and an id of 65 bytes is told as none.
+/// An id of 64 bytes is accepted, and an id of 65 bytes is a fault.
 #[test]
 fn longest_ids_in_files(rt: HostRuntime) -> Result<(), Fail> {
     let origin = point(0, 0)?;
@@ -209,8 +209,8 @@ fn longest_ids_in_files(rt: HostRuntime) -> Result<(), Fail> {
     Ok(())
 }
 
-/// The first fault of two rows is answered, wherever they stand among the batches that are read
-/// ahead, each of which has 4,096 rows.
+/// The fault of the first of two bad rows is reported, wherever the rows are among the batches of
+/// 4,096 rows that are read ahead.
 #[test]
 fn batched_file_double_id(rt: HostRuntime) -> Result<(), Fail> {
     for count in [4_095, 4_096, 40_000] {
@@ -229,7 +229,7 @@ fn batched_file_broken_row(rt: HostRuntime) -> Result<(), Fail> {
     Ok(())
 }
 
-/// How many features the layer of the file of so many points has, as two threads load it.
+/// The number of features of the layer of `count` points, loaded by two threads.
 fn points_loaded<R: Threads + Sync + RandomSource + AllocGlobal>(
     rt: &R,
     count: u32,
@@ -245,7 +245,7 @@ fn whole_batches(rt: HostRuntime) -> Result<(), Fail> {
     Ok(())
 }
 
-/// Whether a fault shows as this text and is of this row.
+/// Whether a fault is displayed as this text and is of this row.
 fn shows(
     alloc: Global,
     fault: ReadFault,
@@ -256,7 +256,7 @@ fn shows(
     Ok(shown.as_str() == text && fault.row() == row)
 }
 
-/// Faults of files, what they show as, and their rows.
+/// Faults of files, their displayed texts, and their rows.
 const FAULTS: &[(ReadFault, &str, Option<u32>)] = &[
     (ReadFault::Io, "read failed", None),
     (ReadFault::TooLong, "file is too long", None),
@@ -275,7 +275,7 @@ const FAULTS: &[(ReadFault, &str, Option<u32>)] = &[
     (ReadFault::Memory, "no memory", None),
 ];
 
-/// Whether a fault shows as its own text after the number of its row.
+/// Whether a fault is displayed as its own text after the number of its row.
 fn ends_with_text(text: &str, fault: ReadFault) -> bool {
     text.ends_with(fault.text())
 }
@@ -290,7 +290,7 @@ fn fault_texts(rt: HostRuntime) -> Result<(), Fail> {
     Ok(())
 }
 
-/// The refusals of a layer, and what they show as.
+/// The refusals of a layer, and their displayed texts.
 const REFUSALS: &[(LayerFault, &str)] = &[
     (LayerFault::BadId, "id must have 1 to 64 bytes of UTF-8"),
     (LayerFault::DoubleId, "id is already there"),

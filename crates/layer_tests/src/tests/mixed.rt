@@ -1,4 +1,4 @@
-//! A long mixed list of edits of a layer that was read, beside a plain list of its features.
+//! A long mixed list of edits of a layer, compared with a plain list of its features.
 
 ghost use Rattle.rtree_core.specs.Nodes.{IsLawful};
 
@@ -6,7 +6,7 @@ use super::*;
 use rtree_core::{Entry, Node};
 use test_data::Random;
 
-/// How many names ids are made of.
+/// The number of names that ids are made of.
 const NAMES: usize = 400;
 
 /// A feature of the plain list.
@@ -16,7 +16,7 @@ struct Held {
     entry: Entry,
 }
 
-/// The id that is made of a name.
+/// The id made of a name.
 fn id_of(alloc: Global, name: usize) -> Result<String, AllocError> {
     format!(in alloc; "p{name}")
 }
@@ -30,7 +30,7 @@ struct Trial {
 }
 
 impl Trial {
-    /// A layer of so many features that is read from a file.
+    /// A layer of `count` features, read from a file.
     fn read<R: Threads + Sync + RandomSource + AllocGlobal>(
         rt: &R,
         random: &mut Random,
@@ -45,7 +45,7 @@ impl Trial {
         })
     }
 
-    /// Where the feature of this name stands in the list.
+    /// The index of the feature with this name in the list.
     fn place(&self, name: usize) -> Option<usize> {
         for (place, held) in self.list.iter().enumerate() {
             if held.name == name {
@@ -55,7 +55,7 @@ impl Trial {
         None
     }
 
-    /// Inserts a feature of some name, and says whether layer and list agree on it.
+    /// Inserts a feature with a random name, and returns whether layer and list agree on it.
     fn insert(&mut self, alloc: Global, random: &mut Random) -> Result<bool, Fail> {
         let name = random.below(NAMES);
         let shape = random.shape().ok_or("a shape")?;
@@ -74,7 +74,7 @@ impl Trial {
         Ok(answer == Ok(()))
     }
 
-    /// Removes the feature of some name, and says whether layer and list agree on it.
+    /// Removes the feature with a random name, and returns whether layer and list agree on it.
     fn remove(&mut self, alloc: Global, random: &mut Random) -> Result<bool, Fail> {
         let name = random.below(NAMES);
         let answer = self.layer.remove(id_of(alloc, name)?.as_str());
@@ -84,7 +84,8 @@ impl Trial {
         }
     }
 
-    /// So many edits, of which so many in nine are insertions, and compares along the way.
+    /// Makes `count` edits, of which about `insertions` in nine are insertions, and compares layer
+    /// and list on the way.
     fn edit(
         &mut self,
         alloc: Global,
@@ -103,7 +104,8 @@ impl Trial {
         Ok(())
     }
 
-    /// One edit, so often in nine an insertion, and says whether layer and list agree on it.
+    /// Makes one edit, with probability `insertions` in nine an insertion, and returns whether
+    /// layer and list agree on it.
     fn edit_once(
         &mut self,
         alloc: Global,
@@ -116,7 +118,7 @@ impl Trial {
         self.remove(alloc, random)
     }
 
-    /// Compares list, tree, counts, and some windows.
+    /// Checks that list, tree, counts and some windows agree.
     fn compare(&self, alloc: Global, random: &mut Random) -> Result<(), Fail> {
         if self.agrees(alloc, random)? {
             return Ok(());
@@ -124,18 +126,18 @@ impl Trial {
         Err(Fail::new("the list, the tree, a count or a window differs"))
     }
 
-    /// Whether list, tree, counts, and some windows agree.
+    /// Whether list, tree, counts and some windows agree.
     fn agrees(&self, alloc: Global, random: &mut Random) -> Result<bool, Fail> {
         let windows = windows(random).ok_or("four windows")?;
         Ok(self.has_list() && self.has_counts() && self.agrees_on(alloc, &windows)?)
     }
 
-    /// Whether the finds by id, the tree and these windows agree.
+    /// Whether the lookups by id, the tree and these windows agree.
     fn agrees_on(&self, alloc: Global, windows: &[Shape]) -> Result<bool, AllocError> {
         Ok(self.finds(alloc)? && self.has_entries(alloc)? && self.agrees_at_all(alloc, windows)?)
     }
 
-    /// Whether the tree finds the features of the list that meet each of some windows.
+    /// Whether the tree finds the features of the list that meet each of these windows.
     fn agrees_at_all(&self, alloc: Global, windows: &[Shape]) -> Result<bool, AllocError> {
         for window in windows {
             if !self.agrees_at(alloc, window)? {
@@ -210,14 +212,14 @@ impl Trial {
     }
 }
 
-/// A window over all shapes, two others, and one that covers these; none never comes.
+/// A window over all shapes, two others, and one that covers these; never `None`.
 fn windows(random: &mut Random) -> Option<[Shape; 4]> {
     let all = Shape::new(-1000, -1000, 2000, 2000)?;
     let (one, two) = (random.shape()?, random.shape()?);
     Some([all, one, two, one.cover(&two)])
 }
 
-/// So many features, whose names are their numbers.
+/// `count` features, whose names are their numbers.
 fn listed(alloc: Global, random: &mut Random, count: u32) -> Result<Vec<Held>, Fail> {
     let mut list = Vec::new(alloc);
     for number in 0..count {
@@ -229,13 +231,13 @@ fn listed(alloc: Global, random: &mut Random, count: u32) -> Result<Vec<Held>, F
     Ok(list)
 }
 
-/// Writes the row of a feature; none where there was no memory.
+/// Writes the row of a feature, or returns `None` if an allocation fails.
 fn write_row(alloc: Global, file: &mut String, held: &Held) -> Option<()> {
     let text = wkt_core::print(alloc, &held.entry.shape, Scale::new(0)?).ok()?;
     writeln!(file, "p{},\"{text}\"", held.name).ok()
 }
 
-/// The file of a layer that has these features; none where there was no memory.
+/// The file of a layer of these features, or `None` if an allocation fails.
 fn file_of(alloc: Global, list: &[Held]) -> Option<String> {
     let mut file = String::from_str(alloc, "id,wkt\n").ok()?;
     for held in list {
@@ -244,7 +246,7 @@ fn file_of(alloc: Global, list: &[Held]) -> Option<String> {
     Some(file)
 }
 
-/// The layer that is read from that file.
+/// The layer read from that file.
 fn layer_of_list<R: Threads + Sync + RandomSource + AllocGlobal>(
     rt: &R,
     list: &[Held],
@@ -253,7 +255,7 @@ fn layer_of_list<R: Threads + Sync + RandomSource + AllocGlobal>(
     layer_of(rt, file.as_bytes())
 }
 
-/// Takes the feature of this name out of a list, if it is there.
+/// Removes the feature with this name from a list, if it is there.
 fn take(list: &mut Vec<Held>, name: usize) -> Option<Held> {
     for (place, held) in list.iter().enumerate() {
         if held.name == name {
@@ -279,7 +281,7 @@ fn gather(node: &Node, entries: &mut Vec<Entry>) -> Result<(), AllocError>
     Ok(())
 }
 
-/// Compares, and then makes mostly insertions and mostly removals in turn.
+/// Checks the trial, and then alternates mostly insertions with mostly removals.
 fn edit_in_turn(trial: &mut Trial, alloc: Global, random: &mut Random) -> Result<(), Fail> {
     trial.compare(alloc, random)?;
     for insertions in [6, 1, 7, 0] {

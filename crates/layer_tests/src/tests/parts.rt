@@ -1,12 +1,13 @@
-//! Files that threads read in parts: wherever they are cut, the layer is that of one thread.
+//! Files that threads read in parts: wherever they are cut, the layer is the same as for one
+//! thread.
 
 use super::*;
 
-/// How many rows a file has, so that it is read in parts.
+/// The number of rows of a file, enough for it to be read in parts.
 const ROWS: u32 = 10_000;
 
-/// What a row has before and behind its number, line feeds and quotes where a cut may come, and the
-/// id of the last row.
+/// The texts of a row before and after its number, with line feeds and quotes at possible cuts, and
+/// the id of the last row.
 const FORMS: &[(&str, &str, &str)] = &[
     ("\"p", "\n\",POINT (1 2)\n", "p9999\n"),
     ("p", ",\"POINT (1\n2)\"\n", "p9999"),
@@ -25,12 +26,12 @@ fn file_of(alloc: Global, front: &str, back: &str) -> Result<String, AllocError>
     Ok(file)
 }
 
-/// The layer has all rows, the last of which has this id.
+/// Whether the layer has all rows, and the last one has this id.
 fn has_all(layer: &Layer, last: &str, shape: Shape) -> bool {
     layer.len() == ROWS as usize && finds(layer, last, ROWS - 1, shape)
 }
 
-/// The layer of a file of rows of a form, as so many threads load it.
+/// The layer of a file of rows of a form, loaded by `threads` threads.
 fn layer_of_form<R: Threads + Sync + RandomSource + AllocGlobal>(
     rt: &R,
     threads: u32,
@@ -41,7 +42,7 @@ fn layer_of_form<R: Threads + Sync + RandomSource + AllocGlobal>(
     layer_by(rt, file.as_bytes(), threads)
 }
 
-/// So many threads read all rows of a file of this form.
+/// Whether `threads` threads read all rows of a file of this form.
 fn reads_form<R: Threads + Sync + RandomSource + AllocGlobal>(
     rt: &R,
     threads: u32,
@@ -52,7 +53,7 @@ fn reads_form<R: Threads + Sync + RandomSource + AllocGlobal>(
     Ok(seen(layer, |layer| has_all(layer, last, shape)))
 }
 
-/// The place of the first form whose file so many threads read as another layer.
+/// The index of the first form whose file `threads` threads read as another layer.
 fn first_other_form<R: Threads + Sync + RandomSource + AllocGlobal>(
     rt: &R,
     threads: u32,
@@ -73,7 +74,7 @@ fn forms_in_parts(rt: HostRuntime) -> Result<(), Fail> {
     Ok(())
 }
 
-/// A layer file with a double id behind its first half, and a row that isn't read at its end.
+/// A layer file with a duplicate id in its second half, and an invalid row at its end.
 fn file_with_faults(alloc: Global) -> Result<String, AllocError> {
     let mut file = points_file(alloc, ROWS)?;
     file.push_str("p0,POINT (0 0)\n")?;
@@ -84,7 +85,8 @@ fn file_with_faults(alloc: Global) -> Result<String, AllocError> {
     Ok(file)
 }
 
-/// A fault behind a cut is told with its row's number in the file, and before one of a later part.
+/// A fault after a cut is reported with its row's number in the file, even if a later part has a
+/// fault too.
 #[test]
 fn faults_in_parts(rt: HostRuntime) -> Result<(), Fail> {
     let file = file_with_faults(rt.alloc())?;

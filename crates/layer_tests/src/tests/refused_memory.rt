@@ -1,10 +1,9 @@
-//! Edits and loading that run out of memory. Run with one allocation after the other failing, they
-//! show that list and tree stay as they were, and that the same call with memory then gives what
-//! it would have.
+//! Edits and loading that run out of memory. With each allocation failing in turn, list and tree
+//! stay unchanged, and the same call with memory then has the same result as without the failure.
 
 use super::*;
 
-/// An id that takes memory.
+/// An id that needs an allocation.
 const LONG_ID: &str = "0123456789abcdefg";
 
 const IDS: &[&str] = &[
@@ -22,7 +21,7 @@ const TEN: &[u8] = b"id,wkt\na,POINT (0 0)\n0123456789abcdefg,POINT (1 0)\n\
     c,POINT (2 0)\nd,POINT (3 0)\ne,POINT (4 0)\n\
     f,POINT (5 0)\ng,POINT (6 0)\nh,POINT (7 0)\ni,POINT (8 0)\nj,POINT (9 0)\n";
 
-/// All that is seen of a layer, asked for again where memory was refused.
+/// A layer as text, made again if an allocation fails.
 fn state_at_last(alloc: Global, layer: &Layer) -> Result<String, AllocError> {
     match state(alloc, layer) {
         Ok(text) => Ok(text),
@@ -30,12 +29,13 @@ fn state_at_last(alloc: Global, layer: &Layer) -> Result<String, AllocError> {
     }
 }
 
-/// Whether a layer is now as this text says.
+/// Whether a layer has this text.
 fn is_as(alloc: Global, layer: &Layer, text: &str) -> Result<bool, AllocError> {
     Ok(state_at_last(alloc, layer)?.as_str() == text)
 }
 
-/// Inserts a feature, again where memory was refused, and says whether only that changes the layer.
+/// Inserts a feature, again if an allocation fails, and returns whether only success changes the
+/// layer.
 fn inserts_at_last(
     alloc: Global,
     layer: &mut Layer,
@@ -50,7 +50,8 @@ fn inserts_at_last(
     Ok(!is_as(alloc, layer, before.as_str())?)
 }
 
-/// Removes a feature, again where memory was refused, and says whether only that changes the layer.
+/// Removes a feature, again if an allocation fails, and returns whether only success changes the
+/// layer.
 fn removes_at_last(alloc: Global, layer: &mut Layer, id: &str) -> Result<bool, AllocError> {
     let before = state_at_last(alloc, layer)?;
     if layer.remove(id) == Err(LayerFault::Memory) {
@@ -60,7 +61,7 @@ fn removes_at_last(alloc: Global, layer: &mut Layer, id: &str) -> Result<bool, A
     Ok(!is_as(alloc, layer, before.as_str())? && layer.find(id).is_none())
 }
 
-/// A layer with no features, made again where memory was refused.
+/// A layer without features, made again if an allocation fails.
 fn layer_at_last(rt: &HostRuntime) -> Result<Layer, Fail> {
     match Layer::new(rt.alloc(), RandomState::new(rt)?) {
         Ok(layer) => Ok(layer),
@@ -68,7 +69,7 @@ fn layer_at_last(rt: &HostRuntime) -> Result<Layer, Fail> {
     }
 }
 
-/// What is seen of a layer with no features, made again where memory was refused.
+/// The result of `see` on a layer without features, made again if an allocation fails.
 fn on_layer_at_last<F: FnOnce(&mut Layer) -> Result<bool, Fail>>(
     rt: &HostRuntime,
     see: F,
@@ -78,7 +79,7 @@ fn on_layer_at_last<F: FnOnce(&mut Layer) -> Result<bool, Fail>>(
     seen(layer_at_last(rt)?, see)
 }
 
-/// Inserts points in a row under these ids, and says whether each is found.
+/// Inserts points on a line under these ids, and returns whether each is found.
 fn grows(alloc: Global, layer: &mut Layer, ids: &[&str]) -> Result<bool, Fail> {
     for (number, id) in (0..).zip(ids) {
         let shape = point(i64::from(number), 0)?;
@@ -98,7 +99,7 @@ fn shrinks(alloc: Global, layer: &mut Layer) -> Result<bool, AllocError> {
     Ok(true)
 }
 
-/// Whether the layer and its tree have so many features.
+/// Whether the layer and its tree have `len` features.
 fn has_len(layer: &Layer, len: usize) -> bool {
     layer.len() == len && layer.tree().len() == len
 }
@@ -117,7 +118,7 @@ fn refused_growths(rt: HostRuntime) -> Result<(), Fail> {
     Ok(())
 }
 
-/// Whether a layer of eight features takes a ninth, for which its tree needs a second leaf.
+/// Whether a layer of eight features accepts a ninth, for which its tree needs a second leaf.
 fn takes_ninth(alloc: Global, layer: &mut Layer) -> Result<bool, Fail> {
     let shape = point(8, 0)?;
     let has_grown = grows(alloc, layer, FIRST_EIGHT)?;

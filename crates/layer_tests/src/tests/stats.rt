@@ -1,4 +1,4 @@
-//! Counts of features, and the tree's height.
+//! Counts of features, and the height of the tree.
 
 use super::*;
 
@@ -27,7 +27,7 @@ fn stats_of<R: Threads + Sync + RandomSource + AllocGlobal>(
     Ok(seen(layer_of(rt, bytes)?, |layer| layer.stats()))
 }
 
-/// The features that these bytes of a file stand for.
+/// The features of a file of these bytes.
 fn features_of<R: Threads + Sync + RandomSource + AllocGlobal>(
     rt: &R,
     bytes: &[u8],
@@ -36,14 +36,14 @@ fn features_of<R: Threads + Sync + RandomSource + AllocGlobal>(
     Ok(features_of_bytes(rt.alloc(), state, bytes, whole()?, 2, rt)?)
 }
 
-/// The counts of features that have no tree, if the first of them is the point a at (4 4).
+/// The counts of features without a tree, if the first of them is the point a at (4 4).
 fn stats_from_a(features: &mut FeatureList) -> Result<Option<Stats>, Fail> {
     let first = features.iter().next().ok_or("a first feature")?;
     let is_a = first.id == "a" && first.shape == point(4, 4)?;
     Ok(is_a.then_some(features.stats()))
 }
 
-/// The counts of the layer of two features once they are removed.
+/// The counts of a layer of two features after both are removed.
 fn stats_emptied(layer: &mut Layer) -> Result<Stats, Fail> {
     layer.remove("a")?;
     layer.remove("b")?;
@@ -62,7 +62,7 @@ fn stats_extra(rt: HostRuntime) -> Result<(), Fail> {
     Ok(())
 }
 
-/// Nine points, of which eight would fill a leaf.
+/// Nine points; eight would fill a leaf.
 const NINE: &[u8] = b"id,wkt
 a,POINT (4 4)
 b,POINT (0 1)
