@@ -48,8 +48,8 @@ fn names_and_masks(rt: HostRuntime) -> Result<(), Fail> {
     Ok(())
 }
 
-/// What the interior and the boundary of a geometry amount to: points, lines with a boundary, lines
-/// without, areas, and areas without an interior.
+/// The dimensions of the interior and the boundary of a geometry: of points, lines with and without
+/// a boundary, and areas with and without an interior.
 const CLASSES: &[(u8, u8)] = &[
     (b'0', b'F'),
     (b'1', b'0'),
@@ -58,7 +58,7 @@ const CLASSES: &[(u8, u8)] = &[
     (b'F', b'1'),
 ];
 
-/// The matrix of two disjoint geometries, as a mask that fits nothing else.
+/// The matrix of two disjoint geometries, as a mask that fits no other matrix.
 fn apart(first: (u8, u8), second: (u8, u8)) -> [u8; 9] {
     let (interior, boundary) = first;
     [
@@ -77,7 +77,7 @@ fn sixteen_and_twenty_five_matrices(rt: HostRuntime) {
     }
 }
 
-/// Two closed lines may be disjoint, and no two boxes are lines without a boundary.
+/// Two closed lines may be disjoint, but no two boxes are lines without a boundary.
 #[test]
 fn closed_lines_are_no_boxes(rt: HostRuntime) -> Result<(), Fail> {
     let mask = Relation::Mask(Mask::read(b"FF1FFF1F2")?);

@@ -1,4 +1,4 @@
-//! The board from outside: claims in turn, limits, growths that are refused, and four threads.
+//! The board from outside: claims in turn, limits, refused allocations, and four threads.
 
 ghost use Rattle.std.specs.Prelude.{◌≡◌, ◌≤◌, length, replicate, All, IfOk};
 ghost use Rattle.deliver_core.specs.Boards.{IsSeatOf, fresh_seat};
@@ -10,10 +10,10 @@ use std::test::Fail;
 use std::thread;
 use std::thread::Threads;
 
-/// More numbers than any test here draws, but for one of them.
+/// More numbers than any test here draws, except one.
 const MANY: u32 = 65_536;
 
-/// Claims for two seats in turn, and says whether each pair of claims answers so.
+/// Claims for two seats in turn, and returns whether each pair of claims has the expected results.
 fn claim_in_turn(
     board: &Board,
     first: &mut BoardSeat,
@@ -31,7 +31,7 @@ fn claim_in_turn(
     true
 }
 
-/// Whether the seats come back from the board with these counts, done or not.
+/// Whether the board returns the seats with these counts, done or not.
 fn come_back(board: Board, seats: Vec<BoardSeat>, wanted: &[(u32, bool)]) -> bool
     requires all { length seats.items ≡ board.seats }
     requires own { All (IsSeatOf board) seats.items }
@@ -41,7 +41,7 @@ fn come_back(board: Board, seats: Vec<BoardSeat>, wanted: &[(u32, bool)]) -> boo
     found.eq(wanted.iter().copied())
 }
 
-/// A board, made again where memory was refused once.
+/// A board, made again if an allocation fails.
 fn board_at_last(
     alloc: Global,
     tasks: u32,
@@ -57,8 +57,8 @@ fn board_at_last(
     }
 }
 
-/// Whether the two seats of a board of three tasks draw these in turn; none never comes. It takes
-/// no memory.
+/// Whether the two seats of a board of three tasks draw the expected numbers in turn; never `None`.
+/// It takes no memory.
 fn draw_three(board: Board, mut seats: Vec<BoardSeat>) -> Option<bool>
     requires board { board.seats ≡ 2 }
     requires seats { seats.items ≡ replicate 2 (fresh_seat board) }
@@ -80,7 +80,7 @@ fn board_and_outlet(rt: HostRuntime) -> Result<(), Fail> {
     Ok(())
 }
 
-/// Run with each allocation failing in turn, it ends as with ample memory.
+/// Passes with each allocation failing in turn.
 #[test]
 fn refused_6(rt: HostRuntime) -> Result<(), Fail> {
     let (board, seats) = board_at_last(rt.alloc(), 3, 2)?;
@@ -88,7 +88,7 @@ fn refused_6(rt: HostRuntime) -> Result<(), Fail> {
     Ok(())
 }
 
-/// Whether a seat of a board of five tasks comes back after two claims.
+/// Whether a seat of a board of five tasks is returned after two claims.
 fn comes_back_early(alloc: Global) -> Result<bool, AllocError> {
     let (board, mut seats) = Board::new(alloc, 5, 1)?;
     let claims = (board.claim(&mut seats[0]), board.claim(&mut seats[0]));
@@ -107,7 +107,7 @@ fn gives_none(alloc: Global) -> Result<bool, AllocError> {
     Ok(seats.len() == 16 && board.claim(&mut seats[15]) == None)
 }
 
-/// Whether a board of as many tasks as a plan has at most gives all to its only seat.
+/// Whether a board with the greatest number of tasks of a plan gives all to its only seat.
 fn gives_most(alloc: Global) -> Result<bool, AllocError> {
     let (board, mut seats) = Board::new(alloc, MANY, 1)?;
     let Some(seat) = seats.pop() else {
@@ -124,7 +124,7 @@ fn board_limits(rt: HostRuntime) -> Result<(), Fail> {
     Ok(())
 }
 
-/// Whether all four seats of a board come back, and have met the end.
+/// Whether all four seats of a board are returned, and have met the end.
 fn four_are_done(board: Board, seats: Vec<BoardSeat>) -> bool
     requires all { board.seats ≡ 4 }
     requires own { All (IsSeatOf board) seats.items }
@@ -132,7 +132,7 @@ fn four_are_done(board: Board, seats: Vec<BoardSeat>) -> bool
     seats.len() == 4 && board.close(seats).iter().all(BoardSeat::done)
 }
 
-/// Whether four threads draw all of ten thousand numbers, each of which notes its own.
+/// Whether four threads, each of which records its numbers, draw all of ten thousand numbers.
 fn four_draw_all<R: Threads + Sync>(rt: &R, alloc: Global) -> Result<bool, AllocError> {
     let (board, seats) = Board::new(alloc, 10_000, 4)?;
     let workers = draw_in_threads(rt, alloc, &board, seats)?;
@@ -148,7 +148,7 @@ fn board_threads(rt: HostRuntime) -> Result<(), Fail> {
     Ok(())
 }
 
-/// A worker's seat, and the numbers that it noted.
+/// A worker's seat, and the numbers that it recorded.
 #[derive(Drop)]
 struct Worker {
     seat: BoardSeat,
@@ -156,13 +156,13 @@ struct Worker {
 }
 
 impl Worker {
-    /// Whether its numbers rise, and are as many as its seat counts.
+    /// Whether its numbers ascend, and their count is that of its seat.
     fn is_in_order(&self) -> bool {
         self.drawn.is_sorted_by(|a, b| a < b) && self.drawn.len() == self.seat.count() as usize
     }
 }
 
-/// Claims until the seat meets None, or memory runs out.
+/// Claims until the seat gets `None`, or memory runs out.
 fn draw_all(alloc: Global, board: &Board, mut seat: BoardSeat) -> Worker
     requires { IsSeatOf board.now seat }
     ensures { IsSeatOf board.now result.seat }
@@ -179,7 +179,7 @@ fn draw_all(alloc: Global, board: &Board, mut seat: BoardSeat) -> Worker
     Worker { seat, drawn }
 }
 
-/// Draws in a thread for each seat.
+/// Draws in one thread for each seat.
 fn draw_in_threads<R: Threads + Sync>(
     rt: &R,
     alloc: Global,

@@ -1,5 +1,5 @@
 //! The collector: whole histories, refusals and their texts, numbers that no worker sends, and
-//! growths that are refused.
+//! refused allocations.
 
 ghost use Rattle.std.specs.Prelude.{◌≤◌};
 
@@ -9,8 +9,8 @@ use std::alloc::{AllocError, Global};
 use std::fmt::Display;
 use std::test::Fail;
 
-/// What a message says: a batch of a task, with its number and pairs; the end of a task, with the
-/// number of its batches; or a bye.
+/// The content of a message: a batch of a task, with its number and pairs; the end of a task, with
+/// the number of its batches; or a bye.
 #[derive(Clone, Copy)]
 enum Said<'a> {
     Batch(u32, u64, &'a [(u32, u32)]),
@@ -31,7 +31,7 @@ fn message(alloc: Global, said: Said<'_>) -> Result<Message, AllocError> {
     })
 }
 
-/// Whether a message is answered so, and a refusal leaves the marks.
+/// Whether a message has this result, and a refusal leaves the marks unchanged.
 fn answers(
     alloc: Global,
     collector: &mut Collector,
@@ -43,7 +43,7 @@ fn answers(
     Ok(given == answer && (answer.is_ok() || collector.taken() == before.as_slice()))
 }
 
-/// Whether messages are answered so, each in turn.
+/// Whether messages have these results, in turn.
 fn answers_all(
     alloc: Global,
     collector: &mut Collector,
@@ -65,8 +65,8 @@ fn ends_with(collector: Collector, pairs: &[(u32, u32)], marks: &[Mark]) -> bool
     }
 }
 
-/// Whether a new collector of so many tasks answers messages so, and ends with these pairs and
-/// marks.
+/// Whether a new collector of `tasks` tasks has these results for messages, and ends with these
+/// pairs and marks.
 fn collects(
     alloc: Global,
     tasks: u32,
@@ -81,7 +81,7 @@ fn collects(
 
 const PAIRS: &[(u32, u32)] = &[(3, 1), (2, 9), (3, 1)];
 
-/// One batch and the end of task 0, and between them what is to be refused.
+/// One batch and the end of task 0, with messages to refuse in between.
 const ONE_BATCH: &[(Said<'static>, Result<(), Refusal>)] = &[
     (Batch(2, 0, PAIRS), Err(Refusal::Stranger)),
     (Batch(0, 1, PAIRS), Err(Refusal::Gap)),
@@ -94,7 +94,7 @@ const ONE_BATCH: &[(Said<'static>, Result<(), Refusal>)] = &[
     (Bye, Ok(())),
 ];
 
-/// Whether a collector of two tasks can't finish once only task 0 has come.
+/// Whether a collector of two tasks can't finish after task 0 alone.
 fn stays_open(alloc: Global) -> Result<bool, AllocError> {
     let mut collector = Collector::new(alloc, 2)?;
     let are_answered = answers_all(alloc, &mut collector, ONE_BATCH)?;
@@ -102,7 +102,7 @@ fn stays_open(alloc: Global) -> Result<bool, AllocError> {
     Ok(collector.finish().err() == Some(Finish::Open(1)) && are_answered && are_marked)
 }
 
-/// Whether a collector of two tasks delivers task 0 where the end of task 1 came first.
+/// Whether a collector of two tasks delivers task 0 if the end of task 1 comes first.
 fn ends_both(alloc: Global) -> Result<bool, AllocError> {
     let mut collector = Collector::new(alloc, 2)?;
     let is_ended = answers(alloc, &mut collector, End(1, 0), Ok(()))?;
@@ -119,7 +119,7 @@ fn collector_refusals(rt: HostRuntime) -> Result<(), Fail> {
     Ok(())
 }
 
-/// The messages of two tasks, the second of which comes first.
+/// The messages of two tasks, the second one first.
 const TURNED: &[(Said<'static>, Result<(), Refusal>)] = &[
     (Batch(1, 0, &[(5, 0), (4, 7)]), Ok(())),
     (Batch(1, 1, &[(4, 2)]), Ok(())),
@@ -143,14 +143,14 @@ fn collector_order(rt: HostRuntime) -> Result<(), Fail> {
     Ok(())
 }
 
-/// More pairs than a sort takes for one thread alone. It is a prime number, so steps of any length
-/// below it come to each place once.
+/// More pairs than are sorted by one thread alone. It is a prime number, so steps of any lesser
+/// length visit each place once.
 const MANY: u32 = 10_007;
 
-/// A step that takes far pairs one after another.
+/// A step between pairs that are far apart.
 const STRIDE: u32 = 7_919;
 
-/// Many pairs, each once. By steps of 1 they ascend.
+/// `MANY` distinct pairs. By steps of 1 they ascend.
 fn pairs_by_steps(alloc: Global, step: u32) -> Result<Vec<(u32, u32)>, AllocError>
     requires { step ≤ STRIDE }
 {
@@ -175,7 +175,7 @@ fn delivers(answer: Result<Outcome, Finish>, pairs: &[(u32, u32)]) -> bool {
     answer.is_ok_and(|outcome| outcome.pairs() == pairs)
 }
 
-/// Threads sort as one does.
+/// Sorting by threads has the same result as by one.
 #[test]
 fn many_pairs(rt: HostRuntime) -> Result<(), Fail> {
     let sorted = pairs_by_steps(rt.alloc(), 1)?;
@@ -186,7 +186,7 @@ fn many_pairs(rt: HostRuntime) -> Result<(), Fail> {
     Ok(())
 }
 
-/// A collector of two tasks, of which the first has ended.
+/// A collector of two tasks, the first of which has ended.
 fn half_ended(alloc: Global) -> Result<Collector, AllocError> {
     let mut collector = Collector::new(alloc, 2)?;
     answers(alloc, &mut collector, End(0, 0), Ok(()))?;
@@ -228,7 +228,7 @@ fn broken_12(rt: HostRuntime) -> Result<(), Fail> {
     Ok(())
 }
 
-/// The message, which is tried again where memory was refused once.
+/// The message, made again if an allocation fails.
 fn made(alloc: Global, said: Said<'_>) -> Result<Message, AllocError> {
     match message(alloc, said) {
         Ok(message) => Ok(message),
@@ -236,7 +236,7 @@ fn made(alloc: Global, said: Said<'_>) -> Result<Message, AllocError> {
     }
 }
 
-/// Whether a message is taken, again where memory was refused once more and nothing has changed.
+/// Whether a message is accepted, or a failed allocation changes nothing and it is accepted then.
 fn takes(alloc: Global, collector: &mut Collector, said: Said<'_>) -> Result<bool, AllocError> {
     let before = collector.taken().len();
     match collector.offer(made(alloc, said)?) {
@@ -248,7 +248,7 @@ fn takes(alloc: Global, collector: &mut Collector, said: Said<'_>) -> Result<boo
     }
 }
 
-/// A collector of so many tasks, which is tried again where memory was refused once.
+/// A collector of `tasks` tasks, made again if an allocation fails.
 fn collector_at_last(alloc: Global, tasks: u32) -> Result<Collector, AllocError> {
     match Collector::new(alloc, tasks) {
         Ok(collector) => Ok(collector),
@@ -256,20 +256,20 @@ fn collector_at_last(alloc: Global, tasks: u32) -> Result<Collector, AllocError>
     }
 }
 
-/// Whether a collector takes a batch, and then has its mark.
+/// Whether a collector accepts a batch, and then has its mark.
 fn takes_a_batch(alloc: Global, collector: &mut Collector) -> Result<bool, AllocError> {
     let is_taken = takes(alloc, collector, Batch(0, 0, PAIRS))?;
     Ok(is_taken && collector.taken() == [Mark::Batch(0, 0)].as_slice())
 }
 
-/// Run with each allocation failing in turn, these two end as with ample memory.
+/// Passes with each allocation failing in turn.
 #[test]
 fn refused_5(rt: HostRuntime) -> Result<(), Fail> {
     assert!(rt; takes_a_batch(rt.alloc(), &mut collector_at_last(rt.alloc(), 2)?)?);
     Ok(())
 }
 
-/// Whether a collector takes twenty batches of task 0, and its end.
+/// Whether a collector accepts twenty batches of task 0 and its end.
 fn takes_twenty(alloc: Global, collector: &mut Collector) -> Result<bool, AllocError> {
     for number in 0..20 {
         if !takes(alloc, collector, Batch(0, number, &[(9, 9), (0, 0)]))? {
@@ -286,7 +286,7 @@ fn are_forty(pairs: &[(u32, u32)]) -> bool {
         && pairs.iter().skip(20).all(|pair| *pair == (9, 9))
 }
 
-/// Whether a collector has taken 21 messages, with twenty pairs of each of two kinds.
+/// Whether a collector has accepted 21 messages, with twenty pairs of each of two kinds.
 fn has_forty(collector: Collector) -> bool {
     let is_whole = collector.taken().len() == 21;
     match collector.finish() {
@@ -295,7 +295,7 @@ fn has_forty(collector: Collector) -> bool {
     }
 }
 
-/// Whether a collector takes twenty batches, and has their pairs.
+/// Whether a collector accepts twenty batches, and has their pairs.
 fn grows(alloc: Global) -> Result<bool, AllocError> {
     let mut collector = collector_at_last(alloc, 1)?;
     let are_taken = takes_twenty(alloc, &mut collector)?;
@@ -308,12 +308,12 @@ fn collector_growths(rt: HostRuntime) -> Result<(), Fail> {
     Ok(())
 }
 
-/// Whether a fault shows as this text.
+/// Whether a fault is displayed as this text.
 fn shows(alloc: Global, fault: &impl Display, text: &str) -> Result<bool, AllocError> {
     Ok(format!(in alloc; "{fault}")?.as_str() == text)
 }
 
-/// Refusals, and what they show as.
+/// Refusals, and their displayed texts.
 const REFUSALS: &[(Refusal, &str)] = &[
     (Refusal::Stranger, "the task isn't one of the collector's"),
     (Refusal::AfterEnd, "the task has ended"),

@@ -1,4 +1,4 @@
-//! A full outlet: 64 messages wait without a take, and the next one is through once one was taken.
+//! A full outlet: it holds 64 messages, and a further one is put only after one was taken.
 
 ghost use Rattle.std.specs.Prelude.{◌≡◌, false};
 ghost use Rattle.deliver_core.specs.Byes.{is_bye};
@@ -13,13 +13,13 @@ use std::test::Fail;
 use std::thread;
 use std::thread::Threads;
 
-/// How many messages may wait in an outlet.
+/// The capacity of an outlet, in messages.
 const ROOM: u64 = 64;
 
-/// How often it is seen that the message after these waits.
+/// The number of checks that the message after these waits.
 const LOOKS: u32 = 20_000;
 
-/// How far the thread that puts one more has come: 0 at first, and then one of these.
+/// The stage of the thread that puts one more message: 0 at first, and then one of these.
 const BEGUN: u64 = 1;
 
 const THROUGH: u64 = 2;
@@ -36,7 +36,7 @@ fn end(count: u64) -> Message
     }
 }
 
-/// Puts the ends 0 to 63, each of which has room.
+/// Puts the ends 0 to 63, for which there is room.
 fn fill<R: Wait>(rt: &R, outlet: &Outlet, port: &mut Port)
     requires port { IsOpenPort outlet.now port.old }
     requires index { index_of port.old ≡ 0 }
@@ -48,7 +48,7 @@ fn fill<R: Wait>(rt: &R, outlet: &Outlet, port: &mut Port)
     }
 }
 
-/// Puts one end more, and notes when it begins and when it is through.
+/// Puts one more end, and records when it starts and when it is done.
 fn put_one_more<R: Wait>(rt: &R, outlet: &Outlet, mut port: Port, stage: &AtomicU64)
     requires port { IsOpenPort outlet.now port }
     requires index { index_of port ≡ 0 }
@@ -58,7 +58,7 @@ fn put_one_more<R: Wait>(rt: &R, outlet: &Outlet, mut port: Port, stage: &Atomic
     stage.store(THROUGH, Ordering::SeqCst);
 }
 
-/// Waits until the other thread has come to this stage.
+/// Waits until the other thread has reached this stage.
 fn await_stage<R: Wait>(rt: &R, stage: &AtomicU64, wanted: u64) {
     for _ in rt.forever() {
         if stage.load(Ordering::SeqCst) >= wanted {
@@ -68,7 +68,7 @@ fn await_stage<R: Wait>(rt: &R, stage: &AtomicU64, wanted: u64) {
     }
 }
 
-/// Whether the other thread isn't through, however often one looks.
+/// Whether the other thread never gets through while it is checked.
 fn is_waiting(stage: &AtomicU64) -> bool {
     for _ in 0..LOOKS {
         if stage.load(Ordering::SeqCst) != BEGUN {
@@ -91,8 +91,8 @@ fn takes_from<R: Wait>(rt: &R, outlet: &Outlet, tap: &mut Tap, first: u64) -> bo
     outlet.take(rt, tap).is_none()
 }
 
-/// Takes all ends, the first of which lets the last one through, and says whether it waited for
-/// that and all have come.
+/// Takes all ends, the first of which lets the last one through. Returns whether that one waited
+/// and all were taken.
 fn takes_all<R: Wait>(rt: &R, outlet: &Outlet, mut tap: Tap, stage: &AtomicU64) -> bool
     requires { IsTapOf outlet.now tap }
 {
@@ -103,8 +103,8 @@ fn takes_all<R: Wait>(rt: &R, outlet: &Outlet, mut tap: Tap, stage: &AtomicU64) 
     has_waited && first == Some(end(0)) && takes_from(rt, outlet, &mut tap, 1)
 }
 
-/// Fills the outlet, then puts in one thread and takes in another, and says whether all is taken
-/// as it was put.
+/// Fills the outlet, then puts in one thread and takes in another, and returns whether all messages
+/// are taken as they were put.
 fn runs<R: Threads + Wait + Sync>(rt: &R, outlet: &Outlet, mut port: Port, tap: Tap) -> bool
     requires port { IsFreshPort outlet.now port }
     requires index { index_of port ≡ 0 }

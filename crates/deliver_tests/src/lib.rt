@@ -1,5 +1,5 @@
-//! Tests of `deliver_core` and `pair_core` from outside: worked examples, options, growths that
-//! are refused, and threads.
+//! Tests of `deliver_core` and `pair_core` from outside: worked examples, options, refused
+//! allocations, and threads.
 #![tactic(auto)]
 
 #[cfg(test)]

@@ -32,14 +32,14 @@ fn option_texts(rt: HostRuntime) -> Result<(), Fail> {
     Ok(())
 }
 
-/// What the text of a fault has before a limit, and the limit.
+/// Faults of options, the text before a limit, and the limit.
 const LIMITS: &[(OptionFault, &str, u32)] = &[
     (OptionFault::Workers, "--workers must be 1 to", MAX_WORKERS),
     (OptionFault::Batch, "--batch must be 1 to", MAX_BATCH),
     (OptionFault::Cut, "--cut must be 0 to", MAX_CUT as u32),
 ];
 
-/// Whether the text of a fault is this, followed by this limit.
+/// Whether the text of a fault is this text followed by this limit.
 fn tells(alloc: Global, fault: OptionFault, front: &str, limit: u32) -> Result<bool, AllocError> {
     Ok(format!(in alloc; "{front} {limit}")?.as_str() == fault.text())
 }

@@ -1,4 +1,4 @@
-//! Rows of the outlet, its growths, and sixteen ports at once.
+//! Rows of the outlet, its allocations, and sixteen ports at once.
 
 ghost use Rattle.std.specs.Prelude.{◌≡◌, ◌≤◌, true, false, IfSome, IfOk, All};
 ghost use Rattle.deliver_core.specs.Byes.{is_bye};
@@ -37,7 +37,7 @@ fn batch(alloc: Global, port: u32, number: u64) -> Result<Message, AllocError>
     })
 }
 
-/// The end of task `port`, which had these many batches.
+/// The end of task `port`, with this number of batches.
 fn end(port: u32, batches: u64) -> Message
     ensures port { result.port ≡ port }
     ensures body { is_bye result ≡ false }
@@ -49,7 +49,7 @@ fn end(port: u32, batches: u64) -> Message
     }
 }
 
-/// Whether this is what is taken next.
+/// Whether these messages are taken next, in this order; `None` for none waiting.
 fn takes<R: Wait>(rt: &R, outlet: &Outlet, tap: &mut Tap, wanted: &[Option<Message>]) -> bool
     requires { IsTapOf outlet.now tap.old }
 {
@@ -61,7 +61,7 @@ fn takes<R: Wait>(rt: &R, outlet: &Outlet, tap: &mut Tap, wanted: &[Option<Messa
     true
 }
 
-/// Puts these many batches of the port's own task, their end and the port's Bye. Each fourth port
+/// Puts `batches` batches of the port's own task, their end and the port's Bye. Every fourth port
 /// is slow.
 fn put_all<R: Wait + Clock>(
     rt: &R,
@@ -89,7 +89,7 @@ fn put_all<R: Wait + Clock>(
     port
 }
 
-/// Whether a message is the next of its port, of which so many were taken.
+/// Whether a message is the next of its port, of which `taken` messages were taken.
 fn is_next(message: &Message, taken: u64, batches: u64) -> bool {
     match &message.body {
         Body::Batch(number, pairs) => {
@@ -100,7 +100,8 @@ fn is_next(message: &Message, taken: u64, batches: u64) -> bool {
     }
 }
 
-/// Takes the messages of each port, in order and whole, until all ports have said bye.
+/// Takes the messages of all ports until each has said bye, and checks that each port's messages
+/// come whole and in order.
 fn take_all<R: Wait + Abort>(
     rt: &R,
     outlet: &Outlet,
@@ -133,7 +134,7 @@ fn take_all<R: Wait + Abort>(
     tap
 }
 
-/// Meets a port, twice, and says whether it stays as it is and nothing more is taken.
+/// Meets a port twice, and returns whether it stays the same and nothing more is taken.
 fn is_met<R: Wait>(rt: &R, outlet: &Outlet, tap: &mut Tap, port: Port) -> bool
     requires tap { IsTapOf outlet.now tap.old }
     requires port { IsEndedPort outlet.now port }
@@ -147,7 +148,7 @@ fn is_met<R: Wait>(rt: &R, outlet: &Outlet, tap: &mut Tap, port: Port) -> bool
     is_first_none && is_same && outlet.take(rt, tap).is_none()
 }
 
-/// Whether each port is met, twice.
+/// Whether each port is met twice.
 fn are_met<R: Wait>(rt: &R, outlet: &Outlet, tap: &mut Tap, mut ports: Vec<Port>) -> bool
     requires tap { IsTapOf outlet.now tap.old }
     requires ports { All (IsEndedPort outlet.now) ports.items }
@@ -202,7 +203,7 @@ fn exchange<R: Threads + Wait + Clock + Abort + Sync>(
     Ok(())
 }
 
-/// The batch, made again where memory was refused once.
+/// The batch, made again if an allocation fails.
 fn batch_at_last(alloc: Global, port: u32, number: u64) -> Result<Message, AllocError>
     ensures port { IfOk result (λ m. m.port ≡ port) }
     ensures body { IfOk result (λ m. is_bye m ≡ false) }
@@ -213,7 +214,7 @@ fn batch_at_last(alloc: Global, port: u32, number: u64) -> Result<Message, Alloc
     }
 }
 
-/// Puts a batch and a Bye at one port and an end at another, and says whether the first alone has
+/// Puts a batch and a Bye at one port and an end at another, and returns whether only the first has
 /// said bye.
 fn put_at_two<R: Wait>(
     rt: &R,
@@ -232,7 +233,7 @@ fn put_at_two<R: Wait>(
     Ok(zero.said_bye() && !one.said_bye())
 }
 
-/// Whether these are taken, in the order in which they were put, and then nothing.
+/// Whether these messages are taken, in the order in which they were put, and then nothing.
 fn takes_of_two<R: Wait>(
     rt: &R,
     alloc: Global,
@@ -255,7 +256,7 @@ fn takes_of_two<R: Wait>(
     ))
 }
 
-/// Whether the messages of two ports, 0 and 1, are taken as they were put; none without memory.
+/// Whether the messages of the ports 0 and 1 are taken as they were put; `None` without memory.
 fn passes_on<R: Wait>(
     rt: &R,
     alloc: Global,
@@ -281,7 +282,7 @@ fn board_and_outlet(rt: HostRuntime) -> Result<(), Fail> {
     Ok(())
 }
 
-/// An outlet, made again where memory was refused once.
+/// An outlet, made again if an allocation fails.
 fn outlet_at_last(alloc: Global, ports: u32) -> Result<(Outlet, Vec<Port>, Tap), AllocError>
     requires ports { (1 ≤ ports) × (ports ≤ MAX_WORKERS) }
     ensures fresh { IfOk result (λ r. All (IsFreshPort r.0) r.1.items) }
@@ -293,7 +294,7 @@ fn outlet_at_last(alloc: Global, ports: u32) -> Result<(Outlet, Vec<Port>, Tap),
     }
 }
 
-/// Run with each allocation failing in turn, it ends as with ample memory.
+/// Passes with each allocation failing in turn.
 #[test]
 fn refused_6(rt: HostRuntime) -> Result<(), Fail> {
     let (outlet, ports, tap) = outlet_at_last(rt.alloc(), 2)?;

@@ -1,4 +1,4 @@
-//! Pairs of any two numbers, which `pair_core` puts in order.
+//! Pairs of any two numbers, sorted by `pair_core`.
 
 use pair_core::{sort_pairs, sort_pairs_by_threads};
 use std::test::Fail;
@@ -21,7 +21,7 @@ const ASCENDING: [(u32, u32); 6] = [
     (u32::MAX, u32::MAX),
 ];
 
-/// The first number decides, and the second where the first ones are the same.
+/// Pairs are ordered by the first number, and by the second if the first ones are equal.
 #[test]
 fn pairs_ascend(rt: HostRuntime) -> Result<(), Fail> {
     let mut alone = MIXED;

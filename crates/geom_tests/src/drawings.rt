@@ -1,11 +1,11 @@
-//! Lines and rings with points along them, beside a plain reading and what they were made of.
+//! Lines and rings with points along them, compared with a plain reading and their construction.
 
 use crate::plain::{Corners, Point, line, ring};
 use crate::readings::corners;
 use std::alloc::{AllocError, Global};
 use wkt_core::WktFault;
 
-/// The points round the rectangle from (0, 0) to (3, 2), and whether each is a corner.
+/// The points around the rectangle from (0, 0) to (3, 2), and whether each is a corner.
 const ROUND: [(Point, bool); 10] = [
     ((0, 0), true),
     ((1, 0), false),
@@ -19,7 +19,7 @@ const ROUND: [(Point, bool); 10] = [
     ((0, 1), false),
 ];
 
-/// What a text of these points is read as.
+/// The shape of a text of these points.
 fn drawn(
     alloc: Global,
     opening: &str,
@@ -37,7 +37,7 @@ fn drawn(
     Ok(corners(text.as_bytes()).ok())
 }
 
-/// Five points of a grid of six, by the digits of a number to base six.
+/// Five points of a grid of six, by the digits of a number in base six.
 fn five_points(alloc: Global, number: i64) -> Result<Vec<Point>, AllocError> {
     let mut points = Vec::new(alloc);
     let mut rest = number;
@@ -62,7 +62,7 @@ fn five_points_of_six(rt: HostRuntime) -> Result<(), AllocError> {
     Ok(())
 }
 
-/// The corners, and those of the other points that the mask has, with the point at one place twice.
+/// The corners and the other points selected by the mask, with the point at one index repeated.
 fn some_points(alloc: Global, mask: u32, doubled: usize) -> Result<Vec<Point>, AllocError> {
     let mut points = Vec::new(alloc);
     let mut rest = mask;
@@ -80,7 +80,7 @@ fn some_points(alloc: Global, mask: u32, doubled: usize) -> Result<Vec<Point>, A
     Ok(points)
 }
 
-/// The ring of these points from one place on.
+/// The ring of these points from one index on.
 fn begun_at(alloc: Global, points: &[Point], place: usize) -> Result<Vec<Point>, AllocError> {
     let mut ring = Vec::new(alloc);
     ring.extend(points.iter().copied().skip(place))?;
@@ -90,8 +90,8 @@ fn begun_at(alloc: Global, points: &[Point], place: usize) -> Result<Vec<Point>,
     Ok(ring)
 }
 
-/// Whether the ring is read as the rectangle in both directions, and as the plain reading says with
-/// two points exchanged.
+/// Whether the ring is read as the rectangle in both directions, and, with two points exchanged,
+/// the same as by the plain reading.
 fn is_round(alloc: Global, points: &mut [Point]) -> Result<bool, AllocError> {
     let forwards = drawn(alloc, "POLYGON((", points, "))")?;
     points.reverse();

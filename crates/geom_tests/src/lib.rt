@@ -1,6 +1,6 @@
-//! What no clause of `geom_core`, `relation_core` and `wkt_core` says: worked examples, readings and
-//! spellings, texts of any length, and plain scans over cells written apart from their code. A crate
-//! of its own, since a crate with tests is proved twice.
+//! Tests of what no clause of `geom_core`, `relation_core` and `wkt_core` states: worked examples,
+//! reading and printing, texts of any length, and plain scans over cells that are independent of
+//! the code. The crate is separate, since a crate with tests is proved twice.
 #![tactic(auto)]
 
 #[cfg(test)]

@@ -1,5 +1,4 @@
-//! Texts of a million digits, before and behind the dot, and of thousands of points, and a ring of
-//! as many.
+//! Texts of a million digits, before and after the dot, and of thousands of points, also in a ring.
 
 use crate::readings::corners;
 use std::alloc::AllocError;

@@ -1,4 +1,4 @@
-//! How masks and relations are read, and which relations a join may use.
+//! Reading masks and relations, and the relations that a join may use.
 
 use geom_core::Shape;
 use relation_core::{AllowsDisjoint, JoinRelation, Mask, MaskFault, Relation, relate};
@@ -44,7 +44,7 @@ fn mask_readings(rt: HostRuntime) -> Result<(), Fail> {
     Ok(())
 }
 
-/// Relations, the dimensions of two shapes, and the masks for these, one behind the other.
+/// Relations, the dimensions of two shapes, and the masks for these, concatenated.
 const MASKS: &[(Relation, u8, u8, &[u8])] = &[
     (Relation::Disjoint, 1, 2, b"FF*FF****"),
     (Relation::Touches, 0, 0, b""),
@@ -94,12 +94,12 @@ fn each_name_and_each_letter(rt: HostRuntime) {
     assert!(rt; Mask::default().text() == *b"*********");
 }
 
-/// Whether a fault shows as this text.
+/// Whether a fault is displayed as this text.
 fn shows(alloc: Global, fault: &impl Display, text: &str) -> Result<bool, AllocError> {
     Ok(format!(in alloc; "{fault}")?.as_str() == text)
 }
 
-/// Faults of masks, and what they show as.
+/// Faults of masks, and their displayed texts.
 const MASK_FAULTS: &[(MaskFault, &str)] = &[
     (MaskFault::Length, "not a name or a mask of nine letters"),
     (MaskFault::Letter(0), "bad letter at place 0"),
@@ -109,7 +109,7 @@ const MASK_FAULTS: &[(MaskFault, &str)] = &[
     ),
 ];
 
-/// Faults of geometries, and what they show as.
+/// Faults of geometries, and their displayed texts.
 const WKT_FAULTS: &[(WktFault, &str)] = &[
     (WktFault::Text, "not a geometry text"),
     (WktFault::Number, "number not whole or out of range"),

@@ -1,4 +1,4 @@
-//! The matrix of two shapes on worked examples, and the relations that hold for it.
+//! The matrix of two shapes for worked examples, and the relations that hold for it.
 
 use geom_core::Shape;
 use relation_core::Relation::{Contains, Crosses, Equals, Intersects, Overlaps, Touches, Within};
@@ -15,7 +15,8 @@ fn shape(rt: &impl Abort, [x1, y1, x2, y2]: Corners) -> Shape {
     Shape::new(x1, y1, x2, y2).expect(rt, "corners in order and in range")
 }
 
-/// Two shapes have this matrix; the first relations hold for them, and the last ones don't.
+/// Checks the matrix of two shapes; the relations of `hold` hold for them, and those of `fail`
+/// don't.
 fn check(
     rt: &impl Abort,
     shapes: [Corners; 2],

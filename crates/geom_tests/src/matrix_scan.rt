@@ -1,4 +1,4 @@
-//! The matrix of all pairs of shapes with corners from 0 to 3, beside a scan over every cell.
+//! The matrix of all pairs of shapes with corners from 0 to 3, compared with a scan over all cells.
 
 ghost use Rattle.std.specs.Prelude.{◌≡◌, ◌+◌, ◌*◌, ◌<◌};
 
@@ -37,7 +37,7 @@ fn is_inner(lo: u8, hi: u8, at: u32) -> bool {
     }
 }
 
-/// 0 in the interior, 1 on the boundary, 2 in the exterior.
+/// The part of a cell: 0 for the interior, 1 for the boundary, 2 for the exterior.
 pub(crate) fn part_at(shape: &Corners, u: u32, v: u32) -> usize
     ensures { result < 3 }
 {
@@ -50,7 +50,7 @@ pub(crate) fn part_at(shape: &Corners, u: u32, v: u32) -> usize
     }
 }
 
-/// The letter of a cell's dimension, the number of its gaps.
+/// The letter of a cell's dimension, which is its number of gaps.
 fn letter_at(u: u32, v: u32) -> u8 {
     match (u % 2, v % 2) {
         (0, 0) => b'2',
@@ -59,7 +59,7 @@ fn letter_at(u: u32, v: u32) -> u8 {
     }
 }
 
-/// The nine letters, from every cell of a grid that has all lines and the gaps beside them.
+/// The nine letters, computed from every cell of a grid with all lines and the gaps beside them.
 fn scanned(a: &Corners, b: &Corners) -> [u8; 9] {
     let mut text = *b"FFFFFFFFF";
     for cell in 0..PLACES * PLACES {

@@ -1,4 +1,4 @@
-//! A plain reading of lists of points, which looks at a whole list and not along it.
+//! A plain reading of lists of points, which examines a list as a whole.
 
 use std::alloc::{AllocError, Global};
 use std::cmp::Ordering;
@@ -8,7 +8,7 @@ pub(crate) type Point = (i64, i64);
 
 pub(crate) type Corners = (i64, i64, i64, i64);
 
-/// How the second point lies from the first along each axis.
+/// The direction from the first point to the second along each axis.
 fn heading(a: Point, b: Point) -> (Ordering, Ordering) {
     (a.0.cmp(&b.0), a.1.cmp(&b.1))
 }
@@ -18,7 +18,7 @@ fn is_step(a: Point, b: Point) -> bool {
     (a.0 == b.0) != (a.1 == b.1)
 }
 
-/// The points but for each that is equal to the one before it, which is `before` for the first.
+/// The points without those equal to the point before, which is `before` for the first.
 fn without_repeats(
     alloc: Global,
     mut before: Option<Point>,
@@ -34,7 +34,7 @@ fn without_repeats(
     Ok(kept)
 }
 
-/// The points of a cycle at which the way doesn't go straight on.
+/// The points of a cycle at which the direction changes.
 fn turns(alloc: Global, cycle: &[Point]) -> Result<Vec<Point>, AllocError> {
     let mut kept = Vec::new(alloc);
     let mut before = cycle.last().copied().unwrap_or((0, 0));
@@ -49,7 +49,7 @@ fn turns(alloc: Global, cycle: &[Point]) -> Result<Vec<Point>, AllocError> {
     Ok(kept)
 }
 
-/// Whether each point lies in the same way from the one before it.
+/// Whether all steps between consecutive points have the same direction.
 fn goes_straight(points: &[Point]) -> bool {
     let mut before: Option<Point> = None;
     let mut way: Option<(Ordering, Ordering)> = None;
@@ -64,12 +64,12 @@ fn goes_straight(points: &[Point]) -> bool {
     true
 }
 
-/// The smallest shape with both points.
+/// The smallest shape that contains both points.
 fn spanned(a: Point, b: Point) -> Corners {
     (a.0.min(b.0), a.1.min(b.1), a.0.max(b.0), a.1.max(b.1))
 }
 
-/// The line that the points draw.
+/// The line that the points form.
 pub(crate) fn line(alloc: Global, points: &[Point]) -> Result<Option<Corners>, AllocError> {
     let kept = without_repeats(alloc, None, points)?;
     match (kept.first(), kept.last()) {
@@ -80,7 +80,7 @@ pub(crate) fn line(alloc: Global, points: &[Point]) -> Result<Option<Corners>, A
     }
 }
 
-/// The rectangle that has these corners, in order round it.
+/// The rectangle that has these corners, in order around it.
 fn rectangle(corners: &[Point]) -> Option<Corners> {
     match corners {
         [a, b, c, d] => {
@@ -92,7 +92,7 @@ fn rectangle(corners: &[Point]) -> Option<Corners> {
     }
 }
 
-/// The rectangle whose ring the points draw.
+/// The rectangle whose ring the points form.
 pub(crate) fn ring(alloc: Global, points: &[Point]) -> Result<Option<Corners>, AllocError> {
     match points {
         [first, .., last] if first == last => {

@@ -1,4 +1,4 @@
-//! Texts read, and their shapes printed.
+//! Reading texts and printing their shapes.
 
 use std::alloc::{AllocError, Global};
 use wkt_core::{Scale, WktFault, migration_law, one_shape_law, print, read, widened_law};
@@ -11,12 +11,12 @@ pub(crate) fn corners_at(text: &[u8], scale: Scale) -> Result<(i64, i64, i64, i6
     }
 }
 
-/// The corners of the shape that a text spells at a scale of no decimals, or its fault.
+/// The corners of the shape that a text spells at scale 0, or its fault.
 pub(crate) fn corners(text: &[u8]) -> Result<(i64, i64, i64, i64), WktFault> {
     corners_at(text, Scale::new(0).unwrap())
 }
 
-/// What is printed of the shape that a text spells at a scale, or nothing.
+/// The canonical text of the shape that a text spells at a scale; empty if it spells none.
 pub(crate) fn reprinted_at(alloc: Global, text: &[u8], scale: Scale) -> Result<String, AllocError> {
     match read(text, scale) {
         Ok(shape) => print(alloc, &shape, scale),
@@ -24,12 +24,12 @@ pub(crate) fn reprinted_at(alloc: Global, text: &[u8], scale: Scale) -> Result<S
     }
 }
 
-/// What is printed of the shape that a text spells at a scale of no decimals, or nothing.
+/// The canonical text of the shape that a text spells at scale 0; empty if it spells none.
 fn reprinted(alloc: Global, text: &[u8]) -> Result<String, AllocError> {
     reprinted_at(alloc, text, Scale::new(0).unwrap())
 }
 
-/// Texts, the corners of their shapes, and how these are printed.
+/// Texts, the corners of their shapes, and the canonical texts of these.
 const SHAPES: &[(&[u8], (i64, i64, i64, i64), &str)] = &[
     (b"POINT (1.000 -0)", (1, 0, 1, 0), "POINT (1 0)"),
     (b" Point(+007. 2 ) ", (7, 2, 7, 2), "POINT (7 2)"),
@@ -82,7 +82,7 @@ fn wkt_readings(rt: HostRuntime) -> Result<(), AllocError> {
     Ok(())
 }
 
-/// What is printed of the shape that a text spells, again where memory was refused.
+/// The canonical text of the shape that a text spells, printed again if an allocation fails.
 fn reprinted_at_last(alloc: Global, text: &[u8]) -> Result<String, AllocError> {
     match reprinted(alloc, text) {
         Ok(printed) => Ok(printed),
@@ -90,7 +90,7 @@ fn reprinted_at_last(alloc: Global, text: &[u8]) -> Result<String, AllocError> {
     }
 }
 
-/// Run with each allocation failing in turn, it ends as with ample memory.
+/// Passes with each allocation failing in turn.
 #[test]
 fn refused_6(rt: HostRuntime) -> Result<(), AllocError> {
     for &(text, _, canonical) in SHAPES {

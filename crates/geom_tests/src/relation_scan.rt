@@ -1,20 +1,20 @@
-//! The eight named relations of all pairs of shapes with corners from 0 to 3, beside what a scan
-//! over every cell says of the two sets.
+//! The eight named relations of all pairs of shapes with corners from 0 to 3, compared with a scan
+//! over all cells.
 
 use crate::matrix_scan::{Corners, PLACES, all_corners, part_at, shape};
 use relation_core::{JoinRelation, Relation};
 use std::test::Fail;
 
-/// What two sets of cells have in common.
+/// The common cells of two sets.
 #[derive(Clone, Copy)]
 struct Common {
     /// Some cell is in both.
     meet: bool,
-    /// The greatest dimension of a cell that is inner to both.
+    /// The greatest dimension of a cell in the interiors of both.
     inner: Option<u32>,
-    /// Some cell of the first isn't in the second.
+    /// Some cell of the first is not in the second.
     first_leaves: bool,
-    /// Some cell of the second isn't in the first.
+    /// Some cell of the second is not in the first.
     second_leaves: bool,
 }
 
@@ -51,7 +51,7 @@ fn dim(c: &Corners) -> u32 {
     u32::from(c.x1 != c.x2) + u32::from(c.y1 != c.y2)
 }
 
-/// Each named relation, and whether it holds: as the standard says it of two sets.
+/// Each named relation, and whether it holds, by the standard's definitions for two sets.
 fn expected(a: &Corners, b: &Corners) -> [(Relation, bool); 8] {
     let Common {
         meet,

@@ -1,4 +1,4 @@
-//! Texts at scales of no, two and six decimals, and the greatest area.
+//! Texts at scales of zero, two and six decimals, and the greatest area.
 
 use crate::readings::{corners, corners_at, reprinted_at};
 use geom_core::Shape;

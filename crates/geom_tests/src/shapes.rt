@@ -1,4 +1,4 @@
-//! Each public call on shapes and matrices once, by hand.
+//! Each public call on shapes and matrices once, with expected values computed by hand.
 
 use geom_core::{LIMIT, Shape};
 use std::process::Abort;

@@ -1,5 +1,5 @@
-//! Plans and rows of tasks: whichever growth is refused, the same call is done with memory, and
-//! gives what it would have.
+//! Plans and rows of tasks: whichever allocation fails, the same call with memory then has the same
+//! result as without the failure.
 
 use crate::descent_rows::are_diagonal;
 use descent_core::{Plan, row};
@@ -8,7 +8,7 @@ use rtree_core::RTree;
 use std::alloc::{AllocError, Global};
 use test_data::on_packed;
 
-/// The plan of two trees, made again where memory was refused.
+/// The plan of two trees, made again if an allocation fails.
 fn plan_at_last<'a>(
     alloc: Global,
     left: &'a RTree,
@@ -21,7 +21,7 @@ fn plan_at_last<'a>(
     }
 }
 
-/// The row of a task, made again where memory was refused; none without such a task.
+/// The row of a task, made again if an allocation fails, or `None` without such a task.
 fn row_at_last(
     alloc: Global,
     plan: &Plan<'_>,
@@ -38,7 +38,7 @@ fn row_at_last(
     }
 }
 
-/// Whether a task's row is that of equal numbers between these ends.
+/// Whether a task's row has exactly the pairs of equal numbers between these ends.
 fn has_row(alloc: Global, plan: &Plan<'_>, k: u32, relation: Relation, ends: (u32, u32)) -> bool {
     row_at_last(alloc, plan, k, relation).is_some_and(|pairs| are_diagonal(&pairs, ends))
 }
@@ -65,7 +65,7 @@ fn refused_4(rt: HostRuntime) {
     assert!(rt; seen == Ok(true));
 }
 
-/// Whether the plans of two trees have so many tasks, by their cuts.
+/// Whether the plans of two trees at several cuts have the expected numbers of tasks.
 fn plans(alloc: Global, left: &RTree, right: &RTree) -> bool {
     for (cut, count) in [(0, 1), (1, 4), (2, 169), (8, 169)] {
         let Ok(plan) = plan_at_last(alloc, left, right, cut) else {
@@ -90,7 +90,7 @@ fn plan_growths(rt: HostRuntime) {
     assert!(rt; seen == Ok(true));
 }
 
-/// Whether these are the pairs of two times a hundred numbers, by their count and ends.
+/// Whether these are the 10,000 pairs of two sets of a hundred numbers, by their count and ends.
 fn are_ten_thousand(pairs: &[(u32, u32)]) -> bool {
     pairs.len() == 10_000 && pairs.first() == Some(&(0, 0)) && pairs.last() == Some(&(99, 99))
 }

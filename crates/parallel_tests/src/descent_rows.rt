@@ -1,4 +1,4 @@
-//! The worked rows of plans and of the rows of their tasks.
+//! Worked rows of plans and of their tasks.
 
 use descent_core::{Plan, row};
 use relation_core::{JoinRelation, Relation};
@@ -6,7 +6,7 @@ use rtree_core::RTree;
 use std::alloc::Global;
 use test_data::on_packed;
 
-/// Whether two packed trees of points are seen so.
+/// The result of `see` on two packed trees of points, false if they can't be made.
 fn sees<F: FnOnce(&RTree, &RTree) -> bool>(
     alloc: Global,
     left: (u16, u16),
@@ -18,7 +18,7 @@ fn sees<F: FnOnce(&RTree, &RTree) -> bool>(
     on_packed(alloc, left, right, see) == Ok(true)
 }
 
-/// Whether the plan of two trees has so many tasks, for each of the cuts.
+/// Whether the plan of two trees has the expected number of tasks at each of the cuts.
 fn has_tasks(alloc: Global, left: &RTree, right: &RTree, tasks: &[(u8, u32)]) -> bool {
     for (cut, count) in tasks {
         let Ok(plan) = Plan::new(alloc, left, right, *cut) else {
@@ -36,7 +36,7 @@ pub(crate) fn are_diagonal(pairs: &[(u32, u32)], ends: (u32, u32)) -> bool {
     pairs.iter().map(|p| p.0).eq(ends.0..ends.1) && pairs.iter().map(|p| p.1).eq(ends.0..ends.1)
 }
 
-/// The row of a task; none without such a task.
+/// The row of a task, or `None` without such a task.
 fn row_of(alloc: Global, plan: &Plan<'_>, k: u32, relation: Relation) -> Option<Vec<(u32, u32)>> {
     let relation = JoinRelation::new(relation).ok()?;
     if k >= plan.len() {
@@ -50,7 +50,7 @@ fn has_row(alloc: Global, plan: &Plan<'_>, k: u32, relation: Relation, ends: (u3
     row_of(alloc, plan, k, relation).is_some_and(|pairs| are_diagonal(&pairs, ends))
 }
 
-/// Whether the plan of two packed trees of points has so many tasks, for each of the cuts.
+/// Whether the plan of two packed trees of points has the expected number of tasks at each cut.
 fn plans(alloc: Global, left: (u16, u16), right: (u16, u16), tasks: &[(u8, u32)]) -> bool {
     sees(
         alloc,
@@ -92,7 +92,7 @@ fn is_of_leaves(plan: &Plan<'_>) -> bool {
     page.is_leaf() && leaf.is_leaf()
 }
 
-/// Whether the plan of a tree and a leaf has one task of two leaves, and its row.
+/// Whether the plan of a tree and a leaf has one task, of two leaves, with its row.
 fn has_leaf(alloc: Global, left: &RTree, right: &RTree) -> bool {
     let Ok(plan) = Plan::new(alloc, left, right, 1) else {
         return false;

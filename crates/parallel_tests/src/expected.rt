@@ -1,8 +1,8 @@
-//! Messages that are expected, as data.
+//! Expected messages, as data.
 
 use deliver_core::{Body, Message};
 
-/// What a message has to say.
+/// The expected content of a message.
 #[derive(Clone, Copy)]
 pub(crate) enum Expected {
     /// A batch of a task with its number, and the pairs (n, n) of these numbers.
@@ -11,7 +11,7 @@ pub(crate) enum Expected {
     End(u32, u64),
 }
 
-/// Whether a message of port 0 says this.
+/// Whether a message of port 0 has this content.
 pub(crate) fn says(message: &Message, expected: Expected) -> bool {
     let task = match expected {
         Expected::Batch(task, _, _) | Expected::End(task, _) => task,

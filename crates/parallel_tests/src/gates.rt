@@ -1,4 +1,4 @@
-//! That a task is entered at the gate before its row is made.
+//! Whether a task is entered at the gate before its row is made.
 
 use crate::teams::{are_twenty, sees};
 use descent_core::Plan;
@@ -11,8 +11,8 @@ use std::sync::Wait;
 use std::sync::atomic::{AtomicBool, AtomicU64, Ordering};
 use std::thread::Threads;
 
-/// A gate that notes which tasks were entered, by a bit each, and whether one was missed: whether
-/// its row was made first.
+/// A gate that records the tasks entered, as bits, and whether a task's row was made before the
+/// task was entered.
 #[derive(Drop)]
 struct Entries {
     entered: AtomicU64,
@@ -27,13 +27,13 @@ impl Entries {
         }
     }
 
-    /// Whether these tasks were entered, and each before its row was made.
+    /// Whether exactly these tasks were entered, each before its row was made.
     fn were(&self, tasks: u64) -> bool {
         self.entered.load(Ordering::SeqCst) == tasks && !self.missed.load(Ordering::SeqCst)
     }
 }
 
-/// The bit of a task, of which there are a few.
+/// The bit of a task; there are only a few tasks.
 fn bit(task: u32) -> u64 {
     1 << (task % 64)
 }
@@ -44,7 +44,7 @@ impl Gate for Entries {
     }
 }
 
-/// The rows of a plan, which note at a gate where their task wasn't entered.
+/// The rows of a plan, which record at a gate if their task wasn't entered.
 #[derive(Drop)]
 struct Watched<'a, P> {
     rows: &'a P,
@@ -71,7 +71,7 @@ impl<'a, P: Rows> Rows for Watched<'a, P> {
     }
 }
 
-/// Whether so many workers enter each of the three tasks of two trees before they make its row.
+/// Whether `workers` workers enter each of the three tasks of two trees before they make its row.
 fn enter_first<R: Threads + Wait + Sync>(
     rt: &R,
     alloc: Global,
@@ -92,7 +92,7 @@ fn enter_first<R: Threads + Wait + Sync>(
     Some(are_twenty(outcome.pairs()) && gate.were(0b111))
 }
 
-/// Whether one worker does, and two, and more than there are tasks.
+/// Whether this holds for one worker, two, and more than there are tasks.
 fn all_enter_first<R: Threads + Wait + Sync>(
     rt: &R,
     alloc: Global,

@@ -1,5 +1,5 @@
-//! Tests of `descent_core` and `parallel_core` from outside: plans and the rows of their tasks, what
-//! one worker sends, and what several deliver.
+//! Tests of `descent_core` and `parallel_core` from outside: plans and the rows of their tasks, the
+//! messages of one worker, and the deliveries of several.
 #![tactic(auto)]
 
 #[cfg(test)]

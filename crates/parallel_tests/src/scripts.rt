@@ -1,4 +1,5 @@
-//! What one worker sends of the plan of two trees of twenty points at cut 1, which has three tasks.
+//! The messages of one worker for the plan of two trees of twenty points at cut 1, with three
+//! tasks.
 
 ghost use Rattle.std.specs.Prelude.{◌≡◌, ◌≤◌, length, All, IfSome};
 ghost use Rattle.deliver_core.specs.Boards.{fresh_seat};
@@ -55,8 +56,8 @@ fn last_port(outlet: &Outlet, ports: &mut Vec<Port>) -> Option<Port>
     ports.pop()
 }
 
-/// Whether what waits is all of this and then the Bye, or a prefix of it and then the Bye that
-/// tells of refused memory.
+/// Whether the waiting messages are all expected ones and then the Bye, or a prefix of them and
+/// then the Bye for a failed allocation.
 fn waits<R: Wait>(rt: &R, outlet: &Outlet, mut tap: Tap, ok: bool, wanted: &[Expected]) -> bool
     requires { IsTapOf outlet.now tap }
 {
@@ -77,7 +78,7 @@ fn waits<R: Wait>(rt: &R, outlet: &Outlet, mut tap: Tap, ok: bool, wanted: &[Exp
     bye.is_some_and(|m| m.body == Body::Bye(ok)) && outlet.take(rt, &mut tap).is_none()
 }
 
-/// What a worker is given, beside the trees and the gate, and what it has to send.
+/// The inputs of a worker, apart from the trees and the gate, and its expected messages.
 #[derive(Clone, Copy)]
 struct Work {
     relation: Relation,
@@ -85,14 +86,14 @@ struct Work {
     wanted: &'static [Expected],
 }
 
-/// Whether a worker of port 0 has said bye, and drawn three tasks and met the end unless memory was
-/// refused.
+/// Whether a worker of port 0 has said bye, and has drawn three tasks and met the end unless an
+/// allocation failed.
 fn has_worked(worked: &Worked) -> bool {
     let is_drawn = worked.seat.count() == 3 && worked.seat.done();
     worked.port.index() == 0 && worked.port.said_bye() && (is_drawn || !worked.ok)
 }
 
-/// Whether one worker with this seat sends of a plan what it has to; none without memory.
+/// Whether one worker with this seat sends the expected messages for a plan; `None` without memory.
 fn works_at<R: Threads + Wait + Sync>(
     rt: &R,
     alloc: Global,
@@ -115,7 +116,8 @@ fn works_at<R: Threads + Wait + Sync>(
     Some(has_worked(&worked) && waits(rt, &outlet, tap, worked.ok, work.wanted))
 }
 
-/// Whether one worker, on this thread, sends of a plan what it has to; none without memory.
+/// Whether one worker, on this thread, sends the expected messages for a plan; `None` without
+/// memory.
 fn works<R: Threads + Wait + Sync>(
     rt: &R,
     alloc: Global,
@@ -131,7 +133,7 @@ fn works<R: Threads + Wait + Sync>(
     works_at(rt, alloc, plan, &relation, work, gate, &board, seats.pop()?)
 }
 
-/// Whether one worker sends of two trees what it has to; none without memory.
+/// Whether one worker sends the expected messages for two trees; `None` without memory.
 fn sends_of<R: Threads + Wait + Sync>(
     rt: &R,
     alloc: Global,
@@ -148,7 +150,7 @@ fn sends_of<R: Threads + Wait + Sync>(
     )
 }
 
-/// Whether one worker sends of two times twenty points what it has to.
+/// Whether one worker sends the expected messages for two trees of twenty points.
 fn sends<R: Threads + Wait + Sync>(rt: &R, alloc: Global, work: Work, gate: &impl Gate) -> bool {
     let sends = on_packed(alloc, (20, 1), (20, 1), |left, right| {
         sends_of(rt, alloc, (left, right), work, gate)
@@ -156,7 +158,7 @@ fn sends<R: Threads + Wait + Sync>(rt: &R, alloc: Global, work: Work, gate: &imp
     sends == Ok(Some(true))
 }
 
-/// A gate that counts how often it was entered with each of three tasks.
+/// A gate that counts the entries with each of three tasks.
 #[derive(Drop)]
 struct Counts {
     entered: [AtomicU32; 3],

@@ -1,4 +1,4 @@
-//! What several workers deliver together.
+//! The deliveries of several workers.
 
 use deliver_core::{Mark, Outcome};
 use descent_core::Plan;
@@ -13,7 +13,7 @@ use std::thread;
 use std::thread::Threads;
 use test_data::on_packed;
 
-/// What the workers deliver of two trees, by equality; none without memory or threads.
+/// The delivery of the workers for two trees, by equality, or `None` without memory or threads.
 fn delivered<R: Threads + Wait + Sync, G: Gate + Sync>(
     rt: &R,
     alloc: Global,
@@ -31,7 +31,7 @@ fn delivered<R: Threads + Wait + Sync, G: Gate + Sync>(
     run_workers(rt, alloc, &plan, &relation, workers, batch, gate).ok()
 }
 
-/// Whether these are the pairs of two times nine numbers, in order.
+/// Whether these are the 81 pairs of two sets of nine numbers, in order.
 fn are_eighty_one(pairs: &[(u32, u32)]) -> bool {
     pairs.len() == 81
         && pairs
@@ -55,7 +55,7 @@ pub(crate) fn are_twenty(pairs: &[(u32, u32)]) -> bool {
     pairs.len() == 20 && pairs.iter().zip(0..20u32).all(|(pair, i)| *pair == (i, i))
 }
 
-/// A gate that lets nobody on before two have entered, and notes where that never came.
+/// A gate that waits until two workers have entered, and records if that never happened.
 #[derive(Drop)]
 struct Meeting {
     entered: AtomicU32,
@@ -75,8 +75,8 @@ impl Gate for Meeting {
     }
 }
 
-/// What is seen of two packed trees of so many points, this far apart; false where they can't be
-/// made.
+/// The result of `see` on two packed trees of equal numbers of points at equal steps; false if they
+/// can't be made.
 pub(crate) fn sees<F: FnOnce(&RTree, &RTree) -> bool>(
     alloc: Global,
     points: (u16, u16),
@@ -111,7 +111,7 @@ fn delivery_extra(rt: HostRuntime) {
     );
 }
 
-/// Whether so many workers deliver the pairs of two times twenty points.
+/// Whether `workers` workers deliver the pairs of two trees of twenty points.
 fn delivers_twenty<R: Threads + Wait + Sync, G: Gate + Sync>(
     rt: &R,
     alloc: Global,
@@ -123,7 +123,7 @@ fn delivers_twenty<R: Threads + Wait + Sync, G: Gate + Sync>(
     delivered(rt, alloc, trees, 1, workers, batch, gate).is_some_and(|o| are_twenty(o.pairs()))
 }
 
-/// Whether two workers meet at the gate, enter it three times, and deliver all.
+/// Whether two workers meet at the gate, enter it three times, and deliver all pairs.
 fn meets<R: Threads + Wait + Sync>(rt: &R, alloc: Global, left: &RTree, right: &RTree) -> bool {
     let gate = Meeting {
         entered: AtomicU32::new(0),
@@ -146,11 +146,11 @@ fn two_workers_meet(rt: HostRuntime) {
     );
 }
 
-/// How often who is inside a room gives way before it leaves.
+/// The number of times that a worker inside a room yields before it leaves.
 const TURNS: u32 = 20_000;
 
-/// A gate that keeps those who enter inside for some turns, and notes where more are inside than
-/// may be.
+/// A gate that keeps each worker inside for some yields, and records if more workers are inside
+/// than allowed.
 #[derive(Drop)]
 struct Room {
     most: u32,
@@ -170,7 +170,7 @@ impl Gate for Room {
     }
 }
 
-/// Whether of the workers that are asked for at no time more are at work, and they deliver all.
+/// Whether at no time more than `workers` workers are at work, and they deliver all pairs.
 fn are_no_more<R: Threads + Wait + Sync>(
     rt: &R,
     alloc: Global,
@@ -186,7 +186,7 @@ fn are_no_more<R: Threads + Wait + Sync>(
     is_delivered && !gate.overfull.load(Ordering::SeqCst)
 }
 
-/// Whether one worker works alone, and two work as two.
+/// Whether this holds for one worker and for two.
 fn are_few<R: Threads + Wait + Sync>(rt: &R, alloc: Global, left: &RTree, right: &RTree) -> bool {
     [1, 2]
         .iter()
@@ -205,7 +205,7 @@ fn no_more_workers_than_asked_for(rt: HostRuntime) {
     );
 }
 
-/// Whether each of some numbers of workers delivers all.
+/// Whether each of several numbers of workers delivers all pairs.
 fn deliver<R: Threads + Wait + Sync>(rt: &R, alloc: Global, left: &RTree, right: &RTree) -> bool {
     [1, 2, 3, 8, 16].iter().all(|workers| delivers_twenty(
         rt,
@@ -229,7 +229,7 @@ fn any_number_of_workers(rt: HostRuntime) {
     );
 }
 
-/// Whether batches of each size deliver all.
+/// Whether batches of each size deliver all pairs.
 fn deliver_by_each_size<R: Threads + Wait + Sync>(
     rt: &R,
     alloc: Global,

@@ -1,4 +1,4 @@
-//! Geometries by the coordinates of their vertices.
+//! Geometries given by the coordinates of their vertices.
 
 use plane_core::{Geometry, Kind, Vertex};
 use std::alloc::{AllocError, Global};

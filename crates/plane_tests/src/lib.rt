@@ -1,5 +1,5 @@
-//! What no clause of `plane_core` and `arrangement_core` says: worked examples of matrices,
-//! and growths that are refused.
+//! Tests of what no clause of `plane_core` and `arrangement_core` states: worked examples of
+//! matrices, and refused allocations.
 #![tactic(auto)]
 
 #[cfg(test)]

@@ -1,4 +1,4 @@
-//! Matrices of geometries with more edges than are looked at one by one.
+//! Matrices of geometries with more edges than are scanned without a tree.
 
 use arrangement_core::relate;
 use plane_core::{Geometry, Kind, Vertex};
@@ -6,7 +6,7 @@ use std::alloc::Global;
 use std::process::Abort;
 use std::test::Fail;
 
-/// The vertices from one to another in steps of one, the last one left out.
+/// Adds the vertices of a side from a point in steps of one, without the last.
 fn push_side(
     vertices: &mut Vec<Vertex>,
     (x, y): (i64, i64),
@@ -30,7 +30,7 @@ fn one_path(alloc: Global, kind: Kind, vertices: Vec<Vertex>) -> Result<Geometry
     Ok(Geometry::new(kind, ends, vertices).ok_or("no geometry")?)
 }
 
-/// The square of this side whose least corner is (x, y), with a vertex at each whole number.
+/// The square of this side whose least corner is (x, y), with a vertex at each grid point.
 fn square(alloc: Global, x: i64, y: i64, side: i64) -> Result<Geometry, Fail> {
     let (right, top) = (x.wrapping_add(side), y.wrapping_add(side));
     let mut vertices = Vec::new(alloc);
@@ -42,7 +42,7 @@ fn square(alloc: Global, x: i64, y: i64, side: i64) -> Result<Geometry, Fail> {
     one_path(alloc, Kind::Areas, vertices)
 }
 
-/// The two geometries have this matrix, and the other way round its transpose.
+/// Checks the matrix of two geometries, and its transpose for the reverse order.
 fn check(
     rt: &(impl Abort + AllocGlobal),
     a: &Geometry,

@@ -6,7 +6,7 @@ use plane_core::Kind;
 use std::process::Abort;
 use std::test::Fail;
 
-/// Two geometries have this matrix, and the other way round its transpose.
+/// Checks the matrix of two geometries, and its transpose for the reverse order.
 fn check(
     rt: &(impl Abort + AllocGlobal),
     a: Drawn<'_>,

@@ -1,13 +1,13 @@
-//! A matrix with each growth refused in turn.
+//! A matrix with each allocation refused in turn.
 
 use arrangement_core::relate;
 use plane_core::{Geometry, Kind, Vertex};
 use std::alloc::{AllocError, Global};
 
-/// A kind, where each path ends, and the coordinates of all vertices.
+/// A kind, the end of each path, and the coordinates of all vertices.
 type Listed<'a> = (Kind, &'a [u32], &'a [(i64, i64)]);
 
-/// The geometry that is listed, if there is one.
+/// The listed geometry, if it is valid.
 fn geometry(alloc: Global, (kind, ends, all): Listed<'_>) -> Result<Option<Geometry>, AllocError> {
     let mut vertices = Vec::new(alloc);
     for (x, y) in all {
@@ -20,7 +20,7 @@ fn geometry(alloc: Global, (kind, ends, all): Listed<'_>) -> Result<Option<Geome
     Ok(Geometry::new(kind, ends, vertices))
 }
 
-/// The same, made again where memory was refused.
+/// The same, made again if an allocation fails.
 fn geometry_at_last(alloc: Global, listed: Listed<'_>) -> Option<Geometry> {
     for _ in 0..10 {
         if let Ok(made) = geometry(alloc, listed) {
@@ -30,7 +30,7 @@ fn geometry_at_last(alloc: Global, listed: Listed<'_>) -> Option<Geometry> {
     None
 }
 
-/// The matrix of two geometries, made again where memory was refused.
+/// The matrix of two geometries, computed again if an allocation fails.
 fn matrix_at_last(alloc: Global, a: &Geometry, b: &Geometry) -> Option<[u8; 9]> {
     for _ in 0..10 {
         if let Ok(matrix) = relate(alloc, a, b) {
@@ -40,15 +40,15 @@ fn matrix_at_last(alloc: Global, a: &Geometry, b: &Geometry) -> Option<[u8; 9]> 
     None
 }
 
-/// The matrix of two geometries that are listed.
+/// The matrix of two listed geometries.
 fn matrix_of(alloc: Global, first: Listed<'_>, second: Listed<'_>) -> Option<[u8; 9]> {
     let a = geometry_at_last(alloc, first)?;
     let b = geometry_at_last(alloc, second)?;
     matrix_at_last(alloc, &a, &b)
 }
 
-/// Run with each allocation failing in turn, it ends as with ample memory: where it is refused, the
-/// same call gives the same matrix afterwards.
+/// Passes with each allocation failing in turn: after a failure, the same call gives the same
+/// matrix.
 #[test]
 fn refused_matrix(rt: HostRuntime) {
     let first: Listed<'_> = (Kind::Areas, &[4], &[(0, 0), (4, 0), (0, 4), (0, 0)]);

@@ -1,4 +1,4 @@
-//! Pairs of close numbers, of which those stand whose sum is even.
+//! Pairs of close numbers, with the condition that their sum is even.
 
 ghost use Rattle.std.specs.Prelude.{◌≡◌, ◌+◌, ◌<◌, ◌≤◌, All, IfOk, OnOk};
 ghost use Rattle.refine_core.specs.Refinements.{IsPairIn};
@@ -9,7 +9,7 @@ use std::alloc::{AllocError, Global};
 use std::test::Fail;
 use std::thread::Threads;
 
-/// The sum of two close numbers is even. The answer is the sum.
+/// The condition that the sum of two close numbers is even. The answer is the sum.
 struct EvenSum;
 
 impl Condition for EvenSum {
@@ -29,7 +29,7 @@ impl Condition for EvenSum {
     ghost stands_near = { λ condition left right is. is.0 };
 }
 
-/// Of each number below this one the pairs with itself, and with the next and the second next.
+/// The pairs of each number less than `numbers` with itself, the next and the one after that.
 pub(crate) fn close_pairs(alloc: Global, numbers: u32) -> Result<Vec<(u32, u32)>, AllocError>
     requires { numbers < 1_000_000 }
     ensures { IfOk result (λ pairs. All (IsPairIn AreClose) pairs.items) }
@@ -43,7 +43,7 @@ pub(crate) fn close_pairs(alloc: Global, numbers: u32) -> Result<Vec<(u32, u32)>
     Ok(pairs)
 }
 
-/// Adds a pair of close numbers to others.
+/// Adds a pair of close numbers.
 fn push_close(pairs: &mut Vec<(u32, u32)>, left: u32, right: u32) -> Result<(), AllocError>
     requires close { AreClose left right }
     requires others { All (IsPairIn AreClose) pairs.old.items }
@@ -53,8 +53,8 @@ fn push_close(pairs: &mut Vec<(u32, u32)>, left: u32, right: u32) -> Result<(), 
     Ok(())
 }
 
-/// Whether these are the pairs that stand of so many numbers, in order, with their sums: of each
-/// number the pair with itself, and with the second next.
+/// Whether these are the pairs with even sums for `numbers` numbers, in order, with their sums: of
+/// each number the pairs with itself and with the second next.
 fn are_even_sums(refined: &[Refined<u64>], numbers: u32) -> bool {
     refined.len() == 2 * numbers as usize
         && refined.iter().zip(0..u64::MAX).all(|(found, place)| {
@@ -65,7 +65,7 @@ fn are_even_sums(refined: &[Refined<u64>], numbers: u32) -> bool {
         })
 }
 
-/// Whether so many workers refine the close pairs of so many numbers.
+/// Whether `workers` workers refine the close pairs of `numbers` numbers.
 fn refines<R: Threads + Sync>(
     rt: &R,
     alloc: Global,
@@ -98,7 +98,7 @@ fn sixteen_workers(rt: HostRuntime) -> Result<(), Fail> {
     Ok(())
 }
 
-/// Whether sixteen workers refine lists of none, of one and of a few pairs.
+/// Sixteen workers refine lists of no, one and a few pairs.
 #[test]
 fn fewer_pairs_than_workers(rt: HostRuntime) -> Result<(), Fail> {
     let alloc = rt.alloc();

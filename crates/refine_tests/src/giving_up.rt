@@ -1,4 +1,4 @@
-//! Memory that is refused while pairs are decided: there is no list, and no other error.
+//! Allocations that fail while pairs are decided: there is no list, and no other error.
 
 ghost use Rattle.std.specs.Prelude.{◌≡◌};
 ghost use Rattle.refine_tests.specs.Sums.{AreClose, HaveEvenSum};
@@ -8,7 +8,7 @@ use refine_core::{Condition, refine_pairs};
 use std::alloc::{AllocError, Global};
 use std::test::Fail;
 
-/// The sum of two close numbers is even, but memory is refused at pairs of one left number.
+/// The condition of even sums, but allocations fail at pairs of one left number.
 #[derive(Drop)]
 struct RefusedAt(u32);
 

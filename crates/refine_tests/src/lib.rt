@@ -1,5 +1,5 @@
 //! Tests of `refine_core` from outside: lists of numbers refined by one worker and by several,
-//! memory that is refused, and how many workers decide at once.
+//! refused allocations, and the number of workers that decide at once.
 #![tactic(auto)]
 
 #[cfg(test)]

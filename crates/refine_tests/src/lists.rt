@@ -1,4 +1,4 @@
-//! Answers that take memory, with each growth refused in turn.
+//! Answers that take memory, with each allocation refused in turn.
 
 ghost use Rattle.std.specs.Prelude.{◌≡◌, ◌≤◌, ◌∷◌, [], All};
 ghost use Rattle.refine_core.specs.Refinements.{IsPairIn};
@@ -9,7 +9,7 @@ use std::alloc::{AllocError, Global};
 use std::test::Fail;
 use std::thread::Threads;
 
-/// The sum of two close numbers is even. The answer has both, in an allocation of its own.
+/// The condition of even sums. The answer has both numbers, in an allocation of its own.
 struct Both;
 
 impl Condition for Both {
@@ -31,7 +31,7 @@ impl Condition for Both {
     ghost stands_near = { λ condition left right is. is.0 };
 }
 
-/// The pairs that stand, refined again where memory was refused once.
+/// The pairs with even sums, refined again if an allocation fails.
 fn refined_at_last<R: Threads + Sync>(
     rt: &R,
     alloc: Global,
@@ -47,7 +47,7 @@ fn refined_at_last<R: Threads + Sync>(
     }
 }
 
-/// Whether these are the two pairs that stand of four, with their answers.
+/// Whether these are the two of four pairs that have even sums, with their answers.
 fn are_two(refined: &[Refined<Vec<u32>>]) -> bool {
     refined.len() == 2
         && refined[0].pair == (5, 5)
@@ -56,7 +56,7 @@ fn are_two(refined: &[Refined<Vec<u32>>]) -> bool {
         && refined[1].answer.as_slice() == [7, 5].as_slice()
 }
 
-/// Run with each allocation failing in turn, it ends as with ample memory.
+/// Passes with each allocation failing in turn.
 #[test]
 fn refused_by_one_worker(rt: HostRuntime) -> Result<(), Fail> {
     let pairs = [(5, 5), (6, 5), (7, 5), (7, 6)];
@@ -64,7 +64,7 @@ fn refused_by_one_worker(rt: HostRuntime) -> Result<(), Fail> {
     Ok(())
 }
 
-/// Run with each allocation failing in turn, it ends as with ample memory.
+/// Passes with each allocation failing in turn.
 #[test]
 fn refused_by_three_workers(rt: HostRuntime) -> Result<(), Fail> {
     let pairs = [(5, 5), (6, 5), (7, 5), (7, 6)];

@@ -1,4 +1,4 @@
-//! How many workers decide at once.
+//! The number of workers that decide at once.
 
 ghost use Rattle.std.specs.Prelude.{◌≡◌};
 ghost use Rattle.refine_tests.specs.Sums.{AreClose, HaveEvenSum};
@@ -9,11 +9,11 @@ use std::sync::atomic::{AtomicU32, Ordering};
 use std::test::Fail;
 use std::thread;
 
-/// How often a worker looks whether the others have come.
+/// The number of times that a worker checks if the others have come.
 const LOOKS: u32 = 2_000_000;
 
-/// The sum of two close numbers is even. A pair is decided once so many are being decided at the
-/// same time; a worker that waits in vain goes on, and none waits after it.
+/// The condition of even sums. A pair is decided once `wanted` pairs are being decided at the same
+/// time; a worker that waits in vain goes on, and no other waits after that.
 #[derive(Drop)]
 struct Meeting {
     wanted: u32,
@@ -30,7 +30,7 @@ impl Meeting {
         }
     }
 
-    /// Waits until as many have entered as are wanted.
+    /// Waits until `wanted` workers have entered.
     fn enter(&self) {
         self.entered.fetch_add(1, Ordering::SeqCst);
         for _ in 0..LOOKS {
@@ -43,7 +43,7 @@ impl Meeting {
         self.missed.store(1, Ordering::SeqCst);
     }
 
-    /// Whether as many have met as are wanted.
+    /// Whether `wanted` workers have met.
     fn has_met(&self) -> bool {
         self.missed.load(Ordering::SeqCst) == 0
     }

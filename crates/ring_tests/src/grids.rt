@@ -1,10 +1,11 @@
-//! Each two edges of a small grid, beside a count of the points that they share.
+//! Each two edges of a small grid, compared with a count of the points that they share.
 
 use plane_core::{Edge, Vertex};
 use ring_core::meet_properly;
 
-/// Two edges of a grid of 3 by 3 vertices that cross do so at a whole number of these parts of
-/// either, since the cross product of their directions is at most 8.
+/// The number of parts into which an edge is divided. Two edges of a grid of 3 by 3 vertices that
+/// cross do so at a whole number of parts, since the cross product of their directions is at most
+/// 8.
 const PARTS: i64 = 840;
 
 /// A vertex of the grid.
@@ -15,7 +16,7 @@ fn vertex(n: u16) -> Vertex {
     }
 }
 
-/// An edge of the grid, which may be without length.
+/// An edge of the grid, which may have length 0.
 fn grid_edge(n: u16) -> Edge {
     Edge {
         a: vertex(n % 9),
@@ -23,7 +24,7 @@ fn grid_edge(n: u16) -> Edge {
     }
 }
 
-/// A point of the grid, each unit of which has `PARTS` parts.
+/// A point of the grid, in units of 1 / `PARTS`.
 #[derive(Clone, Copy, PartialEq, Eq)]
 struct Spot {
     x: i64,
@@ -37,7 +38,7 @@ fn spot_of(v: &Vertex) -> Spot {
     }
 }
 
-/// The point after so many parts of an edge.
+/// The point after `part` parts of an edge.
 fn along(e: &Edge, part: i64) -> Spot {
     let rest = PARTS.wrapping_sub(part);
     let x = e
@@ -66,7 +67,7 @@ fn is_end(e: &Edge, s: Spot) -> bool {
     s == spot_of(&e.a) || s == spot_of(&e.b)
 }
 
-/// Whether the points of one edge that are on another are one at most, and an end.
+/// Whether two edges share at most one point, which is an end of one of them.
 fn share_an_end_at_most(e: &Edge, f: &Edge) -> bool {
     let mut found: Option<Spot> = None;
     for part in 0..841i64 {
@@ -83,7 +84,7 @@ fn share_an_end_at_most(e: &Edge, f: &Edge) -> bool {
     true
 }
 
-/// The first edge of the grid that is found to meet a given one properly, or not to, by mistake.
+/// The first edge of the grid for which `meet_properly` gives the wrong result, if any.
 fn first_mistake(e: &Edge) -> Option<u16> {
     for n in 0..81u16 {
         let f = grid_edge(n);

@@ -1,5 +1,5 @@
 //! Tests of proper rings from outside: worked examples, all pairs of edges of a small grid, and
-//! refused memory.
+//! refused allocations.
 #![tactic(auto)]
 
 #[cfg(test)]

@@ -1,11 +1,11 @@
-//! Whichever growth is refused, rings are tested as they are with memory once it is asked again.
+//! Whichever allocation fails, the test of rings then has the same result as without the failure.
 
 use crate::zigzags::{edge, zigzag};
 use plane_core::Edge;
 use ring_core::is_proper;
 use std::alloc::Global;
 
-/// The edges, made again where memory was refused.
+/// The edges, made again if an allocation fails.
 fn zigzag_at_last(alloc: Global, last: Edge) -> Option<Vec<Edge>> {
     for _ in 0..10 {
         if let Ok(edges) = zigzag(alloc, 20, last) {
@@ -15,7 +15,7 @@ fn zigzag_at_last(alloc: Global, last: Edge) -> Option<Vec<Edge>> {
     None
 }
 
-/// Whether edges meet properly, asked again where memory was refused.
+/// Whether edges meet properly, tested again if an allocation fails.
 fn is_proper_at_last(alloc: Global, edges: &[Edge]) -> Option<bool> {
     for _ in 0..10 {
         if let Ok(is_proper) = is_proper(alloc, edges) {
@@ -25,7 +25,7 @@ fn is_proper_at_last(alloc: Global, edges: &[Edge]) -> Option<bool> {
     None
 }
 
-/// Whether the edges of a zigzag and one more are found to be proper, or found not to be.
+/// Whether the test of the edges of a zigzag and one more has the expected result.
 fn is_found(alloc: Global, last: Edge, is_proper: bool) -> bool {
     zigzag_at_last(alloc, last).is_some_and(|edges| is_proper_at_last(alloc, &edges)
         == Some(is_proper))

@@ -1,4 +1,4 @@
-//! Worked examples of rings and edges that meet properly, and of such that don't, by name.
+//! Worked examples of rings and edges that meet properly and that don't, by name.
 
 use crate::zigzags::{edge, zigzag};
 use plane_core::{Edge, Geometry, Kind, Vertex};
@@ -25,7 +25,7 @@ fn geometry(alloc: Global, kind: Kind, paths: &[Path<'_>]) -> Result<Geometry, F
     Ok(Geometry::new(kind, ends, vertices).ok_or("no geometry")?)
 }
 
-/// The rings are proper, or they aren't.
+/// Checks whether rings are proper.
 fn check(
     rt: &(impl Abort + AllocGlobal),
     rings: &[Path<'_>],
@@ -36,7 +36,7 @@ fn check(
     Ok(())
 }
 
-/// Two edges meet properly, or they don't, in either order and direction.
+/// Checks whether two edges meet properly, in either order and direction.
 fn check_edges(rt: &impl Abort, e: &Edge, f: &Edge, is_proper: bool) {
     let back = Edge { a: e.b, b: e.a };
     assert!(rt; meet_properly(e, f) == is_proper);
@@ -130,7 +130,7 @@ fn far_edge((a, b): (i64, i64), (c, d): (i64, i64)) -> Option<Edge> {
     })
 }
 
-/// The second edge passes the first one's end at a third of a unit, on either side.
+/// The second edge passes the end of the first at a distance of a third of a unit, on either side.
 #[test]
 fn a_hair_short(rt: HostRuntime) -> Result<(), Fail> {
     let end = 333_333_333_333;
@@ -142,7 +142,8 @@ fn a_hair_short(rt: HostRuntime) -> Result<(), Fail> {
     Ok(())
 }
 
-/// Two edges across the whole plane, which leave one corner and are a unit apart at the other.
+/// Edges across the whole plane: two that start at one corner and are a unit apart at the other,
+/// two that cross, and two on the same line.
 #[test]
 fn whole_plane(rt: HostRuntime) -> Result<(), Fail> {
     let far = 1_000_000_000_000;
@@ -164,7 +165,7 @@ fn edges_without_length(rt: HostRuntime) {
     check_edges(&rt, &e, &edge(1, 2, 1, 2), true);
 }
 
-/// So many edges that they are compared by their boxes.
+/// There are enough edges for a comparison by their boxes.
 #[test]
 fn many_edges(rt: HostRuntime) -> Result<(), Fail> {
     let above = edge(0, 5, 200, 5);
@@ -178,7 +179,7 @@ fn many_edges(rt: HostRuntime) -> Result<(), Fail> {
     Ok(())
 }
 
-/// So many edges that to compare each with each other would take minutes.
+/// There are so many edges that comparing all pairs would take minutes.
 #[test]
 fn long_row(rt: HostRuntime) -> Result<(), Fail> {
     let above = edge(0, 5, 300_000, 5);

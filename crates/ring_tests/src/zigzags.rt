@@ -1,4 +1,4 @@
-//! Edges in a row that rise and fall, with one more.
+//! A zigzag of edges, with one more edge.
 
 use plane_core::{Edge, Vertex};
 use std::alloc::{AllocError, Global};
@@ -12,8 +12,8 @@ pub fn edge(a: i32, b: i32, c: i32, d: i32) -> Edge {
     }
 }
 
-/// The edges from `(0, 0)` to `(1, 1)`, from there to `(2, 0)` and so on, a million at most, and a
-/// given one as the last.
+/// The edges from `(0, 0)` to `(1, 1)`, from there to `(2, 0)` and so on, at most a million, with
+/// `last` as the last one.
 pub fn zigzag(alloc: Global, steps: u32, last: Edge) -> Result<Vec<Edge>, AllocError> {
     let mut edges = Vec::new(alloc);
     for step in 0..steps {

@@ -1,5 +1,5 @@
-//! Tests of the R-tree from outside: the worked rows, refused memory, edits beside a plain
-//! list, how much a window visits.
+//! Tests of the R-tree from outside: worked rows, refused allocations, edits compared with a plain
+//! list, and the number of nodes that a window visits.
 #![tactic(auto)]
 
 #[cfg(test)]

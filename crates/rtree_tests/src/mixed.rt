@@ -1,4 +1,4 @@
-//! A long mixed list of edits of a tree, beside a plain list of its entries.
+//! A long mixed list of edits of a tree, compared with a plain list of its entries.
 
 ghost use Rattle.std.specs.Prelude.{ℕ, ◌+◌, ◌<◌, ◌≤◌, IfOk};
 ghost use Rattle.rtree_core.specs.Nodes.{IsLeaf, IsLawful};
@@ -15,7 +15,7 @@ fn shape(random: &mut Random) -> Result<Shape, Fail> {
     Ok(random.shape().ok_or("a shape")?)
 }
 
-/// A window over all shapes, one far off, two others, and one that covers these; none never comes.
+/// A window over all shapes, one far away, two others, and one that covers these; never `None`.
 fn windows(random: &mut Random) -> Option<[Shape; 5]> {
     let all = Shape::new(-1000, -1000, 2000, 2000)?;
     let far = Shape::new(5000, 5000, 6000, 6000)?;
@@ -23,13 +23,13 @@ fn windows(random: &mut Random) -> Option<[Shape; 5]> {
     Some([all, far, one, two, one.cover(&two)])
 }
 
-/// One of the entries, if there are any.
+/// A random entry of the list, or `None` if there is none.
 fn one_of(random: &mut Random, entries: &[Entry]) -> Option<Entry> {
     let place = random.below(entries.len().max(1));
     entries.get(place).copied()
 }
 
-/// The shape of one of the entries one time in four, or else another.
+/// With probability 1/4 the shape of one of the entries, else another shape.
 fn shape_beside(random: &mut Random, entries: &[Entry]) -> Result<Shape, Fail> {
     match one_of(random, entries) {
         Some(entry) if random.below(4) == 0 => Ok(entry.shape),
@@ -37,7 +37,7 @@ fn shape_beside(random: &mut Random, entries: &[Entry]) -> Result<Shape, Fail> {
     }
 }
 
-/// One of the entries, or sometimes one that has an absent number or shape.
+/// One of the entries, or sometimes one with an absent number or shape.
 fn entry_beside(random: &mut Random, entries: &[Entry], absent: u32) -> Result<Entry, Fail> {
     let shape = shape(random)?;
     let number = absent;
@@ -49,7 +49,7 @@ fn entry_beside(random: &mut Random, entries: &[Entry], absent: u32) -> Result<E
     })
 }
 
-/// A tree, and a plain list of its entries, ascending by number.
+/// A tree, and a plain list of its entries in ascending order of their numbers.
 #[derive(Drop)]
 struct Trial {
     tree: RTree,
@@ -57,7 +57,7 @@ struct Trial {
 }
 
 impl Trial {
-    /// Inserts an entry of this number, whose shape is often that of another entry.
+    /// Inserts an entry with this number, whose shape is often that of another entry.
     fn insert(&mut self, random: &mut Random, number: u32) -> Result<(), Fail>
         requires { (k : ℕ) → number ≤ k → IsFresh k self.old.tree }
         ensures { IfOk result (λ _. (k : ℕ) → number < k → IsFresh k self.new.tree) }
@@ -69,8 +69,8 @@ impl Trial {
         Ok(())
     }
 
-    /// Removes an entry, sometimes one that has an absent number or shape, and says whether tree
-    /// and list agree on it.
+    /// Removes an entry, sometimes one with an absent number or shape, and returns whether tree and
+    /// list agree on it.
     fn remove(&mut self, random: &mut Random, absent: u32) -> Result<bool, Fail>
         ensures { IfOk result (λ _. (k : ℕ) → IsFresh k self.old.tree → IsFresh k self.new.tree) }
     {
@@ -79,7 +79,8 @@ impl Trial {
         Ok(removed == remove_from(&mut self.list, &entry))
     }
 
-    /// Edits with these numbers, so many in nine of them insertions, and compares along the way.
+    /// Edits with these numbers, of which about `insertions` in nine are insertions, and compares
+    /// tree and list on the way.
     fn edit(
         &mut self,
         alloc: Global,
@@ -105,7 +106,7 @@ impl Trial {
         Ok(())
     }
 
-    /// Compares entries and some windows, and sees that the tree is lawful.
+    /// Checks that entries and some windows agree and that the tree is lawful.
     fn compare(&self, alloc: Global, random: &mut Random) -> Result<(), Fail> {
         let windows = windows(random).ok_or("five windows")?;
         if self.is_lawful(alloc)? && self.agrees_at_all(alloc, &windows)? {
@@ -114,7 +115,7 @@ impl Trial {
         Err(Fail::new("the tree is unlawful, or its entries or a window differ"))
     }
 
-    /// Whether the tree finds the entries of the list that meet each of some windows.
+    /// Whether the tree finds the entries of the list that meet each of these windows.
     fn agrees_at_all(&self, alloc: Global, windows: &[Shape]) -> Result<bool, AllocError> {
         for window in windows {
             if !self.agrees_at(alloc, window)? {
@@ -154,7 +155,7 @@ impl Trial {
     }
 }
 
-/// Removes an entry from a list, and says whether the list held it.
+/// Removes an entry from a list, and returns whether the list held it.
 fn remove_from(list: &mut Vec<Entry>, entry: &Entry) -> bool {
     for (place, held) in list.iter().enumerate() {
         if held == entry {
@@ -165,8 +166,8 @@ fn remove_from(list: &mut Vec<Entry>, entry: &Entry) -> bool {
     false
 }
 
-/// Adds a node's entries, and says whether the node, of so many levels, is lawful and has `fewest`
-/// entries or children or more.
+/// Adds a node's entries, and returns whether the node, of `levels` levels, is lawful and has at
+/// least `fewest` entries or children.
 fn visit(
     node: &Node,
     levels: u32,
@@ -189,8 +190,8 @@ fn visit(
     Ok(lawful && cover == node.cover())
 }
 
-/// Adds a leaf's entries, and says whether these are `fewest` or more, at most eight, and covered
-/// tightly.
+/// Adds a leaf's entries, and returns whether they are at least `fewest` and at most eight, and the
+/// cover is tight.
 fn visit_leaf(leaf: &Node, fewest: usize, entries: &mut Vec<Entry>) -> Result<bool, AllocError>
     requires lawful { IsLawful leaf.now }
     requires leaf { IsLeaf leaf.now }
@@ -204,8 +205,8 @@ fn visit_leaf(leaf: &Node, fewest: usize, entries: &mut Vec<Entry>) -> Result<bo
     Ok(fewest <= held.len() && held.len() <= 8 && cover == leaf.cover())
 }
 
-/// Mostly insertions and then mostly removals, 2000 of each from this number on, and says whether
-/// the tree is then high and low.
+/// Makes 2000 edits that are mostly insertions, then 2000 that are mostly removals, with numbers
+/// from `first`, and returns whether the tree is first high and then low.
 fn rises_and_falls(
     trial: &mut Trial,
     alloc: Global,
@@ -222,7 +223,7 @@ fn rises_and_falls(
     Ok(is_high && trial.tree.height() < 2)
 }
 
-/// Whether a tree that is empty at first rises and falls twice.
+/// Whether a tree that is empty at first grows and shrinks twice.
 fn rises_and_falls_twice(alloc: Global, random: &mut Random) -> Result<bool, Fail> {
     let mut trial = Trial {
         tree: RTree::new(alloc),

@@ -1,4 +1,4 @@
-//! How much of a tree a window visits, by how often the window is asked.
+//! How much of a tree a window visits, by the number of calls of the window.
 
 ghost use Rattle.std.specs.Prelude.{◌↔◌, IsTrue};
 
@@ -9,7 +9,7 @@ use std::sync::atomic::{AtomicU32, Ordering};
 use std::test::Fail;
 use test_data::on_packed;
 
-/// A window that counts how often it is asked.
+/// A window that counts its calls.
 #[derive(Drop)]
 struct Counted {
     shape: Shape,
@@ -25,7 +25,7 @@ impl Window for Counted {
     }
 }
 
-/// Whether a tree finds this number alone in a window.
+/// Whether a tree finds only this number in a window.
 fn finds_alone<W: Window>(
     alloc: Global,
     tree: &RTree,
@@ -35,8 +35,8 @@ fn finds_alone<W: Window>(
     Ok(tree.window(alloc, window)?.as_slice() == [number].as_slice())
 }
 
-/// Of 1,000 points in a row, eight lie in each leaf, so one of them is found by 8 of 1,000 entries,
-/// and 8 of 125 leaves, 8 of 16 nodes above them and both children of the root.
+/// Of 1,000 points on a line, eight are in each leaf, so one of them is found by testing 8 of the
+/// 1,000 entries, 8 of 125 leaves, 8 of 16 nodes above them and both children of the root.
 #[test]
 fn window_follows_one_path(rt: HostRuntime) -> Result<(), Fail> {
     let (alloc, asked) = (rt.alloc(), AtomicU32::new(0));

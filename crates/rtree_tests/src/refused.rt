@@ -1,4 +1,4 @@
-//! Whichever growth is refused, a tree is as before, and the same call is done with memory.
+//! Whichever allocation fails, a tree is unchanged, and the same call with memory then succeeds.
 
 ghost use Rattle.std.specs.Prelude.{ℕ, ◌≤◌};
 ghost use Rattle.std.specs.Bool.{OnTrue};
@@ -17,7 +17,7 @@ const NINE: [&[u32]; 2] = [&[0, 2, 4, 6, 8], &[1, 3, 5, 7]];
 /// The leaves of nine of the squares with an outlier.
 const OUTLIER: [&[u32]; 2] = [&[0, 1, 2, 3, 4, 5], &[8, 6, 7]];
 
-/// The leaf that is left once one of them was removed.
+/// The leaf that is left after one of them was removed.
 const ONE_LEAF: &[&[u32]] = &[&[0, 1, 2, 3, 4, 5, 8, 7]];
 
 /// The leaves of a crowd of twelve, without one of them, and without a second.
@@ -27,7 +27,7 @@ const ELEVEN: &[&[u32]] = &[&[0, 2, 4, 6, 8, 9, 10, 11], &[3, 5, 7]];
 
 const TEN: &[&[u32]] = &[&[0, 4, 8, 10, 5, 7], &[2, 6, 9, 11]];
 
-/// A tree as text, made again where memory was refused; none where it is refused for good.
+/// A tree as text, made again if an allocation fails, or `None` if it fails again.
 fn outline_at_last(alloc: Global, tree: &RTree) -> Option<String> {
     for _ in 0..10 {
         if let Ok(text) = outline(alloc, tree) {
@@ -42,8 +42,8 @@ fn is_as(alloc: Global, tree: &RTree, text: &str) -> bool {
     outline_at_last(alloc, tree).is_some_and(|now| now.as_str() == text)
 }
 
-/// Inserts the entry, again where memory was refused, and says whether all nodes were then as
-/// before.
+/// Inserts the entry, again if an allocation fails, and returns whether the failure left all nodes
+/// unchanged.
 fn insert_at_last(alloc: Global, tree: &mut RTree, entry: Entry) -> bool
     requires { IsFresh entry.number tree.old }
     ensures { OnTrue result (Gains entry (entries_in tree.old) (entries_in tree.new)) }
@@ -80,8 +80,8 @@ fn refused_1(rt: HostRuntime) {
     assert!(rt; grows_to_nine(rt.alloc(), &mut RTree::new(rt.alloc())));
 }
 
-/// What is seen of the tree into which the first squares were inserted, again where memory was
-/// refused.
+/// The result of `see` on the tree into which the first squares were inserted, again if an
+/// allocation fails.
 fn on_grown<F: FnOnce(&mut RTree) -> bool>(
     alloc: Global,
     squares: Squares,
@@ -93,7 +93,7 @@ fn on_grown<F: FnOnce(&mut RTree) -> bool>(
     grown_at_last(alloc, squares, count).is_some_and(|mut tree| see(&mut tree))
 }
 
-/// Inserts the first squares in turn, again where memory was refused.
+/// Inserts the first squares in turn, again if an allocation fails.
 fn grown_at_last(alloc: Global, squares: Squares, count: u8) -> Option<RTree> {
     for _ in 0..10 {
         if let Ok(tree) = squares.grown(alloc, count) {
@@ -103,8 +103,8 @@ fn grown_at_last(alloc: Global, squares: Squares, count: u8) -> Option<RTree> {
     None
 }
 
-/// Removes an entry, again where memory was refused, and says whether the tree held it and all
-/// nodes were then as before.
+/// Removes an entry, again if an allocation fails, and returns whether the tree held it and the
+/// failure left all nodes unchanged.
 fn remove_at_last(alloc: Global, tree: &mut RTree, entry: &Entry) -> bool {
     let Some(before) = outline_at_last(alloc, tree) else {
         return false;
@@ -120,7 +120,7 @@ fn remove_at_last(alloc: Global, tree: &mut RTree, entry: &Entry) -> bool {
     false
 }
 
-/// Whether a tree of nine squares loses one, and then is one leaf.
+/// Whether a tree of nine squares from which one is removed becomes a single leaf.
 fn loses_a_leaf(alloc: Global, tree: &mut RTree) -> bool {
     has_leaves(tree, &OUTLIER)
         && remove_at_last(alloc, tree, &Squares::Outlier.entry(6))
@@ -135,7 +135,7 @@ fn removal_refused(rt: HostRuntime) {
     assert!(rt; on_grown(alloc, Squares::Outlier, 9, |tree| loses_a_leaf(alloc, tree)));
 }
 
-/// Whether a tree of twelve points loses two, and has the others in two leaves.
+/// Whether a tree of twelve points from which two are removed has the others in two leaves.
 fn loses_two(alloc: Global, tree: &mut RTree) -> bool {
     has_leaves(tree, TWELVE)
         && remove_at_last(alloc, tree, &Squares::Crowd.entry(1))
@@ -151,7 +151,7 @@ fn refused_2(rt: HostRuntime) {
     assert!(rt; on_grown(alloc, Squares::Crowd, 12, |tree| loses_two(alloc, tree)));
 }
 
-/// Packs the first points of the row, again where memory was refused.
+/// Packs the first points of the row, again if an allocation fails.
 fn packed_at_last(alloc: Global, count: u8) -> Option<RTree> {
     for _ in 0..10 {
         if let Ok(tree) = Squares::Row.packed(alloc, count) {
@@ -161,7 +161,7 @@ fn packed_at_last(alloc: Global, count: u8) -> Option<RTree> {
     None
 }
 
-/// The numbers in a window, asked for again where memory was refused.
+/// The numbers in a window, found again if an allocation fails.
 fn window_at_last(alloc: Global, tree: &RTree, window: &Shape) -> Option<Vec<u32>> {
     for _ in 0..10 {
         if let Ok(numbers) = tree.window(alloc, window) {

@@ -1,4 +1,4 @@
-//! The worked rows.
+//! Worked rows.
 
 use crate::trees::{Squares, has_leaves, square};
 use geom_core::Shape;
@@ -42,7 +42,7 @@ const PACKED_SEVEN_LEFT: Leaves = &[&[0, 1, 2, 3, 4, 7, 8]];
 /// The corners of a window, and the numbers that it meets.
 type Window = (i64, i64, i64, i64, &'static [u32]);
 
-/// How many entries, and the height of a tree that is packed from so many.
+/// Numbers of entries, and the heights of trees packed from them.
 const HEIGHTS: &[(u32, u32)] = &[
     (0, 0),
     (1, 1),
@@ -59,7 +59,7 @@ const IN_CROWD: &[Window] = &[(4, 0, 6, 0, &[4, 5, 6, 9]), (9, 1, 10, 2, &[])];
 
 const IN_TWENTY: &[Window] = &[(5, 0, 8, 0, &[5, 6, 7, 8]), (20, 0, 21, 5, &[])];
 
-/// Whether a tree has these leaves, so many levels and so many entries.
+/// Whether a tree has these leaves, this height and this number of entries.
 fn is_tree(tree: &RTree, leaves: Leaves, height: u32, len: usize) -> bool {
     has_leaves(tree, leaves) && tree.height() == height && tree.len() == len
 }
@@ -69,7 +69,7 @@ fn finds(tree: &RTree, alloc: Global, window: &Shape, numbers: &[u32]) -> Result
     Ok(tree.window(alloc, window)?.as_slice() == numbers)
 }
 
-/// Whether nine points have their leaves, and then ten.
+/// Whether nine points have their leaves, and then ten have theirs.
 fn grows_to_ten(alloc: Global) -> Result<bool, AllocError> {
     let mut tree = Squares::Crowd.grown(alloc, 9)?;
     let is_of_nine = is_tree(&tree, NINE_POINTS, 2, 9) && !tree.is_empty();
@@ -105,7 +105,7 @@ fn nine_points_split(rt: HostRuntime) -> Result<(), Fail> {
     Ok(())
 }
 
-/// Whether a tree finds exactly these numbers in each of some windows.
+/// Whether a tree finds exactly these numbers in each of these windows.
 fn finds_all(tree: &RTree, alloc: Global, windows: &[Window]) -> Result<bool, AllocError> {
     for (x1, y1, x2, y2, numbers) in windows {
         let Some(window) = Shape::new(*x1, *y1, *x2, *y2) else {
@@ -137,7 +137,7 @@ fn empty_tree(rt: HostRuntime) -> Result<(), Fail> {
     Ok(())
 }
 
-/// Whether two points are removed from a row of nine, and the first of them no second time.
+/// Whether two points are removed from a row of nine, and the first of them can't be removed again.
 fn loses_two(tree: &mut RTree) -> Result<bool, AllocError> {
     let removed = Squares::Row.removed(tree, &[1, 3])? && is_tree(tree, SEVEN_OF_NINE, 1, 7);
     let again = Squares::Row.removed(tree, &[1])?;
@@ -174,7 +174,7 @@ fn removal_extra_3(rt: HostRuntime) -> Result<(), Fail> {
     Ok(())
 }
 
-/// Whether a tree is that of twenty packed points, and finds those of two windows.
+/// Whether a tree is that of twenty packed points, and finds the points of two windows.
 fn is_twenty(tree: &RTree, alloc: Global) -> Result<bool, AllocError> {
     Ok(is_tree(tree, PACKED_TWENTY, 2, 20) && finds_all(tree, alloc, IN_TWENTY)?)
 }
@@ -193,7 +193,7 @@ fn packed_few(rt: HostRuntime) -> Result<(), Fail> {
     Ok(())
 }
 
-/// Whether two points are removed from nine that were packed, and the first of them no second time.
+/// Whether two points are removed from nine packed ones, and the first can't be removed again.
 fn packed_loses_two(tree: &mut RTree) -> Result<bool, AllocError> {
     let one = Squares::Row.removed(tree, &[5])? && has_leaves(tree, PACKED_EIGHT_LEFT);
     let two = Squares::Row.removed(tree, &[6])? && is_tree(tree, PACKED_SEVEN_LEFT, 1, 7);
@@ -207,7 +207,7 @@ fn packed_removals(rt: HostRuntime) -> Result<(), Fail> {
     Ok(())
 }
 
-/// Whether leaves keep the order of what is left in them.
+/// Whether leaves keep the order of their remaining entries.
 fn keeps_order(tree: &mut RTree) -> Result<bool, AllocError> {
     Ok(Squares::Row.removed(tree, &[0, 8])? && has_leaves(tree, PACKED_EIGHTEEN_LEFT))
 }
@@ -224,7 +224,7 @@ fn packed_removal_of_the_last(rt: HostRuntime) -> Result<(), Fail> {
     Ok(())
 }
 
-/// The leaves of a packed tree don't depend on the order of the list.
+/// Whether a packed tree has these leaves, independent of the order of the list.
 fn packs_into(
     alloc: Global,
     squares: Squares,
@@ -250,7 +250,8 @@ fn packed_diagonal(rt: HostRuntime) -> Result<(), Fail> {
     Ok(())
 }
 
-/// A slice of two pages and one of one; in each the lower points come first, in turn by number.
+/// A slice of two pages and one of one page; in each the lower points come first, ordered by
+/// number.
 #[test]
 fn packed_zigzag(rt: HostRuntime) -> Result<(), Fail> {
     let leaves: [&[u32]; 3] = [
@@ -262,7 +263,7 @@ fn packed_zigzag(rt: HostRuntime) -> Result<(), Fail> {
     Ok(())
 }
 
-/// Entries of one height go by number, and leaves of one height by their places.
+/// Entries of equal height are ordered by number, and leaves of equal height by their positions.
 #[test]
 fn packed_backward(rt: HostRuntime) -> Result<(), Fail> {
     let leaves: [&[u32]; 2] = [&[0, 1, 2, 3, 4, 5, 6, 7], &[8, 9, 10, 11, 12, 13, 14, 15]];

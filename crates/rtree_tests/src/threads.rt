@@ -1,4 +1,4 @@
-//! Packing by threads makes the tree that packing by one makes.
+//! Packing by several threads gives the same tree as packing by one.
 
 ghost use Rattle.std.specs.Prelude.{◌≡◌, ℕ, ◌≤◌, IfOk, count_by};
 ghost use Rattle.rtree_core.specs.Nodes.{IsLawful};
@@ -11,7 +11,7 @@ use std::test::Fail;
 use std::thread::Threads;
 use test_data::Random;
 
-/// What stands behind the numbers below a node.
+/// The mark after the numbers below a node.
 pub(crate) const END: u32 = u32::MAX;
 
 /// An entry near one of nine centres.
@@ -22,7 +22,7 @@ fn entry(random: &mut Random, number: u32) -> Entry
     Entry { shape, number }
 }
 
-/// So many entries, always the same ones.
+/// `count` entries, always the same ones.
 pub(crate) fn listed(alloc: Global, count: u32) -> Result<Vec<Entry>, AllocError>
     ensures { IfOk result (λ v. (k : ℕ) → count_by (has_number k) v.items ≤ 1) }
 {
@@ -34,7 +34,7 @@ pub(crate) fn listed(alloc: Global, count: u32) -> Result<Vec<Entry>, AllocError
     Ok(entries)
 }
 
-/// Adds the numbers of the entries below a node, leaf by leaf, with an end behind each node.
+/// Adds the numbers of the entries below a node, leaf by leaf, with `END` after each node.
 fn outline(node: &Node, numbers: &mut Vec<u32>) -> Result<(), AllocError>
     requires { IsLawful node.now }
 {
@@ -65,7 +65,7 @@ pub(crate) fn packed_alone(alloc: Global, count: u32) -> Result<Vec<u32>, AllocE
     outline_of(alloc, &RTree::pack(alloc, listed(alloc, count)?)?)
 }
 
-/// The outline of the tree that so many threads pack.
+/// The outline of the tree that `threads` threads pack.
 pub(crate) fn packed_by<R: Threads + Sync>(
     rt: &R,
     alloc: Global,
@@ -78,7 +78,7 @@ pub(crate) fn packed_by<R: Threads + Sync>(
     )
 }
 
-/// Whether up to five threads pack so many entries as one does.
+/// Whether up to five threads pack `count` entries into the same tree as one does.
 fn packs_alike<R: Threads + Sync>(rt: &R, alloc: Global, count: u32) -> Result<bool, AllocError> {
     let plain = packed_alone(alloc, count)?;
     for threads in 0..=5 {

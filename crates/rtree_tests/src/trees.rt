@@ -1,7 +1,7 @@
-//! Trees of squares in simple rows, and what their leaves hold.
+//! Trees of squares in simple rows, and the entries of their leaves.
 //!
-//! The proof of a function grows with the square of its length where it owns a tree. So what is
-//! seen of a tree is told by functions that borrow it.
+//! The proof of a function that owns a tree grows with the square of its length, so trees are
+//! examined by functions that borrow them.
 
 ghost use Rattle.std.specs.Prelude.{◌≡◌, ℕ, ◌≤◌, IfOk, count_by, vec_len};
 ghost use Rattle.rtree_core.specs.Trees.{has_number, IsFresh};
@@ -10,20 +10,20 @@ use geom_core::Shape;
 use rtree_core::{Entry, Node, RTree};
 use std::alloc::{AllocError, Global};
 
-/// Squares near the origin, which are points where they have no side, by their numbers.
+/// Squares near the origin by their numbers; a square of side 0 is a point.
 #[derive(Clone, Copy)]
 pub(crate) enum Squares {
-    /// The points (0, 0), (1, 0) and on.
+    /// The points (0, 0), (1, 0) and so on.
     Row,
-    /// The points (15, 0), (14, 0) and on.
+    /// The points (15, 0), (14, 0) and so on.
     Backward,
-    /// The points (0, 19), (1, 18) and on.
+    /// The points (0, 19), (1, 18) and so on.
     Diagonal,
-    /// The points (0, 0), (1, 1), (2, 0) and on.
+    /// The points (0, 0), (1, 1), (2, 0) and so on.
     Zigzag,
-    /// The points (0, 0) to (8, 0), and then (4, 0) again and again.
+    /// The points (0, 0) to (8, 0), and then (4, 0) repeatedly.
     Crowd,
-    /// The unit squares at (0, 0), (1, 0) and on to (7, 0), and then one far off.
+    /// The unit squares at (0, 0), (1, 0) and so on to (7, 0), and then one far away.
     Outlier,
 }
 
@@ -79,7 +79,7 @@ impl Squares {
         RTree::pack(alloc, self.listed(alloc, count)?)
     }
 
-    /// What is seen of the tree into which the first squares were inserted in turn.
+    /// The result of `see` on the tree into which the first squares were inserted in turn.
     pub(crate) fn on_grown<F: FnOnce(&mut RTree) -> Result<bool, AllocError>>(
         self,
         alloc: Global,
@@ -91,7 +91,7 @@ impl Squares {
         see(&mut self.grown(alloc, count)?)
     }
 
-    /// What is seen of the packed tree of the first squares.
+    /// The result of `see` on the packed tree of the first squares.
     pub(crate) fn on_packed<F: FnOnce(&mut RTree) -> Result<bool, AllocError>>(
         self,
         alloc: Global,
@@ -103,7 +103,7 @@ impl Squares {
         see(&mut self.packed(alloc, count)?)
     }
 
-    /// Removes squares from a tree in turn, and says whether it held all of them.
+    /// Removes squares from a tree in turn, and returns whether it held all of them.
     pub(crate) fn removed(self, tree: &mut RTree, numbers: &[u8]) -> Result<bool, AllocError> {
         for number in numbers {
             if !tree.remove(&self.entry(*number))? {
@@ -114,7 +114,7 @@ impl Squares {
     }
 }
 
-/// A square by its lower left corner and its side.
+/// The square with this lower left corner and side.
 pub(crate) fn square(x: u8, y: u8, side: u8) -> Shape {
     let (x, y, side) = (i64::from(x), i64::from(y), i64::from(side));
     Shape::new(x, y, x + side, y + side).unwrap()
@@ -134,7 +134,7 @@ pub(crate) fn has_leaves(tree: &RTree, leaves: &[&[u32]]) -> bool {
     }
 }
 
-/// Whether nodes are leaves that have these numbers, in this order.
+/// Whether the nodes are leaves with these numbers, in this order.
 fn are_leaves(nodes: &[Node], leaves: &[&[u32]]) -> bool {
     nodes.len() == leaves.len()
         && nodes
@@ -143,7 +143,7 @@ fn are_leaves(nodes: &[Node], leaves: &[&[u32]]) -> bool {
             .all(|(node, numbers)| has_numbers(node, numbers))
 }
 
-/// Whether a node is a leaf that has these numbers, in this order.
+/// Whether a node is a leaf with these numbers, in this order.
 fn has_numbers(node: &Node, numbers: &[u32]) -> bool {
     node.is_leaf()
         && node

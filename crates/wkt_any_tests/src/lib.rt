@@ -1,6 +1,5 @@
-//! What no clause of `wkt_any_core` says: texts of any geometry and what they read as, what is
-//! printed, boxes, and growths that are refused. A crate of its own, since a crate with tests is
-//! proved twice.
+//! Tests of what no clause of `wkt_any_core` states: reading texts of any geometry, printing,
+//! boxes, and refused allocations. The crate is separate, since a crate with tests is proved twice.
 #![tactic(auto)]
 
 #[cfg(test)]

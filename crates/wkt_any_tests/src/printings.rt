@@ -1,16 +1,16 @@
-//! Geometries and the texts and boxes that are made of them.
+//! Geometries, and their texts and boxes.
 
 use plane_core::Geometry;
 use std::alloc::{AllocError, Global};
 use wkt_any_core::{Rings, print, read};
 use wkt_core::Scale;
 
-/// What a text reads as by the even-odd rule, if it is one of the grammar.
+/// The geometry of a text by the even-odd rule, or `None` if the text spells none.
 fn geometry_of(alloc: Global, text: &str, scale: Scale) -> Result<Option<Geometry>, AllocError> {
     Ok(read(alloc, text.as_bytes(), scale, Rings::EvenOdd)?.ok())
 }
 
-/// Texts, the decimals of their scale, and the canonical spellings of what they read as.
+/// Texts, the decimals of their scale, and the canonical texts of their geometries.
 const PRINTED: &[(&str, u32, &str)] = &[
     ("point(+1 2.0)", 0, "POINT (1 2)"),
     ("MULTIPOINT (1 1, 1 1)", 0, "POINT (1 1)"),
@@ -43,7 +43,7 @@ const PRINTED: &[(&str, u32, &str)] = &[
     ),
 ];
 
-/// The canonical spelling of what a text reads as.
+/// The canonical text of the geometry that a text spells.
 fn printed(alloc: Global, text: &str, scale: Scale) -> Result<Option<String>, AllocError> {
     match geometry_of(alloc, text, scale)? {
         Some(geometry) => Ok(Some(print(alloc, &geometry, scale)?)),
@@ -81,7 +81,7 @@ fn printing_is_tried_again(rt: HostRuntime) -> Result<(), AllocError> {
     Ok(())
 }
 
-/// Texts and the corners of their boxes.
+/// Texts and the corners of their geometries' boxes.
 const BOUNDED: &[(&str, [i64; 4])] = &[
     ("POINT (1 2)", [1, 2, 1, 2]),
     ("MULTIPOINT (1 2, -3 9)", [-3, 2, 1, 9]),

@@ -1,17 +1,17 @@
-//! Texts of any geometry and what they read as, by their names.
+//! Named texts of any geometry and the results of reading them.
 
 use plane_core::Geometry;
 use std::alloc::{AllocError, Global};
 use wkt_any_core::{GeometryFault, Rings, read};
 use wkt_core::Scale;
 
-/// How many edges a geometry has, and how many points or ends of polylines.
+/// The number of edges of a geometry, and the number of its points or ends of polylines.
 fn counts_of(alloc: Global, geometry: &Geometry) -> Result<(usize, usize), AllocError> {
     let outline = geometry.outline(alloc)?;
     Ok((outline.edges.len(), outline.ends.len()))
 }
 
-/// The counts of what a text reads as at a scale of no decimals, or its fault.
+/// The counts of the geometry that a text spells at scale 0, or the text's fault.
 pub(crate) fn counts(
     alloc: Global,
     text: &str,
@@ -23,7 +23,7 @@ pub(crate) fn counts(
     }
 }
 
-/// Texts with proper rings, and the edges and the points or ends of what they read as.
+/// Texts with proper rings, and the counts of their geometries.
 const READ: &[(&str, (usize, usize))] = &[
     ("POINT (1 2)", (0, 1)),
     (" mUlTiPoInT ( 1 1 , (2 2),( 3 3 ) ) ", (0, 3)),
@@ -63,7 +63,7 @@ fn texts_are_read(rt: HostRuntime) -> Result<(), AllocError> {
     Ok(())
 }
 
-/// Texts that the grammar doesn't have.
+/// Texts that aren't in the grammar.
 const NO_TEXTS: &[&str] = &[
     "",
     "POINT",
@@ -99,7 +99,7 @@ fn other_texts_are_not_read(rt: HostRuntime) -> Result<(), AllocError> {
     Ok(())
 }
 
-/// Texts with a number that isn't whole, or is out of range.
+/// Texts with a number that isn't whole or is out of range.
 const NO_NUMBERS: &[&str] = &[
     "POINT (1.5 0)",
     "POINT (1000000000001 0)",
@@ -120,7 +120,7 @@ fn numbers_are_whole_and_in_range(rt: HostRuntime) -> Result<(), AllocError> {
     Ok(())
 }
 
-/// Texts of flat or open rings, or of a line without length.
+/// Texts of flat or open rings, or of a polyline of length 0.
 const NO_FORMS: &[&str] = &[
     "LINESTRING (1 1, 1 1)",
     "LINESTRING (1 1)",
@@ -185,7 +185,7 @@ fn rings_neither_cross_nor_overlap(rt: HostRuntime) -> Result<(), AllocError> {
     Ok(())
 }
 
-/// Texts with two faults, and the one that is named.
+/// Texts with two faults, and the fault that is returned.
 const FIRST_FAULTS: &[(&str, GeometryFault)] = &[
     ("POLYGON ((0 0, 4 4, 4 0, 0 4, 0 0.5)", GeometryFault::Text),
     (
@@ -210,7 +210,7 @@ fn the_first_fault_is_named(rt: HostRuntime) -> Result<(), AllocError> {
     Ok(())
 }
 
-/// Texts by the even-odd rule, and the edges of what they read as.
+/// Texts read by the even-odd rule, and the numbers of their edges.
 const EVEN_ODD: &[(&str, usize)] = &[
     ("POLYGON ((0 0, 4 0, 8 0, 0 0))", 3),
     ("POLYGON ((0 0, 4 0, 0 4, 0 0), (1 1, 1 1))", 3),

@@ -1,11 +1,11 @@
-//! Texts read without memory. Run with one allocation after the other failing, they show that a
-//! text read again reads as it would have.
+//! Reading texts without memory. With each allocation failing in turn, reading a text again has the
+//! same result as without the failure.
 
 use crate::readings::counts;
 use std::alloc::{AllocError, Global};
 use wkt_any_core::{GeometryFault, Rings};
 
-/// What a text reads as, asked again where memory was refused.
+/// The counts of the geometry that a text spells, read again if an allocation fails.
 fn counts_at_last(
     alloc: Global,
     text: &str,
