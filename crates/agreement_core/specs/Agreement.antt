@@ -1,4 +1,4 @@
--- The cell of the grid in which a point of the plane lies, and geometries with the parts of a shape.
+-- The cell of the grid that contains a point of the plane, and geometries with a shape's parts.
 use Rattle.std.specs.Prelude.{◌≡◌, ℕ, ◌<◌, ℤ, pos, ◌+ℤ◌, ◌*ℤ◌, ◌<ℤ◌}
 use Rattle.geom_core.specs.declared.shape.Shape.{Shape}
 use Rattle.geom_core.specs.Cells.{line, IsInterior}
@@ -25,6 +25,6 @@ IsCellOf s Interior u v = IsInterior s u v
 IsCellOf s Boundary u v = IsBoundary s u v
 IsCellOf s Exterior u v = IsExterior s u v
 
--- each point is in the part in which the shape has its cell
+-- each point is in the part of the geometry in which the shape has the point's cell
 pub record HasPartsOf (s : Shape) (g : Figure) : Type 0 where
   pub parts : (p : Point) (u v : ℤ) → IsInCell p u v → IsCellOf s (part_of g p) u v

@@ -1,5 +1,5 @@
 -- Shapes of the grid as geometries of the plane: a point, a line along an axis, or the ring of a
--- rectangle, from its lowest corner on.
+-- rectangle, starting at its lowest corner.
 use Rattle.std.specs.Prelude.{◌≡◌, ℤ, [], ◌∷◌}
 use Rattle.geom_core.specs.declared.shape.Shape.{Shape}
 use Rattle.geom_core.specs.Shapes.{x1, y1, x2, y2, dim_of}

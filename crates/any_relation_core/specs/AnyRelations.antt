@@ -10,6 +10,6 @@ relation_of join = join.relation
 abbrev pub rings_of : AnyRelation → Rings
 rings_of join = join.rings
 
--- by its type it holds for no two geometries without a common point
+-- by its type, the relation holds for no two geometries without a common point
 pub forbids_disjoint : (join : AnyRelation) → ForbidsDisjoint (rings_of join) (relation_of join)
 forbids_disjoint join = join.forbids_disjoint

@@ -1,4 +1,4 @@
--- The matrix of two geometries without a common point: it depends on their classes alone.
+-- The matrix of two geometries without a common point, which depends only on their classes.
 use Rattle.std.specs.Prelude.{ℕ, ◌⊎◌, List, [], ◌∷◌}
 use Rattle.relation_core.specs.declared.extent.Extent.{Extent}
 use Rattle.relation_core.specs.declared.extent.Extent.TheVariants.{Empty, Point, Line, Area}
@@ -19,7 +19,7 @@ class_dim ClosedLines = 1
 class_dim Areas = 2
 class_dim HollowAreas = 2
 
--- what the interior of a geometry of the class amounts to
+-- the dimension of the interior of a geometry of the class
 abbrev pub interior_of : Class → Extent
 interior_of Points = Point
 interior_of OpenLines = Line
@@ -27,7 +27,7 @@ interior_of ClosedLines = Line
 interior_of Areas = Area
 interior_of HollowAreas = Empty
 
--- what its boundary amounts to
+-- the dimension of the boundary of a geometry of the class
 abbrev pub boundary_of : Class → Extent
 boundary_of Points = Empty
 boundary_of OpenLines = Point
@@ -54,7 +54,7 @@ abbrev pub classes : Rings → List Class
 classes Proper = Points ∷ OpenLines ∷ ClosedLines ∷ Areas ∷ []
 classes EvenOdd = Points ∷ OpenLines ∷ ClosedLines ∷ Areas ∷ HollowAreas ∷ []
 
--- of some class in the list
+-- some class in the list satisfies the condition
 abbrev pub SomeClass : (Class → Type 0) → List Class → Type 0
 SomeClass P [] = ⊥
 SomeClass P (c ∷ cs) = P c ⊎ SomeClass P cs
@@ -63,10 +63,10 @@ SomeClass P (c ∷ cs) = P c ⊎ SomeClass P cs
 abbrev pub FitsApart : Relation → Class → Class → Type 0
 FitsApart relation c d = FitsOne (masks relation (class_dim c) (class_dim d)) (apart_matrix c d)
 
--- the same, for some class of the second
+-- the same, for some class of the second geometry
 abbrev pub AllowsBeside : Rings → Relation → Class → Type 0
 AllowsBeside rings relation c = SomeClass (λ d. FitsApart relation c d) (classes rings)
 
--- and for some class of the first
+-- the same, for some classes of both geometries
 abbrev pub AllowsApart : Rings → Relation → Type 0
 AllowsApart rings relation = SomeClass (λ c. AllowsBeside rings relation c) (classes rings)

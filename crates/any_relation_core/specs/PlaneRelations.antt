@@ -21,13 +21,13 @@ abbrev pub AreDisjoint : Figure → Figure → Type 0
 AreDisjoint g h =
     (p : Point) → 0 < p.w → part_of g p ≢ Exterior → part_of h p ≢ Exterior → ⊥
 
--- it holds for no two geometries without a common point
+-- the relation holds for no two geometries without a common point
 abbrev pub ForbidsDisjoint : Rings → Relation → Type 0
 ForbidsDisjoint rings relation =
     (g h : Figure) → IsGeometryOf rings g → IsGeometryOf rings h → AreDisjoint g h
     → ¬ (HoldsOf relation g h)
 
--- it holds for some two of them
+-- the relation holds for some two geometries without a common point
 pub record HoldsForDisjoint (rings : Rings) (relation : Relation) : Type 0 where
   pub first : Figure
   pub second : Figure

@@ -1,4 +1,4 @@
--- Edges beyond the box of the other geometry, which can add nothing more to a matrix.
+-- Edges beyond the box of the other geometry, which can't add anything to a matrix.
 use Rattle.std.specs.Prelude.{◌≡◌, ◌≢◌, pos, Bool, true, false, ◌&&◌, ◌||◌, not, int_lt, All}
 use Rattle.std.specs.List.{list_all}
 use Rattle.geom_core.specs.declared.shape.Shape.{Shape}
@@ -20,7 +20,7 @@ use Rattle.plane_core.specs.PlaneMatrices.{pick}
 use Rattle.arrangement_core.specs.Growth.{transposed}
 use Rattle.arrangement_core.specs.Shown.{AreShown, parts_above}
 
--- wholly left of a box, right of it, below it, or above it
+-- the edge is entirely left of a box, right of it, below it, or above it
 abbrev pub is_left : Shape → Edge → Bool
 is_left s e = int_lt e.a.x (x1 s) && int_lt e.b.x (x1 s)
 
@@ -33,11 +33,11 @@ is_low s e = int_lt e.a.y (y1 s) && int_lt e.b.y (y1 s)
 abbrev pub is_high : Shape → Edge → Bool
 is_high s e = int_lt (y2 s) e.a.y && int_lt (y2 s) e.b.y
 
--- wholly on one side of the box
+-- the edge is entirely on one side of the box
 abbrev pub is_beyond : Shape → Edge → Bool
 is_beyond s e = is_left s e || is_right s e || is_low s e || is_high s e
 
--- the outline of a geometry whose vertices all lie in the box
+-- the outline of a geometry all of whose vertices lie in the box
 pub record IsBounded (o : Outline) (s : Shape) : Type 0 where
   pub figure : Figure
   pub geometry : IsGeometry figure
@@ -48,13 +48,13 @@ pub record IsBounded (o : Outline) (s : Shape) : Type 0 where
 abbrev pub has_no_end : Outline → Edge → Bool
 has_no_end o e = list_all (λ v. not (is_on e (at v))) o.ends.items
 
--- the part in which the points of an edge lie at which no polyline ends
+-- the part in which the points of an edge lie, except where polylines end
 abbrev pub parts_along : Kind → Parts Bool
 parts_along Dots = record { interior = true; boundary = true; exterior = true }
 parts_along Polylines = record { interior = true; boundary = false; exterior = false }
 parts_along Rings = record { interior = false; boundary = true; exterior = false }
 
--- the matrix has all that an edge can show of the exterior of the other geometry
+-- the matrix includes all that an edge can add in the exterior of the other geometry
 pub record IsEdgeShown (m : Matrix) (own : Outline) (e : Edge) : Type 0 where
   pub pieces : AreShown (pick Exterior (transposed m).rows) (parts_along own.kind) Line
   pub faces : run e ≢ pos 0 → AreShown (pick Exterior (transposed m).rows) (parts_above own.kind) Area

@@ -1,4 +1,4 @@
--- What the arrangement of the edges of two geometries tells of their matrix.
+-- The matrix of two geometries in terms of the arrangement of their edges.
 use Rattle.std.specs.Prelude.{◌≡◌, ◌≢◌, ◌⊎◌, ⊤, ℕ, ◌≤◌, ◌<◌, pos, List, ◌++◌}
 use Rattle.relation_core.specs.declared.extent.Extent.{Extent}
 use Rattle.relation_core.specs.declared.extent.Extent.TheVariants.{Empty, Point as Dot, Line, Area}
@@ -24,7 +24,7 @@ all_edges g h = edges_of g ++ edges_of h
 abbrev pub all_points : Figure → Figure → List Vertex
 all_points g h = points_of g ++ points_of h
 
--- a piece of an edge, by the nodes between which it lies
+-- a piece of an edge, given by the nodes between which it lies
 pub record IsPiece (noded : List NodedEdge) (e : Edge) (k l : Point) : Type 0 where
   pub nodes : List Point
   pub one : IsAmong (record { edge = e; nodes = nodes }) noded
@@ -43,7 +43,7 @@ pub record HasPiece (g h : Figure) (noded : List NodedEdge) (i j : Part) : Type 
   pub piece : IsPiece noded edge from_ to_
   pub in_both : IsInBoth g h i j (middle from_ to_)
 
--- a piece of an edge that isn't vertical, above which these parts lie
+-- a piece of an edge that isn't vertical, with these parts just above it
 pub record HasFace (g h : Figure) (noded : List NodedEdge) (i j : Part) : Type 0 where
   pub edge : Edge
   pub from_ : Point
@@ -52,14 +52,14 @@ pub record HasFace (g h : Figure) (noded : List NodedEdge) (i j : Part) : Type 0
   pub slanted : run edge ≢ pos 0
   pub above_both : IsAboveBoth g h i j (middle from_ to_)
 
--- what an entry says is there
+-- the evidence for an entry
 abbrev pub IsWitnessed : Figure → Figure → List NodedEdge → Part → Part → Extent → Type 0
 IsWitnessed g h noded i j Empty = ⊤
 IsWitnessed g h noded i j Dot = (p : Point) × (0 < p.w) × IsInBoth g h i j p
 IsWitnessed g h noded i j Line = HasPiece g h noded i j
 IsWitnessed g h noded i j Area = ((i ≡ Exterior) × (j ≡ Exterior)) ⊎ HasFace g h noded i j
 
--- the matrix that the nodes, the pieces and the faces above pieces make
+-- the matrix read off the nodes, the pieces and the faces above pieces
 pub record IsReadOff (g h : Figure) (noded : List NodedEdge) (m : Matrix) : Type 0 where
   pub are_noded : AreNoded (all_edges g h) (all_points g h) (all_edges g h) noded
   pub sound : (i j : Part) → IsWitnessed g h noded i j (entry m i j)

@@ -4,12 +4,13 @@ use Rattle.plane_core.specs.declared.vertex.Vertex.{Vertex}
 use Rattle.plane_core.specs.declared.edge.Edge.{Edge}
 use Rattle.plane_core.specs.Points.{Point, at, mix, turn_of, is_on, is_at, IsSamePlace, IsBefore}
 
--- in the list
+-- the item is in the list
 abbrev pub IsAmong : {A : Type 0} → A → List A → Type 0
 IsAmong x [] = ⊥
 IsAmong x (y ∷ ys) = (x ≡ y) ⊎ IsAmong x ys
 
--- an end of an edge, a point of two edges that aren't parallel, or one of the single points
+-- an end of an edge, the intersection of two edges that aren't parallel, or one of the single
+-- points
 pub data IsNode (es : List Edge) (vs : List Vertex) (p : Point) : Type 0 where
   FirstEnd : (e : Edge) → IsAmong e es → is_at e.a p ≡ true → IsNode es vs p
   LastEnd : (e : Edge) → IsAmong e es → is_at e.b p ≡ true → IsNode es vs p
@@ -22,11 +23,11 @@ abbrev pub IsPlaceOf : Point → List Point → Type 0
 IsPlaceOf p [] = ⊥
 IsPlaceOf p (n ∷ ns) = IsSamePlace p n ⊎ IsPlaceOf p ns
 
--- before it or at the same place
+-- the point is before the other or at the same place
 abbrev pub IsUpTo : Point → Point → Type 0
 IsUpTo p q = IsBefore p q ⊎ IsSamePlace p q
 
--- none is before one that precedes it
+-- no point of the list is before one that precedes it
 abbrev pub Ascend : List Point → Type 0
 Ascend [] = ⊤
 Ascend (n ∷ ns) = All (IsUpTo n) ns × Ascend ns
@@ -35,7 +36,7 @@ pub record IsPointOf (e : Edge) (p : Point) : Type 0 where
   pub wide : 0 < p.w
   pub on : is_on e p ≡ true
 
--- points of an edge in order, both its ends and all nodes on it among them
+-- points of an edge in order, including both its ends and all nodes on it
 pub record AreNodesOf (es : List Edge) (vs : List Vertex) (e : Edge) (ns : List Point) : Type 0 where
   pub points : All (IsPointOf e) ns
   pub ascend : Ascend ns
@@ -48,7 +49,8 @@ pub record NodedEdge : Type 0 where
   pub edge : Edge
   pub nodes : List Point
 
--- two nodes in a row, at different places: what lies strictly between them is a piece of the edge
+-- two consecutive nodes at different places; the points strictly between them are a piece of the
+-- edge
 abbrev pub IsGapOf : Point → Point → List Point → Type 0
 IsGapOf k l [] = ⊥
 IsGapOf k l (n ∷ []) = ⊥
@@ -58,7 +60,7 @@ IsGapOf k l (m ∷ n ∷ ns) = ((k ≡ m) × (l ≡ n) × IsBefore m n) ⊎ IsGa
 abbrev pub middle : Point → Point → Point
 middle k l = mix 1 k 1 l
 
--- each edge, with its nodes
+-- the edges in order, each with its nodes
 abbrev pub AreNoded : List Edge → List Vertex → List Edge → List NodedEdge → Type 0
 AreNoded es vs [] [] = ⊤
 AreNoded es vs [] (m ∷ ms) = ⊥

@@ -1,4 +1,4 @@
--- What the program finds of two geometries by their outlines.
+-- The results of the program for two geometries, by their outlines.
 use Rattle.std.specs.Prelude.{List, [], ◌++◌, map, All}
 use Rattle.std.specs.List.{flat_map}
 use Rattle.relation_core.specs.declared.extent.Extent.TheVariants.{Point as Dot}
@@ -26,30 +26,30 @@ outline_edges a b = a.edges.items ++ b.edges.items
 abbrev pub outline_points : Outline → Outline → List Vertex
 outline_points a b = points_by a.kind a.ends.items ++ points_by b.kind b.ends.items
 
--- the edges of two geometries, the one or the other first
+-- the edges of two geometries, in either order of the two
 pub record AreEdgesOf (own other : Outline) (es : List Edge) : Type 0 where
   pub long : All HasLength es
   pub first : (e : Edge) → IsAmong e own.edges.items → IsAmong e es
   pub second : (e : Edge) → IsAmong e other.edges.items → IsAmong e es
 
--- an edge of the one
+-- an edge of the first geometry
 pub record IsOneOf (own other : Outline) (es : List Edge) (e : Edge) : Type 0 where
   pub edges : AreEdgesOf own other es
   pub one : IsAmong e own.edges.items
 
--- an edge whose nodes, pieces and faces a matrix shows
+-- an edge whose nodes, pieces and faces a matrix includes
 pub record IsEdgeMarked (a b : Outline) (es : List Edge) (vs : List Vertex) (e : Edge) (old new : Matrix) : Type 0 where
   pub nodes : List Point
   pub are_nodes : AreNodesOf es vs e nodes
   pub grown : HasGrownBy (edge_marks a b (record { edge = e; nodes = nodes })) old new
 
--- edges whose nodes, pieces and faces a matrix shows
+-- edges whose nodes, pieces and faces a matrix includes
 pub record AreMarked (a b : Outline) (es : List Edge) (vs : List Vertex) (done : List Edge) (old new : Matrix) : Type 0 where
   pub noded : List NodedEdge
   pub are_noded : AreNoded es vs done noded
   pub grown : HasGrownBy (flat_map (edge_marks a b) noded) old new
 
--- all edges and single points of two geometries are marked
+-- the matrix includes all edges and points of two geometries
 pub record IsReadOffBy (a b : Outline) (m : Matrix) : Type 0 where
   pub noded : List NodedEdge
   pub are_noded : AreNoded (outline_edges a b) (outline_points a b) (outline_edges a b) noded

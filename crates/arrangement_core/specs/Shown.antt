@@ -1,4 +1,4 @@
--- What a place can add to a matrix, by the parts in which it may lie.
+-- What a point can add to a matrix, by the parts in which it may lie.
 use Rattle.std.specs.Prelude.{◌≡◌, ◌≢◌, ℕ, ◌≤◌, ◌<◌, ◌-◌, pos, Bool, true, false, ◌&&◌, not, List, All, count_by}
 use Rattle.std.specs.Ordering.{int_eq, is_lt}
 use Rattle.std.specs.List.{list_any, list_all, slice_index_or}
@@ -20,7 +20,7 @@ use Rattle.arrangement_core.specs.declared.shown.Course.{Course}
 use Rattle.arrangement_core.specs.Nodes.{IsAmong, IsPlaceOf, IsPointOf, Ascend, middle}
 use Rattle.arrangement_core.specs.Marks.{rank}
 
--- each entry of a row at these parts has an extent, or a greater one
+-- each entry of a row at these parts is at least an extent
 abbrev pub AreShown : Parts Extent → Parts Bool → Extent → Type 0
 AreShown row parts x = (j : Part) → pick j parts ≡ true → rank x ≤ rank (pick j row)
 
@@ -39,7 +39,7 @@ parts_above Rings = record { interior = true; boundary = false; exterior = true 
 abbrev pub is_odd_end : Outline → Point → Bool
 is_odd_end o p = is_odd (count_by (λ v. is_at v p) o.ends.items)
 
--- the parts in which a point that is on no edge may lie
+-- the parts in which a point that is on no edge can lie
 abbrev pub rest_by : Kind → Bool → Parts Bool
 rest_by Dots odd = record { interior = true; boundary = false; exterior = true }
 rest_by Polylines odd = record { interior = false; boundary = odd; exterior = not odd }
@@ -52,21 +52,21 @@ rest_parts o p = rest_by o.kind (is_odd_end o p)
 abbrev pub IsOnEdge : Outline → Point → Type 0
 IsOnEdge o p = list_any (λ e. is_on e p) o.edges.items ≡ true
 
--- edges of one line, whose boxes meet
+-- edges on the same line whose boxes meet
 abbrev pub is_along : Edge → Edge → Bool
 is_along e f =
     do_boxes_meet e f && (int_eq (turn_of e f) (pos 0) && int_eq (side e (at f.a)) (pos 0))
 
--- a point of an edge that is on no edge of the other geometry but on those along the same line
+-- a point of an edge that is on no edge of the other geometry except those along the same line
 pub record IsUncrossed (other : Outline) (e : Edge) (p : Point) : Type 0 where
   pub on : is_on e p ≡ true
   pub along : (f : Edge) → IsAmong f other.edges.items → is_on f p ≡ true → is_along e f ≡ true
 
--- an edge that is known to run along none of a geometry does so
+-- an edge that is known to run along no edge of a geometry does run along none
 abbrev pub IsKnownApart : Outline → Course → Type 0
 IsKnownApart o c = c.is_apart ≡ true → list_all (λ f. not (is_along c.edge f)) o.edges.items ≡ true
 
--- nodes of an edge of a geometry in order, those among them where it meets an edge of the other one
+-- nodes of an edge of a geometry in order, including those where it meets an edge of the other one
 pub record AreCuts (own other : Outline) (e : Edge) (ns : List Point) : Type 0 where
   pub one : IsAmong e own.edges.items
   pub long : HasLength e
@@ -76,17 +76,17 @@ pub record AreCuts (own other : Outline) (e : Edge) (ns : List Point) : Type 0 w
   pub meetings : (f : Edge) (p : Point) → IsAmong f other.edges.items → 0 < p.w
       → is_on e p ≡ true → is_on f p ≡ true → turn_of e f ≢ pos 0 → IsPlaceOf p ns
 
--- the parts that can lie just above a point share areas, whichever they are
+-- all parts that can lie just above a point share areas
 abbrev pub AreFacesShown : Matrix → Kind → Kind → Type 0
 AreFacesShown m own other =
     (i j : Part) → pick i (parts_above own) ≡ true → pick j (parts_above other) ≡ true
     → 3 ≤ rank (entry m i j)
 
--- or nothing lies above the edge, as it is vertical
+-- the same, unless the edge is vertical and no face lies above it
 abbrev pub IsFaceShown : Matrix → Kind → Kind → Edge → Type 0
 IsFaceShown m own other e = run e ≢ pos 0 → AreFacesShown m own other
 
--- a node at the place of the one before it
+-- a node at the same place as the one before it
 pub record IsRepeated (ns : List Node) (i : ℕ) : Type 0 where
   pub later : 0 < i
   pub before : Node
@@ -95,8 +95,8 @@ pub record IsRepeated (ns : List Node) (i : ℕ) : Type 0 where
   pub here_is : here ≡ slice_index_or ns i here
   pub same : IsSamePlace (node_point before) (node_point here)
 
--- where two nodes differ, the middle between them is on an edge of the one geometry, and the edge
--- crosses none of the other there
+-- if two nodes differ, the middle between them is on an edge of the one geometry, and the edge
+-- crosses no edge of the other there
 pub record IsGap (own other : Outline) (e : Edge) (k l : Point) : Type 0 where
   pub on : is_lt (place_order k l) ≡ true → IsOnEdge own (middle k l)
   pub uncrossed : is_lt (place_order k l) ≡ true → IsUncrossed other e (middle k l)

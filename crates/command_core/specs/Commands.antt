@@ -1,4 +1,4 @@
--- What a command gives, by what lies at the paths that it names.
+-- The results of a command, by the content of the files at the paths that it names.
 use Rattle.std.specs.Prelude.{◌≡◌, ◌≢◌, ⊤, ℕ, List, [], ◌∷◌, ◌++◌, Option, Some, None, Bool, false}
 use Rattle.std.specs.Prelude.{Result, Ok, Err, IfSome, IfErr}
 use Rattle.std.specs.Borrow.{Bor}
@@ -32,20 +32,20 @@ use Rattle.words_core.specs.declared.words.Geometries.{Geometries}
 use Rattle.words_core.specs.declared.words.Geometries.TheVariants.{Box, Any}
 use Rattle.words_core.specs.declared.words.JoinRequest.{JoinRequest}
 
--- an input that has to be opened, and what follows where it is
+-- an input that has to be opened, and the consequence if it is
 abbrev pub AfterOpening : Input → Option (List ℕ) → Result (List ℕ) RunFault
     → (List ℕ → Type 0) → Type 0
 AfterOpening input None answer Then = answer ≡ Err (run.NoFile input)
 AfterOpening input (Some bytes) answer Then = Then bytes
 
--- the file of edits, if one is asked for
+-- the file of edits, if one is given
 abbrev pub AfterEdits : Files → Option (Bor (List ℕ)) → Result (List ℕ) RunFault
     → (Option (Option (List ℕ)) → Type 0) → Type 0
 AfterEdits at None answer Then = Then None
 AfterEdits at (Some path) answer Then =
     AfterOpening input.Edits (at path.now) answer (λ bytes. Then (Some (Some bytes)))
 
--- what the files of a join give, which are opened in the order left, right, edits
+-- the result of the files of a join, which are opened in the order left, right, edits
 abbrev pub PathsGive : (JoinFiles → Result (List ℕ) RunFault → Type 0) → Files → JoinRequest
     → Result (List ℕ) RunFault → Type 0
 PathsGive Gives at join answer =
@@ -54,8 +54,8 @@ PathsGive Gives at join answer =
     AfterEdits at join.edits_path answer (λ e.
     Gives (record { scale = join.scale; left = Some l; right = Some r; edits = e }) answer)))
 
--- the letters of the matrix of two texts and a line feed, or the first text that is at fault, where
--- these geometries are read
+-- the letters of the matrix of two texts and a line feed, or the fault of the first text that
+-- spells none of these geometries
 abbrev pub GeometriesGive : Geometries → Scale → List ℕ → List ℕ → Result (List ℕ) RunFault
     → Type 0
 GeometriesGive Box scale a b answer = RelateGives scale a b answer
@@ -98,16 +98,16 @@ HasImproper (Relate request) improper =
     AreImproper request.geometries request.scale request.a.now request.b.now improper
 HasImproper _ improper = improper ≡ none_improper
 
--- the command that asks for this of a join
+-- the command for this product of a join
 abbrev pub command_of : Product → JoinRequest → Command
 command_of Report join = Join join
 command_of Picture join = Draw join
 
--- the text that a command writes, where it is known what lies at its paths
+-- the text that a command writes, if the content of its files is known
 abbrev pub IsCommandText : Option Files → Command → List ℕ → Type 0
 IsCommandText known command text = IfSome known (λ at. CommandGives at command (Ok text))
 
--- a fault of what was asked for or of what lies there, and not of a device, of memory or of keys
+-- a fault of the words or of a file, and not of a device, of memory or of keys
 abbrev pub BlamesCommand : RunFault → Type 0
 BlamesCommand (run.NoFile input) = ⊤
 BlamesCommand (run.Wkt input fault) = ⊤
@@ -118,7 +118,7 @@ abbrev pub IsBox : Geometries → Type 0
 IsBox Box = ⊤
 IsBox (Any rings) = ⊥
 
--- a fault that is found before keys are asked for and any memory is taken
+-- a fault that is found before keys are requested and any memory is allocated
 abbrev pub IsFoundFirst : Command → RunFault → Type 0
 IsFoundFirst (Relate request) (run.Wkt input fault) = IsBox request.geometries
 IsFoundFirst _ (run.NoFile input) = ⊤
@@ -129,19 +129,19 @@ abbrev pub IsFoundNext : Command → RunFault → Type 0
 IsFoundNext (Window path wkt scale) (run.Wkt input fault) = ⊤
 IsFoundNext _ _ = ⊥
 
--- a fault that a command over one layer may have, by those of its run
+-- a possible fault of a command over one layer, given those of its run
 abbrev pub OrNoLayer : (RunFault → Type 0) → RunFault → Type 0
 OrNoLayer IsRunFault (run.NoFile input.Layer) = ⊤
 OrNoLayer IsRunFault run.NoKeys = ⊤
 OrNoLayer IsRunFault fault = IsRunFault fault
 
--- a fault that a command over the files of a join may have, by those of its run
+-- a possible fault of a command over the files of a join, given those of its run
 abbrev pub OrNoFile : (RunFault → Type 0) → RunFault → Type 0
 OrNoFile IsRunFault (run.NoFile input) = ⊤
 OrNoFile IsRunFault run.NoKeys = ⊤
 OrNoFile IsRunFault fault = IsRunFault fault
 
--- the bytes at a path, where it is known what lies there
+-- the bytes at a path, if the content of the files is known
 abbrev pub bytes_at : Option Files → List ℕ → Option (List ℕ)
 bytes_at None path = None
 bytes_at (Some at) path = at path
@@ -150,7 +150,7 @@ abbrev pub edits_at : Option Files → Option (Bor (List ℕ)) → Option (Optio
 edits_at known None = None
 edits_at known (Some path) = Some (bytes_at known path.now)
 
--- the files of a join, as far as it is known what lies at their paths
+-- the files of a join, as far as their content is known
 abbrev pub known_files : Option Files → JoinRequest → JoinFiles
 known_files known join = record {
   scale = join.scale;
@@ -159,7 +159,7 @@ known_files known join = record {
   edits = edits_at known join.edits_path;
 }
 
--- a fault that relating two texts may have, that of its sink aside
+-- a possible fault of relating two texts, except that of its sink
 abbrev pub IsRelateFault : Geometries → RunFault → Type 0
 IsRelateFault Box fault = IsTextFault fault
 IsRelateFault (Any rings) (run.Geometry input.First fault) = ⊤
@@ -167,8 +167,7 @@ IsRelateFault (Any rings) (run.Geometry input.Second fault) = ⊤
 IsRelateFault (Any rings) run.Memory = ⊤
 IsRelateFault (Any rings) _ = ⊥
 
--- a fault that a command may have, that of its sink aside, where it is known what lies at its
--- paths
+-- a possible fault of a command, except that of its sink, if the content of its files is known
 abbrev pub IsFaultOf : Option Files → Command → RunFault → Type 0
 IsFaultOf known (Relate request) = IsRelateFault request.geometries
 IsFaultOf known (Join join) = OrNoFile (IsJoinFault (known_files known join))
@@ -179,8 +178,8 @@ IsFaultOf known (Stats path scale) = OrNoLayer (IsLayerRunFault scale (bytes_at 
 IsFaultOf known (Bounds path scale) =
     OrNoLayer (IsLayerRunFault scale (bytes_at known path.now))
 
--- how a command ends: what it writes, which fault it names, exactly those that are found first and
--- next, and no others
+-- how a command ends: its output, its fault, exactly when the faults that are found first and next
+-- come, and that no others do
 pub record CommandEnds {T S : Type 0} (known : Option Files)
     (written : S → Option (List ℕ)) (is_flushed has_failed : S → Bool)
     (command : Command) (old new : S) (result : Result T RunFault) : Type 0 where

@@ -1,4 +1,4 @@
--- What opening a file answers, and what is known of the files of a join.
+-- The results of opening a file, and the known content of the files of a join.
 use Rattle.std.specs.Prelude.{◌≡◌, ⊤, ℕ, List, Option, Some, None, Result, Ok, Err, IfSome}
 use Rattle.std.specs.Borrow.{Bor}
 use Rattle.join_core.specs.declared.fault.Input.TheVariants.{Left, Right, Edits, Layer}
@@ -6,18 +6,18 @@ use Rattle.join_core.specs.declared.fault.RunFault.{RunFault}
 use Rattle.join_core.specs.declared.fault.RunFault.TheVariants.{NoFile, NoKeys}
 use Rattle.words_core.specs.declared.words.JoinRequest.{JoinRequest}
 
--- what lies at each path: bytes, or nothing that can be opened
+-- the content at each path: bytes, or `None` if nothing can be opened there
 abbrev pub Files : Type 0
 Files = List ℕ → Option (List ℕ)
 
--- the file of the bytes that lie at its path, or an error where nothing does
+-- the file with the bytes at its path, or an error if there are none
 abbrev pub Opens : {F E : Type 0} → (F → Option (List ℕ)) → Option (List ℕ) → Result F E → Type 0
 Opens remaining (Some bytes) (Ok file) = remaining file ≡ Some bytes
 Opens remaining (Some bytes) (Err e) = ⊥
 Opens remaining None (Ok file) = ⊥
 Opens remaining None (Err e) = ⊤
 
--- the bytes at a path, which a file tells that was opened there
+-- the bytes at a path, as reported by the file opened there
 abbrev pub IsAt : Option Files → List ℕ → Option (List ℕ) → Type 0
 IsAt known path told =
     IfSome known (λ at. (bytes : List ℕ) × (at path ≡ Some bytes) × (told ≡ Some bytes))
@@ -25,7 +25,7 @@ IsAt known path told =
 abbrev pub IsMissing : Option Files → List ℕ → Type 0
 IsMissing known path = IfSome known (λ at. at path ≡ None)
 
--- the same of the file of edits, if one is asked for
+-- the same for the file of edits, if one is given
 abbrev pub AreEditsAt : Option Files → Option (Bor (List ℕ)) → Option (Option (List ℕ)) → Type 0
 AreEditsAt known None told = told ≡ None
 AreEditsAt known (Some path) told =
@@ -35,12 +35,12 @@ abbrev pub AreEditsMissing : Option Files → Option (Bor (List ℕ)) → Type 0
 AreEditsMissing known None = ⊥
 AreEditsMissing known (Some path) = IsMissing known path.now
 
--- why the layer at a path can't be read: nothing lies there, or there are no keys for its ids
+-- why the layer at a path can't be read: there is no file, or there are no keys for its ids
 pub data IsLayerUnready (known : Option Files) (path : List ℕ) : RunFault → Type 0 where
   no_file : IsMissing known path → IsLayerUnready known path (NoFile Layer)
   no_keys : (told : Option (List ℕ)) → IsAt known path told → IsLayerUnready known path NoKeys
 
--- the bytes at the paths of a join, which its opened files tell
+-- the bytes at the paths of a join, as reported by its opened files
 pub record AreOpened (known : Option Files) (join : JoinRequest)
     (left right : Option (List ℕ)) (edits : Option (Option (List ℕ))) : Type 0 where
   pub at_left : IsAt known join.left_path.now left

@@ -1,4 +1,4 @@
--- What is shown of words that are no command, and the status that they end with.
+-- The text and the status for words that are no command.
 use Rattle.std.specs.Prelude.{ℕ, true, false, List, ◌++◌, codes, string_bytes}
 use Rattle.relation_core.specs.FaultTexts.{mask_text, allows_disjoint_text}
 use Rattle.join_core.specs.Lines.{line_of}
@@ -20,7 +20,7 @@ word_status_of RingsOfBoxes = 2
 word_status_of Rings = 2
 word_status_of Memory = 1
 
--- the text of `clap`, or a line of the program's own
+-- the text of `clap`, or one of the program's own lines
 abbrev pub word_fault_line : WordFault → List ℕ
 word_fault_line (Usage text help) = string_bytes text
 word_fault_line (Relation fault) = line_of (codes "--relation: " ++ mask_text fault)

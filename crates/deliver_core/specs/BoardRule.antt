@@ -1,4 +1,4 @@
--- The rule of the board's word, over what the seats at its table know.
+-- The rule of the board's word, in terms of the knowledge of the seats at its table.
 use Rattle.std.specs.Prelude.{◌≡◌, ℕ, ◌+◌, ◌<◌, ◌≤◌, List, [], ◌∷◌, ◌++◌, All, MatchBool, nat_lt}
 use Rattle.std.specs.Prelude.{length, slice_index, sum_by}
 use Rattle.std.specs.List.Sorted.{IsStrictlyIncreasing}
@@ -14,28 +14,28 @@ abbrev pub seat_view : ℕ → ℕ → ℕ → List ℕ → ℕ → SeatView
 seat_view tasks seats parts drawn over =
     record { tasks = tasks; seats = seats; parts = parts; drawn = drawn; over = over }
 
--- What holds of each view: one that stands for seats knows the board's size, each of its seats made
--- at most one draw that found no number, and what one seat drew rises; one that stands for none has
--- drawn nothing
+-- The conditions on each view: one that stands for seats knows the board's size, each of its seats
+-- made at most one draw that found no number, and the numbers drawn by one seat ascend; one that
+-- stands for no seat has drawn nothing
 pub record FitsBoard (size : Size) (v : SeatView) : Type 0 where
   pub live : 0 < v.parts → (v.tasks ≡ size.tasks) × (v.seats ≡ size.seats)
   pub over : v.over ≤ v.parts
   pub idle : v.parts ≡ 0 → v.drawn ≡ []
   pub rises : v.parts ≡ 1 → IsStrictlyIncreasing v.drawn
 
--- The rule: the views stand for all seats together, and have drawn what the word counts
+-- The rule: the views stand for all seats together, and the word is the count of their draws
 pub record ObeysRule (size : Size) (word : ℕ) (views : List SeatView) : Type 0 where
   pub parts : sum_by (λ (v : SeatView). v.parts) views ≡ size.seats
   pub tally : Tally (λ (v : SeatView). v.drawn) (λ (v : SeatView). v.over) size.tasks word views
   pub each : (id : ℕ) (v : SeatView) → get_elem? views id ≡ some v → FitsBoard size v
 
--- the same of the state of a table, which has one word
+-- the same for the state of a table, which has one word
 abbrev pub TableObeysRule : Size → State (Unit {0}) SeatView → Type 0
 TableObeysRule size s = (length s.words ≡ 1) × ObeysRule size (slice_index s.words 0) s.views
 
--- What a draw that found this word tells. It is below the numbers of tasks and seats together.
--- Where it is the number of a task, it is drawn, and is above all that were drawn before, which are
--- no more than it; else the draw found no number
+-- The effect of a draw that found this word. The word is less than the sum of the numbers of tasks
+-- and seats. If it is the number of a task, it is drawn, and is greater than all numbers drawn
+-- before, which are at most `word` numbers; otherwise the draw found no number
 abbrev pub Drew
     : Step (Unit {0}) → Me (Unit {0}) SeatView → ℕ → Me (Unit {0}) SeatView → Type 0
 Drew step v word w =

@@ -1,4 +1,4 @@
--- which messages are Byes, and which lists of messages end at one
+-- Which messages are Byes, and which lists of messages end at one.
 use Rattle.std.specs.Prelude.{◌≡◌, Bool, true, false, List, [], ◌++◌}
 use Rattle.std.specs.List.{list_any}
 use Rattle.deliver_core.specs.declared.message.Body.{Body}

@@ -1,4 +1,4 @@
--- what a collector holds, which messages it refuses and what it does with the others
+-- The contents of a collector, the messages that it refuses, and the effect of the others.
 use Rattle.std.specs.Prelude.{◌≡◌, ◌↔◌, ℕ, ◌<◌, false, nat_lt, nat_le, ◌==◌, if◌then◌else◌, List}
 use Rattle.std.specs.Prelude.{[], ◌∷◌, ◌++◌, fold, Option, Some, None, Result, Ok, Err, IsTrue}
 use Rattle.deliver_core.specs.declared.mark.Mark.{Mark}
@@ -10,18 +10,18 @@ use Rattle.deliver_core.specs.declared.faults.Finish.TheVariants.{Open}
 use Rattle.deliver_core.specs.Marks.{has_end, batch_count, IsLegalHistory}
 use Rattle.deliver_core.specs.Scripts.{Content, batch_of, end_of, bye, marks_in, pairs_in}
 
--- the number of tasks, the marks of what was accepted, in this order, and its pairs
+-- the number of tasks, the marks of the accepted messages, in this order, and their pairs
 pub record Collection : Type 0 where
   pub tasks : ℕ
   pub marks : List Mark
   pub pairs : List (ℕ × ℕ)
 
--- what a closed collection becomes
+-- the result of a closed collection
 pub record Delivery : Type 0 where
   pub marks : List Mark
   pub pairs : List (ℕ × ℕ)
 
--- the number that the next batch of a task has to have, or why the task takes none
+-- the number that the next batch of a task must have, or why the task accepts none
 abbrev pub awaited : Collection → ℕ → Result ℕ Refusal
 awaited c task =
     if nat_le c.tasks task then Err Stranger
@@ -36,13 +36,13 @@ abbrev pub end_refusal : Result ℕ Refusal → ℕ → Option Refusal
 end_refusal (Err refusal) count = Some refusal
 end_refusal (Ok next) count = if count == next then None else Some WrongCount
 
--- why a message is refused, if it is, running out of memory aside
+-- why a message is refused, if it is, apart from lack of memory
 abbrev pub refusal_of : Collection → Content → Option Refusal
 refusal_of c (batch_of task number pairs) = batch_refusal (awaited c task) number
 refusal_of c (end_of task count) = end_refusal (awaited c task) count
 refusal_of c (bye ok) = None
 
--- the collection once it has accepted a message: its mark and its pairs stand last
+-- the collection after it has accepted a message, whose mark and pairs come last
 abbrev pub accept : Collection → Content → Collection
 accept c content = record {
   tasks = c.tasks;
@@ -50,17 +50,17 @@ accept c content = record {
   pairs = c.pairs ++ pairs_in content;
 }
 
--- the collection of so many tasks that has accepted these messages, in this order
+-- the collection of `tasks` tasks that has accepted these messages, in this order
 abbrev pub collected : ℕ → List Content → Collection
 collected tasks contents = fold accept (record { tasks = tasks; marks = []; pairs = [] }) contents
 
--- a collector of so many tasks that is offered these messages in turn refuses none of them, for
--- running out of memory aside
+-- a collector of `tasks` tasks that is offered these messages in order refuses none of them, except
+-- for lack of memory
 abbrev pub RefusesNone : ℕ → List Content → Type 0
 RefusesNone tasks contents = (before after : List Content) (next : Content)
     → before ++ next ∷ after ≡ contents → refusal_of (collected tasks before) next ≡ None
 
--- a message is refused exactly where its mark would leave no legal history
+-- a message is refused if and only if its mark would make the history illegal
 abbrev pub RefusesIllegal : Type 0
 RefusesIllegal =
     (c : Collection) (content : Content) → IsLegalHistory c.tasks c.marks →

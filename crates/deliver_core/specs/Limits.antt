@@ -1,6 +1,6 @@
--- how many messages may wait
+-- The capacity of an outlet.
 use Rattle.std.specs.Prelude.{ℕ}
 
--- how many messages may wait in an outlet
+-- the greatest number of messages that wait in an outlet
 abbrev pub most_waiting : ℕ
 most_waiting = 64

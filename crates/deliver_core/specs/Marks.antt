@@ -1,4 +1,4 @@
--- the marks of a collector, and which lists of them are a legal history
+-- The marks of a collector, and which lists of them are a legal history.
 use Rattle.std.specs.Prelude.{ℕ, ◌<◌, ◌==◌, Bool, true, false, not, List, [], ◌∷◌, ◌++◌, map}
 use Rattle.std.specs.Prelude.{filter, count_by, All, IsTrue}
 use Rattle.std.specs.List.{list_any, range_with_len}
@@ -18,11 +18,11 @@ is_end (End task count) = true
 abbrev pub marks_of : ℕ → List Mark → List Mark
 marks_of task marks = filter (λ mark. task_of mark == task) marks
 
--- how many batches of a task there are
+-- the number of batches of a task
 abbrev pub batch_count : ℕ → List Mark → ℕ
 batch_count task marks = count_by (λ mark. not (is_end mark)) (marks_of task marks)
 
--- whether there is an end of a task
+-- whether a task has an end
 abbrev pub has_end : ℕ → List Mark → Bool
 has_end task marks = list_any is_end (marks_of task marks)
 
@@ -30,12 +30,12 @@ has_end task marks = list_any is_end (marks_of task marks)
 abbrev pub batch_marks : ℕ → ℕ → List Mark
 batch_marks task count = map (λ number. Batch task number) (range_with_len 0 count)
 
--- the marks of a script with so many batches: Batch 0, .., Batch (count - 1), End count
+-- the marks of a script with `count` batches: Batch 0, .., Batch (count - 1), End count
 abbrev pub script_marks : ℕ → ℕ → List Mark
 script_marks task count = batch_marks task count ++ End task count ∷ []
 
--- each mark is of a task below the number of tasks, and each task's marks are, in order, a prefix
--- of those of a script
+-- each mark is of a task less than the number of tasks, and each task's marks, in order, are a
+-- prefix of those of a script
 pub record IsLegalHistory (tasks : ℕ) (marks : List Mark) : Type 0 where
   pub known : All (λ mark. task_of mark < tasks) marks
   pub in_turn : (task : ℕ) → task < tasks

@@ -1,4 +1,4 @@
--- what the calls of an outlet ask of its ports and its tap, and what they leave
+-- The preconditions and effects of an outlet's calls on its ports and its tap.
 use Rattle.std.specs.Prelude.{◌≡◌, ℕ, ◌<◌, Bool, true, false, [], ◌∷◌, ◌++◌, All}
 use mathlib.Core.List.{IsPrefix}
 use Rattle.deliver_core.specs.declared.message.Message.{Message}
@@ -17,7 +17,7 @@ pub record IsFreshPort (outlet : Outlet) (port : Port) : Type 0 where
   pub silent : has_said_bye port ≡ false
   pub empty : sent_by port ≡ []
 
--- the tap of an outlet with so many ports, none of which was met, that has taken nothing
+-- the tap of an outlet with `ports` ports, which has met none and taken nothing
 pub record IsFreshTap (outlet : Outlet) (ports : ℕ) (tap : Tap) : Type 0 where
   pub belongs : IsTapOf outlet tap
   pub count : port_count tap ≡ ports
@@ -43,32 +43,33 @@ pub record IsForPort (port : Port) (message : Message) : Type 0 where
 abbrev pub bye_of : ℕ → Bool → Message
 bye_of index ok = record { port = index; task = 0; body = Bye ok }
 
--- the tap before and after it took this message: it is of one of the ports, which hadn't said bye
--- in what was taken
+-- the tap before and after it took this message, which is of one of the ports whose Bye was not
+-- taken yet
 pub record IsAfterTaking (old new : Tap) (message : Message) : Type 0 where
   pub taken : taken_by new ≡ taken_by old ++ message ∷ []
   pub known : message.port < port_count old
   pub live : has_bye (of_port message.port (taken_by old)) ≡ false
 
--- the tap before and after it found nothing: all that the ports sent which it met was taken
+-- the tap before and after it found nothing: all messages of the ports that it met were taken
 pub record IsAfterNothing (old new : Tap) : Type 0 where
   pub taken : taken_by new ≡ taken_by old
   pub empty : All (λ p. of_port p.index (taken_by new) ≡ p.sent) (met_by new)
 
--- the tap is of the outlet as before, and has taken what it had
+-- the tap is of the outlet as before, and has taken the same messages
 pub record IsSameTap (outlet : Outlet) (old new : Tap) : Type 0 where
   pub belongs : IsTapOf outlet new
   pub ports : port_count new ≡ port_count old
   pub taken : taken_by new ≡ taken_by old
 
--- the port came back spent
+-- the port is returned spent
 pub record IsSpentPort (outlet : Outlet) (old new : Port) : Type 0 where
   pub belongs : IsPortOf outlet new
   pub index : index_of new ≡ index_of old
   pub said : has_said_bye new ≡ true
   pub spent : is_spent new ≡ true
 
--- the tap before and after it met this port, of which it has a prefix, and all at its Bye
+-- the tap before and after it met this port, of whose messages it has a prefix, and all if its Bye
+-- was taken
 pub record IsAfterMeeting (port : Port) (old new : Tap) : Type 0 where
   pub met : met_by new ≡ record { index = index_of port; sent = sent_by port } ∷ met_by old
   pub begins : IsPrefix (of_port (index_of port) (taken_by new)) (sent_by port)

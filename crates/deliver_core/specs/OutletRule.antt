@@ -1,4 +1,5 @@
--- The rule of an outlet's queue: what it holds and what its passes know come of one list of events.
+-- The rule of an outlet's queue: its contents and the knowledge of its passes come from the same
+-- list of events.
 use Rattle.std.specs.Prelude.{◌≡◌, ℕ, ◌<◌, List, All}
 use mathlib.Core.Option.{some}
 use lib.ListN.{get_elem?}
@@ -10,12 +11,12 @@ use Rattle.deliver_core.specs.Byes.{EndsAtBye}
 use Rattle.deliver_core.specs.Outlets.{State, Event, IsEventOf, initial, after_all}
 
 -- The list of each port is held by one pass, `holder`: the port's own, and once the port was met
--- the tap's. What the pass of the tap, `tap`, knows of a port that was met:
+-- the tap's. The knowledge of the tap's pass, `tap`, of a port that was met:
 abbrev pub KnowsMet : (ports tap : ℕ) (holder : ℕ → ℕ) → State → Met → Type 0
 KnowsMet ports tap holder s p =
     (p.index < ports) × (holder p.index ≡ tap) × (p.sent ≡ s.sent p.index)
 
--- what a pass knows of the state by its view
+-- the knowledge of a pass about the state, by its view
 abbrev pub Knows : (ports tap : ℕ) (holder : ℕ → ℕ) → State → ℕ → PassView → Type 0
 Knows ports tap holder s pass (Sender index sent) =
     (index < ports) × (holder index ≡ pass) × (sent ≡ s.sent index)
@@ -23,8 +24,8 @@ Knows ports tap holder s pass (Receiver made taken met) =
     (pass ≡ tap) × (made ≡ ports) × (taken ≡ s.taken) × All (KnowsMet ports tap holder s) met
 Knows ports tap holder s pass Spent = Unit {0}
 
--- There are events after which the queue holds what waits, nothing follows a Bye, and each pass
--- knows its part
+-- There are events after which the queue holds the waiting messages, nothing follows a Bye, and
+-- each pass knows its part
 pub record Delivers (items : List Message) (views : List PassView) : Type 0 where
   pub ports : ℕ
   pub tap : ℕ

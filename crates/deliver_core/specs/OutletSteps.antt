@@ -1,4 +1,4 @@
--- what a step on an outlet's queue tells the pass that makes it
+-- The knowledge that a step on an outlet's queue gives to the pass that makes it.
 use Rattle.std.specs.Prelude.{◌≡◌, ℕ, ◌<◌, true, false, Some, List, ◌∷◌, ◌++◌, [], All}
 use mathlib.Core.List.{IsPrefix}
 use Rattle.deliver_core.specs.declared.message.Message.{Message}
@@ -8,16 +8,16 @@ use Rattle.deliver_core.specs.PassViews.{sender_of, sent_of, ports_of, taken_of,
 use Rattle.deliver_core.specs.PassViews.{with_met}
 use Rattle.deliver_core.specs.Outlets.{of_port}
 
--- of each port that was met, a prefix of its list was taken
+-- the messages taken of each port that was met are a prefix of its list
 abbrev pub Begins : PassView → Type 0
 Begins v = All (λ p. IsPrefix (of_port p.index (taken_of v)) p.sent) (met_of v)
 
--- of each port that was met, its whole list was taken
+-- the messages taken of each port that was met are its whole list
 abbrev pub IsSettled : PassView → Type 0
 IsSettled v = All (λ p. of_port p.index (taken_of v) ≡ p.sent) (met_of v)
 
--- what the tap learns of the messages that wait: those of a port that was met are what is left of
--- its list
+-- the tap's knowledge of the waiting messages: those of a port that was met are the rest of its
+-- list
 abbrev pub TellsWaiting : PassView → List Message → Type 0
 TellsWaiting v items = All
     (λ p. (of_port p.index (taken_of v) ++ of_port p.index items ≡ p.sent) × EndsAtBye p.sent)

@@ -6,13 +6,13 @@ use Rattle.deliver_core.specs.declared.message.Message.{Message}
 abbrev pub of_port : ℕ → List Message → List Message
 of_port port ms = filter (λ m. m.port == port) ms
 
--- what waits, oldest first, what each port has sent, and what was taken
+-- the waiting messages, oldest first, the messages that each port has sent, and those taken
 pub record State : Type 0 where
   pub waiting : List Message
   pub sent : ℕ → List Message
   pub taken : List Message
 
--- a port puts a message, or the front is taken
+-- a port puts a message, or the oldest message is taken
 pub data Event : Type 0 where
   Put : (port : ℕ) (message : Message) → Event
   Take : Event
@@ -25,7 +25,7 @@ IsEventOf ports Take = Unit {0}
 abbrev pub initial : State
 initial = record { waiting = []; sent = λ port. []; taken = [] }
 
--- the message joins at the back, and ends what its port has sent
+-- the message is added to the end of the waiting ones and of those that its port has sent
 abbrev pub after_put : ℕ → Message → State → State
 after_put port message s = record {
   waiting = s.waiting ++ message ∷ [];
@@ -33,7 +33,7 @@ after_put port message s = record {
   taken = s.taken;
 }
 
--- the front of these waiting messages ends what was taken. Where nothing waits, nothing changes
+-- the oldest waiting message is added to those taken. If none waits, nothing changes
 abbrev pub after_take : List Message → State → State
 after_take [] s = s
 after_take (front ∷ rest) s =
@@ -47,8 +47,8 @@ abbrev pub after_all : List Event → State → State
 after_all [] s = s
 after_all (event ∷ events) s = after_all events (after event s)
 
--- What was taken of a port, and then what waits of it, is what it sent. Nothing taken or waiting is
--- of another port
+-- The messages taken of a port followed by its waiting ones are those that it sent. No message
+-- taken or waiting is of another port
 pub record IsLawful (ports : ℕ) (s : State) : Type 0 where
   pub each : (port : ℕ) → of_port port (s.taken ++ s.waiting) ≡ s.sent port
   pub known : All (λ m. m.port < ports) (s.taken ++ s.waiting)

@@ -1,11 +1,11 @@
--- what a pass of an outlet's queue knows, and how each step changes it
+-- The knowledge of a pass of an outlet's queue, and how each step changes it.
 use Rattle.std.specs.Prelude.{ℕ, ◌+◌, Bool, true, false, Option, Some, None, List, [], ◌∷◌, ◌++◌}
 use Rattle.deliver_core.specs.declared.message.Message.{Message}
 use Rattle.deliver_core.specs.declared.pass_view.Met.{Met}
 use Rattle.deliver_core.specs.declared.pass_view.PassView.{PassView}
 use Rattle.deliver_core.specs.declared.pass_view.PassView.TheVariants.{Sender, Receiver, Spent}
 
--- the index of a port, by its view, and what it has sent
+-- the index of a port, by its view, and the messages that it has sent
 abbrev pub sender_of : PassView → Option ℕ
 sender_of (Sender index sent) = Some index
 sender_of (Receiver ports taken met) = None
@@ -22,7 +22,7 @@ is_receiver (Sender index sent) = false
 is_receiver (Receiver ports taken met) = true
 is_receiver Spent = false
 
--- by the tap's view: how many ports were made, what was taken, and which ports were met
+-- by the tap's view: the number of ports, the messages taken, and the ports met
 abbrev pub ports_of : PassView → ℕ
 ports_of (Sender index sent) = 0
 ports_of (Receiver ports taken met) = ports

@@ -1,4 +1,4 @@
--- What clauses see of a port and of a tap, and which of them are of an outlet.
+-- The values of ports and taps in contracts, and whether they belong to an outlet.
 use Rattle.std.specs.Prelude.{◌≡◌, ℕ, Bool, false, Option, Some, None, List, [], is_none}
 use Rattle.std.specs.Option.{ForSome}
 use Rattle.crossbeam_queue.specs.Passes.{Pass, IsPassOf, view, ruled_capacity}
@@ -21,7 +21,7 @@ has_said_bye port = port.said_bye
 abbrev pub is_spent : Port → Bool
 is_spent port = is_none port.pass
 
--- what a port has sent, unless it is spent
+-- the messages that a port has sent, unless it is spent
 abbrev pub sent_with : Option (Pass Message PassView) → List Message
 sent_with (Some pass) = sent_of (view pass)
 sent_with None = []
@@ -32,11 +32,11 @@ sent_by port = sent_with port.pass
 abbrev pub taken_by : Tap → List Message
 taken_by tap = taken_of (view tap.pass)
 
--- each port that the tap has met, with all that the port had sent
+-- each port that the tap has met, with all messages that the port had sent
 abbrev pub met_by : Tap → List Met
 met_by tap = met_of (view tap.pass)
 
--- how many ports the outlet of a tap has
+-- the number of ports of a tap's outlet
 abbrev pub port_count : Tap → ℕ
 port_count tap = ports_of (view tap.pass)
 
@@ -57,6 +57,6 @@ pub record IsNewPort (index : ℕ) (pass : Pass Message PassView) (port : Port) 
   pub numbered : port.index ≡ index
   pub silent : port.said_bye ≡ false
 
--- how many messages may wait in the outlet
+-- the capacity of the outlet, in messages
 abbrev pub room_of : Outlet → ℕ
 room_of outlet = ruled_capacity outlet.queue

@@ -1,4 +1,4 @@
--- how a collector's counters, one a task, tell its history
+-- How a collector's counters, one per task, represent its history.
 use Rattle.std.specs.Prelude.{◌≡◌, ℕ, ◌<◌, ◌^◌, if◌then◌else◌, List, [], ◌∷◌, ◌++◌, length, All}
 use Rattle.std.specs.Prelude.{slice_index_or}
 use Rattle.deliver_core.specs.declared.mark.Mark.{Mark}
@@ -6,7 +6,7 @@ use Rattle.deliver_core.specs.declared.mark.Mark.TheVariants.{End}
 use Rattle.deliver_core.specs.declared.collector.Progress.{Progress}
 use Rattle.deliver_core.specs.Marks.{task_of, marks_of, batch_marks}
 
--- the marks of a task that has come so far
+-- the marks of a task with this progress
 abbrev pub told : ℕ → Progress → List Mark
 told task p = batch_marks task p.next ++ (if p.ended then End task p.next ∷ [] else [])
 

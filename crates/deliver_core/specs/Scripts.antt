@@ -1,4 +1,4 @@
--- what a message says, and the script of a task
+-- The contents of messages, and the script of a task.
 use Rattle.std.specs.Prelude.{ℕ, ◌+◌, ◌-◌, ◌*◌, ◌/◌, ◌==◌, Bool, false, List, [], ◌∷◌, ◌++◌, map}
 use Rattle.std.specs.Prelude.{filter, length, take, drop}
 use Rattle.std.specs.List.{flat_map, range_with_len}
@@ -8,8 +8,8 @@ use Rattle.deliver_core.specs.declared.message.Body.{Body}
 use Rattle.deliver_core.specs.declared.message.Body.TheVariants as body
 use Rattle.deliver_core.specs.declared.message.Message.{Message}
 
--- what a message says, whichever port it came by: a batch of a task with its number and pairs, the
--- end of a task with the number of its batches, or a bye
+-- the content of a message, regardless of its port: a batch of a task with its number and pairs,
+-- the end of a task with the number of its batches, or a bye
 pub data Content : Type 0 where
   batch_of : ℕ → ℕ → List (ℕ × ℕ) → Content
   end_of : ℕ → ℕ → Content
@@ -28,7 +28,7 @@ IsBye (batch_of task number pairs) = ⊥
 IsBye (end_of task count) = ⊥
 IsBye (bye ok) = Unit {0}
 
--- the mark that a message leaves where it is accepted, if any
+-- the mark that a message leaves when it is accepted, if any
 abbrev pub marks_in : Content → List Mark
 marks_in (batch_of task number pairs) = Batch task number ∷ []
 marks_in (end_of task count) = End task count ∷ []
@@ -49,7 +49,7 @@ is_of task (bye ok) = false
 abbrev pub of_task : ℕ → List Content → List Content
 of_task task contents = filter (is_of task) contents
 
--- how many batches of so many pairs a row takes, the last of which may be shorter
+-- the number of batches of `size` pairs that a row takes, the last of which may be shorter
 abbrev pub batches_for : ℕ → List (ℕ × ℕ) → ℕ
 batches_for size row = (length row + (size - 1)) / size
 
@@ -62,7 +62,7 @@ abbrev pub script_batches : ℕ → ℕ → List (ℕ × ℕ) → ℕ → List C
 script_batches task size row count =
     map (λ number. batch_of task number (piece_of size row number)) (range_with_len 0 count)
 
--- the script of a task: its row cut into batches of `size` pairs, the last being what is left,
+-- the script of a task: its row cut into batches of `size` pairs, the last of which may be shorter,
 -- numbered from 0, and then the end with their number
 abbrev pub script : ℕ → ℕ → List (ℕ × ℕ) → List Content
 script task size row =

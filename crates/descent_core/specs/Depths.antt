@@ -5,12 +5,12 @@ use Rattle.rtree_core.specs.declared.node.Node.{Node}
 use Rattle.rtree_core.specs.Nodes.{children_of}
 use Rattle.descent_core.specs.Lists.{pairs}
 
--- the children, or the node itself where there are none
+-- the children, or the node itself if there are none
 abbrev pub or_itself : Node → List Node → List Node
 or_itself n [] = n ∷ []
 or_itself n (c ∷ cs) = c ∷ cs
 
--- what stands one level below a node: its children; a leaf, which has none, stands for itself
+-- the nodes one level below a node: its children, or the node itself if it is a leaf
 abbrev pub lower : Node → List Node
 lower n = or_itself n (children_of n)
 
@@ -18,8 +18,8 @@ lower n = or_itself n (children_of n)
 abbrev pub lower_pairs : Node × Node → List (Node × Node)
 lower_pairs p = pairs (lower p.0) (lower p.1)
 
--- the pairs of a left and a right node that each stand so many levels below those of the pair, or
--- are leaves that stand higher; in the order of their paths, whose places are taken in turn
+-- the pairs of a left and a right node that are each this number of levels below those of the pair,
+-- or are leaves at a higher level; ordered by their paths, whose positions are taken alternately
 abbrev pub at_depth : ℕ → Node × Node → List (Node × Node)
 at_depth zero p = p ∷ []
 at_depth (suc d) p = flat_map (at_depth d) (lower_pairs p)

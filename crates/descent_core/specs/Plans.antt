@@ -8,7 +8,7 @@ use Rattle.rtree_core.specs.Trees.{has_number}
 use Rattle.descent_core.specs.Lists.{IsKept}
 use Rattle.descent_core.specs.Depths.{at_depth}
 
--- the most tasks of a plan
+-- the greatest number of tasks of a plan
 abbrev pub most_tasks : ℕ
 most_tasks = 65536
 
@@ -16,7 +16,7 @@ most_tasks = 65536
 abbrev pub CoversMeet : Node × Node → Type 0
 CoversMeet p = Meets (node_cover p.0) (node_cover p.1)
 
--- the pair of the roots of two trees, where both have one
+-- the pair of the roots of two trees, if both have one
 abbrev pub roots : Option Node → Option Node → List (Node × Node)
 roots (Some a) (Some b) = (a, b) ∷ []
 roots (Some a) None = []
@@ -26,7 +26,7 @@ roots None right = []
 abbrev pub AreAt : List (Node × Node) → ℕ → List (Node × Node) → Type 0
 AreAt above d met = IsKept CoversMeet (flat_map (at_depth d) above) met
 
--- there are not too many of them for a plan
+-- they are not too many for a plan
 abbrev pub AreFewAt : List (Node × Node) → ℕ → Type 0
 AreFewAt above d = (met : List (Node × Node)) × AreAt above d met × (length met ≤ most_tasks)
 
@@ -46,7 +46,7 @@ pub record AreDeepest (above : List (Node × Node)) (cut : ℕ) (tasks : List (N
 abbrev pub IsPlan : Option Node → Option Node → ℕ → List (Node × Node) → Type 0
 IsPlan left right cut tasks = AreDeepest (roots left right) cut tasks
 
--- a task: two lawful nodes, in neither of which two entries have one number
+-- a task: two lawful nodes, in neither of which two entries have the same number
 pub record IsTask (task : Node × Node) : Type 0 where
   pub left : IsLawful task.0
   pub right : IsLawful task.1

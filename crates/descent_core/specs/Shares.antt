@@ -1,4 +1,4 @@
--- How tasks share out the entries of two trees, and what their rows are together.
+-- How tasks divide the entries of two trees, and the pairs of all their rows.
 use Rattle.std.specs.Prelude.{◌≡◌, ◌≤◌, ◌==◌, ◌&&◌, ◌↔◌, ℕ, Bool, List, length, All, Contains, Some}
 use Rattle.std.specs.Prelude.{slice_get, count_by}
 use Rattle.std.specs.List.{flat_map}
@@ -22,7 +22,7 @@ pub record IsInOne (tasks : List (Node × Node)) (e f : Entry) : Type 0 where
   pub only : (k : ℕ) (other : Node × Node) →
       slice_get tasks k ≡ Some other → HoldsBoth e f other → k ≡ place
 
--- the tasks hold nothing but these entries, and each two that meet are in exactly one
+-- the tasks hold only these entries, and each two that meet are in exactly one task
 pub record ShareOut (left right : List Entry) (tasks : List (Node × Node)) : Type 0 where
   pub lefts : All (λ t. All (Contains left) (entries_of t.0)) tasks
   pub rights : All (λ t. All (Contains right) (entries_of t.1)) tasks
@@ -46,7 +46,7 @@ pub record IsJoin (relation : Relation) (left right : List Entry) (all : List (�
   pub exact : (pair : ℕ × ℕ) → Contains all pair ↔ StandIn relation left right pair
   pub once : (pair : ℕ × ℕ) → count_by (is_pair pair) all ≤ 1
 
--- the rows of the tasks are, together, the pairs of these entries
+-- the rows of the tasks together are the pairs of these entries
 abbrev pub RowsJoin : Relation → List Entry → List Entry → List (Node × Node) → Type 0
 RowsJoin relation left right tasks = (rows : List (List (ℕ × ℕ))) →
     AreRows relation tasks rows → IsJoin relation left right (flat_map (λ row. row) rows)

@@ -4,13 +4,13 @@ use Rattle.std.specs.Prelude.{chars}
 use Rattle.std.specs.List.{flat_map}
 use Rattle.std.specs.Char.{encode_utf8}
 
--- a character of an XML text: tab, line feed, carriage return, and each from U+0020 on but
--- U+FFFE and U+FFFF (text in UTF-8 has no surrogate)
+-- a character of XML text: tab, line feed, carriage return, and each from U+0020 except U+FFFE and
+-- U+FFFF (text in UTF-8 has no surrogates)
 abbrev pub is_xml_char : ℕ → Bool
 is_xml_char c =
     c == 9 || c == 10 || c == 13 || (nat_le 32 c && (not (c == 65534) && not (c == 65535)))
 
--- `&`, `<`, `>`, `"` and `'` by reference, and U+FFFD for what XML forbids
+-- `&`, `<`, `>`, `"` and `'` as references, and U+FFFD for characters that XML forbids
 abbrev pub label_char : ℕ → List ℕ
 label_char c =
     if c == 38 then codes "&amp;"

@@ -1,6 +1,6 @@
--- How much a picture may have.
+-- The limit of a picture.
 use Rattle.std.specs.Prelude.{ℕ}
 
--- how many features of both layers together are drawn at most
+-- the greatest number of features of both layers together that are drawn
 abbrev pub most_drawn : ℕ
 most_drawn = 100000

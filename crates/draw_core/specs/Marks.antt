@@ -12,6 +12,6 @@ has_left pairs number = list_any (λ p. number == p.0) pairs
 abbrev pub has_right : List (ℕ × ℕ) → ℕ → Bool
 has_right pairs number = list_any (λ p. number == p.1) pairs
 
--- the set has the numbers that pass the test, and no other
+-- the set has exactly the numbers that pass the test
 abbrev pub HoldsExactly : BTreeSet ℕ → (ℕ → Bool) → Type 0
 HoldsExactly set test = (number : ℕ) → contains nat_cmp set number ≡ test number

@@ -14,12 +14,12 @@ use Rattle.draw_core.specs.Views.{View, view_of, drawn_height}
 abbrev pub numbered : List ℕ → ℤ → List ℕ
 numbered command number = command ++ signed_decimal number
 
--- where the path of a shape begins (SVG 1.1, section 8.3): at its upper left corner
+-- the start of a shape's path (SVG 1.1, section 8.3): its upper left corner
 abbrev pub corner : View → Shape → List ℕ
 corner view s =
     numbered (codes "M") (x1 s -ℤ view.left) ++ numbered (codes " ") (view.top -ℤ y2 s)
 
--- back to there, where the shape is a rectangle
+-- the way back to the start, if the shape is a rectangle
 abbrev pub way_back : Shape → List ℕ
 way_back s = if dim_of s == 2 then numbered (codes "h-") (x2 s -ℤ x1 s) ++ codes "z" else []
 
@@ -29,7 +29,7 @@ outline view s =
     corner view s ++ (numbered (codes "h") (x2 s -ℤ x1 s)
     ++ (numbered (codes "v") (y2 s -ℤ y1 s) ++ way_back s))
 
--- the start of a path's element: points and matches are told by their class
+-- the start of a path element: points and matches have classes
 abbrev pub start_of : ℕ → Bool → List ℕ
 start_of dim is_match =
     if dim == 0
@@ -57,7 +57,7 @@ group side view is_match layer =
 abbrev pub counted : List ℕ → ℕ → List ℕ
 counted before count = before ++ decimal count
 
--- what the classes look like: the left layer is blue, the right one vermillion, and matches are
+-- the style of the classes: the left layer is blue, the right one vermillion, and matches are
 -- filled more strongly
 abbrev pub style : List ℕ
 style =
@@ -67,7 +67,7 @@ style =
     ++ (codes ".point.match{stroke-width:.9%}.left{fill:#0072B2;stroke:#0072B2}"
     ++ codes ".right{fill:#D55E00;stroke:#D55E00}</style>\n")))
 
--- the start of a picture that is so high: its size, its style and its ground
+-- the start of a picture of this height: its size, its style and its background
 abbrev pub opening : ℕ → List ℕ
 opening height =
     codes "<svg xmlns=\"http://www.w3.org/2000/svg\" version=\"1.1\""
@@ -75,7 +75,7 @@ opening height =
     ++ (counted (codes "\" viewBox=\"0 0 1000 ") height ++ (codes "\">\n"
     ++ (style ++ codes "<rect width=\"100%\" height=\"100%\" fill=\"#fff\"/>\n"))))
 
--- what stands in the legend before each number: a square of the colour, and what is counted
+-- the legend before each number: a square of the colour, and the name of the number
 abbrev pub left_key : List ℕ
 left_key =
     codes "<path class=\"left\" d=\"M20 12h16v16h-16z\"/>"
@@ -92,25 +92,25 @@ match_key =
     ++ (codes "<path class=\"right match\" d=\"M642 12h16v16h-16z\"/>"
     ++ codes "<text x=\"668\" y=\"26\">matching pairs: ")
 
--- how many left features, right features and pairs there are
+-- the numbers of left features, right features and pairs
 abbrev pub legend : ℕ → ℕ → ℕ → List ℕ
 legend left right pairs =
     counted left_key left ++ (counted right_key right ++ (counted match_key pairs
     ++ codes "</text>\n"))
 
--- the start of the element that shows the view and is so high, below the legend
+-- the start of the element that shows the view at this height, below the legend
 abbrev pub canvas : ℕ → View → List ℕ
 canvas height view =
     counted (codes "<svg y=\"40\" width=\"1000\" height=\"") height
     ++ (counted (codes "\" preserveAspectRatio=\"xMidYMin\" viewBox=\"0 0 ") view.width
     ++ (counted (codes " ") view.height ++ codes "\">\n"))
 
--- the ends of the view's element and of the picture
+-- the end tags of the view's element and of the picture
 abbrev pub closing : List ℕ
 closing = codes "</svg>\n</svg>\n"
 
--- the legend, and each feature of the left layer and then of the right one, in order, where those
--- that occur in a pair are highlighted
+-- the legend, and each feature of the left layer and then of the right one, in order, with those
+-- that occur in a pair highlighted
 abbrev pub picture_of : Contents → Contents → List (ℕ × ℕ) → List ℕ
 picture_of left right pairs =
     let view = view_of left right in

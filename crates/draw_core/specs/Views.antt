@@ -15,18 +15,18 @@ pub record View : Type 0 where
   pub width : ℕ
   pub height : ℕ
 
--- how far apart two coordinates are at most
+-- the greatest distance of two coordinates
 abbrev pub greatest_distance : ℕ
 greatest_distance = 2 * greatest_coordinate
 
--- a twentieth of the longer side, and one unit more
+-- a twentieth of the longer side, plus one unit
 abbrev pub margin_of : ℕ → ℕ → ℕ
 margin_of width height = max width height / 20 + 1
 
 abbrev pub greatest_margin : ℕ
 greatest_margin = margin_of greatest_distance greatest_distance
 
--- at most twice as far out as a coordinate
+-- at most twice as far from the origin as a coordinate
 abbrev pub IsNear : ℤ → Type 0
 IsNear c = (neg_ℤ (pos greatest_distance) ≤ℤ c) × (c ≤ℤ pos greatest_distance)
 
@@ -36,7 +36,7 @@ pub record HasSize (width height : ℕ) : Type 0 where
   pub width_few : width ≤ greatest_distance + 2 * greatest_margin
   pub height_few : height ≤ greatest_distance + 2 * greatest_margin
 
--- how high a view is drawn at a width of 1,000: in its proportion, and at most twice that
+-- the height at which a view is drawn in a picture 1,000 wide: in proportion, but at most 2,000
 abbrev pub drawn_height : View → ℕ
 drawn_height view = min (div_ceil (1000 * view.height) view.width) 2000
 
@@ -50,7 +50,7 @@ abbrev pub cover_with : Option Shape → List Feature → Option Shape
 cover_with cover [] = cover
 cover_with cover (f ∷ fs) = cover_with (Some (widened cover f.shape)) fs
 
--- about these corners, with a margin on each side
+-- the view around these corners, with a margin on each side
 abbrev pub view_around : ℤ → ℤ → ℤ → ℤ → View
 view_around a b c d =
     let width = unsigned_abs (c -ℤ a) in
@@ -63,11 +63,11 @@ view_around a b c d =
       height = height + 2 * margin;
     }
 
--- about the cover, or about the origin where there is none
+-- the view around the cover, or around the origin if there is none
 abbrev pub view_about : Option Shape → View
 view_about None = view_around (pos 0) (pos 0) (pos 0) (pos 0)
 view_about (Some s) = view_around (x1 s) (y1 s) (x2 s) (y2 s)
 
--- the view of two layers: their cover and its margin
+-- the view of two layers: their cover with its margin
 abbrev pub view_of : Contents → Contents → View
 view_of left right = view_about (cover_with (cover_with None left.features) right.features)

@@ -1,4 +1,4 @@
--- Edges by their numbers, as a tree of their boxes has them.
+-- Edges with their numbers, as entries of a tree of their boxes.
 use Rattle.std.specs.Prelude.{◌≡◌, ℕ, ◌<◌, List, length, Contains}
 use Rattle.std.specs.List.{slice_index_or}
 use Rattle.plane_core.specs.declared.edge.Edge.{Edge}
@@ -10,13 +10,13 @@ pub record IsEntryOf (number : ℕ) (e : Edge) (entry : Entry) : Type 0 where
   pub number_is : entry.number ≡ number
   pub box_is : IsBoxOf e entry.shape
 
--- an entry for each edge, numbered by the edge's place
+-- one entry for each edge, numbered by the edge's index
 pub record AreEntriesOf (es : List Edge) (entries : List Entry) : Type 0 where
   pub len : length entries ≡ length es
   pub each : (k : ℕ) → k < length es → (e : Edge) (x : Entry)
       → IsEntryOf k (slice_index_or es k e) (slice_index_or entries k x)
 
--- an entry of each edge is among these
+-- these include an entry of each edge
 abbrev pub HasEntriesOf : List Edge → List Entry → Type 0
 HasEntriesOf es entries =
     (k : ℕ) → k < length es → (d : Edge)

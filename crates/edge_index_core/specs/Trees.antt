@@ -14,7 +14,7 @@ pub record IsEntryIn (es : List Edge) (x : Entry) : Type 0 where
   pub within : x.number < length es
   pub box_is : (d : Edge) → IsBoxOf (slice_index_or es x.number d) x.shape
 
--- entries of which each edge has one, in any order, and that are of no other edge
+-- entries in any order, exactly one for each edge
 pub record HoldsEdges (es : List Edge) (held : List Entry) : Type 0 where
   pub entries : List Entry
   pub are : AreEntriesOf es entries

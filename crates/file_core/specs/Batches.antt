@@ -17,24 +17,24 @@ use Rattle.file_core.specs.Records.{Record}
 use Rattle.layer_core.specs.Refusals.{is_id}
 use Rattle.file_core.specs.Unread.{IsUnread, count_unread, records_unread}
 
--- the row's id has as many bytes as an id may have
+-- the length of the row's id is that of an id
 abbrev pub HasId : ReadRow → Type 0
 HasId row = IsTrue (is_id (id_bytes row.id))
 
--- what follows where a layer was given, or the fault
+-- the consequence for a layer, or the fault
 abbrev pub if_given : Result Contents ReadFault → (Contents → Result Contents ReadFault)
     → Result Contents ReadFault
 if_given (Ok layer) next = next layer
 if_given (Err fault) next = Err fault
 
--- the layer with these rows in turn, or the fault of the first that it refuses: each row before it
--- has inserted a feature
+-- the layer with these rows inserted in order, or the fault of the first row that it refuses; each
+-- row before it has inserted a feature
 abbrev pub with_rows : Contents → List ReadRow → Result Contents ReadFault
 with_rows layer [] = Ok layer
 with_rows layer (row ∷ rows) =
     if_given (with_row (layer.next + 1) layer (Ok (content_of row))) (λ l. with_rows l rows)
 
--- a layer with rows that were read, or the fault of the row behind them
+-- a layer with the rows read, or the fault of the row after them
 abbrev pub after_rows : Result Bool ReadFault → Contents → Result Contents ReadFault
 after_rows (Ok more) layer = Ok layer
 after_rows (Err fault) layer = Err fault
@@ -44,25 +44,25 @@ abbrev pub all_rows : List (Vec ReadRow Global) → List ReadRow
 all_rows [] = []
 all_rows (rows ∷ parts) = rows.items ++ all_rows parts
 
--- the layer with these rows or the fault is answered, running out of memory aside
+-- the result is the layer with these rows or the fault, unless memory ran out
 abbrev pub AnswersRows : Contents → List ReadRow → Result Contents ReadFault → Type 0
 AnswersRows layer rows answer =
     (answer ≢ Err Memory → with_rows layer rows ≡ answer) × (answer ≢ Err Io)
 
--- the first of these records say these rows in turn, and the others are left
+-- the first of these records have the contents of these rows in order, and the others remain
 abbrev pub SayInTurn : Scale → List Record → List ReadRow → List Record → Type 0
 SayInTurn scale records [] left = records ≡ left
 SayInTurn scale [] (row ∷ rows) left = ⊥
 SayInTurn scale (first ∷ records) (row ∷ rows) left =
     Says scale first (content_of row) × SayInTurn scale records rows left
 
--- the first of these records, which has this number, has this fault by itself
+-- the first of these records, whose number this is, has this fault by itself
 abbrev pub HasFault : Scale → ℕ → List Record → ReadFault → Type 0
 HasFault scale n [] fault = ⊥
 HasFault scale n (row ∷ rows) fault = RowSays scale n row (Err fault)
 
--- what is behind the rows that were read, where the next row has this number: rows that weren't
--- read or none, certainly none, or a row with this fault
+-- what follows the rows read, if the next row has this number: possibly unread rows, certainly
+-- none, or a row with this fault
 abbrev pub IsBehind : Scale → ℕ → List ReadRow → Result Bool ReadFault → List Record → Unread
     → Type 0
 IsBehind scale n read (Ok true) left new =
@@ -70,7 +70,7 @@ IsBehind scale n read (Ok true) left new =
 IsBehind scale n read (Ok false) left new = left ≡ []
 IsBehind scale n read (Err fault) left new = fault ≢ Memory → HasFault scale n left fault
 
--- a batch: these rows were read, and this is what was found behind them
+-- a batch: these rows were read, and this follows them
 pub record IsBatch
     (scale : Scale) (old : Unread) (read : List ReadRow) (more : Result Bool ReadFault)
     (new : Unread)

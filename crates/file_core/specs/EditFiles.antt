@@ -1,4 +1,4 @@
--- The edits that a CSV file stands for, or why it is refused.
+-- The edits of a CSV file, or its fault.
 use Rattle.std.specs.Prelude.{◌≡◌, ◌&&◌, ℕ, List, [], ◌∷◌, ◌++◌, map, codes, Some, None}
 use Rattle.std.specs.Prelude.{MatchOption, Result, Ok, Err}
 use Rattle.std.specs.Bool.{MatchBool}
@@ -57,7 +57,7 @@ EditsRowGives scale n edits row answer =
 abbrev pub IsEditFile : Scale → List ℕ → Result (List EditContent) ReadFault → Type 0
 IsEditFile scale bytes answer = FileGives edit_columns (EditsRowGives scale) [] bytes answer
 
--- a list of edits as what they say, or the fault
+-- the contents of a list of edits, or the fault
 abbrev pub edit_contents : Result (Vec Edit Global) ReadFault → Result (List EditContent) ReadFault
 edit_contents (Ok edits) = Ok (map content_of edits.items)
 edit_contents (Err fault) = Err fault

@@ -6,7 +6,7 @@ use Rattle.file_core.specs.declared.read_fault.ReadFault.{ReadFault}
 use Rattle.file_core.specs.declared.read_fault.ReadFault.TheVariants.{Io, TooLong, Header, Row}
 use Rattle.file_core.specs.declared.read_fault.ReadFault.TheVariants.{Wkt, Layer, Memory}
 
--- the row that is at fault, if one is
+-- the number of the row at fault, if there is one
 abbrev pub row_of : ReadFault → Option ℕ
 row_of (Row n) = Some n
 row_of (Wkt n fault) = Some n
@@ -16,7 +16,7 @@ row_of TooLong = None
 row_of Header = None
 row_of Memory = None
 
--- what is wrong, be it with a row
+-- the text of the fault, without its row
 abbrev pub cause_text : ReadFault → List ℕ
 cause_text Io = codes "read failed"
 cause_text TooLong = codes "file is too long"
@@ -26,7 +26,7 @@ cause_text (Wkt n fault) = wkt_text fault
 cause_text (Layer n fault) = layer_text fault
 cause_text Memory = codes "no memory"
 
--- the number of a row, before what is wrong with it
+-- the number of a row, before the text of its fault
 abbrev pub row_text : ℕ → List ℕ
 row_text n = codes "row " ++ (decimal n ++ codes ": ")
 

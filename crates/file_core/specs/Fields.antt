@@ -1,4 +1,4 @@
--- What the fields of a row say.
+-- The meaning of the fields of a row.
 use Rattle.std.specs.Prelude.{◌≡◌, ◌⊎◌, ℕ, List, IsTrue, IsUtf8, codes, Option, Some, None, Result}
 use Rattle.std.specs.Prelude.{Err, if◌then◌else◌}
 use Rattle.std.specs.Str.{bytes_eq}
@@ -9,11 +9,11 @@ use Rattle.file_core.specs.declared.read_fault.ReadFault.{ReadFault}
 use Rattle.file_core.specs.declared.read_fault.ReadFault.TheVariants.{Layer}
 use Rattle.layer_core.specs.Refusals.{is_id}
 
--- the bytes are UTF-8, and as many as an id may have
+-- the bytes are UTF-8, and their number is that of an id
 abbrev pub IsId : List ℕ → Type 0
 IsId bytes = IsUtf8 bytes × IsTrue (is_id bytes)
 
--- a field of this row that has to be an id, and what follows where it is one
+-- a field of this row that has to be an id, and the consequence if it is one
 abbrev pub AfterId : {A : Type 0} → ℕ → List ℕ → Result A ReadFault → Type 0 → Type 0
 AfterId n id answer Then =
     (¬ (IsId id) × (answer ≡ Err (Layer n BadId))) ⊎ (IsId id × Then)

@@ -1,4 +1,4 @@
--- The layer that a CSV file stands for, or why it is refused.
+-- The layer of a CSV file, or its fault.
 use Rattle.std.specs.Prelude.{◌≡◌, ℕ, List, [], ◌∷◌, codes, Option, Some, None, Result, Ok, Err}
 use Rattle.wkt_core.specs.declared.scale.Scale.{Scale}
 use Rattle.layer_core.specs.declared.fault.LayerFault.{LayerFault}
@@ -28,13 +28,13 @@ fault_of_row n DoubleId = Layer n DoubleId
 fault_of_row n LayerFull = Layer n LayerFull
 fault_of_row n NoSuchId = Layer n NoSuchId
 
--- the layer with the feature of the row of this number, or the row's fault
+-- the layer with the feature of the row with this number, or the row's fault
 abbrev pub with_row : ℕ → Contents → Result RowContent ReadFault → Result Contents ReadFault
 with_row n layer (Ok row) =
     refused_or n (insert_refusal layer row.id) (inserted layer row.id row.shape)
 with_row n layer (Err fault) = Err fault
 
--- what the row of this number gives a layer, with numbers read at a scale
+-- the result of adding the row with this number to a layer, with coordinates at a scale
 abbrev pub LayerRowGives : Scale → ℕ → Contents → Record → Result Contents ReadFault → Type 0
 LayerRowGives scale n layer row answer =
     (content : Result RowContent ReadFault) × RowSays scale n row content
@@ -44,7 +44,7 @@ abbrev pub IsLayerFile : Scale → List ℕ → Result Contents ReadFault → Ty
 IsLayerFile scale bytes answer =
     FileGives layer_columns (LayerRowGives scale) empty bytes answer
 
--- the list of a layer that was read, or why none was
+-- the list of a layer that was read, or the fault
 abbrev pub list_read : Result LayerState ReadFault → Result Contents ReadFault
 list_read (Ok layer) = Ok layer.list
 list_read (Err fault) = Err fault

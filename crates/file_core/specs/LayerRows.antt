@@ -1,4 +1,4 @@
--- What a row of a layer's file says by itself: a feature's id and shape, or the row's own fault.
+-- The content of a row of a layer's file: a feature's id and shape, or the row's own fault.
 use Rattle.std.specs.Prelude.{◌≡◌, ℕ, List, [], ◌∷◌, Result, Ok, Err}
 use Rattle.geom_core.specs.declared.shape.Shape.{Shape}
 use Rattle.layer_core.specs.Ids.{id_bytes}
@@ -19,12 +19,12 @@ pub record RowContent : Type 0 where
 abbrev pub content_of : ReadRow → RowContent
 content_of row = record { id = id_bytes row.id; shape = row.shape }
 
--- the content of the row of this number, where its geometry was read
+-- the content of the row with this number, given the result of reading its geometry
 abbrev pub content_with : ℕ → List ℕ → Result Shape WktFault → Result RowContent ReadFault
 content_with n id (Ok shape) = Ok (record { id = id; shape = shape })
 content_with n id (Err fault) = Err (Wkt n fault)
 
--- what the row of this number says, with numbers read at a scale
+-- the content of the row with this number, with coordinates at a scale
 abbrev pub RowSays : Scale → ℕ → Record → Result RowContent ReadFault → Type 0
 RowSays scale n (id ∷ wkt ∷ []) content =
     AfterId n id content
@@ -32,6 +32,6 @@ RowSays scale n (id ∷ wkt ∷ []) content =
     × (content ≡ content_with n id shape))
 RowSays scale n _ content = content ≡ Err (Row n)
 
--- the row says this, whatever its number is
+-- the content of the row, whatever its number
 abbrev pub Says : Scale → Record → RowContent → Type 0
 Says scale row content = (n : ℕ) → RowSays scale n row (Ok content)

@@ -1,6 +1,6 @@
--- How much a file may have.
+-- The limit of a file.
 use Rattle.std.specs.Prelude.{ℕ}
 
--- how many bytes a file may have
+-- the greatest number of bytes of a file
 abbrev pub most_file_bytes : ℕ
 most_file_bytes = 134217728

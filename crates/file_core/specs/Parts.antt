@@ -1,4 +1,4 @@
--- Parts of a text of records, and the rows that were read of them.
+-- Parts of a text of records, and the rows read from them.
 use Rattle.std.specs.Prelude.{◌≡◌, ◌+◌, ◌++◌, ℕ, List, [], length, All}
 use Rattle.csv.specs.Reading.{default_config, records}
 use Rattle.csv.specs.declared.parser.State.TheVariants.{StartRecord}
@@ -24,7 +24,7 @@ pub record IsBoth (first second both : Parts) : Type 0 where
   pub rows : rows_of both ≡ rows_of first ++ rows_of second
   pub count : both.count ≡ first.count + second.count
 
--- these rows alone
+-- only these rows
 pub record IsOnePart (read : List ReadRow) (parts : Parts) : Type 0 where
   pub rows : rows_of parts ≡ read
   pub count : parts.count ≡ length read

@@ -1,4 +1,4 @@
--- The records of a CSV text, and those that a reader of it has left.
+-- The records of a CSV text, and those that a reader of it hasn't read yet.
 use Rattle.std.specs.Prelude.{◌≡◌, ◌+◌, ℕ, true, false, List, [], ◌∷◌, length, IsTrue, Option, Some}
 use Rattle.std.specs.Prelude.{unwrap_or}
 use Rattle.std.specs.Borrow.{Bor}
@@ -14,23 +14,23 @@ use Rattle.csv.specs.declared.reader.Trim.TheVariants as trim
 abbrev pub Record : Type 0
 Record = List (List ℕ)
 
--- the records that `csv` reads from a text, a byte order mark at its start aside
+-- the records that `csv` reads from a text, without a byte order mark at its start
 abbrev pub records_of : List ℕ → List Record
 records_of text = records default_config (strip_bom text)
 
 abbrev pub source : Reader (Bor (List ℕ)) → Option (List ℕ)
 source reader = source_of (λ s. Some s.now) reader
 
--- the bytes that a reader has left
+-- the bytes that a reader hasn't read yet
 abbrev pub unread : Reader (Bor (List ℕ)) → List ℕ
 unread reader = unwrap_or (source reader) []
 
--- the records that a reader has left
+-- the records that a reader hasn't read yet
 abbrev pub records_left : Reader (Bor (List ℕ)) → List Record
 records_left reader =
     records_from default_config (length (unread reader) + 1) (reader_state reader) (unread reader)
 
--- the reader stands between two records, and reads each as it is, of any length
+-- the reader is between two records, and reads each unchanged and of any length
 pub record IsBetweenRecords (reader : Reader (Bor (List ℕ))) : Type 0 where
   pub trim : reader_trim reader ≡ trim.None
   pub flexible : is_flexible reader ≡ true
@@ -39,12 +39,12 @@ pub record IsBetweenRecords (reader : Reader (Bor (List ℕ))) : Type 0 where
   pub known : source reader ≡ Some (unread reader)
   pub between : ends_at_end (reader_state reader) ≡ false
 
--- the record was the first left, and the others are left
+-- the first remaining record was read, and the others remain
 pub record TakesRecord (old : Reader (Bor (List ℕ))) (fields : Record) (new : Reader (Bor (List ℕ)))
     : Type 0 where
   pub records : records_left old ≡ fields ∷ records_left new
   pub reading : IsBetweenRecords new
 
--- memory was refused or the bytes could not be read, and no record is at fault
+-- memory was refused or the bytes could not be read; no record is at fault
 abbrev pub IsRefusedOrUnread : ErrorKind → Type 0
 IsRefusedOrUnread kind = IsTrue (stops_reader kind)

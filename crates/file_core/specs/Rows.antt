@@ -1,4 +1,4 @@
--- The rows of a CSV file: what they give together, and how they are read in turn.
+-- The rows of a CSV file: their joint result, and reading them in order.
 use Rattle.std.specs.Prelude.{◌≡◌, ◌≤◌, ◌+◌, ◌⊎◌, ℕ, false, List, [], ◌∷◌, length, map, nat_lt}
 use Rattle.std.specs.Prelude.{Result, Ok}
 use Rattle.std.specs.Prelude.{Err, MatchResult}
@@ -19,22 +19,22 @@ lowercase fields = map (map to_ascii_lowercase) fields
 abbrev pub IsHeader : List (List ℕ) → Record → Type 0
 IsHeader columns header = lowercase header ≡ lowercase columns
 
--- the records behind a header of these columns, or why there are none
+-- the records after a header with these columns, or why there are none
 abbrev pub AreBehindHeader : List (List ℕ) → List Record → Result (List Record) ReadFault → Type 0
 AreBehindHeader columns [] rows = rows ≡ Err Header
 AreBehindHeader columns (header ∷ others) rows =
     (IsHeader columns header × (rows ≡ Ok others))
     ⊎ (¬ (IsHeader columns header) × (rows ≡ Err Header))
 
--- the rows of a file of these columns, which may have so many bytes, or why there are none
+-- the rows of a file with these columns and a permitted number of bytes, or why there are none
 abbrev pub AreRows : List (List ℕ) → List ℕ → Result (List Record) ReadFault → Type 0
 AreRows columns bytes rows =
     MatchBool (nat_lt most_file_bytes (length bytes))
     (rows ≡ Err TooLong)
     (AreBehindHeader columns (records_of bytes) rows)
 
--- the rows in turn, the first of this number, each from what those before it gave:
--- what all of them give, or the fault of the first that has one
+-- the result of the rows in order, starting with this number, each applied to the result of those
+-- before it: that of all of them, or the fault of the first that has one
 abbrev pub RowsGive : {A : Type 0} → (ℕ → A → Record → Result A ReadFault → Type 0)
     → ℕ → A → List Record → Result A ReadFault → Type 0
 RowsGive RowGives n sofar [] answer = answer ≡ Ok sofar
@@ -42,7 +42,7 @@ RowsGive {A} RowGives n sofar (row ∷ rows) answer =
     (next : Result A ReadFault) × RowGives n sofar row next
     × MatchResult next (λ a. RowsGive RowGives (n + 1) a rows answer) (λ fault. answer ≡ Err fault)
 
--- a file of these columns gives what its rows give, numbered from 1, or why it has none
+-- the result of a file with these columns: that of its rows, numbered from 1, or why it has none
 abbrev pub FileGives : {A : Type 0} → List (List ℕ) → (ℕ → A → Record → Result A ReadFault → Type 0)
     → A → List ℕ → Result A ReadFault → Type 0
 FileGives columns RowGives start bytes answer =
@@ -51,24 +51,24 @@ FileGives columns RowGives start bytes answer =
 
 -- ---- reading them
 
--- the fields of the row that was read last
+-- the fields of the last row read
 abbrev pub last_row : Rows → Record
 last_row rows = fields_of rows.records.value.last
 
--- the rows that are left
+-- the remaining rows
 abbrev pub rows_left : Rows → List Record
 rows_left rows = records_left rows.records.value.reader
 
--- no row has a greater number
+-- the greatest number of a row
 abbrev pub most_rows : ℕ
 most_rows = 4294967295
 
--- the reader stands between two rows, and those that are left can be numbered
+-- the reader is between two rows, and the remaining ones can be numbered
 pub record IsReading (rows : Rows) : Type 0 where
   pub reader : IsBetweenRecords rows.records.value.reader
   pub few : rows.count + length (rows_left rows) ≤ most_rows
 
--- the rows of a file of these columns, none of which was read, behind this header
+-- the rows of a file with these columns, after this header and before any was read
 pub record IsOpened (columns : List (List ℕ)) (bytes : List ℕ) (rows : Rows) : Type 0 where
   pub behind_header : AreRows columns bytes (Ok (rows_left rows))
   pub header : Record
@@ -79,12 +79,12 @@ pub record IsOpened (columns : List (List ℕ)) (bytes : List ℕ) (rows : Rows)
   pub none_read : rows.count ≡ 0
   pub reading : IsReading rows
 
--- no row was left
+-- no row remained
 pub record IsEnded (old new : Rows) : Type 0 where
   pub none_left : rows_left old ≡ []
   pub same : new.unended ≡ old.unended
 
--- the first row left was read, and this is its number
+-- the first remaining row was read, and this is its number
 pub record ReadsRow (old : Rows) (number : ℕ) (new : Rows) : Type 0 where
   pub row : rows_left old ≡ last_row new ∷ rows_left new
   pub numbered : number ≡ old.count + 1

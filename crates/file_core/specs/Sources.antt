@@ -1,4 +1,4 @@
--- What reading all bytes of a source answers.
+-- The results of reading all bytes of a source.
 use Rattle.std.specs.Prelude.{◌≡◌, ◌⊎◌}
 use Rattle.file_core.specs.declared.read_fault.ReadFault.{ReadFault}
 use Rattle.file_core.specs.declared.read_fault.ReadFault.TheVariants.{Io, TooLong, Memory}

@@ -1,4 +1,4 @@
--- What of a layer's file isn't read yet.
+-- The part of a layer's file that isn't read yet.
 use Rattle.std.specs.Prelude.{◌≡◌, ◌≤◌, ◌+◌, ℕ, List, [], ◌∷◌, ◌++◌, length, Ok}
 use Rattle.csv.specs.Reading.{default_config, records, strip_bom}
 use Rattle.csv.specs.declared.parser.State.TheVariants.{StartRecord}
@@ -10,17 +10,17 @@ use Rattle.file_core.specs.Limits.{most_file_bytes}
 use Rattle.file_core.specs.Records.{Record, records_of}
 use Rattle.file_core.specs.Rows.{AreRows, IsHeader, IsReading, most_rows, rows_left}
 
--- the rows that are left
+-- the remaining rows
 abbrev pub records_unread : Unread → List Record
 records_unread (Text text count) = records default_config text.now
 records_unread (Rows rows) = rows_left rows
 
--- how many rows were read
+-- the number of rows read
 abbrev pub count_unread : Unread → ℕ
 count_unread (Text text count) = count
 count_unread (Rows rows) = rows.count
 
--- a reader can read them as they are, and they can be numbered
+-- the rows can be read without change, and can be numbered
 abbrev pub IsUnread : Unread → Type 0
 IsUnread (Text text count) =
     IsPlain text.now × (count + length (records default_config text.now) ≤ most_rows)
@@ -32,7 +32,7 @@ pub record IsUnreadFile (bytes : List ℕ) (unread : Unread) : Type 0 where
   pub none_read : count_unread unread ≡ 0
   pub reading : IsUnread unread
 
--- the line has a header of these columns as its only record, and a mark before it fits in
+-- the line has a header of these columns as its only record, even if a mark precedes it
 pub record IsHeaderLine (columns : List (List ℕ)) (line : List ℕ) : Type 0 where
   pub header : Record
   pub headed : IsHeader columns header
@@ -40,7 +40,7 @@ pub record IsHeaderLine (columns : List (List ℕ)) (line : List ℕ) : Type 0 w
   pub ends : EndsBetween StartRecord (strip_bom line)
   pub long : 3 ≤ length line
 
--- a file whose first line is a header and nothing else, and that is plain behind it
+-- a file whose first line consists of the header alone, and whose rest is plain
 pub record IsHeaded (bytes rest : List ℕ) : Type 0 where
   pub line : List ℕ
   pub whole : line ++ rest ≡ bytes

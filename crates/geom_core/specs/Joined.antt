@@ -1,5 +1,5 @@
--- What follows from the ends of intervals: the joined interval of two is ordered and in range, and
--- a shape is known by its corners.
+-- Consequences of the ends of intervals: the joined interval of two is ordered and in range, and
+-- a shape is determined by its corners.
 use mathlib.Core.HLevel.{is_prop→PathP}
 use Rattle.std.proofs.Common.{arith}
 use Rattle.std.specs.Prelude.{◌≡◌, ◌≤ℤ◌, pos, neg_ℤ}
@@ -19,7 +19,7 @@ joined_above a b = omega (arith, ints, clamps)
 pub joined_below : (a b : Span) → int_max a.hi b.hi ≤ℤ pos greatest_coordinate
 joined_below a b = omega (arith, ints, clamps)
 
--- an interval is known by its ends
+-- an interval is determined by its ends
 pub same_ends : (a b : Span) → a.lo ≡ b.lo → a.hi ≡ b.hi → a ≡ b
 same_ends a b p q = λ i. record {
   lo = p i;
@@ -30,7 +30,7 @@ same_ends a b p q = λ i. record {
   below = is_prop→PathP (λ j. q j ≤ℤ pos greatest_coordinate) (λ j. hlevel props) a.below b.below i;
 }
 
--- a shape is known by its corners
+-- a shape is determined by its corners
 pub same_corners : (s t : Shape) →
     s.x.lo ≡ t.x.lo → s.y.lo ≡ t.y.lo → s.x.hi ≡ t.x.hi → s.y.hi ≡ t.y.hi → s ≡ t
 same_corners s t p q r u = λ i. record { x = same_ends s.x t.x p r i; y = same_ends s.y t.y q u i }

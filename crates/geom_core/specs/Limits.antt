@@ -1,11 +1,11 @@
--- How far the plane reaches.
+-- The extent of the plane.
 use Rattle.std.specs.Prelude.{ℕ, ℤ, pos, ◌≤ℤ◌, neg_ℤ}
 
 -- the greatest absolute value of a coordinate
 abbrev pub greatest_coordinate : ℕ
 greatest_coordinate = 1000000000000
 
--- the area of the whole plane, in square units: no shape's is greater
+-- the area of the whole plane, in square units, which no shape's area exceeds
 abbrev pub greatest_area : ℕ
 greatest_area = 4000000000000000000000000
 

@@ -1,4 +1,4 @@
--- How two shapes lie to each other as sets of cells.
+-- The relations of two shapes as sets of cells.
 use Rattle.std.specs.Prelude.{ℤ}
 use Rattle.geom_core.specs.declared.shape.Shape.{Shape}
 use Rattle.geom_core.specs.Cells.{IsInterior, Meets, IsIn}

@@ -1,4 +1,4 @@
--- The corners of a shape, and what follows from them alone.
+-- The corners of a shape, and what they determine.
 use Rattle.std.specs.Prelude.{◌≡◌, ℕ, ◌+◌, ◌*◌, ℤ, ◌-ℤ◌, ◌≤ℤ◌, nat_abs, int_lt, if◌then◌else◌}
 use Rattle.std.specs.Int.{int_min, int_max}
 use Rattle.geom_core.specs.declared.span.Span.{Span}
@@ -24,7 +24,7 @@ pub record AreEnds (a b : ℤ) : Type 0 where
   pub first : IsCoordinate a
   pub second : IsCoordinate b
 
--- corners of a shape: in range, and the first below or left of the second, or level with it
+-- corners of a shape: in range, and no coordinate of the first is greater than that of the second
 pub record AreCorners (a b c d : ℤ) : Type 0 where
   pub along_x : a ≤ℤ c
   pub along_y : b ≤ℤ d
@@ -44,7 +44,7 @@ pub record HasCorners (a b c d : ℤ) (s : Shape) : Type 0 where
 abbrev pub area_of : Shape → ℕ
 area_of s = nat_abs (x2 s -ℤ x1 s) * nat_abs (y2 s -ℤ y1 s)
 
--- the interval from the lower of two beginnings to the higher of two ends
+-- the interval from the lesser of two starts to the greater of two ends
 abbrev pub joined : Span → Span → Span
 joined a b = record {
   lo = int_min a.lo b.lo;
@@ -58,10 +58,10 @@ joined a b = record {
 abbrev pub cover_of : Shape → Shape → Shape
 cover_of a b = record { x = joined a.x b.x; y = joined a.y b.y }
 
--- how many axes an interval fills: 1 where its ends differ
+-- the dimension of an interval: 1 if its ends differ, otherwise 0
 abbrev pub span_dim : Span → ℕ
 span_dim s = if int_lt s.lo s.hi then 1 else 0
 
--- the number of axes along which a shape has a length
+-- the dimension of a shape: the number of axes along which it has a positive length
 abbrev pub dim_of : Shape → ℕ
 dim_of s = span_dim s.x + span_dim s.y

@@ -14,7 +14,7 @@ bounds_row f =
     f.id ∷ signed_decimal (x1 f.shape) ∷ signed_decimal (y1 f.shape)
     ∷ signed_decimal (x2 f.shape) ∷ signed_decimal (y2 f.shape) ∷ []
 
--- the header, and a record for each feature in turn
+-- the header, and one record for each feature in order
 abbrev pub bounds_text : List Feature → List ℕ
 bounds_text features = csv_text (bounds_header ∷ map bounds_row features)
 

@@ -7,18 +7,18 @@ use Rattle.csv.specs.Writing.{text_written}
 use Rattle.csv.specs.declared.writer.Writer.{Writer}
 use Rattle.report_core.specs.CsvTexts.{csv_text}
 
--- what memory tells of what was written to it
+-- the contents of memory as a writer reports them
 abbrev pub contents_of : Vec ℕ Global → Option (List ℕ)
 contents_of text = Some text.items
 
--- it writes as `csv` does by default, has ended its last row, and has written these rows
+-- the writer has the default settings of `csv`, has ended its last row, and has written these rows
 pub record HasRows (writer : Writer (Vec ℕ Global)) (rows : List (List (List ℕ))) : Type 0 where
   pub setup : writer_setup writer ≡ default_writer
   pub ended : fields_written writer ≡ 0
   pub clean : has_written writer ≡ false
   pub written : text_written contents_of writer ≡ Some (csv_text rows)
 
--- one row more
+-- one more row is written
 abbrev pub AddsRow : Writer (Vec ℕ Global) → Writer (Vec ℕ Global) → List (List ℕ) → Type 0
 AddsRow old new row =
     (rows : List (List (List ℕ))) → HasRows old rows → HasRows new (rows ++ row ∷ [])

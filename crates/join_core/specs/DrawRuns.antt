@@ -1,4 +1,4 @@
--- What a picture of three files gives.
+-- The results of a picture of three files.
 use Rattle.std.specs.Prelude.{◌+◌, ◌≤◌, ◌<◌, ⊤, ℕ, List, Result, Ok, Err, length}
 use Rattle.relation_core.specs.declared.relation.Relation.{Relation}
 use Rattle.layer_core.specs.Edits.{Layers}
@@ -9,12 +9,12 @@ use Rattle.join_core.specs.declared.fault.RunFault.TheVariants.{TooManyToDraw}
 use Rattle.join_core.specs.Joins.{IsJoinList}
 use Rattle.join_core.specs.JoinRuns.{JoinFiles, LayersGive, IsLateFault, IsJoinFault}
 
--- how many features two layers have
+-- the number of features of two layers
 abbrev pub features_of : Layers → ℕ
 features_of layers = length layers.left.features + length layers.right.features
 
--- the picture of the edited layers and their pairs, the fault for which there are no such layers,
--- or that they have too many features
+-- the picture of the edited layers and their pairs, or the fault that there are no such layers, or
+-- that they have too many features
 pub data DrawGives (relation : Relation) (files : JoinFiles)
     : Result (List ℕ) RunFault → Type 0 where
   no_layers : (f : RunFault) → LayersGive files (Err f) → DrawGives relation files (Err f)
@@ -24,12 +24,12 @@ pub data DrawGives (relation : Relation) (files : JoinFiles)
       → features_of layers ≤ most_drawn → IsJoinList relation layers.left layers.right pairs
       → DrawGives relation files (Ok (picture_of layers.left layers.right pairs))
 
--- a fault that may come when all is read and the edits are made, that of the sink aside
+-- a possible fault after all files are read and the edits are applied, except that of the sink
 abbrev pub IsLateDrawFault : RunFault → Type 0
 IsLateDrawFault TooManyToDraw = ⊤
 IsLateDrawFault fault = IsLateFault fault
 
--- a fault that drawing files may have, that of its sink aside
+-- a possible fault of drawing files, except that of its sink
 abbrev pub IsDrawFault : JoinFiles → RunFault → Type 0
 IsDrawFault files TooManyToDraw = ⊤
 IsDrawFault files fault = IsJoinFault files fault

@@ -1,4 +1,4 @@
--- What the inputs of a run give, and which faults blame one.
+-- The results of the inputs of a run, and the faults that blame one.
 use Rattle.std.specs.Prelude.{◌≢◌, ⊤, ℕ, List, Option, Result, Ok, Err, IfSome, IfOk, IfErr}
 use Rattle.wkt_core.specs.declared.scale.Scale.{Scale}
 use Rattle.layer_core.specs.declared.fault.LayerFault.{LayerFault}
@@ -11,15 +11,15 @@ use Rattle.layer_core.specs.LayerTrees.{LayerState}
 use Rattle.join_core.specs.declared.fault.RunFault.{RunFault}
 use Rattle.join_core.specs.declared.fault.RunFault.TheVariants.{Read, Edit, TooManyToDraw}
 
--- what a file of a layer gives at a scale, where its bytes are known
+-- the layer or the fault of a layer's file at a scale, if its bytes are known
 abbrev pub LayerFile : Scale → Option (List ℕ) → Result Contents ReadFault → Type 0
 LayerFile scale known answer = IfSome known (λ bytes. IsLayerFile scale bytes answer)
 
--- a file that gives a layer at a scale
+-- a file that gives a valid layer at a scale
 abbrev pub GivesLayer : Scale → Option (List ℕ) → Type 0
 GivesLayer scale known = (layer : Contents) × LayerFile scale known (Ok layer)
 
--- the answer is what a layer's bytes give at a scale, or that memory ran out
+-- the result is that of a layer's bytes at a scale, or that memory ran out
 pub record Builds (scale : Scale) (bytes : List ℕ) (answer : Result LayerState ReadFault)
     : Type 0 where
   pub no_io : answer ≢ Err read_faults.Io
@@ -31,14 +31,14 @@ BlamesBytes read_faults.Io = ⊥
 BlamesBytes read_faults.Memory = ⊥
 BlamesBytes _ = ⊤
 
--- the answer, of which this is the list of a layer, is what the layer's file gives at a scale, a
--- fault of a device, or that memory ran out
+-- the result, of which this is the list of a layer, is that of the layer's file at a scale, a fault
+-- of a device, or that memory ran out
 pub record ReadsList {T : Type 0} (list : T → Contents) (scale : Scale) (known : Option (List ℕ))
     (answer : Result T ReadFault) : Type 0 where
   pub ok : IfOk answer (λ layer. LayerFile scale known (Ok (list layer)))
   pub fault : IfErr answer (λ f. BlamesBytes f → LayerFile scale known (Err f))
 
--- the same of a layer, and of its features alone
+-- the same for a layer, and for its features alone
 abbrev pub Reads : Scale → Option (List ℕ) → Result LayerState ReadFault → Type 0
 Reads = ReadsList (λ layer. layer.list)
 

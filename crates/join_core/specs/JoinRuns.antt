@@ -1,4 +1,4 @@
--- What a join of three files gives.
+-- The results of a join of three files.
 use Rattle.std.specs.Prelude.{◌≡◌, ◌≢◌, ◌<◌, ◌≤◌, ⊤, ℕ, List, [], Option, Some, None, Result, Ok}
 use Rattle.std.specs.Prelude.{Err, IfSome, length, take}
 use Rattle.relation_core.specs.declared.relation.Relation.{Relation}
@@ -19,14 +19,14 @@ use Rattle.join_core.specs.Inputs.{LayerFile, GivesLayer, BlamesBytes, BlamesEdi
 use Rattle.join_core.specs.Joins.{IsJoinList}
 use Rattle.report_core.specs.Reports.{IsReport}
 
--- the scale of a join, and what its sources tell of their bytes; there may be no file of edits
+-- the scale of a join, and the known bytes of its sources; there may be no file of edits
 pub record JoinFiles : Type 0 where
   pub scale : Scale
   pub left : Option (List ℕ)
   pub right : Option (List ℕ)
   pub edits : Option (Option (List ℕ))
 
--- the bytes of a file of edits, where there is one
+-- the bytes of a file of edits, if there is one
 abbrev pub bytes_of : {E : Type 0} → (E → Option (List ℕ)) → Option E → Option (Option (List ℕ))
 bytes_of remaining None = None
 bytes_of remaining (Some e) = Some (remaining e)
@@ -40,22 +40,22 @@ files_of scale left_bytes right_bytes edits_bytes sources = record {
   edits = bytes_of edits_bytes sources.edits;
 }
 
--- what a file of edits gives at a scale: no edits where there is none
+-- the edits or the fault of a file of edits at a scale; no edits without a file
 abbrev pub EditFile : Scale → Option (Option (List ℕ))
     → Result (List EditContent) ReadFault → Type 0
 EditFile scale None answer = answer ≡ Ok []
 EditFile scale (Some known) answer = IfSome known (λ bytes. IsEditFile scale bytes answer)
 
--- a fault of reading two layers: one of the right file comes where the left is good, but that its
--- source fails
+-- a fault of reading two layers: one of the right file comes only if the left is valid, except that
+-- its source fails
 abbrev pub IsLayersFault : Scale → Option (List ℕ) → Option (List ℕ) → RunFault → Type 0
 IsLayersFault scale left right (Read Left f) = BlamesBytes f → LayerFile scale left (Err f)
 IsLayersFault scale left right (Read Right f) =
     (f ≢ Io → GivesLayer scale left) × (BlamesBytes f → LayerFile scale right (Err f))
 IsLayersFault scale left right _ = ⊥
 
--- the fault of two layers that is told where the right one has a fault: a right source that fails
--- comes before a fault of the left one
+-- the fault of two layers if the right one has a fault: a failing right source comes before a fault
+-- of the left one
 abbrev pub first_fault : Option ReadFault → ReadFault → RunFault
 first_fault left Io = Read Right Io
 first_fault (Some fault) right = Read Left fault
@@ -80,7 +80,7 @@ pub data LayersGive (files : JoinFiles) : Result Layers RunFault → Type 0 wher
       → EditFile files.scale files.edits (Ok edits)
       → edits_give 1 (both l r) edits ≡ Ok layers → LayersGive files (Ok layers)
 
--- the report of the edited layers' pairs, or the fault for which there are no such layers
+-- the report of the edited layers' pairs, or the fault that there are no such layers
 pub data JoinGives (relation : Relation) (files : JoinFiles)
     : Result (List ℕ) RunFault → Type 0 where
   no_layers : (f : RunFault) → LayersGive files (Err f) → JoinGives relation files (Err f)
@@ -89,22 +89,22 @@ pub data JoinGives (relation : Relation) (files : JoinFiles)
       → IsJoinList relation layers.left layers.right pairs
       → IsReport layers.left layers.right pairs text → JoinGives relation files (Ok text)
 
--- a fault that may come when all is read and the edits are made, that of the sink aside: a want
--- of memory or of threads
+-- a possible fault after all files are read and the edits are applied, except that of the sink:
+-- lack of memory or of threads
 abbrev pub IsLateFault : RunFault → Type 0
 IsLateFault (Join f) = IsWant f
 IsLateFault Memory = ⊤
 IsLateFault _ = ⊥
 
--- so many of the edits are made, and at least one: none of them is refused
+-- this number of edits, at least one, can be applied: none of them is refused
 pub record AreMade (count : ℕ) (layers : Layers) (edits : List EditContent) : Type 0 where
   pub some : 0 < count
   pub within : count ≤ length edits
   pub made : Layers
   pub none_refused : edits_give 1 layers (take count edits) ≡ Ok made
 
--- making edits ends at this row with this fault: its edit is the first that is refused, or memory
--- ran out at one that isn't, nor is any before it
+-- applying edits ends at this row with this fault: its edit is the first that is refused, or memory
+-- ran out at it, and neither it nor any edit before it is refused
 pub record EndsAt (row : ℕ) (fault : LayerFault) (layers : Layers) (edits : List EditContent)
     : Type 0 where
   pub refused : BlamesEdit fault → edits_give 1 layers edits ≡ Err (row, fault)
@@ -116,7 +116,7 @@ AreEdited scale file old new =
     (edits : List EditContent) × EditFile scale file (Ok edits)
     × (edits_give 1 old edits ≡ Ok new)
 
--- why not all edits of a file are made: it can't be read, or making them ends at a row
+-- why not all edits of a file are applied: it can't be read, or applying them ends at a row
 pub data IsEditsFault (scale : Scale) (file : Option (Option (List ℕ))) (layers : Layers)
     : RunFault → Type 0 where
   unread : (f : ReadFault) → (BlamesBytes f → EditFile scale file (Err f))
@@ -124,12 +124,12 @@ pub data IsEditsFault (scale : Scale) (file : Option (Option (List ℕ))) (layer
   ended : (edits : List EditContent) (row : ℕ) (f : LayerFault) → EditFile scale file (Ok edits)
       → EndsAt row f layers edits → IsEditsFault scale file layers (Edit row f)
 
--- both files of layers are good
+-- both layer files are valid
 abbrev pub GiveLayers : JoinFiles → Type 0
 GiveLayers files =
     GivesLayer files.scale files.left × GivesLayer files.scale files.right
 
--- the file of edits is good too, and its edits are made up to that of this row
+-- the file of edits is valid too, and its edits are applied up to that of this row
 pub record AreMadeTo (files : JoinFiles) (row : ℕ) : Type 0 where
   pub left : Contents
   pub right : Contents
@@ -139,8 +139,9 @@ pub record AreMadeTo (files : JoinFiles) (row : ℕ) : Type 0 where
   pub edits_read : EditFile files.scale files.edits (Ok edits)
   pub are_made : AreMade row (both left right) edits
 
--- a fault that a join of files may have, that of its sink aside; it comes where what is read and
--- made before it is good, but that a right source which fails comes before the left file's bytes
+-- a possible fault of a join of files, except that of its sink; it comes only if everything read
+-- and applied before it is valid, except that a failing right source comes before the left file's
+-- bytes
 abbrev pub IsJoinFault : JoinFiles → RunFault → Type 0
 IsJoinFault files (Read Left f) = ⊤
 IsJoinFault files (Read Right f) = f ≢ Io → GivesLayer files.scale files.left

@@ -1,4 +1,4 @@
--- The pairs of two layers that stand in a relation, and the marks of how they were delivered.
+-- The pairs of two layers that stand in a relation, and the marks of their delivery.
 use Rattle.std.specs.Prelude.{◌≡◌, ◌↔◌, ℕ, List, Option, Some, length, AllPairs, Contains}
 use Rattle.std.specs.Prelude.{IsPermutation, IsSorted}
 use Rattle.std.specs.List.{flat_map}
@@ -22,8 +22,8 @@ pub record StandIn (relation : Relation) (left right : Contents) (pair : ℕ × 
   pub second_held : with_number pair.1 right ≡ Some second
   pub holds : Holds relation first.shape second.shape
 
--- each pair that stands in the relation and no other, each once and in order; since numbers rise
--- along a layer, this is the order of the left layer, and for one left feature that of the right
+-- exactly the pairs that stand in the relation, each once and in order; since numbers ascend along
+-- a layer, this is the order of the left layer, and for each left feature that of the right
 pub record IsJoinList (relation : Relation) (left right : Contents)
     (pairs : List (ℕ × ℕ)) : Type 0 where
   pub in_order : AllPairs Precedes pairs
@@ -37,7 +37,7 @@ pub record RowsAreJoinList (left right : Contents) (tasks : List (Node × Node))
       → IsJoinList relation left right pairs
 
 -- for the plan of the trees with these roots at this cut: the marks are a closed legal history, and
--- those of each task are the ones of its script, its row in batches of so many pairs
+-- those of each task are those of its script, whose batches have `size` pairs of its row
 pub record HasMarks (relation : Relation) (left right : Option Node) (cut size : ℕ)
     (outcome : Delivery) : Type 0 where
   pub tasks : List (Node × Node)

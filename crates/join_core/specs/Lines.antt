@@ -1,4 +1,4 @@
--- The line that is written on a fault.
+-- The line of a fault.
 use Rattle.std.specs.Prelude.{ℕ, List, [], ◌∷◌, ◌++◌, codes}
 use Rattle.join_core.specs.declared.fault.RunFault.{RunFault}
 use Rattle.join_core.specs.FaultTexts.{run_text}

@@ -1,4 +1,4 @@
--- What is made of the pairs of a join: a report or a picture.
+-- The products of a join's pairs: a report or a picture.
 use Rattle.std.specs.Prelude.{◌≡◌, ◌≤◌, ℕ, List, Result}
 use Rattle.relation_core.specs.declared.relation.Relation.{Relation}
 use Rattle.relation_core.specs.JoinRelations.{relation_of}
@@ -24,7 +24,7 @@ IsReported relation layers text = (pairs : List (ℕ × ℕ))
     × IsJoinList relation layers.left layers.right pairs
     × IsReport layers.left layers.right pairs text
 
--- the picture of these layers and their pairs, where they have few enough features
+-- the picture of these layers and their pairs, if they don't have too many features
 abbrev pub IsDrawn : Relation → Layers → List ℕ → Type 0
 IsDrawn relation layers text = (features_of layers ≤ most_drawn)
     × ((pairs : List (ℕ × ℕ)) × IsJoinList relation layers.left layers.right pairs
@@ -34,24 +34,24 @@ abbrev pub IsProduct : Product → Relation → Layers → List ℕ → Type 0
 IsProduct Report = IsReported
 IsProduct Picture = IsDrawn
 
--- a fault that such a job may have, that of the sink aside
+-- a possible fault of such a job, except that of the sink
 abbrev pub IsProductFault : Product → JoinFiles → RunFault → Type 0
 IsProductFault Report = IsJoinFault
 IsProductFault Picture = IsDrawFault
 
--- one that may come when all is read and the edits are made
+-- such a fault after all files are read and the edits are applied
 abbrev pub IsLateProductFault : Product → RunFault → Type 0
 IsLateProductFault Report = IsLateFault
 IsLateProductFault Picture = IsLateDrawFault
 
--- what a join that is asked for this gives
+-- the result of a job
 abbrev pub JobGives : JoinJob → JoinFiles → Result (List ℕ) RunFault → Type 0
 JobGives job = ProductGives job.product (relation_of job.relation)
 
--- what it makes of two layers
+-- the product of a job for two layers
 abbrev pub IsMade : JoinJob → Layers → List ℕ → Type 0
 IsMade job = IsProduct job.product (relation_of job.relation)
 
--- the faults that it may have, that of the sink aside
+-- the possible faults of a job, except that of the sink
 abbrev pub IsJobFault : JoinJob → JoinFiles → RunFault → Type 0
 IsJobFault job = IsProductFault job.product

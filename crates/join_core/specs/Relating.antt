@@ -1,4 +1,4 @@
--- What two texts relate as.
+-- The results of relating two texts.
 use Rattle.std.specs.Prelude.{◌≡◌, ⊤, ℕ, List, [], ◌∷◌, ◌++◌, Result, Ok, Err}
 use Rattle.geom_core.specs.declared.shape.Shape.{Shape}
 use Rattle.relation_core.specs.declared.matrix.Matrix.{Matrix}
@@ -21,20 +21,20 @@ pub record IsMatrixLine (scale : Scale) (a b line : List ℕ) : Type 0 where
   pub related : IsMatrix first second matrix
   pub letters : line ≡ letters_of matrix ++ 10 ∷ []
 
--- the first text that spells no shape, and what is wrong with it
+-- the first text that spells no shape, and its fault
 abbrev pub HasFirstFault : Scale → List ℕ → List ℕ → Input → WktFault → Type 0
 HasFirstFault scale a b First fault = Reads scale a (Err fault)
 HasFirstFault scale a b Second fault =
     ((s : Shape) × Reads scale a (Ok s)) × Reads scale b (Err fault)
 HasFirstFault scale a b _ fault = ⊥
 
--- the matrix of two texts, or the first that is at fault
+-- the matrix of two texts, or the fault of the first text that spells none
 abbrev pub RelateGives : Scale → List ℕ → List ℕ → Result (List ℕ) RunFault → Type 0
 RelateGives scale a b (Ok line) = IsMatrixLine scale a b line
 RelateGives scale a b (Err (Wkt input fault)) = HasFirstFault scale a b input fault
 RelateGives scale a b (Err _) = ⊥
 
--- a fault that relating two texts may have, that of its sink aside
+-- a possible fault of relating two texts, except that of its sink
 abbrev pub IsTextFault : RunFault → Type 0
 IsTextFault (Wkt First fault) = ⊤
 IsTextFault (Wkt Second fault) = ⊤

@@ -1,4 +1,4 @@
--- How a run ends that writes one text.
+-- How a run that writes one text ends.
 use Rattle.std.specs.Prelude.{◌≡◌, ◌≢◌, ◌↔◌, ℕ, List, Option, Bool, Result, Ok, Err, IsTrue, IfErr}
 use Rattle.std.specs.Prelude.{OnOk, IsErrOf}
 use Rattle.std.specs.Io.KnownBytes.{Appends}
@@ -18,8 +18,8 @@ WritesAll IsText old new = (text : List ℕ) × IsText text × Appends old new t
 abbrev pub WritesPrefix : (List ℕ → Type 0) → Option (List ℕ) → Option (List ℕ) → Type 0
 WritesPrefix IsText old new = (text : List ℕ) × IsText text × AppendsPrefix old new text
 
--- where the run succeeds, a text of this kind was written and flushed; where the sink has failed,
--- which the fault says, a prefix of one was written; after any other fault the sink is as it was
+-- if the run succeeds, a text of this kind was written and flushed; if the sink has failed, which
+-- the fault reports, a prefix of one was written; after any other fault the sink is unchanged
 pub record Ends {T S : Type 0} (IsText : List ℕ → Type 0)
     (written : S → Option (List ℕ)) (is_flushed has_failed : S → Bool)
     (old new : S) (result : Result T RunFault) : Type 0 where
@@ -29,8 +29,8 @@ pub record Ends {T S : Type 0} (IsText : List ℕ → Type 0)
   pub partly : IsErrOf result Write → WritesPrefix IsText (written old) (written new)
   pub untouched : IfErr result (λ f. f ≢ Write → new ≡ old)
 
--- how the run of a job ends that gives this: what it writes; exactly the faults of geometries; that
--- the job gives a fault which blames an input; no other faults; exactly which source has failed
+-- how the run of a job with these results ends: what it writes; exactly the faults of geometries;
+-- that a fault which blames an input is a result; no other faults; exactly which source has failed
 pub record RunEnds {T S : Type 0} (Gives : Result (List ℕ) RunFault → Type 0)
     (HasTextFault : Input → WktFault → Type 0) (IsFault : RunFault → Type 0)
     (HasFailed : Input → Type 0)
@@ -42,6 +42,6 @@ pub record RunEnds {T S : Type 0} (Gives : Result (List ℕ) RunFault → Type 0
   pub faults : IfErr result (λ f. f ≢ Write → IsFault f)
   pub io : (i : Input) → IsErrOf result (Read i Io) ↔ HasFailed i
 
--- no geometry is at fault
+-- no geometry has a fault
 abbrev pub NoTextFault : Input → WktFault → Type 0
 NoTextFault input fault = ⊥

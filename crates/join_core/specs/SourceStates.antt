@@ -14,7 +14,7 @@ pub record AreFresh {A B E : Type 0} (left_failed : A → Bool) (right_failed : 
   pub right : right_failed sources.right ≡ false
   pub edits : IfSome sources.edits (λ e. edits_failed e ≡ false)
 
--- the source of this input has failed, by what is said of each of the three
+-- the source of this input has failed, given whether each of the three has
 abbrev pub FailedAt : Type 0 → Type 0 → Type 0 → Input → Type 0
 FailedAt LeftFailed RightFailed EditsFailed Left = LeftFailed
 FailedAt LeftFailed RightFailed EditsFailed Right = RightFailed
@@ -28,7 +28,7 @@ HasFailed left_failed right_failed edits_failed sources =
     FailedAt (IsTrue (left_failed sources.left)) (IsTrue (right_failed sources.right))
     (IsSomeAnd sources.edits (λ e. IsTrue (edits_failed e)))
 
--- the result is `Io` of an input exactly where the source of this input has failed
+-- the result is `Io` of an input if and only if the source of this input has failed
 abbrev pub TellsFailures : {A B E T : Type 0} → (A → Bool) → (B → Bool) → (E → Bool)
     → JoinSources A B E → Result T RunFault → Type 0
 TellsFailures left_failed right_failed edits_failed sources result =

@@ -17,7 +17,7 @@ stats_text stats =
     ++ count_line (codes "rectangles") stats.rectangles
     ++ count_line (codes "height") stats.height
 
--- the counts of a layer, with the height of the tree that is packed from its features
+-- the counts of a layer, with the height of a tree packed from its features
 abbrev pub AreCounts : Contents → List ℕ → Type 0
 AreCounts layer text =
     (height : ℕ) × IsPackedHeight (length layer.features) height

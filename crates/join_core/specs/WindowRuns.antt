@@ -1,4 +1,4 @@
--- What a window over the file of a layer gives.
+-- The results of a window over the file of a layer.
 use Rattle.std.specs.Prelude.{⊤, ℕ, List, Option, Result, Ok, Err}
 use Rattle.geom_core.specs.declared.shape.Shape.{Shape}
 use Rattle.wkt_core.specs.declared.fault.WktFault.{WktFault}
@@ -11,8 +11,8 @@ use Rattle.join_core.specs.declared.fault.RunFault.TheVariants.{Wkt}
 use Rattle.join_core.specs.LayerRuns.{LayerGives, IsLayerRunFault}
 use Rattle.join_core.specs.Windows.{IsWindowList}
 
--- the list of the features that meet the window, or the first fault of its text and the layer's
--- file, in this order
+-- the list of the features that meet the window, or the first fault of the window's text and the
+-- layer's file, in this order
 pub data WindowGives (scale : Scale) (wkt : List ℕ) (file : Option (List ℕ))
     : Result (List ℕ) RunFault → Type 0 where
   text_fault : (f : WktFault) → Reads scale wkt (Err f)
@@ -20,13 +20,13 @@ pub data WindowGives (scale : Scale) (wkt : List ℕ) (file : Option (List ℕ))
   looked_up : (window : Shape) (answer : Result (List ℕ) RunFault) → Reads scale wkt (Ok window)
       → LayerGives (IsWindowList window) scale file answer → WindowGives scale wkt file answer
 
--- what is wrong with the window's text
+-- the fault of the window's text
 abbrev pub HasWindowFault : Scale → List ℕ → Input → WktFault → Type 0
 HasWindowFault scale wkt input.Window f = Reads scale wkt (Err f)
 HasWindowFault scale wkt _ f = ⊥
 
--- a fault that a window may have, that of its sink aside; one of the layer, or of memory, comes
--- where the text spells a shape
+-- a possible fault of a window, except that of its sink; one of the layer, or of memory, comes only
+-- if the text spells a shape
 abbrev pub IsWindowFault : Scale → List ℕ → Option (List ℕ) → RunFault → Type 0
 IsWindowFault scale wkt file (Wkt input.Window f) = ⊤
 IsWindowFault scale wkt file fault =

@@ -17,7 +17,7 @@ pub data MeetingIds (window : Shape) : List Feature → List (List ℕ) → Type
       MeetingIds window features ids →
       MeetingIds window (f ∷ features) ids
 
--- the record `id`, and one for each id in turn
+-- the record `id`, and one record for each id in order
 pub record IsWindowList (window : Shape) (layer : Contents) (text : List ℕ) : Type 0 where
   pub ids : List (List ℕ)
   pub meeting : MeetingIds window layer.features ids

@@ -1,4 +1,4 @@
--- What edits do to two layers, and when one is refused.
+-- The effect of edits on two layers, and when one is refused.
 use Rattle.std.specs.Prelude.{ℕ, ◌+◌, List, [], ◌∷◌, Option, Some, None, Result, Ok, Err}
 use Rattle.std.specs.String.{string_bytes}
 use Rattle.geom_core.specs.declared.shape.Shape.{Shape}
@@ -10,7 +10,7 @@ use Rattle.layer_core.specs.declared.fault.LayerFault.{LayerFault}
 use Rattle.layer_core.specs.Layers.{Contents, inserted, deleted}
 use Rattle.layer_core.specs.Refusals.{insert_refusal, delete_refusal}
 
--- what an edit says: the layer and the id, and the shape to insert or, to delete, none
+-- the content of an edit: the layer and the id, and the shape to insert, or none to delete
 pub record EditContent : Type 0 where
   pub side : Side
   pub id : List ℕ
@@ -21,21 +21,21 @@ content_of (Insert side id shape) =
     record { side = side; id = string_bytes id; shape = Some shape }
 content_of (Delete side id) = record { side = side; id = string_bytes id; shape = None }
 
--- a layer with the feature of this id inserted, or deleted where no shape is given
+-- a layer with the feature of this id inserted, or deleted if no shape is given
 abbrev pub changed : Contents → List ℕ → Option Shape → Contents
 changed layer id (Some shape) = inserted layer id shape
 changed layer id None = deleted layer id
 
--- why it can't be changed so, running out of memory aside
+-- why this change is refused, apart from lack of memory
 abbrev pub change_refusal : Contents → List ℕ → Option Shape → Option LayerFault
 change_refusal layer id (Some shape) = insert_refusal layer id
 change_refusal layer id None = delete_refusal layer id
 
--- the layer that an edit is for, after the edit
+-- the layer of an edit's side, after the edit
 abbrev pub edited : Contents → EditContent → Contents
 edited layer edit = changed layer edit.id edit.shape
 
--- why it can't be edited so, running out of memory aside
+-- why the edit is refused, apart from lack of memory
 abbrev pub refusal : Contents → EditContent → Option LayerFault
 refusal layer edit = change_refusal layer edit.id edit.shape
 
@@ -55,23 +55,23 @@ abbrev pub with_layer_on : Side → Layers → Contents → Layers
 with_layer_on Left layers layer = record layers { left = layer }
 with_layer_on Right layers layer = record layers { right = layer }
 
--- both after an edit: that of its side is edited, the other stays
+-- both layers after an edit: that of its side is edited, the other is unchanged
 abbrev pub edited_layers : Layers → EditContent → Layers
 edited_layers layers edit =
     with_layer_on edit.side layers (edited (layer_on edit.side layers) edit)
 
--- why they can't be edited so, running out of memory aside
+-- why an edit of both layers is refused, apart from lack of memory
 abbrev pub edit_refusal : Layers → EditContent → Option LayerFault
 edit_refusal layers edit = refusal (layer_on edit.side layers) edit
 
--- what edits give, the first of which is on this row, where this is its refusal
+-- the result of edits whose first is on this row, given the refusal of that edit
 abbrev pub unless_refused : ℕ → Option LayerFault
     → Result Layers (ℕ × LayerFault) → Result Layers (ℕ × LayerFault)
 unless_refused row (Some fault) rest = Err (row, fault)
 unless_refused row None rest = rest
 
--- both after the edits, the first of which is on this row,
--- or the row and the fault of the first edit that is refused
+-- both layers after the edits, the first of which is on this row, or the row and the fault of the
+-- first edit that is refused
 abbrev pub edits_give : ℕ → Layers → List EditContent → Result Layers (ℕ × LayerFault)
 edits_give row layers [] = Ok layers
 edits_give row layers (edit ∷ edits) =

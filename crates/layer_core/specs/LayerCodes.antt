@@ -1,4 +1,4 @@
--- How what is seen of a layer is coded, by which proofs tell two layers apart.
+-- The coding of a layer's visible state, by which proofs distinguish layers.
 use Rattle.std.specs.Prelude.{ℕ, List, Option, refl}
 use Rattle.std.specs.Coded.{Coded, code_by, coded×, coded_ℕ, coded_list, coded_option}
 use Rattle.geom_core.specs.declared.shape.Shape.{Shape}

@@ -6,25 +6,25 @@ use Rattle.rtree_core.specs.Collections.{HasSame}
 use Rattle.rtree_core.specs.Trees.{entries_in, IsTree}
 use Rattle.layer_core.specs.Layers.{Feature, Contents}
 
--- what is seen of a layer: the list of its features, and the root of its tree
+-- the visible state of a layer: the list of its features, and the root of its tree
 pub record LayerState : Type 0 where
   pub list : Contents
   pub root : Option Node
 
--- what the tree holds of a feature: its shape and its number
+-- the entry of a feature in the tree: its shape and its number
 abbrev pub indexed : Feature → Entry
 indexed f = record { shape = f.shape; number = f.number }
 
--- what the tree of a layer holds, in layer order
+-- the entries of a layer's tree, in layer order
 abbrev pub entries_for : Contents → List Entry
 entries_for layer = map indexed layer.features
 
--- the tree with this root holds the shapes of the list's features with their numbers, each once,
--- and nothing else
+-- the tree with this root holds exactly the shapes of the list's features with their numbers, each
+-- once
 abbrev pub HoldsExactly : Contents → Option Node → Type 0
 HoldsExactly layer root = HasSame (entries_for layer) (entries_in root)
 
--- and it is a lawful tree
+-- the tree is lawful and holds exactly the features
 pub record IsTreeOf (layer : Contents) (root : Option Node) : Type 0 where
   pub lawful : IsTree root
   pub same : HoldsExactly layer root

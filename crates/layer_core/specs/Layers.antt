@@ -6,13 +6,13 @@ use Rattle.std.specs.Str.{bytes_eq}
 use Rattle.geom_core.specs.declared.shape.Shape.{Shape}
 use Rattle.layer_core.specs.Limits.{most_features}
 
--- a feature: its id, the number that it was given, and its shape
+-- a feature: its id, its number and its shape
 pub record Feature : Type 0 where
   pub id : List ℕ
   pub number : ℕ
   pub shape : Shape
 
--- the features in layer order, and the number that the next one gets
+-- the features in layer order, and the number of the next one
 pub record Contents : Type 0 where
   pub features : List Feature
   pub next : ℕ
@@ -20,7 +20,7 @@ pub record Contents : Type 0 where
 abbrev pub empty : Contents
 empty = record { features = []; next = 0 }
 
--- ids differ, and numbers rise and are below the next, which is at most 1,000,000
+-- ids are distinct, and numbers ascend and are less than the next, which is at most 1,000,000
 pub record IsLayer (layer : Contents) : Type 0 where
   pub distinct : AllPairs (λ f g. f.id ≢ g.id) layer.features
   pub rising : AllPairs (λ f g. f.number < g.number) layer.features
@@ -41,7 +41,7 @@ with_id id layer = find (has_id id) layer.features
 abbrev pub with_number : ℕ → Contents → Option Feature
 with_number number layer = find (has_number number) layer.features
 
--- the layer with one feature more, at its end
+-- the layer with one more feature at its end
 abbrev pub inserted : Contents → List ℕ → Shape → Contents
 inserted layer id shape = record {
   features = layer.features ++ record { id = id; number = layer.next; shape = shape } ∷ [];
@@ -52,11 +52,11 @@ inserted layer id shape = record {
 abbrev pub deleted : Contents → List ℕ → Contents
 deleted layer id = record layer { features = filter (λ f. not (has_id id f)) layer.features }
 
--- what a look-up by id answers: the number and the shape
+-- the result of a lookup by id: the number and the shape
 abbrev pub NumberAndShapeAre : Option (ℕ × Shape) → Option Feature → Type 0
 NumberAndShapeAre answer feature = answer ≡ option_map (λ f. (f.number, f.shape)) feature
 
--- what a look-up by number answers: the id and the shape
+-- the result of a lookup by number: the id and the shape
 abbrev pub IdAndShapeAre : Option (Bor (List ℕ) × Shape) → Option Feature → Type 0
 IdAndShapeAre answer feature =
     option_map id_and_shape answer ≡ option_map (λ f. (f.id, f.shape)) feature

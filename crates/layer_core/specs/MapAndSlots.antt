@@ -1,4 +1,4 @@
--- The layer that ids with their numbers and a list of slots stand for.
+-- The layer represented by ids with their numbers and a list of slots.
 use Rattle.std.specs.Prelude.{◌≡◌, ◌+◌, ◌<◌, ◌≤◌, ℕ, suc, true, false, List, [], ◌∷◌, Option, Some}
 use Rattle.std.specs.Prelude.{None, map, get_or, length, slice_get, option_map}
 use Rattle.std.specs.Str.{bytes_eq}
@@ -13,12 +13,12 @@ use Rattle.layer_core.specs.Layers.{Feature, Contents}
 abbrev pub id_of : List (List ℕ) → Slot → List ℕ
 id_of ids slot = get_or ids slot.place []
 
--- the feature in a slot, where the ids are those of the map in its order
+-- the feature in a slot, given the ids of the map in order
 abbrev pub feature_of : List (List ℕ) → ℕ → Slot → Feature
 feature_of ids number slot =
     record { id = id_of ids slot; number = number; shape = slot.shape }
 
--- the features in the slots, where the first slot is that of this number
+-- the features in the slots, the first of which has this number
 abbrev pub features_from : List (List ℕ) → ℕ → List (Option Slot) → List Feature
 features_from ids number [] = []
 features_from ids number (None ∷ slots) = features_from ids (suc number) slots
@@ -32,18 +32,18 @@ abbrev pub contents_of : List Id → List (Option Slot) → Contents
 contents_of keys slots =
     record { features = features_from (ids_of keys) 0 slots; next = length slots }
 
--- what is seen of a layer's features: their list; how many more need no memory, whatever their ids
--- are; and how many more if each id comes after all that were ever inserted
+-- the visible state of a layer's features: their list; how many more need no memory, whatever their
+-- ids; and how many more if each id comes after all that were ever inserted
 pub record FeaturesState : Type 0 where
   pub list : Contents
   pub room : ℕ
   pub rising_room : ℕ
 
--- where the ids of the features stand, by number
+-- the places of the features' ids, by number
 abbrev pub places : List (Option Slot) → List (Option ℕ)
 places slots = map (option_map (λ slot. slot.place)) slots
 
--- the numbers by place and the places by number say the same
+-- the numbers by place and the places by number are inverse to each other
 pub record AreInverse (numbers : List (Option ℕ)) (slots : List (Option Slot)) : Type 0 where
   pub placed : (p n : ℕ) → slice_get numbers p ≡ Some (Some n)
       → slice_get (places slots) n ≡ Some (Some p)
@@ -51,7 +51,7 @@ pub record AreInverse (numbers : List (Option ℕ)) (slots : List (Option Slot))
       → slice_get numbers p ≡ Some (Some n)
   pub few : length slots ≤ most_features
 
--- the ids and the slots belong together, the ids differ, and so many features are there
+-- the ids and the slots correspond, the ids are distinct, and this is the number of features
 pub record StandForLayer
     (entries : List (Id × Option ℕ)) (slots : List (Option Slot)) (count : ℕ)
     : Type 0 where
@@ -74,7 +74,7 @@ pub record IsOnly
   pub only : (j : ℕ) (s : Slot) → slice_get slots j ≡ Some (Some s)
       → bytes_eq id (id_of ids s) ≡ true → j ≡ k
 
--- each slot names the place of an id, and the numbers of the slots are those of a layer
+-- each slot refers to the place of an id, and the numbers of the slots are those of a layer
 pub record IsWalk
     (entries : List (Id × Option ℕ)) (number : ℕ) (slots : List (Option Slot))
     : Type 0 where

@@ -1,4 +1,4 @@
--- How many features of each dimension a layer has, and how high its tree is.
+-- The number of features of a layer by dimension, and the height of its tree.
 use Rattle.std.specs.Prelude.{ℕ, ◌+◌, ◌^◌, ◌<◌, ◌==◌, List, Bool, count_by, length}
 use Rattle.geom_core.specs.Shapes.{dim_of}
 use Rattle.rtree_core.specs.Trees.{height_of}
@@ -9,11 +9,11 @@ use Rattle.layer_core.specs.LayerTrees.{LayerState}
 abbrev pub has_dim : ℕ → Feature → Bool
 has_dim dim f = dim_of f.shape == dim
 
--- how many of some features are points, segments or rectangles: of dimension 0, 1 or 2
+-- the number of features of a dimension: 0 for points, 1 for segments, 2 for rectangles
 abbrev pub count_of_dim : ℕ → List Feature → ℕ
 count_of_dim dim features = count_by (has_dim dim) features
 
--- the counts of a layer's features, beside a height
+-- the counts of a layer's features, with a height
 abbrev pub counts_of : Contents → ℕ → Stats
 counts_of layer height = record {
   features = length layer.features;
@@ -23,11 +23,11 @@ counts_of layer height = record {
   height = height;
 }
 
--- and beside that of its tree
+-- the counts of a layer's features, with the height of its tree
 abbrev pub stats_of : LayerState → Stats
 stats_of layer = counts_of layer.list (height_of layer.root)
 
--- one more of any dimension can be counted
+-- one more feature of any dimension can be counted
 pub record CanCount (s : Stats) : Type 0 where
   pub points : s.points + 1 < 2 ^ 32
   pub segments : s.segments + 1 < 2 ^ 32

@@ -1,7 +1,7 @@
--- What an iterator over a layer gives.
+-- The items of an iterator over a layer.
 use Rattle.layer_core.specs.declared.iter.FeatureRef.{FeatureRef}
 use Rattle.layer_core.specs.Layers.{Feature}
 
--- the feature that an item of the iterator tells of
+-- the feature of an item of the iterator
 abbrev pub feature_read : FeatureRef → Feature
 feature_read f = record { id = f.id.now; number = f.number; shape = f.shape }

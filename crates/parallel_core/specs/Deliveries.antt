@@ -1,4 +1,4 @@
--- What workers make of a plan.
+-- The delivery of a plan by workers.
 use Rattle.std.specs.Prelude.{◌≡◌, ℕ, List, Some, length, slice_get, IsPermutation, IsSorted}
 use Rattle.std.specs.List.{flat_map}
 use Rattle.relation_core.specs.declared.relation.Relation.{Relation}
@@ -14,8 +14,8 @@ abbrev pub AreMarks : ℕ → List (List (ℕ × ℕ)) → Delivery → Type 0
 AreMarks size rows outcome = (task : ℕ) (row : List (ℕ × ℕ)) → slice_get rows task ≡ Some row
     → marks_of task outcome.marks ≡ script_marks task (batches_for size row)
 
--- each task of the plan was delivered, whole, once and in order, in batches of so many pairs, and
--- the pairs of all rows stand in ascending order
+-- each task of the plan was delivered whole, once and in order, in batches of `size` pairs, and the
+-- pairs of all rows are in ascending order
 pub record IsDelivered (relation : Relation) (plan : List (Node × Node)) (size : ℕ)
     (outcome : Delivery) : Type 0 where
   pub rows : List (List (ℕ × ℕ))

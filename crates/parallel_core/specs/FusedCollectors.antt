@@ -1,12 +1,11 @@
--- What a collector has taken in of messages, up to the first that it refused.
+-- The messages that a collector has accepted, up to the first that it refused.
 use Rattle.std.specs.Prelude.{◌≡◌, ◌⊎◌, List, ◌∷◌, ◌++◌, Some, Result, Ok, Err}
 use Rattle.deliver_core.specs.declared.faults.Refusal.{Refusal}
 use Rattle.deliver_core.specs.declared.faults.Refusal.TheVariants.{Memory}
 use Rattle.deliver_core.specs.Collectors.{Collection, collected, refusal_of}
 use Rattle.deliver_core.specs.Scripts.{Content}
 
--- the collector holds the messages before one that it refused, which its rule refuses or for which
--- it was out of memory
+-- the collector holds the messages before one that it refused, by its rule or for lack of memory
 pub record StopsAt (contents : List Content) (c : Collection) (refusal : Refusal) : Type 0 where
   pub before : List Content
   pub message : Content

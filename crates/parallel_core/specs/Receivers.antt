@@ -1,4 +1,4 @@
--- What a receiver has taken of an outlet.
+-- The messages that a receiver has taken of an outlet.
 use Rattle.std.specs.Prelude.{◌≡◌, ℕ, ◌<◌, true, All, Some, map, length, slice_get}
 use Rattle.deliver_core.specs.declared.outlet.Outlet.{Outlet}
 use Rattle.deliver_core.specs.Byes.{has_bye}
@@ -8,8 +8,8 @@ use Rattle.deliver_core.specs.Scripts.{content_of}
 use Rattle.parallel_core.specs.declared.receiver.Receiver.{Receiver}
 use Rattle.parallel_core.specs.FusedCollectors.{HasTakenIn}
 
--- each message is of one of the ports, it is noted of which ports the Bye was taken, and the
--- collector was offered what was taken
+-- each message is of one of the ports, it is recorded of which ports the Bye was taken, and the
+-- collector was offered the messages taken
 pub record ReceivesFrom (outlet : Outlet) (g : Receiver) : Type 0 where
   pub tap : IsTapOf outlet g.tap
   pub known : All (λ m. m.port < port_count g.tap) (taken_by g.tap)
@@ -18,8 +18,8 @@ pub record ReceivesFrom (outlet : Outlet) (g : Receiver) : Type 0 where
       → has_bye (of_port port (taken_by g.tap)) ≡ true
   pub taken_in : HasTakenIn (map content_of (taken_by g.tap)) g.fused.collector g.fused.accepted
 
--- it receives for as many ports and tasks as before, and what was taken of a port up to its Bye is
--- all that is taken of it
+-- it receives for the same numbers of ports and tasks as before, and if a Bye of a port was taken,
+-- no more messages are taken of it
 pub record Continues (outlet : Outlet) (old new : Receiver) : Type 0 where
   pub receives : ReceivesFrom outlet new
   pub ports : port_count new.tap ≡ port_count old.tap

@@ -1,4 +1,4 @@
--- What the workers of a join share, as contracts speak of it.
+-- The data that the workers of a join share, as a value in contracts.
 use Rattle.std.specs.Prelude.{ℕ, List}
 use Rattle.relation_core.specs.declared.relation.Relation.{Relation}
 use Rattle.relation_core.specs.JoinRelations.{relation_of}
@@ -7,8 +7,8 @@ use Rattle.deliver_core.specs.declared.outlet.Outlet.{Outlet}
 use Rattle.deliver_core.specs.Boards.{BoardValue}
 use Rattle.parallel_core.specs.declared.shared.Shared.{Shared}
 
--- the relation, the tasks of the plan and the most pairs of a batch, and where tasks are drawn and
--- messages put
+-- the relation, the tasks of the plan, the greatest number of pairs in a batch, and where tasks are
+-- drawn and messages sent
 pub record SharedValue : Type 0 where
   pub relation : Relation
   pub plan : List (Node × Node)
@@ -25,7 +25,7 @@ shared_by relation plan size board outlet = record {
   outlet = outlet;
 }
 
--- what is shared, where a plan has these tasks
+-- the shared data, given the tasks of a plan
 abbrev pub shared_of : {P G : Type 0} → (P → List (Node × Node)) → Shared P G → SharedValue
 shared_of tasks shared =
     shared_by (relation_of shared.relation.now) (tasks shared.plan.now) shared.batch

@@ -1,4 +1,4 @@
--- A team of workers: what it may start with, and what it leaves when it has ended.
+-- A team of workers: its state before it starts, and after it has ended.
 use Rattle.std.specs.Prelude.{◌≡◌, ℕ, ◌<◌, ◌≤◌, Bool, true, List, All, Some, map, length, slice_get}
 use Rattle.std.specs.Prelude.{vec_capacity}
 use Rattle.relation_core.specs.declared.relation.Relation.{Relation}
@@ -28,8 +28,8 @@ pub record IsReady (board : BoardValue) (outlet : Outlet) (team : Team) : Type 0
   pub few : length team.ports.items ≤ port_count team.receiver.tap
   pub receives : ReceivesFrom outlet team.receiver
 
--- beside the team stands a worker's seat and port, the next one by index, and there is room for
--- the seat to come back
+-- apart from the team there are a worker's seat and port, the next one by index, and there is room
+-- for the seat to be returned
 pub record IsBeside (board : BoardValue) (outlet : Outlet) (team : Team) (seat : SeatValue)
     (port : Port) : Type 0 where
   pub ready : IsReady board outlet team
@@ -39,13 +39,13 @@ pub record IsBeside (board : BoardValue) (outlet : Outlet) (team : Team) (seat :
   pub below : length team.ports.items < port_count team.receiver.tap
   pub room : length team.ports.items < vec_capacity team.seats
 
--- the team has received and started as before, and has as much room
+-- the team has received and started as before, and has the same capacity
 pub record IsAsBefore (old new : Team) : Type 0 where
   pub receiver : new.receiver ≡ old.receiver
   pub capacity : vec_capacity new.seats ≡ vec_capacity old.seats
 
--- what one worker has left: what was taken of its port is what it says, up to its Bye, given what
--- its seat drew; and that it was ok, where all are
+-- the result of one worker: the messages taken of its port, up to its Bye, are those that it sends
+-- for the numbers that its seat drew; and it was successful if all are
 pub record IsShare (relation : Relation) (plan : List (Node × Node)) (size : ℕ)
     (board : BoardValue) (taken : List Message) (all_ok : Bool) (index : ℕ) (seat : SeatValue)
     : Type 0 where
@@ -56,14 +56,14 @@ pub record IsShare (relation : Relation) (plan : List (Node × Node)) (size : �
   pub done : ok ≡ true → seat.done ≡ true
   pub counts : all_ok ≡ true → ok ≡ true
 
--- what so many workers have left, each at the place of its index
+-- the results of `count` workers, each at its index
 pub record AreShares (relation : Relation) (plan : List (Node × Node)) (size : ℕ)
     (board : BoardValue) (count : ℕ) (team : Team) : Type 0 where
   pub count_is : length team.seats.items ≡ count
   pub each : (index : ℕ) (seat : SeatValue) → slice_get team.seats.items index ≡ Some seat
       → IsShare relation plan size board (taken_by team.receiver.tap) team.all_ok index seat
 
--- what a team of so many workers leaves, which has begun with this receiver and room
+-- the result of a team of `count` workers that started with this receiver and capacity
 pub record HasRun (shared : SharedValue) (count room : ℕ) (begun : Receiver) (team : Team)
     : Type 0 where
   pub receiver : Continues shared.outlet begun team.receiver

@@ -1,4 +1,4 @@
--- What a worker has sent, when it has processed the tasks that it drew.
+-- The messages of a worker when it has processed the tasks that it drew.
 use Rattle.std.specs.Prelude.{◌≡◌, ℕ, ◌<◌, Bool, true, false, List, [], ◌∷◌, ◌++◌, map, All}
 use Rattle.std.specs.Prelude.{MatchBool, IsSomeAnd, slice_get}
 use mathlib.Core.List.{IsPrefix}
@@ -15,11 +15,11 @@ use Rattle.parallel_core.specs.declared.working.Worked.{Worked}
 use Rattle.parallel_core.specs.Sending.{said_by, Says}
 use Rattle.parallel_core.specs.Shared.{SharedValue}
 
--- the row of the task of this number in the plan
+-- the row of the task with this number in the plan
 abbrev pub IsRowIn : Relation → List (Node × Node) → Task → Type 0
 IsRowIn relation plan row = IsSomeAnd (slice_get plan row.0) (λ task. IsRow relation task row.1)
 
--- the scripts of the tasks of these numbers, in this order
+-- the scripts of the tasks with these numbers, in this order
 pub record AreScripts (relation : Relation) (plan : List (Node × Node)) (size : ℕ)
     (numbers : List ℕ) (said : List Content) : Type 0 where
   pub rows : List Task
@@ -36,22 +36,22 @@ pub record BeginScripts (relation : Relation) (plan : List (Node × Node)) (size
   pub scripts : AreScripts relation plan size first whole
   pub begins : IsPrefix said whole
 
--- the port has said the scripts of these tasks besides
+-- the port has also sent the scripts of these tasks
 pub record SaysScripts (relation : Relation) (plan : List (Node × Node)) (size : ℕ)
     (numbers : List ℕ) (old new : Port) : Type 0 where
   pub more : List Content
   pub scripts : AreScripts relation plan size numbers more
   pub says : Says old new more
 
--- the port has said a prefix of the scripts of these tasks besides
+-- the port has also sent a prefix of the scripts of these tasks
 pub record SaysBeginning (relation : Relation) (plan : List (Node × Node)) (size : ℕ)
     (numbers : List ℕ) (old new : Port) : Type 0 where
   pub more : List Content
   pub scripts : BeginScripts relation plan size numbers more
   pub says : Says old new more
 
--- what a worker says, given which numbers its seat drew and whether it is ok: where it is, the
--- scripts of these tasks, in that order, else a prefix of them; and then its bye
+-- the messages of a worker, given the numbers that its seat drew and whether it is successful: if
+-- it is, the scripts of these tasks, in that order, otherwise a prefix of them; and then its bye
 pub record WorkerSays (relation : Relation) (plan : List (Node × Node)) (size : ℕ)
     (numbers : List ℕ) (ok : Bool) (said : List Content) : Type 0 where
   pub before : List Content
@@ -60,19 +60,19 @@ pub record WorkerSays (relation : Relation) (plan : List (Node × Node)) (size :
       (AreScripts relation plan size numbers before)
       (BeginScripts relation plan size numbers before)
 
--- a seat of the board, each number of which is that of one of the board's tasks
+-- a seat of the board that has only drawn numbers of the board's tasks
 pub record IsSeatBelow (board : BoardValue) (seat : SeatValue) : Type 0 where
   pub own : IsSeatOf board seat
   pub below : All (λ number. number < board.tasks) seat.drawn
 
--- the port of this index, which has said bye and wasn't met
+-- the port with this index, which has said bye and wasn't met
 pub record IsReadyToMeet (outlet : Outlet) (index : ℕ) (port : Port) : Type 0 where
   pub ended : IsEndedPort outlet port
   pub unmet : is_spent port ≡ false
   pub index_is : index_of port ≡ index
 
--- what a worker comes back with: its port has said what it says, and its seat is done where it is
--- ok
+-- the result of a worker: its port has sent the worker's messages, and its seat is done if it is
+-- successful
 pub record ComesBack (shared : SharedValue) (index : ℕ) (w : Worked) : Type 0 where
   pub says : WorkerSays shared.relation shared.plan shared.size w.seat.drawn w.ok (said_by w.port)
   pub seat : IsSeatBelow shared.board w.seat

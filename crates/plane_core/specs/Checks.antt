@@ -1,4 +1,4 @@
--- The tests of whether vertices and the ends of paths make a geometry.
+-- The tests of whether vertices and the ends of paths form a geometry.
 use Rattle.std.specs.Prelude.{ℕ, Bool, ◌&&◌, ◌==◌, not, true, nat_lt, nat_le, List, [], ◌∷◌, length}
 use Rattle.std.specs.List.{list_all}
 use Rattle.std.specs.Ordering.{int_eq}

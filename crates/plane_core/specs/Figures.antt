@@ -9,7 +9,7 @@ use Rattle.plane_core.specs.declared.part.Part.{Part}
 use Rattle.plane_core.specs.declared.part.Part.TheVariants.{Interior, Boundary, Exterior}
 use Rattle.plane_core.specs.Points.{Point, is_on, is_below, is_at_or_below, is_at}
 
--- points, polylines, or rings, whose last vertex is their first one again
+-- points, polylines, or rings, whose last vertex equals their first
 pub data Figure : Type 0 where
   Points : List Vertex → Figure
   Lines : List (List Vertex) → Figure
@@ -40,7 +40,7 @@ dim_of (Areas rings) = 2
 abbrev pub HasLength : Edge → Type 0
 HasLength e = ¬ ((e.a.x ≡ e.b.x) × (e.a.y ≡ e.b.y))
 
--- two vertices or more, and no two in a row the same
+-- at least two vertices, and consecutive ones differ
 pub record IsPath (path : List Vertex) : Type 0 where
   pub long : 0 < length (edges path)
   pub steps : All HasLength (edges path)
@@ -49,7 +49,7 @@ abbrev pub last_or : Vertex → List Vertex → Vertex
 last_or v [] = v
 last_or v (a ∷ rest) = last_or a rest
 
--- the last vertex is the first one again
+-- the last vertex equals the first
 abbrev pub IsClosed : List Vertex → Type 0
 IsClosed [] = ⊤
 IsClosed (a ∷ rest) = last_or a rest ≡ a
@@ -66,7 +66,7 @@ IsGeometry (Areas rings) = (0 < length rings) × All IsRing rings
 abbrev pub is_odd : ℕ → Bool
 is_odd n = n % 2 == 1
 
--- how many of the two ends of a polyline are the point
+-- how many of the two ends of a polyline equal the point
 abbrev pub last_count : List Vertex → Point → ℕ
 last_count [] p = 0
 last_count (a ∷ []) p = cond (is_at a p) 1 0
@@ -79,7 +79,7 @@ end_count p (a ∷ rest) = cond (is_at a p) 1 0 + last_count (a ∷ rest) p
 abbrev pub points_part : List Vertex → Point → Part
 points_part vs p = if list_any (λ v. is_at v p) vs then Interior else Exterior
 
--- the boundary of polylines: the points that end an odd number of them
+-- the boundary of polylines: the points that are ends of an odd number of them
 abbrev pub lines_part : List (List Vertex) → List Edge → Point → Part
 lines_part paths es p =
     if is_odd (sum_by (end_count p) paths) then Boundary
@@ -96,7 +96,7 @@ part_of (Points vs) p = points_part vs p
 part_of (Lines paths) p = lines_part paths (flat_map edges paths) p
 part_of (Areas rings) p = areas_part (flat_map edges rings) p
 
--- the part of all points just above a point, unless a vertical edge goes up from it
+-- the part in which the points just above a point lie, unless a vertical edge leads up from it
 abbrev pub part_above : Figure → Point → Part
 part_above (Points vs) p = Exterior
 part_above (Lines paths) p = Exterior

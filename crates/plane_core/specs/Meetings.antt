@@ -1,9 +1,9 @@
--- Where two edges that aren't parallel meet.
+-- The intersection of two edges that aren't parallel.
 use Rattle.std.specs.Prelude.{◌≡◌, ◌≢◌, ℤ, pos, ◌<◌, ◌*ℤ◌, ◌-ℤ◌, nat_abs, true}
 use Rattle.plane_core.specs.declared.edge.Edge.{Edge}
 use Rattle.plane_core.specs.Points.{Point, is_on, turn_of}
 
--- the point of an edge that divides it as n divides w
+-- the point of an edge at the fraction n / w of its length
 abbrev pub divided : Edge → ℤ → ℤ → Point
 divided e n w = record {
   x = w *ℤ e.a.x -ℤ n *ℤ (e.a.x -ℤ e.b.x);
@@ -17,6 +17,6 @@ pub record IsMeeting (e f : Edge) (p : Point) : Type 0 where
   pub first : is_on e p ≡ true
   pub second : is_on f p ≡ true
 
--- edges that share a point are parallel
+-- the edges are parallel or share no point
 pub record HaveNoMeeting (e f : Edge) : Type 0 where
   pub none : (p : Point) → 0 < p.w → ¬ (IsMeeting e f p)

@@ -1,4 +1,4 @@
--- The parts of a geometry by what its outline holds.
+-- The parts of a geometry in terms of its outline.
 use Rattle.std.specs.Prelude.{◌≡◌, Bool, List, [], ◌∷◌, count_by, if◌then◌else◌}
 use Rattle.std.specs.List.{list_any, flat_map}
 use Rattle.plane_core.specs.declared.vertex.Vertex.{Vertex}
@@ -29,13 +29,13 @@ ends_of (Points vs) = vs
 ends_of (Lines paths) = flat_map path_ends paths
 ends_of (Areas rings) = []
 
--- what a geometry's outline holds
+-- the outline of a geometry
 pub record IsOutlineOf (g : Figure) (o : Outline) : Type 0 where
   pub kind : o.kind ≡ kind_of g
   pub edges : o.edges.items ≡ edges_of g
   pub ends : o.ends.items ≡ ends_of g
 
--- how edges lie to a point, all together
+-- how a set of edges lies to a point
 pub record IsScan (es : List Edge) (p : Point) (s : Scan) : Type 0 where
   pub on : s.is_on ≡ list_any (λ e. is_on e p) es
   pub below : s.is_odd_below ≡ is_odd (count_by (λ e. is_below e p) es)

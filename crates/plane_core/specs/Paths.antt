@@ -1,10 +1,10 @@
--- The edges of a path by their places.
+-- The edges of a path by their indexes.
 use Rattle.std.specs.Prelude.{◌≡◌, ℕ, ◌-◌, List}
 use Rattle.std.specs.List.{slice_index_or}
 use Rattle.plane_core.specs.declared.vertex.Vertex.{Vertex}
 use Rattle.plane_core.specs.declared.edge.Edge.{Edge}
 
--- from the vertex before a place to the one there
+-- the edge from the vertex before an index to the one there
 pub record IsEdgeAt (path : List Vertex) (i : ℕ) (e : Edge) : Type 0 where
   pub a : e.a ≡ slice_index_or path (i - 1) e.a
   pub b : e.b ≡ slice_index_or path i e.b

@@ -1,4 +1,4 @@
--- The points of the plane that the program's triples stand for.
+-- The points of the plane that the program represents by triples.
 use Rattle.std.specs.Prelude.{◌≡◌, nat_abs, pos, ◌*ℤ◌}
 use Rattle.std.specs.Ordering.{int_cmp, ordering_then}
 use Rattle.std.specs.declared.cmp.Ordering.{Ordering}
@@ -14,7 +14,7 @@ point_of p = record { x = p.x; y = p.y; w = nat_abs p.w }
 abbrev pub node_point : Node → Point
 node_point n = point_of n.place
 
--- by x, and then by y
+-- the order by x, and then by y
 abbrev pub place_order : Point → Point → Ordering
 place_order p q =
     ordering_then (int_cmp (p.x *ℤ pos q.w) (q.x *ℤ pos p.w)) (int_cmp (p.y *ℤ pos q.w) (q.y *ℤ pos p.w))

@@ -1,5 +1,5 @@
--- The matrix of two geometries: for each two of their parts, whether they share all points of a
--- triangle, or else of a segment, or else a point (OGC 06-103r4, 6.1.15).
+-- The matrix of two geometries: for each two of their parts, whether their intersection contains
+-- all points of a triangle, or else of a segment, or else a point (OGC 06-103r4, 6.1.15).
 use Rattle.std.specs.Prelude.{◌≡◌, ℕ, ◌+◌, ◌<◌, pos}
 use Rattle.relation_core.specs.declared.extent.Extent.{Extent}
 use Rattle.relation_core.specs.declared.extent.Extent.TheVariants.{Empty, Point as Dot, Line, Area}
@@ -28,7 +28,7 @@ ShareTriangle P =
     (p : Point) × (q : Point) × (r : Point) × (0 < p.w) × (0 < q.w) × (0 < r.w) × ¬ (turn p q r ≡ pos 0)
     × ((s t u : ℕ) → 0 < s + t + u → P (mix 1 (mix s p t q) u r))
 
--- the greatest dimension of which something is shared
+-- the greatest dimension of the intersection
 abbrev pub IsEntry : (Point → Type 0) → Extent → Type 0
 IsEntry P Empty = ¬ (SharePoint P)
 IsEntry P Dot = SharePoint P × ¬ (ShareSegment P)

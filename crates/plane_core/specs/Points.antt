@@ -15,7 +15,7 @@ pub record Point : Type 0 where
 abbrev pub at : Vertex → Point
 at v = record { x = v.x; y = v.y; w = 1 }
 
--- s parts of one point and t of another: so is each point of the segment between the two
+-- the mix of s parts of one point and t of another; each point of the segment between is such a mix
 abbrev pub mix : ℕ → Point → ℕ → Point → Point
 mix s p t q = record {
   x = pos s *ℤ p.x +ℤ pos t *ℤ q.x;
@@ -33,53 +33,53 @@ IsBefore p q =
     ((p.x *ℤ pos q.w) <ℤ (q.x *ℤ pos p.w))
     ⊎ ((p.x *ℤ pos q.w ≡ q.x *ℤ pos p.w) × ((p.y *ℤ pos q.w) <ℤ (q.y *ℤ pos p.w)))
 
--- how far an edge runs along each axis
+-- the lengths of an edge along the axes, with their signs
 abbrev pub run : Edge → ℤ
 run e = e.b.x -ℤ e.a.x
 
 abbrev pub rise : Edge → ℤ
 rise e = e.b.y -ℤ e.a.y
 
--- the cross product of the directions of two edges: 0 just where they are parallel
+-- the cross product of the directions of two edges, which is 0 if and only if they are parallel
 abbrev pub turn_of : Edge → Edge → ℤ
 turn_of e f = run e *ℤ rise f -ℤ run f *ℤ rise e
 
--- the cross product of the edge and of the way from its first end to the point, times w
+-- the cross product of the edge and the vector from its first end to the point, times w
 abbrev pub side : Edge → Point → ℤ
 side e p = run e *ℤ (p.y -ℤ pos p.w *ℤ e.a.y) -ℤ rise e *ℤ (p.x -ℤ pos p.w *ℤ e.a.x)
 
--- z / w lies between two whole numbers, or is one of them
+-- z / w is between two integers, inclusive
 abbrev pub is_between : ℤ → ℤ → ℕ → ℤ → Bool
 is_between a b w z =
     int_le (pos w *ℤ a) z && int_le z (pos w *ℤ b) || int_le (pos w *ℤ b) z && int_le z (pos w *ℤ a)
 
--- on the edge, its ends included
+-- the point is on the edge, including its ends
 abbrev pub is_on : Edge → Point → Bool
 is_on e p =
     int_eq (side e p) (pos 0) && is_between e.a.x e.b.x p.w p.x && is_between e.a.y e.b.y p.w p.y
 
--- z / w lies from the first of two whole numbers to below the second
+-- z / w is at least the first of two integers and less than the second
 abbrev pub is_from_to : ℤ → ℤ → ℕ → ℤ → Bool
 is_from_to a b w z = int_le (pos w *ℤ a) z && int_lt z (pos w *ℤ b)
 
--- strictly below the point: the edge has the point's x, but not at its right end, and passes under
--- the point. So a vertex between two edges is counted once, and a vertical edge never.
+-- the edge passes strictly below the point: it has a point with the same x, except its right end,
+-- that is below. So a vertex between two edges is counted once, and a vertical edge never.
 abbrev pub is_below : Edge → Point → Bool
 is_below e p =
     is_from_to e.a.x e.b.x p.w p.x && int_lt (pos 0) (side e p)
     || is_from_to e.b.x e.a.x p.w p.x && int_lt (side e p) (pos 0)
 
--- the same, or through the point
+-- the same, or the edge passes through the point
 abbrev pub is_at_or_below : Edge → Point → Bool
 is_at_or_below e p =
     is_from_to e.a.x e.b.x p.w p.x && int_le (pos 0) (side e p)
     || is_from_to e.b.x e.a.x p.w p.x && int_le (side e p) (pos 0)
 
--- the vertex is the point
+-- the vertex equals the point
 abbrev pub is_at : Vertex → Point → Bool
 is_at v p = int_eq p.x (pos p.w *ℤ v.x) && int_eq p.y (pos p.w *ℤ v.y)
 
--- the determinant of three triples: 0 just where the points are on one line
+-- the determinant of three triples, which is 0 if and only if the points are on one line
 abbrev pub turn : Point → Point → Point → ℤ
 turn p q r =
     p.x *ℤ (q.y *ℤ pos r.w -ℤ pos q.w *ℤ r.y)

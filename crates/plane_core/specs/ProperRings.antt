@@ -1,4 +1,4 @@
--- Rings that neither cross nor run along each other: where they touch, they touch in ends of edges.
+-- Rings that neither cross nor run along each other: they touch only at ends of edges.
 use Rattle.std.specs.Prelude.{◌≡◌, ⊤, ◌<◌, Bool, ◌||◌, true, List, AllPairs}
 use Rattle.std.specs.List.{flat_map}
 use Rattle.plane_core.specs.declared.edge.Edge.{Edge}
@@ -18,26 +18,26 @@ pub record IsShared (e f : Edge) (p : Point) : Type 0 where
 abbrev pub is_end : Edge → Point → Bool
 is_end e p = is_at e.a p || is_at e.b p
 
--- the edges share one point at most, and it is an end of one of them
+-- the edges share at most one point, which is an end of one of them
 pub record MeetProperly (e f : Edge) : Type 0 where
   pub one_place : (p q : Point) → IsShared e f p → IsShared e f q → IsSamePlace p q
   pub at_end : (p : Point) → IsShared e f p → (is_end e p || is_end f p) ≡ true
 
--- each two edges, at different places of the list, meet properly
+-- each two edges, at different indexes of the list, meet properly
 abbrev pub AreProper : List Edge → Type 0
 AreProper es = AllPairs MeetProperly es
 
--- so do the edges of all rings of an area; other geometries have no rings
+-- the edges of all rings of an area pairwise meet properly; other geometries have no rings
 abbrev pub HasProperRings : Figure → Type 0
 HasProperRings (Points vs) = ⊤
 HasProperRings (Lines paths) = ⊤
 HasProperRings (Areas rings) = AreProper (flat_map edges rings)
 
--- the rings of a geometry are proper, where they have to be
+-- the rings of a geometry are proper, if they have to be
 abbrev pub TakesRings : Rings → Figure → Type 0
 TakesRings Proper g = HasProperRings g
 TakesRings EvenOdd g = ⊤
 
--- a geometry, with such rings
+-- a geometry whose rings satisfy the rule
 abbrev pub IsGeometryOf : Rings → Figure → Type 0
 IsGeometryOf rings g = IsGeometry g × TakesRings rings g

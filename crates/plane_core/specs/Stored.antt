@@ -1,4 +1,4 @@
--- A geometry as it is stored: the vertices of all its paths in a row, and where each path ends.
+-- A geometry as it is stored: the concatenated vertices of all its paths, and the end of each path.
 use Rattle.std.specs.Prelude.{◌≡◌, ℕ, ◌≤◌, List, [], ◌∷◌, length}
 use Rattle.std.specs.List.{slice_range}
 use Rattle.plane_core.specs.declared.vertex.Vertex.{Vertex}

@@ -1,4 +1,4 @@
--- The vertices of a geometry, path by path, and the boxes that they lie in.
+-- The vertices of a geometry, path by path, and their bounding boxes.
 use Rattle.std.specs.Prelude.{ℕ, zero, suc, ◌≤ℤ◌, List, [], ◌∷◌}
 use Rattle.std.specs.List.{flat_map, slice_index_or}
 use Rattle.geom_core.specs.declared.shape.Shape.{Shape}
@@ -13,11 +13,11 @@ paths_in (Points vs) = vs ∷ []
 paths_in (Lines paths) = paths
 paths_in (Areas rings) = rings
 
--- those of all paths
+-- the vertices of all paths
 abbrev pub vertices_of : Figure → List Vertex
 vertices_of g = flat_map (λ path. path) (paths_in g)
 
--- where the path at a place begins, by where each path ends
+-- the start of the path at an index, from the ends of the paths
 abbrev pub start_of : List ℕ → ℕ → ℕ
 start_of ends zero = 0
 start_of ends (suc i) = slice_index_or ends i 0

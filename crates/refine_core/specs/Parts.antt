@@ -1,4 +1,4 @@
--- What workers have refined of a list, chunk by chunk.
+-- The results of workers that refine a list, chunk by chunk.
 use Rattle.std.specs.Prelude.{◌≡◌, ℕ, true, List, [], ◌∷◌, All, Result, Ok, Err, map, length}
 use Rattle.std.specs.Prelude.{Contains, slice_index_or}
 use Rattle.std.specs.declared.alloc.Global.{Global}
@@ -15,13 +15,13 @@ use Rattle.refine_core.specs.Refinements.{AreRefined}
 abbrev pub numbers_of : {A : Type 0} → List (Part A) → List ℕ
 numbers_of parts = map (λ part. part.chunk) parts
 
--- what stands of one chunk of the list
+-- the pairs of one chunk of the list that satisfy the condition
 pub record IsPart {A : Type 0} (stands : ℕ → ℕ → Type 0) (answers : ℕ → ℕ → A → Type 0)
     (pairs : List (ℕ × ℕ)) (part : Part A) : Type 0 where
   pub number : IsChunkNumber (length pairs) part.chunk
   pub refined : AreRefined stands answers (chunk_of pairs part.chunk) part.refined.items
 
--- what a worker has, once no chunk is left: a part of each chunk that its seat drew
+-- the result of a worker once no chunk is left: a part for each chunk that its seat drew
 pub record IsShare {A : Type 0} (stands : ℕ → ℕ → Type 0) (answers : ℕ → ℕ → A → Type 0)
     (board : BoardValue) (pairs : List (ℕ × ℕ)) (share : Share A) : Type 0 where
   pub seat : IsSeatOf board share.seat
@@ -29,7 +29,7 @@ pub record IsShare {A : Type 0} (stands : ℕ → ℕ → Type 0) (answers : ℕ
   pub numbers : numbers_of share.parts.items ≡ share.seat.drawn
   pub parts : All (IsPart stands answers pairs) share.parts.items
 
--- the seat and the parts of a worker, unless memory was refused to it
+-- the seat and the parts of a worker, unless an allocation failed in it
 abbrev pub seat_in : {A : Type 0} → Result (Share A) AllocError → List SeatValue
 seat_in (Ok share) = share.seat ∷ []
 seat_in (Err refused) = []
@@ -38,7 +38,7 @@ abbrev pub parts_in : {A : Type 0} → Result (Share A) AllocError → List (Par
 parts_in (Ok share) = share.parts.items
 parts_in (Err refused) = []
 
--- the row of this number is what one of the parts has of the chunk of this number
+-- the row with this number is that of a part for the chunk with this number
 pub record HasRow {A : Type 0} (parts : List (Part A)) (rows : List (Vec (Refined A) Global))
     (number : ℕ) : Type 0 where
   pub row : Vec (Refined A) Global

@@ -1,4 +1,4 @@
--- What two texts relate as, by the geometries that they spell.
+-- The results of relating two texts, by the geometries that they spell.
 use Rattle.std.specs.Prelude.{ℕ, List, Ok, Err, IsTrue, ◌↔◌}
 use Rattle.plane_core.specs.Figures.{Figure}
 use Rattle.plane_core.specs.PlaneMatrices.{IsPlaneMatrix}
@@ -26,7 +26,7 @@ pub record IsRelated (scale : Scale) (rings : Rings) (a b : List ℕ) (r : Relat
   pub first_improper : IsTrue r.improper.first ↔ IsImproper rings first
   pub second_improper : IsTrue r.improper.second ↔ IsImproper rings second
 
--- the first text that spells no geometry, and what is wrong with it
+-- the first text that spells no geometry, and its fault
 abbrev pub HasTextFault : Scale → Rings → List ℕ → List ℕ → TextFault → Type 0
 HasTextFault scale rings a b (First fault) = Reads scale rings a (Err fault)
 HasTextFault scale rings a b (Second fault) =

@@ -1,6 +1,6 @@
--- What the private steps of `relate` compute: what the narrow and wide zones of two intervals
--- share, and the products of two axes. That this is the matrix of the two sets of cells is the
--- contract of `relate`.
+-- The results of the private steps of `relate`: the intersections of the narrow and wide zones of
+-- two intervals, and the products of two axes. The contract of `relate` says that this is the
+-- matrix of the two sets of cells.
 use Rattle.relation_core.specs.declared.part.Parts.{Parts}
 use Rattle.relation_core.specs.declared.extent.Extent.{Extent}
 use Rattle.relation_core.specs.declared.extent.Extent.TheVariants as extents
@@ -32,7 +32,7 @@ widened r = record {
   exterior = larger_of (larger_of r.interior r.boundary) r.exterior;
 }
 
--- what the narrow and the wide zone of the first share with those of a part of the second
+-- the intersections of the narrow and the wide zone of the first with those of a part of the second
 abbrev pub zone_pairs : Shared → Shared → Shared → Shared → ZonePairs
 zone_pairs nn nw wn ww = record {
   narrow_narrow = nn;
@@ -57,7 +57,7 @@ axis_of m =
       exterior = pairs_of (exterior_of m) (joined_row within (exterior_of m));
     }
 
--- what two products of zones share
+-- the intersection of two products of zones
 abbrev pub product_of : Shared → Shared → Extent
 product_of Nothing b = extents.Empty
 product_of Point Nothing = extents.Empty
@@ -96,7 +96,7 @@ entries_of x y = record {
   exterior = entry_of x.exterior y.exterior;
 }
 
--- the matrix of two shapes that lie so along each axis
+-- the matrix of two shapes with these meetings along the two axes
 abbrev pub matrix_by : Meeting → Meeting → Matrix
 matrix_by x y =
     let rows : Parts (Parts Extent) = record {

@@ -1,4 +1,4 @@
--- The matrix of two shapes without a common cell: it depends on their dimensions alone.
+-- The matrix of two shapes without a common cell, which depends only on their dimensions.
 use Rattle.std.specs.Prelude.{ℕ, ◌==◌, if◌then◌else◌}
 use Rattle.relation_core.specs.declared.extent.Extent.{Extent}
 use Rattle.relation_core.specs.declared.extent.Extent.TheVariants.{Empty, Point, Line, Area}
@@ -6,11 +6,11 @@ use Rattle.relation_core.specs.declared.matrix.Matrix.{Matrix}
 use Rattle.relation_core.specs.declared.relation.Relation.{Relation}
 use Rattle.relation_core.specs.Relations.{FitsOne, masks}
 
--- what the interior of a shape of this dimension amounts to
+-- the dimension of the interior of a shape of this dimension
 abbrev pub interior_extent : ℕ → Extent
 interior_extent dim = if dim == 0 then Point else (if dim == 1 then Line else Area)
 
--- what its boundary amounts to
+-- the dimension of the boundary of a shape of this dimension
 abbrev pub boundary_extent : ℕ → Extent
 boundary_extent dim = if dim == 0 then Empty else (if dim == 1 then Point else Line)
 

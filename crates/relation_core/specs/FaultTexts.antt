@@ -1,9 +1,9 @@
--- What a user reads of the faults of this crate.
+-- The texts of the faults of this crate.
 use Rattle.std.specs.Prelude.{ℕ, List, ◌++◌, codes, decimal}
 use Rattle.relation_core.specs.declared.mask.MaskFault.{MaskFault}
 use Rattle.relation_core.specs.declared.mask.MaskFault.TheVariants.{Length, Letter}
 
--- the words of a fault's text, without the place
+-- the text of a fault, without the place
 abbrev pub mask_words : MaskFault → List ℕ
 mask_words Length = codes "not a name or a mask of nine letters"
 mask_words (Letter place) = codes "bad letter at place "

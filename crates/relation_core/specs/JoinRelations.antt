@@ -6,6 +6,6 @@ use Rattle.relation_core.specs.Relations.{ForbidsDisjoint}
 abbrev pub relation_of : JoinRelation → Relation
 relation_of join = join.relation
 
--- by its type it holds for no two shapes without a common cell
+-- by its type, the relation holds for no two shapes without a common cell
 pub forbids_disjoint : (join : JoinRelation) → ForbidsDisjoint (relation_of join)
 forbids_disjoint join = join.forbids_disjoint

@@ -1,4 +1,4 @@
--- The letters of the matrices of shapes that lie in each way along each axis.
+-- The letters of the matrices of shapes, by their meetings along the axes.
 use Rattle.std.specs.Prelude.{◌≡◌, ℕ, List, IsSomeAnd, slice_get}
 use Rattle.relation_core.specs.declared.matrix.Matrix.{Matrix}
 use Rattle.relation_core.specs.declared.meeting.Meeting.{Meeting}
@@ -21,7 +21,7 @@ pub record AreLetters (a b : Shape) (letters : List ℕ) : Type 0 where
   pub is : IsMatrix a b matrix
   pub written : letters ≡ letters_of matrix
 
--- where a meeting stands among all
+-- the index of a meeting
 abbrev pub place_of : Meeting → ℕ
 place_of Disjoint = 0
 place_of Meet = 1

@@ -1,5 +1,5 @@
 -- The matrix of two shapes: for each two of their parts, the greatest dimension of the cells that
--- lie in both.
+-- are in both.
 use Rattle.std.specs.Prelude.{◌≡◌, ◌≤◌, ℕ, ℤ, List, [], ◌∷◌}
 use Rattle.geom_core.specs.declared.shape.Shape.{Shape}
 use Rattle.relation_core.specs.declared.part.Parts.{Parts}
@@ -8,27 +8,27 @@ use Rattle.relation_core.specs.declared.extent.Extent.TheVariants.{Empty, Point,
 use Rattle.relation_core.specs.declared.matrix.Matrix.{Matrix}
 use Rattle.geom_core.specs.Cells.{cell_dim, Covers, IsInterior}
 
--- the boundary: what else the closed shape covers
+-- the boundary: the cells of the closed shape that are not in the interior
 abbrev pub IsBoundary : Shape → ℤ → ℤ → Type 0
 IsBoundary s u v = Covers s u v × ¬ (IsInterior s u v)
 
--- the exterior: what the closed shape doesn't cover
+-- the exterior: the cells that the closed shape doesn't cover
 abbrev pub IsExterior : Shape → ℤ → ℤ → Type 0
 IsExterior s u v = ¬ (Covers s u v)
 
--- d is the greatest dimension of the cells that lie in both parts
+-- d is the greatest dimension of the cells in both parts
 pub record IsGreatest (P Q : ℤ → ℤ → Type 0) (d : ℕ) : Type 0 where
   pub reached : (u : ℤ) × (v : ℤ) × P u v × Q u v × (cell_dim u v ≡ d)
   pub bound : (u v : ℤ) → P u v → Q u v → cell_dim u v ≤ d
 
--- what two parts share
+-- the dimension of the intersection of two parts
 abbrev pub IsExtent : (ℤ → ℤ → Type 0) → (ℤ → ℤ → Type 0) → Extent → Type 0
 IsExtent P Q Empty = (u v : ℤ) → P u v → Q u v → ⊥
 IsExtent P Q Point = IsGreatest P Q 0
 IsExtent P Q Line = IsGreatest P Q 1
 IsExtent P Q Area = IsGreatest P Q 2
 
--- what a part of the first shape shares with each part of the second
+-- the intersections of a part of the first shape with each part of the second
 pub record IsRow (P : ℤ → ℤ → Type 0) (b : Shape) (row : Parts Extent) : Type 0 where
   pub interior : IsExtent P (IsInterior b) row.interior
   pub boundary : IsExtent P (IsBoundary b) row.boundary

@@ -1,5 +1,5 @@
--- How two intervals of an axis lie to each other, and what their inner part, their ends and their
--- outside then share.
+-- The meeting of two intervals of an axis, and the intersections of their inner parts, ends and
+-- outsides.
 use Rattle.std.specs.Prelude.{◌≡◌, ◌<ℤ◌, ◌⊎◌}
 use Rattle.geom_core.specs.declared.span.Span.{Span}
 use Rattle.relation_core.specs.declared.part.Parts.{Parts}
@@ -53,11 +53,11 @@ IsMeeting PointsDisjoint a b =
     ⊎ ((b.lo ≡ b.hi) × (b.hi <ℤ a.lo) × (a.lo ≡ a.hi))
 IsMeeting PointsEqual a b = (a.lo ≡ a.hi) × (a.hi ≡ b.lo) × (b.lo ≡ b.hi)
 
--- what is shared with the inner part, the ends and the outside of the second interval
+-- the intersections with the inner part, the ends and the outside of the second interval
 abbrev pub shares : Shared → Shared → Shared → Parts Shared
 shares i b e = record { interior = i; boundary = b; exterior = e }
 
--- what the inner part of the first interval shares
+-- the intersections of the inner part of the first interval
 abbrev pub interior_of : Meeting → Parts Shared
 interior_of Disjoint = shares Nothing Nothing Interval
 interior_of Meet = shares Nothing Nothing Interval
@@ -76,7 +76,7 @@ interior_of ContainsPoint = shares Point Nothing Interval
 interior_of PointsDisjoint = shares Nothing Nothing Point
 interior_of PointsEqual = shares Point Nothing Nothing
 
--- what the ends of the first interval share
+-- the intersections of the ends of the first interval
 abbrev pub boundary_of : Meeting → Parts Shared
 boundary_of Disjoint = shares Nothing Nothing Point
 boundary_of Meet = shares Nothing Point Point
@@ -95,7 +95,7 @@ boundary_of ContainsPoint = shares Nothing Nothing Point
 boundary_of PointsDisjoint = shares Nothing Nothing Nothing
 boundary_of PointsEqual = shares Nothing Nothing Nothing
 
--- what the outside of the first interval shares
+-- the intersections of the outside of the first interval
 abbrev pub exterior_of : Meeting → Parts Shared
 exterior_of Disjoint = shares Interval Point Interval
 exterior_of Meet = shares Interval Point Interval

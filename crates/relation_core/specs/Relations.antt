@@ -37,7 +37,7 @@ Spells Equals text = str_to_ascii_lowercase text ≡ codes "equals"
 abbrev pub SpellsNothing : List ℕ → Type 0
 SpellsNothing text = (relation : Relation) → ¬ (Spells relation text)
 
--- a relation that has a name
+-- the relation has a name
 abbrev pub IsNamed : Relation → Type 0
 IsNamed (Mask mask) = ⊥
 IsNamed Disjoint = ⊤
@@ -116,15 +116,16 @@ pub record Holds (relation : Relation) (a b : Shape) : Type 0 where
   pub is : IsMatrix a b matrix
   pub fits : FitsOne (masks relation (dim_of a) (dim_of b)) matrix
 
--- it holds for some two shapes without a common cell
+-- the relation holds for some two shapes without a common cell
 abbrev pub HoldsForDisjoint : Relation → Type 0
 HoldsForDisjoint relation = (a : Shape) × (b : Shape) × ¬ (Meets a b) × Holds relation a b
 
--- it holds for no two shapes without a common cell
+-- the relation holds for no two shapes without a common cell
 abbrev pub ForbidsDisjoint : Relation → Type 0
 ForbidsDisjoint relation = (a b : Shape) → ¬ (Meets a b) → ¬ (Holds relation a b)
 
--- what a relation says of the two sets; masks, crosses and overlaps speak of the matrix alone
+-- the meaning of a relation for two sets; masks, crosses and overlaps are defined by the matrix
+-- alone
 abbrev pub HoldsOfSets : Relation → Shape → Shape → Type 0
 HoldsOfSets (Mask mask) a b = Holds (Mask mask) a b
 HoldsOfSets Disjoint a b = ¬ (Meets a b)

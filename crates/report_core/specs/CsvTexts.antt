@@ -7,6 +7,6 @@ use Rattle.csv.specs.Writing.{row_text, field_text, comma, default_writer}
 abbrev pub csv_text : List (List (List ℕ)) → List ℕ
 csv_text rows = flat_map (row_text default_writer) rows
 
--- a field of a record that another one follows, with the comma between them
+-- a field that another one follows, and the comma between them
 abbrev pub leading_field : List ℕ → List ℕ
 leading_field field = field_text default_writer field ++ comma ∷ []

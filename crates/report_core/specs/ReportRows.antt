@@ -8,7 +8,7 @@ use Rattle.csv.specs.Machine.{line_feed}
 use Rattle.report_core.specs.CsvTexts.{csv_text}
 use Rattle.report_core.specs.Reports.{header, HasRecords}
 
--- the text has a record for each pair in turn
+-- the text has one record for each pair in order
 abbrev pub AreRows : Contents → Contents → List (ℕ × ℕ) → List ℕ → Type 0
 AreRows left right pairs text = HasRecords [] left right pairs text
 
@@ -23,11 +23,11 @@ pub record AddsRows (left right : Contents) (pairs : List (ℕ × ℕ)) (old new
 abbrev pub header_line : List ℕ
 header_line = csv_text (header ∷ [])
 
--- a record of two fields with their commas, and a third one that is written as it stands
+-- a record of two fields with their commas, and a third one, written unchanged
 abbrev pub line_of : List ℕ → List ℕ → List ℕ → List ℕ
 line_of first second third = first ++ (second ++ (third ++ line_feed ∷ []))
 
--- a text, or nothing where memory was refused to it
+-- a text, or nothing if its allocation failed
 abbrev pub text_or_none : Result (Vec ℕ Global) AllocError → List ℕ
 text_or_none (Ok text) = text.items
 text_or_none (Err refused) = []

@@ -23,13 +23,13 @@ pub record IsRow (left right : Contents) (pair : ℕ × ℕ) (row : List (List �
 abbrev pub header : List (List ℕ)
 header = codes "left" ∷ codes "right" ∷ codes "matrix" ∷ []
 
--- these records, and then one for each pair in turn
+-- these records, and then one for each pair in order
 pub record HasRecords (first : List (List (List ℕ))) (left right : Contents)
     (pairs : List (ℕ × ℕ)) (text : List ℕ) : Type 0 where
   pub rows : List (List (List ℕ))
   pub are_rows : AllZip (IsRow left right) pairs rows
   pub written : text ≡ csv_text (first ++ rows)
 
--- the header, and a record for each pair in turn
+-- the header, and one record for each pair in order
 abbrev pub IsReport : Contents → Contents → List (ℕ × ℕ) → List ℕ → Type 0
 IsReport left right pairs text = HasRecords (header ∷ []) left right pairs text

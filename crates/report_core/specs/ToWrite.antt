@@ -1,4 +1,4 @@
--- What a `ToWrite` shows.
+-- The visible state of a `ToWrite`.
 use Rattle.std.specs.Prelude.{Bool, true, false}
 use Rattle.report_core.specs.declared.to_write.State.{State}
 use Rattle.report_core.specs.declared.to_write.State.TheVariants.{Open, Flushed, Failed}

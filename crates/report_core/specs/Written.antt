@@ -1,4 +1,4 @@
--- Texts that are written in turn, and what was written where a device failed midway.
+-- Texts written in order, and the text written if a device fails midway.
 use Rattle.std.specs.Prelude.{ℕ, List, Option}
 use Rattle.std.specs.Global.{Global}
 use Rattle.std.specs.List.{flat_map}

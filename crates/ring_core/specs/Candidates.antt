@@ -4,6 +4,6 @@ use Rattle.std.specs.List.{slice_index_or}
 use Rattle.plane_core.specs.declared.edge.Edge.{Edge}
 use Rattle.plane_core.specs.ProperRings.{MeetProperly}
 
--- an edge, which is at place i, meets properly the edge at place k where that comes later
+-- an edge, which has index i, properly meets the edge with index k, if k is greater
 abbrev pub MeetsLater : List Edge → Edge → ℕ → ℕ → Type 0
 MeetsLater es e i k = (d : Edge) → i < k → k < length es → MeetProperly e (slice_index_or es k d)

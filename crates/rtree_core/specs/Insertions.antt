@@ -1,4 +1,4 @@
--- What an insertion does to a node's list, to a node and to its subtree.
+-- The effect of an insertion on a node's list, on a node and on its subtree.
 use Rattle.geom_core.specs.Cells.{IsIn}
 use Rattle.std.specs.Prelude.{ℕ, ◌≤◌, List, ◌++◌, Option, MatchOption}
 use Rattle.geom_core.specs.declared.shape.Shape.{Shape}
@@ -17,7 +17,7 @@ pub record IsHalved {T : Type 0} (cover : T → Shape) (entries : T → List Ent
   pub groups : AreGroups cover items one two
   pub node : IsNodeOf cover entries fits two n
 
--- the entries came into the node, which took in the shape
+-- the entries were added to the node, whose cover includes the shape
 pub record StaysOne (added : List Entry) (s : Shape) (old new : Node) : Type 0 where
   pub gains : HasSame (added ++ entries_of old) (entries_of new)
   pub lawful : IsLawfulAt (level_of old) new
@@ -25,7 +25,7 @@ pub record StaysOne (added : List Entry) (s : Shape) (old new : Node) : Type 0 w
   pub within : (t : Shape) → IsIn s t → IsIn old.cover t → IsIn new.cover t
   pub without : (t : Shape) → IsIn new.cover t → IsIn s t × IsIn old.cover t
 
--- the entries came into the node, which was split in two
+-- the entries were added to the node, which was split in two
 pub record ComesInTwo (added : List Entry) (s : Shape) (old one two : Node) : Type 0 where
   pub gains : HasSame (added ++ entries_of old) (entries_of one ++ entries_of two)
   pub one_lawful : IsLawfulAt (level_of old) one
@@ -35,7 +35,7 @@ pub record ComesInTwo (added : List Entry) (s : Shape) (old one two : Node) : Ty
   pub within : (t : Shape) → IsIn s t → IsIn old.cover t → IsIn one.cover t × IsIn two.cover t
   pub without : (t : Shape) → IsIn one.cover t → IsIn two.cover t → IsIn s t × IsIn old.cover t
 
--- the entries, whose cover is the shape, came into the node, whose second half may have split off
+-- the entries, whose cover is the shape, were added to the node, which may have been split
 abbrev pub IsInserted : List Entry → Shape → Node → Node → Option Node → Type 0
 IsInserted added s old new second =
     MatchOption second (StaysOne added s old new) (ComesInTwo added s old new)

@@ -1,4 +1,5 @@
--- What a node holds, entries or the nodes of the level below, and what becomes of a list of them.
+-- The items of a node, entries or the nodes of the level below, and the node made of a list of
+-- them.
 use Rattle.std.specs.Prelude.{◌≡◌, ℕ, zero, suc, ◌+◌, ◌<◌, ◌≤◌, List, [], ◌∷◌, length, vec_len}
 use Rattle.std.specs.Prelude.{vec_capacity, All}
 use Rattle.std.specs.List.{flat_map}
@@ -12,7 +13,7 @@ use Rattle.split_core.specs.Covers.{IsLeastCover}
 use Rattle.split_core.specs.Limits.{fewest, most}
 use Rattle.rtree_core.specs.Nodes.{entries_of, size_of, IsLawfulAt}
 
--- the entries below an entry: itself
+-- the entries of an entry: itself
 abbrev pub entry_alone : Entry → List Entry
 entry_alone e = e ∷ []
 
@@ -25,7 +26,7 @@ abbrev pub FitsInner : ℕ → Node → Type 0
 FitsInner zero n = ⊥
 FitsInner (suc level) n = IsLawfulAt level n × (fewest ≤ size_of n)
 
--- a list that may become that of a node
+-- a list that can become that of a node
 pub record IsNodeList {T : Type 0} (page : Vec T Global) : Type 0 where
   pub some : 0 < vec_len page
   pub few : vec_len page ≤ most

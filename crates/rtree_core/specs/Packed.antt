@@ -1,4 +1,4 @@
--- Packed trees: each node below the root has at least half of the most entries or children.
+-- Packed trees: each node below the root has at least half of the greatest number of items.
 use Rattle.std.specs.Prelude.{◌≡◌, ℕ, zero, suc, ◌+◌, ◌-◌, ◌*◌, ◌/◌, ◌^◌, ◌<◌, ◌≤◌, List, ◌++◌}
 use Rattle.std.specs.Prelude.{map, length, vec_len, vec_capacity, Some, All}
 use Rattle.std.specs.Int.{div_ceil}
@@ -13,7 +13,7 @@ use Rattle.rtree_core.specs.Nodes.{entries_of, children_of, level_of, size_of, I
 use Rattle.rtree_core.specs.Packings.{IsPackingOf}
 use Rattle.rtree_core.specs.Trees.{IsTree}
 
--- the fewest entries or children of a packed node below the root: half of the most
+-- the least number of entries or children of a packed node below the root: half of the greatest
 abbrev pub half_full : ℕ
 half_full = most / 2
 
@@ -22,11 +22,11 @@ abbrev pub IsPackedAt : ℕ → Node → Type 0
 IsPackedAt zero n = Unit {0}
 IsPackedAt (suc level) n = All (λ m. (half_full ≤ size_of m) × IsPackedAt level m) (children_of n)
 
--- the same, at the level that the node has
+-- the same, at the node's own level
 abbrev pub IsPacked : Node → Type 0
 IsPacked n = IsPackedAt (level_of n) n
 
--- its number has 32 bits
+-- the number of the entry has 32 bits
 abbrev pub HasU32 : Entry → Type 0
 HasU32 e = e.number < 2 ^ 32
 
@@ -35,19 +35,19 @@ abbrev pub FitsPacked : ℕ → Node → Type 0
 FitsPacked zero n = Unit {0}
 FitsPacked (suc level) n = (half_full ≤ size_of n) × IsPackedAt level n
 
--- the node of this list is packed at each level where these items are
+-- the node of this list is packed at each level at which these items are
 abbrev pub IsPackedOf : {T : Type 0} → (ℕ → T → Type 0) → List T → Node → Type 0
 IsPackedOf fits_packed page n = (level : ℕ) → All (fits_packed level) page → IsPackedAt level n
 
--- the first of some pages has its share of the items: at most m where m are enough for each page,
--- at least m where there are m for each, and what it leaves is so for the other pages
+-- the first of the pages has its share of the items: at most m if m are enough for each page, at
+-- least m if there are m for each, and the remaining items satisfy the same for the other pages
 pub record IsShare (size items pages : ℕ) : Type 0 where
   pub at_most : (m : ℕ) → items ≤ m * pages → size ≤ m
   pub at_least : (m : ℕ) → m * pages ≤ items → m ≤ size
   pub leaves_few : (m : ℕ) → items ≤ m * pages → items ≤ m * (pages - 1) + size
   pub leaves_many : (m : ℕ) → m * pages ≤ items → m * (pages - 1) + size ≤ items
 
--- so many items went from the front of a list into a page, which has room for one more
+-- `size` items were moved from the start of a list into a page, which has room for one more
 pub record IsNextPage {S T : Type 0} (held : S → T) (IsInRange : T → Type 0) (size : ℕ)
     (old new : List S) (page : Vec T Global) : Type 0 where
   pub taken : map held old ≡ page.items ++ map held new

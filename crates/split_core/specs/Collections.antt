@@ -1,7 +1,7 @@
--- Lists as collections: what they hold and how often, in any order.
+-- Lists as collections: their items with multiplicity, in any order.
 use Rattle.std.specs.Prelude.{◌≡◌, Bool, List, ◌∷◌, count_by}
 
--- the same items, with multiplicity: each test is passed by as many of the one list as of the other
+-- the same items, with multiplicity: each test is passed by equally many items of both lists
 abbrev pub HasSame : {T : Type 0} → List T → List T → Type 0
 HasSame {T} xs ys = (p : T → Bool) → count_by p xs ≡ count_by p ys
 

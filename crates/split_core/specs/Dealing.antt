@@ -1,4 +1,4 @@
--- The lists of a split while its items are dealt.
+-- The lists of a split while its items are assigned.
 use Rattle.std.specs.Prelude.{◌≡◌, ◌+◌, ◌<◌, ◌≤◌, List, vec_len, vec_capacity}
 use Rattle.std.specs.declared.alloc.Global.{Global}
 use Rattle.std.specs.declared.vec.Vec.{Vec}
@@ -7,7 +7,7 @@ use Rattle.split_core.specs.declared.split.Covers.{Covers}
 use Rattle.split_core.specs.Limits.{most}
 use Rattle.split_core.specs.Splits.{group, CanChoose, IsDealt}
 
--- what is left, the two groups, and their covers
+-- the remaining items, the two groups, and their covers
 pub record Dealing (T : Type 0) : Type 0 where
   pub rest : Vec T Global
   pub one : Vec T Global
@@ -17,24 +17,24 @@ pub record Dealing (T : Type 0) : Type 0 where
 abbrev pub dealing : {T : Type 0} → Vec T Global → Vec T Global → Vec T Global → Covers → Dealing T
 dealing rest one two covers = record { rest = rest; one = one; two = two; covers = covers }
 
--- dealing from here ends with the groups a and b
+-- assigning from here ends with the groups a and b
 abbrev pub EndsWith : {T : Type 0} → (T → Shape) → Dealing T → List T → List T → Type 0
 EndsWith cover d a b =
     IsDealt cover d.rest.items (group d.one.items d.covers.one) (group d.two.items d.covers.two) a b
 
--- each group has room for all there is
+-- each group has room for all items
 pub record CanDeal {T : Type 0} (d : Dealing T) : Type 0 where
   pub few : vec_len d.one + vec_len d.two + vec_len d.rest ≤ most + 1
   pub one_room : most + 1 ≤ vec_capacity d.one
   pub two_room : most + 1 ≤ vec_capacity d.two
 
--- neither group needs all that is left, and each has room for one more
+-- neither group needs all remaining items, and each has room for one more
 pub record CanDealOne {T : Type 0} (d : Dealing T) : Type 0 where
   pub can_choose : CanChoose (vec_len d.rest) (vec_len d.one) (vec_len d.two)
   pub one_room : vec_len d.one < vec_capacity d.one
   pub two_room : vec_len d.two < vec_capacity d.two
 
--- one item went to a group: what the deal ends with from here is what it ends with from there
+-- one item was assigned to a group: the groups at the end are the same from both states
 pub record HasDealtOne {T : Type 0} (cover : T → Shape) (old new : Dealing T) : Type 0 where
   pub step : (a b : List T) → EndsWith cover new a b → EndsWith cover old a b
   pub smaller : vec_len new.rest + 1 ≡ vec_len old.rest

@@ -1,10 +1,10 @@
--- How many entries or children a node may have (Guttman 1984, 2).
+-- The limits of the number of entries or children of a node (Guttman 1984, 2).
 use Rattle.std.specs.Prelude.{ℕ}
 
--- m: the fewest in a node other than the root
+-- the least number in a node other than the root (Guttman's m)
 abbrev pub fewest : ℕ
 fewest = 3
 
--- M: the most in a node
+-- the greatest number in a node (Guttman's M)
 abbrev pub most : ℕ
 most = 8

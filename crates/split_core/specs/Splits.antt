@@ -1,4 +1,4 @@
--- The quadratic split: which groups a list of items is dealt into.
+-- The quadratic split: the groups to which a list of items is assigned.
 use Rattle.std.specs.Prelude.{◌≡◌, ◌≢◌, ℕ, ◌+◌, ◌<◌, ◌≤◌, Bool, true, false, List, [], ◌∷◌, ◌++◌}
 use Rattle.std.specs.Prelude.{length, slice_index_or, remove, vec_len, vec_capacity}
 use Rattle.std.specs.Ordering.{nat_cmp, ordering_then, is_lt}
@@ -10,7 +10,7 @@ use Rattle.split_core.specs.Limits.{fewest, most}
 use Rattle.split_core.specs.Collections.{HasSame}
 use Rattle.split_core.specs.Choices.{enlargement, IsNext, AreSeeds}
 
--- a group of a split as it stands: its items in the order in which they came, and their cover
+-- a group of a split so far: its items in the order of assignment, and their cover
 pub record Group (T : Type 0) : Type 0 where
   pub items : List T
   pub cover : Shape
@@ -26,8 +26,8 @@ begun cover x = record { items = x ∷ []; cover = cover x }
 abbrev pub joined : {T : Type 0} → (T → Shape) → Group T → T → Group T
 joined cover g x = record { items = g.items ++ x ∷ []; cover = cover_of g.cover (cover x) }
 
--- the test of the first of two groups being the better one for a shape: it needs less enlargement,
--- or else is smaller, or else has fewer items
+-- whether the first of two groups is the better one for a shape: it needs less enlargement, or else
+-- is smaller, or else has fewer items
 abbrev pub costs_less : {T : Type 0} → Shape → Group T → Group T → Bool
 costs_less s one two =
     is_lt
@@ -37,20 +37,20 @@ costs_less s one two =
     (nat_cmp (area_of one.cover) (area_of two.cover))
     (nat_cmp (length one.items) (length two.items))))
 
--- of so many items that remain neither of two groups, of so many items, needs all
+-- of `rest` remaining items, neither of two groups with `one` and `two` items needs all
 pub record CanChoose (rest one two : ℕ) : Type 0 where
   pub some : 0 < rest
   pub one_can_wait : one + rest ≢ fewest
   pub two_can_wait : two + rest ≢ fewest
 
--- the item x at place k of the rest is the next to be dealt
+-- the item x at index k of the rest is the next to be assigned
 pub record IsTaken {T : Type 0} (cover : T → Shape) (rest : List T) (one two : Group T) (k : ℕ)
     (x : T) : Type 0 where
   pub can_choose : CanChoose (length rest) (length one.items) (length two.items)
   pub next : IsNext cover rest one.cover two.cover k
   pub item : x ≡ slice_index_or rest k x
 
--- dealing the rest to two groups, as they stand, ends with the lists a and b
+-- assigning the rest to two groups, in their current state, ends with the lists a and b
 pub data IsDealt {T : Type 0} (cover : T → Shape) :
     List T → Group T → Group T → List T → List T → Type 0 where
   done : {one two : Group T} → IsDealt cover [] one two one.items two.items
@@ -71,7 +71,7 @@ pub data IsDealt {T : Type 0} (cover : T → Shape) :
       IsDealt cover (remove rest k) one (joined cover two x) a b →
       IsDealt cover rest one two a b
 
--- the lawful split: each group begins with a seed, and the rest is dealt
+-- the lawful split: each group starts with a seed, and the rest is assigned
 pub record IsSplit {T : Type 0} (cover : T → Shape) (items one two : List T) : Type 0 where
   pub i : ℕ
   pub j : ℕ

@@ -1,4 +1,4 @@
--- The spelling of a geometry that is printed.
+-- The canonical text of a geometry.
 use Rattle.std.specs.Prelude.{◌==◌, ℕ, zero, suc, Bool, true, false, List, [], ◌∷◌, ◌++◌, length}
 use Rattle.std.specs.Prelude.{codes, if◌then◌else◌}
 use Rattle.std.specs.List.{flat_map}
@@ -14,7 +14,7 @@ abbrev pub separated : {X : Type 0} → (X → List ℕ) → List X → List ℕ
 separated spell [] = []
 separated spell (x ∷ xs) = spell x ++ flat_map (λ y. codes ", " ++ spell y) xs
 
--- what stands before the item at a place
+-- the separator before the item at an index
 abbrev pub separator : ℕ → List ℕ
 separator zero = []
 separator (suc i) = codes ", "
@@ -49,7 +49,7 @@ areas_text scale rings =
     if length rings == 1 then codes "POLYGON " ++ separated (part_text scale true) rings
     else codes "MULTIPOLYGON (" ++ separated (part_text scale true) rings ++ codes ")"
 
--- the spelling that is printed: of one part, or of many, each ring as a polygon of its own
+-- the canonical text: of one part, or of many, with each ring as a polygon of its own
 abbrev pub canonical : Scale → Figure → List ℕ
 canonical scale (Points vs) = points_text scale vs
 canonical scale (Lines paths) = lines_text scale paths

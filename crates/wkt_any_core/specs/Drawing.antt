@@ -1,4 +1,4 @@
--- The geometry that lists of points draw.
+-- The geometry that lists of points form.
 use Rattle.std.specs.Prelude.{◌≡◌, ◌≢◌, ◌⊎◌, ◌==◌, ◌&&◌, ⊤, Bool}
 use Rattle.std.specs.Prelude.{true, false, not, ℤ, pos, ◌+ℤ◌, ◌*ℤ◌, List}
 use Rattle.std.specs.Prelude.{map, length, All}
@@ -29,11 +29,11 @@ kind_for Point = Dots
 kind_for LineString = Polylines
 kind_for Polygon = Rings
 
--- a path that is one point
+-- a path that is a single point
 abbrev pub is_dot : List Position → Bool
 is_dot ps = length ps == 1
 
--- whether a path that is one point adds nothing
+-- whether a path that is a single point is left out
 abbrev pub skips_dots : RingRule → Keyword → Bool
 skips_dots EvenOdd Polygon = true
 skips_dots _ _ = false
@@ -41,11 +41,11 @@ skips_dots _ _ = false
 abbrev pub is_kept : Bool → List Position → Bool
 is_kept skips ps = not (skips && is_dot ps)
 
--- the paths through lists of points: without points that repeat the one before
+-- the paths through lists of points: without points that are equal to the one before
 abbrev pub drawn : Bool → List (List Position) → List (List Position)
 drawn skips lists = filter (is_kept skips) (map without_repeats lists)
 
--- all on one line
+-- all vertices are on one line
 pub record IsFlat (vs : List Vertex) : Type 0 where
   pub a : ℤ
   pub b : ℤ
@@ -53,12 +53,12 @@ pub record IsFlat (vs : List Vertex) : Type 0 where
   pub line : (a ≢ pos 0) ⊎ (b ≢ pos 0)
   pub on : All (λ v. a *ℤ v.x +ℤ b *ℤ v.y +ℤ c ≡ pos 0) vs
 
--- the rings of an area are those that the rule allows
+-- the rule allows the rings of an area
 abbrev pub AreAllowed : RingRule → Figure → Type 0
 AreAllowed Proper (Areas rings) = All (λ ring. ¬ (IsFlat ring)) rings
 AreAllowed _ _ = ⊤
 
--- the lists of points, under this keyword, draw the geometry
+-- the lists of points, under this keyword, form the geometry
 pub record Draws (rule : RingRule) (keyword : Keyword) (lists : List (List Position)) (g : Figure)
     : Type 0 where
   pub kind : kind_of g ≡ kind_for keyword

@@ -1,5 +1,5 @@
--- The grammar of the texts of any geometry, over that of wkt_core: one point, polyline or polygon,
--- or many of one kind (OGC 06-103r4, 7.2).
+-- The grammar of the texts of any geometry, over that of wkt_core: a single point, polyline or
+-- polygon, or many of one kind (OGC 06-103r4, 7.2).
 use Rattle.std.specs.Prelude.{◌≡◌, ◌⊎◌, ℕ, Bool, false, true, List, [], ◌∷◌, ◌++◌, map, codes}
 use Rattle.std.specs.List.{flat_map}
 use Rattle.std.specs.Char.{to_ascii_lowercase}
@@ -9,11 +9,11 @@ use Rattle.wkt_core.specs.Grammar.{RawPoint, Blanks, PointText, PointList, InPar
 use Rattle.wkt_core.specs.Grammar.{Body as OneBody, spelling as word}
 use Rattle.wkt_any_core.specs.declared.heading.Heading.{Heading}
 
--- lists one after another, as one list
+-- the concatenated lists
 abbrev pub joined : {X : Type 0} → List (List X) → List X
 joined lists = flat_map (λ list. list) lists
 
--- a point of many: as it is, or in parentheses
+-- a point of a list of points, with or without parentheses
 abbrev pub Member : RawPoint → List ℕ → Type 0
 Member p text = PointText p text ⊎ PointList (p ∷ []) text
 
@@ -21,7 +21,7 @@ Member p text = PointText p text ⊎ PointList (p ∷ []) text
 abbrev pub Polygons : List (List (List RawPoint)) → List ℕ → Type 0
 Polygons polygons text = InParentheses (InParentheses PointList) polygons text
 
--- what stands behind a keyword of many: points, polylines, or polygons, whose rings stand in a row
+-- the text after a keyword with MULTI: points, polylines, or polygons, whose rings are concatenated
 abbrev pub ManyBody : Keyword → List (List RawPoint) → List ℕ → Type 0
 ManyBody Point (ps ∷ []) text = InParentheses Member ps text
 ManyBody LineString lists text = InParentheses PointList lists text
@@ -36,7 +36,7 @@ BodyBy true keyword lists text = ManyBody keyword lists text
 abbrev pub Body : Heading → List (List RawPoint) → List ℕ → Type 0
 Body heading lists text = BodyBy heading.is_multi heading.keyword lists text
 
--- a heading in small letters
+-- a heading in lower case
 abbrev pub spelling_by : Bool → Keyword → List ℕ
 spelling_by false keyword = word keyword
 spelling_by true keyword = codes "multi" ++ word keyword
@@ -48,7 +48,7 @@ spelling heading = spelling_by heading.is_multi heading.keyword
 abbrev pub Words : Heading → List ℕ → Type 0
 Words heading text = map to_ascii_lowercase text ≡ spelling heading
 
--- the text is a heading with lists of points, set out by the grammar
+-- the text is a heading with lists of points, by the grammar
 abbrev pub Raw : List ℕ → Heading → List (List RawPoint) → Type 0
 Raw text heading lists =
     (Blanks then Words heading then Blanks then Body heading lists then Blanks) text

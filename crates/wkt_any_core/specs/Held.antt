@@ -1,4 +1,4 @@
--- What is held of the lists of points that were read.
+-- The lists of points read so far, as they are stored.
 use Rattle.std.specs.Prelude.{◌≡◌, ℕ, ◌+◌, Bool, true, false, List, [], ◌∷◌, map, length}
 use Rattle.std.specs.Prelude.{◌-◌, ◌++◌, ◌&&◌, Option, Some, None, slice_get, if◌then◌else◌}
 use Rattle.std.specs.Ordering.{int_eq}
@@ -17,7 +17,7 @@ use Rattle.wkt_any_core.specs.Drawing.{position_of, drawn, skips_dots}
 use Rattle.wkt_any_core.specs.Grammar.{joined}
 use Rattle.wkt_any_core.specs.Steps.{TakesText}
 
--- where lists one after another end
+-- the ends of concatenated lists
 abbrev pub ends_of : {X : Type 0} → ℕ → List (List X) → List ℕ
 ends_of n [] = []
 ends_of n (list ∷ lists) = (n + length list) ∷ ends_of (n + length list) lists
@@ -32,14 +32,14 @@ abbrev pub AreGood : Scale → List (List RawPoint) → List RawPoint → Type 0
 AreGood scale before ps =
     AllNumbersGood scale before × AllByRecursion (HasGoodNumbers scale) ps
 
--- the paths that are held, and the open one
+-- the stored paths, and the open one
 pub record IsHeld (paths : Paths) (lists : List (List Position)) (open_one : List Position) : Type 0
   where
     pub ends : paths.ends.items ≡ ends_of 0 lists
     pub vertices : map position_of paths.vertices.items ≡ joined lists
     pub last : map position_of paths.open.items ≡ open_one
 
--- what is read of the paths before and of the points of the open one
+-- the result of reading the paths before and the points of the open one
 pub record IsRead (scale : Scale) (skips : Bool) (paths : Paths) (before : List (List RawPoint))
     (ps : List RawPoint) : Type 0 where
   pub rule : paths.skips_dots ≡ skips
@@ -53,7 +53,7 @@ abbrev pub stays_at : Option Vertex → Vertex → Bool
 stays_at None v = false
 stays_at (Some w) v = int_eq w.x v.x && int_eq w.y v.y
 
--- one step further, unless the path is there already
+-- the path extended by a vertex, unless it is there already
 abbrev pub stepped : List Vertex → Vertex → List Vertex
 stepped vs v = if stays_at (slice_get vs (length vs - 1)) v then vs else vs ++ v ∷ []
 
@@ -64,7 +64,7 @@ pub record IsStepped (old : Paths) (v : Vertex) (new : Paths) : Type 0 where
   pub good : new.are_good ≡ old.are_good
   pub skips : new.skips_dots ≡ old.skips_dots
 
--- the open path is one of the paths before
+-- the open path was added to the paths before
 pub record IsKept (old new : Paths) : Type 0 where
   pub vertices : new.vertices.items ≡ old.vertices.items ++ old.open.items
   pub ends : new.ends.items ≡ old.ends.items ++ length new.vertices.items ∷ []
@@ -72,7 +72,7 @@ pub record IsKept (old new : Paths) : Type 0 where
   pub good : new.are_good ≡ old.are_good
   pub skips : new.skips_dots ≡ old.skips_dots
 
--- or it is left out
+-- the open path was added, or it is left out
 pub record IsTaken (old : Paths) (is_left_out : Bool) (new : Paths) : Type 0 where
   pub kept : is_left_out ≡ false → IsKept old new
   pub left : is_left_out ≡ true → new ≡ old
@@ -87,12 +87,12 @@ abbrev pub AddsPoints : Scale → Paths → List RawPoint → Paths → Type 0
 AddsPoints scale old added new = (skips : Bool) (before : List (List RawPoint)) (ps : List RawPoint)
     → IsRead scale skips old before ps → IsRead scale skips new before (ps ++ added)
 
--- paths are added, where none is open
+-- paths are added while none is open
 abbrev pub AddsPaths : Scale → Paths → List (List RawPoint) → Paths → Type 0
 AddsPaths scale old lists new = (skips : Bool) (before : List (List RawPoint))
     → IsRead scale skips old before [] → IsRead scale skips new (before ++ lists) []
 
--- what is read of a whole text that the grammar has
+-- the result of reading a whole text of the grammar
 pub record IsRawText (scale : Scale) (rule : Rings) (text : List ℕ) (raw : RawText) : Type 0 where
   pub heading : Heading
   pub lists : List (List RawPoint)

@@ -1,4 +1,4 @@
--- What the text of any geometry reads as at a scale: a geometry, or the first fault that it has.
+-- The result of reading the text of any geometry at a scale: a geometry, or its first fault.
 use Rattle.std.specs.Prelude.{◌≡◌, ℕ, List, Result, Ok, Err}
 use Rattle.plane_core.specs.Figures.{Figure}
 use Rattle.wkt_core.specs.declared.scale.Scale.{Scale}
@@ -15,7 +15,7 @@ Reads scale rings text (Err Number) = HasBadNumber scale text
 Reads scale rings text (Err Form) = HasNoFigure scale rings text
 Reads scale rings text (Err RingFault) = HasImproperRings scale rings text
 
--- the one answer that a text reads as
+-- the only result of reading a text
 pub record IsReading (scale : Scale) (rings : Rings) (text : List ℕ)
     (answer : Result Figure GeometryFault) : Type 0 where
   pub reads : Reads scale rings text answer

@@ -1,4 +1,4 @@
--- What a text of any geometry means: the geometry that it spells at a scale.
+-- The meaning of a text of any geometry: the geometry that it spells at a scale.
 use Rattle.std.specs.Prelude.{◌≡◌, ℕ, List}
 use Rattle.plane_core.specs.Figures.{Figure}
 use Rattle.plane_core.specs.ProperRings.{HasProperRings, TakesRings}
@@ -11,7 +11,7 @@ use Rattle.plane_core.specs.declared.rings.Rings.TheVariants.{Proper}
 use Rattle.wkt_any_core.specs.Grammar.{Raw}
 use Rattle.wkt_any_core.specs.Drawing.{Draws}
 
--- the text is well formed, its numbers are whole and in range, and its points draw the geometry
+-- the text is well formed, its numbers are whole and in range, and its points form the geometry
 pub record Shows (scale : Scale) (rings : Rings) (text : List ℕ) (g : Figure) : Type 0 where
   pub heading : Heading
   pub lists : List (List RawPoint)
@@ -19,7 +19,8 @@ pub record Shows (scale : Scale) (rings : Rings) (text : List ℕ) (g : Figure) 
   pub good : AllNumbersGood scale lists
   pub draws : Draws rings heading.keyword (positions scale lists) g
 
--- and its rings are proper, where they have to be
+-- the text is well formed, its numbers are whole and in range, its points form the geometry, and
+-- the rings of this are proper if they have to be
 pub record Spells (scale : Scale) (rings : Rings) (text : List ℕ) (g : Figure) : Type 0 where
   pub shown : Shows scale rings text g
   pub proper : TakesRings rings g
@@ -35,7 +36,7 @@ pub record HasBadNumber (scale : Scale) (text : List ℕ) : Type 0 where
   pub raw : Raw text heading lists
   pub bad : ¬ (AllNumbersGood scale lists)
 
--- the text is well formed with good numbers, but no geometry is drawn
+-- the text is well formed with good numbers, but forms no geometry
 pub record HasNoFigure (scale : Scale) (rings : Rings) (text : List ℕ) : Type 0 where
   pub heading : Heading
   pub lists : List (List RawPoint)
@@ -43,7 +44,7 @@ pub record HasNoFigure (scale : Scale) (rings : Rings) (text : List ℕ) : Type 
   pub good : AllNumbersGood scale lists
   pub formless : (g : Figure) → ¬ (Draws rings heading.keyword (positions scale lists) g)
 
--- the text's points draw a geometry whose rings aren't proper, and have to be
+-- the text's points form a geometry whose rings aren't proper but have to be
 pub record HasImproperRings (scale : Scale) (rings : Rings) (text : List ℕ) : Type 0 where
   pub figure : Figure
   pub shown : Shows scale rings text figure

@@ -1,6 +1,6 @@
--- What the steps of the reader over headings, bodies and the whole text take, and what they leave.
--- Only contracts inside the crate cite these words; proofs tie them to the grammar, in both
--- directions.
+-- The steps of the reader over headings, bodies and the whole text: what they read, and what
+-- remains. Only contracts inside the crate cite these definitions; proofs relate them to the
+-- grammar, in both directions.
 use Rattle.std.specs.Prelude.{◌≡◌, ◌⊎◌, ℕ, Bool, false, true, List, [], ◌∷◌, codes}
 use Rattle.wkt_core.specs.declared.keyword.Keyword.{Keyword}
 use Rattle.wkt_core.specs.declared.keyword.Keyword.TheVariants.{Point, LineString, Polygon}
@@ -11,7 +11,7 @@ use Rattle.wkt_core.specs.ListSteps.{TakesBody as TakesOne}
 use Rattle.wkt_any_core.specs.declared.heading.Heading.{Heading}
 use Rattle.wkt_any_core.specs.Grammar.{joined}
 
--- a keyword, by itself or behind "multi"
+-- a keyword, by itself or after "multi"
 abbrev pub TakesKind : List ℕ → Bool → Keyword → List ℕ → Type 0
 TakesKind text false keyword rest = TakesWord text keyword rest
 TakesKind text true keyword rest =
@@ -20,7 +20,7 @@ TakesKind text true keyword rest =
 abbrev pub TakesHeading : List ℕ → Heading → List ℕ → Type 0
 TakesHeading text heading rest = TakesKind text heading.is_multi heading.keyword rest
 
--- a point, as it is or in parentheses
+-- a point, with or without parentheses
 abbrev pub TakesMember : List ℕ → RawPoint → List ℕ → Type 0
 TakesMember text p rest = TakesPoint text p rest ⊎ TakesPoints text (p ∷ []) rest
 
@@ -30,7 +30,7 @@ TakesMembers text ps rest = Enclosed TakesMember text ps rest
 abbrev pub TakesPolygons : List ℕ → List (List (List RawPoint)) → List ℕ → Type 0
 TakesPolygons text polygons rest = Enclosed TakesLists text polygons rest
 
--- what stands behind a keyword of many
+-- the text after a keyword with "multi"
 abbrev pub TakesMany : Keyword → List ℕ → List (List RawPoint) → List ℕ → Type 0
 TakesMany Point text (ps ∷ []) rest = TakesMembers text ps rest
 TakesMany LineString text lists rest = TakesLists text lists rest

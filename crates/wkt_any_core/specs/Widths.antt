@@ -13,7 +13,7 @@ use Rattle.plane_core.specs.declared.rings.Rings.TheVariants.{Proper}
 abbrev pub is_level : Edge → Vertex → Bool
 is_level e v = int_eq (side e (at v)) (pos 0)
 
--- some vertex lies beside the line of the first two
+-- some vertex is not on the line of the first two
 abbrev pub is_wide : List Vertex → Bool
 is_wide [] = false
 is_wide (a ∷ []) = false

@@ -1,4 +1,4 @@
--- What is answered of a text, once its keyword and lists are read.
+-- The result of a text, given its keyword and lists.
 use Rattle.std.specs.Prelude.{◌≡◌, ⊤, ℕ, List, IsTrue, Option, Some, None, Result, Ok, Err}
 use Rattle.std.specs.List.{list_all}
 use Rattle.geom_core.specs.declared.shape.Shape.{Shape}
@@ -16,21 +16,21 @@ use Rattle.wkt_core.specs.Spelling.{Forms, positions}
 abbrev pub HasGoodNumbers : RawText → Type 0
 HasGoodNumbers raw = IsTrue raw.lists.whole × IsTrue raw.lists.in_range
 
--- whatever lists were read so, with numbers in range, their points draw the shape
+-- whichever lists were read with this result, with numbers in range, their points form the shape
 abbrev pub Draws : RawText → Shape → Type 0
 Draws raw s = (scale : Scale) (text : List ℕ) (lists : List (List RawPoint))
     → TakesText text raw.keyword lists → AreReadOf scale raw.lists lists
     → IsTrue (list_all (are_in_range scale) lists)
     → Forms raw.keyword (positions scale lists) s
 
--- and here they draw no shape
+-- the same, but they form no shape
 abbrev pub DrawsNone : RawText → Type 0
 DrawsNone raw = (scale : Scale) (text : List ℕ) (lists : List (List RawPoint)) (s : Shape)
     → TakesText text raw.keyword lists → AreReadOf scale raw.lists lists
     → IsTrue (list_all (are_in_range scale) lists)
     → Forms raw.keyword (positions scale lists) s → ⊥
 
--- the answer for what was read, if anything
+-- the result for the raw text, if there is one
 abbrev pub IsAnswerOf : Option RawText → Result Shape WktFault → Type 0
 IsAnswerOf None (Ok s) = ⊥
 IsAnswerOf None (Err Text) = ⊤
@@ -41,7 +41,7 @@ IsAnswerOf (Some raw) (Err Text) = ⊥
 IsAnswerOf (Some raw) (Err Number) = HasGoodNumbers raw → ⊥
 IsAnswerOf (Some raw) (Err Form) = HasGoodNumbers raw × DrawsNone raw
 
--- the one answer that a text reads as
+-- the only result of reading a text
 pub record IsReading (scale : Scale) (text : List ℕ) (answer : Result Shape WktFault) : Type 0
   where
     pub reads : Reads scale text answer

@@ -1,4 +1,4 @@
--- The spelling of a shape that is printed.
+-- The canonical text of a shape.
 use Rattle.std.specs.Prelude.{◌==◌, ◌/◌, ◌%◌, ◌^◌, ℕ, zero, suc, ℤ, pos, negsuc}
 use Rattle.std.specs.Prelude.{List, [], ◌∷◌, ◌++◌, codes, decimal, if◌then◌else◌}
 use Rattle.std.specs.List.{flat_map}
@@ -9,12 +9,12 @@ use Rattle.wkt_core.specs.declared.scale.Scale.{Scale}
 use Rattle.wkt_core.specs.Scales.{digits_of}
 use Rattle.wkt_core.specs.Drawing.{corner, corners}
 
--- f parts of 10^k, fewer than all, as digits behind a dot: up to the last that isn't 0
+-- the fraction f / 10^k, less than 1, as digits after a dot, up to the last that isn't 0
 abbrev pub decimals : ℕ → ℕ → List ℕ
 decimals zero f = []
 decimals (suc k) f = if f == 0 then [] else decimal (f / 10 ^ k) ++ decimals k (f % 10 ^ k)
 
--- a dot and the decimals, where there are any
+-- a dot and the decimals, if there are any
 abbrev pub fraction : ℕ → ℕ → List ℕ
 fraction k f = if f == 0 then [] else codes "." ++ decimals k f
 
@@ -22,7 +22,7 @@ fraction k f = if f == 0 then [] else codes "." ++ decimals k f
 abbrev pub amount : ℕ → ℕ → List ℕ
 amount k n = decimal (n / 10 ^ k) ++ fraction k (n % 10 ^ k)
 
--- a number of units, with a minus below 0
+-- a number of units, with a minus sign if it is negative
 abbrev pub number : Scale → ℤ → List ℕ
 number scale (pos n) = amount (digits_of scale) n
 number scale (negsuc n) = codes "-" ++ amount (digits_of scale) (suc n)
@@ -43,7 +43,7 @@ lowest s = corner (x1 s) (y1 s)
 abbrev pub highest : Shape → Position
 highest s = corner (x2 s) (y2 s)
 
--- the spelling that is printed: a point, a segment from its lowest corner, or a ring from there
+-- the canonical text: a point, a segment from its lowest corner, or a ring from there
 abbrev pub canonical : Scale → Shape → List ℕ
 canonical scale s =
     if dim_of s == 0 then codes "POINT (" ++ listed scale (lowest s ∷ []) ++ codes ")"

@@ -1,5 +1,5 @@
--- What lists of two and of five points draw: all that drew a shape before points along a line or a
--- side were read.
+-- The shapes of lists of two and of five points: all that formed a shape before points along a line
+-- or a side were read.
 use Rattle.std.specs.Prelude.{◌≡◌, ◌≢◌, List, [], ◌∷◌, ◌⊎◌}
 use Rattle.geom_core.specs.declared.shape.Shape.{Shape}
 use Rattle.geom_core.specs.Shapes.{HasCorners}
@@ -8,7 +8,7 @@ use Rattle.wkt_core.specs.declared.keyword.Keyword.TheVariants.{Point, LineStrin
 use Rattle.wkt_core.specs.declared.position.Position.{Position}
 use Rattle.wkt_core.specs.Drawing.{IsRectangle}
 
--- the segment between two different points that share a coordinate
+-- the segment between two distinct points that share a coordinate
 pub record IsSegment (p q : Position) (s : Shape) : Type 0 where
   pub differ : p ≢ q
   pub parallel : (p.x ≡ q.x) ⊎ (p.y ≡ q.y)

@@ -7,8 +7,8 @@ use Rattle.std.specs.Char.{is_ascii_digit, to_ascii_lowercase}
 use Rattle.wkt_core.specs.declared.keyword.Keyword.{Keyword}
 use Rattle.wkt_core.specs.declared.keyword.Keyword.TheVariants.{Point, LineString, Polygon}
 
--- a number as it is written: whether a minus stands before it, its digits before the dot, and those
--- behind it, as bytes
+-- a number as it is written: whether a minus sign precedes it, its digits before the dot, and those
+-- after it, as bytes
 pub record Numeral : Type 0 where
   pub negative : Bool
   pub digits : List ℕ
@@ -19,7 +19,7 @@ pub record RawPoint : Type 0 where
   pub x : Numeral
   pub y : Numeral
 
--- the texts that begin with one of the first kind, and go on with one of the second
+-- the texts that consist of one of the first kind followed by one of the second
 infixr 5 ◌then◌
 pub record ◌then◌ (A B : List ℕ → Type 0) (text : List ℕ) : Type 0 where
   pub front : List ℕ
@@ -28,7 +28,7 @@ pub record ◌then◌ (A B : List ℕ → Type 0) (text : List ℕ) : Type 0 whe
   pub second : B back
   pub joined : text ≡ front ++ back
 
--- this text alone
+-- only this text
 abbrev pub Exactly : List ℕ → List ℕ → Type 0
 Exactly wanted text = text ≡ wanted
 
@@ -50,11 +50,11 @@ Blanks text = AllByRecursion IsBlank text
 abbrev pub Gap : List ℕ → Type 0
 Gap text = (0 < length text) × Blanks text
 
--- any count of digits
+-- any number of digits
 abbrev pub Digits : List ℕ → Type 0
 Digits text = AllByRecursion IsDigit text
 
--- a minus before a negative number, else nothing or a plus
+-- a minus sign before a negative number, otherwise nothing or a plus sign
 abbrev pub Sign : Bool → List ℕ → Type 0
 Sign true text = text ≡ codes "-"
 Sign false text = (text ≡ []) ⊎ (text ≡ codes "+")
@@ -63,7 +63,7 @@ Sign false text = (text ≡ []) ⊎ (text ≡ codes "+")
 abbrev pub SomeDigits : List ℕ → List ℕ → Type 0
 SomeDigits digits text = (0 < length digits) × Digits digits × (text ≡ digits)
 
--- a dot and any count of digits; where there are none, nothing may stand in place of the dot
+-- a dot and any number of digits; if there are no digits, the dot may be missing
 abbrev pub Decimals : List ℕ → List ℕ → Type 0
 Decimals digits text =
     Digits digits × (((digits ≡ []) × (text ≡ [])) ⊎ (text ≡ codes "." ++ digits))
@@ -74,7 +74,7 @@ Number n = Sign n.negative then SomeDigits n.digits then Decimals n.decimals
 abbrev pub PointText : RawPoint → List ℕ → Type 0
 PointText p = Number p.x then Gap then Number p.y
 
--- one item or more, with commas between them and a closing parenthesis behind them
+-- one item or more, with commas between them and a closing parenthesis after them
 abbrev pub Listed : {X : Type 0} → (X → List ℕ → Type 0) → List X → List ℕ → Type 0
 Listed Item [] text = ⊥
 Listed Item (x ∷ []) text = (Blanks then Item x then Blanks then Exactly (codes ")")) text
@@ -87,14 +87,14 @@ InParentheses Item xs = Exactly (codes "(") then Listed Item xs
 abbrev pub PointList : List RawPoint → List ℕ → Type 0
 PointList ps = InParentheses PointText ps
 
--- what stands behind a keyword: one point, a list, or a list of lists
+-- the text after a keyword: one point, a list, or a list of lists
 abbrev pub Body : Keyword → List (List RawPoint) → List ℕ → Type 0
 Body Point ((p ∷ []) ∷ []) = PointList (p ∷ [])
 Body LineString (ps ∷ []) = PointList ps
 Body Polygon lists = InParentheses PointList lists
 Body _ _ = λ _. ⊥
 
--- a keyword in small letters
+-- a keyword in lower case
 abbrev pub spelling : Keyword → List ℕ
 spelling Point = codes "point"
 spelling LineString = codes "linestring"
@@ -104,7 +104,7 @@ spelling Polygon = codes "polygon"
 abbrev pub Word : Keyword → List ℕ → Type 0
 Word keyword text = map to_ascii_lowercase text ≡ spelling keyword
 
--- the text is a keyword with lists of points, set out by the grammar
+-- the text is a keyword with lists of points, by the grammar
 abbrev pub Raw : List ℕ → Keyword → List (List RawPoint) → Type 0
 Raw text keyword lists =
     (Blanks then Word keyword then Blanks then Body keyword lists then Blanks) text

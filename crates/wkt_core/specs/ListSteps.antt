@@ -1,4 +1,4 @@
--- What the steps of the reader over points, lists and the whole text take, and what they leave.
+-- The steps of the reader over points, lists and the whole text: what they read, and what remains.
 use Rattle.std.specs.Prelude.{◌≡◌, ℕ, List, [], ◌∷◌, Some}
 use Rattle.wkt_core.specs.declared.keyword.Keyword.{Keyword}
 use Rattle.wkt_core.specs.declared.keyword.Keyword.TheVariants.{Point, LineString, Polygon}
@@ -6,11 +6,11 @@ use Rattle.wkt_core.specs.Grammar.{RawPoint, spelling}
 use Rattle.wkt_core.specs.TokenSteps.{skip, TakesLetters}
 use Rattle.wkt_core.specs.PointSteps.{point_at}
 
--- what a step takes: the text at whose front it reads, the value that it reads, and what it leaves
+-- a step: the text at whose start it reads, the value that it reads, and the text that remains
 abbrev pub Step : Type 0 → Type 1
 Step X = List ℕ → X → List ℕ → Type 0
 
--- items behind white space, with commas (44) between them and a closing parenthesis (41) at the end
+-- items after white space, with commas (44) between them and a closing parenthesis (41) at the end
 abbrev pub Items : {X : Type 0} → Step X → List X → List ℕ → List ℕ → Type 0
 Items Item [] text rest = ⊥
 Items Item (x ∷ []) text rest = (m : List ℕ) × Item (skip text) x m × (skip m ≡ 41 ∷ rest)
@@ -18,17 +18,17 @@ Items Item (x ∷ y ∷ xs) text rest =
     (m : List ℕ) × (u : List ℕ) × Item (skip text) x m × (skip m ≡ 44 ∷ u)
     × Items Item (y ∷ xs) u rest
 
--- items up to and with the comma behind the last
+-- items up to and including the comma after the last
 abbrev pub Begun : {X : Type 0} → Step X → List X → List ℕ → List ℕ → Type 0
 Begun Item [] text rest = rest ≡ text
 Begun Item (x ∷ xs) text rest =
     (m : List ℕ) × (u : List ℕ) × Item (skip text) x m × (skip m ≡ 44 ∷ u) × Begun Item xs u rest
 
--- items behind an opening parenthesis (40)
+-- items after an opening parenthesis (40)
 abbrev pub Enclosed : {X : Type 0} → Step X → List ℕ → List X → List ℕ → Type 0
 Enclosed Item text xs rest = (u : List ℕ) × (text ≡ 40 ∷ u) × Items Item xs u rest
 
--- a point, a list of points and a list of lists at the front
+-- a point, a list of points and a list of lists at the start
 abbrev pub TakesPoint : List ℕ → RawPoint → List ℕ → Type 0
 TakesPoint text p rest = point_at text ≡ Some (p, rest)
 
@@ -38,11 +38,11 @@ TakesPoints text ps rest = Enclosed TakesPoint text ps rest
 abbrev pub TakesLists : List ℕ → List (List RawPoint) → List ℕ → Type 0
 TakesLists text lists rest = Enclosed TakesPoints text lists rest
 
--- a keyword at the front
+-- a keyword at the start
 abbrev pub TakesWord : List ℕ → Keyword → List ℕ → Type 0
 TakesWord text keyword rest = TakesLetters (spelling keyword) text rest
 
--- what stands behind a keyword
+-- the text after a keyword
 abbrev pub TakesBody : Keyword → List ℕ → List (List RawPoint) → List ℕ → Type 0
 TakesBody Point text ((p ∷ []) ∷ []) rest = TakesPoints text (p ∷ []) rest
 TakesBody LineString text (ps ∷ []) rest = TakesPoints text ps rest

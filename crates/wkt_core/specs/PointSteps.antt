@@ -1,4 +1,4 @@
--- What the reader of a point takes from the front of a text, and what it leaves.
+-- The reader of a point: what it reads at the start of a text, and what remains.
 use Rattle.std.specs.Prelude.{◌&&◌, ℕ, ℤ, List, Option, Some, None, option_and_then}
 use Rattle.wkt_core.specs.declared.number.ReadNumber.{ReadNumber}
 use Rattle.wkt_core.specs.declared.position.Position.{Position}
@@ -26,7 +26,7 @@ position_from (Some x) (Some y) = Some (record { x = x; y = y })
 position_from (Some x) None = None
 position_from None y = None
 
--- what is read of a point, from what is read of its numbers
+-- the result of reading a point, from those of its numbers
 abbrev pub point_from : ReadNumber → ReadNumber → ReadPoint
 point_from x y = record { position = position_from x.value y.value; whole = x.whole && y.whole }
 

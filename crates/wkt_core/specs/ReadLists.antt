@@ -1,4 +1,4 @@
--- What is read of lists of points.
+-- The results of reading lists of points.
 use Rattle.std.specs.Prelude.{◌≡◌, Bool, false, List, [], ◌∷◌, IsTrue, map, is_some}
 use Rattle.std.specs.List.{list_all}
 use Rattle.wkt_core.specs.declared.read_list.ReadList.{ReadList}
@@ -13,17 +13,17 @@ use Rattle.wkt_core.specs.Walks.{way_of, IsKeptOf}
 abbrev pub are_whole : Scale → List RawPoint → Bool
 are_whole scale ps = list_all (λ p. (point_read scale p).whole) ps
 
--- whether each number, without the decimals that the scale doesn't keep, is in range
+-- whether each number, without the decimals beyond the scale, is in range
 abbrev pub are_in_range : Scale → List RawPoint → Bool
 are_in_range scale ps = list_all (λ p. is_some (point_read scale p).position) ps
 
--- where all are in range, what is kept of the walk along the points
+-- if all numbers are in range, the kept points of the walk along the points
 pub record IsReadOf (scale : Scale) (list : ReadList) (ps : List RawPoint) : Type 0 where
   pub whole : list.whole ≡ are_whole scale ps
   pub in_range : list.in_range ≡ are_in_range scale ps
   pub walk : IsTrue (are_in_range scale ps) → IsKeptOf list.walk (way_of (map (position scale) ps))
 
--- the first list, where it stands alone
+-- the first list, if it is the only one
 abbrev pub StandsAlone : Scale → Bool → ReadList → List (List RawPoint) → Type 0
 StandsAlone scale alone first [] = ⊥
 StandsAlone scale alone first (ps ∷ []) = IsTrue alone × IsReadOf scale first ps

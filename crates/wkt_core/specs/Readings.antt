@@ -1,4 +1,4 @@
--- What a geometry's text reads as at a scale: a shape, or the first fault that it has.
+-- The result of reading the text of a geometry at a scale: a shape, or its first fault.
 use Rattle.std.specs.Prelude.{ℕ, List, Result, Ok, Err}
 use Rattle.geom_core.specs.declared.shape.Shape.{Shape}
 use Rattle.wkt_core.specs.declared.fault.WktFault.{WktFault}

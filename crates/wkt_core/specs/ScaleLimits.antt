@@ -1,4 +1,4 @@
--- The most decimals that a coordinate may keep.
+-- The greatest number of decimals of a coordinate.
 use Rattle.std.specs.Prelude.{ℕ}
 
 abbrev pub most_digits : ℕ

@@ -1,5 +1,5 @@
--- What a text spelled before coordinates had decimals, reached 10^12 and were read with points
--- along a line or a side: numbers were whole and within 10^9.
+-- The shapes of texts before coordinates had decimals, reached 10^12 and were read with points
+-- along a line or a side: numbers were integers of absolute value at most 10^9.
 use Rattle.std.specs.Prelude.{◌==◌, ◌≤ℤ◌, ℕ, ℤ, pos, neg_ℤ, List, [], ◌∷◌, IsTrue, map}
 use Rattle.std.specs.List.{AllByRecursion, list_all}
 use Rattle.std.specs.Str.Parse.{digits_value}
@@ -17,7 +17,7 @@ greatest_before = 1000000000
 abbrev pub value_before : Numeral → ℤ
 value_before n = signed n.negative (digits_value 10 n.digits)
 
--- no digit but 0 behind the dot, and within the limit
+-- only digits 0 after the dot, and within the limit
 pub record WasGood (n : Numeral) : Type 0 where
   pub whole : IsTrue (list_all (λ d. d == 48) n.decimals)
   pub above : neg_ℤ (pos greatest_before) ≤ℤ value_before n
@@ -29,7 +29,7 @@ HadGoodNumbers p = WasGood p.x × WasGood p.y
 abbrev pub position_before : RawPoint → Position
 position_before p = record { x = value_before p.x; y = value_before p.y }
 
--- a text of one list of points, with these numbers, that draw the shape
+-- a text of one list of points, with these numbers, that form the shape
 pub record SpelledBefore (text : List ℕ) (s : Shape) : Type 0 where
   pub keyword : Keyword
   pub points : List RawPoint

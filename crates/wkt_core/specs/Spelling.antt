@@ -1,4 +1,4 @@
--- What a text means: the values of its numbers, and the shape that its lists of points draw.
+-- The meaning of a text: the values of its numbers, and the shape that its lists of points form.
 use Rattle.std.specs.Prelude.{◌==◌, ◌-◌, ℕ, ℤ, pos, neg_ℤ, Bool, true, false, IsTrue}
 use Rattle.std.specs.Prelude.{List, [], ◌∷◌, ◌++◌, map, length, take, drop, replicate}
 use Rattle.std.specs.List.{AllByRecursion, list_all}
@@ -12,11 +12,11 @@ use Rattle.wkt_core.specs.Scales.{digits_of}
 use Rattle.wkt_core.specs.Grammar.{Numeral, RawPoint, Raw}
 use Rattle.wkt_core.specs.Drawing.{Draws}
 
--- the first k of the digits, with a 0 (48) for each that is absent
+-- the first k of the digits, with a 0 (48) for each missing one
 abbrev pub kept : ℕ → List ℕ → List ℕ
 kept k ds = take k ds ++ replicate (k - length ds) 48
 
--- a whole number of the scale's units: no digit but 0 behind the decimals that it keeps
+-- a whole number of the scale's units: only digits 0 after the decimals of the scale
 abbrev pub is_whole : Scale → Numeral → Bool
 is_whole scale n = list_all (λ d. d == 48) (drop (digits_of scale) n.decimals)
 
@@ -24,7 +24,7 @@ abbrev pub signed : Bool → ℕ → ℤ
 signed false n = pos n
 signed true n = neg_ℤ (pos n)
 
--- how many units of the scale the sign, the digits and the decimals that it keeps stand for
+-- the number of units of the scale given by the sign, the digits and the decimals of the scale
 abbrev pub value : Scale → Numeral → ℤ
 value scale n = signed n.negative (digits_value 10 (n.digits ++ kept (digits_of scale) n.decimals))
 
@@ -45,12 +45,12 @@ position scale p = record { x = value scale p.x; y = value scale p.y }
 abbrev pub positions : Scale → List (List RawPoint) → List (List Position)
 positions scale lists = map (map (position scale)) lists
 
--- a shape is drawn by one list
+-- the shape that a single list forms
 abbrev pub Forms : Keyword → List (List Position) → Shape → Type 0
 Forms keyword (ps ∷ []) s = Draws keyword ps s
 Forms keyword _ s = ⊥
 
--- the text is well formed, its numbers are whole and in range, and its points draw the shape
+-- the text is well formed, its numbers are whole and in range, and its points form the shape
 pub record Spells (scale : Scale) (text : List ℕ) (s : Shape) : Type 0 where
   pub keyword : Keyword
   pub lists : List (List RawPoint)
@@ -69,7 +69,7 @@ pub record HasBadNumber (scale : Scale) (text : List ℕ) : Type 0 where
   pub raw : Raw text keyword lists
   pub bad : ¬ (AllNumbersGood scale lists)
 
--- the text is well formed with good numbers, but no shape is drawn
+-- the text is well formed with good numbers, but forms no shape
 pub record HasNoShape (scale : Scale) (text : List ℕ) : Type 0 where
   pub keyword : Keyword
   pub lists : List (List RawPoint)

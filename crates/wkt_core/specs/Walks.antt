@@ -1,4 +1,4 @@
--- A walk from point to point: what is kept of it, and which kept points draw a shape.
+-- A walk from point to point: the points that are kept of it, and which of them form a shape.
 use Rattle.std.specs.Prelude.{◌≡◌, ◌<◌, ℤ, int_lt, Bool, true, false, ◌&&◌, ◌||◌, ◌-◌, List, []}
 use Rattle.std.specs.Prelude.{◌∷◌, ◌++◌}
 use Rattle.std.specs.Prelude.{length, take, slice_get, Option, Some, None, if◌then◌else◌}
@@ -12,22 +12,22 @@ use Rattle.wkt_core.specs.declared.walk.Walk.{Walk}
 use Rattle.wkt_core.specs.Drawing.{is_same, IsRectangle}
 use Rattle.wkt_core.specs.DrawnBefore.{IsSegment}
 
--- the second number lies strictly between the first and the third
+-- the second number is strictly between the first and the third
 unfoldable pub is_inside : ℤ → ℤ → ℤ → Bool
 is_inside a b c = (int_lt a b && int_lt b c) || (int_lt c b && int_lt b a)
 
--- q lies strictly between p and r on a line along an axis
+-- q is strictly between p and r on a line along an axis
 abbrev pub is_vertical : Position → Position → Position → Bool
 is_vertical p q r = int_eq p.x q.x && (int_eq q.x r.x && is_inside p.y q.y r.y)
 
 abbrev pub is_horizontal : Position → Position → Position → Bool
 is_horizontal p q r = int_eq p.y q.y && (int_eq q.y r.y && is_inside p.x q.x r.x)
 
--- the way from p over q to r is straight and along an axis
+-- the path from p through q to r is straight and along an axis
 abbrev pub is_straight : Position → Position → Position → Bool
 is_straight p q r = is_vertical p q r || is_horizontal p q r
 
--- where a walk began and turned, and where it is
+-- the points where a walk started and turned, and its current position
 pub record Way : Type 0 where
   pub turns : List Position
   pub last : Option Position
@@ -36,11 +36,11 @@ abbrev pub goes_on_from : Option Position → Position → Position → Bool
 goes_on_from None q r = false
 goes_on_from (Some p) q r = is_straight p q r
 
--- the walk goes straight on over q to r
+-- the walk goes straight on through q to r
 abbrev pub goes_on : List Position → Position → Position → Bool
 goes_on turns q r = goes_on_from (slice_get turns (length turns - 1)) q r
 
--- one step further
+-- the walk after one more point
 abbrev pub stepped : List Position → Option Position → Position → Way
 stepped turns None r = record { turns = turns; last = Some r }
 stepped turns (Some q) r =
@@ -55,14 +55,14 @@ way_on way (p ∷ ps) = way_on (stepped way.turns way.last p) ps
 abbrev pub way_of : List Position → Way
 way_of ps = way_on (record { turns = []; last = None }) ps
 
--- what a walk keeps of a way: its first six turns, which are more than draw a shape, and, where
--- there are fewer, where it is
+-- the kept points of a walk: its first six turns, which are more than form a shape, and, if there
+-- are fewer, its current position
 pub record IsKeptOf (walk : Walk) (way : Way) : Type 0 where
   pub turns : walk.turns.items ≡ take 6 way.turns
   pub last : length way.turns < 6 → walk.last ≡ way.last
 
--- the shape that a way draws: a line has no turn, and a ring three, or a fourth from which it goes
--- straight on over its beginning
+-- the shape that a walk forms: a line has no turn, and a ring has three, or a fourth from which it
+-- goes straight on through its start
 abbrev pub DrawnBy : Keyword → List Position → Position → Shape → Type 0
 DrawnBy Point [] p s = HasCorners p.x p.y p.x p.y s
 DrawnBy LineString (p ∷ []) q s = IsSegment p q s

@@ -1,4 +1,4 @@
--- What the words of the command line are read as, by what `clap` finds in them.
+-- How the words of the command line are read, from the matches of `clap`.
 use Rattle.std.specs.Prelude.{◌≡◌, ◌≢◌, ◌<◌, ◌≤◌, ⊤, ◌⊎◌, ◌&&◌, ◌||◌, ℕ, Bool, true, false, List}
 use Rattle.std.specs.Prelude.{[], ◌∷◌, ◌++◌, length, Option, Some, None, Result, Ok, Err, codes}
 use Rattle.std.specs.Prelude.{if◌then◌else◌, find, nat_le, nat_eq, option_map, option_and_then}
@@ -44,11 +44,11 @@ use Rattle.words_core.specs.declared.words.WordFault.TheVariants as fault
 
 -- ---- values
 
--- what was found of the arguments of one command
+-- the matches of the arguments of one command
 abbrev pub found_in : ArgMatches → List Row
 found_in given = rows_of (found_of given)
 
--- the number below 2 ^ 32 that a text writes
+-- the number less than 2 ^ 32 that a text spells
 abbrev pub number_of : Text → Option ℕ
 number_of text =
     if is_unsigned_in 0 4294967295 text then Some (digits_value 10 (without_leading_plus text))
@@ -60,7 +60,7 @@ number_at name rows = option_and_then number_of (one_of name rows)
 abbrev pub is_dash : Text → Bool
 is_dash path = bytes_eq path (codes "-")
 
--- two of the files of a join are standard input
+-- at least two of the files of a join are standard input
 abbrev pub share_input : Text → Text → Option Text → Bool
 share_input left right edits = (is_dash left && is_dash right)
     || ((is_dash left || is_dash right) && option_map_or is_dash edits false)
@@ -116,7 +116,7 @@ pub record IsJoinIn (rows : List Row) (join : JoinRequest) : Type 0 where
 
 -- ---- faults
 
--- the fault shows this text, and it isn't help
+-- the fault shows this text, and is no request for help
 abbrev pub Says : Text → WordFault → Type 0
 Says text (fault.Usage shown false) = string_bytes shown ≡ text
 Says text _ = ⊥
@@ -124,7 +124,7 @@ Says text _ = ⊥
 abbrev pub missing_text : Text → Text
 missing_text name = codes "error: " ++ name ++ codes " is missing\n"
 
--- what follows of a value, or the fault that there is none
+-- the consequence for a value, or the fault that it is missing
 abbrev pub Needs : {X : Type 0} → Text → Option X → WordFault → (X → Type 0) → Type 0
 Needs name None f Then = Says (missing_text name) f
 Needs name (Some value) f Then = Then value
@@ -147,7 +147,7 @@ HasWindowFault rows f =
     NeedsText (codes "LAYER") rows f (λ _. NeedsText (codes "WKT") rows f (λ _.
     HasScaleFault rows f))
 
--- a fault of the scale, or what follows where it has none
+-- a fault of the scale, or the consequence if it has none
 abbrev pub NeedsScale : List Row → WordFault → Type 0 → Type 0
 NeedsScale rows f Then = NeedsNumber (codes "scale") rows f (λ digits.
     ((most_digits < digits) × (f ≡ fault.Scale)) ⊎ ((digits ≤ most_digits) × Then))
@@ -156,7 +156,7 @@ abbrev pub IsNoRingRule : Option Text → Type 0
 IsNoRingRule None = ⊥
 IsNoRingRule (Some word) = (word ≢ codes "proper") × (word ≢ codes "even-odd")
 
--- the fault of the word of `--geometry`, or of that of `--rings`, if one is given
+-- the fault of the word of `--geometry`, or of the word of `--rings`, if one is given
 abbrev pub IsGeometryFault : Text → Option Text → WordFault → Type 0
 IsGeometryFault word rings fault.Geometry = (word ≢ codes "box") × (word ≢ codes "any")
 IsGeometryFault word rings fault.RingsOfBoxes = (word ≡ codes "box") × (rings ≢ None)
@@ -172,7 +172,7 @@ HasRelateFault rows f =
     NeedsText (codes "A") rows f (λ _. NeedsText (codes "B") rows f (λ _.
     NeedsScale rows f (HasGeometryFault rows f)))
 
--- the first of the three numbers that is out of its range
+-- the first of the three numbers that is out of range
 abbrev pub IsRangeFault : ℕ → ℕ → ℕ → WordFault → Type 0
 IsRangeFault workers batch cut (fault.Options range.Workers) = ¬ (AreWorkers workers)
 IsRangeFault workers batch cut (fault.Options range.Batch) =
@@ -181,7 +181,7 @@ IsRangeFault workers batch cut (fault.Options range.Cut) =
     AreWorkers workers × IsBatch batch × ¬ (IsCut cut)
 IsRangeFault workers batch cut _ = ⊥
 
--- a fault of the three numbers, or what follows where they have none
+-- a fault of the three numbers, or the consequence if they have none
 abbrev pub NeedsOptions : List Row → WordFault → Type 0 → Type 0
 NeedsOptions rows f Then =
     NeedsNumber (codes "workers") rows f (λ workers. NeedsNumber (codes "batch") rows f (λ batch.
@@ -192,8 +192,7 @@ abbrev pub IsNoRelation : Text → MaskFault → Type 0
 IsNoRelation word mask.Length = (length word ≢ 9) × SpellsNothing word
 IsNoRelation word (mask.Letter place) = HasBadLetter word place
 
--- the relations that a hint may name, and the first of them that differs from the word in at most
--- two letters
+-- the relations that a hint may name, and the first of them that is at most two edits from the word
 abbrev pub hint_names : List Text
 hint_names =
     codes "intersects" ∷ codes "touches" ∷ codes "crosses" ∷ codes "within" ∷ codes "contains"
@@ -206,7 +205,7 @@ is_near word name =
 unfoldable pub hint_of : Text → Option Text
 hint_of word = find (is_near word) hint_names
 
--- the line of the fault, and then the name on a line of its own
+-- the line of the fault, followed by the line of the name
 abbrev pub hint_text : MaskFault → Text → Text
 hint_text reason name = codes "rjoin: --relation: " ++ (mask_text reason ++ (codes "\n"
     ++ (codes "did you mean " ++ (name ++ codes "?\n"))))
@@ -242,11 +241,11 @@ HasJoinFault rows f =
 
 -- ---- the words
 
--- the subcommand with what was found of it, as `clap` gives them
+-- the subcommand with its matches, as `clap` gives them
 abbrev pub Met : Type 0
 Met = Option (Text × List Row)
 
--- what was found under the name of the command is this command
+-- the matches of the command with this name are this command
 abbrev pub IsCommandIn : Text → List Row → Command → Type 0
 IsCommandIn name rows (Relate request) = (name ≡ codes "relate") × IsRelateIn rows request
 IsCommandIn name rows (Join join) = (name ≡ codes "join") × IsJoinIn rows join
@@ -259,7 +258,7 @@ IsCommandIn name rows (Stats path scale) = (name ≡ codes "stats")
 IsCommandIn name rows (Bounds path scale) = (name ≡ codes "bounds")
     × (first_of (codes "LAYER") rows ≡ Some path.now) × IsScaleIn rows scale
 
--- the fault of what was found under the name of a command
+-- the fault of the matches of the command with this name
 pub data HasCommandFault (rows : List Row) (f : WordFault) : Text → Type 0 where
   of_relate : HasRelateFault rows f → HasCommandFault rows f (codes "relate")
   of_join : HasJoinFault rows f → HasCommandFault rows f (codes "join")
@@ -271,12 +270,12 @@ pub data HasCommandFault (rows : List Row) (f : WordFault) : Text → Type 0 whe
       → name ≢ codes "window" → name ≢ codes "stats" → name ≢ codes "bounds"
       → Says (missing_text (codes "COMMAND")) f → HasCommandFault rows f name
 
--- what was found under some name is this command
+-- the matches of some command are this command
 abbrev pub IsMetAs : Met → Command → Type 0
 IsMetAs None command = ⊥
 IsMetAs (Some met) command = IsCommandIn met.0 met.1 command
 
--- a fault of what was found, or that no command was
+-- a fault of the matches, or that there is no command
 abbrev pub HasMetFault : Met → WordFault → Type 0
 HasMetFault None f = Says (missing_text (codes "COMMAND")) f
 HasMetFault (Some met) f = HasCommandFault met.1 f met.0
@@ -286,29 +285,29 @@ is_help DisplayHelp = true
 is_help DisplayVersion = true
 is_help _ = false
 
--- the text of `clap` on an error of this kind
+-- the text of `clap` for an error of this kind
 abbrev pub IsUsageFault : ErrorKind → WordFault → Type 0
 IsUsageFault kind (fault.Usage shown help) = help ≡ is_help kind
 IsUsageFault kind _ = ⊥
 
--- the fault of the usage, or where that has none, of what was found
+-- the fault of the usage, or, if that has none, of the matches
 abbrev pub HasFault : Kinds → Met → WordFault → Type 0
 HasFault [] met f = HasMetFault met f
 HasFault (first ∷ more) met f =
     (kind : ErrorKind) × IsAmong kind (first ∷ more) × IsUsageFault kind f
 
--- what `clap` refuses of the words, and what it finds in them
+-- the errors of `clap` for the words, and its matches
 unfoldable pub refusals_of : List Text → Kinds
 refusals_of words = fault_of program_usage words
 
 unfoldable pub met_in : List Text → Met
 met_in words = subcommand_of program_usage words
 
--- the words are read as this command, or as this fault, that of memory aside
+-- the words are read as this command, or as this fault, unless memory ran out
 abbrev pub ReadAs : List Text → Result Command WordFault → Type 0
 ReadAs words (Ok command) = (refusals_of words ≡ []) × IsMetAs (met_in words) command
 ReadAs words (Err f) = f ≢ fault.Memory → HasFault (refusals_of words) (met_in words) f
 
--- memory ran out, or a word is no text
+-- memory ran out, or a word is not UTF-8
 abbrev pub IsUngiven : WordFault → Type 0
 IsUngiven f = f ≢ fault.Memory → Says (codes "error: a word is not UTF-8\n") f

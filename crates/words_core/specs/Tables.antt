@@ -1,4 +1,4 @@
--- What the tables of commands and arguments declare.
+-- The declarations in the tables of commands and arguments.
 use Rattle.std.specs.Prelude.{map}
 use Rattle.clap.specs.Words.{Rule, Shape, Text}
 use Rattle.words_core.specs.Usage.{edits_rule, geometry_rule, numeric_rule, positional_rule}

@@ -1,4 +1,4 @@
--- What `clap` is told of the words: the commands, and of each what its arguments may be.
+-- The `clap` definition of the program: the commands, and the rules for their arguments.
 use Rattle.std.specs.Prelude.{◌≡◌, List, [], ◌∷◌, ◌++◌, Some, codes, true, false, pos, option_map}
 use Rattle.clap.specs.Words.{App, Rule, Shape, Text, app_of, new_rule, rule_of}
 use Rattle.clap.specs.declared.builder.command.Command.TheViews.{out-Command as fields_of}
@@ -9,11 +9,11 @@ use Rattle.clap.specs.declared.builder.value_parser.ValueParser.TheVariants.{Sig
 
 -- ---- arguments
 
--- an argument that has to be given, by its place
+-- a required positional argument
 abbrev pub positional_rule : Text → Rule
 positional_rule name = record (new_rule name) { required = true }
 
--- `--name`, a whole number of 32 bits, and what it is where it isn't given
+-- `--name`, an unsigned integer of 32 bits, and its default
 abbrev pub numeric_rule : Text → Text → Rule
 numeric_rule name default = record (new_rule name) {
   long = Some name;
@@ -33,7 +33,7 @@ relation_rule = record (new_rule (codes "relation")) {
 abbrev pub edits_rule : Rule
 edits_rule = record (new_rule (codes "edits")) { long = Some (codes "edits") }
 
--- `--geometry`, and that boxes are read where it isn't given
+-- `--geometry`, which is `box` by default
 abbrev pub geometry_rule : Rule
 geometry_rule = record (new_rule (codes "geometry")) {
   long = Some (codes "geometry");
@@ -66,7 +66,7 @@ relate_rules = positional_rule (codes "A") ∷ positional_rule (codes "B") ∷ s
 abbrev pub window_rules : List Rule
 window_rules = positional_rule (codes "LAYER") ∷ positional_rule (codes "WKT") ∷ scale_rule ∷ []
 
--- those of `stats` and of `bounds`
+-- the rules of `stats` and of `bounds`
 abbrev pub layer_only_rules : List Rule
 layer_only_rules = positional_rule (codes "LAYER") ∷ scale_rule ∷ []
 
@@ -82,7 +82,7 @@ subcommand_shapes =
     ∷ subcommand_shape (codes "stats") layer_only_rules
     ∷ subcommand_shape (codes "bounds") layer_only_rules ∷ []
 
--- the program, of which one command has to be named
+-- the program, which requires a command
 abbrev pub program_shape : Shape
 program_shape = record (new_shape (codes "rjoin")) {
   has_version = true;
@@ -95,7 +95,7 @@ program_usage = record {
   subs = subcommand_shapes;
 }
 
--- ---- what help says of the commands
+-- ---- the descriptions of the commands
 
 abbrev pub program_about : Text
 program_about = codes "Joins two layers of geometries by a spatial relation"
@@ -121,18 +121,18 @@ bounds_about = codes "Writes the corners of the features of a layer"
 
 -- ---- what the code declares
 
--- the argument is declared so, and for its own command alone
+-- the argument has this declaration, and belongs to its command only
 pub record IsArgument (declared : Rule) (arg : Arg) : Type 0 where
   pub rule : rule_of arg ≡ declared
   pub local : arg.global ≡ false
 
--- the command has no argument and no subcommand yet, and its help says this of it
+-- the command has no argument and no subcommand yet, and this is its description
 pub record IsBegun (begun : Shape) (text : Text) (command : Command) : Type 0 where
   pub shape : app_of command ≡ record { top = begun; subs = [] }
   pub about : option_map (λ about. about.now) (fields_of command).about ≡ Some text
   pub local : (fields_of command).has_globals ≡ false
 
--- the command has these arguments more, none of them for its subcommands
+-- the command with these arguments added, none of which is passed to subcommands
 abbrev pub with_rules : App → List Rule → App
 with_rules app rules = on_top (λ shape. record shape { rules = shape.rules ++ rules }) app
 
@@ -140,7 +140,7 @@ pub record AddsRules (old : Command) (rules : List Rule) (new : Command) : Type 
   pub shape : app_of new ≡ with_rules (app_of old) rules
   pub globals : (fields_of new).has_globals ≡ (fields_of old).has_globals
 
--- the command has this usage, and no argument for all of its subcommands
+-- the command has this usage, and no argument that is passed to subcommands
 pub record HasUsage (usage : App) (command : Command) : Type 0 where
   pub shape : app_of command ≡ usage
   pub local : (fields_of command).has_globals ≡ false
