@@ -1,13 +1,17 @@
-"""Runs the parts of the gate one after the other, each to its end whatever became of those before.
+"""Runs the parts of the gate, each to its end whatever became of those before.
 
     .ci/run [PART..]     these parts, or all; `.ci/run --list` names them
 
-As root it first installs what the parts need of Debian's packages. A part that runs longer than it may is stopped and
-has failed, and what a part leaves running is stopped with it. The last lines have a line for each part, with what
-passed, failed and was skipped, its seconds and those of all processors, and name what was skipped; the very last
-line counts all. The status is 1 where something failed.
+As root it first installs what the parts need of Debian's packages, and then proves. After the proofs two lanes run side
+by side: the mutants, which take all processors, and the parts that mostly need one processor or wait for input. The
+parts of a lane run one after the other, and what each writes is printed whole once it has ended. A part that runs
+longer than it may is stopped and has failed, and what a part leaves running is stopped with it. The last lines have a
+line for each part, with what passed, failed and was skipped, its seconds and those of all processors, and one for all
+parts, with the seconds from the first to the last; they name what was skipped, and the very last line counts all. The
+status is 1 where something failed.
 """
 import ctypes
+import io
 import os
 import re
 import resource
@@ -17,8 +21,14 @@ import subprocess
 import sys
 import time
 from collections.abc import Iterator
+from contextlib import contextmanager
 from dataclasses import dataclass, field
+from enum import Enum
+from multiprocessing import get_context
+from multiprocessing.connection import Connection, wait
+from multiprocessing.synchronize import Lock
 from pathlib import Path
+from typing import BinaryIO
 
 ROOT = Path(__file__).resolve().parent.parent
 PROGRAM = ROOT / "crates/rjoin/out/rjoin"
@@ -27,6 +37,7 @@ MOST_MINUTES = 170
 # How long what is stopped may take to end.
 GRACE_SECONDS = 20
 PR_SET_CHILD_SUBREAPER = 36
+FORK = get_context("fork")
 LAST = re.compile(r"^(?:[\w -]+: )?(\d+) passed, (\d+) failed(?:, (\d+) skipped)?$", re.M)
 SKIPPED = re.compile(r"^(?:skipped|SKIPPED) .*|^not installed: .*", re.M)
 ENVIRONMENT = {
@@ -36,15 +47,24 @@ ENVIRONMENT = {
 }
 
 
+class Lane(Enum):
+    """When a part runs: before all that is side by side, or in one of the two lanes."""
+
+    FIRST = 0
+    HEAVY = 1
+    LIGHT = 2
+
+
 @dataclass(frozen=True)
 class Part:
-    """A part of the gate: its name, a command that is run in the root of the repository, and how many minutes it may
-    take. Its last line of the form `N passed, N failed, N skipped` counts; without one it is passed or failed as a
-    whole, by its status."""
+    """A part of the gate: its name, a command that is run in the root of the repository, how many minutes it may take,
+    and its lane. Its last line of the form `N passed, N failed, N skipped` counts; without one it is passed or failed
+    as a whole, by its status. Parts of the two lanes neither need nor write what one of the other lane writes."""
 
     name: str
     words: tuple[str, ...]
     minutes: float
+    lane: Lane = Lane.FIRST
     # Whether a status other than 0 means that the part couldn't be run, and not that it failed.
     may_be_skipped: bool = False
 
@@ -71,17 +91,17 @@ PARTS = (
     Part("definitions", ("check/definitions.py", "--check"), 2),
     Part("guarantees", ("check/guarantees.py",), 2),
     Part("readmes", ("check/readmes.py",), 2),
-    Part("stored-runs", ("check/stored_runs.py",), 10),
-    Part("refusals", ("check/refusals.py",), 30),
-    Part("reference", ("check/reference.sh",), 10),
-    Part("mutants", ("check/mutants.py",), 60),
-    Part("tested-mutants", ("check/tested_mutants.py",), 30),
-    Part("smoke", ("bench/smoke", str(PROGRAM)), 5),
-    Part("gate", ("python3", "check/test_gate.py"), 3),
-    Part("packaging", ("check/packages.py", "--by-ci"), 25),
-    Part("python", ("check/python.sh", "-k", STEADY), 25),
-    Part("integrations", ("check/integrations.sh",), 20),
-    Part("recipes", ("check/recipes.py", str(PROGRAM)), 10),
+    Part("mutants", ("check/mutants.py",), 80, Lane.HEAVY),
+    Part("tested-mutants", ("check/tested_mutants.py", "--changed"), 30, Lane.HEAVY),
+    Part("stored-runs", ("check/stored_runs.py",), 15, Lane.LIGHT),
+    Part("refusals", ("check/refusals.py",), 45, Lane.LIGHT),
+    Part("reference", ("check/reference.sh",), 15, Lane.LIGHT),
+    Part("smoke", ("bench/smoke", str(PROGRAM)), 10, Lane.LIGHT),
+    Part("gate", ("python3", "check/test_gate.py"), 5, Lane.LIGHT),
+    Part("packaging", ("check/packages.py", "--by-ci"), 40, Lane.LIGHT),
+    Part("python", ("check/python.sh", "-k", STEADY), 40, Lane.LIGHT),
+    Part("integrations", ("check/integrations.sh",), 30, Lane.LIGHT),
+    Part("recipes", ("check/recipes.py", str(PROGRAM)), 15, Lane.LIGHT),
 )
 
 
@@ -139,7 +159,7 @@ def stop_what_is_left() -> list[str]:
     return names
 
 
-def passed_on(process: subprocess.Popen[bytes], deadline: float) -> tuple[str, bool]:
+def passed_on(process: subprocess.Popen[bytes], deadline: float, output: BinaryIO) -> tuple[str, bool]:
     """Passes on what a process writes until it ends or its time is up. Returns it, and whether the process ended."""
     assert process.stdout
     written, has_ended = bytearray(), False
@@ -150,8 +170,8 @@ def passed_on(process: subprocess.Popen[bytes], deadline: float) -> tuple[str, b
         data = process.stdout.read()
         if data:
             written += data
-            sys.stdout.buffer.write(data)
-            sys.stdout.buffer.flush()
+            output.write(data)
+            output.flush()
         elif has_ended:
             break
         else:
@@ -188,9 +208,10 @@ def counted(part: Part, text: str, status: int) -> Result:
     return result
 
 
-def run(part: Part, deadline: float) -> Result:
+def run(part: Part, deadline: float, output: BinaryIO) -> Result:
     """Runs a part to its end, or until its time or that of the whole is up."""
-    print(f"== {part.name}: {' '.join(part.words)}", flush=True)
+    output.write(f"== {part.name}: {' '.join(part.words)}\n".encode())
+    output.flush()
     began, used = time.monotonic(), processor_seconds()
     limit = min(began + 60 * part.minutes, deadline)
     try:
@@ -198,7 +219,7 @@ def run(part: Part, deadline: float) -> Result:
                                    stdout=subprocess.PIPE, stderr=subprocess.STDOUT, start_new_session=True)
     except OSError as fault:
         return Result(part.name, failed=1, notes=[f"{part.words[0]} can't be run: {fault.strerror}"])
-    text, has_ended = passed_on(process, limit)
+    text, has_ended = passed_on(process, limit, output)
     if has_ended:
         result = counted(part, text, process.returncode)
     else:
@@ -212,32 +233,105 @@ def run(part: Part, deadline: float) -> Result:
     return result
 
 
-def table(results: list[Result]) -> Iterator[str]:
-    """The last lines: what became of each part, and of all."""
+def own_what_is_left() -> None:
+    """Makes this process the parent of what its children leave running."""
+    ctypes.CDLL(None).prctl(PR_SET_CHILD_SUBREAPER, 1)
+
+
+@contextmanager
+def printed_whole(printing: Lock) -> Iterator[BinaryIO]:
+    """A file whose content is printed at the end, also where the lane is stopped, with nothing of the other lane in
+    it."""
+    output = io.BytesIO()
+    try:
+        yield output
+    finally:
+        with printing:
+            sys.stdout.buffer.write(output.getvalue())
+            sys.stdout.buffer.flush()
+
+
+def run_lane(parts: list[Part], deadline: float, results: Connection, printing: Lock) -> None:
+    """Runs the parts of a lane one after the other, and sends how each ended."""
+    own_what_is_left()
+    try:
+        for part in parts:
+            with printed_whole(printing) as output:
+                result = run(part, deadline, output)
+            results.send(result)
+    finally:
+        stop_what_is_left()
+
+
+def start_lane(parts: list[Part], deadline: float, printing: Lock) -> Connection:
+    """Starts a process for a lane, by which its parts' children and times are told from those of the other lane.
+    Returns where the results come from."""
+    receiver, sender = FORK.Pipe(duplex=False)
+    FORK.Process(target=run_lane, args=(parts, deadline, sender, printing)).start()
+    sender.close()
+    return receiver
+
+
+def run_side_by_side(lanes: list[list[Part]], deadline: float) -> list[Result]:
+    """Runs lanes side by side. A part of which nothing is heard has failed."""
+    printing = FORK.Lock()
+    results = {part.name: Result(part.name, failed=1, notes=["its lane ended before it"])
+               for parts in lanes for part in parts}
+    left: list[Connection] = []
+    for parts in lanes:
+        print(f"== side by side, printed when each has ended: {' '.join(it.name for it in parts)}", flush=True)
+        left.append(start_lane(parts, deadline, printing))
+    while left:
+        for receiver in wait(left):
+            assert isinstance(receiver, Connection)
+            try:
+                result = receiver.recv()
+                results[result.name] = result
+            except EOFError:
+                left.remove(receiver)
+    return [*results.values()]
+
+
+def run_all(parts: list[Part], deadline: float) -> list[Result]:
+    """Runs the parts before the lanes, and then the lanes: side by side where both have parts."""
+    first, *lanes = [[part for part in parts if part.lane == lane] for lane in Lane]
+    if not all(lanes):
+        return [run(part, deadline, sys.stdout.buffer) for part in parts]
+    results = [run(part, deadline, sys.stdout.buffer) for part in first]
+    return results + run_side_by_side(lanes, deadline)
+
+
+def row(name: str, results: list[Result], seconds: float) -> tuple[str, ...]:
+    """The line of the table for these results."""
+    counts = [sum(it.passed for it in results), sum(it.failed for it in results), sum(it.skipped for it in results)]
+    times = [seconds, sum(it.processor_seconds for it in results)]
+    return (name, *(str(it) for it in counts), *(f"{it:.0f}" for it in times))
+
+
+def table(results: list[Result], seconds: float) -> Iterator[str]:
+    """The last lines: how each part ended, and all of them, which took this long."""
     rows = [("part", "passed", "failed", "skipped", "seconds", "processor")]
-    rows += [(it.name, str(it.passed), str(it.failed), str(it.skipped), f"{it.seconds:.0f}",
-              f"{it.processor_seconds:.0f}") for it in results]
+    rows += [row(it.name, [it], it.seconds) for it in results]
+    rows.append(row("all", results, seconds))
     for name, *numbers in rows:
         yield f"{name:16}" + "".join(f"{number:>10}" for number in numbers)
     for it in results:
         for note in it.notes:
             yield f"{it.name}: {note}"
-    passed, failed, skipped = (sum(getattr(it, name) for it in results) for name in ("passed", "failed", "skipped"))
+    _, passed, failed, skipped, *_ = rows[-1]
     yield f"{passed} passed, {failed} failed, {skipped} skipped"
 
 
 def gate(parts: list[Part]) -> int:
     """Runs the parts and tells how they ended."""
-    ctypes.CDLL(None).prctl(PR_SET_CHILD_SUBREAPER, 1)
+    own_what_is_left()
     signal.signal(signal.SIGTERM, lambda *_: sys.exit(143))
-    deadline = time.monotonic() + 60 * MOST_MINUTES
-    results = []
+    began = time.monotonic()
     try:
-        for part in parts:
-            results.append(run(part, deadline))
+        results = run_all(parts, began + 60 * MOST_MINUTES)
     finally:
         stop_what_is_left()
-    print("", *table(results), sep="\n", flush=True)
+    print("", *table(results, time.monotonic() - began), sep="\n", flush=True)
     return 1 if any(it.failed for it in results) else 0
 
 

@@ -9,6 +9,10 @@ it over the mutant and runs it, with no proof.
 
     check/tested_mutants.py [CRATE | CRATE/MUTANT ..]
                                             of these crates, or of all
+    check/tested_mutants.py --changed       of the crates that changed, or whose tests did, since this branch left
+                                            GATE_BASE, else origin/HEAD, origin/main or origin/master; of all where
+                                            none of them is known, where this is one of its commits, and where the
+                                            files changed by which mutants are tried
     check/tested_mutants.py --unchanged     with nothing changed: each of these tests has to pass
     check/tested_mutants.py --try           what `rt try --test` does in this folder, for the script itself
 
@@ -34,6 +38,10 @@ from toolchain import toolchain  # noqa: E402
 
 # Each run compiles with one thread, and takes about 2 GB.
 AT_ONCE = min(len(os.sched_getaffinity(0)), 4)
+# The branches that this one may have come from.
+BRANCHES = ("origin/HEAD", "origin/main", "origin/master")
+# The files that every verdict rests on, as Git's paths.
+OF_ALL = {"check/tested_mutants.py", "check/edits.py", "tools/toolchain.py", "crates.txt", "HANDLES"}
 # A function with its comments and attributes, to the brace below its first letter.
 FUNCTION = re.compile(r"((?:^ *(?:///|#\[).*\n)+)^( *)(?:pub )?fn (\w+)\b(?:.*\n)+?\2}\n", re.M)
 
@@ -63,6 +71,45 @@ def mutants(words: list[str]) -> list[Mutant]:
     """Those of these crates, or of these names, or all."""
     found = [mutant_of(path) for path in sorted(ROOT.glob("crates/*/tested-mutants/*.edit"))]
     return [it for it in found if not words or it.crate in words or f"{it.crate}/{it.edit.name}" in words]
+
+
+def git(*words: str) -> str:
+    """What Git answers in this repository, or nothing where it can't."""
+    try:
+        ended = subprocess.run(["git", *words], cwd=ROOT, capture_output=True, text=True, check=False)
+    except OSError:
+        return ""
+    return ended.stdout.strip() if ended.returncode == 0 else ""
+
+
+def branching() -> tuple[str, str]:
+    """The branch that this one came from and the last commit that both have; nothing where it isn't known."""
+    named = os.environ.get("GATE_BASE")
+    for branch in [named] if named else BRANCHES:
+        commit = git("merge-base", "HEAD", branch)
+        if commit:
+            return branch, commit
+    return named or "", ""
+
+
+def changed(found: list[Mutant]) -> tuple[list[Mutant], str]:
+    """Those of these mutants whose crate or whose tests' crate changed since this branch left its base, and why these.
+    What isn't committed counts too."""
+    branch, commit = branching()
+    if not commit:
+        return found, f"{branch} has no commit in common with this one" if branch else \
+            "no branch is known that this one came from"
+    if commit == git("rev-parse", "HEAD"):
+        return found, f"this is a commit of {branch}"
+    paths = {*git("diff", "--name-only", "--no-renames", commit).splitlines(),
+             *git("ls-files", "--others", "--exclude-standard").splitlines()}
+    since = f"changed since {commit[:12]} of {branch}"
+    of_all = sorted(paths & OF_ALL)
+    if of_all:
+        return found, f"{' '.join(of_all)} {since}"
+    crates = {path.split("/")[1] for path in paths if path.startswith("crates/")}
+    return ([it for it in found if {it.crate, it.tests} & crates],
+            f"{' '.join(sorted(crates)) or 'no crate'} {since}")
 
 
 def keep(tests: Path, wanted: Collection[str]) -> None:
@@ -121,7 +168,11 @@ def try_tests() -> int:
 def main(words: list[str]) -> int:
     if words == ["--try"]:
         return try_tests()
-    wanted = mutants([it for it in words if it != "--unchanged"])
+    wanted = mutants([it for it in words if not it.startswith("--")])
+    if "--changed" in words:
+        every = len(wanted)
+        wanted, why = changed(wanted)
+        print(f"{len(wanted)} of {every} tested mutants are tried: {why}", flush=True)
     ends = []
     with ThreadPoolExecutor(AT_ONCE) as pool:
         for is_well, text in unchanged(wanted) if "--unchanged" in words else pool.map(tried, wanted):
