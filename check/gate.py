@@ -303,16 +303,16 @@ def run_all(parts: list[Part], deadline: float) -> list[Result]:
 
 def row(name: str, results: list[Result], seconds: float) -> tuple[str, ...]:
     """The line of the table for these results."""
-    counts = [sum(it.passed for it in results), sum(it.failed for it in results), sum(it.skipped for it in results)]
-    times = [seconds, sum(it.processor_seconds for it in results)]
-    return (name, *(str(it) for it in counts), *(f"{it:.0f}" for it in times))
+    counts = (sum(getattr(it, count) for it in results) for count in ("passed", "failed", "skipped"))
+    processor_seconds = sum(it.processor_seconds for it in results)
+    return (name, *map(str, counts), f"{seconds:.0f}", f"{processor_seconds:.0f}")
 
 
 def table(results: list[Result], seconds: float) -> Iterator[str]:
     """The last lines: how each part ended, and all of them, which took this long."""
-    rows = [("part", "passed", "failed", "skipped", "seconds", "processor")]
-    rows += [row(it.name, [it], it.seconds) for it in results]
-    rows.append(row("all", results, seconds))
+    rows: list[tuple[str, ...]] = [
+        ("part", "passed", "failed", "skipped", "seconds", "processor"),
+        *(row(it.name, [it], it.seconds) for it in results), row("all", results, seconds)]
     for name, *numbers in rows:
         yield f"{name:16}" + "".join(f"{number:>10}" for number in numbers)
     for it in results:

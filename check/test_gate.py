@@ -10,6 +10,7 @@ import tempfile
 import time
 import unittest
 from pathlib import Path
+from unittest.mock import patch
 
 HERE = Path(__file__).resolve().parent
 DRIVER = """
@@ -222,9 +223,8 @@ class TestedMutants(unittest.TestCase):
 
     def chosen(self, base: str = "") -> tuple[list[str], str]:
         """The names of the chosen mutants' crates, and why."""
-        os.environ["GATE_BASE"] = base
-        self.addCleanup(os.environ.pop, "GATE_BASE", None)
-        chosen, why = self.script["changed"](self.script["mutants"]([]))
+        with patch.dict(os.environ, GATE_BASE=base):
+            chosen, why = self.script["changed"](self.script["mutants"]([]))
         return [it.crate for it in chosen], why
 
     def test_with_no_base_all_are_chosen(self) -> None:
