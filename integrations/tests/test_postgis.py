@@ -160,12 +160,16 @@ def test_other_geometries_and_ids_of_any_type(server: Dict[str, str]) -> None:
     assert psql(server, "select left_id, right_id from odd.boxes order by 1, 2") == psql(
         server, own.format('ST_Envelope("The Shape")', ""))
     assert len(psql(server, "select * from odd.gone")) == 2
+    mirrored = done(server, "zones", 'odd."Shapes"', *words[2:], "odd.mirrored", "--others",
+                    "envelope")
     boxes = [text for text, reason in SHAPES.items() if reason is None]
-    rows = psql(server, 'select text, exact from odd.boxes join odd."Shapes" on "Key" = left_id')
-    assert {exact for _, exact in rows} == {"t", "f"}
-    assert all((exact == "t") == (text in boxes) for text, exact in rows)
-    inexact = [exact for _, exact in rows].count("f")
-    assert f"pairs that rest on an envelope, where exact is false: {inexact}\n" in told
+    for pairs, side, said in (("boxes", "left", told), ("mirrored", "right", mirrored)):
+        rows = psql(server, f'select text, exact from odd.{pairs} join odd."Shapes"'
+                    f' on "Key" = {side}_id')
+        assert {exact for _, exact in rows} == {"t", "f"}
+        assert all((exact == "t") == (text in boxes) for text, exact in rows)
+        inexact = [exact for _, exact in rows].count("f")
+        assert f"pairs that rest on an envelope, where exact is false: {inexact}\n" in said
 
 
 def test_ids_and_names_are_never_read_as_sql(server: Dict[str, str]) -> None:

@@ -41,6 +41,14 @@ def test_each_page_tells_the_limits(page: str) -> None:
     assert "134,217,728 bytes" in text
 
 
+def test_the_page_of_klayout_tells_of_merged_shapes() -> None:
+    """By the words of its dialog and of batch mode."""
+    page = (HERE.parent / "docs/KLAYOUT.md").read_text(encoding="utf-8")
+    for words in ("Shapes are joined as they are drawn.", "two pieces that abut touch each other",
+                  "*Merge the shapes of each layer first*", "`-rd merged=1`"):
+        assert words in page
+
+
 def run(*words: str) -> None:
     if shutil.which(words[0]) is None:
         pytest.skip(f"{words[0]} isn't installed")

@@ -118,6 +118,10 @@ def test_rows_that_rest_on_an_envelope_say_so() -> None:
     assert pairs[["left", "right", "exact"]].values.tolist() == [
         ["a", "a", False], ["b", "a", False], ["b", "b", True]]
     with pytest.warns(rjoin.EnvelopeWarning):
+        mirrored = rjoin.pairs(rights, lefts, "contains", other="envelope")
+    assert mirrored[["left", "right", "exact"]].values.tolist() == [
+        ["a", "a", False], ["a", "b", False], ["b", "b", True]]
+    with pytest.warns(rjoin.EnvelopeWarning):
         inner = rjoin.sjoin(lefts, rights, "within", other="envelope")
     assert inner["exact"].tolist() == [False, False, True] and inner.columns[-1] == "exact"
     for predicate, exact in (("within", [False] * 4), ("intersects", [False, False, True, True])):

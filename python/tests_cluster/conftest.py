@@ -149,6 +149,10 @@ def wait_for(tools: Tools, name: str, process: Any) -> None:
         time.sleep(0.01)
 
 
+def check_left_nothing(tools: Tools) -> None:
+    assert list(tools.folder.glob(".*report*")) + list(tools.folder.glob("rjoin-cluster-*")) == []
+
+
 def write_layer(path: Path, rows: Sequence[tuple[str, str]]) -> Path:
     """A layer of ids and geometries, both written as they are."""
     path.write_bytes(b"id,wkt\n" + b"".join(f"{name},{wkt}\n".encode() for name, wkt in rows))

@@ -1,4 +1,4 @@
-"""Workers that die or hang, machines that vanish, signals, and disks that are full."""
+"""Workers that die or hang, machines that vanish, and disks that are full."""
 from __future__ import annotations
 
 import os
@@ -7,19 +7,17 @@ import subprocess
 import sys
 import time
 from contextlib import ExitStack, contextmanager, suppress
-from dataclasses import replace
 from pathlib import Path
-from typing import Any, Callable, Iterator
+from typing import Any, Iterator
 
 import layers
 import numpy as np
-import psutil
 import pytest
-from conftest import WAIT, Tools, distributed, own_processes, running_group, wait_for
+from conftest import (
+    WAIT, Tools, check_left_nothing, distributed, own_processes, running_group, wait_for
+)
 
-from rjoin_cluster.cluster import TOKEN, Needs, lack_of
-from rjoin_cluster.layout import Layout, save_array, save_bytes
-from rjoin_cluster.program import Program
+from rjoin_cluster.layout import save_array
 
 
 @pytest.fixture
@@ -40,10 +38,6 @@ def started(tools: Tools, address: str, left: Path, right: Path, *more: str) -> 
     words[words.index("--scheduler") + 1] = address
     command = [sys.executable, "-m", "rjoin_cluster", *words]
     return subprocess.Popen(command, stderr=subprocess.PIPE, text=True)
-
-
-def check_left_nothing(tools: Tools) -> None:
-    assert list(tools.folder.glob(".*report*")) + list(tools.folder.glob("rjoin-cluster-*")) == []
 
 
 @pytest.mark.parametrize("step", ["boxes-*.rows", "pairs-*.rows"])
@@ -92,18 +86,6 @@ def test_the_scheduler_vanishes(tools: Tools, pair: tuple[Path, Path]) -> None:
     assert errors == "rjoin-cluster: the scheduler was lost\n"
     assert not tools.report().exists()
     check_left_nothing(tools)
-
-
-def test_what_a_worker_lacks(tools: Tools) -> None:
-    layout, program = Layout(str(tools.folder)), Program(tools.program, "0")
-    needs = Needs(layout, program, program.version(), ((__file__, os.stat(__file__).st_size),))
-    assert "No such file" in lack_of(needs)
-    layout.token().write_bytes(TOKEN)
-    assert lack_of(needs) == ""
-    assert list(tools.folder.glob("check-*")) == []
-    assert lack_of(replace(needs, version="rjoin 0")).endswith("and not rjoin 0")
-    assert lack_of(replace(needs, files=((__file__, 1),))) == f"{__file__} is another file"
-    assert "No such file" in lack_of(replace(needs, program=Program("/nowhere/rjoin", "0")))
 
 
 @contextmanager
@@ -171,67 +153,6 @@ def test_the_command_is_stopped_for_a_while(tools: Tools, pair: tuple[Path, Path
             time.sleep(6)
         assert (process.wait(WAIT), process.stderr.read()) == (0, "")
     assert tools.report().read_bytes() == tools.one_run(*pair, "intersects").output
-
-
-@pytest.mark.skipif(os.geteuid() != 0, reason="one has to be root to be another user")
-@pytest.mark.parametrize("mode, path", [(0o700, "token"), (0o755, "check-")])
-def test_a_worker_of_another_user(tools: Tools, mode: int, path: str) -> None:
-    """It can't read what is in the folder, or else it can't write into it."""
-    for folder in [tools.folder, *tools.folder.parents]:
-        folder.chmod(folder.stat().st_mode | 0o055)
-    layout, program = Layout(str(tools.folder / "shared")), Program(tools.program, "0")
-    Path(layout.folder).mkdir(mode)
-    save_bytes(layout.token(), [TOKEN])
-    layout.token().chmod(0o644)
-    lack = as_another_user(lambda: lack_of(Needs(layout, program, "rjoin", ())))
-    assert lack.startswith(f"[Errno 13] Permission denied: '{layout.folder}/{path}")
-    assert lack.endswith("; a worker has to be of the user of the join, and this one is user 65534")
-
-
-def as_another_user(call: Callable[[], str]) -> str:
-    """What a call answers in a process of another user."""
-    reader, writer = os.pipe()
-    process = os.fork()
-    if process == 0:
-        os.setuid(65534)
-        os.write(writer, call().encode())
-        os._exit(0)
-    os.close(writer)
-    with open(reader, encoding="utf8") as pipe:
-        answer = pipe.read()
-    os.waitpid(process, 0)
-    return answer
-
-
-INTERRUPTS = [signal.SIGINT, signal.SIGTERM, signal.SIGHUP]
-
-
-@pytest.mark.parametrize("number", INTERRUPTS)
-@pytest.mark.parametrize("local", [True, False])
-def test_the_command_is_interrupted(
-    tools: Tools, pair: tuple[Path, Path], number: signal.Signals, local: bool
-) -> None:
-    """As by Control-C in a terminal, whose signal reaches all processes of the command."""
-    more = ["--tiles", "24", "--block", "200000"]
-    words = tools.local_command(*pair, "intersects", *more)
-    if not local:
-        words += ["--scheduler", tools.scheduler]
-    with running_group(words) as process:
-        wait_for(tools, "pairs-*.rows", process)
-        os.killpg(process.pid, number)
-        errors = process.communicate(timeout=WAIT)[1]
-    assert (process.returncode, errors) == (128 + number, "rjoin-cluster: interrupted\n")
-    assert not tools.report().exists()
-    check_left_nothing(tools)
-
-
-def test_what_interrupts_leave_no_run_going_on(tools: Tools, pair: tuple[Path, Path]) -> None:
-    with running_group(tools.local_command(*pair, "intersects", "--tiles", "24")) as process:
-        wait_for(tools, "pairs-*.rows", process)
-        runs = psutil.Process(process.pid).children(recursive=True)
-        process.send_signal(signal.SIGTERM)
-        process.communicate(timeout=WAIT)
-    assert [run for run in runs if run.is_running()] == []
 
 
 @contextmanager

@@ -1,0 +1,47 @@
+"""Signals that end a join: one line, no report, and nothing left behind."""
+from __future__ import annotations
+
+import os
+import signal
+from pathlib import Path
+
+import layers
+import psutil
+import pytest
+from conftest import WAIT, Tools, check_left_nothing, running_group, wait_for
+
+
+@pytest.fixture
+def pair(tools: Tools) -> tuple[Path, Path]:
+    return layers.write_pair(tools.folder, "rectangles", 20_000)
+
+
+INTERRUPTS = [signal.SIGINT, signal.SIGTERM, signal.SIGHUP]
+
+
+@pytest.mark.parametrize("number", INTERRUPTS)
+@pytest.mark.parametrize("local", [True, False])
+def test_the_command_is_interrupted(
+    tools: Tools, pair: tuple[Path, Path], number: signal.Signals, local: bool
+) -> None:
+    """As by Control-C in a terminal, whose signal reaches all processes of the command."""
+    more = ["--tiles", "24", "--block", "200000"]
+    words = tools.local_command(*pair, "intersects", *more)
+    if not local:
+        words += ["--scheduler", tools.scheduler]
+    with running_group(words) as process:
+        wait_for(tools, "pairs-*.rows", process)
+        os.killpg(process.pid, number)
+        errors = process.communicate(timeout=WAIT)[1]
+    assert (process.returncode, errors) == (128 + number, "rjoin-cluster: interrupted\n")
+    assert not tools.report().exists()
+    check_left_nothing(tools)
+
+
+def test_what_interrupts_leave_no_run_going_on(tools: Tools, pair: tuple[Path, Path]) -> None:
+    with running_group(tools.local_command(*pair, "intersects", "--tiles", "24")) as process:
+        wait_for(tools, "pairs-*.rows", process)
+        runs = psutil.Process(process.pid).children(recursive=True)
+        process.send_signal(signal.SIGTERM)
+        process.communicate(timeout=WAIT)
+    assert [run for run in runs if run.is_running()] == []

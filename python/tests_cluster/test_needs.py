@@ -1,0 +1,56 @@
+"""What a worker needs before a join: the shared folder, the program, the files, and the user."""
+from __future__ import annotations
+
+import os
+from dataclasses import replace
+from pathlib import Path
+from typing import Callable
+
+import pytest
+from conftest import Tools
+
+from rjoin_cluster.cluster import TOKEN, Needs, lack_of
+from rjoin_cluster.layout import Layout, save_bytes
+from rjoin_cluster.program import Program
+
+
+def test_what_a_worker_lacks(tools: Tools) -> None:
+    layout, program = Layout(str(tools.folder)), Program(tools.program, "0")
+    needs = Needs(layout, program, program.version(), ((__file__, os.stat(__file__).st_size),))
+    assert "No such file" in lack_of(needs)
+    layout.token().write_bytes(TOKEN)
+    assert lack_of(needs) == ""
+    assert list(tools.folder.glob("check-*")) == []
+    assert lack_of(replace(needs, version="rjoin 0")).endswith("and not rjoin 0")
+    assert lack_of(replace(needs, files=((__file__, 1),))) == f"{__file__} is another file"
+    assert "No such file" in lack_of(replace(needs, program=Program("/nowhere/rjoin", "0")))
+
+
+@pytest.mark.skipif(os.geteuid() != 0, reason="one has to be root to be another user")
+@pytest.mark.parametrize("mode, path", [(0o700, "token"), (0o755, "check-")])
+def test_a_worker_of_another_user(tools: Tools, mode: int, path: str) -> None:
+    """It can't read what is in the folder, or else it can't write into it."""
+    for folder in [tools.folder, *tools.folder.parents]:
+        folder.chmod(folder.stat().st_mode | 0o055)
+    layout, program = Layout(str(tools.folder / "shared")), Program(tools.program, "0")
+    Path(layout.folder).mkdir(mode)
+    save_bytes(layout.token(), [TOKEN])
+    layout.token().chmod(0o644)
+    lack = as_another_user(lambda: lack_of(Needs(layout, program, "rjoin", ())))
+    assert lack.startswith(f"[Errno 13] Permission denied: '{layout.folder}/{path}")
+    assert lack.endswith("; a worker has to be of the user of the join, and this one is user 65534")
+
+
+def as_another_user(call: Callable[[], str]) -> str:
+    """What a call answers in a process of another user."""
+    reader, writer = os.pipe()
+    process = os.fork()
+    if process == 0:
+        os.setuid(65534)
+        os.write(writer, call().encode())
+        os._exit(0)
+    os.close(writer)
+    with open(reader, encoding="utf8") as pipe:
+        answer = pipe.read()
+    os.waitpid(process, 0)
+    return answer
