@@ -2,6 +2,7 @@ pub mod AnyLemmas
 pub mod ClassLemmas
 pub mod DisjointLemmas
 pub mod ExtentLemmas
+pub mod FilterLemmas
 pub mod PartLemmas
 pub mod ProperLemmas
 pub mod SampleLemmas

@@ -3,6 +3,8 @@
 
 mod any_relation;
 mod class;
+mod laws;
 
 pub use any_relation::AnyRelation;
+pub use laws::filter_law;
 pub use plane_core::Rings;

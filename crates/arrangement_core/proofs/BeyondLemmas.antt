@@ -85,7 +85,7 @@ held s g v all one =
     let h = all_among (vertices.HoldsVertex s) v (vertices_of g) all one in
     record { left = h.left; right = h.right; low = h.low; high = h.high }
 
-holds_all : (s : Shape) (g : Figure) → All (vertices.HoldsVertex s) (vertices_of g) → HoldsAll s g
+pub holds_all : (s : Shape) (g : Figure) → All (vertices.HoldsVertex s) (vertices_of g) → HoldsAll s g
 holds_all s g all = record {
   firsts = λ e one. held s g e.a all (edge_end g (λ (x : Edge). x.a) e (λ path k. edge_first path e k) one);
   lasts = λ e one. held s g e.b all (edge_end g (λ (x : Edge). x.b) e (λ path k. edge_last path e k) one);
@@ -93,7 +93,7 @@ holds_all s g all = record {
 }
 
 -- a point of an edge on one side of a box is on that side
-data IsAside (s : Shape) (p : Point) : Type 0 where
+pub data IsAside (s : Shape) (p : Point) : Type 0 where
   Left : p.x <ℤ (pos p.w *ℤ x1 s) → IsAside s p
   Right : (pos p.w *ℤ x2 s) <ℤ p.x → IsAside s p
   Low : p.y <ℤ (pos p.w *ℤ y1 s) → IsAside s p
@@ -138,7 +138,7 @@ aside s e p wide on h =
     (λ k. High (between_more _ _ p.y _ (rows_of e p on) (less_scaled (pos p.w) (y2 s) e.a.y up (less_of _ _ (and_left _ _ k))) (less_scaled (pos p.w) (y2 s) e.b.y up (less_of _ _ (and_right _ _ k)))))
 
 -- and so the point is exterior, and on no edge
-aside_part : (g : Figure) (s : Shape) (p : Point) → IsGeometry g → 0 < p.w → HoldsAll s g → IsAside s p → part_of g p ≡ Exterior
+pub aside_part : (g : Figure) (s : Shape) (p : Point) → IsGeometry g → 0 < p.w → HoldsAll s g → IsAside s p → part_of g p ≡ Exterior
 aside_part g s p good wide all (Left h) = left_exterior g s p good (wide_z p.w wide) all h
 aside_part g s p good wide all (Right h) = right_exterior g s p good (wide_z p.w wide) all h
 aside_part g s p good wide all (Low h) = low_exterior g s p good (wide_z p.w wide) all h
