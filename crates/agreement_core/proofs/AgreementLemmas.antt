@@ -38,7 +38,7 @@ part_unique s Exterior Exterior u v h k = refl
 
 -- ---- two sets of cells and the points that lie in both
 
--- a point is in the set just where its cell is in both sets of cells
+-- a point is in the set if and only if its cell is in both sets of cells
 pub record AreCellsOf (P Q : ℤ → ℤ → Type 0) (R : Point → Type 0) : Type 0 where
   pub into : (p : Point) (u v : ℤ) → IsInCell p u v → P u v → Q u v → R p
   pub first : (p : Point) (u v : ℤ) → IsInCell p u v → R p → P u v
@@ -230,7 +230,7 @@ triangle_found P Q R c u v a b d (IsGap k e x) (IsGap m f y) = (
 triangle_found P Q R c u v a b d (IsLine k e x) y = absurd (omega (arith, d, x, parity_le v))
 triangle_found P Q R c u v a b d x (IsLine k e y) = absurd (omega (arith, d, y, parity_le u))
 
--- what two sets of cells share, their points share
+-- the points of two sets of cells share what the cells share
 entry_of : (P Q : ℤ → ℤ → Type 0) (R : Point → Type 0) → AreCellsOf P Q R → (e : Extent) → IsExtent P Q e → IsEntry R e
 entry_of P Q R c Empty none = λ s. let h = cell_found P Q R c s in none h.u h.v h.first h.second
 entry_of P Q R c Dot g =

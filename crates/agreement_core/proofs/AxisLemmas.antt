@@ -1,4 +1,4 @@
--- How a point lies to the ends of an interval is how its cell lies to their grid lines.
+-- A point lies to the ends of an interval as its cell lies to their grid lines.
 use Rattle.std.proofs.Common.{◌≡◌, ◌<◌, arith, ap, ◌∙◌, inl, inr}
 use Rattle.std.specs.Prelude.{ℤ, ℕ, pos, ◌*ℤ◌, ◌+ℤ◌, ◌-ℤ◌, ◌≤ℤ◌, ◌<ℤ◌, ◌⊎◌, int_lt, int_le}
 use Rattle.std.specs.Ordering.{int_eq}
@@ -8,7 +8,7 @@ use Rattle.plane_core.proofs.Ring.{monomials}
 use Rattle.plane_core.proofs.ScaleLemmas.{less_scaled, no_less_scaled}
 use Rattle.agreement_core.specs.Agreement.{LiesAt, OnLine, InGap}
 
--- before a whole number, at it, or behind it: the number z / w, and its cell u
+-- before an integer, at it, or after it: the number z / w, and its cell u
 pub data Lies (z : ℤ) (w : ℕ) (u c : ℤ) : Type 0 where
   Before : z <ℤ (pos w *ℤ c) → u <ℤ line c → Lies z w u c
   At : z ≡ pos w *ℤ c → u ≡ line c → Lies z w u c
@@ -49,7 +49,7 @@ lies z w u c h (InGap k e f g) =
     past : (pos w *ℤ c) ≤ℤ (pos w *ℤ k) → (pos w *ℤ c) <ℤ z
     past l = omega (arith, ints, l, f)
 
--- so each comparison has one answer for both
+-- so each comparison has the same result for both
 pub le_before : (z : ℤ) (w : ℕ) (u c : ℤ) → Lies z w u c → int_le z (pos w *ℤ c) ≡ int_le u (line c)
 le_before z w u c (Before h k) = grind (arith, ints)
 le_before z w u c (At h k) = grind (arith, ints)

@@ -125,7 +125,7 @@ to_second p q r h a b = record {
   };
 }
 
--- where the first is level along one axis and the second along the other
+-- if the first is level along one axis and the second along the other
 to_both_x : (p q r : Point) → 0 < q.w → AreLevel p.x p.w q.x q.w → ¬ (AreLevel p.x p.w r.x r.w)
     → AreLevel p.y p.w r.y r.w → ¬ (AreLevel p.y p.w q.y q.w) → HasDirection p q r
 to_both_x p q r h a b c d = record {

@@ -1,4 +1,4 @@
--- Just the relations that fit no matrix of two classes hold for no two disjoint geometries.
+-- Exactly the relations that fit no matrix of two classes hold for no two disjoint geometries.
 use Rattle.std.proofs.Common.{inl, inr, sym}
 use Rattle.relation_core.specs.declared.relation.Relation.{Relation}
 use Rattle.any_relation_core.specs.declared.class.Class.{Class}

@@ -1,4 +1,4 @@
--- What a search of a list of classes finds.
+-- Searching a list of classes.
 use Rattle.std.proofs.Common.{◌≡◌, ◌↔◌, ℕ, ◌<◌, zero, suc, refl, arith, inl, inr}
 use Rattle.std.specs.Prelude.{List, [], ◌∷◌, length, Bool, true, false, MatchBool}
 use Rattle.std.specs.List.{HoldsAt, AllWithin}

@@ -1,4 +1,4 @@
--- The class of a geometry, by what its interior and its boundary amount to.
+-- The class of a geometry, by the dimensions of its interior and its boundary.
 use Rattle.std.proofs.Common.{◌≡◌, refl}
 use Rattle.std.specs.Prelude.{List}
 use Rattle.relation_core.specs.declared.extent.Extent.{Extent}

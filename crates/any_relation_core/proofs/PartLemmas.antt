@@ -1,4 +1,4 @@
--- What the parts of a geometry amount to.
+-- The dimensions of the parts of a geometry.
 use Rattle.std.proofs.Common.{◌≡◌, ◌<◌, ◌+◌, ◌*◌, inl, inr, arith, refl, sym, subst, ap, ◌∙◌, true, false, List, [], ◌∷◌}
 use Rattle.std.specs.Prelude.{ℤ, ℕ, pos, neg_ℤ, ◌*ℤ◌, ◌-ℤ◌, Bool, ◌&&◌, All, length, sum_by, count_by, if◌then◌else◌}
 use Rattle.std.specs.Ordering.{int_eq}

@@ -1,4 +1,4 @@
--- What sets of points share, where one lies in the other.
+-- The intersections of sets of points of which one is a subset of another.
 use Rattle.std.proofs.Common.{◌<◌, ◌+◌, ◌*◌, arith, zero, suc}
 use Rattle.std.specs.Prelude.{ℕ}
 use Rattle.relation_core.specs.declared.extent.Extent.{Extent}

@@ -1,4 +1,4 @@
--- What holds of each of a list's elements.
+-- Facts that hold for each element of a list.
 use Rattle.std.proofs.Common.{◌≡◌, ◌<◌, ◌+◌, ◌⊎◌, inl, inr, arith, refl, sym, subst, ap, ◌∙◌, false, cond, List, [], ◌∷◌, ◌++◌}
 use Rattle.std.specs.Prelude.{ℕ, Bool, count_by, sum_by}
 use Rattle.std.specs.List.{list_any, flat_map}
@@ -27,7 +27,7 @@ among_flat f x y [] h k = absurd h
 among_flat f x y (z ∷ xs) (inl e) k = among_left y (f z) (flat_map f xs) (subst (λ (v : _). IsAmong y (f v)) e k)
 among_flat f x y (z ∷ xs) (inr h) k = among_right y (f z) (flat_map f xs) (among_flat f x y xs h k)
 
--- what holds for all large n of each element holds for all large n of all
+-- a fact that holds for all large n for each element holds for all large n for all
 pub large_all : {A : Type 0} (P : A → ℕ → Type 0) (xs : List A) → ((x : A) → IsAmong x xs → Large (P x)) → Large (λ n. (x : A) → IsAmong x xs → P x n)
 large_all P [] f = (0, λ n le x h. absurd h)
 large_all P (y ∷ xs) f =

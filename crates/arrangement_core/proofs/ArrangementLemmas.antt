@@ -184,7 +184,7 @@ middle_before k l h = before_of (middle k l) l (ahead_is _ _ _ _
 pub middle_wide : (k l : Point) → 0 < k.w → 0 < l.w → 0 < (middle k l).w
 middle_wide k l wk wl = mix_wide k l 1 1 wk wl (omega arith)
 
--- a piece has its middle, and a point behind it
+-- a piece contains its middle and a point after it
 pub record IsPieceEnds (e : Edge) (k l : Point) : Type 0 where
   pub wide_k : 0 < k.w
   pub wide_l : 0 < l.w
@@ -245,7 +245,7 @@ piece_segment g h noded i j a has =
           record { first = same.first ∙ has.in_both.first; second = same.second ∙ has.in_both.second },
     )
 
--- where a point of an edge lies: at a node, or in a piece
+-- a point of an edge is at a node or in a piece
 pub data EdgePoint (noded : List NodedEdge) (e : Edge) (p : Point) : Type 0 where
   AtNode : (n : NodedEdge) (z : Point) → IsAmong n noded → IsAmong z n.nodes → 0 < z.w → IsSamePlace p z → EdgePoint noded e p
   OnPiece : (k l : Point) → IsPiece noded e k l → IsInPiece e k l p → EdgePoint noded e p

@@ -197,7 +197,7 @@ no_odd_end own e p all wide on = ap is_odd (count_none (λ v. is_at v p) own.end
     (λ here. clash (is_on e (at v)) (on_there e v p wide on (at_same v p here)) (not_true (is_on e (at v)) (among_all (λ v. not (is_on e (at v))) own.ends.items v all k)))
     (λ no_. no_)))
 
--- so what the edge shows is known
+-- so all that the edge can add is known
 abbrev IsKnown : Matrix → Mark → Type 0
 IsKnown m k = rank k.extent ≤ rank (entry m k.first k.second)
 

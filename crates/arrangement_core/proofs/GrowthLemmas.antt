@@ -1,4 +1,4 @@
--- Matrices that have grown by marks.
+-- Matrices to which marks were added.
 use Rattle.std.proofs.Common.{◌≡◌, ◌≤◌, ◌<◌, ◌+◌, ◌-◌, ◌⊎◌, inl, inr, arith, refl, sym, subst, ap, ◌∙◌, List, [], ◌∷◌, ◌++◌, length, get_or, take, map, append_assoc, suc, zero}
 use Rattle.std.specs.Prelude.{ℕ, ℤ, pos, Bool, ◌≢◌, true, false, if◌then◌else◌}
 use Rattle.std.proofs.lemmas.Int.{ints}

@@ -61,7 +61,7 @@ up_to_y p q e (inr h) = plain _ _ h.1
     plain : (m n : ℤ) → m ≡ n → m ≤ℤ n
     plain m n h = omega (arith, ints)
 
--- what the test says, over plain numbers
+-- the meaning of the test, over plain numbers
 on_side : (s a b z c d y : ℤ) → (int_eq s (pos 0) && (int_le a z && int_le z b || int_le b z && int_le z a) && (int_le c y && int_le y d || int_le d y && int_le y c)) ≡ true → s ≡ pos 0
 on_side s a b z c d y h = grind (arith, ints)
 

@@ -60,7 +60,7 @@ two_rank n h = omega arith
 three_rank : (n : ℕ) → 3 ≤ n → 2 ≤ n
 three_rank n h = omega arith
 
--- what is shared is seen by the entry
+-- the entry includes the intersection
 record AreRead (g h : Figure) (noded : List NodedEdge) (m : Matrix) : Type 0 where
   all : IsArrangement g h noded
   read : IsReadOff g h noded m

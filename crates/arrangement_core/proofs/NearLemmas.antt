@@ -1,4 +1,4 @@
--- The points where the edges of a tree meet an edge.
+-- The points where the edges in a tree meet an edge.
 use Rattle.std.proofs.Common.{arith, ◌≡◌, ◌<◌, ◌+◌, ℕ, List, length, get_or, take, sym, subst, All}
 use Rattle.std.specs.List.{flat_map}
 use Rattle.std.proofs.lemmas.List.Elements.{All-append, All-more, All-contains}
@@ -51,7 +51,7 @@ node_apart e es ns s cover t box entries inside apart k d lt =
     let x = get_or (entries_of t) k d in
     entry_apart e es ns s x box (entries k d lt) (λ m. apart (m.0, m.1, inside k d lt m.0 m.1 m.2, m.3))
 
--- what is so of each entry that a tree holds is so of each edge
+-- a fact of each entry in a tree is a fact of each edge
 pub held_meetings : (e : Edge) (es : List Edge) (ns : List Node) (held : List Entry) → HoldsEdges es held → All (HasEntryMeetings e es ns) held → All (HasMeetings e ns) es
 held_meetings e es ns held h all k d lt =
     let x = tree_holds es h.entries held h.are h.same k lt d in

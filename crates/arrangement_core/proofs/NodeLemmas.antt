@@ -47,7 +47,7 @@ pub record Located (ns : List Point) (p : Point) : Type 0 where
   pub to_ : Point
   pub in_gap : IsInGap ns from_ to_ p
 
--- behind the first node, and not behind all
+-- after the first node, and not after all
 locate_from : (m : Point) (ns : List Point) (p hi : Point) → 0 < p.w → 0 < hi.w → All IsWide (m ∷ ns) → IsBefore m p → IsUpTo p hi → IsPlaceOf hi (m ∷ ns)
     → IsPlaceOf p (m ∷ ns) ⊎ Located (m ∷ ns) p
 locate_from m [] p hi wp wh wide h k (inl s) =
@@ -88,7 +88,7 @@ first_up_to m z (n ∷ ns) h wz wm wide (inl s) = plain (All-head (IsUpTo m) n n
     plain (inr b) = inr (same_trans m n z wm (All-head IsWide n ns wide) wz b (same_sym z n s))
 first_up_to m z (n ∷ ns) h wz wm wide (inr k) = first_up_to m z ns (All-tail (IsUpTo m) n ns h) wz wm (All-tail IsWide n ns wide) k
 
--- a point that isn't before all nodes, nor behind all
+-- a point that isn't before all nodes, nor after all
 pub locate : (ns : List Point) (p lo hi : Point) → 0 < p.w → 0 < lo.w → 0 < hi.w → All IsWide ns → Ascend ns → IsUpTo lo p → IsPlaceOf lo ns → IsUpTo p hi → IsPlaceOf hi ns
     → IsPlaceOf p ns ⊎ Located ns p
 locate [] p lo hi wp wl wh wide up from_ lo_is to_ hi_is = absurd lo_is

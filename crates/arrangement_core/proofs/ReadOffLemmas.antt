@@ -31,12 +31,12 @@ use Rattle.arrangement_core.proofs.GrowthLemmas.{grown-refl, grown-trans, grown_
 use Rattle.arrangement_core.proofs.AmongLemmas.{among_left, among_right, among_either, among_flat}
 use Rattle.arrangement_core.proofs.NodeLemmas.{all_among, edge_of}
 
--- what two geometries and their outlines have in common
+-- the relation between two geometries and their outlines
 pub record AreOutlined (g h : Figure) (a b : Outline) : Type 0 where
   pub first : IsOutlineOf g a
   pub second : IsOutlineOf h b
 
--- each mark tells of what is there
+-- each mark is justified by points
 record IsTrueMark (g h : Figure) (noded : List NodedEdge) (k : Mark) : Type 0 where
   pub witnessed : IsWitnessed g h noded k.first k.second k.extent
 
@@ -103,7 +103,7 @@ not_level z h k = true_false (int_eq z (pos 0)) (is_zero z k) h
     true_false : (t : Bool) → t ≡ true → t ≡ false → ⊥
     true_false t h k = cc
 
--- marks of an edge tell of what is there
+-- the marks of an edge are justified by points
 true_piece : (g h : Figure) (noded : List NodedEdge) (a b : Outline) (e : Edge) (k l : Point) (m : Mark) → AreOutlined g h a b → IsPiece noded e k l
     → IsAmong m (piece_marks a b e (middle k l)) → IsTrueMark g h noded m
 true_piece g h noded a b e k l m o piece (inl is) = subst (IsTrueMark g h noded) (sym is)
@@ -148,7 +148,7 @@ true_edge g h es vs noded a b n m o all one marked = elim (among_either m (map (
   | inr gap ↦ true_gaps g h noded a b n.edge n.nodes m o (λ k l here. record { nodes = n.nodes; one = one; gap = here }) gap
 ]
 
--- the other way: what is there is marked
+-- the converse: all intersections are marked
 gap_marked : (a b : Outline) (e : Edge) (ns : List Point) (k l : Point) (m : Mark) → IsGapOf k l ns
     → (IsBefore k l → IsAmong m (gap_marks a b e k l)) → IsAmong m (gaps_marks a b e ns)
 gap_marked a b e [] k l m gap f = absurd gap

@@ -1,4 +1,4 @@
--- The order of nodes, and what a sort by it gives.
+-- The order of nodes, and the result of a sort by it.
 use Rattle.std.proofs.Common.{◌≡◌, ◌<◌, ◌≤◌, inl, inr, arith, true, false, List, [], ◌∷◌, length, get_or, map, suc}
 use Rattle.std.specs.Prelude.{ℕ, ℤ, pos, nat_abs, Bool, ◌<ℤ◌}
 use Rattle.std.specs.Ordering.{is_lt}

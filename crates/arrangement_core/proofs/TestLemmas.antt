@@ -1,9 +1,9 @@
--- Tests, and the facts that they stand for.
+-- Tests, and their meaning.
 use Rattle.std.proofs.Common.{◌≡◌, ap, ◌∙◌, sym, refl, true, false, arith}
 use Rattle.std.specs.Prelude.{ℤ, ◌≤ℤ◌, ◌<ℤ◌, Bool, ◌&&◌, ◌||◌, not, int_lt, int_le}
 use Rattle.std.proofs.lemmas.Int.{ints, by_lt_z}
 
--- by what a test gives
+-- by the result of a test
 pub by_test : {C : Type 0} (b : Bool) → (b ≡ true → C) → (b ≡ false → C) → C
 by_test true f g = f refl
 by_test false f g = g refl

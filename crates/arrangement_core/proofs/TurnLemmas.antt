@@ -1,4 +1,4 @@
--- Matrices and marks with the second geometry first.
+-- Matrices and marks for the geometries in reverse order.
 use Rattle.std.proofs.Common.{◌≡◌, ◌≤◌, ◌<◌, inl, inr, arith, refl, sym, subst, ap, ◌∙◌, true, false, suc, zero, List, [], ◌∷◌, ◌++◌, map, get_or, length}
 use Rattle.std.specs.Prelude.{ℕ, Bool, All, if◌then◌else◌, pos}
 use Rattle.std.specs.List.{flat_map}

@@ -1,4 +1,4 @@
--- How a command ends, by what its files and its run did.
+-- How a command ends, given its files and its run.
 use Rattle.std.proofs.Common.{◌≡◌, ◌≢◌, ◌↔◌, ℕ, List, Option, Some, None, Bool, false, Result, Ok, Err, IsErrAnd, ◌⊎◌, inl, inr, IfErr, IfSome, IsTrue}
 use Rattle.std.proofs.Common.{refl, sym, subst, ◌∙◌}
 use Rattle.report_core.specs.Written.{AppendsPrefix}
@@ -137,13 +137,13 @@ module _ (rings : Rings) where
         faults = faults;
       })
 
--- a text is at fault, by what relating the bytes of both answers
+-- a text is at fault, given the result of relating the bytes of both
 pub text_blamed : {T : Type 0} (scale : Scale) (rings : Rings) (a b x y : List ℕ) (answer : Result T TextFault) (f : TextFault) → x ≡ a → y ≡ b
     → ((g : TextFault) → (answer ≡ Err g) ↔ HasTextFault scale rings x y g) → answer ≡ Err f → HasTextFault scale rings a b f
 text_blamed scale rings a b x y answer f first second exact is =
     subst (λ (q : List ℕ). HasTextFault scale rings a q f) second (subst (λ (p : List ℕ). HasTextFault scale rings p y f) first ((exact f).0 is))
 
--- a text was begun, and the sink has failed
+-- writing a text was started, and the sink has failed
 pub write_failed : {T S : Type 0} (P : List ℕ → Type 0) (written : S → Option (List ℕ)) (is_flushed has_failed : S → Bool) (old new : S)
     (result : Result T RunFault) (text : List ℕ) → IsErrAnd result (λ e. e ≡ run.Write) → P text → AppendsPrefix (written old) (written new) text
     → IsTrue (has_failed new) → Ends P written is_flushed has_failed old new result
@@ -158,7 +158,7 @@ write_failed P written is_flushed has_failed old new (Err e) text h is front fai
 
 -- ---- opening
 
--- what follows the opening of one input, given that it is opened
+-- the consequence of opening one input, given that it can be opened
 pub input_opened : (lies : Option (List ℕ)) (bytes : List ℕ) (input : Input) (answer : Result (List ℕ) RunFault) (Then : List ℕ → Type 0)
     → lies ≡ Some bytes → Then bytes ↔ AfterOpening input lies answer Then
 input_opened lies bytes input answer Then is =

@@ -1,4 +1,4 @@
--- How a command ends that joins the layers of two files, after a file of edits.
+-- How a command that joins the layers of two files, after a file of edits, ends.
 use Rattle.std.proofs.Common.{◌≡◌, ◌≢◌, ◌↔◌, ℕ, List, Option, Some, None, Bool, false, Result, Ok, Err, IsErrAnd, ◌⊎◌, inl, inr, IfErr, IfSome}
 use Rattle.std.proofs.Common.{refl, sym, subst, ◌∙◌}
 use Rattle.std.specs.Prelude.{⊤}
@@ -28,13 +28,13 @@ use Rattle.join_core.proofs.RunLemmas.{ends_as}
 use Rattle.command_core.proofs.KnownLemmas.{join_known, draw_known}
 use Rattle.command_core.proofs.CommandLemmas.{refused_ends, input_opened, err_is}
 
--- what `?` hands on of the first file that can't be opened
+-- the error that `?` returns for the first file that can't be opened
 pub missing_as : {T : Type 0} (known : Option Files) (join : JoinRequest) (result : Result T RunFault) (e f : RunFault) → IsErrAnd result (λ x. x ≡ e) → e ≡ f
     → IsFirstMissing known join f → IfErr result (IsFirstMissing known join)
 missing_as known join (Ok x) e f h named missing = absurd h
 missing_as known join (Err x) e f h named missing = subst (IsFirstMissing known join) (sym (h ∙ named)) missing
 
--- what follows the opening of the edits, given that they are opened
+-- the consequence of opening the edits, given that they can be opened
 edits_opened : (at : Files) (edits : Option (Bor (List ℕ))) (told : Option (Option (List ℕ))) (answer : Result (List ℕ) RunFault)
     (Then : Option (Option (List ℕ)) → Type 0)
     → AreEditsAt (Some at) edits told → Then told ↔ AfterEdits at edits answer Then
@@ -46,7 +46,7 @@ edits_opened at (Some path) told answer Then is =
       (λ h. let now : After (Some is.2.0) = subst After is.2.1 h in subst Then (sym whole) now),
     )
 
--- what follows once the left and the right file are opened, where the file of edits can't be
+-- the consequence of opening the left and the right file if the file of edits can't be opened
 edits_refused : (at : Files) (edits : Option (Bor (List ℕ))) (answer : Result (List ℕ) RunFault) (Then : Option (Option (List ℕ)) → Type 0)
     → AreEditsMissing (Some at) edits → (answer ≡ Err (run.NoFile Edits)) ↔ AfterEdits at edits answer Then
 edits_refused at None answer Then missing = absurd missing
@@ -60,7 +60,7 @@ blames files (run.Wkt i w) allowed blame = absurd allowed.0
 blames files (run.Geometry i w) allowed blame = absurd allowed.0
 blames files f allowed blame = blame
 
--- what a command gives is what its run gives of the files at the paths of a join
+-- the results of a command are those of its run over the files at the paths of a join
 pub record ReadsFiles (command : Command) (join : JoinRequest) (Gives : JoinFiles → Result (List ℕ) RunFault → Type 0) : Type 0 where
   pub gives : (at : Files) (answer : Result (List ℕ) RunFault) → PathsGive Gives at join answer ↔ CommandGives at command answer
   pub none_first : (g : RunFault) → IsFoundFirst command g → (files : JoinFiles) → Gives files (Err g) → ⊥
@@ -73,12 +73,12 @@ module _ {S : Type 0} (known : Option Files) (written : S → Option (List ℕ))
   abbrev files_at : Option (List ℕ) → Option (List ℕ) → Option (Option (List ℕ)) → JoinFiles
   files_at l r e = record { scale = join.scale; left = l; right = r; edits = e }
 
-  -- what follows once the left file is opened
+  -- the consequence of opening the left file
   abbrev AfterLeft : Files → Result (List ℕ) RunFault → Option (List ℕ) → List ℕ → Type 0
   AfterLeft at answer lies p =
       AfterOpening Right lies answer (λ q. AfterEdits at join.edits_path answer (λ d. Gives (files_at (Some p) (Some q) d) answer))
 
-  -- once all are opened, the command gives what its run gives of their bytes
+  -- once all files are opened, the results of the command are those of its run over their bytes
   opened : (at : Files) (l r : Option (List ℕ)) (e : Option (Option (List ℕ))) (answer : Result (List ℕ) RunFault) → AreOpened (Some at) join l r e
       → Gives (files_at l r e) answer ↔ CommandGives at command answer
   opened at l r e answer is =
@@ -95,7 +95,7 @@ module _ {S : Type 0} (known : Option Files) (written : S → Option (List ℕ))
             (last.1 (second.1 (first.1 ((reads.gives at answer).1 h)))))),
       )
 
-  -- the command gives this fault and nothing else
+  -- the command has this fault as its only result
   abbrev GivesOnly : Option Files → RunFault → Type 0
   GivesOnly known f = IfSome known (λ at. (answer : Result (List ℕ) RunFault) → (answer ≡ Err f) ↔ CommandGives at command answer)
 
@@ -186,7 +186,7 @@ module _ {S : Type 0} (known : Option Files) (written : S → Option (List ℕ))
   first_as None l r e is result f found = tt
   first_as (Some at) l r e is result f found = λ gives. absurd (reads.none_first f found (files_at l r e) ((opened at l r e (Err f) is).1 gives))
 
-  -- all files were opened, and the run made
+  -- all files were opened, and the run was executed
   files_ran : {T : Type 0} (l r : Option (List ℕ)) (e : Option (Option (List ℕ))) (old new : S) (result : Result T RunFault) → AreOpened known join l r e
       → Ends (λ text. Gives (files_at l r e) (Ok text)) written is_flushed has_failed old new result
       → IfErr result (λ f. BlamesInput f → Gives (files_at l r e) (Err f))
@@ -200,7 +200,7 @@ module _ {S : Type 0} (known : Option Files) (written : S → Option (List ℕ))
     faults = allowed;
   }
 
--- ---- what a join and a picture give
+-- ---- the results of a join and of a picture
 
 -- a fault of reading or editing layers
 abbrev IsOfLayers : RunFault → Type 0

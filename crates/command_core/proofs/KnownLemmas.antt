@@ -1,4 +1,4 @@
--- Which faults a command may have, by what is known at its paths and by what its files tell.
+-- The possible faults of a command, by the known content at its paths and of its files.
 use Rattle.std.proofs.Common.{◌≡◌, ℕ, List, Option, Some, None, Result, Ok, sym, ap, subst, ◌∙◌, refl}
 use Rattle.std.specs.Borrow.{Bor}
 use Rattle.wkt_core.specs.declared.scale.Scale.{Scale}
@@ -15,7 +15,8 @@ use Rattle.words_core.specs.declared.words.JoinRequest.{JoinRequest}
 use Rattle.command_core.specs.Commands.{bytes_at, edits_at, known_files}
 use Rattle.command_core.specs.Opening.{Files, IsAt, AreEditsAt, AreOpened}
 
--- what holds of the bytes that a file tells, and of any that are unknown, holds of those that are known at its path
+-- a fact that holds for the bytes of a file, and for unknown ones, holds for those known at its
+-- path
 pub told_at : (known : Option Files) (path : List ℕ) (l : Option (List ℕ)) → IsAt known path l → (P : Option (List ℕ) → Type 0) → (P l → P None) → P l
     → P (bytes_at known path)
 told_at None path l is P into h = into h

@@ -1,4 +1,4 @@
--- How a command ends that reads one layer.
+-- How a command that reads one layer ends.
 use Rattle.std.proofs.Common.{◌≡◌, ◌≢◌, ◌↔◌, ℕ, List, Option, Some, None, Bool, Result, Ok, Err, IsErrAnd, ◌⊎◌, inl, inr, IfErr, IfSome, false, refl, sym}
 use Rattle.std.proofs.Common.{subst}
 use Rattle.std.proofs.lemmas.Result.{IfErr-weaker}
@@ -26,7 +26,7 @@ use Rattle.join_core.proofs.RunLemmas.{ends_as}
 use Rattle.command_core.proofs.KnownLemmas.{told_at, layer_untold, window_untold}
 use Rattle.command_core.proofs.CommandLemmas.{refused_ends, input_opened, err_is}
 
--- what a command gives is what its run gives of the file at this path
+-- the results of a command are those of its run over the file at this path
 pub record ReadsOne (command : Command) (path : List ℕ) (Gives : Option (List ℕ) → Result (List ℕ) RunFault → Type 0) : Type 0 where
   pub gives : (at : Files) (answer : Result (List ℕ) RunFault) →
       AfterOpening input.Layer (at path) answer (λ l. Gives (Some l) answer) ↔ CommandGives at command answer
@@ -35,7 +35,7 @@ pub record ReadsOne (command : Command) (path : List ℕ) (Gives : Option (List 
 
 module _ {S : Type 0} (known : Option Files) (written : S → Option (List ℕ)) (is_flushed has_failed : S → Bool)
     (command : Command) (path : List ℕ) (Gives : Option (List ℕ) → Result (List ℕ) RunFault → Type 0) (one : ReadsOne command path Gives) where
-  -- an opened file gives what its bytes give
+  -- the results of an opened file are those of its bytes
   opened : (at : Files) (l : Option (List ℕ)) (answer : Result (List ℕ) RunFault) → IsAt (Some at) path l → Gives l answer ↔ CommandGives at command answer
   opened at l answer is =
       let After = input_opened (at path) is.0 input.Layer answer (λ p. Gives (Some p) answer) is.1 in
@@ -59,7 +59,7 @@ module _ {S : Type 0} (known : Option Files) (written : S → Option (List ℕ))
       let After : Option (List ℕ) → Type 0 = λ lies. AfterOpening input.Layer lies fault (λ l. Gives (Some l) fault) in
       inl ((one.gives at fault).0 (subst After (sym missing) refl))
 
-  -- nothing lies at the path
+  -- there is no file at the path
   layer_missing : {T : Type 0} (sink : S) (result : Result T RunFault) → has_failed sink ≡ false
       → IsErrAnd result (λ x. x ≡ run.NoFile input.Layer) → IsMissing known path → CommandEnds known written is_flushed has_failed command sink sink result
   layer_missing sink result fresh h missing =
@@ -87,7 +87,7 @@ module _ {S : Type 0} (known : Option Files) (written : S → Option (List ℕ))
       refused_ends known written is_flushed has_failed command sink result run.NoKeys fresh h (λ e. absurd cc) (no_keys_given known)
       (λ g found. none_first known l is none g run.NoKeys found) (λ g found keys. none_next known g keys) (one.may_lack_keys known)
 
-  -- the layer isn't ready, so the sink stays as it is
+  -- the layer isn't ready, so the sink is unchanged
   pub layer_unready : {T : Type 0} (sink : S) (result : Result T RunFault) (f : RunFault) → has_failed sink ≡ false → IsErrAnd result (λ x. x ≡ f)
       → IsLayerUnready known path f → ((l : Option (List ℕ)) (g : RunFault) → IsFoundFirst command g → Gives l (Err g) → ⊥)
       → CommandEnds known written is_flushed has_failed command sink sink result
@@ -117,7 +117,7 @@ module _ {S : Type 0} (known : Option Files) (written : S → Option (List ℕ))
   next_as None l result is exact f found = tt
   next_as (Some at) l result is exact f found = λ given. exact f found ((opened at l (Err f) is).1 given)
 
-  -- the file was opened, and the run made
+  -- the file was opened, and the run was executed
   pub layer_ran : {T : Type 0} (l : Option (List ℕ)) (old new : S) (result : Result T RunFault) → IsAt known path l
       → Ends (λ text. Gives l (Ok text)) written is_flushed has_failed old new result
       → IfErr result (λ f. BlamesCommand f → Gives l (Err f))
@@ -132,13 +132,13 @@ module _ {S : Type 0} (known : Option Files) (written : S → Option (List ℕ))
     faults = faults;
   }
 
--- what `?` hands on of a layer that isn't ready
+-- the error that `?` returns for a layer that isn't ready
 pub handed_unready : {T : Type 0} (known : Option Files) (path : List ℕ) (out : Result T RunFault) (e f : RunFault)
     → IsErrAnd out (λ x. x ≡ e) → e ≡ f → IsLayerUnready known path f → IfErr out (IsLayerUnready known path)
 handed_unready known path (Ok x) e f h same unready = tt
 handed_unready known path (Err x) e f h same unready = subst (IsLayerUnready known path) (let is : f ≡ x = cc in is) unready
 
--- what a layer gives as a fault is one of its file
+-- a fault of a layer is one of its file
 gives_only : (IsTextOf : Contents → List ℕ → Type 0) (scale : Scale) (l : Option (List ℕ)) (P : RunFault → Type 0)
     → ((f : ReadFault) → P (run.Read input.Layer f)) → (g : RunFault) → LayerGives IsTextOf scale l (Err g) → P g
 gives_only IsTextOf scale l P of_layer g given = by (Err g) given refl

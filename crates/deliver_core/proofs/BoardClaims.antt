@@ -1,4 +1,4 @@
--- What a draw leaves of a seat that counts its draws.
+-- The effect of a draw on a seat that counts its draws.
 use Rattle.std.proofs.Common.{◌≡◌, ℕ, ◌+◌, ◌<◌, ◌≤◌, Bool, true, false, List, [], ◌∷◌, ◌++◌, length, All, refl, sym, ap, ◌∙◌, subst, arith, length-append}
 use Rattle.std.proofs.Common.{Option, Some}
 use Rattle.std.proofs.lemmas.Bool.{MatchBool-at_true, MatchBool-at_false, lt-ltb, le-ltb}
@@ -39,7 +39,7 @@ module _ (p : Option Place) (count : ℕ) (done : Bool) (place : Place) (there :
   pub counted_at : (known : Bool) → done ≡ known → IsCountedSeat p count done → IsCounted place count known
   counted_at known is h = subst (λ (d : Bool). IsCounted place count d) is (subst (λ (q : Option Place). IsCountedSeat q count done) there h)
 
--- what is left of a seat, after a draw of a number, and after one of none
+-- the state of a seat after a draw of a number, and after one of none
 pub record NumberDrawn (old new : Place) (count word : ℕ) : Type 0 where
   pub counted : IsCounted new (count + 1) false
   pub board : board_of new ≡ board_of old

@@ -1,4 +1,4 @@
--- A seat at the table that takes over what the board's seats have, one after another.
+-- A seat at the table that takes over those of the board's seats, one after another.
 use Rattle.std.proofs.Common.{◌≡◌, ℕ, ◌+◌, ◌-◌, ◌<◌, cond, List, [], ◌∷◌, ◌++◌, map, length, take, drop, get_or, flat_map, count_by, sym, ap, ◌∙◌, arith}
 use Rattle.std.proofs.Common.{length-append, length-take, get_or-drop, le_refl}
 use Rattle.std.proofs.lemmas.List.{flat_map_more, get_or-append_right, length-map}
@@ -43,7 +43,7 @@ gathers_more b xs all all' s count place g counted drawn same now =
       over = over ∙ ((λ i. g.over i + counted.over_is i) ∙ sym (sum_by_push (λ (x : SeatValue). cond x.done 1 0) xs s));
     }
 
--- what a loop that rewrites a list in place hasn't reached is as it was
+-- the part of a list that a loop which rewrites it in place hasn't reached is unchanged
 pub untouched : {X : Type 0} (f : X → X) (xs ys : List X) (i : ℕ) (d : X) → i < length xs → ys ≡ map f (take i xs) ++ drop i xs → get_or ys i d ≡ get_or xs i d
 untouched f xs ys i d h is =
     let front : length (map f (take i xs)) ≡ i = omega (arith, length-map (take i xs) f, length-take i xs) in

@@ -1,4 +1,4 @@
--- The laws of the board hold of a new one, and every draw keeps them.
+-- The laws of the board hold for a new one, and every draw preserves them.
 use Rattle.std.proofs.Common.{◌≡◌, ℕ, zero, suc, ◌+◌, ◌*◌, ◌<◌, ◌≤◌, min, Bool, true, false, cond, List, [], ◌∷◌, length, set, fold, sum_by, count_by, flat_map}
 use Rattle.std.proofs.Common.{All, Any, Option, Some, None, slice_get, refl, sym, ap, ◌∙◌, subst, arith, length-set, ⊎_elim}
 use Rattle.std.specs.Option.{option_map_or}
@@ -26,7 +26,7 @@ at_place [] i h e = absurd cc
 at_place (x ∷ hs) zero h e = let same : x ≡ h = cc in ap some same
 at_place (x ∷ hs) (suc i) h e = at_place hs i h e
 
--- what holds of each holder holds of the one at a place
+-- a fact of each holder is a fact of the one at an index
 All_at : (hs : List SeatState) (i : ℕ) (h : SeatState) → get_elem? hs i ≡ some h → All (λ (g : SeatState). IsStrictlyIncreasing g.drawn) hs
     → IsStrictlyIncreasing h.drawn
 All_at [] i h at all = absurd (some-ne-none h (sym at))
@@ -102,7 +102,7 @@ pub lawful : (tasks seats : ℕ) (events : List ℕ) (b : BoardState) → IsLawf
 lawful tasks seats [] b l = l
 lawful tasks seats (e ∷ events) b l = lawful tasks seats events (after_draw tasks b e) (lawful_draw tasks seats b e l)
 
--- what the laws say of a lawful board
+-- the laws for a lawful board
 module _ (tasks seats : ℕ) (b : BoardState) (l : IsLawful tasks seats b) where
   pub law_numbers : AreNumbersBelow (min b.word tasks) (flat_map (λ (h : SeatState). h.drawn) b.seats)
   law_numbers x = times-flat_map x (λ (h : SeatState). h.drawn) b.seats ∙ l.tally.numbers x

@@ -1,4 +1,4 @@
--- Each step on the board's word keeps its rule, and what the last state tells.
+-- Each step on the board's word preserves its rule, and the consequences of the last state.
 use Rattle.std.proofs.Common.{◌≡◌, ◌≢◌, ℕ, suc, ◌+◌, ◌-◌, ◌%◌, ◌^◌, ◌<◌, ◌≤◌, min, Bool, true, false, nat_lt, List, [], ◌∷◌, ◌++◌, length, get_or, set}
 use Rattle.std.proofs.Common.{slice_index, sum_by, All, MatchBool, refl, sym, ap, ◌∙◌, subst, ⊎_elim, arith, length-append, length-set, get_or-set_same}
 use Rattle.std.specs.List.Sorted.{IsStrictlyIncreasing}
@@ -16,7 +16,7 @@ use Rattle.deliver_core.specs.Draws.{times, AreNumbersBelow}
 use Rattle.deliver_core.specs.BoardRule.{seat_view, FitsBoard, ObeysRule, TableObeysRule, Drew}
 use Rattle.deliver_core.proofs.BoardTallies.{sum_at, part_le, tally_draws, tally_ends, tally_same, tally_below, tally_length, times-append}
 
--- a number above all the others goes behind them
+-- a number greater than all the others is added after them
 pub increasing_push : (xs : List ℕ) (k : ℕ) → IsStrictlyIncreasing xs → All (λ j. j < k) xs → IsStrictlyIncreasing (xs ++ k ∷ [])
 increasing_push xs k rises below i h =
     ⊎_elim
@@ -192,7 +192,7 @@ splits size i v several nothing zero_over s holds at = (holds.0, ruled)
           each = each;
         }
 
--- one view takes over what another has
+-- one view takes over another
 pub joins : (size : Size) (i : ℕ) (v : SeatView) (other : ℕ) (w : SeatView) → 0 < v.parts → 0 < w.parts
     → Joins (TableObeysRule size) i v other w (seat_view v.tasks v.seats (v.parts + w.parts) (v.drawn ++ w.drawn) (v.over + w.over)) (seat_view 0 0 0 [] 0)
 joins size i v other w here there s holds at apart other_at = (holds.0, ruled)
@@ -248,7 +248,7 @@ sum_none f (x ∷ xs) nil =
     let rest = sum_none f xs (λ i v at. nil (suc i) v at) in
     omega (arith, sum_by-cons f x xs)
 
--- a view that stands for all seats has all that was drawn
+-- a view that stands for all seats has all draws
 module _ (size : Size) (word : ℕ) (views : List SeatView) (k : ObeysRule size word views) (i : ℕ) (v : SeatView) (at : get_elem? views i ≡ some v)
     (all : v.parts ≡ size.seats) where
   alone : (f : SeatView → ℕ) → ((u : SeatView) → FitsBoard size u → u.parts ≡ 0 → f u ≡ 0) → sum_by f views ≡ f v
@@ -273,6 +273,6 @@ module _ (size : Size) (word : ℕ) (views : List SeatView) (k : ObeysRule size 
   pub all_over : word ≡ min word size.tasks + v.over
   all_over = k.tally.word_is ∙ ap (λ n. min word size.tasks + n) (alone (λ (u : SeatView). u.over) (λ u stands idle. let over = stands.over in omega arith))
 
-  -- where some seat has met the end, the word has passed all tasks
+  -- if some seat has met the end, the word has passed all tasks
   pub end_passed : 0 < v.over → min word size.tasks ≡ size.tasks
   end_passed some_over = let is = all_over in omega arith

@@ -1,4 +1,4 @@
--- How a tally changes when one holder draws, and what it says of each holder.
+-- How a draw of one holder changes a tally, and the consequences for each holder.
 use Rattle.std.proofs.Common.{◌≡◌, ℕ, zero, suc, ◌+◌, ◌<◌, ◌≤◌, min, Bool, true, cond, eqb, List, [], ◌∷◌, ◌++◌, length, get_or, set, sum_by, count_by}
 use Rattle.std.proofs.Common.{flat_map, All, Any, refl, sym, ap, ◌∙◌, arith, length-append}
 use Rattle.std.proofs.lemmas.Bool.Decides.{nat_tests}
@@ -33,7 +33,7 @@ times-append x xs ys = sum_by-append (λ y. cond (eqb y x) 1 0) xs ys
 pub times_push : (x : ℕ) (xs : List ℕ) (y : ℕ) → times x (xs ++ y ∷ []) ≡ times x xs + cond (eqb y x) 1 0
 times_push x xs y = sum_by_push (λ z. cond (eqb z x) 1 0) xs y
 
--- what stands in a list stands there once at least
+-- an item of a list occurs in it at least once
 pub times_some : (xs : List ℕ) (k d : ℕ) → k < length xs → 1 ≤ times (get_or xs k d) xs
 times_some [] k d h = absurd (omega arith)
 times_some (x ∷ xs) zero d h = let s = sum_by-cons (λ y. cond (eqb y x) 1 0) x xs in grind (arith, nat_tests)
@@ -47,14 +47,14 @@ once_below_more n x = grind (arith, nat_tests)
 pub below_from_once : (n x : ℕ) → 1 ≤ once_below n x → x < n
 below_from_once n x h = grind (arith, nat_tests)
 
--- what several lists have together
+-- the occurrences in several lists together
 pub times-flat_map : {X : Type 0} (x : ℕ) (drawn : X → List ℕ) (xs : List X) → times x (flat_map drawn xs) ≡ sum_by (λ h. times x (drawn h)) xs
 times-flat_map x drawn [] = refl
 times-flat_map x drawn (h ∷ hs) =
     let rest = times-flat_map x drawn hs in
     omega (arith, times-append x (drawn h) (flat_map drawn hs), sum_by-cons (λ g. times x (drawn g)) h hs)
 
--- where some holder is done, the count of these is above 0
+-- if some holder is done, the count of these is greater than 0
 pub some_done : {X : Type 0} (done : X → Bool) (xs : List X) → Any (λ h. done h ≡ true) xs → 0 < count_by done xs
 some_done done xs (k, x, inside, is, yes_done) =
     let one : cond {A = ℕ} (done (get_or xs k x)) 1 0 ≡ 1 = ap (λ h. cond {A = ℕ} (done h) 1 0) is ∙ ap (λ (b : Bool). cond {A = ℕ} b 1 0) yes_done in
@@ -113,7 +113,7 @@ module _ {X : Type 0} (drawn : X → List ℕ) (over : X → ℕ) (tasks word : 
     word_is = t.word_is ∙ ap (λ n. min word tasks + n) (sym overs);
   }
 
-  -- what a holder has drawn is below the word
+  -- the draws of a holder are less than the word
   pub tally_below : (i : ℕ) (v : X) → get_elem? xs i ≡ some v → All (λ k. k < word) (drawn v)
   tally_below i v at k d h =
       let x : ℕ = get_or (drawn v) k d in

@@ -8,14 +8,14 @@ or_false : (b : Bool) → (false || (b || false)) ≡ b
 or_false true = refl
 or_false false = refl
 
--- where the first parts agree, it is the rests that differ
+-- if the first parts are equal, the rests differ
 rest_of_or : (a b c d : Bool) → a ≡ c → (a || b) ≡ true → (c || d) ≡ false → (b ≡ true) × (d ≡ false)
 rest_of_or false b false d same some none = (some, none)
 rest_of_or false b true d same some none = cc
 rest_of_or true b false d same some none = cc
 rest_of_or true b true d same some none = cc
 
--- where a list has no Bye, only the message behind it can be one
+-- if a list has no Bye, only the message after it can be one
 split_snoc : (sent front rest : List Message) (m : Message) → front ++ rest ≡ sent ++ m ∷ [] → has_bye front ≡ true → has_bye sent ≡ false → rest ≡ []
 split_snoc sent [] rest m e bye quiet = cc
 split_snoc [] (f ∷ []) rest m e bye quiet = cc

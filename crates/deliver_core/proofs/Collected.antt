@@ -56,7 +56,7 @@ IsLegalHistory-prefix tasks front marks prefix legal = record {
       (turn.0, prefix_trans _ _ _ (prefix_filter (λ mark. eqb (task_of mark) task) front marks prefix) turn.1);
 }
 
--- where the marks of all messages are a legal history, none is refused
+-- if the marks of all messages are a legal history, none is refused
 pub refuses_none : (tasks : ℕ) (contents : List Content) → IsLegalHistory tasks (flat_map marks_in contents) → RefusesNone tasks contents
 refuses_none tasks contents legal before after next is =
     let c : Collection = record { tasks = tasks; marks = flat_map marks_in before; pairs = flat_map pairs_in before } in

@@ -1,4 +1,4 @@
--- what a collector's counters tell of its history, and how one more mark changes it
+-- How a collector's counters represent its history, and how one more mark changes it.
 use Rattle.std.proofs.Common.{◌≡◌, ◌≢◌, ℕ, zero, suc, ◌+◌, ◌<◌, ◌≤◌, Bool, true, false, not, cond, eqb, leb, List, [], ◌∷◌, ◌++◌, map, length, get_or, set}
 use Rattle.std.proofs.Common.{get_or-set_same, get_or-set_other, length-set, subst, inl, inr, count_by, All, Result, Ok, Err, refl, sym, ap, ◌∙◌, arith}
 use Rattle.std.proofs.Common.{add-one, append_assoc}
@@ -91,7 +91,7 @@ pub marks_of-push_other : (task : ℕ) (marks : List Mark) (mark : Mark) → tas
 marks_of-push_other task marks mark other =
     marks_of-push task marks mark ∙ ap (λ b. marks_of task marks ++ cond b (mark ∷ []) []) (ne_eqb (task_of mark) task other) ∙ append-nil (marks_of task marks)
 
--- what the counters say of the whole history
+-- the meaning of the counters for the whole history
 module _ (progress : List Progress) (marks : List Mark) (tells : Tells progress marks) where
   pub has_end-tells : (task : ℕ) (d : Progress) → task < length progress → has_end task marks ≡ (get_or progress task d).ended
   has_end-tells task d inside = ap (list_any is_end) (tells.each task d inside) ∙ list_any-told task (get_or progress task d)
@@ -146,7 +146,7 @@ module _ (progress : List Progress) (marks : List Mark) (tells : Tells progress 
   IsLeastOpen-tells pairs task inside going ended =
       (inside, has_end-at false task inside going, λ other below. has_end-at true other (omega arith) (λ d. ended other d (omega arith) below))
 
--- where a task takes one more message
+-- if a task accepts one more message
 choice-Ok : (past ended : Bool) (counted next : ℕ)
     → ◌≡◌ {A = Result ℕ Refusal} (Ok next) (cond past (Err Stranger) (cond ended (Err AfterEnd) (Ok counted)))
     → (past ≡ false) × (ended ≡ false) × (counted ≡ next)
@@ -171,7 +171,7 @@ pub Ok-awaited : (c : Collection) (task next : ℕ) → task < c.tasks → has_e
 Ok-awaited c task next inside going counted =
     choice-from (leb c.tasks task) (has_end task c.marks) (batch_count task c.marks) next (grind (arith, nat_tests)) going counted
 
--- what the counter of a task says of the history
+-- the meaning of a task's counter for the history
 pub ended_is : (progress : List Progress) (marks : List Mark) (task : ℕ) (p : Progress) → Tells progress marks → p ≡ get_or progress task p
     → task < length progress → has_end task marks ≡ p.ended
 ended_is progress marks task p tells read inside = has_end-tells progress marks tells task p inside ∙ ap (λ q. q.ended) (sym read)

@@ -1,4 +1,4 @@
--- How messages of several ports interleave: what all of them have of a task, its owner has.
+-- How messages of several ports interleave: all messages of a task are from its owner.
 use Rattle.std.proofs.Common.{◌≡◌, ℕ, zero, suc, ◌+◌, ◌<◌, ◌≤◌, Some, None, Bool, true, false, cond, eqb, List, [], ◌∷◌, ◌++◌, map, length, All, slice_get}
 use Rattle.std.proofs.Common.{refl, sym, ap, ◌∙◌, inl, inr, arith, length-append}
 use Rattle.std.specs.List.{flat_map}
@@ -15,7 +15,7 @@ use Rattle.deliver_core.proofs.TaskParts.{numbered}
 abbrev pub joined : List (List Task) → List Task
 joined owned = flat_map (λ tasks. tasks) owned
 
--- what a port says
+-- the contents of a port's messages
 abbrev pub said : ℕ → List Message → List Content
 said port messages = map content_of (of_port port messages)
 
@@ -45,12 +45,12 @@ of_port_there port m messages apart =
       | inr other ↦ ap (λ (b : Bool). cond b (m ∷ of_port port messages) (of_port port messages)) other.0
     ]
 
--- where the front of a list isn't of a task of which there is nothing
+-- if the front of a list isn't of a task that doesn't occur in it
 front_is_none : (b : Bool) (x : Content) (xs : List Content) → cond b (x ∷ xs) xs ≡ [] → (b ≡ false) × (xs ≡ [])
 front_is_none true x xs e = absurd (cc e)
 front_is_none false x xs e = (refl, e)
 
--- where all other ports say nothing of a task, this one says all of it
+-- if all other ports send nothing for a task, this one sends all of it
 pub of_task-port : (task port : ℕ) (messages : List Message)
     → ((other : ℕ) → (other ≡ port → ⊥) → of_task task (said other messages) ≡ [])
     → of_task task (map content_of messages) ≡ of_task task (said port messages)
@@ -81,7 +81,7 @@ pub record IsPlace (number : ℕ) (owned : List (List Task)) (place : ℕ) : Typ
   pub others : (other : ℕ) (tasks : List Task) → slice_get owned other ≡ Some tasks → (other ≡ place → ⊥) → numbered number tasks ≡ []
   pub past : slice_get owned place ≡ None → numbered number (joined owned) ≡ []
 
--- where nothing of a task is in the first of two lists, or nothing in both
+-- if nothing of a task is in the first of two lists, or nothing in both
 nil_left : {X : Type 0} (xs ys : List X) → xs ++ ys ≡ [] → xs ≡ []
 nil_left [] ys e = refl
 nil_left (x ∷ xs) ys e = absurd (cc e)
@@ -89,7 +89,7 @@ nil_left (x ∷ xs) ys e = absurd (cc e)
 numbered-append : (number : ℕ) (tasks more : List Task) → numbered number (tasks ++ more) ≡ numbered number tasks ++ numbered number more
 numbered-append number tasks more = filter-append (λ (task : Task). eqb task.0 number) tasks more
 
--- where all owners have nothing of a task, each has nothing of it
+-- if all owners have nothing of a task, each has nothing of it
 part_none : (number : ℕ) (owned : List (List Task)) → numbered number (joined owned) ≡ []
     → (place : ℕ) (tasks : List Task) → slice_get owned place ≡ Some tasks → numbered number tasks ≡ []
 part_none number [] none place tasks at = absurd (none-some tasks at)
@@ -103,7 +103,7 @@ part_none number (first ∷ rest) none (suc place) tasks at =
     let here = nil_left (numbered number first) (numbered number (joined rest)) both in
     part_none number rest (ap (λ front. front ++ numbered number (joined rest)) (sym here) ∙ both) place tasks at
 
--- where the first owner has it, and where it hasn't
+-- if the first owner has it, and if it doesn't
 part_other : (number : ℕ) (first : List Task) (rest : List (List Task)) → numbered number (joined rest) ≡ []
     → (other : ℕ) (tasks : List Task) → slice_get (first ∷ rest) other ≡ Some tasks → (other ≡ 0 → ⊥) → numbered number tasks ≡ []
 part_other number first rest none zero tasks at apart = absurd (apart refl)

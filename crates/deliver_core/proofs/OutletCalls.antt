@@ -1,4 +1,4 @@
--- What the calls of an outlet learn from the steps of its queue.
+-- The knowledge that the calls of an outlet gain from the steps of its queue.
 use Rattle.std.proofs.Common.{◌≡◌, ℕ, ◌+◌, true, false, Option, Some, None, is_some, IfSome, MatchOption, List, [], ◌∷◌, ◌++◌, length, map, refl, sym, ap, ◌∙◌}
 use Rattle.std.proofs.Common.{subst, arith}
 use mathlib.Core.List.{IsPrefix}
@@ -22,14 +22,14 @@ use Rattle.deliver_core.specs.PassViews.{sender_of, is_receiver, sent_of, with_s
 use Rattle.deliver_core.specs.OutletSteps.{Begins, IsSettled, TellsWaiting, IsAfterSend, IsAfterTake, IsAfterMiss, IsAfterMeet}
 use Rattle.deliver_core.proofs.Byes.{has_bye-snoc}
 
--- what a push tells
+-- the knowledge gained by a push
 pub after_send : (m : Message) (v w : PassView) → sender_of v ≡ Some m.port → has_bye (sent_of v) ≡ false → w ≡ with_sent v m → IsAfterSend m v w
 after_send m (Receiver made taken met) w is quiet e = cc
 after_send m Spent w is quiet e = cc
 after_send m (Sender index sent) w is quiet e =
     subst (IsAfterSend m (Sender index sent)) (sym e) (record { sender = is; sent = refl; bye = has_bye-snoc sent m quiet })
 
--- the messages of a port are all that it sent, where none of it waits
+-- the messages taken of a port are all that it sent, if none of them waits
 settled : (taken items sent : List Message) (port : ℕ) → of_port port items ≡ [] → of_port port taken ++ of_port port items ≡ sent → of_port port taken ≡ sent
 settled taken items sent port none e = sym (append-nil (of_port port taken)) ∙ (ap (λ l. of_port port taken ++ l) (sym none) ∙ e)
 
@@ -38,7 +38,7 @@ none_waits : (items : List Message) (port : ℕ) → length items ≡ 0 → of_p
 none_waits [] port none = refl
 none_waits (m ∷ ms) port none = absurd (omega arith)
 
--- what a pop from an empty queue tells
+-- the knowledge gained by a pop from an empty queue
 pub after_miss : (v w : PassView) → is_receiver v ≡ true → w ≡ v → Held 0 (TellsWaiting v) → IsAfterMiss v w
 after_miss (Sender index sent) w is e told = cc
 after_miss Spent w is e told = cc
@@ -62,7 +62,7 @@ pub the_index : (o : Option ℕ) → is_some o ≡ true → (index : ℕ) × (o 
 the_index (Some index) some = (index, refl)
 the_index None some = cc
 
--- what a meeting and a look tell
+-- the knowledge gained by a meeting and by reading the queue
 after_meeting : (index : ℕ) (v port w : PassView) (items : List Message) → is_receiver v ≡ true → sender_of port ≡ Some index → w ≡ with_met v port
     → TellsWaiting w items → IsAfterMeet port v w index
 after_meeting index (Sender i l) port w items is that e told = cc

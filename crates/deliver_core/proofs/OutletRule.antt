@@ -1,4 +1,4 @@
--- Each step of an outlet's passes keeps the rule of its queue.
+-- Each step of an outlet's passes preserves the rule of its queue.
 use Rattle.std.proofs.Common.{◌≡◌, ◌≢◌, ℕ, zero, suc, ◌+◌, ◌<◌, Bool, true, false, eqb, cond, Some, List, [], ◌∷◌, ◌++◌, All, length, set, sym, refl, ap, ◌∙◌}
 use Rattle.std.proofs.Common.{subst, ⊎_elim, inl, inr, ◌⊎◌, append_assoc, eq-eqb, ne_eqb, arith}
 use mathlib.Core.Option.{some, some-injective, some-ne-none}
@@ -64,14 +64,14 @@ begins_knows (suc pass) v at = absurd (some-ne-none v (sym at))
 pub begins : Delivers [] (Receiver 0 [] [] ∷ [])
 begins = from_state [] (Receiver 0 [] [] ∷ []) 0 0 (λ _. 0) [] initial refl (All-nil (IsEventOf 0)) refl (λ _. ends-none) begins_knows
 
--- a put changes what its own port has sent, and no other's list
+-- a put changes only the list of its own port
 sent_same : (s : State) (index : ℕ) (m : Message) → s.sent index ++ m ∷ [] ≡ (after_put index m s).sent index
 sent_same s index m = rw (eq-eqb index index refl) refl
 
 sent_other : (s : State) (index : ℕ) (m : Message) (i : ℕ) → (i ≡ index → ⊥) → s.sent i ≡ (after_put index m s).sent i
 sent_other s index m i other = rw (ne_eqb i index other) refl
 
--- what the other passes know stays, as their lists are others
+-- the knowledge of the other passes stays the same, as their lists are others
 others_put : (ports tap : ℕ) (holder : ℕ → ℕ) (s : State) (index : ℕ) (m : Message) (pass j : ℕ) (u : PassView) → holder index ≡ pass → j ≢ pass
     → Knows ports tap holder s j u → Knows ports tap holder (after_put index m s) j u
 others_put ports tap holder s index m pass j (Sender i sent) is other k = (k.0, k.1, k.2 ∙ sent_other s index m i (λ e. other (sym k.1 ∙ (ap holder e ∙ is))))
@@ -117,7 +117,8 @@ sends n pass (Sender index sent) m is quiet items views room d at =
 of_port-append : (port : ℕ) (xs ys : List Message) → of_port port (xs ++ ys) ≡ of_port port xs ++ of_port port ys
 of_port-append port xs ys = filter-append (λ (m : Message). eqb m.port port) xs ys
 
--- what was taken of a port and what waits of it is what it sent, where a pass knows these lists
+-- the messages taken of a port and those that wait are those that it sent, if a pass knows these
+-- lists
 tied : (items : List Message) (views : List PassView) (d : Delivers items views) (taken sent : List Message) (port : ℕ)
     → taken ≡ (after_all d.events initial).taken
     → sent ≡ (after_all d.events initial).sent port → of_port port taken ++ of_port port items ≡ sent
@@ -126,7 +127,7 @@ tied items views d taken sent port t s =
     ∙ (ap (λ (l : List Message × List Message). of_port port (l.0 ++ l.1)) (λ i. (t i, sym d.waits i))
     ∙ ((lawful d.ports d.events d.legal).each port ∙ sym s))
 
--- what the tap learns by a look
+-- the knowledge that the tap gains by reading the queue
 pub waits : (pass : ℕ) (v : PassView) → is_receiver v ≡ true → Learns (λ items views. Delivers items views) pass v (TellsWaiting v)
 waits pass (Sender index sent) is items views d at = cc
 waits pass Spent is items views d at = cc
@@ -145,14 +146,14 @@ live_port port taken items sent m true is here ends e =
     let first : of_port port (m ∷ items) ≡ m ∷ of_port port items = rw (eq-eqb m.port port here) refl in
     cc
 
--- no other pass knows what was taken
+-- no other pass knows the messages taken
 others_take : (ports tap : ℕ) (holder : ℕ → ℕ) (s : State) (items taken : List Message) (pass j : ℕ) (u : PassView) → pass ≡ tap → j ≢ pass
     → Knows ports tap holder s j u → Knows ports tap holder (record { waiting = items; sent = s.sent; taken = taken }) j u
 others_take ports tap holder s items taken pass j (Sender i sent) is other k = k
 others_take ports tap holder s items taken pass j (Receiver made got met) is other k = absurd (other (k.0 ∙ sym is))
 others_take ports tap holder s items taken pass j Spent is other k = tt
 
--- what the law tells of the message at the front
+-- the consequence of the law for the oldest message
 told_taken : (items : List Message) (views : List PassView) (made : ℕ) (taken : List Message) (met : List Met) (pass : ℕ) (m : Message)
     (d : Delivers (m ∷ items) views)
     → Knows d.ports d.tap d.holder (after_all d.events initial) pass (Receiver made taken met)
@@ -214,7 +215,7 @@ held_same index pass holder p is = rw (eq-eqb p index is) refl
 held_other : (index pass : ℕ) (holder : ℕ → ℕ) (p : ℕ) → (p ≡ index → ⊥) → held_by index pass holder p ≡ holder p
 held_other index pass holder p other = rw (ne_eqb p index other) refl
 
--- with one port more, each pass knows what it knew
+-- with one more port, each pass has the same knowledge
 met_after_make : (ports tap pass : ℕ) (holder : ℕ → ℕ) (s : State) (p : Met) → KnowsMet ports tap holder s p
     → KnowsMet (ports + 1) tap (held_by ports pass holder) s p
 met_after_make ports tap pass holder s p h = let lt = h.0 in (omega arith, held_other ports pass holder p.index (λ e. omega arith) ∙ h.1, h.2)
@@ -263,7 +264,7 @@ makes pass (Receiver made taken met) is items views d at =
     (λ j u at'. ⊎_elim (old j u) (λ (e : (j ≡ length front) × (right ≡ u)). subst (λ (y : ℕ × PassView). F y.0 y.1) (λ i. (sym e.0 i, e.1 i)) new)
     (at_end front right u j at'))
 
--- once the tap has the list of a port too, each other pass knows what it knew
+-- when the tap has also the list of a port, each other pass has the same knowledge
 met_after_meet : (ports tap index : ℕ) (holder : ℕ → ℕ) (s : State) (p : Met) → KnowsMet ports tap holder s p
     → KnowsMet ports tap (held_by index tap holder) s p
 met_after_meet ports tap index holder s p h = (

@@ -16,7 +16,7 @@ use Rattle.deliver_core.proofs.Interleavings.{joined}
 same_list : {X : Type 0} (xs ys : List X) → xs ≡ ys → IsPermutation xs ys
 same_list xs ys e = subst (IsPermutation xs) e (IsPermutation-refl xs)
 
--- what messages send in all
+-- all pairs sent by messages
 abbrev pub sent_in : List Message → List (ℕ × ℕ)
 sent_in messages = flat_map pairs_in (map content_of messages)
 
@@ -47,7 +47,7 @@ apart_from port (m ∷ messages) =
           rest
     ]
 
--- what another port sends is among them
+-- the messages of another port are among them
 of_port-others : (port other : ℕ) (messages : List Message) → (other ≡ port → ⊥) → of_port other (not_of_port port messages) ≡ of_port other messages
 of_port-others port other [] apart = refl
 of_port-others port other (m ∷ messages) apart =
@@ -63,7 +63,7 @@ of_port-others port other (m ∷ messages) apart =
           ∙ ap (λ ms. cond (eqb m.port other) (m ∷ ms) ms) rest
     ]
 
--- messages of the ports from `first` on, which are so many
+-- messages of the ports from `first` on, whose number is given
 abbrev AreFrom : ℕ → ℕ → List Message → Type 0
 AreFrom first ports messages = All (λ (m : Message). (first ≤ m.port) × (m.port < first + ports)) messages
 
@@ -97,7 +97,7 @@ others_from first ports (m ∷ messages) known =
           (omega (arith, above), omega (arith, here.1)) rest)
     ]
 
--- where each port sends the rows of the tasks that it owns
+-- if each port sends the rows of the tasks that it owns
 pub rows_of_ports : (owned : List (List Task)) (first : ℕ) (messages : List Message) → AreFrom first (length owned) messages
     → ((place : ℕ) (tasks : List Task) → slice_get owned place ≡ Some tasks
     → sent_in (of_port (first + place) messages) ≡ flat_map (λ (task : Task). task.1) tasks)

@@ -1,4 +1,4 @@
--- The law of owners: of each task the messages are those of one port, which keeps to the script.
+-- The law of owners: the messages of each task are those of one port, which keeps to the script.
 use Rattle.std.proofs.Common.{◌≡◌, ℕ, zero, suc, ◌+◌, ◌<◌, ◌≤◌, Bool, true, false, cond, eqb, List, [], ◌∷◌, map, length, get_or, All, refl, sym, ap, ◌∙◌}
 use Rattle.std.proofs.Common.{subst, inl, inr, arith}
 use Rattle.std.specs.List.{flat_map, list_any}
@@ -36,7 +36,7 @@ once_below_inside n x inside = grind (arith, nat_tests)
 plus_zero : (n : ℕ) → 0 + n ≡ n
 plus_zero n = omega arith
 
--- of a list in which each number stands once, the tasks of the number of one of them
+-- of a list in which each number occurs once, the tasks of the number of one of them
 numbered_one : (tasks : List Task) (k : ℕ) (d : Task) → k < length tasks → length (numbered (get_or tasks k d).0 tasks) ≤ 1
     → numbered (get_or tasks k d).0 tasks ≡ get_or tasks k d ∷ []
 numbered_one [] k d inside few = absurd (omega arith)
@@ -104,7 +104,7 @@ turn_of number size (task ∷ []) few own marks prefix =
     ]
 turn_of number size (task ∷ (more ∷ found)) few own marks prefix = absurd (omega arith)
 
--- where they are all of the one script
+-- if they are all of the one script
 ended_of : (number size : ℕ) (found : List Task) → length found ≡ 1
     → (marks : List Mark) → marks ≡ flat_map marks_in (scripts_of size found) → list_any is_end marks ≡ true
 ended_of number size [] one marks is = absurd (omega arith)
@@ -209,7 +209,7 @@ module _ (o : Owners) (keeps : KeepsOwners o) where
   pub law_accepted : RefusesNone o.tasks (contents o)
   law_accepted = refuses_none o.tasks (contents o) legal
 
-  -- where each port has said all
+  -- if each port has sent all its messages
   module _ (complete : IsComplete o) where
     whole : (number : ℕ) → of_task number (contents o) ≡ its_scripts number
     whole number =

@@ -1,4 +1,4 @@
--- which numbers stand among the owned tasks, where these are of the tasks that seats drew
+-- Which numbers occur among the owned tasks, if these are the tasks that seats drew.
 use Rattle.std.proofs.Common.{◌≡◌, ℕ, ◌≤◌, List, [], ◌∷◌, ◌++◌, map, flat_map, sum_by, refl, sym, ap, ◌∙◌, arith}
 use Rattle.std.specs.List.{AllZip}
 use Rattle.std.proofs.lemmas.Bool.Decides.{nat_tests}
@@ -21,7 +21,7 @@ numbers_of-joined (tasks ∷ owned) =
     map-append (λ (task : Task). task.0) tasks (joined owned)
     ∙ ap (λ rest. numbers_of tasks ++ rest) (numbers_of-joined owned)
 
--- a number stands among them as often as in the lists of all ports together, in whichever order these are
+-- a number occurs among them as often as in the lists of all ports together, in any order of these
 pub times-owned : (x : ℕ) (o : Owners) → times x (owned_numbers o) ≡ sum_by (λ (tasks : List Task). times x (numbers_of tasks)) o.owned
 times-owned x o = ap (times x) (numbers_of-joined o.owned) ∙ times-flat_map x numbers_of o.owned
 
@@ -70,7 +70,7 @@ times-all x drawn (tasks ∷ owned) (seat ∷ seats) all =
 once_below-more : (n tasks x : ℕ) → n ≤ tasks → once_below n x ≤ once_below tasks x
 once_below-more n tasks x le = grind (arith, nat_tests)
 
--- where the seats together drew the numbers below some n, each once
+-- if the seats together drew the numbers less than some n, each once
 pub AreSomeBelow-drawn : {X : Type 0} (drawn : X → List ℕ) (seats : List X) (n : ℕ) (o : Owners) → n ≤ o.tasks
     → AreNumbersBelow n (flat_map drawn seats) → FirstDrawn drawn o.owned seats → AreSomeBelow o.tasks (owned_numbers o)
 AreSomeBelow-drawn drawn seats n o le numbers first x =

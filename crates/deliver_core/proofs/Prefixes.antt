@@ -1,4 +1,4 @@
--- beginnings of lists
+-- Prefixes of lists.
 use Rattle.std.proofs.Common.{◌≡◌, ◌<◌, Bool, List, [], ◌∷◌, ◌++◌, length, get_or, sym, ap, ◌∙◌, subst, arith, append_assoc, length-append}
 use Rattle.std.specs.List.{filter, flat_map, All}
 use Rattle.std.proofs.lemmas.Grind.{flat_map-append}

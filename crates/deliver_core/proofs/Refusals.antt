@@ -1,4 +1,4 @@
--- a collector refuses exactly what would break its history
+-- A collector refuses exactly the messages that would break its history.
 use Rattle.std.proofs.Common.{◌≡◌, ℕ, zero, suc, ◌+◌, ◌<◌, ◌≤◌, ◌⊎◌, Bool, true, false, cond, not, count_by, List, [], ◌∷◌, ◌++◌, length, take, None, Result}
 use Rattle.std.proofs.Common.{Ok, Err, refl, sym, ap, ◌∙◌, subst, inl, inr, arith, add-one, length-append}
 use Rattle.std.specs.List.{list_any}
@@ -19,7 +19,7 @@ use Rattle.deliver_core.specs.Scripts.{Content, batch_of, end_of, bye}
 use Rattle.deliver_core.proofs.Histories.{list_any-told, count_by-told, told-prefix, told-batch, told-end, marks_of-push_same, marks_of-push_other}
 use Rattle.deliver_core.proofs.Histories.{batch_marks-more, list_any-batch_marks, count_by-batch_marks, awaited-Ok, Ok-awaited}
 
--- a prefix of a script's marks is what some counter tells
+-- a prefix of a script's marks is represented by some counter
 counter_from_prefix : (task count : ℕ) (front : List Mark) → IsPrefix front (script_marks task count) → (p : Progress) × (front ≡ told task p)
 counter_from_prefix task count front prefix =
     let whole : front ++ prefix.0 ≡ script_marks task count = prefix.1 in
@@ -37,7 +37,7 @@ counter_from_prefix task count front prefix =
           (record { next = count; ended = true }, front_is ∙ take_all (length front) (script_marks task count) within)
     ]
 
--- one more mark keeps a history legal where some counter tells of its task's marks
+-- one more mark keeps a history legal if some counter represents its task's marks
 IsLegalHistory-push : (tasks : ℕ) (marks : List Mark) → IsLegalHistory tasks marks → (mark : Mark) → task_of mark < tasks → (p : Progress)
     → marks_of (task_of mark) (marks ++ mark ∷ []) ≡ told (task_of mark) p → IsLegalHistory tasks (marks ++ mark ∷ [])
 IsLegalHistory-push tasks marks legal mark known p tells = record {
@@ -79,7 +79,7 @@ module _ (c : Collection) (legal : IsLegalHistory c.tasks c.marks) (task next : 
       (marks_of-push_same task c.marks (End task next) refl ∙ ap (λ front. front ++ End task next ∷ []) counter.1
       ∙ ap (λ n. told task p ++ End task n ∷ []) (sym counted) ∙ sym (told-end task p going))
 
--- the last mark that a counter tells of
+-- the last mark that a counter represents
 last_told : (task next : ℕ) (ended : Bool) (front : List Mark) (mark : Mark)
     → front ++ mark ∷ [] ≡ batch_marks task next ++ cond ended (End task next ∷ []) []
     → (count : ℕ) × (front ≡ batch_marks task count) × ((mark ≡ Batch task count) ⊎ (mark ≡ End task count))
@@ -126,7 +126,7 @@ legal_from_None c (batch_of task number pairs) legal none = legal-batch c legal 
 legal_from_None c (end_of task count) legal none = legal-end c legal task count (end_refusal-None (awaited c task) count none)
 legal_from_None c (bye ok) legal none = subst (IsLegalHistory c.tasks) (sym (append-nil c.marks)) legal
 
--- what the next mark of a script brings is not refused
+-- the next mark of a script is not refused
 pub batch-None : (c : Collection) (task number : ℕ) (pairs : List (ℕ × ℕ)) → task < c.tasks → (count : ℕ)
     → IsPrefix (marks_of task (c.marks ++ Batch task number ∷ [])) (script_marks task count) → refusal_of c (batch_of task number pairs) ≡ None
 batch-None c task number pairs inside count prefix =

@@ -1,4 +1,4 @@
--- what a script holds: the marks of its task and, cut into batches, the whole row
+-- The contents of a script: the marks of its task and, cut into batches, the whole row.
 use Rattle.std.proofs.Common.{◌≡◌, ℕ, zero, suc, ◌+◌, ◌-◌, ◌*◌, ◌<◌, ◌≤◌, List, [], ◌∷◌, ◌++◌, map, length, take, refl, sym, ap, ◌∙◌, arith, add-one}
 use Rattle.std.proofs.Common.{length-take, length-drop}
 use Rattle.std.specs.List.{flat_map, range_with_len}
@@ -41,7 +41,7 @@ pairs_in-batches task size row (suc count) =
     ∙ sym (take-add (count * size) size row)
     ∙ ap (λ n. take n row) longer
 
--- so many batches hold the row, and one fewer don't
+-- this number of batches holds the row, and one fewer doesn't
 batches-reach : (size : ℕ) (row : List (ℕ × ℕ)) → 0 < size → length row ≤ batches_for size row * size
 batches-reach size row some =
     let whole = div-add-mod' (length row + (size - 1)) size in

@@ -1,4 +1,4 @@
--- what lists of scripts and of messages have of one task
+-- The messages of one task in lists of scripts and of messages.
 use Rattle.std.proofs.Common.{◌≡◌, ℕ, ◌+◌, ◌<◌, Option, Some, None, Bool, true, false, cond, eqb, List, [], ◌∷◌, ◌++◌, map, length, refl, sym, ap, ◌∙◌, arith}
 use Rattle.std.specs.List.{filter, flat_map, range_with_len}
 use Rattle.std.proofs.lemmas.Grind.{flat_map-append}
@@ -19,7 +19,7 @@ use Rattle.deliver_core.proofs.Scripts.{pairs_in-script}
 abbrev pub numbered : ℕ → List Task → List Task
 numbered number tasks = filter (λ (task : Task). eqb task.0 number) tasks
 
--- there are as many as the number stands in the list of numbers
+-- their number is the number of occurrences in the list of numbers
 pub length-numbered : (number : ℕ) (tasks : List Task) → times number (map (λ (task : Task). task.0) tasks) ≡ length (numbered number tasks)
 length-numbered number [] = refl
 length-numbered number (task ∷ tasks) =
@@ -83,7 +83,7 @@ of_said number before last =
     filter-append (is_of number) before (last_word last) ∙ ap (λ back. of_task number before ++ back) (of_last number last)
     ∙ append-nil (of_task number before)
 
--- what a port says of a task
+-- the messages of a port for a task
 pub of_part : (number size : ℕ) (tasks : List Task) (said : List Content) → IsPart size tasks said
     → IsPrefix (of_task number said) (scripts_of size (numbered number tasks))
 of_part number size tasks said part =
@@ -124,7 +124,7 @@ marks_of-contents number (end_of task count ∷ contents) =
     ]
 marks_of-contents number (bye ok ∷ contents) = marks_of-contents number contents
 
--- the pairs of the scripts of tasks, and of what a port says of them, are those of the rows
+-- the pairs of the scripts of tasks, and of a port's messages for them, are those of the rows
 pairs_in-scripts : (size : ℕ) (tasks : List Task) → 0 < size → flat_map pairs_in (scripts_of size tasks) ≡ flat_map (λ (task : Task). task.1) tasks
 pairs_in-scripts size [] some = refl
 pairs_in-scripts size (task ∷ tasks) some =

@@ -48,14 +48,14 @@ lower_at (suc l) n h =
       covers = inner.tight.contains;
     })
 
--- what stands below a lawful node holds what the node holds
+-- the nodes one level below a lawful node hold the entries of the node
 pub lower_step : (n : Node) → IsLawful n → IsOneLower n (lower n)
 lower_step n h = lower_at (level_of n) n h
 
 abbrev pub AreLawful : Node × Node → Type 0
 AreLawful p = IsLawful p.0 × IsLawful p.1
 
--- what holds of each two items of two lists holds of each of their pairs
+-- a fact of each two items of two lists is a fact of each of their pairs
 pub pairs_all : {A B : Type 0} (P : A → Type 0) (Q : B → Type 0) (R : A × B → Type 0) (xs : List A) (ys : List B) →
     ((x : A) (y : B) → P x → Q y → R (x, y)) → All P xs → All Q ys → All R (pairs xs ys)
 pairs_all P Q R xs ys make lefts rights =

@@ -49,7 +49,7 @@ module _ (relation : Relation) where
   stand es fs pair e f c d numbers holds =
       record { first = e; second = f; first_held = c; second_held = d; numbers = numbers; holds = holds }
 
-  -- nothing is found where no two entries stand in the relation
+  -- nothing is found if no two entries stand in the relation
   pub finds_none : (es fs : List Entry) → ((e f : Entry) → Contains es e → Contains fs f → ¬ (Holds relation e.shape f.shape)) → Finds relation es fs []
   finds_none es fs none = record {
     exact = λ pair. ((λ c. absurd (contains_none pair c)), (λ s. absurd (none s.first s.second s.first_held s.second_held s.holds)));

@@ -1,4 +1,4 @@
--- Going down round by round: what is known after each round, and at the end.
+-- Going down round by round: the facts known after each round, and at the end.
 use Rattle.std.proofs.Common.{arith, ◌≡◌, ℕ, suc, ◌+◌, ◌<◌, ◌≤◌, List, [], length, sym, subst, add-one, inl, inr}
 use Rattle.std.specs.Prelude.{All}
 use Rattle.std.specs.List.{flat_map}
@@ -21,7 +21,7 @@ all_meeting tasks lawful meet k d lt =
     let both = lawful k d lt in
     record { left = both.0; right = both.1; meet = meet k d lt }
 
--- the tasks after so many rounds
+-- the tasks after this number of rounds
 pub record AreReached (above : List (Node × Node)) (d : ℕ) (tasks : List (Node × Node)) : Type 0 where
   pub lawful : All AreLawful above
   pub here : AreAt above d tasks
@@ -80,7 +80,7 @@ reached_cut above d cut tasks h e = record {
   greatest = λ lt. absurd (omega arith);
 }
 
--- the same, where pairs that don't meet were left out at the top
+-- the same, if pairs that don't meet were left out at the top
 pub deepest_kept : (above kept : List (Node × Node)) (cut : ℕ) (tasks : List (Node × Node)) → All AreLawful above → IsKept CoversMeet above kept →
     AreDeepest kept cut tasks → AreDeepest above cut tasks
 deepest_kept above kept cut tasks lawful k h = record {

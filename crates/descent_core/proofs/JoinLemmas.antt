@@ -51,7 +51,7 @@ two_places f (x ∷ xs) (suc i) zero c d differ h k = omega (arith, sum_by-cons 
 two_places f (x ∷ xs) (suc i) (suc j) c d differ h k =
     omega (arith, sum_by-cons f x xs, two_places f xs i j c d (λ same. differ (ap suc same)) (omega arith) (omega arith))
 
--- the place of an item, as a look-up tells it
+-- the index of an item, as a lookup returns it
 contains_at : {T : Type 0} (xs : List T) (k : ℕ) (x : T) → slice_get xs k ≡ Some x → Contains xs x
 contains_at xs k x at = (k, slice_get_within xs k x at, get_or_from_slice_get xs k x x at)
 

@@ -1,4 +1,5 @@
--- The part of a list that a fact picks out, when lists are joined or each item gives way to a list.
+-- The sublist of the items that satisfy a condition, when lists are joined or items are replaced by
+-- lists.
 use Rattle.std.proofs.Common.{◌≡◌, List, [], ◌∷◌, ◌++◌, refl, ap, inl, inr}
 use Rattle.std.specs.Prelude.{◌⊎◌, All}
 use Rattle.std.specs.List.{flat_map}
@@ -11,7 +12,7 @@ module _ {T : Type 0} (P : T → Type 0) where
   kept_append (kept h p) q = kept h (kept_append p q)
   kept_append (left_out h p) q = left_out h (kept_append p q)
 
-  -- what is kept of two lists joined, by the two lists
+  -- the items kept of two concatenated lists, by the two lists
   pub record IsSplit (xs zs ws : List T) : Type 0 where
     pub front : List T
     pub back : List T
@@ -44,7 +45,7 @@ module _ {T : Type 0} (P : T → Type 0) where
   kept_all [] h = none
   kept_all (x ∷ xs) h = kept (All-head P x xs h) (kept_all xs (All-tail P x xs h))
 
-  -- where it can be told of each item, something is kept
+  -- if the condition is decidable for each item, there is a sublist
   pub kept_some : ((x : T) → P x ⊎ ¬ (P x)) → (xs : List T) → (ys : List T) × IsKept P xs ys
   kept_some tell [] = ([], none)
   kept_some tell (x ∷ xs) =
@@ -60,7 +61,7 @@ module _ {T : Type 0} (P : T → Type 0) where
   kept_hold (left_out h k) = kept_hold k
 
   module _ (Q : T → Type 0) where
-    -- what holds of each item holds of each that is kept
+    -- a fact of each item is a fact of each item that is kept
     pub kept_too : {xs ys : List T} → IsKept P xs ys → All Q xs → All Q ys
     kept_too none q = q
     kept_too (kept {x} {xs} {ys} h k) q = All-cons Q x ys (All-head Q x xs q) (kept_too k (All-tail Q x xs q))

@@ -1,4 +1,4 @@
--- What stands one level below a node.
+-- The nodes one level below a node.
 use Rattle.std.proofs.Common.{arith, ◌≡◌, ℕ, zero, suc, ◌+◌, ◌-◌, ◌<◌, ◌≤◌, Bool, false, max, List, [], ◌∷◌, length, get_or, map, refl, sym, ◌∙◌, subst}
 use Rattle.std.specs.Prelude.{◌↔◌, All, IsTrue}
 use Rattle.std.specs.List.{flat_map, fold}
@@ -31,11 +31,11 @@ top_lower n below h =
     fold_max-le (level_of n - 1) 0 below (omega arith)
     (All-weaker (λ m. level_of m ≡ level_of n - 1) (λ m. level_of m ≤ level_of n - 1) (λ m e. omega arith) below h.levels)
 
--- a node that is no leaf stands above level 0
+-- a node that is no leaf has a level greater than 0
 pub above_zero : (n : ℕ) (leaf : Bool) → leaf ≡ false → (IsTrue leaf ↔ (n ≡ 0)) → 0 < n
 above_zero zero leaf e h = absurd (false≢true (sym e ∙ h.1 refl))
 above_zero (suc n) leaf e h = omega arith
 
--- what holds of each item of a list holds of one that was read of it
+-- a fact of each item of a list is a fact of one read from it
 pub at_place : {T : Type 0} (P : T → Type 0) (xs : List T) (i : ℕ) (x : T) → All P xs → i < length xs → x ≡ get_or xs i x → P x
 at_place P xs i x h lt at = subst P (sym at) (h i x lt)

@@ -45,7 +45,7 @@ meet_or_not a b =
 covers_meet_or_not : (p : Node × Node) → CoversMeet p ⊎ ¬ (CoversMeet p)
 covers_meet_or_not p = meet_or_not p.0.cover p.1.cover
 
--- what is kept of a list always is some list
+-- the sublist that is kept of a list always exists
 pub some_met : (pairs : List (Node × Node)) → (met : List (Node × Node)) × IsKept CoversMeet pairs met
 some_met pairs = kept_some CoversMeet covers_meet_or_not pairs
 
@@ -117,7 +117,7 @@ takes_not_one left right old apart few = record { met = []; kept = left_out apar
 pub full_for_one : (left right : Node) (old : List (Node × Node)) → CoversMeet (left, right) → length old ≡ most_tasks → AreTooMany (alone left right) old
 full_for_one left right old meet full = record { met = (left, right) ∷ []; kept = kept meet none; many = omega arith }
 
--- what was taken of all items
+-- the result of adding all items
 pub taken_all : {T : Type 0} (g : T → List (Node × Node)) (xs : List T) (i : ℕ) (old new : List (Node × Node)) → length xs ≤ i →
     AreTaken (flat_map g (take i xs)) old new → AreTaken (flat_map g xs) old new
 taken_all g xs i old new le h = subst (λ ys. AreTaken (flat_map g ys) old new) (take_all i xs le) h

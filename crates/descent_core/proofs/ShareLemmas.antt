@@ -1,4 +1,4 @@
--- The tasks of a plan share out the entries of two trees.
+-- The tasks of a plan divide the entries of two trees.
 use Rattle.std.proofs.Common.{arith, ◌≡◌, ℕ, zero, suc, ◌*◌, ◌≤◌, cond, List, [], ◌∷◌, get_or, map, refl, sym, ap, subst, inl, inr}
 use Rattle.std.specs.Prelude.{◌⊎◌, All, Contains, count_by}
 use Rattle.std.specs.List.{flat_map, sum_by}

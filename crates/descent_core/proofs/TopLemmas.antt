@@ -92,7 +92,7 @@ shares_none es fs nothing = record {
   once = λ i j. omega arith;
 }
 
--- what the tasks at a depth below the roots share
+-- the common facts of the tasks at a depth below the roots
 pub shares_below : (left right : Option Node) (d : ℕ) (tasks : List (Node × Node)) → IsTree left → IsTree right → AreAt (roots left right) d tasks →
     SharesMet (entries_in left) (entries_in right) tasks
 shares_below None right d tasks l r k =
@@ -107,7 +107,7 @@ pub shares_plan : (left right : Option Node) (cut : ℕ) (tasks : List (Node × 
     SharesMet (entries_in left) (entries_in right) tasks
 shares_plan left right cut tasks l r plan = shares_below left right plan.depth tasks l r plan.tasks_are
 
--- what the methods of a plan rest on
+-- the invariant that the methods of a plan rely on
 pub tasks_of_plan : (left right : Option Node) (cut : ℕ) (tasks : List (Node × Node)) → IsTree left → IsTree right → IsPlan left right cut tasks →
     AreTasks tasks
 tasks_of_plan left right cut tasks l r plan =

@@ -14,11 +14,11 @@ use Rattle.draw_core.specs.Marks.{has_left, has_right}
 use Rattle.draw_core.specs.Pictures.{closing, element, group, legend, canvas, opening, picture_of}
 use Rattle.draw_core.specs.Views.{View, drawn_height, greatest_margin, margin_of, view_around, view_of}
 
--- a piece, and what comes after it
+-- a piece, and the text after it
 pub chain : (s t u a b : List ℕ) → t ≡ s ++ a → u ≡ t ++ b → u ≡ s ++ (a ++ b)
 chain s t u a b first rest = rest ∙ ap (λ l. l ++ b) first ∙ append_assoc s a b
 
--- the features of a list, where two tests agree
+-- the features of a list, if two tests agree
 pub elements_same : (view : View) (f g : ℕ → Bool) → ((n : ℕ) → f n ≡ g n) → (fs : List Feature)
     → flat_map (λ x. element view (f x.number) x) fs ≡ flat_map (λ x. element view (g x.number) x) fs
 elements_same view f g same [] = refl
@@ -79,7 +79,7 @@ group_is : (side : List ℕ) (v w : View) (f g : ℕ → Bool) (layer : Contents
 group_is side v w f g layer t u view same more =
     more ∙ ap (λ l. t ++ l) (group_same side v f g layer same ∙ ap (λ x. group side x g layer) view)
 
--- what a push says that it did, where it succeeded
+-- the effect of a push, if it succeeded
 pub on_push : {T E : Type 0} (r : Result T E) (t u s : List ℕ) → u ≡ (if is_ok r then t ++ s else t) → OnOk r (u ≡ t ++ s)
 on_push (Ok x) t u s e = e
 on_push (Err e) t u s h = tt

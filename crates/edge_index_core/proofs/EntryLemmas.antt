@@ -62,7 +62,7 @@ all_entries es n entries low high h = record {
   each = λ k lt. h.each k (omega (arith, lt));
 }
 
--- what one list holds, another with the same items holds
+-- a list with the same items as another has the items of that
 pub counted : (e : Entry) (xs : List Entry) (k : ℕ) → k < length xs → get_or xs k e ≡ e → 0 < count_by (eq-value.it e) xs
 counted e [] k lt at = absurd (omega (arith, lt))
 counted e (x ∷ xs) zero lt at =

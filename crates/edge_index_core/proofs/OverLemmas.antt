@@ -61,7 +61,7 @@ lower u v m n hu hv hm hn =
     plain : (t j k : ℤ) → t ≡ pos 0 -ℤ (j +ℤ k) → pos 0 ≤ℤ j → pos 0 <ℤ k → t <ℤ pos 0
     plain t j k e h l = omega (arith, ints)
 
--- the same, where the point lies between them the other way
+-- the same, if the point lies between them the other way
 upper : (u v m n : ℤ) → u <ℤ pos 0 → v ≤ℤ pos 0 → m <ℤ pos 0 → n <ℤ pos 0 → pos 0 <ℤ (u *ℤ m +ℤ v *ℤ n)
 upper u v m n hu hv hm hn =
     plain _ _ _ (ring u v m n) (times_positive (pos 0 -ℤ u) (pos 0 -ℤ m) (omega (arith, ints)) (omega (arith, ints)))

@@ -1,4 +1,4 @@
--- A scan of the edges of a tree is a scan of all edges, since what is left out changes nothing.
+-- A scan of the edges of a tree is a scan of all edges, since the skipped edges change nothing.
 use Rattle.std.proofs.Common.{arith, ◌≡◌, ◌<◌, ◌+◌, ℕ, Bool, true, false, cond, ◌||◌, List, [], ◌∷◌, ◌++◌, length, get_or, take, map, refl, sym, ap, subst, ◌∙◌, append_assoc, append-nil, All}
 use Rattle.std.specs.Prelude.{count_by, nat_lt}
 use Rattle.std.specs.List.{list_any, flat_map}

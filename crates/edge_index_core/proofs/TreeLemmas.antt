@@ -1,4 +1,4 @@
--- A tree over the boxes of edges: what its nodes hold.
+-- A tree over the boxes of edges, and the entries of its nodes.
 use Rattle.std.proofs.Common.{arith, ◌≡◌, ◌≤◌, ◌<◌, ◌+◌, ◌-◌, ℕ, max, List, [], ◌∷◌, length, get_or, map, sym, subst, All}
 use Rattle.std.specs.Prelude.{pos, nat_abs, ◌<ℤ◌, ℤ}
 use Rattle.std.specs.List.{flat_map, fold}

@@ -1,4 +1,4 @@
--- Rows that records say in turn: more of them, and what they give a layer.
+-- Rows that are the contents of records in order: adding more of them, and their effect on a layer.
 use Rattle.std.proofs.Common.{◌≡◌, ◌≢◌, ◌∙◌, ◌+◌, ◌<◌, ℕ, Bool, true, false, List, [], ◌∷◌, ◌++◌, All, length, Option, Some, None, Result, Ok, Err, refl, sym, subst, ap, inl, inr, arith, append_assoc}
 use Rattle.std.proofs.lemmas.List.Elements.{All-nil}
 use Rattle.std.specs.declared.alloc.Global.{Global}
@@ -58,7 +58,7 @@ all_rows_append (rows ∷ a) b = ap (λ others. rows.items ++ others) (all_rows_
 module _ (scale : Scale) where
   -- ---- what records say
 
-  -- what a row says doesn't depend on its number
+  -- the content of a row doesn't depend on its number
   pub says-any : (n : ℕ) (fields : Record) (content : RowContent) → RowSays scale n fields (Ok content) → Says scale fields content
   says-any n [] content says m = let none = says in cc
   says-any n (id ∷ []) content says m = let none = says in cc
@@ -84,7 +84,7 @@ module _ (scale : Scale) where
   say-append [] b (r ∷ rows) others left say more = absurd say
   say-append (first ∷ a) b (r ∷ rows) others left say more = (say.0, say-append a b rows others left say.1 more)
 
-  -- and then what is left
+  -- and then the remaining rows
   pub say-then : (a b : List Record) (rows : List ReadRow) → SayInTurn scale a rows [] → SayInTurn scale (a ++ b) rows b
   say-then a b [] say = rw say refl
   say-then [] b (r ∷ rows) say = absurd say
@@ -98,7 +98,7 @@ module _ (scale : Scale) where
 
   -- ---- what a layer is given
 
-  -- a layer that takes these rows, and then what is left
+  -- a layer that accepts these rows, and then the remaining ones
   pub say-give : (n m : ℕ) (records : List Record) (rows : List ReadRow) (left : List Record) (layer next : Contents) (answer : Result Contents ReadFault)
       → SayInTurn scale records rows left → n ≡ layer.next + 1 → n + length rows ≡ m → with_rows layer rows ≡ Ok next
       → RowsGive (LayerRowGives scale) m next left answer → RowsGive (LayerRowGives scale) n layer records answer
@@ -182,7 +182,7 @@ most_rounds unread (Ok true) = length (records_unread unread) + 1
 most_rounds unread (Ok false) = 0
 most_rounds unread (Err fault) = 0
 
--- what a layer is given by a batch and what is behind it
+-- the effect on a layer of a batch and of what follows it
 module _ (scale : Scale) where
   -- the rows that are left give a layer this
   abbrev pub Gives : Unread → Contents → Result Contents ReadFault → Type 0

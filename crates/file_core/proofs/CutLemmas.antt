@@ -10,7 +10,7 @@ use Rattle.csv.specs.declared.parser.State.TheVariants as st
 use Rattle.file_core.proofs.RecordLemmas.{records-enough, takes}
 use Rattle.file_core.specs.Cuts.{IsClosed, state_after, EndsBetween}
 
--- in a field or behind a quote
+-- in a field or after a quote
 abbrev pub is_inside : State → Bool
 is_inside st.StartRecord = false
 is_inside st.AfterCr = false
@@ -21,7 +21,8 @@ is_inside st.InQuoted = true
 is_inside st.AfterQuote = true
 is_inside st.InEscape = true
 
--- a record that ends in the first part is the whole text's, with the second part behind what is left
+-- a record that ends in the first part is the whole text's, with the rest of the first part and the
+-- second after it
 record Carries (s : State) (a b : List ℕ) (fields : List (List ℕ)) (field : List ℕ) (p : Read) : Type 0 where
   pub same : next_record default_config s fields field (a ++ b) ≡ Some (p.0, p.1, p.2 ++ b)
   pub after : state_after p.1 p.2 ≡ state_after s a
@@ -181,7 +182,7 @@ skips (c ∷ a) b s between h = by (is_end (step default_config s c).1) refl (sk
 
 -- ---- records
 
--- behind a carriage return the records are those from the start of a record
+-- after a carriage return the records are those from the start of a record
 pub step-after_cr : (c : ℕ) → step default_config st.AfterCr c ≡ step default_config st.StartRecord c
 step-after_cr c = by (c == 10) (c == 13) refl refl
   where
@@ -301,7 +302,7 @@ open-end (c ∷ a) s fields field p h unended =
         rw (← same) (inr (a, refl, refl))
     by false e more = more (rw e at h)
 
--- where no record ends with a line feed, a text that does ends between records
+-- if no record ends with a line feed, a text that does ends between records
 abbrev ClosedBetween : ℕ → Type 0
 ClosedBetween n =
     (b : List ℕ) (t : State) → ends_at_end t ≡ false → length (b ++ 10 ∷ []) < n

@@ -1,4 +1,4 @@
--- What a file gives, from its header and its rows.
+-- The result of a file, from its header and its rows.
 use Rattle.std.proofs.Common.{◌≡◌, ◌≢◌, ℕ, ◌+◌, ◌<◌, ◌≤◌, Bool, true, false, List, [], ◌∷◌, length, Option, Some, None, IfSome, Result, Ok, Err, if◌then◌else◌}
 use Rattle.std.proofs.Common.{refl, ap, inl, inr, arith, le-ltb, lt-ltb}
 use Rattle.csv.specs.Reading.{is_bom, strip_bom}
@@ -12,7 +12,7 @@ use Rattle.file_core.specs.Sources.{IsReadingFault}
 use Rattle.file_core.proofs.RecordLemmas.{length_records_from}
 
 module _ (columns : List (List ℕ)) (bytes : List ℕ) (few : length bytes ≤ most_file_bytes) where
-  -- the rows behind a header of these columns
+  -- the rows after a header with these columns
   pub rows-headed : (header : Record) (rows : List Record) → records_of bytes ≡ header ∷ rows → IsHeader columns header → AreRows columns bytes (Ok rows)
   rows-headed header rows records headed = rw (le-ltb most_file_bytes (length bytes) few, records) (inl (headed, refl))
 

@@ -13,7 +13,7 @@ names columns = map (λ c. c.now) columns
 abbrev pub small : List ℕ → List ℕ
 small name = map to_ascii_lowercase name
 
--- what stands behind the last column
+-- the text after the last column
 abbrev pub nothing : Bor (List ℕ)
 nothing = record { ref_ptr = (0, 0); now = [] }
 

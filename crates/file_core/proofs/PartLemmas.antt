@@ -199,7 +199,7 @@ header-unread bytes line rest is few headed plain =
       );
     }
 
--- a file that is cut behind its first line
+-- a file that is cut after its first line
 pub header_cut : (bytes : List ℕ) (r : Option (Bor (List ℕ))) → IfSome r (λ rest. IsHeaded bytes rest.now)
     → IfSome r (λ rest. IsUnreadFile bytes (Text rest 0))
 header_cut bytes None h = h

@@ -14,7 +14,7 @@ use Rattle.csv.specs.declared.parser.State.{State}
 use Rattle.csv.specs.declared.parser.State.TheVariants as st
 use Rattle.csv.specs.declared.parser.Terminator.TheVariants as term
 
--- where a byte ends a record, the machine stands between two records
+-- if a byte ends a record, the machine is between two records
 in_field-end : (c : ℕ) → is_end (in_field default_config c).1 ≡ true → ends_at_end (in_field default_config c).0 ≡ false
 in_field-end c h = comma (c == 44) refl
   where
@@ -80,7 +80,7 @@ step-end st.AfterCr c h = by (c == 10) refl
         (λ b. if b then (st.StartRecord, act.Skip) else start_record default_config c) e in
         ap (λ t. ends_at_end t.0) same ∙ start_record-end c (sym (ap (λ t. is_end t.1) same) ∙ h)
 
--- what a record leaves: no more bytes than there were, and the machine between two records
+-- the state after a record: no more bytes than before, and the machine between two records
 record Leaves (xs : List ℕ) (p : Read) : Type 0 where
   pub fewer : length p.2 ≤ length xs
   pub between : ends_at_end p.1 ≡ false
@@ -160,7 +160,7 @@ length_records_from (suc n) s xs = by (next_record default_config s [] [] xs) (�
     by None few = omega arith
     by (Some p) few = let left = few p in omega arith
 
--- what a read of a record says of the records left
+-- the consequence of reading a record for the remaining records
 module _ (a b : Reader (Bor (List ℕ))) (fields : Record) (reading : IsBetweenRecords a) where
   unrolled : records_left a ≡ records_next (records_from default_config (length (unread a))) (next_record default_config (reader_state a) [] [] (unread a))
   unfolding records_from

@@ -9,7 +9,7 @@ use Rattle.geom_core.specs.Joined.{same_ends}
 use Rattle.geom_core.proofs.HeldLemmas.{begins_within, within_begins, no_later_lo, no_later_hi, lo_no_later, hi_no_later}
 use Rattle.geom_core.proofs.SpanLemmas.{common_line, common_order, within_ends}
 
--- a test behind one that was passed
+-- a test after one that succeeded
 pub both_hold : {P Q : Type 0} (t r : Bool) → t ≡ true → IsTrue t ↔ P → IsTrue r ↔ Q → IsTrue r ↔ (P × Q)
 both_hold t r e p q = (λ f. (p.0 e, q.0 f), λ h. q.1 h.1)
 
@@ -26,7 +26,7 @@ ends_in a b f =
     let high = f (line a.hi) (omega (arith, ints), omega (arith, ints)) in
     (omega (arith, ints), omega (arith, ints))
 
--- the ends of two intervals, as they are held, tell whether they share a number
+-- the stored ends of two intervals decide if they share a number
 pub meeting_held : (a b : Span) → int_le (to_z w64 (of_z w64 a.lo)) (to_z w64 (of_z w64 b.hi)) ≡ true → int_le (to_z w64 (of_z w64 b.lo)) (to_z w64 (of_z w64 a.hi)) ≡ true
     → (u : ℤ) × IsWithin a u × IsWithin b u
 meeting_held a b h k = common_line a b (begins_within a b h) (begins_within b a k)
@@ -56,7 +56,7 @@ axes_in a b f = (
   λ v h. (f (line a.x.lo) v ((omega (arith, ints), omega (arith, ints)), h)).1,
 )
 
--- where each interval begins before the other ends, or both have the same ends, their inner parts meet
+-- if each interval begins before the other ends, or both have the same ends, their inner parts meet
 pub crossing_inner : (a b : Span) → a.lo <ℤ b.hi → b.lo <ℤ a.hi → (u : ℤ) × IsInner a u × IsInner b u
 crossing_inner a b h k =
     by_lt_z a.lo a.hi
@@ -71,7 +71,7 @@ pub same_inner : (a b : Span) → a.lo ≡ b.lo → a.hi ≡ b.hi → (u : ℤ) 
 same_inner a b p q = let w = some_inner a in
     let I : Span → Type 0 = λ s. IsInner s w.0 in (w.0, w.1, subst I (same_ends a b p q) w.1)
 
--- and not where neither is so
+-- and they don't if neither holds
 pub apart_inner : (a b : Span) (u : ℤ) → IsInner a u → IsInner b u → ((a.lo <ℤ b.hi) × (b.lo <ℤ a.hi)) ⊎ ((a.lo ≡ b.lo) × (a.hi ≡ b.hi))
 apart_inner a b u h k =
     by_lt_z a.lo b.hi

@@ -15,7 +15,7 @@ in_cover_first a b u v h = (within_joined_first a.x b.x u h.0, within_joined_fir
 pub in_cover_second : (a b : Shape) → IsIn b (cover_of a b)
 in_cover_second a b u v h = (within_joined_second a.x b.x u h.0, within_joined_second a.y b.y v h.1)
 
--- a shape that contains another reaches from before its first corner to behind its second
+-- a shape that contains another extends from before its first corner to after its second
 record Reaches (s a : Shape) : Type 0 where
   from_x : s.x.lo ≤ℤ a.x.lo
   to_x : a.x.hi ≤ℤ s.x.hi

@@ -7,7 +7,7 @@ use Rattle.geom_core.specs.Limits.{greatest_coordinate}
 use Rattle.geom_core.specs.Cells.{line, IsWithin}
 use Rattle.geom_core.specs.Shapes.{joined}
 
--- where neither interval ends before the other begins, the later beginning is in both
+-- if neither interval ends before the other begins, the later start is in both
 pub common_line : (a b : Span) → a.lo ≤ℤ b.hi → b.lo ≤ℤ a.hi → (u : ℤ) × IsWithin a u × IsWithin b u
 common_line a b h k =
     by_lt_z a.lo b.lo
@@ -20,7 +20,7 @@ within_joined_first a b u h = (omega (arith, ints, clamps), omega (arith, ints, 
 pub within_joined_second : (a b : Span) (u : ℤ) → IsWithin b u → IsWithin (joined a b) u
 within_joined_second a b u h = (omega (arith, ints, clamps), omega (arith, ints, clamps))
 
--- an interval that has the ends of two others has what lies between them
+-- an interval that contains the ends of two others contains the numbers between them
 pub within_joined_least : (a b s : Span) (u : ℤ) → s.lo ≤ℤ a.lo → s.lo ≤ℤ b.lo → a.hi ≤ℤ s.hi → b.hi ≤ℤ s.hi → IsWithin (joined a b) u → IsWithin s u
 within_joined_least a b s u p q r t h = (omega (arith, ints, clamps), omega (arith, ints, clamps))
 
@@ -31,7 +31,7 @@ length_bound a = omega (arith, ints)
 pub length_held : (a : Span) (n : ℕ) → n ≡ nat_abs (a.hi -ℤ a.lo) → n ≤ 2 * greatest_coordinate
 length_held a n e = rw e (length_bound a)
 
--- where a number is in two intervals, each begins no later than the other ends
+-- if a number is in two intervals, each begins no later than the other ends
 pub common_order : (a b : Span) (u : ℤ) → IsWithin a u → IsWithin b u → a.lo ≤ℤ b.hi
 common_order a b u h k = omega (arith, ints)
 

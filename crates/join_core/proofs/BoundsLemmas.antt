@@ -6,7 +6,8 @@ use Rattle.report_core.specs.CsvTexts.{csv_text}
 use Rattle.join_core.specs.CsvWriting.{HasRows, AddsRow}
 use Rattle.join_core.specs.Bounds.{bounds_header, bounds_row, bounds_text}
 
--- the rows that a writer has, and those of the features that are left, are those of these features
+-- the rows that a writer has, followed by those of the remaining features, are those of these
+-- features
 pub record HasFront (writer : Writer (Vec ℕ Global)) (left features : List Feature) : Type 0 where
   pub rows : List (List (List ℕ))
   pub written : HasRows writer rows
@@ -20,7 +21,7 @@ header_written old writer left features empty more same = record {
   all = ap (λ fs. bounds_header ∷ map bounds_row fs) same;
 }
 
--- one row more
+-- one more row
 pub row_written : (old writer : Writer (Vec ℕ Global)) (left left' features : List Feature) (f : Feature) → HasFront old left features
     → left ≡ f ∷ left' → AddsRow old writer (bounds_row f) → HasFront writer left' features
 row_written old writer left left' features f front is more = record {
@@ -29,13 +30,13 @@ row_written old writer left left' features f front is more = record {
   all = append_assoc front.rows (bounds_row f ∷ []) (map bounds_row left') ∙ ap (λ fs. front.rows ++ map bounds_row fs) (sym is) ∙ front.all;
 }
 
--- the header was pushed
+-- the header was written
 pub header_pushed : {T E : Type 0} (r : Result T E) (x : T) (old writer : Writer (Vec ℕ Global)) (left features : List Feature)
     → OnOk r (AddsRow old writer bounds_header) → r ≡ Ok x → HasRows old [] → left ≡ features → HasFront writer left features
 header_pushed (Ok y) x old writer left features more ok empty same = header_written old writer left features empty more same
 header_pushed (Err e) x old writer left features more ok empty same = absurd cc
 
--- no feature is left
+-- no feature remains
 pub all_written : (writer : Writer (Vec ℕ Global)) (left features : List Feature) (text : List ℕ) → HasFront writer left features → left ≡ []
     → ((rows : List (List (List ℕ))) → HasRows writer rows → text ≡ csv_text rows) → text ≡ bounds_text features
 all_written writer left features text front none kept =

@@ -31,7 +31,7 @@ row_pushed old new row grown ended clean setup = λ rows had.
           ∙ ap Some (flat_map_more (row_text default_writer) [] rows row);
     }
 
--- what the writer has kept is the text of its rows
+-- the writer has stored the text of its rows
 pub text_kept : (writer : Writer (Vec ℕ Global)) (text : Vec ℕ Global) (rows : List (List (List ℕ)))
     → Keeps (text_written contents_of writer) (contents_of text) → HasRows writer rows → text.items ≡ csv_text rows
 text_kept writer text rows kept had =

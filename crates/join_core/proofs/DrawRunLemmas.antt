@@ -1,4 +1,4 @@
--- The answers of a picture of files.
+-- The results of a picture of files.
 use Rattle.std.proofs.Common.{◌≡◌, ◌<◌, ℕ, List, Result, Ok, Err, IsErrAnd, IsErrOf, IfErr, refl, sym, subst}
 use Rattle.relation_core.specs.declared.relation.Relation.{Relation}
 use Rattle.layer_core.specs.Edits.{Layers}
@@ -25,7 +25,7 @@ pub pairs_drawn : (relation : Relation) (left right : Contents) (pairs list : Li
 pairs_drawn relation left right pairs list text same joined is =
     (pairs, joined, subst (λ (l : List (ℕ × ℕ)). text ≡ picture_of left right l) same is)
 
--- of the late faults only that of too many features blames the input
+-- among the late faults, only that of too many features blames the input
 late_blamed : (relation : Relation) (files : JoinFiles) (layers : Layers) (e : RunFault) → LayersGive files (Ok layers)
     → (e ≡ TooManyToDraw → most_drawn < features_of layers) → IsLateDrawFault e → BlamesInput e → DrawGives relation files (Err e)
 late_blamed relation files layers TooManyToDraw given many late blame = too_many layers given (many refl)
@@ -50,7 +50,7 @@ join_is_draw : (files : JoinFiles) (e : RunFault) → IsJoinFault files e → Is
 join_is_draw files TooManyToDraw is = tt
 join_is_draw files e is = is
 
--- what `?` hands on is one of a picture's faults
+-- an error that `?` returns is one of a picture's faults
 pub is_draw_fault : {T : Type 0} (files : JoinFiles) (out : Result T RunFault) (e : RunFault) → IsErrAnd out (λ x. x ≡ e) → IsJoinFault files e
     → IfErr out (IsDrawFault files)
 is_draw_fault files (Ok x) e h fault = absurd h

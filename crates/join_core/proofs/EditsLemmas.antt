@@ -1,4 +1,4 @@
--- Edits that are made in turn, up to the first at which they end.
+-- Edits that are applied in order, up to the first at which they end.
 use Rattle.std.proofs.Common.{◌≡◌, ◌+◌, ◌<◌, ◌≤◌, ℕ, suc, Bool, true, false, Option, Some, None, Result, Ok, Err, List, [], ◌∷◌, ◌++◌, length, get_or, take, drop, map}
 use Rattle.std.proofs.Common.{refl, sym, ap, subst, ◌∙◌, arith, if◌then◌else◌, not, is_some, nat_le, take-append-drop, drop-cons, take_all}
 use Rattle.std.proofs.lemmas.List.{take_more, map-append, take-map, length-take-le, length-map}
@@ -13,7 +13,7 @@ use Rattle.layer_core.specs.Refusals.{AnswersWith, is_id}
 use Rattle.join_core.specs.Inputs.{BlamesEdit}
 use Rattle.join_core.specs.JoinRuns.{AreMade, EndsAt}
 
--- what edits give that follow others
+-- the result of edits that follow others
 gives_append : (row : ℕ) (layers made : Layers) (xs ys : List EditContent) → edits_give row layers xs ≡ Ok made
     → edits_give row layers (xs ++ ys) ≡ edits_give (row + length xs) made ys
 gives_append row layers made [] ys is =
@@ -29,7 +29,7 @@ gives_append row layers made (x ∷ xs) ys is =
     go (Some f) front all is rest = absurd (let bad : (let r : Result Layers (ℕ × LayerFault) = Err (row, f) in r) ≡ Ok made = is in cc)
     go None front all is rest = rest is
 
--- memory is no reason to refuse an edit
+-- lack of memory is no reason to refuse an edit
 insert_never : (a b c : Bool) → (if a then Some BadId else if b then Some DoubleId else if c then Some LayerFull else None) ≡ Some Memory → ⊥
 insert_never true b c is = cc
 insert_never false true c is = cc
@@ -60,7 +60,7 @@ err_unrefused : (T : Type 0) (r : Option LayerFault) → (r ≡ Some Memory → 
 err_unrefused T (Some g) never h = absurd (never (let same : (let out : Result T LayerFault = Err Memory in out) ≡ Err g = h in cc))
 err_unrefused T None never h = refl
 
--- so many edits are made, of which the last is on this row
+-- this number of edits is applied, and the last of them is on this row
 pub record Done (row index : ℕ) (start now : Layers) (edits : List Edit) : Type 0 where
   pub row_is : row ≡ index
   pub made : edits_give 1 start (map content_of (take index edits)) ≡ Ok now
@@ -85,7 +85,7 @@ module _ (row index : ℕ) (start now : Layers) (edits : List Edit) (x : Edit) (
       ap (edits_give 1 start) longer ∙ gives_append 1 start now front (content_of x ∷ []) done.made
       ∙ ap (λ t. unless_refused (1 + length front) t (Ok (edited_layers now (content_of x)))) (is ∙ none)
 
-  -- one more edit is made
+  -- one more edit is applied
   pub one_done : {T : Type 0} (u : T) (after : Layers) → after ≡ edited_layers now (content_of x) → AnswersWith (edit_refusal now (content_of x)) (Ok u)
       → Done (row + 1) (index + 1) start after edits
   one_done u after is answers = record {
@@ -123,7 +123,7 @@ module _ (row index : ℕ) (start now : Layers) (edits : List Edit) (x : Edit) (
     want = λ is. want_at (err_unrefused T _ (never_memory now (content_of x)) (subst (λ (e : LayerFault). AnswersWith {T = T} (edit_refusal now (content_of x)) (Err e)) is answers));
   }
 
--- all are made
+-- all edits are applied
 pub all_done : (row index : ℕ) (start now : Layers) (edits : List Edit) → Done row index start now edits → length edits ≤ index
     → edits_give 1 start (map content_of edits) ≡ Ok now
 all_done row index start now edits done all = ap (λ l. edits_give 1 start (map content_of l)) (sym (take_all index edits all)) ∙ done.made

@@ -1,4 +1,4 @@
--- The feature that a look-up by number finds.
+-- The feature that a lookup by number finds.
 use Rattle.std.proofs.Common.{◌≡◌, ℕ, suc, ◌<◌, ◌⊎◌, inl, inr, Bool, true, false, List, [], ◌∷◌, Option, Some, None, length, get_or, refl, sym, ap, subst, ◌∙◌}
 use Rattle.std.proofs.Common.{arith, AllPairs, Contains, nat_eq, cond, zero, eq-eqb}
 use Rattle.std.specs.List.{find}
@@ -47,7 +47,7 @@ held_at (g ∷ fs) f (suc k) rising within at =
     (higher_differs g.number f.number (subst (λ (h : Feature). g.number < h.number) at_f lower))
     ∙ held_at fs f k (λ i j d lt later. rising (suc i) (suc j) d (omega arith) (omega arith)) (omega arith) at
 
--- a look-up by number finds the feature that has it
+-- a lookup by number finds the feature that has it
 pub held_by_number : (fs : List Feature) (f : Feature) → AllPairs (λ a b. a.number < b.number) fs → Contains fs f → find (has_number f.number) fs ≡ Some f
 held_by_number fs f rising c = held_at fs f c.0 rising c.1 c.2
 
@@ -58,7 +58,7 @@ listed_from n g f fs true t e later =
     (subst (λ (h : Feature). Contains (g ∷ fs) h) same (contains_here g fs), ap (λ (h : Feature). h.number) (sym same) ∙ sym (eqb-true n g.number t))
 listed_from n g f fs false t e later = (contains_later g fs f (later e).0, (later e).1)
 
--- and what it finds is a feature with that number
+-- the feature that a lookup finds has that number
 pub listed_by_number : (fs : List Feature) (n : ℕ) (f : Feature) → find (has_number n) fs ≡ Some f → Contains fs f × (f.number ≡ n)
 listed_by_number [] n f e = absurd (let bad : None ≡ Some f = e in cc)
 listed_by_number (g ∷ fs) n f e = listed_from n g f fs (nat_eq n g.number) refl e (listed_by_number fs n f)

@@ -1,4 +1,4 @@
--- The answers of a join of files.
+-- The results of a join of files.
 use Rattle.std.proofs.Common.{◌≡◌, ℕ, List, Option, Some, None, Result, Ok, Err, IsSome, IsErrAnd, IsErrOf, IsSomeAnd, IfSome, IsTrue, Bool, true, false, IfErr, OnOk}
 use Rattle.std.proofs.Common.{◌↔◌, ◌≢◌, All, get_or, refl, sym, subst, ◌∙◌, map}
 use Rattle.std.specs.Prelude.{⊤}
@@ -36,7 +36,7 @@ pairs_held relation left right pairs list e joined =
     let s = (joined.exact (get_or pairs k d)).0 (contains_at pairs k d within) in
     (is_some_of (with_number (get_or pairs k d).0 left) s.first s.first_held, is_some_of (with_number (get_or pairs k d).1 right) s.second s.second_held))
 
--- what `?` hands on of a fault that is one of the run's
+-- the error that `?` returns for a fault that is one of the run's
 pub handed_on : {T V : Type 0} (J : Result V RunFault → Type 0) (out : Result T RunFault) (e is : RunFault) → IsErrAnd out (λ x. x ≡ e) → e ≡ is
     → (BlamesInput is → J (Err is)) → IfErr out (λ x. BlamesInput x → J (Err x))
 handed_on J (Ok x) e is h same gives = absurd h
@@ -46,7 +46,7 @@ handed_on J (Err x) e is h same gives =
 
 -- ---- the edits of a file
 
--- a fault of the edits, where both layers are good
+-- a fault of the edits, if both layers are valid
 module _ (files : JoinFiles) (l r : Contents) (left : LayerFile files.scale files.left (Ok l)) (right : LayerFile files.scale files.right (Ok r)) where
   edits_give_fault : (e : RunFault) → IsEditsFault files.scale files.edits (both l r) e → BlamesInput e → LayersGive files (Err e)
   edits_give_fault e (unread f blames) blame = edits_fault l r f left right (blames blame)
@@ -56,7 +56,7 @@ module _ (files : JoinFiles) (l r : Contents) (left : LayerFile files.scale file
       → IsEditsFault files.scale files.edits (both l r) e → IfErr out (λ x. BlamesInput x → LayersGive files (Err x))
   edits_blamed out e h fault = handed_on (LayersGive files) out e e h refl (edits_give_fault e fault)
 
-  -- the edits are made up to the one at which memory runs out
+  -- the edits are applied up to the one at which memory runs out
   edits_join : (e : RunFault) → IsEditsFault files.scale files.edits (both l r) e → IsJoinFault files e
   edits_join e (unread f blames) = ((l, left), (r, right))
   edits_join e (ended edits row f file ends) = λ is. record {
@@ -99,7 +99,7 @@ module _ (scale : Scale) (file : Option (Option (List ℕ))) (layers : Layers) w
       subst (IsEditsFault scale file layers) (sym err.2)
       (ended (map content_of items) err.0 err.1 read (subst (λ (es : List EditType). EndsAt err.0 err.1 layers (map content_of es)) same err.3))
 
--- a late fault blames no input, and is none of a source
+-- a late fault blames no input, and is no fault of a source
 pub none_blamed : (e : RunFault) → IsLateFault e → BlamesInput e → ⊥
 none_blamed (NoFile i) late blame = late
 none_blamed (Read i f) late blame = late
@@ -117,7 +117,7 @@ pub no_report : {T : Type 0} (relation : Relation) (files : JoinFiles) (out : Re
     → (BlamesInput e → LayersGive files (Err e)) → IfErr out (λ x. BlamesInput x → JoinGives relation files (Err x))
 no_report relation files out e h fault = handed_on (JoinGives relation files) out e e h refl (λ blame. no_layers e (fault blame))
 
--- the last step of a join, which lists the pairs and makes the report
+-- the last step of a join, which finds the pairs and makes the report
 pub last_fault : {T : Type 0} (relation : Relation) (files : JoinFiles) (out : Result T RunFault)
     → IfErr out IsLateFault → IfErr out (λ f. BlamesInput f → JoinGives relation files (Err f))
 last_fault relation files (Ok x) err = tt
@@ -140,13 +140,13 @@ module _ (files : JoinFiles) (layers : Layers) (given : LayersGive files (Ok lay
   last_faults (Ok x) err = tt
   last_faults (Err e) err = late_is_of_join e err
 
--- what `?` hands on is one of a join's faults
+-- an error that `?` returns is one of a join's faults
 pub is_join_fault : {T : Type 0} (files : JoinFiles) (out : Result T RunFault) (e is : RunFault) → IsErrAnd out (λ x. x ≡ e) → e ≡ is → IsJoinFault files is
     → IfErr out (IsJoinFault files)
 is_join_fault files (Ok x) e is h same fault = absurd h
 is_join_fault files (Err x) e is h same fault = subst (IsJoinFault files) (sym (h ∙ same)) fault
 
--- of the inputs, a fault of a join is of the left, of the right or of the edits
+-- among the inputs, a fault of a join is of the left, of the right or of the edits
 abbrev pub IsJoinKind : RunFault → Type 0
 IsJoinKind (Read Left f) = ⊤
 IsJoinKind (Read Right f) = ⊤
@@ -179,14 +179,14 @@ failed_at L R E out left right edits faults Window = (no_other out Window faults
 -- ---- failed sources
 
 module _ {T U : Type 0} (out : Result T RunFault) (i : Input) (P : Type 0) where
-  -- what `?` hands on is a device's fault where it was one
+  -- an error that `?` returns is a device's fault if it was one before
   pub io_handed_on : (e : RunFault) → IsErrAnd out (λ x. x ≡ e) → IsErrOf {T = U} (Err e) (Read i Io) ↔ P → IsErrOf out (Read i Io) ↔ P
   io_handed_on e h io = elim out as (λ r. IsErrAnd r (λ x. x ≡ e) → IsErrOf r (Read i Io) ↔ P) [
     | Ok x ↦ λ h. absurd h
     | Err x ↦ λ h. ((λ q. io.0 (let is : e ≡ Read i Io = cc in cc)), (λ p. let q = io.1 p in let is : e ≡ Read i Io = cc in cc))
   ] h
 
-  -- a late fault is none
+  -- a late fault is none of a device
   pub io_before : (Late : RunFault → Type 0) → ((f : ReadFault) → Late (Read i f) → ⊥) → (y : U) → IsErrOf {E = RunFault} (Ok y) (Read i Io) ↔ P
       → IfErr out Late → IsErrOf out (Read i Io) ↔ P
   io_before Late none y io err = elim out as (λ r. IfErr r Late → IsErrOf r (Read i Io) ↔ P) [
@@ -194,7 +194,7 @@ module _ {T U : Type 0} (out : Result T RunFault) (i : Input) (P : Type 0) where
     | Err x ↦ λ h. ((λ q. absurd (none Io (subst Late (let is : x ≡ Read i Io = cc in is) h))), (λ p. absurd (let q = io.1 p in cc)))
   ] err
 
--- what `?` hands on, by what it is
+-- the error that `?` returns, by its value
 residual_is : {T : Type 0} (out : Result T RunFault) (e is : RunFault) → IsErrAnd out (λ x. x ≡ e) → e ≡ is → IfErr out (λ x. x ≡ is)
 residual_is (Ok x) e is h same = tt
 residual_is (Err x) e is h same = h ∙ same
@@ -204,7 +204,7 @@ pub io_passed : {T U : Type 0} (out : Result T RunFault) (i : Input) (P : Type 0
     → ((f : ReadFault) → Read i f ≡ is → ⊥) → (y : U) → IsErrOf {E = RunFault} (Ok y) (Read i Io) ↔ P → IsErrOf out (Read i Io) ↔ P
 io_passed out i P e is h same none y io = io_before out i P (λ x. x ≡ is) none y io (residual_is out e is h same)
 
--- the edits' file is as it was where another is at fault
+-- the source of the edits is unchanged if another one is at fault
 pub edits_unread : {T E : Type 0} (F : E → Bool) (edits : Option E) (out : Result T RunFault) (e : RunFault) → IfSome edits (λ x. F x ≡ false)
     → IsErrAnd out (λ x. x ≡ e) → e ≢ Read Edits Io → IsErrOf out (Read Edits Io) ↔ IsSomeAnd edits (λ x. IsTrue (F x))
 edits_unread F edits (Ok x) e fresh h other = absurd h
@@ -214,7 +214,7 @@ edits_unread F (Some s) (Err x) e fresh h other = (
   (λ p. absurd (let both : F s ≡ false = fresh in let bad : F s ≡ true = p in cc)),
 )
 
--- the sources, where the layers were read and not all edits were made
+-- the sources, if the layers were read and not all edits were applied
 pub edits_io : {T U V : Type 0} {scale : Scale} {file : Option (Option (List ℕ))} {layers : Layers} (L R E : Type 0) (out : Result T RunFault) (e : RunFault)
     (y : U) → IsErrAnd out (λ x. x ≡ e) → IsEditsFault scale file layers e → IsErrOf {E = RunFault} (Ok y) (Read Left Io) ↔ L
     → IsErrOf {E = RunFault} (Ok y) (Read Right Io) ↔ R → IsErrOf {T = V} (Err e) (Read Edits Io) ↔ E

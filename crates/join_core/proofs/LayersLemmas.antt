@@ -1,4 +1,4 @@
--- What reading two layers answers, by what was read of each and what was built of it.
+-- The results of reading two layers, given the bytes read and the layers built.
 use Rattle.std.proofs.Common.{◌≡◌, ◌≢◌, ◌<◌, ◌⊎◌, ℕ, List, Option, Some, None, Result, Ok, Err, IsErrAnd, IfSome, IfErr, length}
 use Rattle.std.proofs.Common.{refl, sym, subst, inl, inr}
 use Rattle.std.specs.Result.{result_err}
@@ -25,7 +25,7 @@ unread_blamed scale known f reading long blame =
     file-unread layer_columns (LayerRowGives scale) empty known f reading long (λ e. subst BlamesBytes e blame) (λ e. subst BlamesBytes e blame)
 
 module _ (scale : Scale) where
-  -- what is built of a source's bytes is what its file gives
+  -- the layer built of a source's bytes is that of its file
   built_blamed : (known : Option (List ℕ)) (items : List ℕ) (out : Result LayerState ReadFault) (f : ReadFault)
       → IfSome known (λ bytes. items ≡ bytes) → Builds scale items out → out ≡ Err f → BlamesBytes f → LayerFile scale known (Err f)
   built_blamed None items out f same built is blame = tt
@@ -51,12 +51,12 @@ module _ (scale : Scale) where
     fault = λ blame. subst (λ (x : ReadFault). LayerFile scale known (Err x)) (sym is) (unread_blamed scale known f reading long (subst BlamesBytes is blame));
   }
 
-  -- what a source is read as blames it
+  -- the result of reading a source blames it
   read_blamed : (known : Option (List ℕ)) (out : Result LayerState ReadFault) (f : ReadFault)
       → Reads scale known out → out ≡ Err f → BlamesBytes f → LayerFile scale known (Err f)
   read_blamed known out f reads is = subst (λ (r : Result LayerState ReadFault). IfErr r (λ x. BlamesBytes x → LayerFile scale known (Err x))) is reads.fault
 
--- a fault of the right layer alone is told
+-- a fault of the right layer alone is reported
 right_first : (f : ReadFault) → first_fault None f ≡ Read Right f
 right_first read_faults.Io = refl
 right_first read_faults.TooLong = refl
@@ -66,7 +66,7 @@ right_first (read_faults.Wkt n g) = refl
 right_first (read_faults.Layer n g) = refl
 right_first read_faults.Memory = refl
 
--- of two faults the left one is told, where the right source didn't fail
+-- of two faults the left one is reported, unless the right source failed
 left_first : (g f : ReadFault) → (f ≡ read_faults.Io) ⊎ (first_fault (Some g) f ≡ Read Left g)
 left_first g read_faults.Io = inl refl
 left_first g read_faults.TooLong = inr refl
@@ -76,7 +76,7 @@ left_first g (read_faults.Wkt n h) = inr refl
 left_first g (read_faults.Layer n h) = inr refl
 left_first g read_faults.Memory = inr refl
 
--- a fault that is told of two layers, the right one of which wasn't built, is one of their files
+-- a fault of two layers, the right one of which wasn't built, is one of their files
 told_blamed : (scale : Scale) (left right : Option (List ℕ)) (items : List ℕ) (built out : Result LayerState ReadFault) (f : ReadFault)
     → IfSome left (λ bytes. items ≡ bytes) → Builds scale items built → Reads scale right out → out ≡ Err f
     → IsLayersFault scale left right (first_fault (result_err built) f)
@@ -94,7 +94,7 @@ pub first_blamed : (scale : Scale) (left right : Option (List ℕ)) (items : Lis
 first_blamed scale left right items built out f e same gives reads is told =
     subst (IsLayersFault scale left right) (sym told) (told_blamed scale left right items built out f same gives reads is)
 
--- a fault of the two layers is what the files give
+-- a fault of the two layers is a result of the files
 layers_give : (files : JoinFiles) (e : RunFault) → IsLayersFault files.scale files.left files.right e → BlamesInput e
     → LayersGive files (Err e)
 layers_give files (Read Left f) fault blame = left_fault f (fault blame)

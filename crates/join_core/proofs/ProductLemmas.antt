@@ -1,4 +1,4 @@
--- The answers of a join of files, by what is made of its pairs.
+-- The results of a join of files, by the product of its pairs.
 use Rattle.std.proofs.Common.{◌≡◌, ◌<◌, ℕ, List, Result, Ok, Err, IsErrAnd, IsErrOf, IfErr, IfOk, refl, sym, subst}
 use Rattle.relation_core.specs.declared.relation.Relation.{Relation}
 use Rattle.layer_core.specs.Edits.{Layers}
@@ -18,7 +18,7 @@ use Rattle.join_core.specs.Texts.{bytes_of_text}
 use Rattle.join_core.proofs.DrawRunLemmas.{no_picture, picture_blamed, late_draw_faults, is_draw_fault}
 use Rattle.join_core.proofs.JoinRunLemmas.{no_report, last_fault, last_faults, is_join_fault}
 
--- without layers there is none
+-- without layers there is no product
 pub no_product : {T : Type 0} (product : Product) (relation : Relation) (files : JoinFiles) (out : Result T RunFault) (e : RunFault)
     → IsErrAnd out (λ x. x ≡ e) → (BlamesInput e → LayersGive files (Err e))
     → IfErr out (λ x. BlamesInput x → ProductGives product relation files (Err x))
@@ -36,7 +36,7 @@ made Report relation files layers text given report = reported layers report.0 t
 made Picture relation files layers text given picture =
     subst (λ (t : List ℕ). DrawGives relation files (Ok t)) (sym picture.1.2) (drawn layers picture.1.0 given picture.0 picture.1.1)
 
--- the last step, which makes it of the layers
+-- the last step, which makes the product of the layers
 pub product_given : (product : Product) (relation : Relation) (files : JoinFiles) (layers : Layers) (out : Result Text RunFault)
     → LayersGive files (Ok layers) → IfOk out (λ text. IsProduct product relation layers (bytes_of_text text))
     → IfOk out (λ text. ProductGives product relation files (Ok (bytes_of_text text)))

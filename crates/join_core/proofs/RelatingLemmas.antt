@@ -10,7 +10,7 @@ use Rattle.join_core.specs.declared.fault.RunFault.{RunFault}
 use Rattle.join_core.specs.declared.fault.RunFault.TheVariants.{Wkt}
 use Rattle.join_core.specs.Relating.{HasFirstFault}
 
--- nothing else is read from the text
+-- the text has no other result
 abbrev pub ReadsOnly : Scale → List ℕ → Result Shape WktFault → Type 0
 ReadsOnly scale text read = (answer : Result Shape WktFault) → Reads scale text answer → read ≡ answer
 

@@ -1,4 +1,4 @@
--- How a run ends that is a part of another one, or that doesn't begin.
+-- How a run ends that is a part of another one, or that doesn't start.
 use Rattle.std.proofs.Common.{◌≡◌, ◌≢◌, ℕ, List, Option, Bool, true, false, Result, Ok, Err, OnOk, sym, refl, ◌∙◌}
 use Rattle.join_core.specs.declared.fault.RunFault.{RunFault}
 use Rattle.join_core.specs.declared.fault.RunFault.TheVariants as run
@@ -26,7 +26,7 @@ ends_as P Q written is_flushed has_failed old new result into h = record {
   untouched = h.untouched;
 }
 
--- nothing is written where a fault comes before the run
+-- nothing is written if a fault comes before the run
 pub not_begun : {T S : Type 0} (P : List ℕ → Type 0) (written : S → Option (List ℕ)) (is_flushed has_failed : S
     → Bool) (sink : S) (result : Result T RunFault) (f : RunFault)
     → has_failed sink ≡ false → result ≡ Err f → f ≢ run.Write → Ends P written is_flushed has_failed sink sink result

@@ -1,4 +1,4 @@
--- How a window over a file ends, by its text and by how the layer was looked up.
+-- How a window over a file ends, by its text and by the result for the layer.
 use Rattle.std.proofs.Common.{◌≡◌, ℕ, List, Option, Bool, true, false, Result, Ok, Err, IsTrue, ◌↔◌, sym, refl, subst, ◌∙◌}
 use Rattle.std.proofs.lemmas.Result.{IfErr-weaker}
 use Rattle.geom_core.specs.declared.shape.Shape.{Shape}
@@ -24,7 +24,7 @@ window_at_fault scale wkt e out is read only Window f =
     ((λ q. let same : e ≡ f = cc in subst (λ (x : WktFault). Reads scale wkt (Err x)) same read), (λ h. let w = only (Err f) h in cc))
 window_at_fault scale wkt e out is read only _ f = ((λ q. absurd cc), (λ h. absurd h))
 
--- it spells a shape
+-- the window's text spells a shape
 window_spelled : {T : Type 0} (scale : Scale) (wkt : List ℕ) (s : Shape) (out : Result T RunFault) → ReadsOnly scale wkt (Ok s)
     → ((i : Input) (f : WktFault) → out ≡ Err (Wkt i f) → ⊥) → (i : Input) (f : WktFault) → (out ≡ Err (Wkt i f)) ↔ HasWindowFault scale wkt i f
 window_spelled scale wkt s out only none Window f = ((λ q. absurd (none Window f q)), (λ h. let bad = only (Err f) h in absurd cc))
@@ -44,7 +44,7 @@ of_layer scale wkt file s spelled Memory is = ((s, spelled), is)
 of_layer scale wkt file s spelled NoKeys is = ((s, spelled), is)
 
 module _ {S : Type 0} (written : S → Option (List ℕ)) (is_flushed has_failed : S → Bool) (scale : Scale) (wkt : List ℕ) (file : Option (List ℕ)) where
-  -- the layer isn't read where the window's text is at fault
+  -- the layer isn't read if the window's text is at fault
   pub not_looked_up : (e : WktFault) (layer_failed : Bool) (sink : S) → Reads scale wkt (Err e) → ReadsOnly scale wkt (Err e)
       → layer_failed ≡ false → has_failed sink ≡ false
       → RunEnds {T = Unit {0}} (WindowGives scale wkt file) (HasWindowFault scale wkt) (IsWindowFault scale wkt file) (OnlyAt Layer (IsTrue layer_failed))
@@ -57,7 +57,7 @@ module _ {S : Type 0} (written : S → Option (List ℕ)) (is_flushed has_failed
     io = λ i. ((λ is. absurd cc), (λ failed. absurd (let bad : true ≡ false = sym failed.1 ∙ unread in cc)));
   }
 
-  -- what the look-up of a window that is spelled gives
+  -- the result of a window whose text spells a shape
   pub window_looked_up : {T : Type 0} (s : Shape) (HasFailed : Input → Type 0) (old new : S) (result : Result T RunFault) → Reads scale wkt (Ok s)
       → ReadsOnly scale wkt (Ok s)
       → RunEnds (LayerGives (IsWindowList s) scale file) NoTextFault (IsLayerRunFault scale file) HasFailed written is_flushed has_failed old new result

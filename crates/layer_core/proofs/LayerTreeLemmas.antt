@@ -133,7 +133,7 @@ counted-contains e (x ∷ xs) h = by (eq-value.it e x) refl (λ some. counted-co
         let held = later (omega (arith, h, no, sum_by-cons (λ x. cond {A = ℕ} (eq-value.it e x) 1 0) x xs)) in
         (suc held.0, omega (arith, held.1), held.2)
 
--- the feature that a look-up by id told of
+-- the feature that a lookup by id found
 found_feature : (layer : Contents) (id : List ℕ) (number : ℕ) (shape : Shape) → NumberAndShapeAre (Some (number, shape)) (with_id id layer)
     → (f : Feature) × (with_id id layer ≡ Some f) × (indexed f ≡ record { shape = shape; number = number })
 found_feature layer id number shape told = by (with_id id layer) refl told

@@ -1,4 +1,4 @@
--- The map of ids and the slots of a layer: what a look-up finds, and what an edit keeps.
+-- The map of ids and the slots of a layer: the results of lookups, and the effect of edits.
 use Rattle.std.proofs.Common.{◌≡◌, ◌≢◌, ℕ, zero, suc, ◌+◌, ◌-◌, ◌<◌, ◌≤◌, ◌⊎◌, Bool, true, false, List, [], ◌∷◌, ◌++◌, set, get_or, length, slice_get, position}
 use Rattle.std.proofs.Common.{Option, Some, None, is_some, refl, sym, subst, ap, ◌∙◌, inl, inr, arith, zero-add, add-one}
 use Rattle.std.specs.List.{IsDistinct}
@@ -156,7 +156,7 @@ module _ (es : List (Id × Option ℕ)) (slots : List (Option Slot)) (table : Ar
         let key = get-within (keys_of es) i (let within = found.within in omega (arith, length-keys_of es)) in
         (key.0, key.1, passes es key.0 (found.key ∙ key.1))
 
-    -- two keys with one id stand at one place
+    -- two keys with the same id are at the same place
     one_place : IsDistinct id_eq (keys_of es) → (i j : ℕ) (a b : Id) → slice_get (keys_of es) i ≡ Some a → slice_get (keys_of es) j ≡ Some b
         → has_text id a ≡ true → has_text id b ≡ true → i ≡ j
     one_place distinct i j a b at_i at_j is_a is_b = elim (dec_lt i j) [
@@ -179,7 +179,7 @@ module _ (es : List (Id × Option ℕ)) (slots : List (Option Slot)) (table : Ar
             let keys_agree : bytes_eq (id_bytes a) (id_bytes b) ≡ true = (bytes_eq-Decides (id_bytes a) (id_bytes b)).1 same in
             cc
 
-    -- a slot's feature that has the found id stands at its place
+    -- a slot's feature that has the found id is at its place
     found_place : IsDistinct id_eq (keys_of es) → (i : ℕ) → position (has_text id) (keys_of es) ≡ Some i → (j : ℕ) (s : Slot)
         → slice_get slots j ≡ Some (Some s) → bytes_eq id (id_of (ids_of (keys_of es)) s) ≡ true → s.place ≡ i
     found_place distinct i at j s h e =
@@ -228,7 +228,7 @@ module _ (es : List (Id × Option ℕ)) (slots : List (Option Slot)) (table : Ar
         by (Some None) e h = let at_n = sym (slice_get-map (option_map (λ s. s.place)) slots n ∙ ap (option_map (option_map (λ s. s.place))) e) ∙ h in cc
         by (Some (Some slot)) e h = let at_n : Some (Some slot.place) ≡ Some (Some i) = sym (place_of slots n slot e) ∙ h in (slot, e, cc)
 
--- what stands in the map and the slots is a layer
+-- the map and the slots represent a layer
 pub IsLayer-contents : (es : List (Id × Option ℕ)) (slots : List (Option Slot)) (count : ℕ) → StandForLayer es slots count
     → IsLayer (contents_of (keys_of es) slots)
 IsLayer-contents es slots count kept = record {
@@ -252,14 +252,14 @@ IsLayer-contents es slots count kept = record {
         let at_s : slice_get (values_of es) t.place ≡ Some (Some j) = sym (ap (slice_get (values_of es)) place) ∙ number in
         cc
 
--- a look-up by number
+-- a lookup by number
 pub with_number-contents : (keys : List Id) (slots : List (Option Slot)) (k : ℕ)
     → with_number k (contents_of keys slots) ≡ feature_in (ids_of keys) k (slice_get slots k)
 with_number-contents keys slots k =
     let e : k ≡ 0 + k = omega arith in
     ap (λ n. with_number n (contents_of keys slots)) e ∙ find-number (ids_of keys) 0 slots k ∙ ap (λ n. feature_in (ids_of keys) n (slice_get slots k)) (sym e)
 
--- a look-up by id
+-- a lookup by id
 pub with_id-absent : (keys : List Id) (slots : List (Option Slot)) (id : List ℕ) → IsAbsent (ids_of keys) id slots
     → with_id id (contents_of keys slots) ≡ None
 with_id-absent keys slots id absent = find-absent (ids_of keys) id 0 slots absent
@@ -268,7 +268,7 @@ pub with_id-only : (keys : List Id) (slots : List (Option Slot)) (id : List ℕ)
     → with_id id (contents_of keys slots) ≡ Some (feature_of (ids_of keys) k slot)
 with_id-only keys slots id k slot only = find-only (ids_of keys) id 0 slots k slot only ∙ ap (λ n. Some (feature_of (ids_of keys) n slot)) (zero-add k)
 
--- what a look-up by id answers where a slice shows the slots
+-- the result of a lookup by id, given the slots as a slice
 pub sees_none : (seen : List (Option Slot)) (keys : List Id) (slots : List (Option Slot)) (id : List ℕ) → seen ≡ slots → IsAbsent (ids_of keys) id seen
     → with_id id (contents_of keys slots) ≡ None
 sees_none seen keys slots id same absent = with_id-absent keys slots id (subst (IsAbsent (ids_of keys) id) same absent)
@@ -327,7 +327,7 @@ StandForLayer-deleted es slots count k slot kept here held = (
 pub count-le : (es : List (Id × Option ℕ)) (slots : List (Option Slot)) (count : ℕ) → StandForLayer es slots count → count ≤ length slots
 count-le es slots count kept = omega (arith, kept.counted, length-features-le (ids_of (keys_of es)) 0 slots)
 
--- the map after an insertion, where the id was new or its feature was deleted
+-- the map after an insertion, if the id was new or its feature was deleted
 record IsGiven (es es' : List (Id × Option ℕ)) (k : Id) (v : Option ℕ) (p : ℕ) : Type 0 where
   pub numbered : slice_get (values_of es') p ≡ Some v
   pub others : (q : ℕ) → q ≢ p → slice_get (values_of es') q ≡ slice_get (values_of es) q
@@ -348,7 +348,7 @@ with_id-missing es slots table k missing = by (position (id_eq k) (keys_of es)) 
         let held : lookup (id_eq k) es ≡ Some old.0 = place.value ∙ old.1 in
         cc
 
--- what becomes of the layer then
+-- the effect on the layer
 pub record InsertsNew (es es' : List (Id × Option ℕ)) (slots : List (Option Slot)) (count : ℕ) (id : List ℕ) (slot : Slot) : Type 0 where
   pub kept : StandForLayer es' (slots ++ Some slot ∷ []) (count + 1)
   pub absent : with_id id (contents_of (keys_of es) slots) ≡ None
@@ -472,7 +472,7 @@ module _ (es : List (Id × Option ℕ)) (slots : List (Option Slot)) (count : �
           rw number (inserts_given (insert_entry id_eq es k (Some (length slots))) given
           (absent_from_deleted es slots kept.table (id_bytes k) kept.distinct i found gone) (rw number at distinct) room)
 
-  -- and under one that has one: what was overwritten is written back
+  -- and under one that has one: the overwritten number is restored
   pub inserts_double : (v : Option ℕ) (live : ℕ) → slot.place ≡ position_or_len (id_eq k) (keys_of es) → Some live ≡ option_flatten
       (lookup (id_eq k) es) → (set_value_at (insert_entry id_eq es k v) slot.place (Some live) ≡ es) ×
       (is_some (with_id (id_bytes k) (contents_of (keys_of es) slots)) ≡ true)

@@ -1,4 +1,4 @@
--- What the features of a list of slots are, and become where a slot changes.
+-- The features of a list of slots, and how they change with a slot.
 use Rattle.std.proofs.Common.{◌≡◌, ◌≢◌, ◌==◌, ℕ, zero, suc, ◌+◌, ◌<◌, ◌≤◌, Bool, true, false, not, List, [], ◌∷◌, ◌++◌, set, length, slice_get, Option, Some}
 use Rattle.std.proofs.Common.{None, filter, find, All, AllPairs, refl, sym, ap, ◌∙◌, arith, add-zero}
 use Rattle.std.specs.Str.{bytes_eq}
@@ -36,7 +36,7 @@ module _ (ids : List (List ℕ)) (id : List ℕ) where
       by true e = let first : 0 ≡ suc k = o.only 0 s refl e in absurd (omega arith)
       by false e = refl
 
-  -- a look-up by id
+  -- a lookup by id
   pub find-absent : (n : ℕ) (slots : List (Option Slot)) → IsAbsent ids id slots → find (has_id id) (features_from ids n slots) ≡ None
   find-absent n [] a = refl
   find-absent n (None ∷ slots) a = find-absent (suc n) slots (absent_later None slots a)
@@ -56,7 +56,7 @@ module _ (ids : List (List ℕ)) (id : List ℕ) where
       rw (differs_before s slots k slot o)
       (find-only (suc n) slots k slot (only_later (Some s) slots k slot o) ∙ ap (λ m. Some (feature_of ids m slot)) (omega arith))
 
-  -- what is left without an id
+  -- the features that remain without an id
   pub filter-absent : (n : ℕ) (slots : List (Option Slot)) → IsAbsent ids id slots
       → filter (λ f. not (has_id id f)) (features_from ids n slots) ≡ features_from ids n slots
   filter-absent n [] a = refl
@@ -86,7 +86,7 @@ module _ (ids : List (List ℕ)) where
       ap (λ fs. feature_of ids n s ∷ fs)
       (features-push (suc n) slots slot ∙ ap (λ m. features_from ids (suc n) slots ++ feature_of ids m slot ∷ []) (omega arith))
 
-  -- more ids behind those that the slots name
+  -- more ids after those that the slots refer to
   pub features-more_ids : (more : List (List ℕ)) (n : ℕ) (slots : List (Option Slot))
       → ((k : ℕ) (s : Slot) → slice_get slots k ≡ Some (Some s) → s.place < length ids) → features_from (ids ++ more) n slots ≡ features_from ids n slots
   features-more_ids more n [] h = refl
@@ -121,7 +121,7 @@ module _ (ids : List (List ℕ)) where
       let next : n + suc k ≡ suc n + k = omega arith in
       (λ i. find (has_number (next i)) (features_from ids (suc n) slots)) ∙ h ∙ ap (λ m. feature_in ids m (slice_get slots k)) (sym next)
 
-  -- a look-up by number
+  -- a lookup by number
   pub find-number : (n : ℕ) (slots : List (Option Slot)) (k : ℕ)
       → find (has_number (n + k)) (features_from ids n slots) ≡ feature_in ids (n + k) (slice_get slots k)
   find-number n [] k = refl
@@ -151,7 +151,7 @@ module _ (ids : List (List ℕ)) where
   numbers-from m n (Some s ∷ slots) h =
       All-cons (λ f. m < f.number) (feature_of ids n s) (features_from ids (suc n) slots) h (numbers-from m (suc n) slots (omega arith))
 
-  -- the numbers rise, and are below the one behind the slots
+  -- the numbers ascend, and are less than the one after the slots
   pub features-rising : (n : ℕ) (slots : List (Option Slot)) → AllPairs (λ f g. f.number < g.number) (features_from ids n slots)
   features-rising n [] = λ i j d below out. absurd (omega arith)
   features-rising n (None ∷ slots) = features-rising (suc n) slots
@@ -172,7 +172,7 @@ module _ (ids : List (List ℕ)) where
   ids-apart id n (Some s ∷ slots) h =
       All-cons (λ f. id ≢ f.id) (feature_of ids n s) (features_from ids (suc n) slots) (h 0 s refl) (ids-apart id (suc n) slots (λ k s e. h (suc k) s e))
 
-  -- the ids differ, where those of the slots do
+  -- the ids are distinct if those of the slots are
   pub features-distinct : (n : ℕ) (slots : List (Option Slot))
       → ((j k : ℕ) (s t : Slot) → slice_get slots j ≡ Some (Some s) → slice_get slots k ≡ Some (Some t) → id_of ids s ≡ id_of ids t → j ≡ k)
       → AllPairs (λ f g. f.id ≢ g.id) (features_from ids n slots)

@@ -1,4 +1,4 @@
--- How the workers of a plan end: by what was received of them, given the law of owners.
+-- How the workers of a plan end: by the messages received from them, given the law of owners.
 use Rattle.std.proofs.Common.{◌≡◌, ℕ, ◌<◌, inl, inr, Bool, true, false, Option, Some, None, Result, Ok, Err, IfOk, IfErr, IsOk, List, ◌∷◌, ◌++◌, All}
 use Rattle.std.proofs.Common.{length, map, refl, sym, ap, ◌∙◌, subst}
 use Rattle.std.specs.Prelude.{IsPermutation, IsSorted, IsSomeAnd}

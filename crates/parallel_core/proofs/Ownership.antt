@@ -1,4 +1,4 @@
--- What the workers have said makes them the owners of the tasks that they drew.
+-- The messages that workers have sent make them the owners of the tasks that they drew.
 use Rattle.std.proofs.Common.{◌≡◌, ℕ, zero, suc, ◌+◌, ◌<◌, ◌≤◌, Bool, true, false, cond, eqb, Some, List, [], ◌∷◌, ◌++◌, All, length, map, slice_get, refl, sym}
 use Rattle.std.proofs.Common.{ap, ap₂, ◌∙◌, subst, arith}
 use Rattle.std.specs.Prelude.{Any}
@@ -30,7 +30,7 @@ times-append : (x : ℕ) (xs ys : List ℕ) → times x (xs ++ ys) ≡ times x x
 times-append x xs ys = sum_by-append (λ y. cond {A = ℕ} (eqb y x) 1 0) xs ys
 
 module _ (relation : Relation) (plan : List (Node × Node)) (size : ℕ) where
-  -- the tasks that a worker owns, by what it has said
+  -- the tasks that a worker owns, by the messages that it has sent
   record Owned (drawn : List ℕ) (ok : Bool) (said : List Content) : Type 0 where
     tasks : List Task
     each : All (IsRowIn relation plan) tasks
@@ -76,7 +76,7 @@ module _ (relation : Relation) (plan : List (Node × Node)) (size : ℕ) where
     pub whole : ok ≡ true → (place : ℕ) (tasks : List Task) → slice_get owned place ≡ Some tasks
         → IsWhole size tasks (map content_of (of_port (at place) messages))
 
-  -- what holds at each place of a list
+  -- a fact of each index of a list
   each_place : (P : ℕ → List Task → Type 0) (first : List Task) (rest : List (List Task)) → P 0 first
       → ((place : ℕ) (tasks : List Task) → slice_get rest place ≡ Some tasks → P (suc place) tasks)
       → (place : ℕ) (tasks : List Task) → slice_get (first ∷ rest) place ≡ Some tasks → P place tasks
@@ -119,14 +119,14 @@ module _ (relation : Relation) (plan : List (Node × Node)) (size : ℕ) where
 once_below_more : (n m x : ℕ) → n ≤ m → once_below n x ≤ once_below m x
 once_below_more n m x few = grind (arith, nat_tests)
 
--- the workers are owners of their tasks, and all that there are where all are ok
+-- the workers are owners of their tasks, and of all tasks if all are successful
 pub record AreOwners (relation : Relation) (plan : List (Node × Node)) (size tasks : ℕ) (ok : Bool) (messages : List Message) : Type 0 where
   pub owned : List (List Task)
   pub each : All (IsRowIn relation plan) (all_tasks owned)
   pub keeps : KeepsOwners (record { tasks = tasks; size = size; owned = owned; messages = messages })
   pub complete : ok ≡ true → IsComplete (record { tasks = tasks; size = size; owned = owned; messages = messages })
 
--- one of the workers is done where all are ok
+-- one of the workers is done if all are successful
 some_done : (relation : Relation) (plan : List (Node × Node)) (size : ℕ) (board : BoardValue) (messages : List Message) (ok : Bool)
     (seats : List SeatValue) → 0 < length seats
     → ((place : ℕ) (seat : SeatValue) → slice_get seats place ≡ Some seat → IsShare relation plan size board messages ok place seat)

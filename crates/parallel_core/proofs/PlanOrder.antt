@@ -30,7 +30,7 @@ times-cons x y ys = sum_by-cons (λ z. one z x) y ys
 one_itself : (x : ℕ) → one x x ≡ 1
 one_itself x = elim (eqb_tells x x) [ inl here ↦ ap (λ (b : Bool). cond {A = ℕ} b 1 0) here.0 | inr other ↦ absurd (other.1 refl) ]
 
--- a number that stands in the list
+-- a number that occurs in the list
 pub record Parts (number : ℕ) (tasks : List Task) : Type 0 where
   pub front : List Task
   pub row : List (ℕ × ℕ)

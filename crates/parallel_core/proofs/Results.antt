@@ -1,4 +1,4 @@
--- facts of a result, by what it is
+-- Facts of a result, by its variant.
 use Rattle.std.proofs.Common.{◌≡◌, Bool, true, MatchBool, Result, Ok, Err, IfOk, IfErr, is_ok}
 
 pub ok_weaker : {T E A B : Type 0} → (A → B) → (r : Result T E) → IfOk r (λ x. A) → IfOk r (λ x. B)

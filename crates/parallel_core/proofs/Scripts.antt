@@ -1,4 +1,4 @@
--- a script, as it is sent piece by piece
+-- A script, as it is sent piece by piece.
 use Rattle.std.proofs.Common.{◌≡◌, ℕ, ◌+◌, ◌-◌, ◌*◌, ◌/◌, ◌<◌, ◌≤◌, min, List, [], ◌∷◌, ◌++◌, length, map, take, drop, refl, sym, ap, ◌∙◌, arith, inl, inr}
 use Rattle.std.proofs.Common.{append_assoc, length-drop}
 use Rattle.std.proofs.lemmas.Bool.{cases_lt}
@@ -39,7 +39,7 @@ pub batches-drop : (size : ℕ) (rest : List (ℕ × ℕ)) → 0 < size → 0 < 
 batches-drop size rest some left =
     sym (one_fewer size (length rest) (batches_for size (drop size rest)) some left (ap (λ n. (n + (size - 1)) / size) (length-drop size rest)))
 
--- what comes off first, as much as there is of a size, and what is left
+-- the first piece, of at most this size, and the rest
 front_is : (size : ℕ) (xs front rest : List (ℕ × ℕ)) → xs ≡ front ++ rest → length front ≡ min size (length xs) → front ≡ take size xs
 front_is size xs front rest parts long =
     sym
@@ -50,7 +50,7 @@ rest_is size xs front rest parts long =
     sym
     (sym (drop_min size xs) ∙ ap (λ n. drop n xs) (sym long) ∙ ap (drop (length front)) parts ∙ drop_at front rest (length front) refl)
 
--- the rest of a row after so many pieces, as many batches as are left of it, and the next piece
+-- the rest of a row after a number of pieces, the number of batches left of it, and the next piece
 pub record AfterPiece (size number : ℕ) (row piece rest : List (ℕ × ℕ)) : Type 0 where
   pub rest_is : rest ≡ drop ((number + 1) * size) row
   pub left : number + 1 + batches_for size rest ≡ batches_for size row
@@ -70,7 +70,7 @@ after_piece size number row before piece rest some was left parts long more =
       piece_is = front_is size before piece rest parts long ∙ ap (take size) was;
     }
 
--- what a port has said, further on
+-- the contents that a port has sent, after more of them
 pub says_more : (a b c : Port) (first second : List Content) → Says a b first → Says b c second → Says a c (first ++ second)
 says_more a b c first second one two = two ∙ ap (λ l. l ++ second) one ∙ append_assoc _ first second
 

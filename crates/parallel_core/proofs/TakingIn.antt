@@ -1,4 +1,4 @@
--- a collector that is offered one more message
+-- A collector that is offered one more message.
 use Rattle.std.proofs.Common.{◌≡◌, ◌⊎◌, ℕ, inl, inr, Option, Some, None, Result, Ok, Err, is_ok, false, IfSome, IfNone, OnOk, OnErr, IsOkUnless, List, [], ◌∷◌}
 use Rattle.std.proofs.Common.{◌++◌, refl, sym, ap, ◌∙◌, subst, append_assoc}
 use Rattle.std.proofs.lemmas.List.Sums.{fold_push}

@@ -1,4 +1,4 @@
--- the worker that comes off a team, and what a team leaves once it has ended
+-- The worker that is taken off a team, and the result of a team that has ended.
 use Rattle.std.proofs.Common.{◌≡◌, ℕ, zero, suc, ◌+◌, ◌≤◌, ◌⊎◌, ◌&&◌, inl, inr, Bool, true, false, Some, List, [], ◌∷◌, ◌++◌, All, length, map, slice_get}
 use Rattle.std.proofs.Common.{vec_capacity, refl, sym, ap, ◌∙◌, subst, arith, length-append}
 use Rattle.std.proofs.lemmas.List.{get_or_append_left}
@@ -123,7 +123,7 @@ module _ (shared : SharedValue) where
     shares = λ started. cc;
   }
 
-  -- what is known of the worker behind the others
+  -- the facts known of the worker after the others
   last_share : (taken : List Message) (all_ok : Bool) (index : ℕ) (w : Worked) → ComesBack shared index w
       → map content_of (of_port index taken) ≡ said_by w.port → has_bye (of_port index taken) ≡ true → (all_ok ≡ true → w.ok ≡ true)
       → IsShare shared.relation shared.plan shared.size shared.board taken all_ok index w.seat
@@ -175,7 +175,7 @@ module _ (shared : SharedValue) where
             };
       }
 
-  -- from the start of the team on, and not from where the first worker has come off
+  -- from the start of the team, and not from where the first worker was taken off
   pub as_begun : (old new team : Team) → length old.ports.items ≡ length new.ports.items + 1 → IsAsBefore old new
       → HasRun shared (length new.ports.items + 1) (vec_capacity new.seats) new.receiver team
       → HasRun shared (length old.ports.items) (vec_capacity old.seats) old.receiver team

@@ -1,4 +1,4 @@
--- scripts of tasks, one list after another
+-- Scripts of tasks, one list after another.
 use Rattle.std.proofs.Common.{◌≡◌, Bool, ℕ, ◌<◌, true, false, List, [], ◌∷◌, ◌++◌, map, Result, IfOk, IfErr, is_ok, refl, sym, ap, ap₂, ◌∙◌, append_assoc, append-nil}
 use Rattle.std.specs.declared.alloc.AllocError.{AllocError}
 use Rattle.std.proofs.lemmas.Grind.{flat_map-append}
@@ -53,7 +53,7 @@ module _ (relation : Relation) (plan : List (Node × Node)) (size : ℕ) where
     begins = prefix_behind xs ys b.whole b.begins;
   }
 
-  -- what a port says of one task
+  -- the messages of a port for one task
   pub says_nothing : (task : ℕ) (port : Port) → SaysBeginning relation plan size (task ∷ []) port port
   says_nothing task port = record {
     more = [];
@@ -75,7 +75,7 @@ module _ (relation : Relation) (plan : List (Node × Node)) (size : ℕ) where
 
   pub ruleset one_task = (says_nothing, says_one, says_part_of_one)
 
-  -- what a port has said, once it says more
+  -- the contents that a port has sent, after it sends more
   pub said_more : (drawn drawn' ms : List ℕ) (old new : Port) → SaysScripts relation plan size ms old new → drawn' ≡ drawn ++ ms
       → AreScripts relation plan size drawn (said_by old) → AreScripts relation plan size drawn' (said_by new)
   said_more drawn drawn' ms old new more grown so_far =
@@ -86,7 +86,7 @@ module _ (relation : Relation) (plan : List (Node × Node)) (size : ℕ) where
   said_part drawn drawn' ms old new more grown so_far =
       rw (grown, more.says) (join_beginning drawn ms (said_by old) more.more so_far more.scripts)
 
-  -- what it has said besides its Bye, by how its work ended
+  -- the contents that it has sent apart from its Bye, by how its work ended
   worker_says : (drawn : List ℕ) (done ok : Bool) (before after : Port) (worked : Result (Unit {0}) AllocError)
       → sent_by after ≡ sent_by before ++ bye_of (index_of before) ok ∷ [] → ok ≡ is_ok worked
       → IfOk worked (λ x. (done ≡ true) × AreScripts relation plan size drawn (said_by before))

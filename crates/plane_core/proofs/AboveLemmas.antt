@@ -1,4 +1,4 @@
--- Straight above a point an edge is below just if it is at or below the point.
+-- Straight above a point an edge is below if and only if it is at or below the point.
 use Rattle.std.proofs.Common.{◌≡◌, ◌<◌, ◌*◌, ◌+◌, arith, refl, true, false}
 use Rattle.std.specs.Prelude.{ℤ, ℕ, pos, ◌*ℤ◌, ◌-ℤ◌, ◌+ℤ◌, neg_ℤ, ◌≤ℤ◌, ◌<ℤ◌, nat_abs, int_lt, int_le, Bool, ◌&&◌, ◌||◌}
 use Rattle.std.specs.Ordering.{int_eq}
@@ -149,7 +149,7 @@ vertical_above e z wide vertical off =
     left_order : run e ≡ pos 0 → e.b.x ≤ℤ e.a.x
     left_order h = omega (arith, ints)
 
--- where no vertical edge goes through the point
+-- if no vertical edge passes through the point
 pub edge_above : (e : Edge) (z : Point) → 0 < z.w → (is_on e z ≡ true → ¬ (run e ≡ pos 0)) → Above z (IsJustOver e z)
 edge_above e z wide upright = by_zero (run e)
     (λ slanted. (nat_abs (run e) + 1, λ n le. slanted_above e z wide slanted n (omega arith)))

@@ -15,7 +15,7 @@ use Rattle.plane_core.proofs.LargeLemmas.{Large, one_large, outweighs}
 use Rattle.plane_core.proofs.OffLemmas.{Near, off_near, not_at_near, IsOff, IsNotAt, left_up, left_so, side_up, side_so, side_down, side_down_so}
 use Rattle.plane_core.proofs.LevelLemmas.{off_level_first, off_level_second}
 
--- the point moved by dx / n and dy / n, where w counts as 1
+-- the point moved by dx / n and dy / n, if w counts as 1
 abbrev pub near : ℕ → Point → ℤ → ℤ → Point
 near n z dx dy = record { x = pos n *ℤ z.x +ℤ dx; y = pos n *ℤ z.y +ℤ dy; w = n * z.w }
 
@@ -153,7 +153,7 @@ pub below_kept : (e : Edge) (z q : Point) → IsSameColumn z e.a.x q → IsSameC
     → is_below e q ≡ is_below e z
 below_kept e z q first last up down = same_tests _ _ _ _ _ _ _ _ _ _ _ _ first.le last.lt last.le first.lt up down
 
--- where the range doesn't have the column
+-- if the range doesn't contain the column
 none_below : (a b c d s t a' b' c' d' s' t' : Bool) → a' ≡ a → b' ≡ b → c' ≡ c → d' ≡ d → (a && b) ≡ false → (c && d) ≡ false
     → ((a' && b') && s' || (c' && d') && t') ≡ ((a && b) && s || (c && d) && t)
 none_below a b c d s t a' b' c' d' s' t' ha hb hc hd h k = rw (ha, hb, hc, hd, h, k)

@@ -1,4 +1,4 @@
--- What the tests of a geometry answer.
+-- The results of the tests of a geometry.
 use Rattle.std.proofs.Common.{◌≡◌, ◌≤◌, ◌<◌, ◌+◌, ℕ, arith, refl, sym, subst, ap, ◌∙◌, true, false, List, [], ◌∷◌, length, get_or, drop, All, suc}
 use Rattle.std.specs.Prelude.{ℤ, Bool, ◌&&◌, ◌==◌, not, nat_lt, nat_le}
 use Rattle.std.specs.List.{list_all, slice_range}
@@ -53,7 +53,7 @@ eq_fact m n h = grind (arith, ints)
 eq_test : (m n : ℤ) → m ≡ n → int_eq m n ≡ true
 eq_test m n h = grind (arith, ints)
 
--- where paths end
+-- the ends of paths
 pub cuts_fact : (start : ℕ) (ends : List ℕ) (n : ℕ) → are_cuts start ends n ≡ true → AreCuts start ends n
 cuts_fact start [] n h = same_fact start n h
 cuts_fact start (end ∷ ends) n h = (le_fact start end (and_first _ _ h), cuts_fact end ends n (and_second (nat_le start end) _ h))

@@ -285,7 +285,7 @@ zero_not z h k = plain (subst (λ (y : ℤ). is_not_zero y ≡ true) k h)
 true_or_false : (t : Bool) → t ≡ true → t ≡ false → ⊥
 true_or_false t h k = cc
 
--- no point is shared where the test fails
+-- no point is shared if the test fails
 pub no_meeting : (e f : Edge) → do_cross e f ≡ false → HaveNoMeeting e f
 no_meeting e f h = record {
   none = λ p wide m.
@@ -388,7 +388,7 @@ divided_both_over e f = same_point _ _
         right : neg_ℤ (d *ℤ c -ℤ neg_ℤ s *ℤ (c -ℤ k)) ≡ neg_ℤ d *ℤ c -ℤ s *ℤ (c -ℤ k)
         right = simp monomials (omega (arith, ints))
 
--- where 0 lies between two numbers that differ by a third
+-- if 0 is between two numbers that differ by a third
 pub record IsPartOf (n w : ℤ) : Type 0 where
   pub from : pos 0 ≤ℤ n
   pub to : n ≤ℤ w
@@ -420,7 +420,7 @@ part_down t d hd h = elim (apart t (t -ℤ d) h) [
     to : (t d : ℤ) → pos 0 ≤ℤ (t -ℤ d) → neg_ℤ t ≤ℤ neg_ℤ d
     to t d h = omega (arith, ints)
 
--- what the test of two edges tells
+-- the meaning of the test of two edges
 pub record IsCrossing (e f : Edge) : Type 0 where
   pub turning : ¬ (turn_of e f ≡ pos 0)
   pub crossed : is_zero_between (side f (at e.a)) (side f (at e.a) -ℤ turn_of e f) ≡ true

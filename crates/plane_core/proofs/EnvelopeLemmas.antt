@@ -1,4 +1,4 @@
--- The smallest box round vertices, and the paths that have them.
+-- The bounding box of vertices, and the paths that have them.
 use Rattle.std.proofs.Common.{◌≡◌, ◌≤◌, ◌<◌, ◌+◌, ◌-◌, ℕ, arith, refl, sym, subst, ap, ◌∙◌, List, [], ◌∷◌, ◌++◌, length, get_or, take, drop, All, suc, zero}
 use Rattle.std.specs.Prelude.{ℤ, Option, None, IsSome}
 use Rattle.std.specs.List.{flat_map, slice_range}
@@ -119,7 +119,7 @@ all_vertices Dots ends vs h = append-nil vs
 all_vertices Polylines ends vs h = joined_from 0 ends vs h
 all_vertices RingKind ends vs h = joined_from 0 ends vs h
 
--- what is stored of a geometry
+-- the stored form of a geometry
 pub vertices_are : (g : Figure) (kind : Kind) (ends : List ℕ) (vs ws : List Vertex) → g ≡ stored_figure kind ends vs → AreCuts 0 ends (length vs) → ws ≡ vs
     → ws ≡ vertices_of g
 vertices_are g kind ends vs ws is cuts same = same ∙ sym (all_vertices kind ends vs cuts) ∙ sym (ap vertices_of is)
@@ -142,7 +142,7 @@ among_lines kind ends vs i is h = rw (lines_count kind ends vs is) h
 pub among_rings : (kind : Kind) (ends : List ℕ) (vs : List Vertex) (i : ℕ) → kind ≡ RingKind → i < length (paths_in (stored_figure kind ends vs)) → i < length ends
 among_rings kind ends vs i is h = rw (rings_count kind ends vs is) h
 
--- where the path at a place begins, where the first begins at a start
+-- the start of the path at an index, if the first begins at a given start
 abbrev pub start_from : ℕ → List ℕ → ℕ → ℕ
 start_from start ends zero = start
 start_from start ends (suc i) = get_or ends i 0

@@ -64,7 +64,7 @@ negated-is l z = plain l.a l.b l.c z.x z.y (pos z.w)
     plain : (a b c x y w : ℤ) → neg_ℤ a *ℤ x +ℤ neg_ℤ b *ℤ y +ℤ neg_ℤ c *ℤ w ≡ neg_ℤ (a *ℤ x +ℤ b *ℤ y +ℤ c *ℤ w)
     plain a b c x y w = simp monomials (omega (arith, ints))
 
--- over plain numbers: sums of parts of what is positive
+-- over plain numbers: sums of multiples of positive numbers
 pub scaled_not_negative : (s : ℕ) (v : ℤ) → pos 0 <ℤ v → pos s ≤ℤ (pos s *ℤ v)
 scaled_not_negative s v h =
     let more : pos 0 ≤ℤ (pos s *ℤ (v -ℤ pos 1)) = times_not_negative (pos s) (v -ℤ pos 1) (omega (arith, ints)) (omega (arith, ints)) in

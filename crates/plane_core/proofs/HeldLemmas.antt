@@ -1,4 +1,4 @@
--- Numbers within the limits are what 128 bits hold of them.
+-- Numbers within the limits equal their 128-bit values.
 use Rattle.std.proofs.Common.{◌≡◌, ◌≤◌, ◌*◌, ◌+◌, ◌^◌, ℕ, to_z, of_z, arith, ◌∙◌, FitsSigned}
 use Rattle.std.specs.Prelude.{ℤ, pos, ◌*ℤ◌, ◌-ℤ◌, ◌<ℤ◌, nat_abs}
 use Rattle.std.specs.Int.{w128}
@@ -25,7 +25,7 @@ difference_fits : (m n : ℤ) → nat_abs m ≤ 2 ^ 125 → nat_abs n ≤ 2 ^ 12
 difference_fits m n h k =
     fits_signed_from_abs w128 (m -ℤ n) (omega (arith, difference_below m n (2 ^ 125) (2 ^ 125) h k))
 
--- what 128 bits hold of two products
+-- the 128-bit values of two products
 pub held_difference : (a b c d : ℤ)
     → FitsSigned w128 a → FitsSigned w128 b → FitsSigned w128 c → FitsSigned w128 d
     → nat_abs a * nat_abs b ≤ 2 ^ 125 → nat_abs c * nat_abs d ≤ 2 ^ 125
@@ -87,6 +87,6 @@ turn_below r a b c d h ha hb hc hd =
     turn_plain r (nat_abs a) (nat_abs b) (nat_abs c) (nat_abs d)
     (rw (held_way a ha, held_way b hb, held_way c hc, held_way d hd) at h) ha hb hc hd
 
--- a number and its absolute value, where it is positive
+-- a positive number equals its absolute value
 pub abs_positive : (w : ℤ) → pos 0 <ℤ w → pos (nat_abs w) ≡ w
 abs_positive w h = omega (arith, ints)

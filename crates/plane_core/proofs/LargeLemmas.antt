@@ -1,4 +1,4 @@
--- What holds for all large numbers n, as of a point that is moved by 1 / n.
+-- Facts that hold for all large numbers n, as for a point that is moved by 1 / n.
 use Rattle.std.proofs.Common.{◌≡◌, ◌≤◌, ◌<◌, ◌+◌, arith, ◌∙◌, sym}
 use Rattle.std.specs.Prelude.{ℤ, ℕ, pos, ◌*ℤ◌, ◌+ℤ◌, neg_ℤ, ◌≤ℤ◌, ◌<ℤ◌, nat_abs}
 use Rattle.std.proofs.lemmas.Int.{ints}

@@ -1,4 +1,4 @@
--- The numbers of the middle of two nodes, and of the point that divides an edge, fit 128 bits.
+-- The numbers of the middle of two nodes, and of the point that divides an edge, fit into 128 bits.
 use Rattle.std.proofs.Common.{◌≡◌, ◌≤◌, ◌*◌, ◌+◌, ◌^◌, ℕ, to_z, of_z, arith, ap, refl, ◌∙◌}
 use Rattle.std.specs.Prelude.{ℤ, pos, ◌*ℤ◌, ◌-ℤ◌, ◌+ℤ◌, ◌<ℤ◌, ◌≤ℤ◌, nat_abs}
 use Rattle.std.specs.Int.{w128}
@@ -160,7 +160,7 @@ divided_below a b n w hn hw ha hb =
         → nat_abs (i +ℤ j) ≤ greatest_coordinate * t
     plain i j r s t h k e = omega (arith, ints)
 
--- the numerator of such a point, as 128 bits hold it
+-- the numerator of such a point, as a 128-bit value
 pub along_held : (r w f a b n k : ℤ) → pos 0 ≤ℤ n → n ≤ℤ w → nat_abs w ≤ greatest_turn
     → nat_abs a ≤ greatest_coordinate → nat_abs b ≤ greatest_coordinate → f ≡ a → k ≡ a -ℤ b
     → r ≡ to_z w128 (of_z w128 w) *ℤ to_z w128 (of_z w128 f) -ℤ to_z w128 (of_z w128 n) *ℤ to_z w128 (of_z w128 k)

@@ -9,7 +9,7 @@ use Rattle.plane_core.specs.Points.{Point, side, is_on, is_at, is_between}
 use Rattle.plane_core.proofs.Signs.{weak}
 use Rattle.plane_core.proofs.FormLemmas.{off_from_positive, off_from_negative, Form, value, side_form, side_form-is, right_of, right_of-is, upward_of, upward_of-is, negated, negated-is, by_sign}
 
--- two forms that are positive at a point, and where both are so the claim holds
+-- two forms that are positive at a point; wherever both are positive, the claim holds
 pub record Near (Q : Point → Type 0) (z : Point) : Type 0 where
   pub first : Form
   pub second : Form

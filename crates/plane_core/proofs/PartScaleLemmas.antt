@@ -1,4 +1,4 @@
--- Two triples of one place are in the same parts.
+-- Two triples of the same place are in the same parts.
 use Rattle.std.proofs.Common.{◌≡◌, ◌<◌, ◌*◌, ◌+◌, arith, refl, ap, ◌∙◌, sym, cond, List, [], ◌∷◌}
 use Rattle.std.specs.Prelude.{ℤ, ℕ, ◌*ℤ◌, pos, Bool, count_by, sum_by, if◌then◌else◌}
 use Rattle.std.specs.List.{list_any, flat_map}

@@ -45,7 +45,7 @@ edges_pushed old mid new es path i a b one lt ea eb h k =
     k ∙ ap (λ (xs : List Edge). xs ++ record { a = a; b = b } ∷ []) h ∙ append_assoc old (edges (take i path)) (record { a = a; b = b } ∷ [])
     ∙ ap (λ (xs : List Edge). old ++ xs) (sym (edges_more path i a b one lt ea eb))
 
--- where the rest of the paths start
+-- the start of the remaining paths
 pub cuts_below : (start : ℕ) (ends : List ℕ) (n : ℕ) → AreCuts start ends n → start ≤ n
 cuts_below start [] n h = omega (arith, h)
 cuts_below start (end ∷ ends) n h = let k = cuts_below end ends n h.1 in omega (arith, h.0, k)

@@ -1,4 +1,4 @@
--- What the tests of a point against vertices and edges answer, as 128 bits hold the numbers.
+-- The results of the tests of a point against vertices and edges, on 128-bit values.
 use Rattle.std.proofs.Common.{◌≡◌, ◌≤◌, ◌*◌, ◌+◌, ℕ, to_z, of_z, w64, true, false, arith, ap, sym, refl, ◌∙◌}
 use Rattle.std.specs.Prelude.{ℤ, pos, Bool, ◌&&◌, ◌||◌, ◌*ℤ◌, ◌-ℤ◌, ◌<ℤ◌, int_lt, int_le, nat_abs, nat_eq}
 use Rattle.std.specs.Int.{w128}

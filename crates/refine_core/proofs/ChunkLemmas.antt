@@ -1,4 +1,4 @@
--- The chunks of a list cover it, and each begins within it.
+-- The chunks of a list cover it, and each starts within it.
 use Rattle.std.proofs.Common.{◌≡◌, ℕ, zero, suc, ◌+◌, ◌*◌, ◌/◌, ◌%◌, ◌<◌, ◌≤◌, min, List, ◌++◌, take, drop, arith, sym, ap, ◌∙◌}
 use Rattle.std.proofs.Common.{add-mul, one-mul, div-add-mod', zero-mul, suc-mul, take-append-drop, ⊎_elim}
 use Rattle.std.proofs.lemmas.Nat.{mul-le}

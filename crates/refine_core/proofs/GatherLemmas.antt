@@ -1,4 +1,4 @@
--- What the shares of all workers are together: a row of each chunk, and so the refinement of the list.
+-- The shares of all workers together: a row for each chunk, and so the refinement of the list.
 use Rattle.std.proofs.Common.{◌≡◌, ℕ, zero, suc, ◌*◌, ◌<◌, ◌≤◌, inl, inr, Bool, true, cond, eqb, List, [], ◌∷◌, ◌++◌, Result, Ok, Err}
 use Rattle.std.proofs.Common.{All, Contains, IsOk, IfOk, length, get_or, take, refl, sym, ap, ap₂, subst, arith, ◌∙◌, zero-mul, add-one}
 use Rattle.std.specs.Prelude.{Any}
@@ -21,7 +21,7 @@ use Rattle.refine_core.specs.Refinements.{AreRefined, none}
 use Rattle.refine_core.proofs.ChunkLemmas.{is_counted, next_chunk}
 use Rattle.refine_core.proofs.RefinementLemmas.{refined_append}
 
--- a number that is counted in a list stands in it
+-- a number that is counted in a list occurs in it
 counted_contains : (x : ℕ) (xs : List ℕ) → 0 < times x xs → Contains xs x
 counted_contains x [] some = absurd (omega arith)
 counted_contains x (y ∷ ys) some =
@@ -46,7 +46,7 @@ some_done (s ∷ seats) some all = (0, s, omega arith, refl, All-head (λ (t : S
 
 module _ {A : Type 0} (stands : ℕ → ℕ → Type 0) (answers : ℕ → ℕ → A → Type 0) (pairs : List (ℕ × ℕ)) where
   module _ (board : BoardValue) where
-    -- what the seats and parts of all workers are
+    -- the seats and parts of all workers
     pub record IsGathered (seats : List SeatValue) (parts : List (Part A)) (count : ℕ) : Type 0 where
       pub as_many : length seats ≡ count
       pub own : All (IsSeatOf board) seats
@@ -88,7 +88,7 @@ module _ {A : Type 0} (stands : ℕ → ℕ → Type 0) (answers : ℕ → ℕ �
         subst (λ s. IsGathered s parts (length shares)) (sym seats_are)
         (subst (λ p. IsGathered (flat_map seat_in shares) p (length shares)) (sym parts_are) (gathered shares oks all))
 
-    -- each chunk has a part, given what the board tells of its seats
+    -- each chunk has a part, given the board's facts on its seats
     pub all_parted : (seats : List SeatValue) (parts : List (Part A)) (workers count : ℕ) → IsGathered seats parts workers → 0 < workers → board.tasks ≡ count
         → ((n : ℕ) × (n ≤ board.tasks) × AreNumbersBelow n (flat_map (λ (s : SeatValue). s.drawn) seats)
         × (Any (λ (s : SeatValue). s.done ≡ true) seats → n ≡ board.tasks))

@@ -1,4 +1,4 @@
--- Parts as they are gathered, put into rows and joined.
+-- Parts as they are collected, put into rows and joined.
 use Rattle.std.proofs.Common.{◌≡◌, ◌≢◌, ℕ, ◌<◌, ◌≤◌, List, [], ◌∷◌, ◌++◌}
 use Rattle.std.proofs.Common.{All, Contains, length, get_or, set, refl, sym, ap, subst, arith, ◌∙◌, ⊎_elim}
 use Rattle.std.specs.Global.{Global}
@@ -11,7 +11,7 @@ use Rattle.refine_core.specs.declared.refined.Refined.{Refined}
 use Rattle.refine_core.specs.declared.worker.Part.{Part}
 use Rattle.refine_core.specs.Parts.{numbers_of, HasRow}
 
--- a loop's step, which adds what its item gives
+-- a loop's step, which adds the result for its item
 pub given_more : {X Y : Type 0} (f : X → List Y) (old new : List Y) (xs : List X) (x : X) (ys : List Y) → old ≡ flat_map f xs → new ≡ old ++ ys → f x ≡ ys
     → new ≡ flat_map f (xs ++ x ∷ [])
 given_more f old new xs x ys so_far grown is =
@@ -22,7 +22,7 @@ pub item_of : {X : Type 0} (P : X → Type 0) (all front rest : List X) (x : X) 
 item_of P all front rest x is every =
     All-contains P all x every (subst (λ xs. Contains xs x) is (Contains-append_right front (x ∷ rest) x (0, omega arith, refl)))
 
--- numbers that rise are no more than what they are all below
+-- the length of an ascending list of numbers is at most a number that they are all less than
 pub few_more : (drawn : List ℕ) (n : ℕ) → ((m : ℕ) → All (λ x. x < m) drawn → length drawn ≤ m) → All (λ x. x < n) drawn
     → (m : ℕ) → All (λ x. x < m) (drawn ++ n ∷ []) → length (drawn ++ n ∷ []) ≤ m
 few_more drawn n few above m all =

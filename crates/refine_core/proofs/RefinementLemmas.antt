@@ -1,4 +1,5 @@
--- What is refined of two lists one after another, and what of a list's pairs stays true of those that stand.
+-- The refinement of concatenated lists, and the facts on a list's pairs that its refinement
+-- preserves.
 use Rattle.std.proofs.Common.{◌≡◌, ◌≢◌, ◌⊎◌, inl, inr, ℕ, zero, suc, ◌+◌, ◌<◌, List, [], ◌∷◌, ◌++◌, Option, Some, None}
 use Rattle.std.proofs.Common.{All, Contains, length, get_or, take, refl, sym, subst, arith}
 use Rattle.std.specs.List.{AllPairs}
@@ -48,14 +49,14 @@ module _ {A : Type 0} (stands : ℕ → ℕ → Type 0) (answers : ℕ → ℕ �
       (subst (AreRefined stands answers (take i pairs ++ get_or pairs i d ∷ [])) (sym grown)
       (refined_append so_far (one_refined (get_or pairs i d) found is)))
 
-  -- what holds of all pairs holds of those that stand
+  -- a fact of all pairs is a fact of those that satisfy the condition
   all_refined : (P : ℕ × ℕ → Type 0) {ps : List (ℕ × ℕ)} {s : List (Refined A)} → AreRefined stands answers ps s → All P ps → All P (pairs_of s)
   all_refined P none all = All-nil P
   all_refined P (kept {pair} {answer} {pairs} {refined} h k a) all =
       All-cons P pair (pairs_of refined) (All-head P pair pairs all) (all_refined P a (All-tail P pair pairs all))
   all_refined P (left_out {pair} {pairs} {refined} h a) all = all_refined P a (All-tail P pair pairs all)
 
-  -- and what holds of each two pairs
+  -- and so is a fact of each two pairs
   pub all_pairs_refined : (R : ℕ × ℕ → ℕ × ℕ → Type 0) {ps : List (ℕ × ℕ)} {s : List (Refined A)} → AreRefined stands answers ps s
       → AllPairs R ps → AllPairs R (pairs_of s)
   all_pairs_refined R none all = all
@@ -87,7 +88,8 @@ module _ {A : Type 0} (stands : ℕ → ℕ → Type 0) (answers : ℕ → ℕ �
       ]
   kept_stands p (left_out h a) c = kept_stands p a c
 
-  -- each near pair once gives each pair that stands once, where what stands is near
+  -- each near pair once gives each pair that satisfies the condition once, if all such pairs are
+  -- near
   pub each_once : (near : ℕ → ℕ → Type 0) (ps : List (ℕ × ℕ)) (s : List (Refined A)) → ((left right : ℕ) → stands left right → near left right)
       → AreRefined stands answers ps s → HoldsEachOnce near ps → HoldsEachOnce stands (pairs_of s)
   each_once near ps s is_near a all = record {

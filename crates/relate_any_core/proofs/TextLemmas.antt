@@ -35,7 +35,7 @@ module _ {T : Type 0} (scale : Scale) (rings : Rings) (a b : List ℕ) where
   none_at g h x out is first second (First f) = ((λ q. absurd cc), (λ told. let bad = first (Err f) told in absurd cc))
   none_at g h x out is first second (Second f) = ((λ q. absurd cc), (λ told. let bad = second (Err f) told.1 in absurd cc))
 
-  -- the same, by what the texts read as
+  -- the same, by the results of reading the texts
   pub first_at_fault : (r : Result Figure GeometryFault) (e : GeometryFault) (out : Result T TextFault) → Reads scale rings a r → ReadsOnly scale rings a r
       → r ≡ Err e → out ≡ Err (First e) → (f : TextFault) → (out ≡ Err f) ↔ HasTextFault scale rings a b f
   first_at_fault r e out reads only same is = first_at e out is (subst (Reads scale rings a) same reads) (subst (ReadsOnly scale rings a) same only)

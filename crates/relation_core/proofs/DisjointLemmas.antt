@@ -47,7 +47,7 @@ within_bound s u h = by_lt_z s.lo s.hi
     (λ long. rw (span_dim_long s long) (parity_le u))
     (λ short. let e : u ≡ line s.lo = omega (arith, ints) in rw e (omega (arith, line_even s.lo)))
 
--- where a place isn't inner it is an end of an interval that has a length
+-- if a place isn't inner, it is an end of an interval of positive length
 end_bound : (s : Span) (u : ℤ) → IsWithin s u → ¬ (IsInner s u) → parity u + 1 ≤ span_dim s
 end_bound s u h n = by_lt_z s.lo s.hi
     (λ long. by_lt_z (line s.lo) u
@@ -108,7 +108,7 @@ boundary_fills s (suc (suc (suc d))) h e = absurd (omega arith)
 pub dim_at_most : (s : Shape) → dim_of s ≤ 2
 dim_at_most s = omega (arith, span_dim_at_most s.x, span_dim_at_most s.y)
 
--- what a part shares with another in which it lies
+-- the intersection of a part with another that contains it
 extent_first : (P Q : ℤ → ℤ → Type 0) (e : Extent) → ((u v : ℤ) → P u v → Q u v) → Fills P e → IsExtent P Q e
 extent_first P Q Empty to h = λ u v p q. h u v p
 extent_first P Q Point to h = record { reached = (h.reached.0, h.reached.1, h.reached.2, to _ _ h.reached.2, h.reached.3); bound = λ u v p q. h.bound u v p }
@@ -121,7 +121,7 @@ extent_second P Q Point to h = record { reached = (h.reached.0, h.reached.1, to 
 extent_second P Q Line to h = record { reached = (h.reached.0, h.reached.1, to _ _ h.reached.2, h.reached.2, h.reached.3); bound = λ u v p q. h.bound u v q }
 extent_second P Q Area to h = record { reached = (h.reached.0, h.reached.1, to _ _ h.reached.2, h.reached.2, h.reached.3); bound = λ u v p q. h.bound u v q }
 
--- behind the last line of the range there is room outside of both
+-- after the last line of the range there is room outside of both
 outside : (s : Shape) → IsExterior s (line (pos greatest_coordinate) +ℤ pos 1) (pos 1)
 outside s h = absurd (omega (arith, ints))
 
@@ -227,21 +227,21 @@ none_fits (mask ∷ ms) m h f = elim f [
   | inr g ↦ none_fits ms m (λ k d low high. h (suc k) d (omega arith) (omega arith)) g
 ]
 
--- what a search of a list of masks finds
+-- the result of searching a list of masks
 pub one_from_cases : (found : Bool) (ms : List Mask) (m : Matrix) →
     MatchBool found ((k : ℕ) × (k < length ms) × HoldsAt (λ mask. Fits mask m) ms k) (AllWithin (λ mask. ¬ (Fits mask m)) ms 0 (length ms)) →
     (found ≡ true) ↔ FitsOne ms m
 one_from_cases true ms m (k, h, w) = (λ _. fits_at ms m k h w, λ _. refl)
 one_from_cases false ms m h = (λ e. absurd cc, λ f. absurd (none_fits ms m h f))
 
--- no mask fits where the first of two disjoint shapes has this dimension
+-- no mask fits if the first of two disjoint shapes has this dimension
 pub record NoneFits (r : Relation) (da : ℕ) : Type 0 where
   pub none : (db : ℕ) → db < 3 → FitsDisjoint r da db → ⊥
 
 pub none_allowed : (r : Relation) (da : ℕ) (allows : Bool) → allows ≡ false → (IsTrue allows ↔ ((db : ℕ) × (db < 3) × FitsDisjoint r da db)) → NoneFits r da
 none_allowed r da allows isnt allows_is = record { none = λ db h fits. absurd (cc (allows_is.1 (db, h, fits))) }
 
--- no mask fits where the two have these dimensions
+-- no mask fits if the two have these dimensions
 pub record NotFits (r : Relation) (da db : ℕ) : Type 0 where
   pub not : FitsDisjoint r da db → ⊥
 

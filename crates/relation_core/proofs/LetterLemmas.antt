@@ -1,4 +1,4 @@
--- Letters that are looked up.
+-- Looking up letters.
 use Rattle.std.proofs.Common.{◌≡◌, ℕ, List, Option, Some, None, IsSomeAnd, slice_index_or, refl, subst, sym}
 use Rattle.std.specs.Prelude.{slice_get}
 use Rattle.std.proofs.lemmas.Option.{get_or_from_slice_get}
@@ -12,7 +12,7 @@ use Rattle.relation_core.specs.Matrices.{letters_of}
 use Rattle.relation_core.specs.Meetings.{IsMeeting}
 use Rattle.relation_core.proofs.PartLemmas.{matrix_holds}
 
--- what holds of an element that is there, holds of it as it is read
+-- a fact of an element is a fact of it as it is read
 read : {A : Type 0} (P : A → Type 0) (xs : List A) (i j : ℕ) (d : A) → i ≡ j → IsSomeAnd (slice_get xs j) P → P (slice_index_or xs i d)
 read {A} P xs i j d same held = subst (λ k. P (slice_index_or xs k d)) (sym same) (there (slice_get xs j) refl held)
   where
@@ -20,7 +20,7 @@ read {A} P xs i j d same held = subst (λ k. P (slice_index_or xs k d)) (sym sam
     there None e held = absurd held
     there (Some x) e held = subst P (sym (get_or_from_slice_get xs j x d e)) held
 
--- the letters of two shapes stand where their meetings' places are
+-- the letters of two shapes are at the indexes of their meetings
 pub looked_up : (a b : Shape) (rows : List LetterRow) (x y : Meeting) (i j : ℕ) (d : LetterRow) (e : NineLetters)
     → IsMeeting x a.x b.x → IsMeeting y a.y b.y → IsLetterTable rows → i ≡ place_of x → j ≡ place_of y
     → AreLetters a b (slice_index_or (slice_index_or rows i d).columns j e).letters

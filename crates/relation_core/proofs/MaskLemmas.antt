@@ -1,4 +1,5 @@
--- Reading a mask: nine letters stand for one mask at most, and what reading gives follows from the bytes.
+-- Reading a mask: nine letters spell at most one mask, and the bytes determine the result of
+-- reading.
 use Rattle.std.proofs.Common.{◌≡◌, ◌≢◌, ℕ, ◌+◌, ◌<◌, ◌≤◌, ◌==◌, ◌↔◌, if◌then◌else◌, List, [], ◌∷◌, length, slice_index, get_or, map, refl, sym, ap, subst, ◌∙◌}
 use Rattle.std.proofs.Common.{arith, pos, Option, Some, None, Result, Ok, Err, below_more}
 use Rattle.std.specs.Char.{to_ascii_uppercase}
@@ -15,7 +16,7 @@ use Rattle.relation_core.specs.declared.mask.MaskFault.{MaskFault}
 use Rattle.relation_core.specs.declared.mask.MaskFault.TheVariants.{Length, Letter}
 use Rattle.relation_core.specs.Masks.{letter_of_value, text_of, IsLetter, IsLetterOf, IsFirstBad, SpellsRow, SpellsRows, TellsBad}
 
--- the value that a capital letter stands for
+-- the value that an upper-case letter stands for
 abbrev value_of : ℕ → Option PatternValue
 value_of n =
     if n == 42 then Some Any
@@ -106,7 +107,7 @@ no_bad text m k e h =
     let n = length-text text m e in
     (get_or (values m) k Any, sym (upper_at text k h) ∙ ap (λ t. slice_index t k) e ∙ get_or-map letter_of_value (values m) k Any 0 (omega arith))
 
--- what holds of three places in a row holds of each place among them
+-- a fact of three consecutive indexes is a fact of each index among them
 near : (P : ℕ → Type 0) (first k : ℕ) → first ≤ k → k < first + 3 → P first → P (first + 1) → P (first + 2) → P k
 near P first k low high a b c =
     let Q : ℕ → Type 0 = λ j. first ≤ j → P j in
@@ -124,7 +125,7 @@ letters_of_row text first row h k low high =
 by_below : {P : Type 0} (j k : ℕ) → (j < k → P) → (k ≤ j → P) → P
 by_below j k below above = by_lt_z (pos j) (pos k) (λ h. below (omega (arith, ints))) (λ h. above (omega (arith, ints)))
 
--- behind bytes that are letters the first bad byte is that of the whole piece
+-- after bytes that are letters the first bad byte is that of the whole piece
 behind_letters : (text : List ℕ) (first middle end stop : ℕ) (fault : MaskFault) → first ≤ middle → end ≤ stop →
     ((k : ℕ) → first ≤ k → k < middle → IsLetter (slice_index text k)) → TellsBad text middle end fault → TellsBad text first stop fault
 behind_letters text first middle end stop fault low high letters bad = record {
@@ -148,7 +149,7 @@ sooner text first end stop fault high bad =
 pub bad_first : (text : List ℕ) (first : ℕ) (fault : MaskFault) → TellsBad text first (first + 1) fault → TellsBad text first (first + 3) fault
 bad_first text first fault bad = sooner text first (first + 1) (first + 3) fault (omega arith) bad
 
--- and so is one behind one letter or two
+-- and so is one after one letter or two
 pub bad_second : (text : List ℕ) (first second : ℕ) (v : PatternValue) (fault : MaskFault) → second ≡ first + 1 →
     IsLetterOf v (slice_index text first) → TellsBad text second (second + 1) fault → TellsBad text first (first + 3) fault
 bad_second text first second v fault at good bad =
@@ -165,13 +166,13 @@ bad_third text first second third v w fault at behind good next bad =
     (λ k from below. below_more (λ j. first ≤ j → L j) second
     (λ j h g. let e : first ≡ j = omega arith in subst L e (v, good)) (λ _. (w, next)) k (omega arith) from) bad
 
--- behind a row that was read the first bad byte is that of the longer piece
+-- after a row that was read the first bad byte is that of the longer piece
 pub behind_row : (text : List ℕ) (first end stop : ℕ) (row : Parts PatternValue) (fault : MaskFault) → end ≤ stop →
     SpellsRow text first row → TellsBad text (first + 3) end fault → TellsBad text first stop fault
 behind_row text first end stop row fault high h bad =
     behind_letters text first (first + 3) end stop fault (omega arith) high (letters_of_row text first row h) bad
 
--- what reading a text as a mask gives
+-- the result of reading a text as a mask
 abbrev pub Reads : List ℕ → Result Mask MaskFault → Type 0
 Reads text (Ok m) = (length text ≡ 9) × SpellsRows text m.rows
 Reads text (Err Length) = length text ≢ 9
@@ -218,7 +219,7 @@ reads_fault text fault n bad = subst (λ (f : MaskFault). Reads text (Err f)) (s
 pub ok_not_err : {A E : Type 0} (a : A) (e : E) → Ok a ≡ Err e → ⊥
 ok_not_err a e is = cc
 
--- what an error is told of stays told where another result is wanted
+-- the facts on an error hold for another result type
 pub err_exact : {A B E : Type 0} (x y : E) (P : Type 0) →
     (◌≡◌ {A = Result A E} (Err x) (Err y)) ↔ P → (◌≡◌ {A = Result B E} (Err x) (Err y)) ↔ P
 err_exact x y P told = (λ e. let same : x ≡ y = cc in told.0 (ap Err same), λ w. let e = told.1 w in let same : x ≡ y = cc in ap Err same)

@@ -1,4 +1,5 @@
--- Each two shapes have a matrix, so a relation says the same of their matrix and of the two sets.
+-- Each two shapes have a matrix, so a relation has the same meaning for their matrix and for the
+-- two sets.
 use Rattle.std.proofs.Common.{◌≡◌, ◌↔◌, ℕ, Bool, true, arith, inl, inr}
 use Rattle.std.specs.Prelude.{ℤ, ◌<ℤ◌}
 use Rattle.std.proofs.lemmas.Int.{ints, by_lt_z}
@@ -92,14 +93,14 @@ pub matrix_of_is : (a b : Shape) → IsMatrix a b (matrix_of a b)
 unfolding matrix_of
 matrix_of_is a b = (some_matrix a b).1
 
--- what the matrix says of a relation, the relation says
+-- the meaning of the matrix for a relation is that of the relation
 holds_by : (r : Relation) (a b : Shape) (P : Type 0) → ((m : Matrix) → IsMatrix a b m → FitsOne (masks r (dim_of a) (dim_of b)) m ↔ P) → Holds r a b ↔ P
 holds_by r a b P law = (
   λ h. (law h.matrix h.is).0 h.fits,
   λ p. let is = matrix_of_is a b in record { matrix = matrix_of a b; is = is; fits = (law (matrix_of a b) is).1 p },
 )
 
--- what a relation says of the two sets holds exactly where one of its masks fits
+-- the meaning of a relation for two sets holds if and only if one of its masks fits
 pub sets_law : (r : Relation) (a b : Shape) → Holds r a b ↔ HoldsOfSets r a b
 sets_law (relations.Mask m) a b = (λ h. h, λ h. h)
 sets_law relations.Disjoint a b = holds_by relations.Disjoint a b _ (disjoint_law a b)
@@ -111,7 +112,7 @@ sets_law relations.Contains a b = holds_by relations.Contains a b _ (contains_la
 sets_law relations.Overlaps a b = (λ h. h, λ h. h)
 sets_law relations.Equals a b = holds_by relations.Equals a b _ (equals_law a b)
 
--- what a test says of a relation of two shapes
+-- the meaning of a test of a relation of two shapes
 pub record Tells (r : Relation) (a b : Shape) (answer : Bool) : Type 0 where
   pub masks : (answer ≡ true) ↔ Holds r a b
   pub sets : (answer ≡ true) ↔ HoldsOfSets r a b
@@ -141,7 +142,7 @@ pub by_mask : (mask : Mask) (a b : Shape) (m : Matrix) (answer : Bool) → IsMat
 by_mask mask a b m answer is test =
     by_matrix (relations.Mask mask) a b m answer is (λ e. inl (test.0 e), λ f. elim f [ inl k ↦ test.1 k | inr x ↦ absurd x ])
 
--- what a test that tells a relation says, of the masks and of the two sets
+-- the meaning of a test that decides a relation, for the masks and for the two sets
 module _ (r : Relation) (a b : Shape) (answer : Bool) (told : Tells r a b answer) where
   pub masks_told : (answer ≡ true) ↔ Holds r a b
   masks_told = told.masks

@@ -1,4 +1,5 @@
--- What the inner parts, the ends and the outsides of two intervals share, for each way in which they can lie.
+-- The intersections of the inner parts, the ends and the outsides of two intervals, for each
+-- meeting.
 use Rattle.std.proofs.Common.{arith, ◌≡◌, sym, ◌∙◌, inl, inr}
 use Rattle.std.specs.Prelude.{ℤ, pos, ◌+ℤ◌, ◌<ℤ◌}
 use Rattle.std.proofs.lemmas.Int.{ints}
@@ -13,19 +14,19 @@ use Rattle.geom_core.specs.Cells.{line, IsInner}
 use Rattle.relation_core.specs.Meetings.{IsMeeting, shares, interior_of, boundary_of, exterior_of}
 use Rattle.relation_core.proofs.Zones.{IsEnd, IsOutside, IsShared, gap_right, end_is_line, point_is_line}
 
--- what a zone of the first interval shares with each zone of the second
+-- the intersections of a zone of the first interval with each zone of the second
 pub record IsAxisRow (Z : ℤ → Type 0) (b : Span) (row : Parts Shared) : Type 0 where
   pub interior : IsShared Z (IsInner b) row.interior
   pub boundary : IsShared Z (IsEnd b) row.boundary
   pub exterior : IsShared Z (IsOutside b) row.exterior
 
--- what the zones of two intervals share is what the rows of the meeting say
+-- the intersections of the zones of two intervals are those of the rows of the meeting
 pub record IsTable (a b : Span) (m : Meeting) : Type 0 where
   pub interior : IsAxisRow (IsInner a) b (interior_of m)
   pub boundary : IsAxisRow (IsEnd a) b (boundary_of m)
   pub exterior : IsAxisRow (IsOutside a) b (exterior_of m)
 
--- what is shared doesn't depend on which of two zones is named first
+-- the intersection doesn't depend on which of two zones is named first
 swapped : (S T : ℤ → Type 0) (e : Shared) → IsShared S T e → IsShared T S e
 swapped S T Nothing h = λ u t s. h u s t
 swapped S T Point ((u, s, t), even) = ((u, t, s), λ v q p. even v p q)

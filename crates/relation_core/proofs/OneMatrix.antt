@@ -1,4 +1,5 @@
--- Two shapes have one matrix, and an entry is empty exactly where the two parts share no cell.
+-- Two shapes have only one matrix, and an entry is empty if and only if the two parts share no
+-- cell.
 use Rattle.std.proofs.Common.{◌≡◌, ◌≢◌, ℕ, ◌≤◌, ◌<◌, refl, subst, arith}
 use Rattle.std.specs.Prelude.{ℤ}
 use Rattle.geom_core.specs.declared.shape.Shape.{Shape}
@@ -55,14 +56,14 @@ one_matrix a b m n h k =
     let e = one_row (IsExterior a) b m.rows.exterior n.rows.exterior h.exterior k.exterior in
     λ t. record { rows = record { interior = i t; boundary = j t; exterior = e t } }
 
--- the parts share a cell where the entry isn't empty
+-- the parts share a cell if the entry isn't empty
 pub shared : (P Q : ℤ → ℤ → Type 0) (e : Extent) → IsExtent P Q e → e ≢ Empty → Share P Q
 shared P Q Empty h n = absurd (n refl)
 shared P Q Point h n = (h.reached.0, h.reached.1, h.reached.2, h.reached.3)
 shared P Q Line h n = (h.reached.0, h.reached.1, h.reached.2, h.reached.3)
 shared P Q Area h n = (h.reached.0, h.reached.1, h.reached.2, h.reached.3)
 
--- they share none where it is
+-- they share none if it is
 pub none_shared : (P Q : ℤ → ℤ → Type 0) (e : Extent) → IsExtent P Q e → e ≡ Empty → (u v : ℤ) → P u v → Q u v → ⊥
 none_shared P Q e h is = let F : Extent → Type 0 = λ x. IsExtent P Q x in subst F is h
 

@@ -1,4 +1,5 @@
--- The parts of a shape as products of zones, and so the matrix of two shapes from how they lie along each axis.
+-- The parts of a shape as products of zones, and so the matrix of two shapes from their meetings
+-- along the axes.
 use Rattle.std.proofs.Common.{arith, inl, inr}
 use Rattle.std.specs.Prelude.{ℤ}
 use Rattle.std.proofs.lemmas.Int.{ints, by_lt_z}
@@ -84,7 +85,7 @@ exterior_made s = record {
   second = λ u v w o h. not_within_outside s.y v h.1 o;
 }
 
--- what the zones N and W of an interval share with the zones of each part of b
+-- the intersections of the zones N and W of an interval with the zones of each part of b
 record IsPairsRow (N W : ℤ → Type 0) (b : Span) (r : Parts ZonePairs) : Type 0 where
   interior : IsPairs N W (IsInner b) (IsInner b) r.interior
   boundary : IsPairs N W (IsEnd b) (Within b) r.boundary
@@ -109,7 +110,7 @@ joined_holds S T b r q h k = record {
   exterior = shared_left S T (IsOutside b) _ _ h.exterior k.exterior;
 }
 
--- what the parts of two intervals share
+-- the intersections of the parts of two intervals
 record IsAxis (a b : Span) (t : Parts (Parts ZonePairs)) : Type 0 where
   interior : IsPairsRow (IsInner a) (IsInner a) b t.interior
   boundary : IsPairsRow (IsEnd a) (Within a) b t.boundary

@@ -1,4 +1,4 @@
--- What sets of cells share: products of sets on the two axes, and unions.
+-- Intersections of sets of cells: products of sets on the two axes, and unions.
 use Rattle.std.proofs.Common.{arith, ◌≡◌, inl, inr}
 use Rattle.std.specs.Prelude.{ℕ, ◌≤◌, ℤ, ◌⊎◌}
 use Rattle.relation_core.specs.declared.extent.Extent.{Extent}
@@ -15,7 +15,7 @@ use Rattle.relation_core.proofs.Zones.{IsShared, parity_le}
 abbrev pub Either : (ℤ → Type 0) → (ℤ → Type 0) → ℤ → Type 0
 Either S T u = S u ⊎ T u
 
--- what is shared with a union
+-- the intersection with a union
 pub shared_right : (S T U : ℤ → Type 0) (e f : Shared) → IsShared S T e → IsShared S U f → IsShared S (Either T U) (larger_of e f)
 shared_right S T U Interval f (u, s, t, odd) k = (u, s, inl t, odd)
 shared_right S T U Point Interval h (u, s, t, odd) = (u, s, inr t, odd)
@@ -25,7 +25,7 @@ shared_right S T U Nothing Interval h (u, s, t, odd) = (u, s, inr t, odd)
 shared_right S T U Nothing Point h ((u, s, t), even) = ((u, s, inr t), λ v p q. elim q [ inl x ↦ absurd (h v p x) | inr y ↦ even v p y ])
 shared_right S T U Nothing Nothing h k = λ v p q. elim q [ inl x ↦ h v p x | inr y ↦ k v p y ]
 
--- what a union shares
+-- the intersections of a union
 pub shared_left : (S U T : ℤ → Type 0) (e f : Shared) → IsShared S T e → IsShared U T f → IsShared (Either S U) T (larger_of e f)
 shared_left S U T Interval f (u, s, t, odd) k = (u, inl s, t, odd)
 shared_left S U T Point Interval h (u, s, t, odd) = (u, inr s, t, odd)
@@ -40,14 +40,15 @@ pub record Reaches (R : ℤ → ℤ → Type 0) (d : ℕ) : Type 0 where
   pub reached : (u : ℤ) × (v : ℤ) × R u v × (cell_dim u v ≡ d)
   pub bound : (u v : ℤ) → R u v → cell_dim u v ≤ d
 
--- what a set of cells amounts to
+-- the dimension of a set of cells
 abbrev pub Fills : (ℤ → ℤ → Type 0) → Extent → Type 0
 Fills R extents.Empty = (u v : ℤ) → R u v → ⊥
 Fills R extents.Point = Reaches R 0
 Fills R extents.Line = Reaches R 1
 Fills R extents.Area = Reaches R 2
 
--- the cells of a product of what S and T share along one axis and of what U and V share along the other
+-- the cells of a product of the intersection of S and T along one axis and of U and V along the
+-- other
 pub record InProduct (S T U V : ℤ → Type 0) (u v : ℤ) : Type 0 where
   pub first : S u
   pub second : T u
@@ -109,7 +110,8 @@ union_fills R Q extents.Empty extents.Line h k = reaches_right R Q 1 (λ u v c. 
 union_fills R Q extents.Empty extents.Point h k = reaches_right R Q 0 (λ u v c. absurd (h u v c)) k
 union_fills R Q extents.Empty extents.Empty h k = λ u v c. elim c [ inl x ↦ h u v x | inr y ↦ k u v y ]
 
--- what the narrow zone N and the wide zone W of one interval share with the zones M and G of another
+-- the intersections of the narrow zone N and the wide zone W of one interval with the zones M and G
+-- of another
 pub record IsPairs (N W M G : ℤ → Type 0) (p : ZonePairs) : Type 0 where
   pub narrow_narrow : IsShared N M p.narrow_narrow
   pub narrow_wide : IsShared N G p.narrow_wide
@@ -122,7 +124,7 @@ pub record IsMadeOf (P : ℤ → ℤ → Type 0) (N W O X : ℤ → Type 0) : Ty
   pub first : (u v : ℤ) → N u → X v → P u v
   pub second : (u v : ℤ) → W u → O v → P u v
 
--- what lies in both of two sets made so
+-- the intersection of two such sets
 abbrev pub InBoth : (N W O X M G L H : ℤ → Type 0) → ℤ → ℤ → Type 0
 InBoth N W O X M G L H = EitherCell
     (EitherCell (InProduct N M X H) (InProduct N G X L))
@@ -150,7 +152,7 @@ extent_from_fills P Q R extents.Point to from h = greatest P Q R 0 to from h
 extent_from_fills P Q R extents.Line to from h = greatest P Q R 1 to from h
 extent_from_fills P Q R extents.Area to from h = greatest P Q R 2 to from h
 
--- four products meet where two sets made so do
+-- four products meet if two such sets do
 pub entry_extent : (P Q : ℤ → ℤ → Type 0) (N W O X M G L H : ℤ → Type 0) (x y : ZonePairs) →
     IsMadeOf P N W O X → IsMadeOf Q M G L H → IsPairs N W M G x → IsPairs O X L H y → IsExtent P Q (entry_of x y)
 entry_extent P Q N W O X M G L H x y f g p q =

@@ -1,4 +1,4 @@
--- What the named relations say of the cells of two shapes.
+-- The meaning of the named relations for the cells of two shapes.
 use Rattle.std.proofs.Common.{◌≡◌, ◌≢◌, ◌↔◌, ℕ, ◌==◌, ◌&&◌, Bool, true, false, if◌then◌else◌, [], ◌∷◌, List, refl, subst, arith, inl, inr, ◌⊎◌}
 use Rattle.std.specs.Prelude.{ℤ}
 use Rattle.std.proofs.lemmas.Int.{ints, by_lt_z}
@@ -60,7 +60,7 @@ covers_or_not s u v = elim (within_or_not s.x u) [
   | inr n ↦ inr (λ h. n h.0)
 ]
 
--- with this matrix, one of the masks fits exactly where the relation holds
+-- with this matrix, one of the masks fits if and only if the relation holds
 pub fits_where_holds : (r : Relation) (a b : Shape) (m : Matrix) → IsMatrix a b m → FitsOne (masks r (dim_of a) (dim_of b)) m ↔ Holds r a b
 fits_where_holds r a b m h = (
   λ f. record { matrix = m; is = h; fits = f },
@@ -90,7 +90,7 @@ meets_bi a b (u, v, i, j) = (u, v, i.0, interior_covers b u v j)
 meets_bb : (a b : Shape) → Share (IsBoundary a) (IsBoundary b) → Meets a b
 meets_bb a b (u, v, i, j) = (u, v, i.0, j.0)
 
--- what the matrix says of the parts of two shapes
+-- the meaning of the matrix for the parts of two shapes
 record Reading (a b : Shape) (m : Matrix) : Type 0 where
   ii : (m.rows.interior.interior ≢ Empty) ↔ InteriorsMeet a b
   ib : (m.rows.interior.boundary ≢ Empty) ↔ Share (IsInterior a) (IsBoundary b)
@@ -109,7 +109,8 @@ some_shared P Q e h = (λ n. shared P Q e h n, λ (u, v, p, q). not_empty P Q e 
 none : (P Q : ℤ → ℤ → Type 0) (e : Extent) → IsExtent P Q e → (e ≡ Empty) ↔ ¬ (Share P Q)
 none P Q e h = (λ is (u, v, p, q). none_shared P Q e h is u v p q, λ n. empty P Q e h (λ u v p q. n (u, v, p, q)))
 
--- a shape lies in another where neither its interior nor its boundary has a cell of the other's exterior
+-- a shape lies in another if neither its interior nor its boundary has a cell of the other's
+-- exterior
 lies_in : (a b : Shape) → ((u v : ℤ) → IsInterior a u v → IsExterior b u v → ⊥) → ((u v : ℤ) → IsBoundary a u v → IsExterior b u v → ⊥) → IsIn a b
 lies_in a b i e u v c = elim (covers_or_not b u v) [
   | inl d ↦ d
@@ -278,7 +279,7 @@ span_of_none s u e h = inr (grind (arith, ints), grind (arith, ints))
 pub point_is_interior : (s : Shape) (u v : ℤ) → dim_of s ≡ 0 → Covers s u v → IsInterior s u v
 point_is_interior s u v e c = (span_of_none s.x u (omega arith) c.0, span_of_none s.y v (omega arith) c.1)
 
--- a list that stands only under a test that fails
+-- a list under a test that fails
 under_not : (t : Bool) (ms : List Mask) (m : Matrix) → FitsOne (if t then [] else ms) m ↔ ((t ≡ false) × FitsOne ms m)
 under_not true ms m = (λ x. absurd x, λ w. absurd (cc (w.0)))
 under_not false ms m = (λ f. (refl, f), λ w. w.1)
@@ -299,7 +300,7 @@ touches_masks =
     ∷ mask (row (Exactly Empty) Any Any) (row Any NotEmpty Any) (row Any Any Any)
     ∷ []
 
--- one of the masks of touches fits where the shapes meet and their interiors don't
+-- one of the masks of touches fits if the shapes meet and their interiors don't
 touches_fits : (a b : Shape) (m : Matrix) → IsMatrix a b m → FitsOne touches_masks m ↔ AreTouching a b
 unfolding touches_masks
 touches_fits a b m h =

@@ -1,4 +1,4 @@
--- The zones of one axis: the inner part of an interval, its ends, and what lies outside it.
+-- The zones of one axis: the inner part of an interval, its ends, and its outside.
 use Rattle.std.proofs.Common.{arith, ◌≡◌, refl, inl, inr}
 use Rattle.std.specs.Prelude.{◌≤◌, zero, suc, ◌+◌, ℤ, pos, negsuc, ◌+ℤ◌, ◌-ℤ◌, ◌<ℤ◌, ◌⊎◌}
 use Rattle.std.proofs.lemmas.Int.{ints}
@@ -14,7 +14,7 @@ IsEnd s u = (s.lo <ℤ s.hi) × ((u ≡ line s.lo) ⊎ (u ≡ line s.hi))
 abbrev pub IsOutside : Span → ℤ → Type 0
 IsOutside s u = (u <ℤ line s.lo) ⊎ (line s.hi <ℤ u)
 
--- what two sets of places on an axis share
+-- the intersection of two sets of places on an axis
 abbrev pub IsShared : (ℤ → Type 0) → (ℤ → Type 0) → Shared → Type 0
 IsShared S T Nothing = (u : ℤ) → S u → T u → ⊥
 IsShared S T Point = ((u : ℤ) × S u × T u) × ((u : ℤ) → S u → T u → parity u ≡ 0)

@@ -13,7 +13,7 @@ kept_range text more a b h k =
     ap (take (b - a)) (drop-append-le a text more (omega arith))
     ∙ take-append-le (b - a) (drop a text) more (let l = length-drop a text in omega arith)
 
--- and ends with what it grew by
+-- and ends with the added text
 new_range : (text more : List ℕ) → slice_range (text ++ more) (length text) (length (text ++ more)) ≡ more
 new_range text more =
     ap (take (length (text ++ more) - length text)) (drop-append_seam text more)
@@ -33,7 +33,7 @@ new_field text feature = record {
   field = new_range text (field_for feature);
 }
 
--- where the last field starts
+-- the start of the last field
 last_start : (starts : List ℕ) (end n : ℕ) → length starts ≡ n + 1 → get_or (starts ++ end ∷ []) (n + 1) 0 ≡ end
 last_start starts end n len = subst (λ (j : ℕ). get_or (starts ++ end ∷ []) j 0 ≡ end) len (get_or-append_seam starts end [] 0)
 
@@ -71,7 +71,7 @@ field_added layer starts text new n column len last is = subst (λ (t : List ℕ
         (subst (λ (b : ℕ). HasField grown (get_or starts n 0) b (with_number n layer)) (sym (last_start starts end n len))
         (subst (λ (a : ℕ). HasField grown a end (with_number n layer)) (sym last) (new_field text (with_number n layer))))
 
--- where one field more ends
+-- the end of one more field
 pub one_start_more : (starts starts' : List ℕ) (n end : ℕ) → length starts ≡ n + 1 → starts' ≡ starts ++ end ∷ [] → length starts' ≡ n + 1 + 1
 one_start_more starts starts' n end len grown = ap length grown ∙ length-append starts (end ∷ []) ∙ ap (λ (k : ℕ). k + 1) len
 

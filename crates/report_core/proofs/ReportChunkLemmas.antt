@@ -39,7 +39,7 @@ rows_append left right ps qs s t a b = record {
       ∙ sym (flat_map-append (row_text default_writer) a.rows b.rows);
 }
 
--- so many chunks leave no element out
+-- this number of chunks leaves no element out
 covered : (count len size : ℕ) → 0 < size → count ≡ len / size + min 1 (len % size) → len ≤ count * size
 covered count len size p is =
     let q = len / size in
@@ -96,7 +96,7 @@ module _ (left right : Contents) (size : ℕ) (pairs : List (ℕ × ℕ)) (parts
 all_of_chunk : {X : Type 0} (P : X → Type 0) (xs ys : List X) (size start : ℕ) → IsChunk xs size start ys → All P xs → All P ys
 all_of_chunk P xs ys size start is all = λ k d l. subst P (sym (is.elements k d l)) (all (start + k) d (omega (arith, is.in_bounds)))
 
--- columns that tell of some pairs tell of a chunk of them
+-- columns for some pairs are columns for a chunk of them
 pub chunk_told : (columns : Columns) (left right : Contents) (pairs chunk : List (ℕ × ℕ)) (size start : ℕ)
     → IsChunk pairs size start chunk → AreColumnsFor left right pairs columns → AreColumnsFor left right chunk columns
 chunk_told columns left right pairs chunk size start is tell = record {
@@ -107,7 +107,7 @@ chunk_told columns left right pairs chunk size start is tell = record {
   held = all_of_chunk (IsHeld left right) pairs chunk size start is tell.held;
 }
 
--- what a thread gave for a chunk
+-- the result of a thread for a chunk
 pub chunk_written : (left right : Contents) (pairs chunk : List (ℕ × ℕ)) (size n : ℕ) (part : Result (Vec ℕ Global) AllocError)
     → IsChunk pairs size (n * size) chunk → IsOk part
     → IfOk part (λ text. AreRows left right chunk text.items)
@@ -159,11 +159,11 @@ chunks_pushed (Ok t) left right pairs old mid new header line parts grown is row
     chunks_added left right pairs old mid new header line parts grown is (rows ok) all
 chunks_pushed (Err e) left right pairs old mid new header line parts grown is rows ok all = tt
 
--- what stands for the texts past the last one
+-- the value that is used for texts past the last one
 pub no_text : Result (Vec ℕ Global) AllocError
 no_text = Err (record {})
 
--- two facts of an answer give a third
+-- two facts of a result imply a third
 pub from_both : {T E : Type 0} (r : Result T E) (P Q S : T → Type 0) → IfOk r P → IfOk r Q → ((t : T) → P t → Q t → S t) → IfOk r S
 from_both (Ok t) P Q S p q s = s t p q
 from_both (Err e) P Q S p q s = tt

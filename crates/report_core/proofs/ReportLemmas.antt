@@ -75,7 +75,7 @@ pub has_shape : (o : Option Feature) (answer : Option Shape) → answer ≡ opti
 has_shape None answer is some = absurd (let bad : false ≡ true = some in cc)
 has_shape (Some feature) answer is some = rw is refl
 
--- what an answer says of the field in it
+-- the consequence of a result for the field in it
 pub field_in : (answer : Option (Bor (List ℕ))) (field : Bor (List ℕ)) (wanted : List ℕ) → IsSomeAnd answer (λ f. f.now ≡ wanted) → answer ≡ Some field
     → field.now ≡ wanted
 field_in None field wanted is e = absurd (let bad : None ≡ Some field = e in cc)
@@ -85,7 +85,7 @@ pub has_field : (answer : Option (Bor (List ℕ))) (P : Bor (List ℕ) → Type 
 has_field None P is = absurd is
 has_field (Some f) P is = refl
 
--- what is below a bound is below a number that equals it
+-- a number less than a bound is less than a number equal to it
 pub below_len : (n a b : ℕ) → n < b → a ≡ b → n < a
 below_len n a b h e = subst (λ z. n < z) (sym e) h
 

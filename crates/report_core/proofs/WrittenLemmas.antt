@@ -1,4 +1,4 @@
--- How what was written grows.
+-- How the written text grows.
 use Rattle.std.proofs.Common.{◌≡◌, ℕ, ◌+◌, ◌-◌, ◌<◌, ◌≤◌, List, [], ◌∷◌, ◌++◌, Option, Result, Ok, Err, OnErr, Bool, true, false, length, get_or, take, drop}
 use Rattle.std.proofs.Common.{refl, sym, ap, subst, arith, append-nil, append_assoc, ◌∙◌, IsTrue, ◌↔◌}
 use Rattle.std.proofs.lemmas.Grind.{common_steps}
@@ -35,7 +35,7 @@ appends_up_to_end a b c text [] so_far e kept =
     subst (Appends a c) (sym (so_far.whole ∙ append-nil so_far.front)) (Appends-kept a b c so_far.front so_far.appended kept)
 appends_up_to_end a b c text (x ∷ rest) so_far e kept = absurd (let bad : length (x ∷ rest) ≡ 0 = e in grind (arith, common_steps))
 
--- what an `Ok` says of the device
+-- the consequence of an `Ok` for the device
 pub not_failed : (failed : Bool) → (false ≡ true ↔ IsTrue failed) → failed ≡ false
 not_failed true h = absurd (let bad : false ≡ true = h.1 refl in cc)
 not_failed false h = refl
@@ -81,7 +81,7 @@ texts_written a b texts i h all = subst (λ ts. Appends a b (joined ts)) (take_a
 pub whole_prefix : (a b c : Option (List ℕ)) (text : List ℕ) → Appends a b text → Keeps b c → AppendsPrefix a c text
 whole_prefix a b c text all kept = (text, ([], append-nil text), Appends-kept a b c text all kept)
 
--- what holds is ensured of an `Err`
+-- a fact that holds is ensured for an `Err`
 pub on_err : {T E : Type 0} (r : Result T E) (P : Type 0) → P → OnErr r P
 on_err (Ok t) P p = tt
 on_err (Err e) P p = p

@@ -21,7 +21,8 @@ start_of a b c d = int_max (int_min a b) (int_min c d)
 abbrev pub end_of : ℤ → ℤ → ℤ → ℤ → ℤ
 end_of a b c d = int_min (int_max a b) (int_max c d)
 
--- where the beginning is before the end, both are in both intervals, and neither has one number alone
+-- if the start is before the end, both are in both intervals, and neither consists of a single
+-- number
 pub record IsCommon (a b c d : ℤ) : Type 0 where
   pub ordered : start_of a b c d <ℤ end_of a b c d
   pub first_start : IsIn a b (start_of a b c d)
@@ -60,7 +61,7 @@ to_end a b c d z w hw h k = elim (min_pick (int_max a b) (int_max c d)) [
   | inr e ↦ subst (λ (m : ℤ). z ≤ℤ (w *ℤ m)) (sym e) (high_of c d z w hw k)
 ]
 
--- so it is the beginning where the intervals share one number at most
+-- so it is the start if the intervals share at most one number
 pub at_start : (a b c d z w : ℤ) → pos 0 <ℤ w → share_interval a b c d ≡ false → IsIn (w *ℤ a) (w *ℤ b) z → IsIn (w *ℤ c) (w *ℤ d) z → z ≡ w *ℤ start_of a b c d
 at_start a b c d z w hw none h k =
     same _ _ _ (from_start a b c d z w hw h k) (to_end a b c d z w hw h k) (no_less_scaled w _ _ hw (plain (start_of a b c d) (end_of a b c d) none))

@@ -163,7 +163,7 @@ on_by_y f p wide long level h =
         plain : (m n : ℤ) → m -ℤ n ≡ pos 0 → n -ℤ m ≡ pos 0
         plain m n h = omega (arith, ints)
 
--- where a number between two others divides the way from the one to the other
+-- where a number between two others divides the distance from the one to the other
 pub record IsDivision (a b z n w : ℤ) : Type 0 where
   pub from_ : pos 0 ≤ℤ n
   pub to_ : n ≤ℤ w

@@ -1,4 +1,4 @@
--- Two edges meet properly exactly if they neither cross inside nor run along each other.
+-- Two edges meet properly if and only if they neither cross inside nor run along each other.
 use Rattle.std.proofs.Common.{◌≡◌, ◌<◌, inl, inr, true, false, arith, refl, sym, ap, subst, ◌∙◌}
 use Rattle.std.specs.Prelude.{ℕ, ℤ, pos, neg_ℤ, ◌+ℤ◌, ◌-ℤ◌, ◌*ℤ◌, ◌≤ℤ◌, ◌<ℤ◌, nat_abs, Bool, ◌&&◌, ◌||◌, not, IsTrue, ◌↔◌}
 use Rattle.std.specs.Ordering.{int_eq}

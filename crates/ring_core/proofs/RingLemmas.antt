@@ -29,7 +29,7 @@ AreProperBelow es n = (i : ℕ) → i < n → IsProperAt es i
 pub all_proper : (es : List Edge) (n : ℕ) → length es ≤ n → AreProperBelow es n → AreProper es
 all_proper es n le h i j d lt within = h i (omega arith) j d lt within
 
--- what comes after a place
+-- the items after an index
 rest_length : (es : List Edge) (i : ℕ) → length (take (length es - i) (drop i es)) ≡ length es - i
 rest_length es i = length-take (length es - i) (drop i es) ∙ omega (arith, length-drop i es)
 
@@ -82,7 +82,7 @@ near_met es e i near within is proper p d lt x later inside =
 pub true_false : IsTrue false → ⊥
 true_false h = cc
 
--- what is told of the edges of an area is told of its rings
+-- a fact of the edges of an area is a fact of its rings
 pub rings_as : (g : Figure) (es : List Edge) (r : Result Bool AllocError) → kind_of g ≡ Rings → es ≡ edges_of g
     → IfOk r (λ t. IsTrue t ↔ AreProper es) → IfOk r (λ t. IsTrue t ↔ HasProperRings g)
 rings_as (Points vs) es r kind is h = cc

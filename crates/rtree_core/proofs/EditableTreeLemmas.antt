@@ -1,4 +1,4 @@
--- What insertions into a tree do, one after another.
+-- The effect of insertions into a tree, one after another.
 use Rattle.std.proofs.Common.{arith, ◌≡◌, ℕ, zero, suc, ◌+◌, ◌*◌, ◌<◌, ◌≤◌, Bool, true, false, cond, List, [], ◌∷◌, ◌++◌, refl, ◌∙◌, ap, append-nil, length, ◌^◌}
 use Rattle.std.specs.Prelude.{vec_len, Option, None, Some, IsSomeAnd}
 use Rattle.std.proofs.lemmas.Nat.{mul-le}
@@ -32,7 +32,7 @@ can_take_less m n t le e = record {
 one_more : (n b : ℕ) → (1 + n) * b ≡ b + n * b
 one_more n b = omega arith
 
--- after an insertion, which takes so many lists, there are enough for the others
+-- after an insertion, which uses a number of lists, there are enough for the others
 can_take_after : (n : ℕ) (s t : EditableTree) →
     t.height ≤ s.height + 1 →
     vec_len s.free.leaves ≤ vec_len t.free.leaves + 1 →
@@ -45,7 +45,7 @@ can_take_after n s t le leaf inner e = record {
   low = omega (arith, e.low);
 }
 
--- what was taken out of a collection but for some, which came in again, is gone from the whole
+-- the items removed from a collection, except some that were added again, are gone from the whole
 pub lost_but_back : (e : Entry) (old kept aside after : List Entry) →
     HasSame (e ∷ (kept ++ aside)) old →
     HasSame (aside ++ kept) after →
@@ -115,7 +115,7 @@ root_made x old new n none is one node lists sound leaf inner =
       rooted = λ h. rw is (record { lawful = lawful_is 0 n lawful; two = λ above. absurd (omega arith) });
     }
 
--- the same, where the node's list was taken from the free ones
+-- the same, if the node's list was taken from the free ones
 pub root_made_from : (x : Entry) (old new : EditableTree) (n : Node) (list page : Vec Entry Global) →
     old.root ≡ None →
     IsSound old →

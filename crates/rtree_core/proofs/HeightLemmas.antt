@@ -1,4 +1,4 @@
--- The height of a packed tree, from how many entries it has.
+-- The height of a packed tree, from its number of entries.
 use Rattle.std.proofs.Common.{arith, ◌≡◌, ℕ, zero, suc, ◌+◌, ◌*◌, ◌^◌, ◌≤◌, ◌↔◌, inl, inr, List, [], ◌∷◌, length, map, refl, sym, ◌∙◌, ap, subst, pow-suc}
 use Rattle.std.specs.Prelude.{Option, None, Some, IfSome, Result, Ok, Err, IfOk}
 use Rattle.std.specs.Int.{div_ceil}
@@ -29,7 +29,7 @@ count_tiles cover rank held list_of items nodes tiles =
     sym (length-map nodes list_of) ∙ ap length tiles.pages
     ∙ length-map (range_with_len 0 pages) (page_at pages (map held tiles.tiled)) ∙ length-range_with_len 0 pages ∙ ap (λ n. div_ceil n most) same
 
--- so many nodes of a level hold so many entries
+-- the number of entries of a number of nodes of a level
 level_holds : (entries : List Entry) (level : ℕ) (nodes : List Node) → IsPackedLevel entries level nodes → (count : ℕ)
     → (length nodes ≤ count) ↔ (length entries ≤ count * most ^ suc level)
 level_holds entries zero nodes tiles count =

@@ -1,4 +1,4 @@
--- What an insertion does to a node, from what it does to the node's list.
+-- The effect of an insertion on a node, from its effect on the node's list.
 use Rattle.std.proofs.Common.{arith, ◌≡◌, ℕ, suc, ◌+◌, ◌<◌, ◌≤◌, Bool, cond, List, [], ◌∷◌, ◌++◌, length, get_or, set, refl, sym, ◌∙◌, ap, subst, length-append}
 use Rattle.std.proofs.Common.{length-set, get_or-set_same, vec_len, vec_capacity}
 use Rattle.std.specs.Prelude.{All, count_by, sum_by, Option, None, Some, MatchOption}
@@ -26,14 +26,14 @@ use Rattle.rtree_core.proofs.ItemLemmas.{count_below, Opened, open_inner, child_
 use Rattle.rtree_core.proofs.NodeLemmas.{lawful_level}
 use Rattle.split_core.proofs.SplitLemmas.{split_sums, split_all, split_back}
 
--- the cover of a shape and what takes it in
+-- the cover of a shape and of the cover that includes it
 within_cover : (c s : Shape) (t : Shape) → IsIn s t → IsIn c t → IsIn (cover_of c s) t
 within_cover c s t h k = cover_least c s t k h
 
 without_cover : (c s : Shape) (t : Shape) → IsIn (cover_of c s) t → IsIn s t × IsIn c t
 without_cover c s t h = (in_trans s (cover_of c s) t (in_cover_second c s) h, in_trans c (cover_of c s) t (in_cover_first c s) h)
 
--- the covers of both groups of a split lie in what contains the items, and the other way round
+-- the covers of both groups of a split lie in a shape that contains the items, and conversely
 halves_within : {T : Type 0} (cover : T → Shape) (items one two : List T) (c d t : Shape) →
     IsSplit cover items one two →
     IsLeastCover cover one c →
@@ -164,14 +164,15 @@ inner_stays added s c d v w o i x y lt at stays items len room e =
       without = λ t h. without_cover c s t (rw e at h);
     }
 
--- a list of children that holds what an inner node held and the added entries: with the same sums, and in the same shapes with s
+-- a list of children that holds an inner node's items and the added entries: with the same sums,
+-- and in the same shapes with s
 pub record Replaces (added : List Entry) (s c : Shape) (v : Vec Node Global) (xs : List Node) : Type 0 where
   pub longer : vec_len v ≤ length xs
   pub sums : (p : Entry → Bool) → sum_by (λ n. count_by p (entries_of n)) xs ≡ count_by p (added ++ flat_map entries_of v.items)
   pub into : (t : Shape) → IsIn s t → IsIn c t → AllIn (λ n. n.cover) t xs
   pub out : (t : Shape) → AllIn (λ n. n.cover) t xs → IsIn s t × IsIn c t
 
--- the node of such a list has the entries, and so have the two halves where it was split
+-- the node of such a list has the entries, and so have the two halves if it was split
 module _ (added : List Entry) (s c : Shape) (v : Vec Node Global) (o : Opened c v) (xs : List Node) (r : Replaces added s c v xs)
     (fit : All (FitsInner (suc o.level)) xs) where
   inner_grows : (d : Shape) (w : Vec Node Global) →

@@ -139,7 +139,7 @@ pub inner_packed : (c : Shape) (v : Vec Node Global) → IsPackedOf FitsPacked v
 inner_packed c v zero all = tt
 inner_packed c v (suc level) all = rw (inner_children c v) all
 
--- its children are such as it may hold
+-- its children are ones that it may hold
 pub inner_fits : (c : Shape) (v : Vec Node Global) (o : Opened c v) → All (FitsInner (suc o.level)) v.items
 inner_fits c v o k d lt = (o.inner.children k d lt, o.inner.enough k d lt)
 

@@ -1,4 +1,4 @@
--- The equations of a node's entries and level, and what is lawful of its parts.
+-- The equations of a node's entries and level, and which facts of its parts make it lawful.
 use Rattle.std.proofs.Common.{arith, ◌≡◌, ℕ, zero, suc, ◌+◌, ◌<◌, ◌≤◌, List, [], ◌∷◌, ◌++◌, map, length, get_or, refl, sym, ◌∙◌, ap, max, subst, add-one}
 use Rattle.std.specs.Prelude.{All}
 use Rattle.std.specs.List.{flat_map, fold}
@@ -45,7 +45,7 @@ level_leaf n v e = level_unfold n ∙ rw e refl
 pub level_inner : (n : Node) (v : Vec Node Global) → out-Below n.below ≡ Children v → level_of n ≡ fold max 0 (map level_of v.items) + 1
 level_inner n v e = level_unfold n ∙ rw e refl
 
--- what a node holds tells whether it is a leaf
+-- the items of a node decide if it is a leaf
 pub holds_entries : (n : Node) (v : Vec Entry Global) → out-Below n.below ≡ Entries v → IsLeaf n
 holds_entries n v e = rw e tt
 
@@ -98,7 +98,7 @@ lawful_level (suc l) n h = inner_level l n (out-Below n.below) (lawful_level l) 
 pub lawful_is : (l : ℕ) (n : Node) → IsLawfulAt l n → IsLawful n
 lawful_is l n h = subst (λ k. IsLawfulAt k n) (sym (lawful_level l n h)) h
 
--- what an inner node has, told of the list of its children
+-- the facts of an inner node, in terms of the list of its children
 pub record HasChildren (l : ℕ) (n : Node) : Type 0 where
   pub entries : entries_of n ≡ flat_map entries_of (children_of n)
   pub some : 0 < length (children_of n)
@@ -121,7 +121,7 @@ has_children_by l n (Children v) e h = record {
 pub has_children : (l : ℕ) (n : Node) → IsLawfulAt (suc l) n → HasChildren l n
 has_children l n h = has_children_by l n (out-Below n.below) refl h
 
--- what a leaf has
+-- the facts of a leaf
 pub record HasEntries (n : Node) : Type 0 where
   pub some : 0 < length (entries_of n)
   pub tight : IsLeastCover (λ e. e.shape) (entries_of n) n.cover
@@ -201,7 +201,7 @@ lawful_children n v e h =
       covers = children_inside n v e h;
     }
 
--- the same of what a call gave for the list of children
+-- the same for the list of children returned by a call
 pub given_entries : (n : Node) (v : Vec Node Global) (xs : List Node) → n.below ≡ made_children v → xs ≡ v.items → entries_of n ≡ flat_map entries_of xs
 given_entries n v xs is e = rw e (entries_inner n v (ap out-Below is ∙ outs-Children v))
 

@@ -1,4 +1,4 @@
--- How a list of items is cut into the nodes of the level above, and what that makes of the whole.
+-- How a list of items is cut into the nodes of the level above, and the effect on the whole.
 use Rattle.std.proofs.Common.{arith, ◌≡◌, ℕ, zero, suc, ◌+◌, ◌-◌, ◌*◌, ◌/◌, ◌%◌, ◌^◌, ◌<◌, ◌≤◌, Bool, cond, inl, inr, List, [], ◌∷◌, ◌++◌, map, min, length, refl}
 use Rattle.std.proofs.Common.{sym, ◌∙◌, ap, subst, append_assoc, append-nil, length-append, take, drop}
 use Rattle.std.specs.Prelude.{All, Option, IfSome, Result, IfOk, count_by, sum_by, vec_len, vec_capacity}
@@ -41,7 +41,7 @@ distinct_permuted old new perm distinct k =
     let counted : Entry → ℕ = λ x. cond (has_number k x) 1 0 in
     omega (arith, distinct k, sum_by-IsPermutation counted old new perm)
 
--- what becomes of a list whose items were put in order in the slice of all of them
+-- the effect on a list of sorting the slice of all its items
 pub list_permuted : {T : Type 0} (n : ℕ) (old slice new : List T) →
     slice ≡ old →
     length slice ≡ n →
@@ -68,7 +68,7 @@ pub list_distinct : (n : ℕ) (old slice new : List Entry) →
     count_by (has_number k) (take n (new ++ drop (length new) old)) ≤ 1
 list_distinct n old slice new all len perm distinct = distinct_permuted old _ (list_permuted n old slice new all len perm) distinct
 
--- and what a tree of it is one of
+-- and the tree of which it becomes a level
 pub list_same : (n : ℕ) (old slice new others : List Entry) →
     slice ≡ old →
     length slice ≡ n →
@@ -192,7 +192,7 @@ share_of size items (suc o) some is =
 
 pub ruleset shares = (share_within, length-map)
 
--- the first so many of some pages were cut from the items as these nodes, and the rest is left
+-- the first `place` pages were cut from the items as these nodes, and the rest remains
 pub record IsCut {K : Type 0} (entries : K → List Entry) (fits fits_packed : ℕ → K → Type 0) (InRange : K → Type 0) (items : List K) (pages place : ℕ)
     (nodes : List Node) (rest : List K) : Type 0 where
   pub joined : flat_map entries items ≡ flat_map entries_of nodes ++ flat_map entries rest
@@ -345,7 +345,7 @@ level_tiles n old slice new above all len perm order pages = record {
   pages = pages;
 }
 
--- the same of what a level was made into, if there was memory for it
+-- the same for the nodes made of a level, if there was memory for them
 pub above_made : {E : Type 0} (n : ℕ) (old slice new : List Placed) (made : Result (Vec Placed Global) E) →
     slice ≡ old →
     length slice ≡ n →
@@ -463,7 +463,7 @@ row_root all n height distinct small row =
       height_is = omega (arith, row.height_is, level);
     }
 
--- the same of a node that was told to be this one
+-- the same for a node that equals this one
 pub row_root_is : (all : List Entry) (n m : Node) (height : ℕ) →
     m ≡ n →
     ((k : ℕ) → count_by (has_number k) all ≤ 1) →

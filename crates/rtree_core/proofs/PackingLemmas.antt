@@ -34,7 +34,7 @@ pub enumerate_next : {T : Type 0} (placed : List (ℕ × T)) (xs : List T) (k : 
     placed ++ (k, x) ∷ [] ≡ enumerate_from 0 (xs ++ x ∷ [])
 enumerate_next placed xs k x e is = ap (λ ps. ps ++ (k, x) ∷ []) is ∙ sym (enumerate_push 0 k xs x (omega arith))
 
--- these nodes have the first of so many pages of the items, and the others are left
+-- these nodes have the first of the pages of the items, and the others remain
 pub record HasPages {T : Type 0} (list_of : Node → List T) (items : List T) (pages place : ℕ) (nodes : List Node) (rest : List T) : Type 0 where
   pub cut : map list_of nodes ≡ map (page_at pages items) (range_with_len 0 place)
   pub left : rest ≡ drop (items_before place pages (length items)) items
@@ -109,7 +109,7 @@ module _ {S T : Type 0} (f : S → T) (g : T → S) (cover : T → Shape) (rank 
     pages = tiles.pages ∙ ap pages_of (sym (map-map held f tiles.tiled));
   }
 
--- the nodes above some, which were told with their places
+-- the nodes above some nodes, given with their indexes
 pub nodes_above : (placed : List Placed) (below above : List Node) →
     map (λ p. (p.place, p.node)) placed ≡ enumerate_from 0 below →
     AreTilesOf (λ p. p.node.cover) (λ p. p.place) (λ p. p.node) children_of placed above →

@@ -70,7 +70,7 @@ tested : (a b : Entry) (t : Bool) → eq-value.it a b ≡ t → (t ≡ false) �
 tested a b true h = inr (entry_same a b h)
 tested a b false h = inl refl
 
--- what the test of two entries says
+-- the meaning of the test of two entries
 pub same_or_not : (a b : Entry) → (eq-value.it a b ≡ false) ⊎ (a ≡ b)
 same_or_not a b = tested a b _ refl
 
@@ -147,7 +147,7 @@ not_there es e p x lt at differ there =
     let same : x ≡ e = at ∙ get_or_default es p x e lt ∙ there in
     false≢true (sym differ ∙ ap (λ z. eq-value.it z e) same ∙ entry_itself e)
 
--- an entry below a node stands among the entries of the nodes together, and the other way round
+-- an entry below a node is among the entries of all the nodes, and conversely
 pub contains_joined : (xs : List Node) (e : Entry) (p : ℕ) (x : Node) → p < length xs → x ≡ get_or xs p x → Contains (entries_of x) e → Contains
     (flat_map entries_of xs) e
 contains_joined [] e p x lt at h = absurd (omega (arith, lt))

@@ -1,4 +1,4 @@
--- What taking an entry out leaves of a node, from what it leaves of the node's list.
+-- The effect of removing an entry on a node, from its effect on the node's list.
 use Rattle.std.proofs.Common.{arith, ◌≡◌, ℕ, suc, ◌+◌, ◌<◌, ◌≤◌, Bool, cond, List, [], ◌∷◌, ◌++◌, length, get_or, set, take, drop, sym, ◌∙◌, ap, subst}
 use Rattle.std.proofs.Common.{true, false, refl, length-append, length-set, get_or-set_same, vec_len, vec_capacity, inl, inr}
 use Rattle.std.specs.Prelude.{count_by, sum_by, remove, Contains, IsTrue, ◌↔◌}
@@ -46,7 +46,7 @@ leaf_taken c d v w e p page at two items len room tight = record {
   are_aside = λ k b h. absurd (omega arith);
 }
 
--- whether a leaf holds an entry, and what taking it out leaves, where its list was read as these
+-- whether a leaf holds an entry, and the result of removing it, given its list
 pub leaf_holds : (c : Shape) (v : Vec Entry Global) (e : Entry) (p : ℕ) (xs : List Entry) → xs ≡ v.items → IsPlaceOf xs e p →
     IsTrue true ↔ Contains (entries_of (leaf_node c v)) e
 leaf_holds c v e p xs read at = rw (leaf_entries c v, ← read) (λ h. (p, at.inside, at.there), λ h. refl)
@@ -70,7 +70,7 @@ pub leaf_taken_from : (c : Shape) (v : Vec Entry Global) (e : Entry) (p : ℕ) (
 leaf_taken_from c v e p xs page two read at d w ys items len room left tight =
     leaf_taken c d v w e p page (rw read at at) two items len (omega (arith, page.room)) (rw left at tight)
 
--- what was written into a list of nodes from one of which the entry was taken out, told of the node that stands there
+-- the list of nodes after an entry was removed from one of them, given the node at that index
 pub record Written (e : Entry) (v w : Vec Node Global) (aside : List Node) (p : ℕ) (y : Node) : Type 0 where
   pub inside : p < length v.items
   pub items : w.items ≡ set v.items p y
@@ -96,7 +96,7 @@ written e v xs ys aside p y is h read =
           (subst (λ zs. IsTakenOut e (get_or zs p y) (get_or ys p y) aside) is (h.taken y));
     }
 
--- the count of what is left in a child, and of what was set aside
+-- the number of items left in a child, and of those set aside
 left : (e : Entry) (x y : Node) (aside : List Node) → IsTakenOut e x y aside → (q : Entry → Bool) →
     cond {A = ℕ} (q e) 1 0 + (count_by q (entries_of y) + count_by q (flat_map entries_of aside)) ≡ count_by q (entries_of x)
 left e x y aside h q =

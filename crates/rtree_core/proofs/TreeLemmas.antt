@@ -1,4 +1,4 @@
--- What a lawful tree keeps, and how large it can be.
+-- The invariants of a lawful tree, and how large it can be.
 use Rattle.std.proofs.Common.{arith, ◌≡◌, ◌≢◌, ℕ, zero, suc, ◌+◌, ◌^◌, ◌<◌, ◌≤◌, pow_mono, pow-suc, true, cond, List, [], ◌∷◌, length, refl, sym, ◌∙◌, subst}
 use Rattle.std.proofs.Common.{inl, inr}
 use Rattle.std.specs.Prelude.{All, Option, None, Some, IfSome, count_by, sum_by, nat_eq, nat_lt}
@@ -45,7 +45,7 @@ count_none : (xs : List Entry) → count_by (λ e. nat_lt e.number 0) xs ≡ 0
 count_none [] = refl
 count_none (x ∷ xs) = omega (arith, count_none xs, is_none_below x.number, sum_by-cons (λ e. cond {A = ℕ} (nat_lt e.number 0) 1 0) x xs)
 
--- how many numbers lie below n, where none comes twice
+-- how many distinct numbers are less than n
 pub count_below_n : (n : ℕ) (xs : List Entry) → ((k : ℕ) → count_by (has_number k) xs ≤ 1) → count_by (λ e. nat_lt e.number n) xs ≤ n
 count_below_n zero xs h = omega (arith, count_none xs)
 count_below_n (suc n) xs h = omega (arith, count_suc n xs, count_below_n n xs h, h n)
@@ -56,7 +56,7 @@ itself k = grind (arith, nat_tests)
 is_below : (a n : ℕ) → a < n → cond {A = ℕ} (nat_lt a n) 1 0 ≡ 1
 is_below a n h = grind (arith, nat_tests)
 
--- all are below n where none is n or more
+-- all are less than n if none is n or more
 pub all_below : (n : ℕ) (xs : List Entry) → ((k : ℕ) → n ≤ k → count_by (has_number k) xs ≡ 0) → count_by (λ e. nat_lt e.number n) xs ≡ length xs
 all_below n [] h = refl
 all_below n (x ∷ xs) h =
@@ -152,7 +152,7 @@ tree_gains x old new small fresh tree gains lawful = record {
   );
 }
 
--- a tree without one of its entries is lawful where its root is
+-- a tree without one of its entries is lawful if its root is
 pub tree_loses : (x : Entry) (old new : Option Node) → IsTree old → Gains x (entries_in new) (entries_in old) → IfSome new IsRoot → IsTree new
 tree_loses x old new tree loses lawful = record {
   lawful = lawful;

@@ -30,7 +30,7 @@ use Rattle.rtree_core.specs.Windows.{AllMet, AllFound, Picks, none, met, missed,
 use Rattle.split_core.proofs.CoverLemmas.{in_trans, All-front, All-back}
 use Rattle.rtree_core.proofs.NodeLemmas.{HasChildren, has_children, has_entries}
 
--- what holds of each item of a list of lists joined holds of each item of each
+-- a fact of each item of concatenated lists is a fact of each item of each list
 pub all_joined : {A B : Type 0} (P : B → Type 0) (f : A → List B) (xs : List A) → All (λ x. All P (f x)) xs → All P (flat_map f xs)
 all_joined P f [] h = All-nil P
 all_joined P f (x ∷ xs) h = All-append P (f x) (flat_map f xs) (All-head (λ y. All P (f y)) x xs h) (all_joined P f xs (All-tail (λ y. All P (f y)) x xs h))
@@ -107,7 +107,7 @@ pub adds_more_child : (w : Shape) (xs : List Node) (i : ℕ) (n : Node) (a b c :
     (flat_map entries_of (take (i + 1) xs)) a c
 adds_more_child w xs i n a b c lt at p q = rw (below_more xs i n lt at) (adds_append w (flat_map entries_of (take i xs)) (entries_of n) a b c p q)
 
--- what a search that had memory added
+-- the numbers added by a search that had memory
 pub ran : {E : Type 0} (w : Shape) (es : List Entry) (old found : List ℕ) (r : Result (Unit {0}) E) (b : ControlFlow _ (Unit {0})) (u : Unit {0}) →
     r ≡ result_from_control_flow b →
     b ≡ Continue u →
@@ -117,7 +117,7 @@ ran w es old found r b u told went p =
     let ok : r ≡ Ok u = rw went at told in
     rw ok at p
 
--- what was added to an empty list for a root
+-- the numbers added to an empty list for a root
 pub found_in : (w : Shape) (root : Option Node) (n : Node) (old found : List ℕ) →
     root ≡ Some n → old ≡ [] → Adds w (entries_of n) old found → Adds w (entries_in root) [] found
 found_in w root n old found is empty p = rw (is, ← empty) p
@@ -206,7 +206,7 @@ item_lawful xs i x all lt at = subst IsLawful (sym at) (All-get_or IsLawful xs i
 
 pub ruleset child_step = (level-le-top, item_lawful)
 
--- the children of a lawful node are, where its list was read as these
+-- the children of a lawful node are lawful, given its list
 pub list_lawful : (n : Node) (v : Vec Node Global) (xs : List Node) → n.below ≡ made_children v → xs ≡ v.items → IsLawful n → All IsLawful xs
 list_lawful n v xs is read lawful = rw read (children_lawful n v is lawful)
 

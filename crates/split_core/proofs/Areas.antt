@@ -19,6 +19,7 @@ area_grows a b = mul-le-mul (length_grows a.x b.x) (length_grows a.y b.y)
 pos-minus : (m n : ℕ) → n ≤ m → pos (m - n) ≡ pos m -ℤ pos n
 pos-minus m n h = omega (arith, ints)
 
--- the waste of two shapes is what the first grows to take in the second, less the area of the second
+-- the waste of two shapes is the enlargement of the first by the second, minus the area of the
+-- second
 pub waste_is : (a b : Shape) (e m : ℕ) → e ≡ enlargement a b → m ≡ area_of b → pos e -ℤ pos m ≡ waste a b
 waste_is a b e m h k = rw (h, k, pos-minus (area_of (cover_of a b)) (area_of a) (area_grows a b))

@@ -16,7 +16,7 @@ pub needs_less_ranks : {T : Type 0} (cover : T → Shape) (s : Shape) → IsStri
 needs_less_ranks cover s =
     ranks_by (then_total (on_total (λ c. enlargement c s) nat_cmp_total) (on_total area_of nat_cmp_total)) cover
 
--- what a cover needs to take in a shape
+-- the cost for a cover to include a shape
 pub record IsNeed (need : Need) (cover s : Shape) : Type 0 where
   pub enlargement : need.enlargement ≡ enlargement cover s
   pub area : need.area ≡ area_of cover
@@ -28,7 +28,7 @@ need_tests s c d m n p q = rw (p.enlargement, q.enlargement, p.area, q.area)
 seen_itself : {T : Type 0} (items : List T) (b : ℕ) (x : T) → b < length items → get_or items b x ≡ get_or items b (get_or items b x)
 seen_itself items b x h = get_or_default items b x (get_or items b x) h
 
--- the best of the first i items stands at b
+-- the best of the first i items is at index b
 pub record IsLeastSoFar {T : Type 0} (cover : T → Shape) (s : Shape) (items : List T) (i b : ℕ) (least : Need) : Type 0 where
   pub best : IsFirstBest (λ x y. needs_less s (cover x) (cover y)) items i b
   pub need : (d : T) → IsNeed least (cover (get_or items b d)) s

@@ -9,11 +9,11 @@ use Rattle.geom_core.specs.Shapes.{cover_of}
 use Rattle.geom_core.proofs.ShapeLemmas.{in_cover_first, in_cover_second, cover_least}
 use Rattle.split_core.specs.Covers.{IsLeastCover}
 
--- a shape in another is in what contains that
+-- a shape in another is in each shape that contains that
 pub in_trans : (a b c : Shape) → IsIn a b → IsIn b c → IsIn a c
 in_trans a b c h k u v w = k u v (h u v w)
 
--- what holds of each item of a list with more at its end holds of each item of the list
+-- a fact of each item of a list with more at its end is a fact of each item of the list
 pub All-front : {T : Type 0} (P : T → Type 0) (xs ys : List T) → All P (xs ++ ys) → All P xs
 All-front P xs ys h k d lt = subst P (get_or_append_left xs ys d k lt) (h k d (omega (arith, length-append xs ys)))
 
@@ -27,7 +27,7 @@ All-mid P xs y ys h = All-head P y ys (All-back P xs (y ∷ ys) h)
 pub All-last : {T : Type 0} (P : T → Type 0) (xs : List T) (x : T) → All P (xs ++ x ∷ []) → P x
 All-last P xs x h = All-head P x [] (All-back P xs (x ∷ []) h)
 
--- what holds of each item once one was changed held of each before, where it held of that one
+-- a fact of each item after one was changed is a fact of each before, if it held for that one
 pub All-unset : {T : Type 0} (P : T → Type 0) (xs : List T) (i : ℕ) (y d : T) → P (get_or xs i d) → All P (set xs i y) → All P xs
 All-unset P xs i y d p h =
     subst (All P) (set-set xs i y (get_or xs i d) ∙ set-get_or xs i d) (All-set P (set xs i y) i (get_or xs i d) p h)
@@ -36,7 +36,7 @@ All-unset P xs i y d p h =
 abbrev pub AllIn : {T : Type 0} → (T → Shape) → Shape → List T → Type 0
 AllIn cover t xs = All (λ x. IsIn (cover x) t) xs
 
--- what contains the cover contains each item
+-- a shape that contains the cover contains each item
 pub all_in : {T : Type 0} (cover : T → Shape) (xs : List T) (c t : Shape) → IsLeastCover cover xs c → IsIn c t → AllIn cover t xs
 all_in cover xs c t h k = All-weaker (λ x. IsIn (cover x) c) (λ x. IsIn (cover x) t) (λ x m. in_trans (cover x) c t m k) xs h.contains
 
@@ -71,7 +71,7 @@ module _ {T : Type 0} (cover : T → Shape) where
   cover_more xs i x c next d lt at is e h =
       rw (e, is, take_more xs i x lt) (subst (λ z. IsLeastCover cover (take i xs ++ z ∷ []) (cover_of c (cover x))) at (cover_push (take i xs) x c h))
 
-  -- where the item at a place grew by a shape, so does the cover
+  -- if the item at an index grew by a shape, so does the cover
   pub cover_grow : (xs : List T) (i : ℕ) (x y : T) (c s : Shape) →
       IsLeastCover cover xs c →
       i < length xs →

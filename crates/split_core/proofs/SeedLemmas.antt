@@ -8,7 +8,7 @@ use Rattle.split_core.specs.declared.choices.Seeds.{Seeds}
 use Rattle.split_core.specs.Choices.{waste_at, IsBefore, AreSeeds}
 use Rattle.split_core.specs.Seeds.{IsBestBefore}
 
--- no pair that is in order stands before the first
+-- no ordered pair precedes the first
 before_first : (k l : ℕ) → k < l → IsBefore k l 0 1 → ⊥
 before_first k l o (inl h) = omega arith
 before_first k l o (inr h) = omega (arith, h.0, h.1)
@@ -25,7 +25,7 @@ before_row i k l o (inr h) = absurd (omega (arith, h.0, h.1))
 below_or_at : (k i : ℕ) → k < i + 1 → (k < i) ⊎ (k ≡ i)
 below_or_at k i h = elim (cases_lt k i) [ inl p ↦ inl p | inr q ↦ inr (omega arith) ]
 
--- a pair before the next row stands before the end of this one
+-- a pair before the next row precedes the end of this one
 before_next_row : (i j k l : ℕ) → l < j → IsBefore k l (i + 1) 0 → IsBefore k l i j
 before_next_row i j k l h (inl p) = elim (below_or_at k i p) [ inl q ↦ inl q | inr q ↦ inr (q, h) ]
 before_next_row i j k l h (inr p) = absurd (omega (arith, p.1))

@@ -1,4 +1,4 @@
--- The steps of a split, and what every split keeps.
+-- The steps of a split, and the facts that every split preserves.
 use Rattle.std.proofs.Common.{arith, ◌≡◌, ◌≢◌, ℕ, ◌+◌, ◌<◌, ◌≤◌, true, false, cond, suc, List, [], ◌∷◌, ◌++◌, length, get_or, take, drop, length-append, inl}
 use Rattle.std.proofs.Common.{inr, sym, ◌∙◌, ap, subst}
 use Rattle.std.specs.Prelude.{remove, All, sum_by}
@@ -18,7 +18,7 @@ use Rattle.split_core.specs.Collections.{HasSame}
 use Rattle.split_core.specs.Orders.{is_less_cost}
 use Rattle.split_core.specs.Splits.{Group, group, costs_less, CanChoose, IsTaken, IsDealt, done, rest_to_one, rest_to_two, to_one, to_two, IsSplit, AreGroups}
 
--- what a group needs to take in a shape
+-- the cost for a group to include a shape
 pub record IsCost {T : Type 0} (cost : Cost) (group : Group T) (s : Shape) : Type 0 where
   pub enlargement : cost.need.enlargement ≡ enlargement group.cover s
   pub area : cost.need.area ≡ area_of group.cover
@@ -86,7 +86,7 @@ dealt_sums cover f (to_two {rest} {one} {two} {k} {x} t c h) =
     let at : get_or rest k x ≡ x = sym t.item in
     omega (arith, dealt_sums cover f h, sum_by_push f two.items x, rw at at (sum_by-remove f rest k x t.next.0))
 
--- what holds of each item holds of each item of the groups
+-- a fact of each item is a fact of each item of the groups
 pub dealt_all : {T : Type 0} (cover : T → Shape) (P : T → Type 0) {rest : List T} {one two : Group T} {a b : List T} →
     All P rest →
     All P one.items →
@@ -107,7 +107,7 @@ All-unremove P xs i x lt at p h =
     (All-append P (take i xs) (get_or xs i x ∷ drop (suc i) xs) (All-front P (take i xs) (drop (suc i) xs) h)
     (All-cons P (get_or xs i x) (drop (suc i) xs) (subst P at p) (All-back P (take i xs) (drop (suc i) xs) h)))
 
--- what holds of each item of the groups holds of each item that was dealt
+-- a fact of each item of the groups is a fact of each item that was assigned
 pub dealt_back : {T : Type 0} (cover : T → Shape) (P : T → Type 0) {rest : List T} {one two : Group T} {a b : List T} →
     All P a →
     All P b →
@@ -144,7 +144,7 @@ dealt_enough cover m n o (to_two {rest} {one} {two} {k} {x} t c h) =
     let free = t.can_choose.one_can_wait in
     dealt_enough cover (omega arith) (omega arith) (omega arith) h
 
--- the second group takes what is left where nothing is, or where it needs all
+-- the second group takes the remaining items if there are none, or if it needs all
 two_needs_all : (rest one two : ℕ) → 0 < rest → (CanChoose rest one two → ⊥) → one + rest ≢ fewest → two + rest ≡ fewest
 two_needs_all rest one two some none can_wait =
     elim (cases_lt (two + rest) fewest) [
@@ -184,7 +184,7 @@ seed_kept cover items one two s = s.first_seed ∙ sym (get_or-remove_below item
 seed_inside : {T : Type 0} (cover : T → Shape) (items one two : List T) (s : IsSplit cover items one two) → s.i < length (remove items s.j)
 seed_inside cover items one two s = omega (arith, length-remove items s.j s.seeds.in_range, s.seeds.ordered, s.seeds.in_range)
 
--- what holds of each item of both groups holds of each item
+-- a fact of each item of both groups is a fact of each item
 pub split_back : {T : Type 0} (cover : T → Shape) (P : T → Type 0) (items one two : List T) →
     All P one →
     All P two →
@@ -195,7 +195,7 @@ split_back cover P items one two h k s =
     All-unremove P items s.j s.y s.seeds.in_range s.second_seed (All-head P s.y [] back.2)
     (All-unremove P (remove items s.j) s.i s.x (seed_inside cover items one two s) (seed_kept cover items one two s) (All-head P s.x [] back.1) back.0)
 
--- what holds of each item holds of each item of both groups
+-- a fact of each item is a fact of each item of both groups
 pub split_all : {T : Type 0} (cover : T → Shape) (P : T → Type 0) (items one two : List T) →
     All P items →
     IsSplit cover items one two →

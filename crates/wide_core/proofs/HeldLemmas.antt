@@ -1,4 +1,4 @@
--- Products and differences that fit 128 bits are what 128 bits hold of them.
+-- Products and differences that fit into 128 bits equal their 128-bit values.
 use Rattle.std.proofs.Common.{◌≡◌, ◌≤◌, ◌*◌, ◌+◌, ◌^◌, ℕ, to_z, of_z, arith, FitsSigned}
 use Rattle.std.specs.Prelude.{ℤ, ◌*ℤ◌, ◌-ℤ◌, nat_abs}
 use Rattle.std.specs.Int.{w128}

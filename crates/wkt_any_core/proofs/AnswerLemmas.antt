@@ -1,4 +1,4 @@
--- What a text spells, and the one answer that it reads as.
+-- The geometry that a text spells, and the only result of reading it.
 use Rattle.std.proofs.Common.{◌≡◌, ℕ, true, false, List, [], ◌∷◌, map, length, get_or, drop, Result, Ok, Err, refl, sym, ◌∙◌, ap, ap₂, subst}
 use Rattle.std.specs.Prelude.{Bool, not}
 use Rattle.std.proofs.Props.{props}
@@ -151,7 +151,7 @@ module _ (scale : Scale) (rule : Rings) where
     no_refusal : TakesRings rule a → rule ≡ Proper → ¬ (HasProperRings b) → ⊥
     no_refusal taken asked improper = improper (subst HasProperRings one_shown (subst (λ r. TakesRings r a) asked taken))
 
-  -- a text reads as one answer
+  -- reading a text has only one result
   one_reading : (text : List ℕ) (a b : Result Figure GeometryFault) → Reads scale rule text a → Reads scale rule text b → a ≡ b
   one_reading text (Ok s) (Ok t) h k = ap Ok (one_shown text s t h.shown k.shown)
   one_reading text (Ok s) (Err Text) h k = absurd (k h.shown.heading h.shown.lists h.shown.raw)
@@ -182,7 +182,7 @@ module _ (scale : Scale) (rule : Rings) where
   reading : (text : List ℕ) (answer : Result Figure GeometryFault) → Reads scale rule text answer → IsReading scale rule text answer
   reading text answer reads = record { reads = reads; only = λ other. one_reading text answer other reads }
 
-  -- what is shown is read, or refused for its rings
+  -- a geometry that is shown is read, or refused for its rings
   pub geometry_reading : (text : List ℕ) (g : Figure) → Shows scale rule text g → TakesRings rule g → IsReading scale rule text (Ok g)
   geometry_reading text g shown proper = reading text (Ok g) (record { shown = shown; proper = proper })
 
@@ -217,7 +217,7 @@ module _ (scale : Scale) (rule : Rings) where
           (cut raw.paths.vertices.items raw.paths.ends.items _ h.vertices h.ends) h.vertices
           (λ point. drawn_alone scale rule text r.heading r.lists (sym r.keyword ∙ point) r.taken)
 
-      -- what the paths draw
+      -- the geometry that the paths form
       drawn_as : IsGeometry figure → AreAllowed rule figure → Draws rule r.heading.keyword (positions scale r.lists) figure
       drawn_as geometry allowed = record {
         kind = held_figure.0 ∙ ap kind_for r.keyword;

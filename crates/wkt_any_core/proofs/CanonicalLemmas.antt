@@ -1,4 +1,4 @@
--- The canonical spelling of a geometry that was read spells it.
+-- The canonical text of a geometry that was read spells it.
 use Rattle.std.proofs.Common.{◌≡◌, inr, ℕ, suc, ◌<◌, Bool, true, false, List, [], ◌∷◌, ◌++◌, map, length, All, refl, sym, ◌∙◌, ap, ap₂, subst, arith}
 use Rattle.std.specs.Prelude.{◌==◌, codes, if◌then◌else◌}
 use Rattle.std.specs.List.{AllByRecursion}
@@ -127,7 +127,7 @@ same_keyword Polygon Point e = absurd cc
 same_keyword Polygon LineString e = absurd cc
 same_keyword Polygon Polygon e = refl
 
--- a heading, a space and what stands behind it
+-- a heading, a space and the text after it
 text_printed : (heading : Heading) (lists : List (List RawPoint)) (word body : List ℕ) → Words heading word → BodyBy heading.is_multi heading.keyword lists body
     → Raw (word ++ 32 ∷ body) heading lists
 text_printed heading lists word body h b = record {

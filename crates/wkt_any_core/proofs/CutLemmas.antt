@@ -1,4 +1,4 @@
--- Paths in a row, cut where each ends, are the paths.
+-- Concatenated paths, cut at the end of each, are the paths.
 use Rattle.std.proofs.Common.{◌≡◌, ℕ, ◌+◌, ◌-◌, List, [], ◌∷◌, ◌++◌, map, length, take, drop, refl, sym, ◌∙◌, ap, ap₂, subst, arith}
 use Rattle.std.specs.List.{slice_range}
 use Rattle.std.proofs.lemmas.List.{append_assoc, length-append, length-map, take-map, drop-map}

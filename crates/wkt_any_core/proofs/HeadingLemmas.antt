@@ -1,4 +1,4 @@
--- The heading of a text: a keyword, by itself or behind "multi".
+-- The heading of a text: a keyword, by itself or after "multi".
 use Rattle.std.proofs.Common.{◌≡◌, ℕ, true, false, List, [], ◌∷◌, ◌++◌, map, get_or, drop, refl, ap, ap₂, subst, sym, ◌∙◌, arith}
 use Rattle.std.specs.Prelude.{Bool, codes}
 use Rattle.std.specs.Char.{to_ascii_lowercase}
@@ -39,7 +39,7 @@ heading_same text g h r s i j =
 
 -- ---- what is read
 
--- no keyword stands behind "multi"
+-- no keyword follows "multi"
 pub no_many : (text m : List ℕ) → TakesLetters (codes "multi") text m → ((keyword : Keyword) (rest : List ℕ) → TakesWord m keyword rest → ⊥)
     → (heading : Heading) (rest : List ℕ) → TakesHeading text heading rest → ⊥
 no_many text m f none heading rest h = by_kind heading.is_multi heading.keyword h

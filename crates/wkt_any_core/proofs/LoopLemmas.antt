@@ -1,10 +1,10 @@
--- What a loop over items in parentheses knows: the items so far, and what holds of them.
+-- The invariant of a loop over items in parentheses: the items so far, and the facts of them.
 use Rattle.std.proofs.Common.{◌≡◌, ℕ, List, [], ◌∷◌, ◌++◌, refl}
 use Rattle.wkt_core.specs.TokenSteps.{skip}
 use Rattle.wkt_core.specs.ListSteps.{Begun, Enclosed}
 use Rattle.wkt_core.proofs.ItemLemmas.{IsExact, begun_more, items_ended, no_item_follows, no_end_follows}
 
--- the items between two places of a text, with what holds of them
+-- the items between two places of a text, with a fact of them
 pub record SoFar {X : Type 0} (Item : List ℕ → X → List ℕ → Type 0) (Holds : List X → Type 0) (start rest : List ℕ) : Type 0 where
   pub done : List X
   pub begun : Begun Item done start rest

@@ -1,4 +1,4 @@
--- Points of many, polylines and polygons are read as the grammar says, in one way.
+-- Points of a list of points, polylines and polygons are read by the grammar, in only one way.
 use Rattle.std.proofs.Common.{◌≡◌, ℕ, List, [], ◌∷◌, ◌++◌, inl, inr, get_or, Option, Some, None, Result, Ok, Err, refl, sym, ◌∙◌, ap}
 use Rattle.std.specs.Prelude.{IfOk, IfSome, IfNone}
 use Rattle.std.proofs.lemmas.Option.{none-some}
@@ -71,7 +71,7 @@ polygons_reading = enclosed_reading (InParentheses PointList) TakesLists text_li
 
 -- ---- what is read
 
--- what a success with a value promises, and one without
+-- the promise of a success with a value, and of one without
 pub ok_some : {A E : Type 0} {P Q : A → Type 0} (r : Result (Option A) E) → IfOk r (λ o. IfSome o P) → ((x : A) → P x → Q x) → IfOk r (λ o. IfSome o Q)
 ok_some (Ok None) h f = tt
 ok_some (Ok (Some x)) h f = f x h
@@ -82,13 +82,13 @@ ok_none (Ok None) h f = f h
 ok_none (Ok (Some x)) h f = tt
 ok_none (Err e) h f = tt
 
--- what begins with a parenthesis is no point by itself
+-- a text that starts with a parenthesis is no point without parentheses
 pub no_enclosed : (text u : List ℕ) → text ≡ 40 ∷ u → ((p : RawPoint) (rest : List ℕ) → TakesPoints text (p ∷ []) rest → ⊥)
     → (p : RawPoint) (rest : List ℕ) → TakesMember text p rest → ⊥
 no_enclosed text u open_at none p rest (inl h) = bare_or_enclosed text p rest u open_at h
 no_enclosed text u open_at none p rest (inr h) = none p rest h
 
--- and what doesn't is none in parentheses
+-- and one that doesn't is no point in parentheses
 pub no_bare : (text : List ℕ) → None ≡ symbol_at 40 text → ((p : RawPoint) (rest : List ℕ) → TakesPoint text p rest → ⊥)
     → (p : RawPoint) (rest : List ℕ) → TakesMember text p rest → ⊥
 no_bare text closed none p rest (inl h) = none p rest h

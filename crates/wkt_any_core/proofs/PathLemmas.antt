@@ -1,4 +1,4 @@
--- What is read of the paths of a text, one step after another.
+-- Reading the paths of a text, step by step.
 use Rattle.std.proofs.Common.{◌≡◌, ℕ, ◌+◌, true, false, List, [], ◌∷◌, ◌++◌, map, length, Result, Ok, Err, refl, sym, ◌∙◌, ap, ap₂, subst, arith}
 use Rattle.std.specs.Prelude.{Bool, ◌&&◌, ◌==◌, OnOk}
 use Rattle.std.specs.List.{AllByRecursion, filter}
@@ -18,7 +18,7 @@ use Rattle.wkt_any_core.specs.Grammar.{joined}
 use Rattle.wkt_any_core.specs.Held.{ends_of, AreGood, IsHeld, IsRead, IsStepped, IsTaken, AddsPoint, AddsPoints, AddsPaths}
 use Rattle.wkt_any_core.proofs.StepLemmas.{further, without_repeats_more, stepped_is}
 
--- what a success promises
+-- the promise of a success
 pub on_ok : {A B P Q : Type 0} (r : Result A B) → OnOk r P → (P → Q) → OnOk r Q
 on_ok (Ok x) h f = f h
 on_ok (Err e) h f = tt

@@ -31,7 +31,7 @@ module _ {X : Type 0} (spell : X → List ℕ) where
           let one : j + 1 ≡ suc j = omega arith in
           subst (λ (n : ℕ). take n ys ≡ take j ys ++ x ∷ []) one (take_more ys j x (omega (arith, lt)) ∙ ap (λ (z : X). take j ys ++ z ∷ []) (sym is))
 
-  -- what stands before an item, and the item
+  -- the separator before an item, and the item
   pub item_added : (xs : List X) (i : ℕ) (x : X) (start before between after : List ℕ) → i < length xs → x ≡ get_or xs i x
       → before ≡ start ++ separated spell (take i xs) → between ≡ before ++ separator i → after ≡ between ++ spell x
       → after ≡ start ++ separated spell (take (i + 1) xs)
@@ -81,7 +81,7 @@ pub separator_later : (i : ℕ) (start end : List ℕ) → ¬ (i ≡ 0) → end 
 separator_later zero start end h e = absurd (h refl)
 separator_later (suc i) start end h e = e
 
--- what stands before an item, by the place
+-- the separator before an item, by the index
 pub ruleset before_item = (separator_first, separator_later)
 
 -- ---- the spelling by how many parts there are

@@ -1,4 +1,4 @@
--- A path that goes on to a vertex is one without repeats.
+-- A path that is extended to a vertex has no repeats.
 use Rattle.std.proofs.Common.{◌≡◌, ◌-◌, List, [], ◌∷◌, ◌++◌, map, length, refl, ap, arith}
 use Rattle.std.specs.Prelude.{slice_get, if◌then◌else◌}
 use Rattle.plane_core.specs.declared.vertex.Vertex.{Vertex}
@@ -27,7 +27,7 @@ without_repeats_more (q ∷ ps) p = further_of q ps p
 last_at : (w : Vertex) (vs : List Vertex) → slice_get (w ∷ vs) (length (w ∷ vs) - 1) ≡ slice_get (w ∷ vs) (length vs)
 last_at w vs = let e : length (w ∷ vs) - 1 ≡ length vs = omega arith in ap (λ n. slice_get (w ∷ vs) n) e
 
--- where the rest of a path goes on, so does the whole
+-- if the rest of a path goes on, so does the whole
 stepped_at : Vertex → List Vertex → Vertex → List Vertex
 stepped_at w vs v = if stays_at (slice_get (w ∷ vs) (length vs)) v then w ∷ vs else (w ∷ vs) ++ v ∷ []
 

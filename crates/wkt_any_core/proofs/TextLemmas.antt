@@ -1,4 +1,4 @@
--- A whole text: one way to read it, which is what the grammar says.
+-- A whole text: the only way to read it, which is that of the grammar.
 use Rattle.std.proofs.Common.{◌≡◌, ℕ, true, false, List, [], ◌∷◌, ◌++◌, refl, sym, ◌∙◌, ap, subst}
 use Rattle.std.specs.Prelude.{Bool}
 use Rattle.std.proofs.lemmas.List.{append-nil}

@@ -204,7 +204,7 @@ refused_fact Polylines EvenOdd ends vs f g = cc
 refused_fact RingKind Proper ends vs f g = some_flat (paths_of 0 ends vs) f g
 refused_fact RingKind EvenOdd ends vs f g = cc
 
--- what is made of vertices that are allowed
+-- the geometry made of vertices that are allowed
 module _ (kind : Kind) (rule : Rings) (ends : List ℕ) (vs : List Vertex) (cuts : AreCuts 0 ends (length vs)) (made : Option Figure)
     (stored : IsSome made ↔ IsStored kind ends vs) where
   pub made_some : IfSome made (λ g. g ≡ stored_figure kind ends vs) → AreAllowed rule (stored_figure kind ends vs)

@@ -1,4 +1,4 @@
--- What a text spells, and the one answer that it reads as.
+-- The shape that a text spells, and the only result of reading it.
 use Rattle.std.proofs.Common.{◌≡◌, ℕ, List, [], ◌∷◌, Option, Some, None, IfSome, IfNone, Result, Ok, Err, refl, sym, ◌∙◌, ap, subst, true}
 use Rattle.std.specs.List.{list_all}
 use Rattle.geom_core.specs.declared.shape.Shape.{Shape}
@@ -47,7 +47,7 @@ module _ (scale : Scale) where
 
   -- ---- readings
 
-  -- a text reads as one answer
+  -- reading a text has only one result
   pub one_reading : (text : List ℕ) (a b : Result Shape WktFault) → Reads scale text a → Reads scale text b → a ≡ b
   one_reading text (Ok s) (Ok t) h k = ap Ok (one_shape text s t h k)
   one_reading text (Ok s) (Err Text) h k = absurd (k h.keyword h.lists h.raw)
@@ -95,7 +95,7 @@ module _ (scale : Scale) where
       pub form_reading : ((s : Shape) → Forms keyword (positions scale lists) s → ⊥) → IsReading scale text (Err Form)
       form_reading none = reading text (Err Form) (record { keyword = keyword; lists = lists; raw = raw_form; good = good; formless = none })
 
-  -- what is answered of what was read is what the text reads as
+  -- the result for the raw text is the result of reading the text
   pub answered : (text : List ℕ) (read : Option RawText) (answer : Result Shape WktFault)
       → IfSome read (λ raw. (lists : List (List RawPoint)) × TakesText text raw.keyword lists × AreReadOf scale raw.lists lists)
       → IfNone read ((keyword : Keyword) (lists : List (List RawPoint)) → TakesText text keyword lists → ⊥)

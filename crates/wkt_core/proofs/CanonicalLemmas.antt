@@ -1,4 +1,4 @@
--- The canonical spelling of a shape spells it.
+-- The canonical text of a shape spells it.
 use Rattle.std.proofs.Common.{◌≡◌, ℕ, suc, ◌+◌, ◌*◌, ◌/◌, ◌%◌, ◌<◌, ◌^◌, Bool, true, false, cond, eqb, ℤ, pos, negsuc, List}
 use Rattle.std.proofs.Common.{[], ◌∷◌, ◌++◌, map, drop, refl, sym, ◌∙◌, ap, ap₂, subst, ◌⊎◌, ⊎_elim, inl, inr, arith}
 use Rattle.std.specs.Prelude.{◌==◌, IsTrue, codes, int_lt, ◌<ℤ◌}
@@ -211,7 +211,7 @@ module _ (scale : Scale) where
         joined = refl;
       }
 
-  -- a keyword, a space and what stands behind it
+  -- a keyword, a space and the text after it
   text_printed : (keyword : Keyword) (lists : List (List RawPoint)) (word body : List ℕ) → Word keyword word → Body keyword lists body
       → Raw (word ++ 32 ∷ body) keyword lists
   text_printed keyword lists word body h b = record {

@@ -1,4 +1,4 @@
--- A list of points draws a shape exactly where what is kept of the walk along it does.
+-- A list of points forms a shape if and only if the kept points of the walk along it do.
 use Rattle.std.proofs.Common.{◌≡◌, ℤ, false, List, [], ◌∷◌, ◌++◌, Option, Some, None, length, get_or, drop, refl, sym, ◌∙◌, ap, subst, arith}
 use Rattle.std.specs.Prelude.{⊤}
 use Rattle.std.proofs.lemmas.List.{length-append}
@@ -119,7 +119,7 @@ draws_kept LineString (p ∷ ps) s h = line_kept p ps s h
 draws_kept Polygon [] s h = absurd h
 draws_kept Polygon (p ∷ ps) s h = ring_drawn p ps s h
 
--- a text of this kind has one point alone, where it is a point's
+-- a text of this kind has only one point, if it is a point's
 abbrev pub IsAlone : Keyword → List Position → Type 0
 IsAlone Point (p ∷ []) = ⊤
 IsAlone Point _ = ⊥

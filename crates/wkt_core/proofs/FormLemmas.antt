@@ -1,4 +1,4 @@
--- The points of a text and the shapes that they draw.
+-- The points of a text and the shapes that they form.
 use Rattle.std.proofs.Common.{◌≡◌, ◌≢◌, ℕ, zero, suc, ◌<◌, ◌≤◌, true, length, List, [], ◌∷◌, ◌⊎◌, inl, inr, get_or, reverse, sym, ◌∙◌, ap, subst, ⊎_elim, arith}
 use Rattle.std.proofs.Common.{ℤ, pos}
 use Rattle.std.specs.Prelude.{◌<ℤ◌, ◌≤ℤ◌, ◌↔◌, Option, Some, None, IsSome, IfSome, IfNone}
@@ -36,7 +36,7 @@ below_is_at_most a c h = omega (arith, ints)
 
 -- ---- segments
 
--- what spans a shape: its lowest and its highest corner, in either order
+-- the points that span a shape: its lowest and its highest corner, in either order
 spanned_up : (p q : Position) (s : Shape) → HasCorners p.x p.y q.x q.y s → IsSpanned p q s
 spanned_up p q s h =
     let x = up_ends p.x q.x (x1 s) (x2 s) (omega (arith, ints)) h.first_x h.second_x in
@@ -88,7 +88,7 @@ abbrev Turns : Position → Position → Position → Position → Shape → Typ
 Turns a b c d s = RunsRound (four a b c d) s
 
 module _ (a b c d : Position) (s : Shape) (spanned : IsSpanned a c s) where
-  -- by where the third position lies from the first
+  -- by the direction of the third position from the first
   by_side : {P : Type 0} → a.x ≢ c.x → a.y ≢ c.y
       → (AreOpposite a c (x1 s) (x2 s) (y1 s) (y2 s) → P) → (AreOpposite a c (x2 s) (x1 s) (y1 s) (y2 s) → P)
       → (AreOpposite a c (x2 s) (x1 s) (y2 s) (y1 s) → P) → (AreOpposite a c (x1 s) (x2 s) (y2 s) (y1 s) → P) → P
@@ -272,7 +272,7 @@ from_next a b c d s h =
 
 -- ---- answers
 
--- there is no value where what it would have to be cannot hold
+-- there is no value if its condition cannot hold
 pub none_unless : {X Q : Type 0} (r : Option X) (F : X → Type 0) → (IsSome r ↔ Q) → ((x : X) → F x → Q) → IfNone r ((x : X) → F x → ⊥)
 none_unless None F iff from = λ x h. false≢true (iff.1 (from x h))
 none_unless (Some y) F iff from = tt
@@ -285,12 +285,12 @@ none_weaker (Some x) h f = tt
 pub no_segment : (p q : Position) (r : Option Shape) → IfNone r ((s : Shape) → IsSpanned p q s → ⊥) → IfNone r ((s : Shape) → IsSegment p q s → ⊥)
 no_segment p q r none = none_weaker r none (λ no s h. no s (spanned_segment p q s h))
 
--- where nothing is spanned, nothing is within corners
+-- if nothing is spanned, nothing is within corners
 pub none_within : (a b c d : Position) (r : Option Shape) → IfNone r ((s : Shape) → IsSpanned a c s → ⊥)
     → IfNone r ((s : Shape) → AreCornersOf a b c d s → ⊥)
 none_within a b c d r none = none_weaker r none (λ no s h. no s h.1)
 
--- a rectangle is what its first and third corner span, where there are four
+-- a rectangle is the cover of its first and third corner, if there are four
 pub rectangle_some : (a b c d : Position) (r : Option Shape) → IfSome r (AreCornersOf a b c d) → IfSome r (IsRectangle a b c d)
 rectangle_some a b c d None h = h
 rectangle_some a b c d (Some s) h = rectangle_spanned a b c d s h.1 h.0
@@ -359,7 +359,7 @@ drawn_at keyword kind turns xs last p s e f g h =
 
 -- ---- what is answered for turns of the right count
 
--- what a place past the end would read as
+-- the value used for an index past the end
 abbrev pub origin : Position
 origin = record { x = pos 0; y = pos 0 }
 

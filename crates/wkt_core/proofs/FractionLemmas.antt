@@ -1,4 +1,4 @@
--- The digits of a fraction: what they are, and what they stand for.
+-- The digits of a fraction, and their value.
 use Rattle.std.proofs.Common.{◌≡◌, ℕ, zero, suc, ◌+◌, ◌*◌, ◌/◌, ◌%◌, ◌^◌, ◌<◌, ◌≤◌, Bool, true, false, cond, eqb, List, []}
 use Rattle.std.proofs.Common.{◌∷◌, ◌++◌, length, drop, refl, sym, ap, ◌∙◌, inl, inr, subst, arith, drop_of_length-le}
 use Rattle.std.proofs.Math.Nat.{pow-succ', mod-lt, div-add-mod, div-lt_iff_lt-mul}

@@ -1,4 +1,4 @@
--- What the steps of the reader take is what the grammar says, and nothing else.
+-- The steps of the reader read exactly what the grammar allows.
 use Rattle.std.proofs.Common.{◌||◌, ◌≡◌, ℕ, ◌<◌, ◌≤◌, Bool, true, false, cond, List, [], ◌∷◌, ◌++◌, length, Some, None, inl, inr, refl, sym, ◌∙◌, ap, subst}
 use Rattle.std.proofs.Common.{arith, eqb}
 use Rattle.std.specs.Prelude.{IfSome}
@@ -12,7 +12,7 @@ use Rattle.wkt_core.specs.TokenSteps.{skip, gap_at, symbol_at}
 use Rattle.wkt_core.specs.NumberSteps.{digits_at, after_digits, sign_at, decimals_at, numeral_at, unsigned_at, number_at}
 use Rattle.wkt_core.specs.PointSteps.{point_at}
 
--- what may stand behind a number: white space, a comma or a closing parenthesis
+-- the text that may follow a number: white space, a comma or a closing parenthesis
 abbrev pub is_stop : ℕ → Bool
 is_stop b = is_blank b || eqb b 44 || eqb b 41
 
@@ -20,12 +20,12 @@ abbrev pub Stops : List ℕ → Type 0
 Stops [] = ⊥
 Stops (b ∷ text) = is_stop b ≡ true
 
--- no digit stands at the front
+-- there is no digit at the start
 abbrev pub NoDigit : List ℕ → Type 0
 NoDigit [] = Unit {0}
 NoDigit (b ∷ text) = is_ascii_digit b ≡ false
 
--- no white space stands at the front
+-- there is no white space at the start
 abbrev pub NoBlank : List ℕ → Type 0
 NoBlank [] = Unit {0}
 NoBlank (b ∷ text) = is_blank b ≡ false
@@ -37,7 +37,7 @@ blanks_more : (b : ℕ) (text : List ℕ) → (w : List ℕ) × Blanks w × (tex
 blanks_more b text (w, h, e) true p = (b ∷ w, (p, h), ap (λ u. b ∷ u) e)
 blanks_more b text r false p = ([], tt, refl)
 
--- white space and what is left of the text behind it
+-- white space and the text after it
 pub blanks_skipped : (text : List ℕ) → (w : List ℕ) × Blanks w × (text ≡ w ++ skip text)
 blanks_skipped [] = ([], tt, refl)
 blanks_skipped (b ∷ text) = blanks_more b text (blanks_skipped text) (is_blank b) refl
@@ -126,7 +126,7 @@ decimals_split : (text : List ℕ) → (s : List ℕ) × Decimals (decimals_at t
 decimals_split [] = ([], (tt, inl (refl, refl)), refl)
 decimals_split (b ∷ text) = decimals_more b text (eqb b 46) refl
 
--- what a value and the rest that it leaves say of a text
+-- the meaning of a value and of the rest for a text
 abbrev pub Begins : {X : Type 0} → (X → List ℕ → Type 0) → List ℕ → X → List ℕ → Type 0
 Begins A text x rest = (s : List ℕ) × A x s × (text ≡ s ++ rest)
 

@@ -1,4 +1,4 @@
--- Numbers that are whole and in range, and what is read of lists of them.
+-- Numbers that are whole and in range, and reading lists of them.
 use Rattle.std.proofs.Common.{◌≡◌, ℕ, ◌≤◌, Bool, true, false, List, [], ◌∷◌, ◌++◌, cond, Option, Some, None, refl, arith}
 use Rattle.std.specs.Prelude.{ℤ, nat_le, is_some}
 use Rattle.std.specs.List.{list_all, AllByRecursion}

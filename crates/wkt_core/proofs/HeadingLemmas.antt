@@ -1,4 +1,4 @@
--- Headings: how one point lies from another, and which three points lie straight.
+-- Directions: how one point lies from another, and which three points are on a straight path.
 use Rattle.std.proofs.Common.{◌≡◌, ◌≢◌, Bool, true, false, ◌&&◌, ◌||◌, ◌⊎◌, inl, inr, refl, sym, ◌∙◌, ap, subst, ⊎_elim, arith, ℤ}
 use Rattle.std.specs.Prelude.{◌<ℤ◌, int_lt}
 use Rattle.std.specs.Ordering.{int_eq}
@@ -23,7 +23,7 @@ pub both_parts : (a b : Bool) → (a && b) ≡ true → (a ≡ true) × (b ≡ t
 both_parts true b h = (refl, h)
 both_parts false b h = absurd (false≢true h)
 
--- what a test of two positions tells, in either order
+-- the meaning of a test of two positions, in either order
 pub told_same : (p q : Position) (test answer : Bool) → test ≡ is_same p q → test ≡ answer → is_same p q ≡ answer
 told_same p q test answer e f = sym e ∙ f
 
@@ -158,7 +158,7 @@ straight_means p q r t =
     (λ u. let k = both_parts _ _ u in let l = both_parts _ _ k.1 in level p q r (true_eq p.y q.y k.0) (true_eq q.y r.y l.0) l.1)
     (either _ _ t)
 
--- what lies straight between lies in the heading of the whole
+-- a point straight between two others is in the direction of the whole
 pub heads_between : (p q r : Position) (h : Heading) → is_straight p q r ≡ true → Heads h p r → Heads h p q × Heads h q r
 heads_between p q r h t k =
     let (g, i, o) = straight_means p q r t in

@@ -1,4 +1,4 @@
--- Items one after another: what was read so far, and the one way to go on.
+-- Items one after another: the items read so far, and the only way to go on.
 use Rattle.std.proofs.Common.{◌≡◌, ℕ, ◌<◌, ◌≤◌, List, [], ◌∷◌, ◌++◌, ◌⊎◌, inl, inr, length, get_or, drop, refl, sym, ◌∙◌, ap, subst, ⊎_elim, arith}
 use Rattle.wkt_core.specs.TokenSteps.{skip}
 use Rattle.wkt_core.specs.ListSteps.{Items, Begun, Enclosed}
@@ -38,7 +38,7 @@ module _ {X : Type 0} (Item : List ℕ → X → List ℕ → Type 0) where
       let here : u ≡ v = same_rest u v (sym f ∙ ap skip same ∙ g) in
       on_the_way exact xs (z ∷ ys) u r e b (subst (λ w. Items Item (z ∷ ys) w e) (sym here) h)
 
-  -- a list begins with an item, and a comma or the end behind it
+  -- a list starts with an item, followed by a comma or the end
   first_item : (xs : List X) (t e : List ℕ) → Items Item xs t e
       → (x : X) × (m : List ℕ) × Item (skip t) x m × ((skip m ≡ 41 ∷ e) ⊎ ((u : List ℕ) × (skip m ≡ 44 ∷ u)))
   first_item [] t e h = absurd h
@@ -52,14 +52,14 @@ module _ {X : Type 0} (Item : List ℕ → X → List ℕ → Type 0) where
         let same : u ≡ start = ap (drop 1) (sym p ∙ open_at) in
         on_the_way exact done xs start rest e begun (subst (λ v. Items Item xs v e) same h)
 
-    -- where no item follows, no list begins the text
+    -- if no item follows, no list starts the text
     pub no_item_follows : ((x : X) (m : List ℕ) → Item (skip rest) x m → ⊥) → (xs : List X) (e : List ℕ) → Enclosed Item text xs e → ⊥
     no_item_follows none xs e h =
         let (zs, items) = ahead xs e h in
         let (x, m, i, n) = first_item zs rest e items in
         none x m i
 
-    -- where neither a comma nor the end follows, no list begins the text
+    -- if neither a comma nor the end follows, no list starts the text
     pub no_end_follows : (x : X) (after : List ℕ) → Item (skip rest) x after → ((r : List ℕ) → ¬ (skip after ≡ 44 ∷ r) × ¬ (skip after ≡ 41 ∷ r))
         → (xs : List X) (e : List ℕ) → Enclosed Item text xs e → ⊥
     no_end_follows x after i none xs e h =
@@ -68,7 +68,7 @@ module _ {X : Type 0} (Item : List ℕ → X → List ℕ → Type 0) where
         let same = exact.rest (skip rest) y x m after j i in
         ⊎_elim (λ p. (none e).1 (ap skip (sym same) ∙ p)) (λ (u, p). (none u).0 (ap skip (sym same) ∙ p)) n
 
-  -- what follows an item and a comma is shorter
+  -- the text after an item and a comma is shorter
   pub behind_item : IsExact Item → (rest : List ℕ) (x : X) (after behind : List ℕ) → Item (skip rest) x after → skip after ≡ 44 ∷ behind
       → length behind < length rest
   behind_item exact rest x after behind i e = omega (arith, exact.shorter (skip rest) x after i, length-skip rest, length-skip after, ap length e)

@@ -1,4 +1,4 @@
--- A list in parentheses is read as the grammar says, and nothing else is.
+-- Reading a list in parentheses accepts exactly the texts of the grammar.
 use Rattle.std.proofs.Common.{◌≡◌, ℕ, List, [], ◌∷◌, ◌++◌, drop, refl, sym, ◌∙◌, ap, ap₂, subst}
 use Rattle.std.proofs.lemmas.List.{append_assoc}
 use Rattle.wkt_core.specs.Grammar.{Blanks, Listed, InParentheses}
@@ -7,7 +7,8 @@ use Rattle.wkt_core.specs.ListSteps.{Items, Enclosed}
 use Rattle.wkt_core.proofs.FrontLemmas.{Stops, NoBlank, Begins, Begins-shorter, blanks_skipped, blanks_stop, skip_blanks, skip_solid}
 use Rattle.wkt_core.proofs.ItemLemmas.{IsExact, no_comma_ends, same_rest}
 
--- what is read as an item is one of the grammar, and each item of the grammar is read where a stop follows it
+-- a text read as an item is one of the grammar, and each item of the grammar is read if a stop
+-- follows it
 pub record IsReading {X : Type 0} (A : X → List ℕ → Type 0) (Item : List ℕ → X → List ℕ → Type 0) : Type 0 where
   pub begins : (text : List ℕ) (x : X) (rest : List ℕ) → Item text x rest → Begins A text x rest
   pub front : (x : X) (s rest : List ℕ) → A x s → Stops rest → Item (s ++ rest) x rest
@@ -120,7 +121,7 @@ module _ {X : Type 0} (A : X → List ℕ → Type 0) (Item : List ℕ → X →
       let (s, hs, es) = items_begin reading xs u e h in
       (40 ∷ s, record { front = 40 ∷ []; back = s; first = refl; second = hs; joined = refl }, p ∙ ap (λ v. 40 ∷ v) es)
 
-  -- a list ends with its parenthesis, whatever stands behind it
+  -- a list ends with its parenthesis, whatever follows
   pub enclosed_front : IsReading A Item → (xs : List X) (s rest : List ℕ) → InParentheses A xs s → Enclosed Item (s ++ rest) xs rest
   enclosed_front reading xs s rest h = (h.back ++ rest, rw (h.joined, h.first) refl, items_front reading xs h.back rest h.second)
 

@@ -1,4 +1,4 @@
--- What a text spelled before, it spells at a scale of no decimals.
+-- A shape that a text spelled before is the one that it spells at scale 0.
 use Rattle.std.proofs.Common.{◌≡◌, ℕ, List, [], ◌∷◌, ◌++◌, map, drop, refl, sym, ap, ap₂, ◌∙◌, subst, arith}
 use Rattle.std.specs.Prelude.{◌==◌, IsTrue}
 use Rattle.std.specs.List.{AllByRecursion, list_all}

@@ -14,7 +14,7 @@ use Rattle.wkt_core.specs.Scales.{digits_of}
 use Rattle.wkt_core.specs.Spelling.{kept}
 use Rattle.wkt_core.specs.NumberSteps.{digits_at, after_digits, sign_at, decimals_at, number_at, number_answer, IsCapped, ranged}
 
--- digits behind digits
+-- digits after digits
 pub digits_value_after-append : (n : ℕ) (ds es : List ℕ) → digits_value_after 10 n (ds ++ es) ≡ digits_value_after 10 (digits_value_after 10 n ds) es
 digits_value_after-append n [] es = refl
 digits_value_after-append n (d ∷ ds) es = digits_value_after-append (n * 10 + digit_value d) ds es
@@ -36,7 +36,7 @@ kept-more k d ds = let e : suc k - suc (length ds) ≡ k - length ds = omega ari
 
 -- ---- a digit at the front
 
--- the digit and what is left behind it
+-- the digit and the text after it
 pub digit_taken : (text : List ℕ) → 1 ≤ length text → 48 ≤ get_or text 0 0 → get_or text 0 0 < 58
     → let rest = take (length text - 1) (drop 1 text) in (digits_at text ≡ get_or text 0 0 ∷ digits_at rest) × (after_digits text ≡ after_digits rest)
 digit_taken [] some low high = absurd (omega arith)
@@ -54,7 +54,7 @@ no_digit (b ∷ text) none = not_digit b text (is_ascii_digit b) refl (none (ome
 
 -- ---- capped numbers
 
--- the number stands for one that further digits bring to the total
+-- the number represents one that further digits extend to the total
 pub record LeadsTo (sum : ℕ) (ds : List ℕ) (total : ℕ) : Type 0 where
   pub so_far : ℕ
   pub capped : IsCapped sum so_far
@@ -98,7 +98,7 @@ ranged_capped negative sum total (inr h) = grind (arith, nat_tests)
 
 -- ---- a number with its fraction
 
--- what is read of it, from what is read of its parts
+-- the result of reading the number, from those of its parts
 pub number_answered : (scale : Scale) (text unsigned rest behind : List ℕ) (negative whole : Bool) (part units : ℕ) (value : Option ℤ)
     → negative ≡ (sign_at text).0 → unsigned ≡ (sign_at text).1 → 1 ≤ length unsigned → 48 ≤ get_or unsigned 0 0 → get_or unsigned 0 0 < 58
     → IsCapped part (digits_value 10 (digits_at unsigned)) → rest ≡ after_digits unsigned

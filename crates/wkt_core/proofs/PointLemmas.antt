@@ -22,7 +22,7 @@ points_exact = record {
   shorter = λ text x r h. Begins-shorter PointText text x r (point_begins text x r h);
 }
 
--- what a `None` promises holds, whatever is answered
+-- the promise of a `None` holds for every result
 pub if_none : {X : Type 0} {P : Type 0} (r : Option X) → P → IfNone r P
 if_none None h = h
 if_none (Some x) h = tt
@@ -45,7 +45,7 @@ module _ (scale : Scale) where
   pub no_point_taken : (text : List ℕ) → None ≡ point_answer scale (point_at text) → (p : RawPoint) (rest : List ℕ) → TakesPoint text p rest → ⊥
   no_point_taken text e p rest h = not_taken (point_at text) p rest e h
 
-  -- what the loop knows: the points so far, and the first of them
+  -- the invariant of the loop: the points so far, and the first of them
   abbrev pub SoFar : List ℕ → List ℕ → ReadList → Type 0
   SoFar start rest first = (done : List RawPoint) × Begun TakesPoint done start rest × IsReadOf scale first done
 
@@ -110,7 +110,8 @@ module _ (scale : Scale) where
   lists_ended text after behind first s e =
       (s.done ++ s.last ∷ [], (s.start, s.opened, items_ended TakesPoints s.done s.last s.start s.rest after behind s.begun s.taken e), s.firsts)
 
-  -- where neither a comma nor the end follows, or no list behind a comma, the text begins with no list of lists
+  -- if neither a comma nor the end follows, or no list after a comma, the text starts with no list
+  -- of lists
   pub no_lists_end : (text after : List ℕ) (first : ReadLists) → ListsSoFar scale text after first
       → ((r : List ℕ) → ¬ (skip after ≡ 44 ∷ r) × ¬ (skip after ≡ 41 ∷ r)) → (lists : List (List RawPoint)) (rest : List ℕ) → TakesLists text lists rest
       → ⊥

@@ -8,7 +8,7 @@ use Rattle.wkt_core.specs.declared.position.Position.{Position}
 use Rattle.wkt_core.specs.declared.scale.Scale.{Scale}
 use Rattle.wkt_core.specs.Canonical.{pair, listed}
 
--- what a place past the end would read as
+-- the value used for an index past the end
 abbrev origin : Position
 origin = record { x = pos 0; y = pos 0 }
 

@@ -1,4 +1,4 @@
--- What the lists of a text draw, by what is read of them.
+-- The shapes that the lists of a text form, by the results of reading them.
 use Rattle.std.proofs.Common.{◌≡◌, ℕ, List, [], ◌∷◌, map, sym, ◌∙◌, subst}
 use Rattle.std.specs.Prelude.{IsTrue, Option, IfSome, IfNone}
 use Rattle.std.specs.List.{list_all}
@@ -48,7 +48,7 @@ module _ (scale : Scale) where
       drawn_walk keyword read.first.walk (way_of (map (position scale) ps)) s kept (draws_kept keyword (map (position scale) ps) s h)
   forms_read keyword read (ps ∷ qs ∷ lists) s r range h = absurd h
 
--- the shape that the walk along the list that stands alone draws, or none
+-- the shape that the walk along the only list forms, or none
 module _ (keyword : Keyword) (read : ReadLists) (walk : Walk) (r : Option Shape) (stands : IsTrue read.alone) (same : walk ≡ read.first.walk) where
   pub some_forms : IfSome r (λ s. IsDrawnBy keyword walk.turns.items walk.last s)
       → IfSome r (λ s. (scale : Scale) (text : List ℕ) (lists : List (List RawPoint)) → TakesText text keyword lists → AreReadOf scale read lists

@@ -1,4 +1,4 @@
--- What is read of a list of points, with one point more.
+-- Reading a list of points with one more point.
 use Rattle.std.proofs.Common.{◌≡◌, ◌&&◌, Bool, true, false, not, cond, List, [], ◌∷◌, ◌++◌, Option, Some, None, map, refl, sym, ◌∙◌, ap, subst}
 use Rattle.std.specs.Prelude.{ℤ, is_some}
 use Rattle.std.specs.List.{list_all}

@@ -1,4 +1,4 @@
--- Rings without repeats: the sides of a rectangle, cut where the ring begins.
+-- Rings without repeats: the sides of a rectangle, cut at the start of the ring.
 use Rattle.std.proofs.Common.{◌≡◌, ℕ, zero, suc, ◌<◌, true, List, [], ◌∷◌, ◌++◌, inl, inr, length, take, drop, get_or, refl, sym, ◌∙◌, ap, subst, ⊎_elim, arith}
 use Rattle.std.proofs.lemmas.List.{append_assoc, append-nil, take-append-drop, length-append}
 use Rattle.geom_core.specs.declared.shape.Shape.{Shape}
@@ -10,7 +10,7 @@ use Rattle.wkt_core.proofs.HeadingLemmas.{heads_on, heads_parallel, heading_of, 
 use Rattle.wkt_core.proofs.RunLemmas.{trail, bends, along, run_heads, turned, run_split, run_join, pass, passed_all}
 use Rattle.wkt_core.proofs.FormLemmas.{rectangle_corners, from_next}
 
--- a ring of these points behind the first, without repeats
+-- a ring of these points after the first, without repeats
 pub record RingOf (p : Position) (xs : List Position) (s : Shape) : Type 0 where
   pub closed : last_of p xs ≡ p
   pub start : ℕ
@@ -38,7 +38,7 @@ take_front (x ∷ xs) ys = ap (λ l. x ∷ l) (take_front xs ys)
 rotated_front : (xs ys : List Position) → rotated (length xs) (xs ++ ys) ≡ ys ++ xs
 rotated_front xs ys = rw (drop_front xs ys, take_front xs ys) refl
 
--- where two lists are cut, the one from z on
+-- if two lists are cut, the one starting at z
 data Cuts (z : Position) (v u k m : List Position) : Type 0 where
   Behind : (t0 : Position) (t : List Position) → z ∷ v ≡ k ++ (t0 ∷ t) → (t0 ∷ t) ++ u ≡ m → Cuts z v u k m
   Within : (t : List Position) → k ≡ (z ∷ v) ++ t → u ≡ t ++ m → Cuts z v u k m
@@ -158,7 +158,7 @@ module _ (a b c d : Position) (s : Shape) (r : IsRectangle a b c d s) (ab bc cd 
         straight_on h d p a (run_heads h d w p front) into,
       )
 
--- the last point stands behind the corner d, and is it where nothing does
+-- the last point is after the corner d, or equals it if nothing is
 kept : (p : Position) (xs : List Position) (s : Shape) (m : CutRing xs s) (behind : List Position) → m.behind ≡ behind → last_of p xs ≡ p
     → KeptRing p xs s
 kept p xs s m [] e closed =
@@ -196,7 +196,7 @@ kept p xs s m (z ∷ behind) e closed =
 -- the sides of a rectangle, of which the first are at the end of the ring
 module _ (a b c d : Position) (s : Shape) (r : IsRectangle a b c d s) (i1 i2 i3 i4 : List Position) (first : IsStraight a i1 b)
     (second : IsStraight b i2 c) (third : IsStraight c i3 d) (fourth : IsStraight d i4 a) where
-  -- cut behind v, which ends within the first side
+  -- cut after v, which ends within the first side
   cut_first : (xs v u t : List Position) (z : Position) → xs ≡ u ++ (z ∷ v) → a ∷ i1 ≡ (z ∷ v) ++ t
       → u ≡ t ++ ((b ∷ i2) ++ ((c ∷ i3) ++ (d ∷ i4))) → CutRing xs s
   cut_first xs v u t z e f g =
@@ -226,7 +226,8 @@ shorter : (z : Position) (v : List Position) (a : Position) (i : List Position) 
     → z ∷ v ≡ (a ∷ i) ++ (t0 ∷ t) → length v < suc n → length t < n
 shorter z v a i t0 t n e l = omega (arith, ap length e, length-append i (t0 ∷ t))
 
--- cut anywhere: where the first side lies before the cut, it is the last one of the ring begun at the next corner
+-- cut anywhere: if the first side is before the cut, it is the last one of the ring that starts at
+-- the next corner
 cut : (n : ℕ) (a b c d : Position) (s : Shape) (r : IsRectangle a b c d s) (i1 i2 i3 i4 : List Position) → IsStraight a i1 b → IsStraight b i2 c
     → IsStraight c i3 d → IsStraight d i4 a → (xs : List Position) (z : Position) (v u : List Position) → xs ≡ u ++ (z ∷ v)
     → (z ∷ v) ++ u ≡ four_sides a i1 b i2 c i3 d i4 → length v < n → CutRing xs s

@@ -1,11 +1,11 @@
--- Points without repeats: at which of them the way turns.
+-- Points without repeats: at which of them the path turns.
 use Rattle.std.proofs.Common.{◌≡◌, true, cond, List, [], ◌∷◌, ◌++◌, get_or, drop, refl, sym, ◌∙◌, ap, subst}
 use Rattle.wkt_core.specs.declared.position.Position.{Position}
 use Rattle.wkt_core.specs.Drawing.{Heading, Heads, Runs}
 use Rattle.wkt_core.specs.Walks.{is_straight}
 use Rattle.wkt_core.proofs.HeadingLemmas.{by_bool, heads_on, straight_on, heads_between, turn_false}
 
--- the turns behind p, on a way from p to q and on, with its end
+-- the turns after p, on a path from p to q and on, with its end
 abbrev pub bends : Position → Position → List Position → List Position
 bends p q [] = q ∷ []
 bends p q (r ∷ rs) = cond (is_straight p q r) (bends p r rs) (q ∷ bends q r rs)
@@ -90,7 +90,7 @@ leg p q (r ∷ rs) =
     }))
     (λ f. rw f (record { v = q; inner = []; rest = r ∷ rs; split = refl; bent = refl; straight = λ h k. (k, tt) }))
 
--- the same, where the first turn v is known
+-- the same, if the first turn v is known
 pub record Passed (p : Position) (xs : List Position) (v : Position) (vs : List Position) : Type 0 where
   pub inner : List Position
   pub rest : List Position

@@ -1,4 +1,4 @@
--- What a walk with room for six turns keeps of its way.
+-- The points that a walk with room for six turns keeps of its path.
 use Rattle.std.proofs.Common.{◌≡◌, ℕ, ◌<◌, ◌≤◌, true, false, List, [], ◌∷◌, ◌++◌, ◌⊎◌, inl, inr, Option, Some, None, Result, Ok, Err, length, take, refl, sym}
 use Rattle.std.proofs.Common.{◌∙◌, ap, subst, ⊎_elim, arith}
 use Rattle.std.specs.Prelude.{OnOk, OnErr, IsOk, nat_lt}
@@ -14,7 +14,7 @@ use Rattle.wkt_core.specs.Walks.{Way, goes_on, stepped, way_of, IsKeptOf, DrawnB
 use Rattle.wkt_core.proofs.HeadingLemmas.{by_bool}
 use Rattle.wkt_core.proofs.WayLemmas.{way_more}
 
--- the walk after one step, by what it kept before
+-- the walk after one step, by the points that it kept before
 pub record IsStepped (items : List Position) (before : Option Position) (p : Position) (new : Walk) : Type 0 where
   pub turns : new.turns.items ≡ take 6 (stepped items before p).turns
   pub last : new.last ≡ (stepped items before p).last
@@ -22,7 +22,7 @@ pub record IsStepped (items : List Position) (before : Option Position) (p : Pos
 few_or_more : (n : ℕ) → (n < 6) ⊎ (6 ≤ n)
 few_or_more n = by_bool (nat_lt n 6) (λ t. inl (grind (arith, nat_tests))) (λ f. inr (grind (arith, nat_tests)))
 
--- where there are six turns, more have no bearing
+-- if there are six turns, further ones have no effect
 step_full : (turns : List Position) (last : Option Position) (p : Position) → 6 ≤ length turns
     → (take 6 (stepped turns last p).turns ≡ take 6 turns) × (6 ≤ length (stepped turns last p).turns)
 step_full turns None p l = (refl, l)
@@ -79,7 +79,7 @@ module _ (items : List Position) (last : Option Position) (q p : Position) (new 
       → IsStepped items last p new
   step_turned d t f g = stepped_to (record { turns = items ++ q ∷ []; last = Some p }) (rw (d, t) refl) f g
 
--- a turn is kept where there is room
+-- a turn is kept if there is room
 pub turn_kept : {A B V : Type 0} (items : V → List Position) (r : Result A B) (old new : V) (q : Position) → length (items old) ≤ 6
     → OnOk r (items new ≡ items old ++ q ∷ []) → (IsOk r → length (items old) < 6) → OnErr r (new ≡ old) → OnErr r (length (items old) ≡ 6)
     → items new ≡ take 6 (items old ++ q ∷ [])

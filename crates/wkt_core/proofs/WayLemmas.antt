@@ -1,4 +1,4 @@
--- What is kept of a walk is where its way turns.
+-- The kept points of a walk are those where its path turns.
 use Rattle.std.proofs.Common.{◌≡◌, ◌-◌, List, [], ◌∷◌, ◌++◌, length, Some, refl, ap, subst, arith}
 use Rattle.std.specs.Prelude.{slice_get}
 use Rattle.std.proofs.lemmas.List.{append_assoc, length-append}
@@ -8,7 +8,7 @@ use Rattle.wkt_core.specs.Walks.{Way, goes_on, goes_on_from, is_straight, steppe
 use Rattle.wkt_core.proofs.HeadingLemmas.{by_bool}
 use Rattle.wkt_core.proofs.RunLemmas.{bends, trail}
 
--- where a walk is, and its turns up to there
+-- the position of a walk, and its turns up to there
 pub record Ends (w : Way) (vs : List Position) : Type 0 where
   pub end : Position
   pub last : w.last ≡ Some end

@@ -1,4 +1,4 @@
--- The keyword that a text begins with.
+-- The keyword at the start of a text.
 use Rattle.std.proofs.Common.{◌≡◌, ℕ, ◌+◌, true, false, eqb, List, ◌++◌, length, take, drop, Option, Some, None, refl, subst}
 use Rattle.std.specs.Prelude.{codes, IfNone}
 use Rattle.std.specs.Borrow.{Bor}
@@ -13,7 +13,7 @@ use Rattle.wkt_core.specs.ListSteps.{TakesWord}
 
 -- ---- a keyword in capitals
 
--- the text behind this word, if it begins with it
+-- the text after this word, if it starts with it
 abbrev Stripped : List ℕ → List ℕ → Option (Bor (List ℕ)) → Type 0
 Stripped text word r =
     MatchOption r (pointwise eqb (take (length word) text) word ≡ false)

@@ -1,4 +1,4 @@
--- What the readings of words follow from.
+-- The facts from which the readings of words follow.
 use Rattle.std.proofs.Common.{◌≡◌, ◌≢◌, ◌↔◌, length, find, map, IfOk, IfErr, IsErrAnd, ◌<◌, ◌^◌, ◌∙◌, ℕ, Bool, true, false, List, Option, Some, None, Result, Ok, Err, inl, inr, refl, sym, ap, ap₂, subst, arith, [], ◌∷◌}
 use Rattle.std.specs.Prelude.{if◌then◌else◌, unwrap_or, codes, option_map, option_and_then}
 use Rattle.std.specs.Bool.{MatchBool}
@@ -81,7 +81,7 @@ needs_some name o x f Then e h = subst (λ (p : Option _). Needs name p f Then) 
 
 -- ---- options
 
--- what `Options::new` tells of a fault
+-- the consequences of a fault of `Options::new`
 pub options_refused : (rows : List Row) (workers batch cut : ℕ) (reason : OptionFault) (f : WordFault)
     → number_at (codes "workers") rows ≡ Some workers → number_at (codes "batch") rows ≡ Some batch → number_at (codes "cut") rows ≡ Some cut
     → (reason ≡ range.Workers → ¬ (AreWorkers workers)) → (reason ≡ range.Batch → AreWorkers workers × ¬ (IsBatch batch))
@@ -169,7 +169,7 @@ module _ (rows : List Row) (left right : Text) (edits : Option Text) (f : WordFa
   pub join_refuses : share_input left right edits ≡ false → (word : Text) → first_of (codes "relation") rows ≡ Some word → IsRelationFault word f → HasJoinFault rows f
   join_refuses e word is h = join_from (when_false (share_input left right edits) _ _ e (needs_some (codes "relation") (first_of (codes "relation") rows) word f _ is (inl h)))
 
-  -- what follows is at fault
+  -- a later argument is at fault
   pub join_passes : share_input left right edits ≡ false → (word : Text) (relation : JoinRelation) → first_of (codes "relation") rows ≡ Some word
       → Spells (relation_of relation) word → NeedsOptions rows f (HasScaleFault rows f) → HasJoinFault rows f
   join_passes e word relation is spells h =

@@ -1,4 +1,4 @@
--- How a command comes to its usage.
+-- How a command gets its usage.
 use Rattle.std.proofs.Common.{ℕ, Bool, true, false, List, [], ◌∷◌, ◌++◌, ◌+◌, ◌<◌, ◌≤◌, ◌≡◌, ◌∙◌, ◌||◌, add-one, ap, ap₂, append_assoc, drop, get_or, length, map, refl, sym}
 use Rattle.std.proofs.Math.Seq.{drop-cons}
 use Rattle.std.proofs.lemmas.List.{at_drop_all}

@@ -6,7 +6,7 @@ use Rattle.file_core.specs.Limits.{most_file_bytes}
 use Rattle.file_core.specs.Rows.{IsReading, RowsGive, rows_left}
 use Rattle.file_core.proofs.edit_file.edits_of_bytes.Given as goal
 
--- what the rows that are left give from here, the file gives, and each row so far gave an edit
+-- the remaining rows have the result of the file, and each row so far gave an edit
 abbrev pub invariant-loop-edits : goal.invariant-loop-edits
 invariant-loop-edits l =
     IsReading l.rows

@@ -3,7 +3,7 @@ use Rattle.std.specs.Vec.Iter.{into_iter_items}
 use Rattle.file_core.specs.Batches.{HasId, all_rows, with_rows}
 use Rattle.file_core.proofs.insertion.add_parts.Given as goal
 
--- what the parts that are left give from here, all of them give
+-- the remaining parts have the result of all parts
 abbrev pub invariant-loop-rows : goal.invariant-loop-rows
 invariant-loop-rows l = record {
   gives : with_rows l.fn.loading (all_rows l.fn.parts.items) ≡ with_rows l.loading (all_rows (into_iter_items l.rows-iterator));

@@ -3,7 +3,7 @@ use Rattle.std.specs.Vec.Iter.{into_iter_items}
 use Rattle.file_core.specs.Batches.{HasId, with_rows}
 use Rattle.file_core.proofs.insertion.add_rows.Given as goal
 
--- what the rows that are left give from here, all of them give
+-- the remaining rows have the result of all rows
 abbrev pub invariant-loop-row : goal.invariant-loop-row
 invariant-loop-row l = record {
   gives : with_rows l.fn.loading l.fn.rows.items ≡ with_rows l.loading (into_iter_items l.row-iterator);

@@ -19,7 +19,7 @@ set_number-requires c =
     let done = c.in_ok-place.ensures in
     rw (ap (λ r. r.0) done.before, done.after) (inserted_within c.self.inside.ids.entries c.args.id _)
 
--- what it does, where the id has a feature
+-- the effect if a feature has the id
 has_feature : (es entries : List (Id × Option ℕ)) (slots : List (Option Slot)) (count : ℕ) → StandForLayer es slots count → (k : Id) (slot : Slot)
     (number live : ℕ) (before : Option (Option ℕ)) → entries ≡ insert_entry id_eq es k (Some number)
     → (slot.place, before) ≡ place_and_number k es → Some live ≡ option_flatten before
@@ -55,7 +55,7 @@ returns-in_err-place-clause-refused c =
     let absent = ap (λ f. with_id (id_bytes c.args.id) f.list) (sym c.self.view_is) ∙ none in
     search rules
 
--- what the insertion does, where the id had no feature
+-- the effect of the insertion if no feature has the id
 new_feature : (es entries : List (Id × Option ℕ)) (slots : List (Option Slot)) (count : ℕ) → StandForLayer es slots count → (k : Id) (slot : Slot)
     (number : ℕ) (before : Option (Option ℕ)) → entries ≡ insert_entry id_eq es k (Some number) → number ≡ length slots
     → IsDistinct id_eq (keys_of entries) → (slot.place, before) ≡ place_and_number k es → None ≡ option_flatten before → length slots < most_features
