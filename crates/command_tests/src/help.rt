@@ -25,8 +25,8 @@ const HELP: &[(&str, &str)] = &[
 
 /// Parts of the help of `join`: the text before a limit, the limit, and the default.
 const LIMITS: &[(&str, u32, u32)] = &[
-    ("Threads that join, 1 to", MAX_WORKERS, DEFAULT_WORKERS),
-    ("Pairs a batch, 1 to", MAX_BATCH, 256),
+    ("Number of threads, 1 to", MAX_WORKERS, DEFAULT_WORKERS),
+    ("Pairs per batch, 1 to", MAX_BATCH, 256),
     ("into tasks, 0 to", MAX_CUT as u32, 2),
 ];
 

@@ -18,14 +18,14 @@ Options:
   -h, --help     Print help
   -V, --version  Print version
 
-Layers are CSV files with the header id,wkt and a feature a row:
+Layers are CSV files with the header id,wkt and one feature per row:
   id,wkt
   mill lane,\"LINESTRING (10 0, 10 10)\"
 
 Geometries are points, segments along an axis and rectangles, as well-known text:
   POINT (4 4)
   POLYGON ((0 0, 4 0, 4 4, 0 4, 0 0))
-rjoin relate --geometry any takes polylines and polygons of any direction.
+rjoin relate --geometry any also accepts polylines and polygons of any direction.
 
 A coordinate has no decimals, or up to K with --scale K; counted in units of the last decimal, its
 absolute value is at most 1000000000000.
@@ -33,11 +33,11 @@ absolute value is at most 1000000000000.
 The path - stands for standard input, for at most one file of a command.
 
 Exit status:
-  0  what was asked for is written
-  1  a fault of input, output, memory, threads or hashing keys; a line on standard error tells it
+  0  success: the output is written
+  1  a fault of input, output, memory, threads or hashing keys, reported on standard error
   2  the arguments are invalid
 
-rjoin COMMAND --help tells more.
+rjoin COMMAND --help gives details.
 ";
 
 pub(crate) const OF_RELATE: &str = "\
@@ -51,8 +51,8 @@ Arguments:
 
 Options:
       --scale <scale>        Decimals that a coordinate may have, 0 to 6 [default: 0]
-      --geometry <geometry>  Geometries that are read, box or any [default: box]
-      --rings <rings>        Rings that --geometry any takes, proper (the default) or even-odd
+      --geometry <geometry>  Kind of the geometries, box or any [default: box]
+      --rings <rings>        Rings that --geometry any accepts, proper (the default) or even-odd
   -h, --help                 Print help
 
 Geometries are points, segments along an axis and rectangles:
@@ -62,14 +62,14 @@ Geometries are points, segments along an axis and rectangles:
 With --geometry any they are points, polylines and polygons of any direction, and MULTI forms:
   LINESTRING (0 0, 3 2, 5 2)    MULTIPOINT (1 1, 2 2)
   MULTIPOLYGON (((0 0, 4 0, 0 4, 0 0)), ((9 9, 8 9, 9 8, 9 9)))
-Rings that cross or run along each other are refused. --rings even-odd takes any closed rings: a
-point that lies on none is inside where a ray from it crosses them an odd number of times.
+Rings that cross or run along each other are refused. --rings even-odd accepts any closed
+rings: a point that lies on none is inside if a ray from it crosses them an odd number of times.
 
 The nine letters are those of DE-9IM, in three rows of three: interior, boundary and exterior of A,
-each with interior, boundary and exterior of B. F says that the two share nothing, and 0, 1 or 2
+each with interior, boundary and exterior of B. F means that the two share nothing, and 0, 1 or 2
 that they share points, lines or areas.
 
-Exit status: 0 for success, 1 for a text at fault or no output, 2 for invalid arguments
+Exit status: 0 for success, 1 for a fault of a text or of the output, 2 for invalid arguments
 ";
 
 pub(crate) const OF_JOIN: &str = "\
@@ -83,14 +83,14 @@ Arguments:
 
 Options:
       --relation <relation>  Name of a relation, or mask of nine letters
-      --edits <edits>        CSV file of edits, which are made before the join
-      --workers <workers>    Threads that join, 1 to 16 [default: 4]
-      --batch <batch>        Pairs a batch, 1 to 4096 [default: 256]
-      --cut <cut>            Rounds of cutting into tasks, 0 to 8 [default: 2]
+      --edits <edits>        CSV file of edits, which are applied before the join
+      --workers <workers>    Number of threads, 1 to 16 [default: 4]
+      --batch <batch>        Pairs per batch, 1 to 4096 [default: 256]
+      --cut <cut>            Rounds of cutting the trees into tasks, 0 to 8 [default: 2]
       --scale <scale>        Decimals that a coordinate may have, 0 to 6 [default: 0]
   -h, --help                 Print help
 
-A layer is a CSV file, as                 edits are a CSV file, as
+A layer is a CSV file such as             Edits are a CSV file such as
   id,wkt                                    op,layer,id,wkt
   mill,\"LINESTRING (10 0, 10 10)\"           insert,left,inn,POINT (4 4)
 
@@ -99,20 +99,20 @@ The path - stands for standard input, for at most one of the files.
 Relations of a left feature to a right one:
   intersects  they share a point
   touches     they share a point, and their interiors share none
-  crosses     of two dimensions: their interiors share a point, and the one of the lower dimension
-              lies outside the other too; two segments: their interiors share a single point
+  crosses     different dimensions: their interiors share a point, and the one of lower dimension
+              also has points outside the other; two segments: their interiors share one point
   within      the left one lies in the right one, and their interiors share a point
   contains    the right one lies in the left one, and their interiors share a point
-  overlaps    of one dimension, which what the interiors share has too: each lies outside the
-              other too
+  overlaps    equal dimensions, which the intersection of their interiors has too, and each also
+              has points outside the other
   equals      they are the same set of points
-  disjoint    they share no point: known, but refused, as is each mask that disjoint features fit
-In place of a name stands a mask of nine letters, one for each letter of the matrix: T asks for
-0, 1 or 2, and F, 0, 1 and 2 for that letter, and * takes any.
+  disjoint    they share no point: refused, like each mask that disjoint features may fit
+A mask of nine letters may replace the name, with one for each letter of the matrix: T asks for
+0, 1 or 2, and F, 0, 1 and 2 for that letter; * allows any.
 
 The report is CSV: left,right,matrix, and for each pair the two ids and the nine letters of DE-9IM,
 in three rows of three: interior, boundary and exterior of the left one, each with interior,
-boundary and exterior of the right one. F says that the two share nothing, and 0, 1 or 2 that they
+boundary and exterior of the right one. F means that the two share nothing, and 0, 1 or 2 that they
 share points, lines or areas. Neither --workers nor --batch nor --cut changes the report.
 
 Exit status: 0 for success, 1 for a fault of a file, output, memory, threads or hashing keys, 2 for
@@ -130,18 +130,18 @@ Arguments:
 
 Options:
       --relation <relation>  Name of a relation, or mask of nine letters
-      --edits <edits>        CSV file of edits, which are made before the join
-      --workers <workers>    Threads that join, 1 to 16 [default: 4]
-      --batch <batch>        Pairs a batch, 1 to 4096 [default: 256]
-      --cut <cut>            Rounds of cutting into tasks, 0 to 8 [default: 2]
+      --edits <edits>        CSV file of edits, which are applied before the join
+      --workers <workers>    Number of threads, 1 to 16 [default: 4]
+      --batch <batch>        Pairs per batch, 1 to 4096 [default: 256]
+      --cut <cut>            Rounds of cutting the trees into tasks, 0 to 8 [default: 2]
       --scale <scale>        Decimals that a coordinate may have, 0 to 6 [default: 0]
   -h, --help                 Print help
 
-The layers are read, edited and joined as by rjoin join, whose --help tells files and relations.
+The layers are read, edited and joined as by rjoin join; its --help describes files and relations.
 
 The picture is SVG 1.1, which browsers show: the second axis upwards, left features in blue and
 right ones in orange, those that occur in a pair highlighted by stronger lines and fills, each with
-its id as a title that shows under the pointer. Its head counts features and pairs:
+its id as a title that appears under the pointer. A legend counts features and pairs:
   rjoin draw parcels.csv roads.csv --relation touches > picture.svg
 
 Layers with more than 100000 features together, after the edits, are refused. Neither --workers nor
@@ -164,12 +164,12 @@ Options:
       --scale <scale>  Decimals that a coordinate may have, 0 to 6 [default: 0]
   -h, --help           Print help
 
-A layer is a CSV file, as
+A layer is a CSV file such as
   id,wkt
   mill lane,\"LINESTRING (10 0, 10 10)\"
 The path - stands for standard input.
 
-A feature meets the window where they share a point. The answer is CSV: id, and the ids in the
+A feature meets the window if they share a point. The output is CSV: id, and then the ids in the
 order of the file.
 
 Exit status: 0 for success, 1 for a fault of the file, WKT, output, memory or hashing keys, 2 for
@@ -188,12 +188,12 @@ Options:
       --scale <scale>  Decimals that a coordinate may have, 0 to 6 [default: 0]
   -h, --help           Print help
 
-A layer is a CSV file, as
+A layer is a CSV file such as
   id,wkt
   mill lane,\"LINESTRING (10 0, 10 10)\"
 The path - stands for standard input.
 
-The answer has five lines: features, points, segments, rectangles and height, each with a number.
+The output has five lines: features, points, segments, rectangles and height, each with a number.
 
 Exit status: 0 for success, 1 for a fault of the file, output, memory or hashing keys, 2 for
 invalid arguments
@@ -211,12 +211,12 @@ Options:
       --scale <scale>  Decimals that a coordinate may have, 0 to 6 [default: 0]
   -h, --help           Print help
 
-A layer is a CSV file, as
+A layer is a CSV file such as
   id,wkt
   mill lane,\"LINESTRING (10 0, 10 10)\"
 The path - stands for standard input.
 
-The answer is CSV: id,x1,y1,x2,y2, and for each feature, in the order of the file, its id and its
+The output is CSV: id,x1,y1,x2,y2, and for each feature, in the order of the file, its id and its
 least and greatest coordinates. They are whole numbers of units of the last decimal: with
 --scale 2, 12.5 is written as 1250.
 

@@ -76,17 +76,17 @@ const JOIN_ARGUMENTS: [Argument; 8] = [
     Argument::Edits,
     Argument::Number {
         name: "workers",
-        help: "Threads that join, 1 to 16",
+        help: "Number of threads, 1 to 16",
         default: "4",
     },
     Argument::Number {
         name: "batch",
-        help: "Pairs a batch, 1 to 4096",
+        help: "Pairs per batch, 1 to 4096",
         default: "256",
     },
     Argument::Number {
         name: "cut",
-        help: "Rounds of cutting into tasks, 0 to 8",
+        help: "Rounds of cutting the trees into tasks, 0 to 8",
         default: "2",
     },
     SCALE,
@@ -299,7 +299,7 @@ fn edits<'a>(alloc: Global) -> Arg<'a>
 {
     Arg::new(alloc, "edits")
         .long("edits")
-        .help("CSV file of edits, which are made before the join")
+        .help("CSV file of edits, which are applied before the join")
 }
 
 fn geometry<'a>(alloc: Global) -> Arg<'a>
@@ -307,7 +307,7 @@ fn geometry<'a>(alloc: Global) -> Arg<'a>
 {
     Arg::new(alloc, "geometry")
         .long("geometry")
-        .help("Geometries that are read, box or any")
+        .help("Kind of the geometries, box or any")
         .default_value("box")
 }
 
@@ -315,6 +315,6 @@ fn rings<'a>(alloc: Global) -> Arg<'a>
     ensures { IsArgument rings_rule result }
 {
     Arg::new(alloc, "rings").long("rings").help(
-        "Rings that --geometry any takes, proper (the default) or even-odd",
+        "Rings that --geometry any accepts, proper (the default) or even-odd",
     )
 }
