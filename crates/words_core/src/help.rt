@@ -50,7 +50,7 @@ Relations of a left feature to a right one:
   intersects  they share a point
   touches     they share a point, and their interiors share none
   crosses     different dimensions: their interiors share a point, and the one of lower dimension
-              also has points outside the other; two segments: their interiors share one point
+              also has points outside the other; two segments: their interiors share a single point
   within      the left one lies in the right one, and their interiors share a point
   contains    the right one lies in the left one, and their interiors share a point
   overlaps    equal dimensions, which the intersection of their interiors has too, and each also
