@@ -1,5 +1,5 @@
-//! Executing a command: its files are opened, it runs, and its exit status and any fault line
-//! follow.
+//! Executing a command: opening its files, running it, and reporting its end by an exit status and
+//! a fault line.
 
 ghost use Rattle.std.specs.Prelude.{◌≡◌, false, IfOk, IfErr, IfSome, OnOk};
 ghost use Rattle.join_core.specs.JoinRuns.{bytes_of};

@@ -1,4 +1,4 @@
--- Where a CSV text can be cut such that its records are those of both parts.
+-- Cutting a CSV text such that its records are those of both parts.
 use Rattle.std.specs.Prelude.{◌≡◌, ◌≢◌, ◌++◌, ℕ, false, List, [], ◌∷◌}
 use Rattle.csv.specs.Machine.{ends_at_end, line_feed, step}
 use Rattle.csv.specs.Reading.{default_config, strip_bom}

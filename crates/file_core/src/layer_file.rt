@@ -29,7 +29,7 @@ const SAMPLE: usize = 65_536;
 /// If `threads` is more than 1, several threads read parts of the file ahead while another inserts
 /// the rows before them. The result is the same.
 ///
-/// The file is records of comma-separated fields with double quotes where needed (RFC 4180), with
+/// The file has records of comma-separated fields with double quotes if needed (RFC 4180), with
 /// line ends LF or CR LF. Its header is `id,wkt`, in any ASCII case, with or without a byte order
 /// mark before it. Each row inserts a feature, by [`FeatureList::add`].
 ///

@@ -57,7 +57,7 @@ fn plan_of<'a>(
     ensures plan { IfOk result (IsPlan left.now.root right.now.root cut) }
     ensures rows { IfOk result (RowsAreJoinList left.now.list right.now.list) }
 {
-    // The invariant of a layer says that numbers rise along it.
+    // The invariant of a layer says that numbers ascend along it.
     let _lens = (left.len(), right.len());
     let left_tree = left.tree();
     let right_tree = right.tree();
