@@ -17,8 +17,8 @@ use std::{mem, thread};
 /// Reads the layers of the left and the right source. `states` hash their ids.
 ///
 /// The left source is read first. Then its layer is built while the right source is read and its
-/// layer built, in parallel if there is more than one thread; each layer is built by up to
-/// `reader.threads` threads. If the left source fails, its fault is returned at once and the right
+/// layer built, in parallel if there is more than one thread; each build may itself use several
+/// threads, as `reader` says. If the left source fails, its fault is returned at once and the right
 /// source isn't read. A failing right source comes before a fault in the bytes of the left.
 pub(crate) fn read_layers<R: Threads + Sync, A: Source, B: Source>(
     reader: &LayerReader<'_, R>,

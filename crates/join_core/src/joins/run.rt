@@ -49,7 +49,8 @@ impl JoinJob {
     /// The first fault of the left file, the right one, that of the edits and the edits, in this
     /// order, except that a failing right source comes before a fault in the bytes of the left one;
     /// then nothing is written. If a picture is asked for and the edited layers have more than
-    /// `MAX_DRAWN` features together, they aren't joined, and the fault is `TooManyToDraw`.
+    /// `MAX_DRAWN` features together, they aren't joined, and the fault is `TooManyToDraw`. After
+    /// these, lack of memory or of threads, or a fault of the output.
     pub fn run<R: AllocGlobal + Threads + Wait + Sync, A: Source, B: Source, E: Source, S: Sink>(
         &self,
         rt: &R,
