@@ -120,7 +120,15 @@ def test_the_version_is_that_of_the_program_and_is_asked_once(monkeypatch: Any, 
     assert (tmp_path / "calls").read_text().split() == ["--version", *["relate"] * 3]
 
 
+def joined() -> Any:
+    """The call that needs frames."""
+    geopandas = pytest.importorskip("geopandas")
+    frame = geopandas.GeoDataFrame(geometry=geopandas.GeoSeries.from_wkt(["POINT (0 0)"]))
+    return rjoin.sjoin(frame, frame)
+
+
 CALLS: Dict[str, Callable[[], Any]] = {
+    "sjoin": joined,
     "pairs": lambda: rjoin.pairs(["POINT (0 0)"], ["POINT (0 0)"]),
     "window": lambda: rjoin.window(["POINT (0 0)"], "POINT (0 0)"),
     "stats": lambda: rjoin.stats(["POINT (0 0)"]),

@@ -233,6 +233,9 @@ def joined(job: Job, relation: str, workers: Optional[int], matrix: bool) -> Any
 def read_report(path: Path, sources: Sequence[Source], matrix: bool) -> Any:
     left, right = (kind_of(source) for source in sources)
     columns = {"left": left, "right": right, "matrix": "category"}
+    with open(path, encoding="utf-8", errors="replace") as header:
+        if header.readline() != ",".join(columns) + "\n":
+            raise program.wrong_answer()
     report = read_table(path, columns, list(columns)[:3 if matrix else 2])
     if matrix:
         report["matrix"] = report["matrix"].to_numpy(object)
