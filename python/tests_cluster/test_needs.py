@@ -18,6 +18,8 @@ def test_what_a_worker_lacks(tools: Tools) -> None:
     layout, program = Layout(str(tools.folder)), Program(tools.program, "0")
     needs = Needs(layout, program, program.version(), ((__file__, os.stat(__file__).st_size),))
     assert "No such file" in lack_of(needs)
+    layout.token().write_bytes(b"of others")
+    assert lack_of(needs) == f"{tools.folder} is not the folder of the join"
     layout.token().write_bytes(TOKEN)
     assert lack_of(needs) == ""
     assert list(tools.folder.glob("check-*")) == []
