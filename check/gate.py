@@ -20,9 +20,9 @@ import signal
 import subprocess
 import sys
 import time
-from collections.abc import Iterator
+from collections.abc import Collection, Iterator
 from contextlib import contextmanager
-from dataclasses import dataclass, field
+from dataclasses import dataclass, field, replace
 from enum import Enum
 from multiprocessing import get_context
 from multiprocessing.connection import Connection, wait
@@ -36,6 +36,8 @@ PROGRAM = ROOT / "crates/rjoin/out/rjoin"
 MOST_MINUTES = 170
 # How long what is stopped may take to end.
 GRACE_SECONDS = 20
+# How long the lanes may print nothing before a line says which parts run.
+QUIET_SECONDS = 300
 PR_SET_CHILD_SUBREAPER = 36
 FORK = get_context("fork")
 LAST = re.compile(r"^(?:[\w -]+: )?(\d+) passed, (\d+) failed(?:, (\d+) skipped)?$", re.M)
@@ -275,21 +277,31 @@ def start_lane(parts: list[Part], deadline: float, printing: Lock) -> Connection
 def run_side_by_side(lanes: list[list[Part]], deadline: float) -> list[Result]:
     """Runs lanes side by side. A part of which nothing is heard has failed."""
     printing = FORK.Lock()
-    results = {part.name: Result(part.name, failed=1, notes=["its lane ended before it"])
-               for parts in lanes for part in parts}
+    heard: dict[str, Result] = {}
     left: list[Connection] = []
     for parts in lanes:
         print(f"== side by side, printed when each has ended: {' '.join(it.name for it in parts)}", flush=True)
         left.append(start_lane(parts, deadline, printing))
     while left:
-        for receiver in wait(left):
+        ready = wait(left, QUIET_SECONDS)
+        for receiver in ready:
             assert isinstance(receiver, Connection)
             try:
                 result = receiver.recv()
-                results[result.name] = result
+                heard[result.name] = result
             except EOFError:
                 left.remove(receiver)
-    return [*results.values()]
+        if not ready:
+            print_running(lanes, heard, printing)
+    unheard = Result("", failed=1, notes=["its lane ended before it"])
+    return [heard.get(part.name) or replace(unheard, name=part.name) for parts in lanes for part in parts]
+
+
+def print_running(lanes: list[list[Part]], heard: Collection[str], printing: Lock) -> None:
+    """Prints which parts of these lanes run, as those that were heard of have ended."""
+    unheard = ([part.name for part in parts if part.name not in heard] for parts in lanes)
+    with printing:
+        print(f"== running: {' '.join(names[0] for names in unheard if names)}", flush=True)
 
 
 def run_all(parts: list[Part], deadline: float) -> list[Result]:

@@ -17,7 +17,7 @@ DRIVER = """
 import sys
 sys.path.insert(0, {folder!r})
 import gate
-gate.GRACE_SECONDS = 2
+gate.GRACE_SECONDS, gate.QUIET_SECONDS = 2, {quiet}
 sys.exit(gate.gate([{parts}]))
 """
 
@@ -26,15 +26,16 @@ sys.exit(gate.gate([{parts}]))
 HEAVY, LIGHT = "1, gate.Lane.HEAVY", "1, gate.Lane.LIGHT"
 
 
-def words_of(*parts: str) -> list[str]:
-    """The words that run a gate of these parts."""
-    script = DRIVER.format(folder=str(HERE), parts=", ".join(f"gate.Part({part})" for part in parts))
-    return [sys.executable, "-c", script]
+def words_of(*parts: str, quiet: float = 300) -> list[str]:
+    """The words that run a gate of these parts, whose lanes may print nothing for so many seconds."""
+    listed = ", ".join(f"gate.Part({part})" for part in parts)
+    return [sys.executable, "-c", DRIVER.format(folder=str(HERE), parts=listed, quiet=quiet)]
 
 
-def gate(*parts: str) -> tuple[int, list[str]]:
+def gate(*parts: str, quiet: float = 300) -> tuple[int, list[str]]:
     """The status and the lines of a gate of these parts."""
-    ended = subprocess.run(words_of(*parts), capture_output=True, text=True, timeout=60, check=False)
+    words = words_of(*parts, quiet=quiet)
+    ended = subprocess.run(words, capture_output=True, text=True, timeout=60, check=False)
     return ended.returncode, (ended.stdout + ended.stderr).splitlines()
 
 
@@ -114,6 +115,10 @@ class Gate(unittest.TestCase):
         for name, written in (("heavy", ["a", "b"]), ("light", ["c", "d"])):
             at = next(i for i, line in enumerate(lines) if line.startswith(f"== {name}: "))
             self.assertEqual(lines[at + 1:at + 3], written, "\n".join(lines))
+
+    def test_lanes_that_print_nothing_for_long_say_what_runs(self) -> None:
+        lanes = shell("heavy", "sleep 1", HEAVY), shell("ended", "true", LIGHT), shell("light", "sleep 1", LIGHT)
+        self.assertIn("== running: heavy light", gate(*lanes, quiet=0.4)[1])
 
     def test_a_part_of_one_lane_alone_is_printed_at_once(self) -> None:
         words = words_of(shell("heavy", "echo a; sleep 600", HEAVY))
