@@ -15,7 +15,6 @@ use native.Mathlib.Decide.{dec_lt}
 use Rattle.std.specs.List.{position_or_len}
 use Rattle.indexmap.specs.IndexMap.{set_value_at, insert_entry}
 use Rattle.indexmap.proofs.MapLemmas.{Found-position, Missing-position, insert_entry-absent, insert_entry-first}
-use Rattle.geom_core.specs.declared.shape.Shape.{Shape}
 use Rattle.layer_core.specs.declared.features.Slot.{Slot}
 use Rattle.layer_core.specs.declared.id.Id.{Id}
 use Rattle.layer_core.specs.Ids.{id_bytes, id_eq}
@@ -38,255 +37,6 @@ values-set [] i w = refl
 values-set (e ∷ es) zero w = refl
 values-set (e ∷ es) (suc i) w = ap (λ l. e.1 ∷ l) (values-set es i w)
 
-place_of : (slots : List (Option Slot)) (k : ℕ) (s : Slot) → slice_get slots k ≡ Some (Some s) → slice_get (places slots) k ≡ Some (Some s.place)
-place_of slots k s h = slice_get-map (option_map (λ slot. slot.place)) slots k ∙ ap (option_map (option_map (λ slot. slot.place))) h
-
-module _ (numbers numbers' : List (Option ℕ)) (slots : List (Option Slot)) (p : ℕ) (table : AreInverse numbers slots)
-    (others : (q : ℕ) → q ≢ p → slice_get numbers' q ≡ slice_get numbers q) where
-  -- a feature more, whose id had no number
-  pub AreInverse-push : (slot : Slot) → slot.place ≡ p → slice_get numbers' p ≡ Some (Some (length slots)) → ((n : ℕ) → slice_get numbers p ≢ Some (Some n))
-      → length slots < most_features → AreInverse numbers' (slots ++ Some slot ∷ [])
-  AreInverse-push slot is_place given free room = record {
-    placed = λ q n h. rw grown (elim (same_or_other q p) [ inl e ↦ placed_new q n h e | inr d ↦ placed_old q n h d ]);
-    numbered =
-        λ q n h. let h' = rw grown at h in elim (same_or_other n (length (places slots))) [ inl e ↦ numbered_new q n h' e | inr d ↦ numbered_old q n h' d ];
-    few = omega (arith, length-append {A = Option Slot});
-  }
-    where
-      grown : places (slots ++ Some slot ∷ []) ≡ places slots ++ Some p ∷ []
-      grown = map-append (option_map (λ s. s.place)) slots (Some slot ∷ []) ∙ ap (λ x. places slots ++ Some x ∷ []) is_place
-
-      len : length (places slots) ≡ length slots
-      len = length-map slots (option_map (λ s. s.place))
-
-      placed_new : (q n : ℕ) → slice_get numbers' q ≡ Some (Some n) → q ≡ p → slice_get (places slots ++ Some p ∷ []) n ≡ Some (Some q)
-      placed_new q n h e =
-          let at_p : slice_get numbers' p ≡ Some (Some n) = rw (← e) h in
-          let number : n ≡ length (places slots) = let same : n ≡ length slots = cc in same ∙ sym len in
-          rw (number, e) (get-push_at (places slots) (Some p))
-
-      placed_old : (q n : ℕ) → slice_get numbers' q ≡ Some (Some n) → q ≢ p → slice_get (places slots ++ Some p ∷ []) n ≡ Some (Some q)
-      placed_old q n h d =
-          let old = table.placed q n (sym (others q d) ∙ h) in
-          get-push_before (places slots) (Some p) n (slice_get_within (places slots) n (Some q) old) ∙ old
-
-      numbered_new : (q n : ℕ) → slice_get (places slots ++ Some p ∷ []) n ≡ Some (Some q) → n ≡ length (places slots) → slice_get numbers' q ≡ Some (Some n)
-      numbered_new q n h e =
-          let last = get-push_at (places slots) (Some p) in
-          let at_end : slice_get (places slots ++ Some p ∷ []) (length (places slots)) ≡ Some (Some q) = rw (← e) h in
-          let same : q ≡ p = cc in
-          rw (same, e, len) given
-
-      numbered_old : (q n : ℕ) → slice_get (places slots ++ Some p ∷ []) n ≡ Some (Some q) → n ≢ length (places slots) → slice_get numbers' q ≡ Some (Some n)
-      numbered_old q n h d =
-          let within : n < length (places slots ++ Some p ∷ []) = slice_get_within (places slots ++ Some p ∷ []) n (Some q) h in
-          let below : n < length (places slots) = omega (arith, length-append (places slots) (Some p ∷ [])) in
-          let old = table.numbered q n (sym (get-push_before (places slots) (Some p) n below) ∙ h) in
-          others q (λ e. free n (let moved : slice_get numbers p ≡ Some (Some n) = rw (← e) old in moved)) ∙ old
-
-  -- a feature less
-  pub AreInverse-delete : (k : ℕ) → slice_get (places slots) k ≡ Some (Some p) → slice_get numbers' p ≡ Some None → AreInverse numbers' (set slots k None)
-  AreInverse-delete k here gone = record {
-    placed = λ q n h. rw cleared (placed_left q n h);
-    numbered = λ q n h. numbered_left q n (rw cleared at h);
-    few = let few = table.few in omega (arith, length-set slots k None);
-  }
-    where
-      cleared : places (set slots k None) ≡ set (places slots) k None
-      cleared = map-set (option_map (λ s. s.place)) slots k None
-
-      held : slice_get numbers p ≡ Some (Some k)
-      held = table.numbered p k here
-
-      placed_left : (q n : ℕ) → slice_get numbers' q ≡ Some (Some n) → slice_get (set (places slots) k None) n ≡ Some (Some q)
-      placed_left q n h = elim (same_or_other q p) [
-        | inl e ↦ let at_p : slice_get numbers' p ≡ Some (Some n) = rw (← e) h in cc
-        | inr d ↦
-            let old = table.placed q n (sym (others q d) ∙ h) in
-            get-set_other (places slots) k n None (λ e. d (let at_k : slice_get (places slots) k ≡ Some (Some q) = rw (← e) old in cc)) ∙ old
-      ]
-
-      numbered_left : (q n : ℕ) → slice_get (set (places slots) k None) n ≡ Some (Some q) → slice_get numbers' q ≡ Some (Some n)
-      numbered_left q n h = elim (same_or_other n k) [
-        | inl e ↦
-            let empty = get-set_at (places slots) k None (slice_get_within (places slots) k (Some p) here) in
-            let at_k = rw e at h in cc
-        | inr d ↦
-            let old = table.numbered q n (sym (get-set_other (places slots) k n None d) ∙ h) in
-            others q (λ e. d (let at_p : slice_get numbers p ≡ Some (Some n) = rw (← e) old in let mine = held in cc)) ∙ old
-      ]
-
-module _ (es : List (Id × Option ℕ)) (slots : List (Option Slot)) (table : AreInverse (values_of es) slots) where
-  -- the entry of the map that a slot's feature names
-  pub entry_of : (k : ℕ) (s : Slot) → slice_get slots k ≡ Some (Some s)
-      → (e : Id × Option ℕ) × (slice_get es s.place ≡ Some e) × (id_of (ids_of (keys_of es)) s ≡ id_bytes e.0)
-  entry_of k s h =
-      let number = table.numbered s.place k (place_of slots k s h) in
-      let entry = get-within es s.place (omega (arith, slice_get_within (values_of es) s.place (Some k) number, length-values_of es)) in
-      let key = slice_get-map (λ e. e.0) es s.place ∙ ap (option_map (λ e. e.0)) entry.1 in
-      let bytes = slice_get-map id_bytes (keys_of es) s.place ∙ ap (option_map id_bytes) key in
-      (entry.0, entry.1, get_or_from_slice_get (ids_of (keys_of es)) s.place (id_bytes entry.0.0) [] bytes)
-
-  key_of : (k : ℕ) (s : Slot) → slice_get slots k ≡ Some (Some s)
-      → (key : Id) × (slice_get (keys_of es) s.place ≡ Some key) × (id_of (ids_of (keys_of es)) s ≡ id_bytes key)
-  key_of k s h =
-      let entry = entry_of k s h in
-      (entry.0.0, slice_get-map (λ e. e.0) es s.place ∙ ap (option_map (λ e. e.0)) entry.1, entry.2)
-
-  module _ (id : List ℕ) where
-    pub absent_from_missing : position (has_text id) (keys_of es) ≡ None → IsAbsent (ids_of (keys_of es)) id slots
-    absent_from_missing none = record {
-      differs = λ k s h.
-          let key = key_of k s h in
-          ap (bytes_eq id) key.2 ∙ get-all (λ x. has_text id x ≡ false) (keys_of es) s.place key.0 (Missing-position (has_text id) es none).absent key.1;
-    }
-
-    passes : (es : List (Id × Option ℕ)) (key : Id) → lookup_key (has_text id) es ≡ Some key → has_text id key ≡ true
-    passes [] key h = cc
-    passes (e ∷ es) key h = by (has_text id e.0) refl (λ later. passes es key later)
-      where
-        by : (b : Bool) → has_text id e.0 ≡ b → (lookup_key (has_text id) es ≡ Some key → has_text id key ≡ true) → has_text id key ≡ true
-        by true t later = let same : e.0 ≡ key = let found = rw t at h in cc in rw (← same) t
-        by false t later = later (rw t at h)
-
-    -- a found id's key
-    first_key : (i : ℕ) → position (has_text id) (keys_of es) ≡ Some i → (key : Id) × (slice_get (keys_of es) i ≡ Some key) × (has_text id key ≡ true)
-    first_key i at =
-        let found = Found-position (has_text id) es i at in
-        let key = get-within (keys_of es) i (let within = found.within in omega (arith, length-keys_of es)) in
-        (key.0, key.1, passes es key.0 (found.key ∙ key.1))
-
-    -- two keys with the same id are at the same place
-    one_place : IsDistinct id_eq (keys_of es) → (i j : ℕ) (a b : Id) → slice_get (keys_of es) i ≡ Some a → slice_get (keys_of es) j ≡ Some b
-        → has_text id a ≡ true → has_text id b ≡ true → i ≡ j
-    one_place distinct i j a b at_i at_j is_a is_b = elim (dec_lt i j) [
-      | yes below ↦ absurd (apart i j a b at_i at_j below same)
-      | no above ↦ elim (dec_lt j i) [
-        | yes below ↦ absurd (apart j i b a at_j at_i below (sym same))
-        | no under ↦ omega (arith, above, under)
-      ]
-    ]
-      where
-        same : id_bytes a ≡ id_bytes b
-        same = sym ((bytes_eq-Decides id (id_bytes a)).0 is_a) ∙ (bytes_eq-Decides id (id_bytes b)).0 is_b
-
-        apart : (i j : ℕ) (a b : Id) → slice_get (keys_of es) i ≡ Some a → slice_get (keys_of es) j ≡ Some b → i < j
-            → id_bytes a ≡ id_bytes b → ⊥
-        apart i j a b at_i at_j below same =
-            let differ = apart_from_distinct id_eq (keys_of es) i j a distinct below (slice_get_within (keys_of es) j b at_j) in
-            let keys_differ : bytes_eq (id_bytes a) (id_bytes b) ≡ false = rw
-            (get_or_from_slice_get (keys_of es) i a a at_i, get_or_from_slice_get (keys_of es) j b a at_j) at differ in
-            let keys_agree : bytes_eq (id_bytes a) (id_bytes b) ≡ true = (bytes_eq-Decides (id_bytes a) (id_bytes b)).1 same in
-            cc
-
-    -- a slot's feature that has the found id is at its place
-    found_place : IsDistinct id_eq (keys_of es) → (i : ℕ) → position (has_text id) (keys_of es) ≡ Some i → (j : ℕ) (s : Slot)
-        → slice_get slots j ≡ Some (Some s) → bytes_eq id (id_of (ids_of (keys_of es)) s) ≡ true → s.place ≡ i
-    found_place distinct i at j s h e =
-        let key = key_of j s h in
-        let first = first_key i at in
-        one_place distinct s.place i key.0 first.0 key.1 first.1 (rw key.2 at e) first.2
-
-    pub absent_from_deleted : IsDistinct id_eq (keys_of es) → (i : ℕ) → position (has_text id) (keys_of es) ≡ Some i
-        → slice_get (values_of es) i ≡ Some None → IsAbsent (ids_of (keys_of es)) id slots
-    absent_from_deleted distinct i at gone = record { differs = λ k s h. by k s h (bytes_eq id (id_of (ids_of (keys_of es)) s)) refl }
-      where
-        by : (k : ℕ) (s : Slot) → slice_get slots k ≡ Some (Some s) → (b : Bool) → bytes_eq id (id_of (ids_of (keys_of es)) s) ≡ b → b ≡ false
-        by k s h true e =
-            let same = found_place distinct i at k s h e in
-            let number = table.numbered s.place k (place_of slots k s h) in
-            let at_i : slice_get (values_of es) i ≡ Some (Some k) = rw same at number in
-            cc
-        by k s h false e = refl
-
-    pub only_from_found : IsDistinct id_eq (keys_of es) → (i n : ℕ) (slot : Slot) → position (has_text id) (keys_of es) ≡ Some i
-        → slice_get (values_of es) i ≡ Some (Some n) → slice_get slots n ≡ Some (Some slot) → IsOnly (ids_of (keys_of es)) id slots n slot
-    only_from_found distinct i n slot at held here = record {
-      here = here;
-      same =
-          let key = key_of n slot here in
-          let first = first_key i at in
-          let places_agree : Some (Some slot.place) ≡ Some (Some i) = sym (place_of slots n slot here) ∙ table.placed i n held in
-          let same_place : slot.place ≡ i = cc in
-          let one_entry : Some key.0 ≡ Some first.0 = sym key.1 ∙ ap (slice_get (keys_of es)) same_place ∙ first.1 in
-          let one_key : key.0 ≡ first.0 = cc in
-          rw (key.2, one_key) first.2;
-      only = λ j s h e.
-          let same = found_place distinct i at j s h e in
-          let number = table.numbered s.place j (place_of slots j s h) in
-          let at_i : slice_get (values_of es) i ≡ Some (Some j) = rw same at number in
-          cc;
-    }
-
-    -- an id's number is that of a filled slot
-    pub slot_from_number : (i n : ℕ) → slice_get (values_of es) i ≡ Some (Some n) → (slot : Slot) × (slice_get slots n ≡ Some (Some slot)) × (slot.place ≡ i)
-    slot_from_number i n held = by (slice_get slots n) refl (table.placed i n held)
-      where
-        by : (r : Option (Option Slot)) → slice_get slots n ≡ r → slice_get (places slots) n ≡ Some (Some i)
-            → (slot : Slot) × (slice_get slots n ≡ Some (Some slot)) × (slot.place ≡ i)
-        by None e h = let at_n = sym (slice_get-map (option_map (λ s. s.place)) slots n ∙ ap (option_map (option_map (λ s. s.place))) e) ∙ h in cc
-        by (Some None) e h = let at_n = sym (slice_get-map (option_map (λ s. s.place)) slots n ∙ ap (option_map (option_map (λ s. s.place))) e) ∙ h in cc
-        by (Some (Some slot)) e h = let at_n : Some (Some slot.place) ≡ Some (Some i) = sym (place_of slots n slot e) ∙ h in (slot, e, cc)
-
--- the map and the slots represent a layer
-pub IsLayer-contents : (es : List (Id × Option ℕ)) (slots : List (Option Slot)) (count : ℕ) → StandForLayer es slots count
-    → IsLayer (contents_of (keys_of es) slots)
-IsLayer-contents es slots count kept = record {
-  distinct = features-distinct (ids_of (keys_of es)) 0 slots (λ j k s t a b e. apart j k s t a b e);
-  rising = features-rising (ids_of (keys_of es)) 0 slots;
-  below_next = numbers-below (ids_of (keys_of es)) (length slots) 0 slots (omega arith);
-  few = kept.table.few;
-}
-  where
-    apart : (j k : ℕ) (s t : Slot) → slice_get slots j ≡ Some (Some s) → slice_get slots k ≡ Some (Some t)
-        → id_of (ids_of (keys_of es)) s ≡ id_of (ids_of (keys_of es)) t → j ≡ k
-    apart j k s t a b e =
-        let first = key_of es slots kept.table j s a in
-        let second = key_of es slots kept.table k t b in
-        let id = id_bytes first.0 in
-        let same : id_bytes first.0 ≡ id_bytes second.0 = sym first.2 ∙ e ∙ second.2 in
-        let place = one_place es slots kept.table id kept.distinct s.place t.place first.0 second.0 first.1 second.1
-        ((bytes_eq-Decides id (id_bytes first.0)).1 refl) ((bytes_eq-Decides id (id_bytes second.0)).1 same) in
-        let number = kept.table.numbered s.place j (place_of slots j s a) in
-        let other = kept.table.numbered t.place k (place_of slots k t b) in
-        let at_s : slice_get (values_of es) t.place ≡ Some (Some j) = sym (ap (slice_get (values_of es)) place) ∙ number in
-        cc
-
--- a lookup by number
-pub with_number-contents : (keys : List Id) (slots : List (Option Slot)) (k : ℕ)
-    → with_number k (contents_of keys slots) ≡ feature_in (ids_of keys) k (slice_get slots k)
-with_number-contents keys slots k =
-    let e : k ≡ 0 + k = omega arith in
-    ap (λ n. with_number n (contents_of keys slots)) e ∙ find-number (ids_of keys) 0 slots k ∙ ap (λ n. feature_in (ids_of keys) n (slice_get slots k)) (sym e)
-
--- a lookup by id
-pub with_id-absent : (keys : List Id) (slots : List (Option Slot)) (id : List ℕ) → IsAbsent (ids_of keys) id slots
-    → with_id id (contents_of keys slots) ≡ None
-with_id-absent keys slots id absent = find-absent (ids_of keys) id 0 slots absent
-
-pub with_id-only : (keys : List Id) (slots : List (Option Slot)) (id : List ℕ) (k : ℕ) (slot : Slot) → IsOnly (ids_of keys) id slots k slot
-    → with_id id (contents_of keys slots) ≡ Some (feature_of (ids_of keys) k slot)
-with_id-only keys slots id k slot only = find-only (ids_of keys) id 0 slots k slot only ∙ ap (λ n. Some (feature_of (ids_of keys) n slot)) (zero-add k)
-
--- the result of a lookup by id, given the slots as a slice
-pub sees_none : (seen : List (Option Slot)) (keys : List Id) (slots : List (Option Slot)) (id : List ℕ) → seen ≡ slots → IsAbsent (ids_of keys) id seen
-    → with_id id (contents_of keys slots) ≡ None
-sees_none seen keys slots id same absent = with_id-absent keys slots id (subst (IsAbsent (ids_of keys) id) same absent)
-
-pub sees_one : (seen : List (Option Slot)) (keys : List Id) (slots : List (Option Slot)) (id : List ℕ) (k : ℕ) (slot : Slot) → seen ≡ slots
-    → IsOnly (ids_of keys) id seen k slot → with_id id (contents_of keys slots) ≡ Some (feature_of (ids_of keys) k slot)
-sees_one seen keys slots id k slot same only =
-    with_id-only keys slots id k slot (subst (λ (ss : List (Option Slot)). IsOnly (ids_of keys) id ss k slot) same only)
-
--- a deletion by id
-pub deleted-absent : (keys : List Id) (slots : List (Option Slot)) (id : List ℕ) → IsAbsent (ids_of keys) id slots
-    → deleted (contents_of keys slots) id ≡ contents_of keys slots
-deleted-absent keys slots id absent = ap (λ fs. record { features = fs; next = length slots }) (filter-absent (ids_of keys) id 0 slots absent)
-
-pub deleted-only : (keys : List Id) (slots : List (Option Slot)) (id : List ℕ) (k : ℕ) (slot : Slot) → IsOnly (ids_of keys) id slots k slot
-    → deleted (contents_of keys slots) id ≡ contents_of keys (set slots k None)
-deleted-only keys slots id k slot only = (λ i. record { features = filter-only (ids_of keys) id 0 slots k slot only i; next = sym (length-set slots k None) i })
-
 pub keys-set : {K X : Type 0} (es : List (K × X)) (i : ℕ) (w : X) → keys_of (set_value_at es i w) ≡ keys_of es
 keys-set [] i w = refl
 keys-set (e ∷ es) zero w = refl
@@ -298,35 +48,6 @@ set-back [] i v w h = refl
 set-back (e ∷ es) zero v w h = let same : e.1 ≡ w = cc in ap (λ x. (e.0, x) ∷ es) (sym same)
 set-back (e ∷ es) (suc i) v w h = ap (λ l. e ∷ l) (set-back es i v w h)
 
-pub AreInverse-deleted : (es : List (Id × Option ℕ)) (slots : List (Option Slot)) (k : ℕ) (slot : Slot) → AreInverse (values_of es) slots
-    → slice_get slots k ≡ Some (Some slot) → slice_get (values_of es) slot.place ≡ Some (Some k)
-    → AreInverse (values_of (set_value_at es slot.place None)) (set slots k None)
-AreInverse-deleted es slots k slot table here held =
-    let written = values-set es slot.place None in
-    let within = slice_get_within (values_of es) slot.place (Some k) held in
-    AreInverse-delete (values_of es) (values_of (set_value_at es slot.place None)) slots slot.place table
-    (λ q d. rw written (get-set_other (values_of es) slot.place q None d))
-    k (place_of slots k slot here) (rw written (get-set_at (values_of es) slot.place None within))
-
--- the map and the slots after a deletion, of which there was something to delete
-pub StandForLayer-deleted : (es : List (Id × Option ℕ)) (slots : List (Option Slot)) (count k : ℕ) (slot : Slot) → StandForLayer es slots count
-    → slice_get slots k ≡ Some (Some slot) → slice_get (values_of es) slot.place ≡ Some (Some k)
-    → (0 < count) × StandForLayer (set_value_at es slot.place None) (set slots k None) (count - 1)
-StandForLayer-deleted es slots count k slot kept here held = (
-  omega (arith, less, kept.counted),
-  record {
-    table = AreInverse-deleted es slots k slot kept.table here held;
-    distinct = rw (keys-set es slot.place None) kept.distinct;
-    counted = rw (keys-set es slot.place None) (omega (arith, less, kept.counted));
-  },
-)
-  where
-    less : length (features_from (ids_of (keys_of es)) 0 (set slots k None)) + 1 ≡ length (features_from (ids_of (keys_of es)) 0 slots)
-    less = length-features_without (ids_of (keys_of es)) 0 slots k slot here
-
-pub count-le : (es : List (Id × Option ℕ)) (slots : List (Option Slot)) (count : ℕ) → StandForLayer es slots count → count ≤ length slots
-count-le es slots count kept = omega (arith, kept.counted, length-features-le (ids_of (keys_of es)) 0 slots)
-
 -- the map after an insertion, if the id was new or its feature was deleted
 record IsGiven (es es' : List (Id × Option ℕ)) (k : Id) (v : Option ℕ) (p : ℕ) : Type 0 where
   pub numbered : slice_get (values_of es') p ≡ Some v
@@ -335,187 +56,6 @@ record IsGiven (es es' : List (Id × Option ℕ)) (k : Id) (v : Option ℕ) (p :
   pub id : get_or (ids_of (keys_of es')) p [] ≡ id_bytes k
   pub more : (more : List (List ℕ)) × (ids_of (keys_of es') ≡ ids_of (keys_of es) ++ more)
 
--- an id that the map doesn't have has no feature
-pub with_id-missing : (es : List (Id × Option ℕ)) (slots : List (Option Slot)) → AreInverse (values_of es) slots → (k : Id)
-    → lookup (id_eq k) es ≡ None → with_id (id_bytes k) (contents_of (keys_of es) slots) ≡ None
-with_id-missing es slots table k missing = by (position (id_eq k) (keys_of es)) refl
-  where
-    by : (r : Option ℕ) → position (id_eq k) (keys_of es) ≡ r → with_id (id_bytes k) (contents_of (keys_of es) slots) ≡ None
-    by None none = with_id-absent (keys_of es) slots (id_bytes k) (absent_from_missing es slots table (id_bytes k) none)
-    by (Some i) found =
-        let place = Found-position (id_eq k) es i found in
-        let old = get-within (values_of es) i (let within = place.within in omega (arith, length-values_of es)) in
-        let held : lookup (id_eq k) es ≡ Some old.0 = place.value ∙ old.1 in
-        cc
-
--- the effect on the layer
-pub record InsertsNew (es es' : List (Id × Option ℕ)) (slots : List (Option Slot)) (count : ℕ) (id : List ℕ) (slot : Slot) : Type 0 where
-  pub kept : StandForLayer es' (slots ++ Some slot ∷ []) (count + 1)
-  pub absent : with_id id (contents_of (keys_of es) slots) ≡ None
-  pub grows : contents_of (keys_of es') (slots ++ Some slot ∷ []) ≡ inserted (contents_of (keys_of es) slots) id slot.shape
-
-module _ (es : List (Id × Option ℕ)) (slots : List (Option Slot)) (count : ℕ) (kept : StandForLayer es slots count) (k : Id)
-    (slot : Slot) where
-  given_new : (v : Option ℕ) → position (id_eq k) (keys_of es) ≡ None → slot.place ≡ position_or_len (id_eq k) (keys_of es)
-      → IsGiven es (insert_entry id_eq es k v) k v slot.place
-  given_new v none at = record {
-    numbered = rw (values, last) (get-push_at (values_of es) v);
-    others = λ q d. rw values (get-push_other (values_of es) v q (λ e. d (e ∙ sym last)));
-    free = λ n h. let past = slice_get_past (values_of es) slot.place (omega (arith, last)) in cc;
-    id = rw (ids, last_id) (get_or-append_seam (ids_of (keys_of es)) (id_bytes k) [] []);
-    more = (id_bytes k ∷ [], ids);
-  }
-    where
-      pushed : insert_entry id_eq es k v ≡ es ++ (k, v) ∷ []
-      pushed = insert_entry-absent id_eq k v es (Missing-position (id_eq k) es none).absent
-
-      values : values_of (insert_entry id_eq es k v) ≡ values_of es ++ v ∷ []
-      values = ap values_of pushed ∙ map-append (λ e. e.1) es ((k, v) ∷ [])
-
-      ids : ids_of (keys_of (insert_entry id_eq es k v)) ≡ ids_of (keys_of es) ++ id_bytes k ∷ []
-      ids = ap (λ l. ids_of (keys_of l)) pushed ∙ ap ids_of (map-append (λ e. e.0) es ((k, v) ∷ [])) ∙ map-append id_bytes (keys_of es) (k ∷ [])
-
-      last : slot.place ≡ length (values_of es)
-      last = at ∙ (Missing-position (id_eq k) es none).or_len ∙ sym (length-values_of es)
-
-      last_id : slot.place ≡ length (ids_of (keys_of es))
-      last_id = at ∙ (Missing-position (id_eq k) es none).or_len ∙ sym (length-keys_of es) ∙ sym (length-map (keys_of es) id_bytes)
-
-  given_deleted : (v : Option ℕ) → (i : ℕ) → position (id_eq k) (keys_of es) ≡ Some i → slot.place ≡ i → slice_get (values_of es) i ≡ Some None
-      → IsGiven es (insert_entry id_eq es k v) k v slot.place
-  given_deleted v i found at gone = rw at (record {
-    numbered = rw values (get-set_at (values_of es) i v (slice_get_within (values_of es) i None gone));
-    others = λ q d. rw values (get-set_other (values_of es) i q v d);
-    free = λ n h. cc;
-    id =
-        rw keys (get_or_from_slice_get (ids_of (keys_of es)) i (id_bytes k) []
-        (slice_get-map id_bytes (keys_of es) i ∙ ap (option_map id_bytes) key.1 ∙ ap Some (sym same)));
-    more = ([], ap ids_of keys ∙ sym (append-nil (ids_of (keys_of es))));
-  })
-    where
-      written : insert_entry id_eq es k v ≡ set_value_at es i v
-      written = insert_entry-first id_eq k v es i (Found-position (id_eq k) es i found).first
-
-      values : values_of (insert_entry id_eq es k v) ≡ set (values_of es) i v
-      values = ap values_of written ∙ values-set es i v
-
-      keys : keys_of (insert_entry id_eq es k v) ≡ keys_of es
-      keys = ap keys_of written ∙ keys-set es i v
-
-      key : (key : Id) × (slice_get (keys_of es) i ≡ Some key) × (has_text (id_bytes k) key ≡ true)
-      key = first_key es slots kept.table (id_bytes k) i found
-
-      same : id_bytes k ≡ id_bytes key.0
-      same = (bytes_eq-Decides (id_bytes k) (id_bytes key.0)).0 key.2
-
-  inserts_given : (es' : List (Id × Option ℕ)) → IsGiven es es' k (Some (length slots)) slot.place
-      → IsAbsent (ids_of (keys_of es)) (id_bytes k) slots → IsDistinct id_eq (keys_of es') → length slots < most_features
-      → InsertsNew es es' slots count (id_bytes k) slot
-  inserts_given es' given absent distinct room = record {
-    kept = record { table = table; distinct = distinct; counted = counted };
-    absent = with_id-absent (keys_of es) slots (id_bytes k) absent;
-    grows = grows;
-  }
-    where
-      table : AreInverse (values_of es') (slots ++ Some slot ∷ [])
-      table = AreInverse-push (values_of es) (values_of es') slots slot.place kept.table given.others slot refl given.numbered given.free room
-
-      within : (n : ℕ) (s : Slot) → slice_get slots n ≡ Some (Some s) → s.place < length (ids_of (keys_of es))
-      within n s h =
-          let number = kept.table.numbered s.place n (place_of slots n s h) in
-          omega (
-            arith,
-            slice_get_within (values_of es) s.place (Some n) number,
-            length-keys_of es,
-            length-values_of es,
-            length-map (keys_of es) id_bytes,
-          )
-
-      others : features_from (ids_of (keys_of es')) 0 slots ≡ features_from (ids_of (keys_of es)) 0 slots
-      others = ap (λ l. features_from l 0 slots) given.more.1 ∙ features-more_ids (ids_of (keys_of es)) given.more.0 0 slots within
-
-      features : features_from (ids_of (keys_of es')) 0 (slots ++ Some slot ∷ []) ≡ features_from
-          (ids_of (keys_of es)) 0 slots ++ record { id = id_bytes k; number = length slots; shape = slot.shape } ∷ []
-      features =
-          features-push (ids_of (keys_of es')) 0 slots slot
-          ∙ (λ i. others i ++ record { id = given.id i; number = zero-add (length slots) i; shape = slot.shape } ∷ [])
-
-      grows : contents_of (keys_of es') (slots ++ Some slot ∷ []) ≡ inserted (contents_of (keys_of es) slots) (id_bytes k) slot.shape
-      grows = λ i. record { features = features i; next = length-append slots (Some slot ∷ []) i }
-
-      counted : count + 1 ≡ length (features_from (ids_of (keys_of es')) 0 (slots ++ Some slot ∷ []))
-      counted =
-          ap (λ n. n + 1) kept.counted ∙ sym (ap length features
-          ∙ length-append (features_from (ids_of (keys_of es)) 0 slots) (record { id = id_bytes k; number = length slots; shape = slot.shape } ∷ []))
-
-  overwritten : (v : Option ℕ) (i : ℕ) → position (id_eq k) (keys_of es) ≡ Some i → insert_entry id_eq es k v ≡ set_value_at es i v
-  overwritten v i found = insert_entry-first id_eq k v es i (Found-position (id_eq k) es i found).first
-
-  -- an insertion under an id that has no feature
-  pub inserts_new : (v : Option ℕ) → v ≡ Some (length slots) → slot.place ≡ position_or_len (id_eq k) (keys_of es)
-      → IsDistinct id_eq (keys_of (insert_entry id_eq es k v)) → option_flatten (lookup (id_eq k) es) ≡ None → length slots < most_features
-      → InsertsNew es (insert_entry id_eq es k v) slots count (id_bytes k) slot
-  inserts_new v number at distinct free room = by (position (id_eq k) (keys_of es)) refl
-    where
-      by : (r : Option ℕ) → position (id_eq k) (keys_of es) ≡ r → InsertsNew es (insert_entry id_eq es k v) slots count (id_bytes k) slot
-      by None none =
-          let given = rw number at (given_new v none at) in
-          rw number (inserts_given (insert_entry id_eq es k (Some (length slots))) given (absent_from_missing es slots kept.table (id_bytes k) none)
-          (rw number at distinct) room)
-      by (Some i) found =
-          let place = Found-position (id_eq k) es i found in
-          let old = get-within (values_of es) i (let within = place.within in omega (arith, length-values_of es)) in
-          let held : lookup (id_eq k) es ≡ Some old.0 = place.value ∙ old.1 in
-          let none : old.0 ≡ None = sym (ap option_flatten held) ∙ free in
-          let gone : slice_get (values_of es) i ≡ Some None = old.1 ∙ ap Some none in
-          let given = rw number at (given_deleted v i found (at ∙ place.or_len) gone) in
-          rw number (inserts_given (insert_entry id_eq es k (Some (length slots))) given
-          (absent_from_deleted es slots kept.table (id_bytes k) kept.distinct i found gone) (rw number at distinct) room)
-
-  -- and under one that has one: the overwritten number is restored
-  pub inserts_double : (v : Option ℕ) (live : ℕ) → slot.place ≡ position_or_len (id_eq k) (keys_of es) → Some live ≡ option_flatten
-      (lookup (id_eq k) es) → (set_value_at (insert_entry id_eq es k v) slot.place (Some live) ≡ es) ×
-      (is_some (with_id (id_bytes k) (contents_of (keys_of es) slots)) ≡ true)
-  inserts_double v live at held = by (position (id_eq k) (keys_of es)) refl
-    where
-      by : (r : Option ℕ) → position (id_eq k) (keys_of es) ≡ r → (set_value_at (insert_entry id_eq es k v) slot.place (Some live) ≡ es) ×
-          (is_some (with_id (id_bytes k) (contents_of (keys_of es) slots)) ≡ true)
-      by None none = let gone : Some live ≡ None = held ∙ ap option_flatten (Missing-position (id_eq k) es none).value in cc
-      by (Some i) found =
-          let place = Found-position (id_eq k) es i found in
-          let old = get-within (values_of es) i (let within = place.within in omega (arith, length-values_of es)) in
-          let is : old.0 ≡ Some live = sym (held ∙ ap option_flatten (place.value ∙ old.1)) in
-          let here : slice_get (values_of es) i ≡ Some (Some live) = old.1 ∙ ap Some is in
-          let filled = slot_from_number es slots kept.table (id_bytes k) i live here in
-          let only = only_from_found es slots kept.table (id_bytes k) kept.distinct i live filled.0 found here filled.1 in
-          let same : slot.place ≡ i = at ∙ place.or_len in (
-            (λ j. set_value_at (overwritten v i found j) (same j) (Some live)) ∙ set-back es i v (Some live) here,
-            ap is_some (with_id-only (keys_of es) slots (id_bytes k) live filled.0 only),
-          )
-
--- a layer's slots can be walked
-pub IsWalk-contents : (es : List (Id × Option ℕ)) (slots : List (Option Slot)) (count : ℕ) → StandForLayer es slots count → IsWalk es 0 slots
-IsWalk-contents es slots count kept = record {
-  placed = λ k slot h.
-      let number = kept.table.numbered slot.place k (place_of slots k slot h) in
-      omega (arith, slice_get_within (values_of es) slot.place (Some k) number, length-values_of es);
-  few = omega (arith, kept.table.few);
-}
-
-module _ (es : List (Id × Option ℕ)) (number : ℕ) (x : Option Slot) (slots : List (Option Slot)) (walk : IsWalk es number (x ∷ slots)) where
-  pub IsWalk-later : IsWalk es (number + 1) slots
-  IsWalk-later = record { placed = λ k slot h. walk.placed (suc k) slot h; few = omega (arith, walk.few) }
-
-  pub walked-some : (s : Slot) → x ≡ Some s → s.place < length es
-  walked-some s e = walk.placed 0 s (ap Some e)
-
-pub features-skip : (ids : List (List ℕ)) (n : ℕ) (slots : List (Option Slot)) → features_from ids (n + 1) slots ≡ features_from ids n (None ∷ slots)
-features-skip ids n slots = ap (λ m. features_from ids m slots) (add-one n)
-
-pub features-first : (ids : List (List ℕ)) (n : ℕ) (s : Slot) (slots : List (Option Slot))
-    → features_from ids n (Some s ∷ slots) ≡ feature_of ids n s ∷ features_from ids (n + 1) slots
-features-first ids n s slots = ap (λ m. feature_of ids n s ∷ features_from ids m slots) (sym (add-one n))
-
 -- the id at a place of the map
 pub id-placed : (es : List (Id × Option ℕ)) (p : ℕ) (key : Id) (number : Option ℕ) → Some (key, number) ≡ slice_get es p
     → get_or (ids_of (keys_of es)) p [] ≡ id_bytes key
@@ -523,9 +63,486 @@ id-placed es p key number h =
     let at_key = slice_get-map (λ e. e.0) es p ∙ ap (option_map (λ e. e.0)) (sym h) in
     get_or_from_slice_get (ids_of (keys_of es)) p (id_bytes key) [] (slice_get-map id_bytes (keys_of es) p ∙ ap (option_map id_bytes) at_key)
 
-pub id-and-shape : (keys : List Id) (slots : List (Option Slot)) (k : ℕ) (slot : Slot) (id : List ℕ) → slice_get slots k ≡ Some (Some slot)
-    → id ≡ id_of (ids_of keys) slot
-    → ◌≡◌ {A = Option (List ℕ × Shape)} (Some (id, slot.shape)) (option_map (λ f. (f.id, f.shape)) (with_number k (contents_of keys slots)))
-id-and-shape keys slots k slot id filled is =
-    ap (λ i. Some (i, slot.shape)) is
-    ∙ sym (ap (option_map (λ f. (f.id, f.shape))) (with_number-contents keys slots k ∙ ap (feature_in (ids_of keys) k) filled))
+module _ {G : Type 0} where
+  place_of : (slots : List (Option (Slot G))) (k : ℕ) (s : Slot G) → slice_get slots k ≡ Some (Some s) → slice_get (places slots) k ≡ Some (Some s.place)
+  place_of slots k s h = slice_get-map (option_map (λ slot. slot.place)) slots k ∙ ap (option_map (option_map (λ slot. slot.place))) h
+
+  module _ (numbers numbers' : List (Option ℕ)) (slots : List (Option (Slot G))) (p : ℕ) (table : AreInverse numbers slots)
+      (others : (q : ℕ) → q ≢ p → slice_get numbers' q ≡ slice_get numbers q) where
+    -- a feature more, whose id had no number
+    pub AreInverse-push : (slot : Slot G) → slot.place ≡ p → slice_get numbers' p ≡ Some (Some (length slots)) → ((n : ℕ) → slice_get numbers p ≢ Some (Some n))
+        → length slots < most_features → AreInverse numbers' (slots ++ Some slot ∷ [])
+    AreInverse-push slot is_place given free room = record {
+      placed = λ q n h. rw grown (elim (same_or_other q p) [ inl e ↦ placed_new q n h e | inr d ↦ placed_old q n h d ]);
+      numbered =
+          λ q n h. let h' = rw grown at h in elim (same_or_other n (length (places slots))) [ inl e ↦ numbered_new q n h' e | inr d ↦ numbered_old q n h' d ];
+      few = omega (arith, length-append {A = Option (Slot G)});
+    }
+      where
+        grown : places (slots ++ Some slot ∷ []) ≡ places slots ++ Some p ∷ []
+        grown = map-append (option_map (λ s. s.place)) slots (Some slot ∷ []) ∙ ap (λ x. places slots ++ Some x ∷ []) is_place
+
+        len : length (places slots) ≡ length slots
+        len = length-map slots (option_map (λ s. s.place))
+
+        placed_new : (q n : ℕ) → slice_get numbers' q ≡ Some (Some n) → q ≡ p → slice_get (places slots ++ Some p ∷ []) n ≡ Some (Some q)
+        placed_new q n h e =
+            let at_p : slice_get numbers' p ≡ Some (Some n) = rw (← e) h in
+            let number : n ≡ length (places slots) = let same : n ≡ length slots = cc in same ∙ sym len in
+            rw (number, e) (get-push_at (places slots) (Some p))
+
+        placed_old : (q n : ℕ) → slice_get numbers' q ≡ Some (Some n) → q ≢ p → slice_get (places slots ++ Some p ∷ []) n ≡ Some (Some q)
+        placed_old q n h d =
+            let old = table.placed q n (sym (others q d) ∙ h) in
+            get-push_before (places slots) (Some p) n (slice_get_within (places slots) n (Some q) old) ∙ old
+
+        numbered_new : (q n : ℕ) → slice_get (places slots ++ Some p ∷ []) n ≡ Some (Some q) → n ≡ length (places slots) → slice_get numbers' q ≡ Some (Some n)
+        numbered_new q n h e =
+            let last = get-push_at (places slots) (Some p) in
+            let at_end : slice_get (places slots ++ Some p ∷ []) (length (places slots)) ≡ Some (Some q) = rw (← e) h in
+            let same : q ≡ p = cc in
+            rw (same, e, len) given
+
+        numbered_old : (q n : ℕ) → slice_get (places slots ++ Some p ∷ []) n ≡ Some (Some q) → n ≢ length (places slots) → slice_get numbers' q ≡ Some (Some n)
+        numbered_old q n h d =
+            let within : n < length (places slots ++ Some p ∷ []) = slice_get_within (places slots ++ Some p ∷ []) n (Some q) h in
+            let below : n < length (places slots) = omega (arith, length-append (places slots) (Some p ∷ [])) in
+            let old = table.numbered q n (sym (get-push_before (places slots) (Some p) n below) ∙ h) in
+            others q (λ e. free n (let moved : slice_get numbers p ≡ Some (Some n) = rw (← e) old in moved)) ∙ old
+
+    -- a feature less
+    pub AreInverse-delete : (k : ℕ) → slice_get (places slots) k ≡ Some (Some p) → slice_get numbers' p ≡ Some None → AreInverse numbers' (set slots k None)
+    AreInverse-delete k here gone = record {
+      placed = λ q n h. rw cleared (placed_left q n h);
+      numbered = λ q n h. numbered_left q n (rw cleared at h);
+      few = let few = table.few in omega (arith, length-set slots k None);
+    }
+      where
+        cleared : places (set slots k None) ≡ set (places slots) k None
+        cleared = map-set (option_map (λ s. s.place)) slots k None
+
+        held : slice_get numbers p ≡ Some (Some k)
+        held = table.numbered p k here
+
+        placed_left : (q n : ℕ) → slice_get numbers' q ≡ Some (Some n) → slice_get (set (places slots) k None) n ≡ Some (Some q)
+        placed_left q n h = elim (same_or_other q p) [
+          | inl e ↦ let at_p : slice_get numbers' p ≡ Some (Some n) = rw (← e) h in cc
+          | inr d ↦
+              let old = table.placed q n (sym (others q d) ∙ h) in
+              get-set_other (places slots) k n None (λ e. d (let at_k : slice_get (places slots) k ≡ Some (Some q) = rw (← e) old in cc)) ∙ old
+        ]
+
+        numbered_left : (q n : ℕ) → slice_get (set (places slots) k None) n ≡ Some (Some q) → slice_get numbers' q ≡ Some (Some n)
+        numbered_left q n h = elim (same_or_other n k) [
+          | inl e ↦
+              let empty = get-set_at (places slots) k None (slice_get_within (places slots) k (Some p) here) in
+              let at_k = rw e at h in cc
+          | inr d ↦
+              let old = table.numbered q n (sym (get-set_other (places slots) k n None d) ∙ h) in
+              others q (λ e. d (let at_p : slice_get numbers p ≡ Some (Some n) = rw (← e) old in let mine = held in cc)) ∙ old
+        ]
+
+  module _ (es : List (Id × Option ℕ)) (slots : List (Option (Slot G))) (table : AreInverse (values_of es) slots) where
+    -- the entry of the map that a slot's feature names
+    pub entry_of : (k : ℕ) (s : Slot G) → slice_get slots k ≡ Some (Some s)
+        → (e : Id × Option ℕ) × (slice_get es s.place ≡ Some e) × (id_of (ids_of (keys_of es)) s ≡ id_bytes e.0)
+    entry_of k s h =
+        let number = table.numbered s.place k (place_of slots k s h) in
+        let entry = get-within es s.place (omega (arith, slice_get_within (values_of es) s.place (Some k) number, length-values_of es)) in
+        let key = slice_get-map (λ e. e.0) es s.place ∙ ap (option_map (λ e. e.0)) entry.1 in
+        let bytes = slice_get-map id_bytes (keys_of es) s.place ∙ ap (option_map id_bytes) key in
+        (entry.0, entry.1, get_or_from_slice_get (ids_of (keys_of es)) s.place (id_bytes entry.0.0) [] bytes)
+
+    key_of : (k : ℕ) (s : Slot G) → slice_get slots k ≡ Some (Some s)
+        → (key : Id) × (slice_get (keys_of es) s.place ≡ Some key) × (id_of (ids_of (keys_of es)) s ≡ id_bytes key)
+    key_of k s h =
+        let entry = entry_of k s h in
+        (entry.0.0, slice_get-map (λ e. e.0) es s.place ∙ ap (option_map (λ e. e.0)) entry.1, entry.2)
+
+    module _ (id : List ℕ) where
+      pub absent_from_missing : position (has_text id) (keys_of es) ≡ None → IsAbsent (ids_of (keys_of es)) id slots
+      absent_from_missing none = record {
+        differs = λ k s h.
+            let key = key_of k s h in
+            ap (bytes_eq id) key.2 ∙ get-all (λ x. has_text id x ≡ false) (keys_of es) s.place key.0 (Missing-position (has_text id) es none).absent key.1;
+      }
+
+      passes : (es : List (Id × Option ℕ)) (key : Id) → lookup_key (has_text id) es ≡ Some key → has_text id key ≡ true
+      passes [] key h = cc
+      passes (e ∷ es) key h = by (has_text id e.0) refl (λ later. passes es key later)
+        where
+          by : (b : Bool) → has_text id e.0 ≡ b → (lookup_key (has_text id) es ≡ Some key → has_text id key ≡ true) → has_text id key ≡ true
+          by true t later = let same : e.0 ≡ key = let found = rw t at h in cc in rw (← same) t
+          by false t later = later (rw t at h)
+
+      -- a found id's key
+      first_key : (i : ℕ) → position (has_text id) (keys_of es) ≡ Some i → (key : Id) × (slice_get (keys_of es) i ≡ Some key) × (has_text id key ≡ true)
+      first_key i at =
+          let found = Found-position (has_text id) es i at in
+          let key = get-within (keys_of es) i (let within = found.within in omega (arith, length-keys_of es)) in
+          (key.0, key.1, passes es key.0 (found.key ∙ key.1))
+
+      -- two keys with one id stand at one place
+      one_place : IsDistinct id_eq (keys_of es) → (i j : ℕ) (a b : Id) → slice_get (keys_of es) i ≡ Some a → slice_get (keys_of es) j ≡ Some b
+          → has_text id a ≡ true → has_text id b ≡ true → i ≡ j
+      one_place distinct i j a b at_i at_j is_a is_b = elim (dec_lt i j) [
+        | yes below ↦ absurd (apart i j a b at_i at_j below same)
+        | no above ↦ elim (dec_lt j i) [
+          | yes below ↦ absurd (apart j i b a at_j at_i below (sym same))
+          | no under ↦ omega (arith, above, under)
+        ]
+      ]
+        where
+          same : id_bytes a ≡ id_bytes b
+          same = sym ((bytes_eq-Decides id (id_bytes a)).0 is_a) ∙ (bytes_eq-Decides id (id_bytes b)).0 is_b
+
+          apart : (i j : ℕ) (a b : Id) → slice_get (keys_of es) i ≡ Some a → slice_get (keys_of es) j ≡ Some b → i < j
+              → id_bytes a ≡ id_bytes b → ⊥
+          apart i j a b at_i at_j below same =
+              let differ = apart_from_distinct id_eq (keys_of es) i j a distinct below (slice_get_within (keys_of es) j b at_j) in
+              let keys_differ : bytes_eq (id_bytes a) (id_bytes b) ≡ false = rw
+              (get_or_from_slice_get (keys_of es) i a a at_i, get_or_from_slice_get (keys_of es) j b a at_j) at differ in
+              let keys_agree : bytes_eq (id_bytes a) (id_bytes b) ≡ true = (bytes_eq-Decides (id_bytes a) (id_bytes b)).1 same in
+              cc
+
+      -- a slot's feature that has the found id stands at its place
+      found_place : IsDistinct id_eq (keys_of es) → (i : ℕ) → position (has_text id) (keys_of es) ≡ Some i → (j : ℕ) (s : Slot G)
+          → slice_get slots j ≡ Some (Some s) → bytes_eq id (id_of (ids_of (keys_of es)) s) ≡ true → s.place ≡ i
+      found_place distinct i at j s h e =
+          let key = key_of j s h in
+          let first = first_key i at in
+          one_place distinct s.place i key.0 first.0 key.1 first.1 (rw key.2 at e) first.2
+
+      pub absent_from_deleted : IsDistinct id_eq (keys_of es) → (i : ℕ) → position (has_text id) (keys_of es) ≡ Some i
+          → slice_get (values_of es) i ≡ Some None → IsAbsent (ids_of (keys_of es)) id slots
+      absent_from_deleted distinct i at gone = record { differs = λ k s h. by k s h (bytes_eq id (id_of (ids_of (keys_of es)) s)) refl }
+        where
+          by : (k : ℕ) (s : Slot G) → slice_get slots k ≡ Some (Some s) → (b : Bool) → bytes_eq id (id_of (ids_of (keys_of es)) s) ≡ b → b ≡ false
+          by k s h true e =
+              let same = found_place distinct i at k s h e in
+              let number = table.numbered s.place k (place_of slots k s h) in
+              let at_i : slice_get (values_of es) i ≡ Some (Some k) = rw same at number in
+              cc
+          by k s h false e = refl
+
+      pub only_from_found : IsDistinct id_eq (keys_of es) → (i n : ℕ) (slot : Slot G) → position (has_text id) (keys_of es) ≡ Some i
+          → slice_get (values_of es) i ≡ Some (Some n) → slice_get slots n ≡ Some (Some slot) → IsOnly (ids_of (keys_of es)) id slots n slot
+      only_from_found distinct i n slot at held here = record {
+        here = here;
+        same =
+            let key = key_of n slot here in
+            let first = first_key i at in
+            let places_agree : Some (Some slot.place) ≡ Some (Some i) = sym (place_of slots n slot here) ∙ table.placed i n held in
+            let same_place : slot.place ≡ i = cc in
+            let one_entry : Some key.0 ≡ Some first.0 = sym key.1 ∙ ap (slice_get (keys_of es)) same_place ∙ first.1 in
+            let one_key : key.0 ≡ first.0 = cc in
+            rw (key.2, one_key) first.2;
+        only = λ j s h e.
+            let same = found_place distinct i at j s h e in
+            let number = table.numbered s.place j (place_of slots j s h) in
+            let at_i : slice_get (values_of es) i ≡ Some (Some j) = rw same at number in
+            cc;
+      }
+
+      -- an id's number is that of a filled slot
+      pub slot_from_number : (i n : ℕ) → slice_get (values_of es) i ≡ Some (Some n) → (slot : Slot G) × (slice_get slots n ≡ Some (Some slot)) × (slot.place ≡ i)
+      slot_from_number i n held = by (slice_get slots n) refl (table.placed i n held)
+        where
+          by : (r : Option (Option (Slot G))) → slice_get slots n ≡ r → slice_get (places slots) n ≡ Some (Some i)
+              → (slot : Slot G) × (slice_get slots n ≡ Some (Some slot)) × (slot.place ≡ i)
+          by None e h = let at_n = sym (slice_get-map (option_map (λ s. s.place)) slots n ∙ ap (option_map (option_map (λ s. s.place))) e) ∙ h in cc
+          by (Some None) e h = let at_n = sym (slice_get-map (option_map (λ s. s.place)) slots n ∙ ap (option_map (option_map (λ s. s.place))) e) ∙ h in cc
+          by (Some (Some slot)) e h = let at_n : Some (Some slot.place) ≡ Some (Some i) = sym (place_of slots n slot e) ∙ h in (slot, e, cc)
+
+  -- what stands in the map and the slots is a layer
+  pub IsLayer-contents : (es : List (Id × Option ℕ)) (slots : List (Option (Slot G))) (count : ℕ) → StandForLayer es slots count
+      → IsLayer (contents_of (keys_of es) slots)
+  IsLayer-contents es slots count kept = record {
+    distinct = features-distinct (ids_of (keys_of es)) 0 slots (λ j k s t a b e. apart j k s t a b e);
+    rising = features-rising (ids_of (keys_of es)) 0 slots;
+    below_next = numbers-below (ids_of (keys_of es)) (length slots) 0 slots (omega arith);
+    few = kept.table.few;
+  }
+    where
+      apart : (j k : ℕ) (s t : Slot G) → slice_get slots j ≡ Some (Some s) → slice_get slots k ≡ Some (Some t)
+          → id_of (ids_of (keys_of es)) s ≡ id_of (ids_of (keys_of es)) t → j ≡ k
+      apart j k s t a b e =
+          let first = key_of es slots kept.table j s a in
+          let second = key_of es slots kept.table k t b in
+          let id = id_bytes first.0 in
+          let same : id_bytes first.0 ≡ id_bytes second.0 = sym first.2 ∙ e ∙ second.2 in
+          let place = one_place es slots kept.table id kept.distinct s.place t.place first.0 second.0 first.1 second.1
+          ((bytes_eq-Decides id (id_bytes first.0)).1 refl) ((bytes_eq-Decides id (id_bytes second.0)).1 same) in
+          let number = kept.table.numbered s.place j (place_of slots j s a) in
+          let other = kept.table.numbered t.place k (place_of slots k t b) in
+          let at_s : slice_get (values_of es) t.place ≡ Some (Some j) = sym (ap (slice_get (values_of es)) place) ∙ number in
+          cc
+
+  -- a look-up by number
+  pub with_number-contents : (keys : List Id) (slots : List (Option (Slot G))) (k : ℕ)
+      → with_number k (contents_of keys slots) ≡ feature_in (ids_of keys) k (slice_get slots k)
+  with_number-contents keys slots k =
+      let e : k ≡ 0 + k = omega arith in
+      ap (λ n. with_number n (contents_of keys slots)) e ∙ find-number (ids_of keys) 0 slots k ∙ ap (λ n. feature_in (ids_of keys) n (slice_get slots k)) (sym e)
+
+  -- a look-up by id
+  pub with_id-absent : (keys : List Id) (slots : List (Option (Slot G))) (id : List ℕ) → IsAbsent (ids_of keys) id slots
+      → with_id id (contents_of keys slots) ≡ None
+  with_id-absent keys slots id absent = find-absent (ids_of keys) id 0 slots absent
+
+  pub with_id-only : (keys : List Id) (slots : List (Option (Slot G))) (id : List ℕ) (k : ℕ) (slot : Slot G) → IsOnly (ids_of keys) id slots k slot
+      → with_id id (contents_of keys slots) ≡ Some (feature_of (ids_of keys) k slot)
+  with_id-only keys slots id k slot only = find-only (ids_of keys) id 0 slots k slot only ∙ ap (λ n. Some (feature_of (ids_of keys) n slot)) (zero-add k)
+
+  -- what a look-up by id answers where a slice shows the slots
+  pub sees_none : (seen : List (Option (Slot G))) (keys : List Id) (slots : List (Option (Slot G))) (id : List ℕ) → seen ≡ slots
+      → IsAbsent (ids_of keys) id seen → with_id id (contents_of keys slots) ≡ None
+  sees_none seen keys slots id same absent = with_id-absent keys slots id (subst (IsAbsent (ids_of keys) id) same absent)
+
+  pub sees_one : (seen : List (Option (Slot G))) (keys : List Id) (slots : List (Option (Slot G))) (id : List ℕ) (k : ℕ) (slot : Slot G) → seen ≡ slots
+      → IsOnly (ids_of keys) id seen k slot → with_id id (contents_of keys slots) ≡ Some (feature_of (ids_of keys) k slot)
+  sees_one seen keys slots id k slot same only =
+      with_id-only keys slots id k slot (subst (λ (ss : List (Option (Slot G))). IsOnly (ids_of keys) id ss k slot) same only)
+
+  -- a deletion by id
+  pub deleted-absent : (keys : List Id) (slots : List (Option (Slot G))) (id : List ℕ) → IsAbsent (ids_of keys) id slots
+      → deleted (contents_of keys slots) id ≡ contents_of keys slots
+  deleted-absent keys slots id absent = ap (λ fs. record { features = fs; next = length slots }) (filter-absent (ids_of keys) id 0 slots absent)
+
+  pub deleted-only : (keys : List Id) (slots : List (Option (Slot G))) (id : List ℕ) (k : ℕ) (slot : Slot G) → IsOnly (ids_of keys) id slots k slot
+      → deleted (contents_of keys slots) id ≡ contents_of keys (set slots k None)
+  deleted-only keys slots id k slot only = (λ i. record { features = filter-only (ids_of keys) id 0 slots k slot only i; next = sym (length-set slots k None) i })
+
+  pub AreInverse-deleted : (es : List (Id × Option ℕ)) (slots : List (Option (Slot G))) (k : ℕ) (slot : Slot G) → AreInverse (values_of es) slots
+      → slice_get slots k ≡ Some (Some slot) → slice_get (values_of es) slot.place ≡ Some (Some k)
+      → AreInverse (values_of (set_value_at es slot.place None)) (set slots k None)
+  AreInverse-deleted es slots k slot table here held =
+      let written = values-set es slot.place None in
+      let within = slice_get_within (values_of es) slot.place (Some k) held in
+      AreInverse-delete (values_of es) (values_of (set_value_at es slot.place None)) slots slot.place table
+      (λ q d. rw written (get-set_other (values_of es) slot.place q None d))
+      k (place_of slots k slot here) (rw written (get-set_at (values_of es) slot.place None within))
+
+  -- the map and the slots after a deletion, of which there was something to delete
+  pub StandForLayer-deleted : (es : List (Id × Option ℕ)) (slots : List (Option (Slot G))) (count k : ℕ) (slot : Slot G) → StandForLayer es slots count
+      → slice_get slots k ≡ Some (Some slot) → slice_get (values_of es) slot.place ≡ Some (Some k)
+      → (0 < count) × StandForLayer (set_value_at es slot.place None) (set slots k None) (count - 1)
+  StandForLayer-deleted es slots count k slot kept here held = (
+    omega (arith, less, kept.counted),
+    record {
+      table = AreInverse-deleted es slots k slot kept.table here held;
+      distinct = rw (keys-set es slot.place None) kept.distinct;
+      counted = rw (keys-set es slot.place None) (omega (arith, less, kept.counted));
+    },
+  )
+    where
+      less : length (features_from (ids_of (keys_of es)) 0 (set slots k None)) + 1 ≡ length (features_from (ids_of (keys_of es)) 0 slots)
+      less = length-features_without (ids_of (keys_of es)) 0 slots k slot here
+
+  pub count-le : (es : List (Id × Option ℕ)) (slots : List (Option (Slot G))) (count : ℕ) → StandForLayer es slots count → count ≤ length slots
+  count-le es slots count kept = omega (arith, kept.counted, length-features-le (ids_of (keys_of es)) 0 slots)
+
+  -- an id that the map doesn't have has no feature
+  pub with_id-missing : (es : List (Id × Option ℕ)) (slots : List (Option (Slot G))) → AreInverse (values_of es) slots → (k : Id)
+      → lookup (id_eq k) es ≡ None → with_id (id_bytes k) (contents_of (keys_of es) slots) ≡ None
+  with_id-missing es slots table k missing = by (position (id_eq k) (keys_of es)) refl
+    where
+      by : (r : Option ℕ) → position (id_eq k) (keys_of es) ≡ r → with_id (id_bytes k) (contents_of (keys_of es) slots) ≡ None
+      by None none = with_id-absent (keys_of es) slots (id_bytes k) (absent_from_missing es slots table (id_bytes k) none)
+      by (Some i) found =
+          let place = Found-position (id_eq k) es i found in
+          let old = get-within (values_of es) i (let within = place.within in omega (arith, length-values_of es)) in
+          let held : lookup (id_eq k) es ≡ Some old.0 = place.value ∙ old.1 in
+          cc
+
+  -- what becomes of the layer then
+  pub record InsertsNew (es es' : List (Id × Option ℕ)) (slots : List (Option (Slot G))) (count : ℕ) (id : List ℕ) (slot : Slot G) : Type 0 where
+    pub kept : StandForLayer es' (slots ++ Some slot ∷ []) (count + 1)
+    pub absent : with_id id (contents_of (keys_of es) slots) ≡ None
+    pub grows : contents_of (keys_of es') (slots ++ Some slot ∷ []) ≡ inserted (contents_of (keys_of es) slots) id slot.shape
+
+  module _ (es : List (Id × Option ℕ)) (slots : List (Option (Slot G))) (count : ℕ) (kept : StandForLayer es slots count) (k : Id)
+      (slot : Slot G) where
+    given_new : (v : Option ℕ) → position (id_eq k) (keys_of es) ≡ None → slot.place ≡ position_or_len (id_eq k) (keys_of es)
+        → IsGiven es (insert_entry id_eq es k v) k v slot.place
+    given_new v none at = record {
+      numbered = rw (values, last) (get-push_at (values_of es) v);
+      others = λ q d. rw values (get-push_other (values_of es) v q (λ e. d (e ∙ sym last)));
+      free = λ n h. let past = slice_get_past (values_of es) slot.place (omega (arith, last)) in cc;
+      id = rw (ids, last_id) (get_or-append_seam (ids_of (keys_of es)) (id_bytes k) [] []);
+      more = (id_bytes k ∷ [], ids);
+    }
+      where
+        pushed : insert_entry id_eq es k v ≡ es ++ (k, v) ∷ []
+        pushed = insert_entry-absent id_eq k v es (Missing-position (id_eq k) es none).absent
+
+        values : values_of (insert_entry id_eq es k v) ≡ values_of es ++ v ∷ []
+        values = ap values_of pushed ∙ map-append (λ e. e.1) es ((k, v) ∷ [])
+
+        ids : ids_of (keys_of (insert_entry id_eq es k v)) ≡ ids_of (keys_of es) ++ id_bytes k ∷ []
+        ids = ap (λ l. ids_of (keys_of l)) pushed ∙ ap ids_of (map-append (λ e. e.0) es ((k, v) ∷ [])) ∙ map-append id_bytes (keys_of es) (k ∷ [])
+
+        last : slot.place ≡ length (values_of es)
+        last = at ∙ (Missing-position (id_eq k) es none).or_len ∙ sym (length-values_of es)
+
+        last_id : slot.place ≡ length (ids_of (keys_of es))
+        last_id = at ∙ (Missing-position (id_eq k) es none).or_len ∙ sym (length-keys_of es) ∙ sym (length-map (keys_of es) id_bytes)
+
+    given_deleted : (v : Option ℕ) → (i : ℕ) → position (id_eq k) (keys_of es) ≡ Some i → slot.place ≡ i → slice_get (values_of es) i ≡ Some None
+        → IsGiven es (insert_entry id_eq es k v) k v slot.place
+    given_deleted v i found at gone = rw at (record {
+      numbered = rw values (get-set_at (values_of es) i v (slice_get_within (values_of es) i None gone));
+      others = λ q d. rw values (get-set_other (values_of es) i q v d);
+      free = λ n h. cc;
+      id =
+          rw keys (get_or_from_slice_get (ids_of (keys_of es)) i (id_bytes k) []
+          (slice_get-map id_bytes (keys_of es) i ∙ ap (option_map id_bytes) key.1 ∙ ap Some (sym same)));
+      more = ([], ap ids_of keys ∙ sym (append-nil (ids_of (keys_of es))));
+    })
+      where
+        written : insert_entry id_eq es k v ≡ set_value_at es i v
+        written = insert_entry-first id_eq k v es i (Found-position (id_eq k) es i found).first
+
+        values : values_of (insert_entry id_eq es k v) ≡ set (values_of es) i v
+        values = ap values_of written ∙ values-set es i v
+
+        keys : keys_of (insert_entry id_eq es k v) ≡ keys_of es
+        keys = ap keys_of written ∙ keys-set es i v
+
+        key : (key : Id) × (slice_get (keys_of es) i ≡ Some key) × (has_text (id_bytes k) key ≡ true)
+        key = first_key es slots kept.table (id_bytes k) i found
+
+        same : id_bytes k ≡ id_bytes key.0
+        same = (bytes_eq-Decides (id_bytes k) (id_bytes key.0)).0 key.2
+
+    inserts_given : (es' : List (Id × Option ℕ)) → IsGiven es es' k (Some (length slots)) slot.place
+        → IsAbsent (ids_of (keys_of es)) (id_bytes k) slots → IsDistinct id_eq (keys_of es') → length slots < most_features
+        → InsertsNew es es' slots count (id_bytes k) slot
+    inserts_given es' given absent distinct room = record {
+      kept = record { table = table; distinct = distinct; counted = counted };
+      absent = with_id-absent (keys_of es) slots (id_bytes k) absent;
+      grows = grows;
+    }
+      where
+        table : AreInverse (values_of es') (slots ++ Some slot ∷ [])
+        table = AreInverse-push (values_of es) (values_of es') slots slot.place kept.table given.others slot refl given.numbered given.free room
+
+        within : (n : ℕ) (s : Slot G) → slice_get slots n ≡ Some (Some s) → s.place < length (ids_of (keys_of es))
+        within n s h =
+            let number = kept.table.numbered s.place n (place_of slots n s h) in
+            omega (
+              arith,
+              slice_get_within (values_of es) s.place (Some n) number,
+              length-keys_of es,
+              length-values_of es,
+              length-map (keys_of es) id_bytes,
+            )
+
+        others : features_from (ids_of (keys_of es')) 0 slots ≡ features_from (ids_of (keys_of es)) 0 slots
+        others = ap (λ l. features_from l 0 slots) given.more.1 ∙ features-more_ids (ids_of (keys_of es)) given.more.0 0 slots within
+
+        features : features_from (ids_of (keys_of es')) 0 (slots ++ Some slot ∷ []) ≡ features_from
+            (ids_of (keys_of es)) 0 slots ++ record { id = id_bytes k; number = length slots; shape = slot.shape } ∷ []
+        features =
+            features-push (ids_of (keys_of es')) 0 slots slot
+            ∙ (λ i. others i ++ record { id = given.id i; number = zero-add (length slots) i; shape = slot.shape } ∷ [])
+
+        grows : contents_of (keys_of es') (slots ++ Some slot ∷ []) ≡ inserted (contents_of (keys_of es) slots) (id_bytes k) slot.shape
+        grows = λ i. record { features = features i; next = length-append slots (Some slot ∷ []) i }
+
+        counted : count + 1 ≡ length (features_from (ids_of (keys_of es')) 0 (slots ++ Some slot ∷ []))
+        counted =
+            ap (λ n. n + 1) kept.counted ∙ sym (ap length features
+            ∙ length-append (features_from (ids_of (keys_of es)) 0 slots) (record { id = id_bytes k; number = length slots; shape = slot.shape } ∷ []))
+
+    overwritten : (v : Option ℕ) (i : ℕ) → position (id_eq k) (keys_of es) ≡ Some i → insert_entry id_eq es k v ≡ set_value_at es i v
+    overwritten v i found = insert_entry-first id_eq k v es i (Found-position (id_eq k) es i found).first
+
+    -- an insertion under an id that has no feature
+    pub inserts_new : (v : Option ℕ) → v ≡ Some (length slots) → slot.place ≡ position_or_len (id_eq k) (keys_of es)
+        → IsDistinct id_eq (keys_of (insert_entry id_eq es k v)) → option_flatten (lookup (id_eq k) es) ≡ None → length slots < most_features
+        → InsertsNew es (insert_entry id_eq es k v) slots count (id_bytes k) slot
+    inserts_new v number at distinct free room = by (position (id_eq k) (keys_of es)) refl
+      where
+        by : (r : Option ℕ) → position (id_eq k) (keys_of es) ≡ r → InsertsNew es (insert_entry id_eq es k v) slots count (id_bytes k) slot
+        by None none =
+            let given = rw number at (given_new v none at) in
+            rw number (inserts_given (insert_entry id_eq es k (Some (length slots))) given (absent_from_missing es slots kept.table (id_bytes k) none)
+            (rw number at distinct) room)
+        by (Some i) found =
+            let place = Found-position (id_eq k) es i found in
+            let old = get-within (values_of es) i (let within = place.within in omega (arith, length-values_of es)) in
+            let held : lookup (id_eq k) es ≡ Some old.0 = place.value ∙ old.1 in
+            let none : old.0 ≡ None = sym (ap option_flatten held) ∙ free in
+            let gone : slice_get (values_of es) i ≡ Some None = old.1 ∙ ap Some none in
+            let given = rw number at (given_deleted v i found (at ∙ place.or_len) gone) in
+            rw number (inserts_given (insert_entry id_eq es k (Some (length slots))) given
+            (absent_from_deleted es slots kept.table (id_bytes k) kept.distinct i found gone) (rw number at distinct) room)
+
+    -- and under one that has one: what was overwritten is written back
+    pub inserts_double : (v : Option ℕ) (live : ℕ) → slot.place ≡ position_or_len (id_eq k) (keys_of es) → Some live ≡ option_flatten
+        (lookup (id_eq k) es) → (set_value_at (insert_entry id_eq es k v) slot.place (Some live) ≡ es) ×
+        (is_some (with_id (id_bytes k) (contents_of (keys_of es) slots)) ≡ true)
+    inserts_double v live at held = by (position (id_eq k) (keys_of es)) refl
+      where
+        by : (r : Option ℕ) → position (id_eq k) (keys_of es) ≡ r → (set_value_at (insert_entry id_eq es k v) slot.place (Some live) ≡ es) ×
+            (is_some (with_id (id_bytes k) (contents_of (keys_of es) slots)) ≡ true)
+        by None none = let gone : Some live ≡ None = held ∙ ap option_flatten (Missing-position (id_eq k) es none).value in cc
+        by (Some i) found =
+            let place = Found-position (id_eq k) es i found in
+            let old = get-within (values_of es) i (let within = place.within in omega (arith, length-values_of es)) in
+            let is : old.0 ≡ Some live = sym (held ∙ ap option_flatten (place.value ∙ old.1)) in
+            let here : slice_get (values_of es) i ≡ Some (Some live) = old.1 ∙ ap Some is in
+            let filled = slot_from_number es slots kept.table (id_bytes k) i live here in
+            let only = only_from_found es slots kept.table (id_bytes k) kept.distinct i live filled.0 found here filled.1 in
+            let same : slot.place ≡ i = at ∙ place.or_len in (
+              (λ j. set_value_at (overwritten v i found j) (same j) (Some live)) ∙ set-back es i v (Some live) here,
+              ap is_some (with_id-only (keys_of es) slots (id_bytes k) live filled.0 only),
+            )
+
+  module _ (es : List (Id × Option ℕ)) (number : ℕ) (x : Option (Slot G)) (slots : List (Option (Slot G))) (walk : IsWalk es number (x ∷ slots)) where
+    pub IsWalk-later : IsWalk es (number + 1) slots
+    IsWalk-later = record { placed = λ k slot h. walk.placed (suc k) slot h; few = omega (arith, walk.few) }
+
+    pub walked-some : (s : Slot G) → x ≡ Some s → s.place < length es
+    walked-some s e = walk.placed 0 s (ap Some e)
+
+  pub features-skip : (ids : List (List ℕ)) (n : ℕ) (slots : List (Option (Slot G))) → features_from ids (n + 1) slots ≡ features_from ids n (None ∷ slots)
+  features-skip ids n slots = ap (λ m. features_from ids m slots) (add-one n)
+
+  pub features-first : (ids : List (List ℕ)) (n : ℕ) (s : Slot G) (slots : List (Option (Slot G)))
+      → features_from ids n (Some s ∷ slots) ≡ feature_of ids n s ∷ features_from ids (n + 1) slots
+  features-first ids n s slots = ap (λ m. feature_of ids n s ∷ features_from ids m slots) (sym (add-one n))
+
+  pub id-and-shape : (keys : List Id) (slots : List (Option (Slot G))) (k : ℕ) (slot : Slot G) (id : List ℕ) → slice_get slots k ≡ Some (Some slot)
+      → id ≡ id_of (ids_of keys) slot
+      → ◌≡◌ {A = Option (List ℕ × G)} (Some (id, slot.shape)) (option_map (λ f. (f.id, f.shape)) (with_number k (contents_of keys slots)))
+  id-and-shape keys slots k slot id filled is =
+      ap (λ i. Some (i, slot.shape)) is
+      ∙ sym (ap (option_map (λ f. (f.id, f.shape))) (with_number-contents keys slots k ∙ ap (feature_in (ids_of keys) k) filled))
+
+  -- a slot that was found by its number
+  pub filled_at : (slots : List (Option (Slot G))) (k : ℕ) (slot : Slot G) → Some slot ≡ option_flatten (slice_get slots k) → slice_get slots k ≡ Some (Some slot)
+  filled_at slots k slot h = by (slice_get slots k) h
+    where
+      by : (r : Option (Option (Slot G))) → Some slot ≡ option_flatten r → r ≡ Some (Some slot)
+      by None h = cc
+      by (Some None) h = cc
+      by (Some (Some s)) h = ap Some (sym h)
+
+  pub feature_none : (ids : List (List ℕ)) (k : ℕ) (r : Option (Option (Slot G))) → None ≡ option_flatten r → feature_in ids k r ≡ None
+  feature_none ids k None h = refl
+  feature_none ids k (Some None) h = refl
+  feature_none ids k (Some (Some s)) h = cc
+
+  pub not_filled : (slots : List (Option (Slot G))) (k : ℕ) (slot : Slot G) → None ≡ option_flatten (slice_get slots k) → slice_get slots k ≡ Some (Some slot) → ⊥
+  not_filled slots k slot h is = let none = rw is at h in cc
+
+  -- look-ups by number
+  pub number-empty : (keys : List Id) (slots : List (Option (Slot G))) (k : ℕ) → None ≡ option_flatten (slice_get slots k)
+      → with_number k (contents_of keys slots) ≡ None
+  number-empty keys slots k h = with_number-contents keys slots k ∙ feature_none (ids_of keys) k (slice_get slots k) h
+
+  pub number-filled : (keys : List Id) (slots : List (Option (Slot G))) (k : ℕ) (slot : Slot G) → Some slot ≡ option_flatten (slice_get slots k)
+      → with_number k (contents_of keys slots) ≡ Some (feature_of (ids_of keys) k slot)
+  number-filled keys slots k slot h = with_number-contents keys slots k ∙ ap (feature_in (ids_of keys) k) (filled_at slots k slot h)

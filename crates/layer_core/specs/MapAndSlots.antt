@@ -10,16 +10,17 @@ use Rattle.layer_core.specs.Ids.{id_bytes, id_eq}
 use Rattle.layer_core.specs.Limits.{most_features}
 use Rattle.layer_core.specs.Layers.{Feature, Contents}
 
-abbrev pub id_of : List (List ℕ) → Slot → List ℕ
+abbrev pub id_of : {G : Type 0} → List (List ℕ) → Slot G → List ℕ
 id_of ids slot = get_or ids slot.place []
 
 -- the feature in a slot, given the ids of the map in order
-abbrev pub feature_of : List (List ℕ) → ℕ → Slot → Feature
+abbrev pub feature_of : {G : Type 0} → List (List ℕ) → ℕ → Slot G → Feature G
 feature_of ids number slot =
     record { id = id_of ids slot; number = number; shape = slot.shape }
 
 -- the features in the slots, the first of which has this number
-abbrev pub features_from : List (List ℕ) → ℕ → List (Option Slot) → List Feature
+abbrev pub features_from : {G : Type 0} → List (List ℕ) → ℕ
+    → List (Option (Slot G)) → List (Feature G)
 features_from ids number [] = []
 features_from ids number (None ∷ slots) = features_from ids (suc number) slots
 features_from ids number (Some slot ∷ slots) =
@@ -28,23 +29,25 @@ features_from ids number (Some slot ∷ slots) =
 abbrev pub ids_of : List Id → List (List ℕ)
 ids_of keys = map id_bytes keys
 
-abbrev pub contents_of : List Id → List (Option Slot) → Contents
+abbrev pub contents_of : {G : Type 0} → List Id → List (Option (Slot G)) → Contents G
 contents_of keys slots =
     record { features = features_from (ids_of keys) 0 slots; next = length slots }
 
 -- the visible state of a layer's features: their list; how many more need no memory, whatever their
 -- ids; and how many more if each id comes after all that were ever inserted
-pub record FeaturesState : Type 0 where
-  pub list : Contents
+pub record FeaturesState (G : Type 0) : Type 0 where
+  pub list : Contents G
   pub room : ℕ
   pub rising_room : ℕ
 
 -- the places of the features' ids, by number
-abbrev pub places : List (Option Slot) → List (Option ℕ)
+abbrev pub places : {G : Type 0} → List (Option (Slot G)) → List (Option ℕ)
 places slots = map (option_map (λ slot. slot.place)) slots
 
 -- the numbers by place and the places by number are inverse to each other
-pub record AreInverse (numbers : List (Option ℕ)) (slots : List (Option Slot)) : Type 0 where
+pub record AreInverse
+    {G : Type 0} (numbers : List (Option ℕ)) (slots : List (Option (Slot G)))
+    : Type 0 where
   pub placed : (p n : ℕ) → slice_get numbers p ≡ Some (Some n)
       → slice_get (places slots) n ≡ Some (Some p)
   pub numbered : (p n : ℕ) → slice_get (places slots) n ≡ Some (Some p)
@@ -52,32 +55,33 @@ pub record AreInverse (numbers : List (Option ℕ)) (slots : List (Option Slot))
   pub few : length slots ≤ most_features
 
 -- the ids and the slots correspond, the ids are distinct, and this is the number of features
-pub record StandForLayer
-    (entries : List (Id × Option ℕ)) (slots : List (Option Slot)) (count : ℕ)
+pub record StandForLayer {G : Type 0}
+    (entries : List (Id × Option ℕ)) (slots : List (Option (Slot G))) (count : ℕ)
     : Type 0 where
   pub table : AreInverse (values_of entries) slots
   pub distinct : IsDistinct id_eq (keys_of entries)
   pub counted : count ≡ length (contents_of (keys_of entries) slots).features
 
 -- no slot's feature has this id
-pub record IsAbsent (ids : List (List ℕ)) (id : List ℕ) (slots : List (Option Slot))
+pub record IsAbsent
+    {G : Type 0} (ids : List (List ℕ)) (id : List ℕ) (slots : List (Option (Slot G)))
     : Type 0 where
-  pub differs : (k : ℕ) (s : Slot) → slice_get slots k ≡ Some (Some s)
+  pub differs : (k : ℕ) (s : Slot G) → slice_get slots k ≡ Some (Some s)
       → bytes_eq id (id_of ids s) ≡ false
 
 -- the feature of this slot has this id, and no other does
-pub record IsOnly
-    (ids : List (List ℕ)) (id : List ℕ) (slots : List (Option Slot)) (k : ℕ) (slot : Slot)
+pub record IsOnly {G : Type 0}
+    (ids : List (List ℕ)) (id : List ℕ) (slots : List (Option (Slot G))) (k : ℕ) (slot : Slot G)
     : Type 0 where
   pub here : slice_get slots k ≡ Some (Some slot)
   pub same : bytes_eq id (id_of ids slot) ≡ true
-  pub only : (j : ℕ) (s : Slot) → slice_get slots j ≡ Some (Some s)
+  pub only : (j : ℕ) (s : Slot G) → slice_get slots j ≡ Some (Some s)
       → bytes_eq id (id_of ids s) ≡ true → j ≡ k
 
 -- each slot refers to the place of an id, and the numbers of the slots are those of a layer
-pub record IsWalk
-    (entries : List (Id × Option ℕ)) (number : ℕ) (slots : List (Option Slot))
+pub record IsWalk {G : Type 0}
+    (entries : List (Id × Option ℕ)) (number : ℕ) (slots : List (Option (Slot G)))
     : Type 0 where
-  pub placed : (k : ℕ) (slot : Slot) → slice_get slots k ≡ Some (Some slot)
+  pub placed : (k : ℕ) (slot : Slot G) → slice_get slots k ≡ Some (Some slot)
       → slot.place < length entries
   pub few : number + length slots ≤ most_features

@@ -12,7 +12,7 @@ abbrev pub is_id : List ℕ → Bool
 is_id id = nat_le 1 (length id) && nat_le (length id) most_id_bytes
 
 -- why this id can't be inserted, apart from lack of memory
-abbrev pub insert_refusal : Contents → List ℕ → Option LayerFault
+abbrev pub insert_refusal : {G : Type 0} → Contents G → List ℕ → Option LayerFault
 insert_refusal layer id =
     if not (is_id id) then Some BadId
     else if is_some (with_id id layer) then Some DoubleId
@@ -20,7 +20,7 @@ insert_refusal layer id =
     else None
 
 -- why this id can't be deleted, apart from lack of memory
-abbrev pub delete_refusal : Contents → List ℕ → Option LayerFault
+abbrev pub delete_refusal : {G : Type 0} → Contents G → List ℕ → Option LayerFault
 delete_refusal layer id =
     if not (is_id id) then Some BadId
     else if is_some (with_id id layer) then None

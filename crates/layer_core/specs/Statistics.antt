@@ -1,31 +1,30 @@
 -- The number of features of a layer by dimension, and the height of its tree.
 use Rattle.std.specs.Prelude.{ℕ, ◌+◌, ◌^◌, ◌<◌, ◌==◌, List, Bool, count_by, length}
-use Rattle.geom_core.specs.Shapes.{dim_of}
 use Rattle.rtree_core.specs.Trees.{height_of}
 use Rattle.layer_core.specs.declared.stats.Stats.{Stats}
 use Rattle.layer_core.specs.Layers.{Feature, Contents}
 use Rattle.layer_core.specs.LayerTrees.{LayerState}
 
-abbrev pub has_dim : ℕ → Feature → Bool
-has_dim dim f = dim_of f.shape == dim
+abbrev pub has_dim : {G : Type 0} → (G → ℕ) → ℕ → Feature G → Bool
+has_dim dim_of dim f = dim_of f.shape == dim
 
--- the number of features of a dimension: 0 for points, 1 for segments, 2 for rectangles
-abbrev pub count_of_dim : ℕ → List Feature → ℕ
-count_of_dim dim features = count_by (has_dim dim) features
+-- how many of some features have this dimension: 0 for points, 1 for segments, 2 for rectangles
+abbrev pub count_of_dim : {G : Type 0} → (G → ℕ) → ℕ → List (Feature G) → ℕ
+count_of_dim dim_of dim features = count_by (has_dim dim_of dim) features
 
 -- the counts of a layer's features, with a height
-abbrev pub counts_of : Contents → ℕ → Stats
-counts_of layer height = record {
+abbrev pub counts_of : {G : Type 0} → (G → ℕ) → Contents G → ℕ → Stats
+counts_of dim_of layer height = record {
   features = length layer.features;
-  points = count_of_dim 0 layer.features;
-  segments = count_of_dim 1 layer.features;
-  rectangles = count_of_dim 2 layer.features;
+  points = count_of_dim dim_of 0 layer.features;
+  segments = count_of_dim dim_of 1 layer.features;
+  rectangles = count_of_dim dim_of 2 layer.features;
   height = height;
 }
 
 -- the counts of a layer's features, with the height of its tree
-abbrev pub stats_of : LayerState → Stats
-stats_of layer = counts_of layer.list (height_of layer.root)
+abbrev pub stats_of : {G : Type 0} → (G → ℕ) → LayerState G → Stats
+stats_of dim_of layer = counts_of dim_of layer.list (height_of layer.root)
 
 -- one more feature of any dimension can be counted
 pub record CanCount (s : Stats) : Type 0 where

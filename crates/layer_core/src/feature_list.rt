@@ -6,6 +6,7 @@ ghost use Rattle.layer_core.specs.LayerTrees.{entries_for};
 
 use crate::fault::LayerFault;
 use crate::features::{Features, MAX_FEATURES};
+use crate::geometry::Geometry;
 use crate::id::Id;
 use crate::iter::Iter;
 use crate::layer::Layer;
@@ -19,22 +20,22 @@ use std::thread::Threads;
 
 /// The features of a layer, without a tree. They are boxed, as they are in a layer.
 #[derive(Drop)]
-pub struct FeatureList {
-    features: Box<Features>,
+pub struct FeatureList<G: Geometry = Shape> {
+    features: Box<Features<G>>,
 }
 
-impl Model for FeatureList {
+impl<G: Geometry> Model for FeatureList<G> {
     ghost use Rattle.layer_core.specs.Layers.{Contents};
     ghost use Rattle.layer_core.specs.LayerCodes.{coded_contents};
 
-    ghost Value = { Contents };
+    ghost Value = { Contents G };
 
-    ghost coded = { coded_contents };
+    ghost coded = { coded_contents G.code };
 
     ghost view = { λ l. l.features.value.list };
 }
 
-impl FeatureList {
+impl<G: Geometry> FeatureList<G> {
     ghost use Rattle.std.specs.Prelude.{◌≡◌, ◌≤◌, length, IsTrue, OnOk, OnErr, IfOk, IfSome};
     ghost use Rattle.rtree_core.specs.Packings.{IsPackingOf, IsPackedHeight};
     ghost use Rattle.rtree_core.specs.Trees.{height_of};
@@ -45,7 +46,7 @@ impl FeatureList {
     ghost use Rattle.layer_core.specs.Statistics.{counts_of};
 
     /// An empty list with room for `room` features. `state` hashes the ids.
-    pub fn new(alloc: Global, state: RandomState, room: usize) -> Result<FeatureList, AllocError>
+    pub fn new(alloc: Global, state: RandomState, room: usize) -> Result<FeatureList<G>, AllocError>
         ensures { IfOk result (λ loading. loading ≡ empty) }
     {
         Ok(FeatureList {
@@ -65,7 +66,7 @@ impl FeatureList {
     ///
     /// # Errors
     /// `DoubleId`, else `LayerFull`, else `Memory`. The list is then unchanged.
-    pub fn add(&mut self, id: Id, shape: Shape) -> Result<(), LayerFault>
+    pub fn add(&mut self, id: Id, shape: G) -> Result<(), LayerFault>
         requires { IsTrue (is_id (id_bytes id)) }
         ensures ok { OnOk result (self.new ≡ inserted self.old (id_bytes id) shape) }
         ensures err { OnErr result (self.new ≡ self.old) }
@@ -85,7 +86,7 @@ impl FeatureList {
     }
 
     /// The features in layer order.
-    pub fn iter(&self) -> Iter<'_>
+    pub fn iter(&self) -> Iter<'_, G>
         ensures features { result ≡ self.now.features }
         ensures layer { IsLayer self.now }
     {
@@ -95,7 +96,7 @@ impl FeatureList {
     /// The numbers of features of each dimension, and the height of a tree packed from them. It
     /// visits every feature, and packs no tree.
     pub fn stats(&self) -> Stats
-        ensures counts { result ≡ counts_of self.now result.height }
+        ensures counts { result ≡ counts_of G.dim_of self.now result.height }
         ensures height { IsPackedHeight (length self.now.features) result.height }
     {
         self.features
@@ -103,9 +104,10 @@ impl FeatureList {
     }
 
     /// The layer of these features.
-    pub fn finish(self, alloc: Global) -> Result<Layer, AllocError>
+    pub fn finish(self, alloc: Global) -> Result<Layer<G>, AllocError>
         ensures list { IfOk result (λ layer. layer.list ≡ self) }
-        ensures packing { IfOk result (λ layer. IfSome layer.root (IsPackingOf (entries_for self))) }
+        ensures packing { let entries = entries_for G.box_of self in
+            IfOk result (λ layer. IfSome layer.root (IsPackingOf entries)) }
         ensures height { IfOk result
             (λ layer. IsPackedHeight (length self.features) (height_of layer.root)) }
     {
@@ -119,9 +121,10 @@ impl FeatureList {
         alloc: Global,
         threads: u32,
         rt: &R,
-    ) -> Result<Layer, AllocError>
+    ) -> Result<Layer<G>, AllocError>
         ensures list { IfOk result (λ layer. layer.list ≡ self) }
-        ensures packing { IfOk result (λ layer. IfSome layer.root (IsPackingOf (entries_for self))) }
+        ensures packing { let entries = entries_for G.box_of self in
+            IfOk result (λ layer. IfSome layer.root (IsPackingOf entries)) }
         ensures height { IfOk result
             (λ layer. IsPackedHeight (length self.features) (height_of layer.root)) }
     {
@@ -131,13 +134,13 @@ impl FeatureList {
 }
 
 /// The entries of a tree over these features.
-fn entries_of(alloc: Global, features: &Features) -> Result<Vec<Entry>, AllocError>
-    ensures { IfOk result (λ entries. entries.items ≡ entries_for features.now.list) }
+fn entries_of<G: Geometry>(alloc: Global, features: &Features<G>) -> Result<Vec<Entry>, AllocError>
+    ensures { IfOk result (λ entries. entries.items ≡ entries_for G.box_of features.now.list) }
 {
     let mut entries = Vec::with_capacity(alloc, features.len())?;
     for feature in features.iter() {
         entries.push_reserved(Entry {
-            shape: feature.shape,
+            shape: feature.shape.bounds(),
             number: feature.number,
         });
     }

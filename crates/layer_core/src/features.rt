@@ -2,26 +2,28 @@
 
 ghost use Rattle.std.specs.Prelude.{◌≡◌, Some, slice_get, IfSome, MatchOption};
 ghost use Rattle.std.specs.Map.{keys_of, values_of};
+ghost use Rattle.std.specs.Option.{option_map, option_flatten};
 ghost use Rattle.layer_core.specs.MapAndSlots.{ids_of, IsAbsent, IsOnly, AreInverse};
 
+use crate::geometry::Geometry;
 use crate::id::Id;
 use crate::ids::Ids;
 use crate::iter::Iter;
 use crate::stats::Stats;
-use geom_core::Shape;
 use std::alloc::{AllocError, Global};
 use std::hash::RandomState;
 use std::marker::Model;
+use std::mem;
 
 /// The greatest number of features ever inserted into a layer, including deleted ones.
 pub const MAX_FEATURES: usize = 1_000_000;
 
 /// A feature, as stored under its number.
-#[derive(Clone, Copy)]
-pub(crate) struct Slot {
+#[derive(Drop)]
+pub(crate) struct Slot<G> {
     /// The place of its id in the layer's ids.
     pub(crate) place: usize,
-    pub(crate) shape: Shape,
+    pub(crate) shape: G,
 }
 
 /// Features by id and by number.
@@ -30,20 +32,20 @@ pub(crate) struct Slot {
 /// was deleted. The slots are in the order of numbers, and the slot of a deleted feature is empty,
 /// so no edit moves anything.
 #[derive(Drop)]
-pub(crate) struct Features {
+pub(crate) struct Features<G> {
     ids: Ids,
-    slots: Vec<Option<Slot>>,
+    slots: Vec<Option<Slot<G>>>,
     /// The number of filled slots.
     count: usize,
 }
 
-impl Model for Features {
+impl<G> Model for Features<G> {
     ghost use Rattle.layer_core.specs.MapAndSlots.{FeaturesState};
     ghost use Rattle.layer_core.specs.LayerCodes.{coded_features};
 
-    ghost Value = { FeaturesState };
+    ghost Value = { FeaturesState G };
 
-    ghost coded = { coded_features };
+    ghost coded = { coded_features G.code };
 
     ghost use Rattle.std.specs.Prelude.{◌-◌, min, vec_len, vec_capacity};
     ghost use Rattle.std.specs.Map.{keys_of};
@@ -58,35 +60,55 @@ impl Model for Features {
     ghost invariant = { λ f. StandForLayer f.ids.entries f.slots.items f.count };
 }
 
+/// The slot with this number, if it is filled.
+fn slot_at<G>(slots: &[Option<Slot<G>>], number: u32) -> Option<&Slot<G>>
+    ensures { option_map (λ s. s.now) result ≡ option_flatten (slice_get slots.now number) }
+{
+    match slots.get(number as usize) {
+        Some(Some(slot)) => Some(slot),
+        _ => None,
+    }
+}
+
 /// The number and the slot of the feature with this id.
-fn locate(ids: &Ids, slots: &[Option<Slot>], id: &str) -> Option<(u32, Slot)>
+fn locate<'a, G>(ids: &Ids, slots: &'a [Option<Slot<G>>], id: &str) -> Option<(u32, &'a Slot<G>)>
     requires { AreInverse (values_of ids.now.entries) slots.now }
     ensures found { MatchOption result
         (IsAbsent (ids_of (keys_of ids.now.entries)) id.now slots.now)
-        (λ f. IsOnly (ids_of (keys_of ids.now.entries)) id.now slots.now f.0 f.1) }
+        (λ f. IsOnly (ids_of (keys_of ids.now.entries)) id.now slots.now f.0 f.1.now) }
     ensures place { IfSome result
-        (λ f. slice_get (values_of ids.now.entries) f.1.place ≡ Some (Some f.0)) }
+        (λ f. slice_get (values_of ids.now.entries) f.1.now.place ≡ Some (Some f.0)) }
 {
     let place = ids.place_of(id)?;
     let number = ids.number(place)?;
-    let entry = slots.get(number as usize)?;
-    let slot = (*entry)?;
+    let slot = slot_at(slots, number)?;
     Some((number, slot))
 }
 
-impl Features {
+/// The shape of a slot that was taken out.
+fn shape_of<G: Drop>(slot: Option<Slot<G>>) -> Option<G>
+    ensures { result ≡ option_map (λ s. s.shape) slot }
+{
+    match slot {
+        Some(slot) => Some(slot.shape),
+        None => None,
+    }
+}
+
+impl<G: Geometry> Features<G> {
     ghost use Rattle.std.specs.Prelude.{◌≡◌, ◌<◌, ◌≤◌, length, not, is_some, if◌then◌else◌, IfNone};
     ghost use Rattle.std.specs.Prelude.{None, true, false};
     ghost use Rattle.std.specs.Prelude.{IfOk, IsOk, OnOk, OnErr};
     ghost use Rattle.std.specs.Option.{option_map};
     ghost use Rattle.layer_core.specs.Layers.{empty, IsLayer, IdAndShapeAre, NumberAndShapeAre};
+    ghost use Rattle.layer_core.specs.Layers.{ShapeIs};
     ghost use Rattle.layer_core.specs.Layers.{with_id, with_number, inserted, deleted};
     ghost use Rattle.layer_core.specs.Ids.{id_bytes};
     ghost use Rattle.layer_core.specs.Limits.{most_features};
     ghost use Rattle.layer_core.specs.Statistics.{counts_of};
 
     /// No features. `state` hashes the ids.
-    pub(crate) fn new(alloc: Global, state: RandomState) -> Features
+    pub(crate) fn new(alloc: Global, state: RandomState) -> Features<G>
         ensures { result.list ≡ empty }
     {
         Features {
@@ -101,7 +123,7 @@ impl Features {
         alloc: Global,
         state: RandomState,
         count: usize,
-    ) -> Result<Features, AllocError>
+    ) -> Result<Features<G>, AllocError>
         ensures none { IfOk result (λ features. features.list ≡ empty) }
         ensures room { IfOk result (λ features. count ≤ features.rising_room) }
     {
@@ -137,39 +159,39 @@ impl Features {
     }
 
     /// The number and the shape of the feature with this id.
-    pub(crate) fn find(&self, id: &str) -> Option<(u32, Shape)>
+    pub(crate) fn find(&self, id: &str) -> Option<(u32, &G)>
         ensures found { NumberAndShapeAre result (with_id id.now self.now.list) }
         ensures layer { IsLayer self.now.list }
     {
         let slots = self.slots.as_slice();
         let (number, slot) = locate(&self.ids, slots, id)?;
-        Some((number, slot.shape))
+        Some((number, &slot.shape))
     }
 
     /// The id and the shape of the feature with this number.
-    pub(crate) fn at(&self, number: u32) -> Option<(&str, Shape)>
+    pub(crate) fn at(&self, number: u32) -> Option<(&str, &G)>
         ensures found { IdAndShapeAre result (with_number number self.now.list) }
         ensures layer { IsLayer self.now.list }
     {
-        let entry = self.slots.get(number as usize)?;
-        let slot = (*entry)?;
+        let slots = self.slots.as_slice();
+        let slot = slot_at(slots, number)?;
         let (id, _) = self.ids.at(slot.place)?;
         let text = id.as_str();
-        Some((text, slot.shape))
+        Some((text, &slot.shape))
     }
 
     /// The shape of the feature with this number, which is found without reading its id.
-    pub(crate) fn shape(&self, number: u32) -> Option<Shape>
-        ensures { result ≡ option_map (λ f. f.shape) (with_number number self.now.list) }
+    pub(crate) fn shape(&self, number: u32) -> Option<&G>
+        ensures { ShapeIs result (with_number number self.now.list) }
     {
-        let entry = self.slots.get(number as usize)?;
-        let slot = (*entry)?;
-        Some(slot.shape)
+        let slots = self.slots.as_slice();
+        let slot = slot_at(slots, number)?;
+        Some(&slot.shape)
     }
 
     /// The features in the order of their numbers.
     #[tactic(auto, using(crate::proofs::Rules::iter))]
-    pub(crate) fn iter(&self) -> Iter<'_>
+    pub(crate) fn iter(&self) -> Iter<'_, G>
         ensures features { result ≡ self.now.list.features }
         ensures layer { IsLayer self.now.list }
     {
@@ -179,7 +201,7 @@ impl Features {
 
     /// The numbers of features, in all and of each dimension, with this height.
     pub(crate) fn stats(&self, height: u32) -> Stats
-        ensures { result ≡ counts_of self.now.list height }
+        ensures { result ≡ counts_of G.dim_of self.now.list height }
     {
         let mut stats = Stats {
             features: self.len() as u32,
@@ -195,17 +217,18 @@ impl Features {
     }
 
     /// Deletes the feature with this id and returns its shape.
-    pub(crate) fn delete(&mut self, id: &str) -> Option<Shape>
+    pub(crate) fn delete(&mut self, id: &str) -> Option<G>
         ensures shape { result ≡ option_map (λ f. f.shape) (with_id id.now self.old.list) }
         ensures deleted { self.new.list ≡ deleted self.old.list id.now }
         ensures none { IfNone result (self.new.list ≡ self.old.list) }
     {
         let slots = self.slots.as_slice();
         let (number, slot) = locate(&self.ids, slots, id)?;
-        self.slots[number as usize] = None;
-        self.ids.set_number(slot.place, None);
+        let place = slot.place;
+        let taken = mem::replace(&mut self.slots[number as usize], None);
+        self.ids.set_number(place, None);
         self.count -= 1;
-        Some(slot.shape)
+        shape_of(taken)
     }
 
     /// Reserves room for one more feature.
@@ -233,7 +256,7 @@ impl Features {
 
     /// Inserts a feature, or returns false if a feature has its id already. Only a new id can fail
     /// for lack of memory.
-    pub(crate) fn insert(&mut self, id: Id, shape: Shape) -> Result<bool, AllocError>
+    pub(crate) fn insert(&mut self, id: Id, shape: G) -> Result<bool, AllocError>
         requires { self.old.list.next < most_features }
         ensures absent { IfOk result
             (λ added. added ≡ not (is_some (with_id (id_bytes id) self.old.list))) }

@@ -12,27 +12,27 @@ use geom_core::Shape;
 use std::marker::Model;
 
 /// A feature of a layer.
-#[derive(Clone, Copy, Debug, PartialEq, Eq)]
-pub struct FeatureRef<'a> {
+#[derive(Debug, Drop, PartialEq, Eq)]
+pub struct FeatureRef<'a, G = Shape> {
     pub id: &'a str,
     pub number: u32,
-    pub shape: Shape,
+    pub shape: &'a G,
 }
 
 /// The features of a layer, in layer order.
 #[derive(Drop)]
-pub struct Iter<'a> {
+pub struct Iter<'a, G = Shape> {
     ids: &'a Ids,
-    slots: &'a [Option<Slot>],
+    slots: &'a [Option<Slot<G>>],
     /// The number of the first slot.
     number: u32,
 }
 
-impl<'a> Model for Iter<'a> {
+impl<'a, G> Model for Iter<'a, G> {
     ghost use Rattle.std.specs.Prelude.{List};
     ghost use Rattle.layer_core.specs.Layers.{Feature};
 
-    ghost Value = { List Feature };
+    ghost Value = { List (Feature G) };
 
     ghost use Rattle.std.specs.Map.{keys_of};
     ghost use Rattle.layer_core.specs.MapAndSlots.{features_from, ids_of, IsWalk};
@@ -43,9 +43,9 @@ impl<'a> Model for Iter<'a> {
     ghost invariant = { λ it. IsWalk it.ids.now.entries it.number it.slots.now };
 }
 
-impl<'a> Iter<'a> {
+impl<'a, G> Iter<'a, G> {
     /// The features in these slots, of which the first has the number 0.
-    pub(crate) fn new(ids: &'a Ids, slots: &'a [Option<Slot>]) -> Iter<'a>
+    pub(crate) fn new(ids: &'a Ids, slots: &'a [Option<Slot<G>>]) -> Iter<'a, G>
         requires { IsWalk ids.now.entries 0 slots.now }
         ensures { result ≡ features_from (ids_of (keys_of ids.now.entries)) 0 slots.now }
     {
@@ -57,14 +57,14 @@ impl<'a> Iter<'a> {
     }
 }
 
-impl<'a> Iterator for Iter<'a> {
-    type Item = FeatureRef<'a>;
+impl<'a, G> Iterator for Iter<'a, G> {
+    type Item = FeatureRef<'a, G>;
 
     ghost next_gives = { YieldsFirstBy feature_read (λ left. left) };
 
     ghost remaining = { item_count (λ left. left) };
 
-    fn next(&mut self) -> Option<FeatureRef<'a>> {
+    fn next(&mut self) -> Option<FeatureRef<'a, G>> {
         while let Some((first, others)) = self.slots.split_first() {
             let number = self.number;
             self.number += 1;
@@ -75,7 +75,7 @@ impl<'a> Iterator for Iter<'a> {
                 return Some(FeatureRef {
                     id: text,
                     number,
-                    shape: slot.shape,
+                    shape: &slot.shape,
                 });
             }
         }
