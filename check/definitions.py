@@ -64,7 +64,7 @@ SOURCES = {
     "draw_core/Pictures": "SVG 1.1",
 }
 
-DEFINITION = re.compile(r"(?:abbrev )?pub (?:abbrev |record |data )?(?!mod )([^\s:]+)[^:]*:")
+DEFINITION = re.compile(r"(?:abbrev )?pub (?:abbrev |record |data )?(?!mod )([^\s:]+)(?:[^:]*:|$)")
 NUMBER = re.compile(r"^\w+ = (\d+)$", re.MULTILINE)
 IMPORT = re.compile(r"use Rattle\.(\w+)\.specs\.(\w+)(?:\.\{([^}]*)\}| as (\w+))")
 

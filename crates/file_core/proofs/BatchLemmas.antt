@@ -25,29 +25,29 @@ use Rattle.file_core.specs.Unread.{count_unread, records_unread}
 -- ---- the layer with some rows
 
 -- a row that is inserted uses a number
-with_row-next : (n : ℕ) (layer : Contents) (row : RowContent) (next : Contents) → with_row n layer (Ok row) ≡ Ok next → next.next ≡ layer.next + 1
+with_row-next : (n : ℕ) (layer : Contents Shape) (row : RowContent) (next : Contents Shape) → with_row n layer (Ok row) ≡ Ok next → next.next ≡ layer.next + 1
 with_row-next n layer row next given = by (insert_refusal layer row.id) given
   where
     by : (fault : Option LayerFault) → refused_or n fault (inserted layer row.id row.shape) ≡ Ok next → next.next ≡ layer.next + 1
     by (Some fault) is = let none = is in cc
     by None is = let same : inserted layer row.id row.shape ≡ next = cc in sym (ap (λ l. l.next) same)
 
-pub with_rows-append : (layer : Contents) (a b : List ReadRow) → with_rows layer (a ++ b) ≡ if_given (with_rows layer a) (λ l. with_rows l b)
+pub with_rows-append : (layer : Contents Shape) (a b : List ReadRow) → with_rows layer (a ++ b) ≡ if_given (with_rows layer a) (λ l. with_rows l b)
 with_rows-append layer [] b = refl
 with_rows-append layer (row ∷ a) b = by (with_row (layer.next + 1) layer (Ok (content_of row))) (λ l. with_rows-append l a b)
   where
-    by : (w : Result Contents ReadFault) → ((l : Contents) → with_rows l (a ++ b) ≡ if_given (with_rows l a) (λ l. with_rows l b))
+    by : (w : Result (Contents Shape) ReadFault) → ((l : Contents Shape) → with_rows l (a ++ b) ≡ if_given (with_rows l a) (λ l. with_rows l b))
         → if_given w (λ l. with_rows l (a ++ b)) ≡ if_given (if_given w (λ l. with_rows l a)) (λ l. with_rows l b)
     by (Ok l) more = more l
     by (Err fault) more = refl
 
-pub with_rows-next : (layer : Contents) (rows : List ReadRow) (next : Contents) → with_rows layer rows ≡ Ok next → next.next ≡ layer.next + length rows
+pub with_rows-next : (layer : Contents Shape) (rows : List ReadRow) (next : Contents Shape) → with_rows layer rows ≡ Ok next → next.next ≡ layer.next + length rows
 with_rows-next layer [] next given = let same : layer ≡ next = cc in omega (arith, ap (λ l. l.next) same)
 with_rows-next layer (row ∷ rows) next given =
     by (with_row (layer.next + 1) layer (Ok (content_of row))) refl given (λ l more. with_rows-next l rows next more)
   where
-    by : (w : Result Contents ReadFault) → with_row (layer.next + 1) layer (Ok (content_of row)) ≡ w → if_given w (λ l. with_rows l rows) ≡ Ok next
-        → ((l : Contents) → with_rows l rows ≡ Ok next → next.next ≡ l.next + length rows) → next.next ≡ layer.next + length (row ∷ rows)
+    by : (w : Result (Contents Shape) ReadFault) → with_row (layer.next + 1) layer (Ok (content_of row)) ≡ w → if_given w (λ l. with_rows l rows) ≡ Ok next
+        → ((l : Contents Shape) → with_rows l rows ≡ Ok next → next.next ≡ l.next + length rows) → next.next ≡ layer.next + length (row ∷ rows)
     by (Ok l) is given more = omega (arith, more l given, with_row-next (layer.next + 1) layer (content_of row) l is)
     by (Err fault) is given more = let none = given in cc
 
@@ -99,7 +99,7 @@ module _ (scale : Scale) where
   -- ---- what a layer is given
 
   -- a layer that accepts these rows, and then the remaining ones
-  pub say-give : (n m : ℕ) (records : List Record) (rows : List ReadRow) (left : List Record) (layer next : Contents) (answer : Result Contents ReadFault)
+  pub say-give : (n m : ℕ) (records : List Record) (rows : List ReadRow) (left : List Record) (layer next : Contents Shape) (answer : Result (Contents Shape) ReadFault)
       → SayInTurn scale records rows left → n ≡ layer.next + 1 → n + length rows ≡ m → with_rows layer rows ≡ Ok next
       → RowsGive (LayerRowGives scale) m next left answer → RowsGive (LayerRowGives scale) n layer records answer
   say-give n m records [] left layer next answer say at sum given gives =
@@ -112,16 +112,16 @@ module _ (scale : Scale) where
       (λ l is more. say-give (n + 1) m records rows left l next answer say.1
       (omega (arith, with_row-next n layer (content_of r) l is)) (omega arith) more gives)
     where
-      by : (w : Result Contents ReadFault) → with_row n layer (Ok (content_of r)) ≡ w
+      by : (w : Result (Contents Shape) ReadFault) → with_row n layer (Ok (content_of r)) ≡ w
           → if_given (with_row n layer (Ok (content_of r))) (λ l. with_rows l rows) ≡ Ok next
-          → ((l : Contents) → with_row n layer (Ok (content_of r)) ≡ Ok l → with_rows l rows ≡ Ok next
+          → ((l : Contents Shape) → with_row n layer (Ok (content_of r)) ≡ Ok l → with_rows l rows ≡ Ok next
           → RowsGive (LayerRowGives scale) (n + 1) l records answer)
           → RowsGive (LayerRowGives scale) n layer (first ∷ records) answer
       by (Ok l) is given later = (Ok l, (Ok (content_of r), say.0 n, sym is), later l is (rw is at given))
       by (Err f) is given later = let none = rw is at given in cc
 
   -- a layer that refuses one of these rows
-  pub say-refuse : (n : ℕ) (records : List Record) (rows : List ReadRow) (left : List Record) (layer : Contents) (fault : ReadFault)
+  pub say-refuse : (n : ℕ) (records : List Record) (rows : List ReadRow) (left : List Record) (layer : Contents Shape) (fault : ReadFault)
       → SayInTurn scale records rows left → n ≡ layer.next + 1 → with_rows layer rows ≡ Err fault
       → RowsGive (LayerRowGives scale) n layer records (Err fault)
   say-refuse n records [] left layer fault say at given = let none = given in cc
@@ -130,16 +130,16 @@ module _ (scale : Scale) where
       by (with_row n layer (Ok (content_of r))) refl (ap (λ k. if_given (with_row k layer (Ok (content_of r))) (λ l. with_rows l rows)) at ∙ given)
       (λ l is more. say-refuse (n + 1) records rows left l fault say.1 (omega (arith, with_row-next n layer (content_of r) l is)) more)
     where
-      by : (w : Result Contents ReadFault) → with_row n layer (Ok (content_of r)) ≡ w
+      by : (w : Result (Contents Shape) ReadFault) → with_row n layer (Ok (content_of r)) ≡ w
           → if_given (with_row n layer (Ok (content_of r))) (λ l. with_rows l rows) ≡ Err fault
-          → ((l : Contents) → with_row n layer (Ok (content_of r)) ≡ Ok l → with_rows l rows ≡ Err fault
+          → ((l : Contents Shape) → with_row n layer (Ok (content_of r)) ≡ Ok l → with_rows l rows ≡ Err fault
           → RowsGive (LayerRowGives scale) (n + 1) l records (Err fault))
           → RowsGive (LayerRowGives scale) n layer (first ∷ records) (Err fault)
       by (Ok l) is given later = (Ok l, (Ok (content_of r), say.0 n, sym is), later l is (rw is at given))
       by (Err f) is given later = (Err f, (Ok (content_of r), say.0 n, sym is), sym (rw is at given))
 
   -- a row that has a fault by itself
-  pub fault-gives : (n : ℕ) (records : List Record) (layer : Contents) (fault : ReadFault) → HasFault scale n records fault
+  pub fault-gives : (n : ℕ) (records : List Record) (layer : Contents Shape) (fault : ReadFault) → HasFault scale n records fault
       → RowsGive (LayerRowGives scale) n layer records (Err fault)
   fault-gives n [] layer fault has = absurd has
   fault-gives n (first ∷ records) layer fault has = (Err fault, (Err fault, has, refl), refl)
@@ -185,7 +185,7 @@ most_rounds unread (Err fault) = 0
 -- the effect on a layer of a batch and of what follows it
 module _ (scale : Scale) where
   -- the rows that are left give a layer this
-  abbrev pub Gives : Unread → Contents → Result Contents ReadFault → Type 0
+  abbrev pub Gives : Unread → Contents Shape → Result (Contents Shape) ReadFault → Type 0
   Gives unread layer answer = RowsGive (LayerRowGives scale) (count_unread unread + 1) layer (records_unread unread) answer
 
   module _ (old new : Unread) (read : List ReadRow) where
@@ -195,14 +195,14 @@ module _ (scale : Scale) where
     batch-smaller (Ok false) batch = omega arith
     batch-smaller (Err fault) batch = omega arith
 
-    module _ (layer : Contents) (at : count_unread old ≡ layer.next) where
+    module _ (layer : Contents Shape) (at : count_unread old ≡ layer.next) where
       pub batch-refuses : (more : Result Bool ReadFault) (fault : ReadFault) → IsBatch scale old read more new
           → with_rows layer read ≡ Err fault → Gives old layer (Err fault)
       batch-refuses more fault batch given =
           say-refuse scale (count_unread old + 1) (records_unread old) read batch.left layer fault batch.rows (omega arith) given
 
-      module _ (next : Contents) where
-        pub batch-goes-on : (answer : Result Contents ReadFault) → IsBatch scale old read (Ok true) new → with_rows layer read ≡ Ok next
+      module _ (next : Contents Shape) where
+        pub batch-goes-on : (answer : Result (Contents Shape) ReadFault) → IsBatch scale old read (Ok true) new → with_rows layer read ≡ Ok next
             → Gives new next answer → Gives old layer answer
         batch-goes-on answer batch given gives =
             say-give scale (count_unread old + 1) (count_unread new + 1) (records_unread old) read batch.left layer next answer batch.rows
@@ -225,11 +225,11 @@ module _ (scale : Scale) where
         batch-counted batch given = omega (arith, with_rows-next layer read next given, batch.behind.2)
 
       -- the last batch
-      pub batch-last : (more : Result Bool ReadFault) (answer : Result Contents ReadFault) → IsBatch scale old read more new → more ≢ Ok true
+      pub batch-last : (more : Result Bool ReadFault) (answer : Result (Contents Shape) ReadFault) → IsBatch scale old read more new → more ≢ Ok true
           → answer ≢ Err Memory → answer ≡ if_given (with_rows layer read) (after_rows more) → Gives old layer answer
       batch-last more answer batch last known is = by (with_rows layer read) refl more batch last is
         where
-          by : (given : Result Contents ReadFault) → with_rows layer read ≡ given → (more : Result Bool ReadFault) → IsBatch scale old read more new
+          by : (given : Result (Contents Shape) ReadFault) → with_rows layer read ≡ given → (more : Result Bool ReadFault) → IsBatch scale old read more new
               → more ≢ Ok true → answer ≡ if_given given (after_rows more) → Gives old layer answer
           by (Err fault) w more batch last is = subst (Gives old layer) (sym is) (batch-refuses more fault batch w)
           by (Ok next) w (Ok true) batch last is = absurd (last refl)

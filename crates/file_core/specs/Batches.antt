@@ -11,6 +11,7 @@ use Rattle.file_core.specs.declared.read_fault.ReadFault.TheVariants.{Io, Memory
 use Rattle.file_core.specs.declared.unread.Unread.{Unread}
 use Rattle.file_core.specs.LayerFiles.{with_row}
 use Rattle.file_core.specs.LayerRows.{RowSays, Says, content_of}
+use Rattle.geom_core.specs.declared.shape.Shape.{Shape}
 use Rattle.layer_core.specs.Ids.{id_bytes}
 use Rattle.layer_core.specs.Layers.{Contents}
 use Rattle.file_core.specs.Records.{Record}
@@ -22,20 +23,21 @@ abbrev pub HasId : ReadRow → Type 0
 HasId row = IsTrue (is_id (id_bytes row.id))
 
 -- the consequence for a layer, or the fault
-abbrev pub if_given : Result Contents ReadFault → (Contents → Result Contents ReadFault)
-    → Result Contents ReadFault
+abbrev pub if_given : Result (Contents Shape) ReadFault
+    → (Contents Shape → Result (Contents Shape) ReadFault)
+    → Result (Contents Shape) ReadFault
 if_given (Ok layer) next = next layer
 if_given (Err fault) next = Err fault
 
 -- the layer with these rows inserted in order, or the fault of the first row that it refuses; each
 -- row before it has inserted a feature
-abbrev pub with_rows : Contents → List ReadRow → Result Contents ReadFault
+abbrev pub with_rows : Contents Shape → List ReadRow → Result (Contents Shape) ReadFault
 with_rows layer [] = Ok layer
 with_rows layer (row ∷ rows) =
     if_given (with_row (layer.next + 1) layer (Ok (content_of row))) (λ l. with_rows l rows)
 
 -- a layer with the rows read, or the fault of the row after them
-abbrev pub after_rows : Result Bool ReadFault → Contents → Result Contents ReadFault
+abbrev pub after_rows : Result Bool ReadFault → Contents Shape → Result (Contents Shape) ReadFault
 after_rows (Ok more) layer = Ok layer
 after_rows (Err fault) layer = Err fault
 
@@ -45,7 +47,7 @@ all_rows [] = []
 all_rows (rows ∷ parts) = rows.items ++ all_rows parts
 
 -- the result is the layer with these rows or the fault, unless memory ran out
-abbrev pub AnswersRows : Contents → List ReadRow → Result Contents ReadFault → Type 0
+abbrev pub AnswersRows : Contents Shape → List ReadRow → Result (Contents Shape) ReadFault → Type 0
 AnswersRows layer rows answer =
     (answer ≢ Err Memory → with_rows layer rows ≡ answer) × (answer ≢ Err Io)
 

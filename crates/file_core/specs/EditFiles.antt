@@ -21,21 +21,22 @@ use Rattle.file_core.specs.Rows.{FileGives}
 abbrev pub edit_columns : List (List ℕ)
 edit_columns = codes "op" ∷ codes "layer" ∷ codes "id" ∷ codes "wkt" ∷ []
 
-abbrev pub insertion : ℕ → Side → List ℕ → Result Shape WktFault → Result EditContent ReadFault
+abbrev pub insertion : ℕ → Side → List ℕ → Result Shape WktFault
+    → Result (EditContent Shape) ReadFault
 insertion n side id (Ok shape) = Ok (record { side = side; id = id; shape = Some shape })
 insertion n side id (Err fault) = Err (Wkt n fault)
 
-abbrev pub InsertionGives : Scale → ℕ → Side → List ℕ → List ℕ → Result EditContent ReadFault
-    → Type 0
+abbrev pub InsertionGives : Scale → ℕ → Side → List ℕ → List ℕ
+    → Result (EditContent Shape) ReadFault → Type 0
 InsertionGives scale n side id wkt answer =
     AfterId n id answer
     ((shape : Result Shape WktFault) × Reads scale wkt shape × (answer ≡ insertion n side id shape))
 
-abbrev pub DeletionGives : ℕ → Side → List ℕ → Result EditContent ReadFault → Type 0
+abbrev pub DeletionGives : ℕ → Side → List ℕ → Result (EditContent Shape) ReadFault → Type 0
 DeletionGives n side id answer =
     AfterId n id answer (answer ≡ Ok (record { side = side; id = id; shape = None }))
 
-abbrev pub EditRowGives : Scale → ℕ → Record → Result EditContent ReadFault → Type 0
+abbrev pub EditRowGives : Scale → ℕ → Record → Result (EditContent Shape) ReadFault → Type 0
 EditRowGives scale n (op ∷ layer ∷ id ∷ wkt ∷ []) answer =
     MatchOption (side_named layer) (answer ≡ Err (Row n)) (λ side.
     MatchBool (bytes_eq op (codes "insert")) (InsertionGives scale n side id wkt answer)
@@ -43,21 +44,22 @@ EditRowGives scale n (op ∷ layer ∷ id ∷ wkt ∷ []) answer =
     (answer ≡ Err (Row n))))
 EditRowGives scale n _ answer = answer ≡ Err (Row n)
 
-abbrev pub with_edit : List EditContent → Result EditContent ReadFault
-    → Result (List EditContent) ReadFault
+abbrev pub with_edit : List (EditContent Shape) → Result (EditContent Shape) ReadFault
+    → Result (List (EditContent Shape)) ReadFault
 with_edit edits (Ok edit) = Ok (edits ++ edit ∷ [])
 with_edit edits (Err fault) = Err fault
 
-abbrev pub EditsRowGives : Scale → ℕ → List EditContent → Record
-    → Result (List EditContent) ReadFault → Type 0
+abbrev pub EditsRowGives : Scale → ℕ → List (EditContent Shape) → Record
+    → Result (List (EditContent Shape)) ReadFault → Type 0
 EditsRowGives scale n edits row answer =
-    (edit : Result EditContent ReadFault) × EditRowGives scale n row edit
+    (edit : Result (EditContent Shape) ReadFault) × EditRowGives scale n row edit
     × (answer ≡ with_edit edits edit)
 
-abbrev pub IsEditFile : Scale → List ℕ → Result (List EditContent) ReadFault → Type 0
+abbrev pub IsEditFile : Scale → List ℕ → Result (List (EditContent Shape)) ReadFault → Type 0
 IsEditFile scale bytes answer = FileGives edit_columns (EditsRowGives scale) [] bytes answer
 
 -- the contents of a list of edits, or the fault
-abbrev pub edit_contents : Result (Vec Edit Global) ReadFault → Result (List EditContent) ReadFault
+abbrev pub edit_contents : Result (Vec (Edit Shape) Global) ReadFault
+    → Result (List (EditContent Shape)) ReadFault
 edit_contents (Ok edits) = Ok (map content_of edits.items)
 edit_contents (Err fault) = Err fault

@@ -1,6 +1,7 @@
 -- The layer of a CSV file, or its fault.
 use Rattle.std.specs.Prelude.{◌≡◌, ℕ, List, [], ◌∷◌, codes, Option, Some, None, Result, Ok, Err}
 use Rattle.wkt_core.specs.declared.scale.Scale.{Scale}
+use Rattle.geom_core.specs.declared.shape.Shape.{Shape}
 use Rattle.layer_core.specs.declared.fault.LayerFault.{LayerFault}
 use Rattle.layer_core.specs.declared.fault.LayerFault.TheVariants.{BadId, DoubleId, LayerFull}
 use Rattle.layer_core.specs.declared.fault.LayerFault.TheVariants.{NoSuchId, Memory}
@@ -29,22 +30,24 @@ fault_of_row n LayerFull = Layer n LayerFull
 fault_of_row n NoSuchId = Layer n NoSuchId
 
 -- the layer with the feature of the row with this number, or the row's fault
-abbrev pub with_row : ℕ → Contents → Result RowContent ReadFault → Result Contents ReadFault
+abbrev pub with_row : ℕ → Contents Shape → Result RowContent ReadFault
+    → Result (Contents Shape) ReadFault
 with_row n layer (Ok row) =
     refused_or n (insert_refusal layer row.id) (inserted layer row.id row.shape)
 with_row n layer (Err fault) = Err fault
 
 -- the result of adding the row with this number to a layer, with coordinates at a scale
-abbrev pub LayerRowGives : Scale → ℕ → Contents → Record → Result Contents ReadFault → Type 0
+abbrev pub LayerRowGives : Scale → ℕ → Contents Shape → Record
+    → Result (Contents Shape) ReadFault → Type 0
 LayerRowGives scale n layer row answer =
     (content : Result RowContent ReadFault) × RowSays scale n row content
     × (answer ≡ with_row n layer content)
 
-abbrev pub IsLayerFile : Scale → List ℕ → Result Contents ReadFault → Type 0
+abbrev pub IsLayerFile : Scale → List ℕ → Result (Contents Shape) ReadFault → Type 0
 IsLayerFile scale bytes answer =
     FileGives layer_columns (LayerRowGives scale) empty bytes answer
 
 -- the list of a layer that was read, or the fault
-abbrev pub list_read : Result LayerState ReadFault → Result Contents ReadFault
+abbrev pub list_read : Result (LayerState Shape) ReadFault → Result (Contents Shape) ReadFault
 list_read (Ok layer) = Ok layer.list
 list_read (Err fault) = Err fault

@@ -1,6 +1,7 @@
 use Rattle.std.proofs.Common.{◌+◌, ◌≤◌, List, Result, length, map}
 use Rattle.file_core.specs.declared.read_fault.ReadFault.{ReadFault}
 use Rattle.file_core.specs.EditFiles.{IsEditFile, EditsRowGives}
+use Rattle.geom_core.specs.declared.shape.Shape.{Shape}
 use Rattle.layer_core.specs.Edits.{EditContent, content_of}
 use Rattle.file_core.specs.Limits.{most_file_bytes}
 use Rattle.file_core.specs.Rows.{IsReading, RowsGive, rows_left}
@@ -11,7 +12,7 @@ abbrev pub invariant-loop-edits : goal.invariant-loop-edits
 invariant-loop-edits l =
     IsReading l.rows
     × (length l.edits.items + length (rows_left l.rows) ≤ most_file_bytes)
-    × ((answer : Result (List EditContent) ReadFault) → RowsGive (EditsRowGives l.scale) (l.rows.count + 1) (map content_of l.edits.items)
+    × ((answer : Result (List (EditContent Shape)) ReadFault) → RowsGive (EditsRowGives l.scale) (l.rows.count + 1) (map content_of l.edits.items)
     (rows_left l.rows) answer → IsEditFile l.scale l.bytes answer)
 
 abbrev pub decreases-loop-edits : goal.decreases-loop-edits
