@@ -4,6 +4,7 @@ use Rattle.std.proofs.Common.{slice_range, sym, ap, subst, ◌∙◌, ⊎_elim, 
 use Rattle.std.proofs.Math.Seq.{get_or-append_seam, drop-append_seam}
 use Rattle.std.proofs.lemmas.Bool.{cases_lt}
 use Rattle.std.proofs.lemmas.List.{get_or_append_left, take_all, take-append-le, drop-append-le, length-append, length-drop}
+use Rattle.geom_core.specs.declared.shape.Shape.{Shape}
 use Rattle.layer_core.specs.Layers.{Feature, Contents, with_number}
 use Rattle.report_core.specs.Columns.{field_for, HasField, IsColumn}
 
@@ -19,14 +20,14 @@ new_range text more =
     ap (take (length (text ++ more) - length text)) (drop-append_seam text more)
     ∙ take_all (length (text ++ more) - length text) more (let l = length-append text more in omega arith)
 
-kept_field : (text more : List ℕ) (a b : ℕ) (feature : Option Feature) → HasField text a b feature → HasField (text ++ more) a b feature
+kept_field : (text more : List ℕ) (a b : ℕ) (feature : Option (Feature Shape)) → HasField text a b feature → HasField (text ++ more) a b feature
 kept_field text more a b feature has = record {
   in_order = has.in_order;
   within = let l = length-append text more in let w : b ≤ length text = has.within in omega arith;
   field = kept_range text more a b has.in_order has.within ∙ has.field;
 }
 
-new_field : (text : List ℕ) (feature : Option Feature) → HasField (text ++ field_for feature) (length text) (length (text ++ field_for feature)) feature
+new_field : (text : List ℕ) (feature : Option (Feature Shape)) → HasField (text ++ field_for feature) (length text) (length (text ++ field_for feature)) feature
 new_field text feature = record {
   in_order = let l = length-append text (field_for feature) in omega arith;
   within = omega arith;
@@ -38,7 +39,7 @@ last_start : (starts : List ℕ) (end n : ℕ) → length starts ≡ n + 1 → g
 last_start starts end n len = subst (λ (j : ℕ). get_or (starts ++ end ∷ []) j 0 ≡ end) len (get_or-append_seam starts end [] 0)
 
 -- one field more
-field_added : (layer : Contents) (starts text new : List ℕ) (n : ℕ) → IsColumn layer starts text → length starts ≡ n + 1 → get_or starts n 0 ≡ length text
+field_added : (layer : Contents Shape) (starts text new : List ℕ) (n : ℕ) → IsColumn layer starts text → length starts ≡ n + 1 → get_or starts n 0 ≡ length text
     → new ≡ text ++ field_for (with_number n layer) → IsColumn layer (starts ++ length new ∷ []) new
 field_added layer starts text new n column len last is = subst (λ (t : List ℕ). IsColumn layer (starts ++ length t ∷ []) t) (sym is) (record {
   each = λ k h. ⊎_elim (λ early. at_start k (omega arith) (early_field k early))
@@ -75,7 +76,7 @@ field_added layer starts text new n column len last is = subst (λ (t : List ℕ
 pub one_start_more : (starts starts' : List ℕ) (n end : ℕ) → length starts ≡ n + 1 → starts' ≡ starts ++ end ∷ [] → length starts' ≡ n + 1 + 1
 one_start_more starts starts' n end len grown = ap length grown ∙ length-append starts (end ∷ []) ∙ ap (λ (k : ℕ). k + 1) len
 
-module _ (layer : Contents) (starts text starts' text' : List ℕ) (n end : ℕ) (len : length starts ≡ n + 1) (end_is : end ≡ length text')
+module _ (layer : Contents Shape) (starts text starts' text' : List ℕ) (n end : ℕ) (len : length starts ≡ n + 1) (end_is : end ≡ length text')
     (grown : starts' ≡ starts ++ end ∷ []) where
   starts_are : starts' ≡ starts ++ length text' ∷ []
   starts_are = grown ∙ ap (λ (k : ℕ). starts ++ k ∷ []) end_is

@@ -14,6 +14,7 @@ use Rattle.std.proofs.lemmas.Grind.{div_ceil_times}
 use Rattle.std.proofs.lemmas.Nat.{mod_below}
 use Rattle.std.proofs.lemmas.List.{take_all, take-take, drop-take, take-append-drop, take_more, flat_map_more}
 use Rattle.std.proofs.lemmas.List.Concat.{flat_map-append}
+use Rattle.geom_core.specs.declared.shape.Shape.{Shape}
 use Rattle.layer_core.specs.Layers.{Contents}
 use Rattle.csv.specs.Writing.{row_text, default_writer}
 use Rattle.report_core.specs.declared.columns.Columns.{Columns}
@@ -30,7 +31,7 @@ zip_append R (x ∷ xs) [] vs ws h k = absurd h
 zip_append R (x ∷ xs) (y ∷ ys) vs ws h k = (h.0, zip_append R xs ys vs ws h.1 k)
 
 -- the records of some pairs, and then those of others
-rows_append : (left right : Contents) (ps qs : List (ℕ × ℕ)) (s t : List ℕ)
+rows_append : (left right : Contents Shape) (ps qs : List (ℕ × ℕ)) (s t : List ℕ)
     → AreRows left right ps s → AreRows left right qs t → AreRows left right (ps ++ qs) (s ++ t)
 rows_append left right ps qs s t a b = record {
   rows = a.rows ++ b.rows;
@@ -73,7 +74,7 @@ next_chunk xs size n =
     ∙ ap (λ z. take (n * size) ys ++ z) (sym (drop-take (n * size) size xs))
     ∙ take-append-drop (n * size) ys
 
-module _ (left right : Contents) (size : ℕ) (pairs : List (ℕ × ℕ)) (parts : List (Result (Vec ℕ Global) AllocError)) (d : Result (Vec ℕ Global) AllocError)
+module _ (left right : Contents Shape) (size : ℕ) (pairs : List (ℕ × ℕ)) (parts : List (Result (Vec ℕ Global) AllocError)) (d : Result (Vec ℕ Global) AllocError)
     (each : (n : ℕ) → n < length parts → AreRows left right (slice_chunk pairs size n) (text_or_none (get_or parts n d))) where
   -- the first chunks
   so_far : (n : ℕ) → n ≤ length parts → AreRows left right (take (n * size) pairs) (flat_map text_or_none (take n parts))
@@ -97,7 +98,7 @@ all_of_chunk : {X : Type 0} (P : X → Type 0) (xs ys : List X) (size start : �
 all_of_chunk P xs ys size start is all = λ k d l. subst P (sym (is.elements k d l)) (all (start + k) d (omega (arith, is.in_bounds)))
 
 -- columns for some pairs are columns for a chunk of them
-pub chunk_told : (columns : Columns) (left right : Contents) (pairs chunk : List (ℕ × ℕ)) (size start : ℕ)
+pub chunk_told : (columns : Columns) (left right : Contents Shape) (pairs chunk : List (ℕ × ℕ)) (size start : ℕ)
     → IsChunk pairs size start chunk → AreColumnsFor left right pairs columns → AreColumnsFor left right chunk columns
 chunk_told columns left right pairs chunk size start is tell = record {
   left_column = tell.left_column;
@@ -108,7 +109,7 @@ chunk_told columns left right pairs chunk size start is tell = record {
 }
 
 -- the result of a thread for a chunk
-pub chunk_written : (left right : Contents) (pairs chunk : List (ℕ × ℕ)) (size n : ℕ) (part : Result (Vec ℕ Global) AllocError)
+pub chunk_written : (left right : Contents Shape) (pairs chunk : List (ℕ × ℕ)) (size n : ℕ) (part : Result (Vec ℕ Global) AllocError)
     → IsChunk pairs size (n * size) chunk → IsOk part
     → IfOk part (λ text. AreRows left right chunk text.items)
     → AreRows left right (slice_chunk pairs size n) (text_or_none part)
@@ -140,7 +141,7 @@ few_pushed (Ok t) old mid new header parts workers grown few added =
 few_pushed (Err e) old mid new header parts workers grown few added = tt
 
 -- the header, and then the records of all chunks
-pub chunks_added : (left right : Contents) (pairs : List (ℕ × ℕ)) (old mid new : List (Vec ℕ Global)) (header : Vec ℕ Global) (line : List ℕ)
+pub chunks_added : (left right : Contents Shape) (pairs : List (ℕ × ℕ)) (old mid new : List (Vec ℕ Global)) (header : Vec ℕ Global) (line : List ℕ)
     (parts : List (Result (Vec ℕ Global) AllocError)) → mid ≡ old ++ header ∷ [] → header.items ≡ line → AreRows left right pairs (flat_map text_or_none parts)
     → joined new ≡ joined mid ++ flat_map text_or_none parts → AddsRows left right pairs (joined old ++ line) (joined new)
 chunks_added left right pairs old mid new header line parts grown is rows all = record {
@@ -151,7 +152,7 @@ chunks_added left right pairs old mid new header line parts grown is rows all = 
 }
 
 -- the header is pushed, and then the records of all chunks, unless memory was refused to one of them
-pub chunks_pushed : {T E : Type 0} (out : Result T E) (left right : Contents) (pairs : List (ℕ × ℕ)) (old mid new : List (Vec ℕ Global)) (header : Vec ℕ Global)
+pub chunks_pushed : {T E : Type 0} (out : Result T E) (left right : Contents Shape) (pairs : List (ℕ × ℕ)) (old mid new : List (Vec ℕ Global)) (header : Vec ℕ Global)
     (line : List ℕ) (parts : List (Result (Vec ℕ Global) AllocError)) → mid ≡ old ++ header ∷ [] → header.items ≡ line
     → (All IsOk parts → AreRows left right pairs (flat_map text_or_none parts)) → OnOk out (All IsOk parts)
     → OnOk out (joined new ≡ joined mid ++ flat_map text_or_none parts) → OnOk out (AddsRows left right pairs (joined old ++ line) (joined new))

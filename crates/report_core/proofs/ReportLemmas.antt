@@ -1,5 +1,5 @@
 -- The rows of a report.
-use Rattle.std.proofs.Common.{◌≡◌, ℕ, List, [], ◌∷◌, ◌++◌, Bool, true, false, ◌||◌, Option, Some, None, IsSome, IsSomeAnd, option_map, sym}
+use Rattle.std.proofs.Common.{◌≡◌, ℕ, List, [], ◌∷◌, ◌++◌, Bool, true, false, ◌||◌, Option, Some, None, IsSome, IsSomeAnd, sym}
 use Rattle.std.proofs.Common.{codes, ap, subst, ◌∙◌, refl, ◌+◌, ◌<◌, length, get_or, take, append_assoc}
 use Rattle.std.specs.Borrow.{Bor}
 use Rattle.geom_core.specs.declared.shape.Shape.{Shape}
@@ -7,7 +7,7 @@ use Rattle.relation_core.specs.declared.extent.Extent.{Extent}
 use Rattle.relation_core.specs.declared.extent.Extent.TheVariants.{Empty, Point, Line, Area}
 use Rattle.relation_core.specs.declared.matrix.Matrix.{Matrix}
 use Rattle.relation_core.specs.Matrices.{IsMatrix, letter_of, letters_of}
-use Rattle.layer_core.specs.Layers.{Feature, Contents, with_number}
+use Rattle.layer_core.specs.Layers.{Feature, Contents, ShapeIs, with_number}
 use Rattle.csv.specs.Machine.{line_feed}
 use Rattle.csv.specs.Writing.{comma, field_text, fields_text, is_blank, row_text, needs_byte, needs_quotes, default_writer}
 use Rattle.report_core.specs.Columns.{field_for}
@@ -54,26 +54,29 @@ row_line first second m =
     ∙ ap (λ c. line_of (leading_field first) (leading_field second) c) (letters_field m)
 
 -- the feature whose shape and field were found
-pub record Found (o : Option Feature) (shape : Shape) (field : List ℕ) : Type 0 where
-  pub feature : Feature
+pub record Found (o : Option (Feature Shape)) (shape : Shape) (field : List ℕ) : Type 0 where
+  pub feature : Feature Shape
   pub held : o ≡ Some feature
   pub its_shape : shape ≡ feature.shape
   pub its_field : field ≡ leading_field feature.id
 
-pub found : (o : Option Feature) (answer : Option Shape) (shape : Shape) (field : List ℕ) → answer ≡ option_map (λ f. f.shape) o → answer ≡ Some shape
-    → field ≡ field_for o → Found o shape field
-found None answer shape field is e f = absurd (let none : answer ≡ None = is in let bad : None ≡ Some shape = sym none ∙ e in cc)
-found (Some feature) answer shape field is e f = record {
+pub found : (o : Option (Feature Shape)) (answer : Option (Bor Shape)) (shape : Bor Shape) (field : List ℕ) → ShapeIs answer o → answer ≡ Some shape
+    → field ≡ field_for o → Found o shape.now field
+found None None shape field is e f = absurd cc
+found None (Some other) shape field is e f = absurd (let bad : Some other.now ≡ None = is in cc)
+found (Some feature) None shape field is e f = absurd cc
+found (Some feature) (Some other) shape field is e f = record {
   feature = feature;
   held = refl;
-  its_shape = let some : answer ≡ Some feature.shape = is in cc;
+  its_shape = let some : Some other.now ≡ Some feature.shape = is in cc;
   its_field = f;
 }
 
 -- a feature that is there has a shape
-pub has_shape : (o : Option Feature) (answer : Option Shape) → answer ≡ option_map (λ f. f.shape) o → IsSome o → IsSome answer
+pub has_shape : (o : Option (Feature Shape)) (answer : Option (Bor Shape)) → ShapeIs answer o → IsSome o → IsSome answer
 has_shape None answer is some = absurd (let bad : false ≡ true = some in cc)
-has_shape (Some feature) answer is some = rw is refl
+has_shape (Some feature) None is some = absurd (let bad : None ≡ Some feature.shape = is in cc)
+has_shape (Some feature) (Some shape) is some = refl
 
 -- the consequence of a result for the field in it
 pub field_in : (answer : Option (Bor (List ℕ))) (field : Bor (List ℕ)) (wanted : List ℕ) → IsSomeAnd answer (λ f. f.now ≡ wanted) → answer ≡ Some field
@@ -90,7 +93,7 @@ pub below_len : (n a b : ℕ) → n < b → a ≡ b → n < a
 below_len n a b h e = subst (λ z. n < z) (sym e) h
 
 -- no records were added yet
-pub none_added : (old new : List ℕ) (left right : Contents) → new ≡ old → AddsRows left right [] old new
+pub none_added : (old new : List ℕ) (left right : Contents Shape) → new ≡ old → AddsRows left right [] old new
 none_added old new left right same = record {
   text = [];
   are_rows = record { rows = []; are_rows = tt; written = refl };
@@ -98,7 +101,7 @@ none_added old new left right same = record {
 }
 
 -- the record of one pair more is added
-pub pair_added : (old mid new : List ℕ) (left right : Contents) (pairs : List (ℕ × ℕ)) (i : ℕ) (pair : ℕ × ℕ) (s t : Shape) (x y : List ℕ)
+pub pair_added : (old mid new : List ℕ) (left right : Contents Shape) (pairs : List (ℕ × ℕ)) (i : ℕ) (pair : ℕ × ℕ) (s t : Shape) (x y : List ℕ)
     → i < length pairs → pair ≡ get_or pairs i (0, 0)
     → AddsRows left right (take i pairs) old mid → Found (with_number pair.0 left) s x → Found (with_number pair.1 right) t y
     → (m : Matrix) (letters : List ℕ) → IsMatrix s t m → letters ≡ letters_of m → new ≡ mid ++ line_of x y letters
@@ -135,7 +138,7 @@ pair_added old mid new left right pairs i pair s t x y within at so_far f g m le
         ∙ sym (row_line f.feature.id g.feature.id m))
 
 -- records that were added to nothing
-pub rows_alone : (old text : List ℕ) (left right : Contents) (pairs : List (ℕ × ℕ)) → old ≡ [] → AddsRows left right pairs old text
+pub rows_alone : (old text : List ℕ) (left right : Contents Shape) (pairs : List (ℕ × ℕ)) → old ≡ [] → AddsRows left right pairs old text
     → AreRows left right pairs text
 rows_alone old text left right pairs none adds =
     subst (AreRows left right pairs) (sym (adds.added ∙ ap (λ t. t ++ adds.text) none)) adds.are_rows
@@ -152,7 +155,7 @@ unfolding fields_text is_blank
 header_made old new none grown = grown ∙ ap (λ t. t ++ codes "left,right,matrix\n") none
 
 -- the header, and the records that were added to it
-pub report_written : (old new text : List ℕ) (left right : Contents) (pairs : List (ℕ × ℕ))
+pub report_written : (old new text : List ℕ) (left right : Contents Shape) (pairs : List (ℕ × ℕ))
     → old ≡ header_line → AddsRows left right pairs old new → text ≡ new → IsReport left right pairs text
 unfolding fields_text is_blank
 report_written old new text left right pairs same adds is = record {
@@ -162,13 +165,13 @@ report_written old new text left right pairs same adds is = record {
 }
 
 -- a report that was added to no text
-pub report_pushed : (old new : List (Vec ℕ Global)) (left right : Contents) (pairs : List (ℕ × ℕ)) → old ≡ []
+pub report_pushed : (old new : List (Vec ℕ Global)) (left right : Contents Shape) (pairs : List (ℕ × ℕ)) → old ≡ []
     → AddsRows left right pairs (joined old ++ header_line) (joined new) → IsReport left right pairs (joined new)
 report_pushed old new left right pairs none adds =
     report_written (joined old ++ header_line) (joined new) (joined new) left right pairs (ap (λ ts. joined ts ++ header_line) none) adds refl
 
 -- a report that is the only text
-pub report_alone : (old new : List (Vec ℕ Global)) (text : Vec ℕ Global) (left right : Contents) (pairs : List (ℕ × ℕ)) → old ≡ [] → new ≡ old ++ text ∷ []
+pub report_alone : (old new : List (Vec ℕ Global)) (text : Vec ℕ Global) (left right : Contents Shape) (pairs : List (ℕ × ℕ)) → old ≡ [] → new ≡ old ++ text ∷ []
     → IsReport left right pairs text.items → IsReport left right pairs (joined new)
 report_alone old new text left right pairs none grown is =
     subst (IsReport left right pairs) (sym (ap joined (grown ∙ ap (λ ts. ts ++ text ∷ []) none) ∙ append-nil text.items)) is

@@ -3,17 +3,18 @@ use Rattle.std.specs.Prelude.{◌≡◌, ℕ, List, [], ◌∷◌, ◌++◌, Res
 use Rattle.std.specs.Global.{Global}
 use Rattle.std.specs.declared.alloc.AllocError.{AllocError}
 use Rattle.std.specs.declared.vec.Vec.{Vec}
+use Rattle.geom_core.specs.declared.shape.Shape.{Shape}
 use Rattle.layer_core.specs.Layers.{Contents}
 use Rattle.csv.specs.Machine.{line_feed}
 use Rattle.report_core.specs.CsvTexts.{csv_text}
 use Rattle.report_core.specs.Reports.{header, HasRecords}
 
 -- the text has one record for each pair in order
-abbrev pub AreRows : Contents → Contents → List (ℕ × ℕ) → List ℕ → Type 0
+abbrev pub AreRows : Contents Shape → Contents Shape → List (ℕ × ℕ) → List ℕ → Type 0
 AreRows left right pairs text = HasRecords [] left right pairs text
 
 -- such a text was added
-pub record AddsRows (left right : Contents) (pairs : List (ℕ × ℕ)) (old new : List ℕ)
+pub record AddsRows (left right : Contents Shape) (pairs : List (ℕ × ℕ)) (old new : List ℕ)
     : Type 0 where
   pub text : List ℕ
   pub are_rows : AreRows left right pairs text

@@ -2,6 +2,7 @@
 
 ghost use Rattle.std.specs.Prelude.{◌≡◌, ◌≤◌, ◌<◌, ◌+◌, ◌++◌, ◌^◌, All, length};
 ghost use Rattle.std.specs.Prelude.{IfOk, OnOk, IsSomeAnd};
+ghost use Rattle.geom_core.specs.declared.shape.Shape.{Shape};
 ghost use Rattle.layer_core.specs.Layers.{Contents, with_number};
 ghost use Rattle.report_core.specs.Columns.{field_for, IsColumn, AreColumnsFor};
 ghost use Rattle.report_core.specs.Reports.{IsHeld};
@@ -56,7 +57,8 @@ impl Column {
 
     /// The id of the feature with this number, as a CSV field with its comma.
     pub(crate) fn at(&self, number: u32) -> Option<&[u8]>
-        ensures { (layer : Contents) → IsColumn layer self.now.starts.items self.now.text.items
+        ensures { (layer : Contents Shape)
+            → IsColumn layer self.now.starts.items self.now.text.items
             → number + 1 < length self.now.starts.items
             → IsSomeAnd result (λ field. field.now ≡ field_for (with_number number layer)) }
     {

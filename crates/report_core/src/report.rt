@@ -198,7 +198,7 @@ fn push_rows(
         let right_id = right_field.unwrap();
         let left_shape = left.shape(pair.0).unwrap();
         let right_shape = right.shape(pair.1).unwrap();
-        let matrix = letters.of(&left_shape, &right_shape);
+        let matrix = letters.of(left_shape, right_shape);
         push_row(text, left_id, right_id, matrix)?;
     }
     Ok(())
