@@ -109,8 +109,7 @@ fn meeting_roots<'a>(
     let Some(right_root) = right_root else {
         return Ok(top);
     };
-    let (left_cover, right_cover) = (left_root.cover(), right_root.cover());
-    let meet = left_cover.meets(&right_cover);
+    let meet = right_root.meets(&left_root.cover());
     if !meet {
         return Ok(top);
     }

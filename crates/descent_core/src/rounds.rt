@@ -94,8 +94,7 @@ fn push_beside<'a>(
         IfOk result (TakesIn offered (nodes_of next.old.items) (nodes_of next.new.items)) }
 {
     for right in rights {
-        let (left_cover, right_cover) = (left.cover(), right.cover());
-        let meet = left_cover.meets(&right_cover);
+        let meet = right.meets(&left.cover());
         if !meet {
             continue;
         }

@@ -68,8 +68,7 @@ fn descend(
     }
     let (lefts, rights) = (lower(left), lower(right));
     for child in lefts {
-        let (child_cover, right_cover) = (child.cover(), right.cover());
-        let meet = child_cover.meets(&right_cover);
+        let meet = right.meets(&child.cover());
         if !meet {
             continue;
         }
@@ -92,8 +91,7 @@ fn descend_beside(
         OnOk result (Adds (relation_of relation.now) es fs found.old.items found.new.items) }
 {
     for right in rights {
-        let (left_cover, right_cover) = (left.cover(), right.cover());
-        let meet = left_cover.meets(&right_cover);
+        let meet = right.meets(&left.cover());
         if !meet {
             continue;
         }
@@ -115,7 +113,7 @@ fn push_entries(
         OnOk result (Adds (relation_of relation.now) lefts.now fs found.old.items found.new.items) }
 {
     for left in lefts {
-        let meet = left.shape.meets(&right.cover());
+        let meet = right.meets(&left.shape);
         if !meet {
             continue;
         }

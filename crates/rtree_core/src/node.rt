@@ -39,6 +39,7 @@ pub(crate) enum Below {
 impl Node {
     ghost use Rattle.std.specs.Prelude.{◌≡◌, ◌<◌, ◌↔◌, length, IsTrue};
     ghost use Rattle.std.specs.List.{flat_map};
+    ghost use Rattle.geom_core.specs.Cells.{Meets};
     ghost use Rattle.rtree_core.specs.Nodes.{entries_of, children_of, level_of, size_of};
     ghost use Rattle.rtree_core.specs.Nodes.{node_cover, IsLeaf, IsLawful, AreLawfulChildren};
     ghost use Rattle.split_core.specs.Covers.{IsLeastCover};
@@ -97,6 +98,14 @@ impl Node {
             IsLawful self.now → IsLeastCover (λ e. e.shape) entries result }
     {
         self.cover
+    }
+
+    /// Whether this shape shares a point with the cover; nothing below meets it where it doesn't.
+    #[inline(always)]
+    pub fn meets(&self, shape: &Shape) -> bool
+        ensures { IsTrue result ↔ Meets shape.now (node_cover self.now) }
+    {
+        shape.meets(&self.cover)
     }
 }
 

@@ -15,7 +15,7 @@ returns-in_default-right_root c =
 
 pub returns-then-not-meet : goal.returns-then-not-meet
 returns-then-not-meet c =
-    let meets = rw (c.cover-left_cover.ensures.value, c.cover-right_cover.ensures.value) at c.meets-meet.ensures in
+    let meets = rw c.cover.ensures.value at c.meets-meet.ensures in
     rw c.new-top.ensures.items
     (top_apart c.args.left.now c.args.right.now c.in-Some.left_root.now c.in-Some-right_root.right_root.now
     c.root-left_root.ensures.lawful c.root-right_root.ensures.lawful c.in-Some.ensures.root c.in-Some-right_root.ensures.root
@@ -23,7 +23,7 @@ returns-then-not-meet c =
 
 pub returns : goal.returns
 returns c =
-    let meets = rw (c.cover-left_cover.ensures.value, c.cover-right_cover.ensures.value) at c.meets-meet.ensures in
+    let meets = rw c.cover.ensures.value at c.meets-meet.ensures in
     top_pushed c.args.left.now c.args.right.now c.in-Some.left_root c.in-Some-right_root.right_root c.new-top.result.items _
     c.root-left_root.ensures.lawful c.root-right_root.ensures.lawful c.in-Some.ensures.root c.in-Some-right_root.ensures.root
     (meets.0 c.if-not-meet.false) c.new-top.ensures.items (search rules)

@@ -15,7 +15,7 @@ loop-right-preserved-then-not-meet c =
     let left = c.args.left.now in
     let right = c.right-item.result in
     let before = c.loop-right.next in
-    let meets = rw (c.cover-left_cover.ensures.value, c.cover-right_cover.ensures.value) at c.meets-meet.ensures in
+    let meets = rw c.cover.ensures.value at c.meets-meet.ensures in
     taken_more (alone left) c.args.rights.now c.loop-right.right-index right (nodes_of c.args.next.now.items) (nodes_of before.items) c.loop-right-test.true
     c.right-item.is c.loop-right.invariant _
     (takes_not_one left right (nodes_of before.items) (λ m. false≢true (rw c.if-not-meet.true at (meets.1 m))) c.loop-right.invariant.few)
@@ -25,7 +25,7 @@ loop-right-preserved c =
     let left = c.args.left.now in
     let right = c.right-item.result in
     let before = c.loop-right.next in
-    let meets = rw (c.cover-left_cover.ensures.value, c.cover-right_cover.ensures.value) at c.meets-meet.ensures in
+    let meets = rw c.cover.ensures.value at c.meets-meet.ensures in
     let room : length (nodes_of before.items) ≢ most_tasks =
     λ full. absurd (grind (arith, common_steps, full, length_nodes before.items, before.ok.0)) in
     taken_more (alone left) c.args.rights.now c.loop-right.right-index right (nodes_of c.args.next.now.items) (nodes_of before.items) c.loop-right-test.true
@@ -37,7 +37,7 @@ returns-then-full c =
     let left = c.args.left.now in
     let right = c.right-item.result in
     let before = c.loop-right.next in
-    let meets = rw (c.cover-left_cover.ensures.value, c.cover-right_cover.ensures.value) at c.meets-meet.ensures in
+    let meets = rw c.cover.ensures.value at c.meets-meet.ensures in
     let full : length (nodes_of before.items) ≡ most_tasks =
     grind (arith, common_steps, length_nodes before.items, before.ok.0) in
     rw (← alone_all left c.args.rights.now) (too_many (alone left) c.args.rights.now c.loop-right.right-index right (nodes_of c.args.next.now.items)

@@ -17,7 +17,7 @@ descend-loop-child-preserved-then-not-meet t c =
     let child = c.child-item.result in
     let right = c.args.right.now in
     let lefts = c.lower-lefts.result.now in
-    let meets = rw (c.cover-child_cover.ensures.value, c.cover-right_cover.ensures.value) at c.meets-meet.ensures in
+    let meets = rw c.cover.ensures.value at c.meets-meet.ensures in
     let lawful = at_place IsLawful lefts c.loop-child.child-index child c.lower-lefts.ensures.step.lawful c.loop-child-test.true c.child-item.is in
     adds_node_left relation lefts (entries_of right) c.loop-child.child-index child _ _ _ c.loop-child-test.true c.child-item.is
     c.loop-child.invariant
@@ -62,7 +62,7 @@ descend_beside-loop-right-preserved-then-not-meet t c =
     let left = c.args.left.now in
     let right = c.right-item.result in
     let rights = c.args.rights.now in
-    let meets = rw (c.cover-left_cover.ensures.value, c.cover-right_cover.ensures.value) at c.meets-meet.ensures in
+    let meets = rw c.cover.ensures.value at c.meets-meet.ensures in
     let lawful = at_place IsLawful rights c.loop-right.right-index right c.requires.rights c.loop-right-test.true c.right-item.is in
     adds_node_right relation (entries_of left) rights c.loop-right.right-index right _ _ _ c.loop-right-test.true c.right-item.is
     c.loop-right.invariant

@@ -1,17 +1,9 @@
-use Rattle.std.proofs.Common.{rules, sym, ◌≡◌, Bool, [], ◌∷◌}
-use Rattle.std.specs.Prelude.{IsTrue, ◌↔◌}
-use Rattle.geom_core.specs.declared.shape.Shape.{Shape}
-use Rattle.geom_core.specs.Cells.{Meets}
-use Rattle.rtree_core.specs.declared.node.Node.{Node}
+use Rattle.std.proofs.Common.{rules, sym, [], ◌∷◌}
 use Rattle.std.proofs.lemmas.Bool.{false≢true}
 use Rattle.relation_core.specs.JoinRelations.{relation_of}
 use Rattle.rtree_core.specs.Nodes.{entries_of, node_cover}
 use Rattle.descent_core.proofs.FindLemmas.{adds_no_lefts, adds_more_left, adds_apart, entries_in_cover, entry_in_itself}
 use Rattle.descent_core.proofs.rows.push_entries.Goals as goal
-
--- what was found of a cover that is a node's
-meets_node : (s c : Shape) (n : Node) (b : Bool) → c ≡ node_cover n → IsTrue b ↔ Meets s c → IsTrue b ↔ Meets s (node_cover n)
-meets_node s c n b is found = rw is at found
 
 pub loop-left-init : goal.loop-left-init
 loop-left-init c = adds_no_lefts (relation_of c.args.relation.now) (entries_of c.args.right.now) c.args.found.now.items
@@ -21,11 +13,10 @@ loop-left-preserved-then-not-meet c =
     let relation = relation_of c.args.relation.now in
     let left = c.left-item.result in
     let right = c.args.right.now in
-    let meets : IsTrue c.meets-meet.result ↔ Meets left.shape (node_cover right) = search (rules, meets_node) in
     adds_more_left relation c.args.lefts.now (entries_of right) c.loop-left.left-index left _ _ _ c.loop-left-test.true c.left-item.is
     c.loop-left.invariant
     (adds_apart relation c.args.relation.now.forbids_disjoint (left ∷ []) (entries_of right) left.shape (node_cover right) _ (entry_in_itself left)
-    (entries_in_cover right c.requires.lawful) (λ m. false≢true (rw c.if-not-meet.true at (meets.1 m))))
+    (entries_in_cover right c.requires.lawful) (λ m. false≢true (rw c.if-not-meet.true at (c.meets-meet.ensures.1 m))))
 
 pub loop-left-preserved : goal.loop-left-preserved
 loop-left-preserved c =
