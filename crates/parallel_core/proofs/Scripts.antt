@@ -109,7 +109,7 @@ script_batches-prefix task size row count few =
     take-append-le count (script_batches task size row all) (end_of task all ∷ []) long ∙ take-map-range_with_len batch 0 all count few in
     (drop count whole, ap (λ l. l ++ drop count whole) (sym front) ∙ take-append-drop count whole)
 
-pub says_part : (a b c : Port) (task size : ℕ) (row rest : List (ℕ × ℕ)) (number : ℕ) → number + batches_for size rest ≡ batches_for size row
-    → Says a b (script_batches task size row number) → said_by c ≡ said_by b → SaysPart a c (script task size row)
-says_part a b c task size row rest number left so_far same =
-    (script_batches task size row number, script_batches-prefix task size row number (omega (arith, left)), same ∙ so_far)
+pub says_part : (a b : Port) (task size : ℕ) (row rest : List (ℕ × ℕ)) (number : ℕ) → number + batches_for size rest ≡ batches_for size row
+    → Says a b (script_batches task size row number) → SaysPart a b (script task size row)
+says_part a b task size row rest number left so_far =
+    (script_batches task size row number, script_batches-prefix task size row number (omega (arith, left)), so_far)

@@ -7,8 +7,6 @@ use Rattle.std.proofs.lemmas.List.{get_or-map, length-replicate}
 use Rattle.std.proofs.lemmas.List.Elements.{All-replicate}
 use Rattle.std.proofs.lemmas.List.FromFn.{get_or-range_with_len}
 use Rattle.std.proofs.lemmas.Option.{slice_get_within, get_or_from_slice_get, slice_get-get_or}
-use Rattle.relation_core.specs.declared.relation.Relation.{Relation}
-use Rattle.rtree_core.specs.declared.node.Node.{Node}
 use Rattle.deliver_core.specs.declared.message.Message.{Message}
 use Rattle.deliver_core.specs.declared.outlet.Outlet.{Outlet}
 use Rattle.deliver_core.specs.declared.port.Port.{Port}
@@ -23,8 +21,8 @@ use Rattle.parallel_core.specs.declared.team.Team.{Team}
 use Rattle.parallel_core.specs.Deliveries.{IsDelivered}
 use Rattle.parallel_core.specs.Faults.{IsWant}
 use Rattle.parallel_core.specs.Receivers.{ReceivesFrom}
-use Rattle.parallel_core.specs.Teams.{IsReady, AreShares, HasRun}
-use Rattle.parallel_core.specs.Shared.{shared_by}
+use Rattle.parallel_core.specs.Teams.{IsReady, HasRun}
+use Rattle.parallel_core.specs.Jobs.{JobValue}
 use Rattle.parallel_core.proofs.Endings.{Law, Finishes, only_want, delivered}
 use Rattle.parallel_core.proofs.Ownership.{AreOwners, are_owners}
 
@@ -51,31 +49,32 @@ first_ready board outlet n team seats many indexes fresh count receives = record
   receives = receives;
 }
 
-pub all_end : (relation : Relation) (plan : List (Node × Node)) (size workers room : ℕ) (board : BoardValue) (outlet : Outlet) (begun : Receiver) (team : Team)
-    (result : Result Delivery JoinFault) → 1 ≤ workers → 1 ≤ size → board.tasks ≡ length plan → port_count begun.tap ≡ workers
-    → begun.fused.collector.tasks ≡ board.tasks → HasRun (shared_by relation plan size board outlet) workers room begun team → team.all_started ≡ true
-    → ((n : ℕ) × (n ≤ board.tasks) × AreNumbersBelow n (flat_map (λ (s : SeatValue). s.drawn) team.seats.items)
-    × (Any (λ (s : SeatValue). s.done ≡ true) team.seats.items → n ≡ board.tasks))
-    → Law → Finishes team.receiver.fused.accepted team.all_ok team.receiver.fused.collector result
-    → IfOk result (IsDelivered relation plan size) × IfErr result IsWant
-all_end relation plan size workers room board outlet begun team result some_workers some tasks ports counts run started numbers law ends =
-    let shares = run.shares started in
-    let many = shares.count_is in
-    let receives = run.receiver.receives in
-    let taken : List Message = taken_by team.receiver.tap in
-    let as_many : port_count team.receiver.tap ≡ length team.seats.items = run.receiver.ports ∙ ports ∙ sym many in
-    let known : All (λ (m : Message). m.port < length team.seats.items) taken =
-    subst (λ (n : ℕ). All (λ (m : Message). m.port < n) taken) as_many receives.known in
-    let owners : AreOwners relation plan size board.tasks team.all_ok taken =
-    are_owners relation plan size board taken team.all_ok team.seats.items (omega arith) known shares.each numbers in
-    let same : team.receiver.fused.collector.tasks ≡ board.tasks = run.receiver.tasks ∙ counts in (
-      delivered relation plan size board.tasks team.all_ok taken team.receiver.fused.collector law owners same tasks some team.receiver.fused.accepted
-          result receives.taken_in ends,
-      only_want relation plan size board.tasks team.all_ok taken team.receiver.fused.collector law owners same team.receiver.fused.accepted result
-          receives.taken_in ends,
-    )
+module _ (job : JobValue) where
+  pub all_end : (workers room : ℕ) (begun : Receiver) (team : Team) (result : Result Delivery JoinFault) → 1 ≤ workers → 1 ≤ job.size
+      → job.board.tasks ≡ length job.plan → port_count begun.tap ≡ workers → begun.fused.collector.tasks ≡ job.board.tasks
+      → HasRun job workers room begun team → team.all_started ≡ true
+      → ((n : ℕ) × (n ≤ job.board.tasks) × AreNumbersBelow n (flat_map (λ (s : SeatValue). s.drawn) team.seats.items)
+      × (Any (λ (s : SeatValue). s.done ≡ true) team.seats.items → n ≡ job.board.tasks))
+      → Law → Finishes team.receiver.fused.accepted team.all_ok team.receiver.fused.collector result
+      → IfOk result (IsDelivered job.relation job.plan job.size) × IfErr result IsWant
+  all_end workers room begun team result some_workers some tasks ports counts run started numbers law ends =
+      let shares = run.shares started in
+      let many = shares.count_is in
+      let receives = run.receiver.receives in
+      let taken : List Message = taken_by team.receiver.tap in
+      let as_many : port_count team.receiver.tap ≡ length team.seats.items = run.receiver.ports ∙ ports ∙ sym many in
+      let known : All (λ (m : Message). m.port < length team.seats.items) taken =
+      subst (λ (n : ℕ). All (λ (m : Message). m.port < n) taken) as_many receives.known in
+      let owners : AreOwners job.relation job.plan job.size job.board.tasks team.all_ok taken =
+      are_owners job.relation job.plan job.size job.board taken team.all_ok team.seats.items (omega arith) known shares.each numbers in
+      let same : team.receiver.fused.collector.tasks ≡ job.board.tasks = run.receiver.tasks ∙ counts in (
+        delivered job.relation job.plan job.size job.board.tasks team.all_ok taken team.receiver.fused.collector law owners same tasks some
+            team.receiver.fused.accepted result receives.taken_in ends,
+        only_want job.relation job.plan job.size job.board.tasks team.all_ok taken team.receiver.fused.collector law owners same
+            team.receiver.fused.accepted result receives.taken_in ends,
+      )
 
-pub all_own : (relation : Relation) (plan : List (Node × Node)) (size workers : ℕ) (board : BoardValue) (team : Team)
-    → AreShares relation plan size board workers team → All (IsSeatOf board) team.seats.items
-all_own relation plan size workers board team shares k d inside =
-    (shares.each k (get_or team.seats.items k d) (slice_get-get_or team.seats.items k d inside)).drew.own
+  pub all_own : (workers room : ℕ) (begun : Receiver) (team : Team) → HasRun job workers room begun team → team.all_started ≡ true
+      → All (IsSeatOf job.board) team.seats.items
+  all_own workers room begun team run started k d inside =
+      ((run.shares started).each k (get_or team.seats.items k d) (slice_get-get_or team.seats.items k d inside)).drew.own

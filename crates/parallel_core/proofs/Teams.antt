@@ -21,7 +21,7 @@ use Rattle.parallel_core.specs.declared.working.Worked.{Worked}
 use Rattle.parallel_core.specs.Receivers.{ReceivesFrom, Continues}
 use Rattle.parallel_core.specs.Sending.{said_by}
 use Rattle.parallel_core.specs.Teams.{IsReady, IsBeside, IsAsBefore, IsShare, HasRun}
-use Rattle.parallel_core.specs.Shared.{SharedValue}
+use Rattle.parallel_core.specs.Jobs.{JobValue}
 use Rattle.parallel_core.specs.Workers.{WorkerSays, ComesBack}
 use Rattle.parallel_core.proofs.Receivers.{continues_here, continues_on}
 
@@ -98,14 +98,14 @@ right_true : (a b : Bool) → (a && b) ≡ true → b ≡ true
 right_true true b is = is
 right_true false b is = cc
 
-module _ (shared : SharedValue) where
+module _ (job : JobValue) where
   -- of no workers, and of workers of which one wasn't started
-  pub none_run : (old new : Team) → IsReady shared.board shared.outlet old → length old.ports.items ≡ 0 → new.seats ≡ old.seats → IsAsBefore old new
-      → HasRun shared (length old.ports.items) (vec_capacity old.seats) old.receiver new
+  pub none_run : (old new : Team) → IsReady job.board job.outlet old → length old.ports.items ≡ 0 → new.seats ≡ old.seats → IsAsBefore old new
+      → HasRun job (length old.ports.items) (vec_capacity old.seats) old.receiver new
   none_run old new h none seats same =
       let many : length new.seats.items ≡ length old.ports.items = ap (λ v. length v.items) seats ∙ h.as_many in
       record {
-        receiver = subst (Continues shared.outlet old.receiver) (sym same.receiver) (continues_here shared.outlet old.receiver h.receives);
+        receiver = subst (Continues job.outlet old.receiver) (sym same.receiver) (continues_here job.outlet old.receiver h.receives);
         room_is = same.capacity;
         few = omega arith;
         shares = λ started. record {
@@ -114,22 +114,22 @@ module _ (shared : SharedValue) where
         };
       }
 
-  pub not_started : (count room : ℕ) (begun : Receiver) (team : Team) → ReceivesFrom shared.outlet begun → team.receiver ≡ begun → vec_capacity team.seats ≡ room
-      → length team.seats.items ≤ count → team.all_started ≡ false → HasRun shared count room begun team
+  pub not_started : (count room : ℕ) (begun : Receiver) (team : Team) → ReceivesFrom job.outlet begun → team.receiver ≡ begun → vec_capacity team.seats ≡ room
+      → length team.seats.items ≤ count → team.all_started ≡ false → HasRun job count room begun team
   not_started count room begun team h same capacity few not = record {
-    receiver = subst (Continues shared.outlet begun) (sym same) (continues_here shared.outlet begun h);
+    receiver = subst (Continues job.outlet begun) (sym same) (continues_here job.outlet begun h);
     room_is = capacity;
     few = few;
     shares = λ started. cc;
   }
 
   -- the facts known of the worker after the others
-  last_share : (taken : List Message) (all_ok : Bool) (index : ℕ) (w : Worked) → ComesBack shared index w
+  last_share : (taken : List Message) (all_ok : Bool) (index : ℕ) (w : Worked) → ComesBack job index w
       → map content_of (of_port index taken) ≡ said_by w.port → has_bye (of_port index taken) ≡ true → (all_ok ≡ true → w.ok ≡ true)
-      → IsShare shared.relation shared.plan shared.size shared.board taken all_ok index w.seat
+      → IsShare job.relation job.plan job.size job.board taken all_ok index w.seat
   last_share taken all_ok index w back whole bye ok = record {
     ok = w.ok;
-    says = subst (WorkerSays shared.relation shared.plan shared.size w.seat.drawn w.ok) (sym whole) back.says;
+    says = subst (WorkerSays job.relation job.plan job.size w.seat.drawn w.ok) (sym whole) back.says;
     bye = bye;
     drew = back.seat;
     done = back.done;
@@ -137,17 +137,17 @@ module _ (shared : SharedValue) where
   }
 
   pub has_run : (count room index : ℕ) (begun : Receiver) (rest : Team) (taken met : Receiver) (w : Worked) (team : Team)
-      → HasRun shared count room begun rest → Continues shared.outlet rest.receiver taken → Continues shared.outlet taken met
-      → index ≡ count → ComesBack shared index w → has_bye (of_port index (taken_by taken.tap)) ≡ true
+      → HasRun job count room begun rest → Continues job.outlet rest.receiver taken → Continues job.outlet taken met
+      → index ≡ count → ComesBack job index w → has_bye (of_port index (taken_by taken.tap)) ≡ true
       → map content_of (of_port index (taken_by met.tap)) ≡ said_by w.port → team.receiver ≡ met → team.seats.items ≡ rest.seats.items ++ w.seat ∷ []
       → vec_capacity team.seats ≡ vec_capacity rest.seats → team.all_started ≡ rest.all_started → team.all_ok ≡ (rest.all_ok && w.ok)
-      → HasRun shared (count + 1) room begun team
+      → HasRun job (count + 1) room begun team
   has_run count room index begun rest taken met w team h one two at back bye whole receiver seats capacity started ok =
-      let both = continues_on shared.outlet rest.receiver taken met one two in
+      let both = continues_on job.outlet rest.receiver taken met one two in
       let longer : length team.seats.items ≡ length rest.seats.items + 1 = ap length seats ∙ length-append rest.seats.items (w.seat ∷ []) in
       let few = h.few in
       record {
-        receiver = subst (Continues shared.outlet begun) (sym receiver) (continues_on shared.outlet begun rest.receiver met h.receiver both);
+        receiver = subst (Continues job.outlet begun) (sym receiver) (continues_on job.outlet begun rest.receiver met h.receiver both);
         room_is = capacity ∙ h.room_is;
         few = omega arith;
         shares = λ all.
@@ -158,7 +158,7 @@ module _ (shared : SharedValue) where
               each = λ k seat is. elim (get_push rest.seats.items w.seat k seat (ap (λ l. slice_get l k) (sym seats) ∙ is)) [
                 | inl before ↦
                     let share = inner.each k seat before in
-                    share_stays shared.relation shared.plan shared.size shared.board
+                    share_stays job.relation job.plan job.size job.board
                     (taken_by rest.receiver.tap) (taken_by team.receiver.tap) rest.all_ok team.all_ok k seat
                     (ap (λ g. of_port k (taken_by g.tap)) receiver ∙ both.final k share.bye)
                     (λ is_ok. left_true rest.all_ok w.ok (sym ok ∙ is_ok)) share
@@ -169,14 +169,14 @@ module _ (shared : SharedValue) where
                     let share = last_share (taken_by team.receiver.tap) team.all_ok index w back
                     (ap (λ g. map content_of (of_port index (taken_by g.tap))) receiver ∙ whole)
                     (ap has_bye final ∙ bye) (λ is_ok. right_true rest.all_ok w.ok (sym ok ∙ is_ok)) in
-                    subst (λ (n : ℕ). IsShare shared.relation shared.plan shared.size shared.board (taken_by team.receiver.tap) team.all_ok n seat) (sym here)
-                    (subst (IsShare shared.relation shared.plan shared.size shared.board (taken_by team.receiver.tap) team.all_ok index) last.1 share)
+                    subst (λ (n : ℕ). IsShare job.relation job.plan job.size job.board (taken_by team.receiver.tap) team.all_ok n seat) (sym here)
+                    (subst (IsShare job.relation job.plan job.size job.board (taken_by team.receiver.tap) team.all_ok index) last.1 share)
               ];
             };
       }
 
   -- from the start of the team, and not from where the first worker was taken off
   pub as_begun : (old new team : Team) → length old.ports.items ≡ length new.ports.items + 1 → IsAsBefore old new
-      → HasRun shared (length new.ports.items + 1) (vec_capacity new.seats) new.receiver team
-      → HasRun shared (length old.ports.items) (vec_capacity old.seats) old.receiver team
+      → HasRun job (length new.ports.items + 1) (vec_capacity new.seats) new.receiver team
+      → HasRun job (length old.ports.items) (vec_capacity old.seats) old.receiver team
   as_begun old new team count same h = rw (count, ← same.capacity, ← same.receiver) h

@@ -15,7 +15,7 @@ use Rattle.deliver_core.specs.Ports.{index_of, is_spent, sent_by}
 use Rattle.deliver_core.specs.Scripts.{Content, script, content_of}
 use Rattle.parallel_core.specs.declared.working.Worked.{Worked}
 use Rattle.parallel_core.specs.Sending.{said_by, StaysOpen, Says, SaysPart}
-use Rattle.parallel_core.specs.Shared.{SharedValue}
+use Rattle.parallel_core.specs.Jobs.{JobValue}
 use Rattle.parallel_core.specs.Workers.{IsRowIn, AreScripts, BeginScripts, SaysScripts, SaysBeginning, WorkerSays, IsSeatBelow, ComesBack}
 use Rattle.parallel_core.proofs.Results.{ok_weaker, match_ok, done_where_ok}
 
@@ -100,15 +100,15 @@ module _ (relation : Relation) (plan : List (Node × Node)) (size : ℕ) where
   }
 
 -- a worker that has worked and said bye comes back
-pub comes_back : (shared : SharedValue) (index : ℕ) (w : Worked) (before : Port) (worked : Result (Unit {0}) AllocError) → w.ok ≡ is_ok worked
-    → IfOk worked (λ x. (w.seat.done ≡ true) × AreScripts shared.relation shared.plan shared.size w.seat.drawn (said_by before))
-    → IfErr worked (λ x. BeginScripts shared.relation shared.plan shared.size w.seat.drawn (said_by before))
-    → IsSeatBelow shared.board w.seat → index_of before ≡ index → IsEndedPort shared.outlet w.port → is_spent w.port ≡ false
-    → index_of w.port ≡ index_of before → sent_by w.port ≡ sent_by before ++ bye_of (index_of before) w.ok ∷ [] → ComesBack shared index w
-comes_back shared index w before worked is all part seat at ended unmet same sent = record {
-  says = worker_says shared.relation shared.plan shared.size w.seat.drawn w.seat.done w.ok before w.port worked sent is all part;
+pub comes_back : (job : JobValue) (index : ℕ) (w : Worked) (before : Port) (worked : Result (Unit {0}) AllocError) → w.ok ≡ is_ok worked
+    → IfOk worked (λ x. (w.seat.done ≡ true) × AreScripts job.relation job.plan job.size w.seat.drawn (said_by before))
+    → IfErr worked (λ x. BeginScripts job.relation job.plan job.size w.seat.drawn (said_by before))
+    → IsSeatBelow job.board w.seat → index_of before ≡ index → IsEndedPort job.outlet w.port → is_spent w.port ≡ false
+    → index_of w.port ≡ index_of before → sent_by w.port ≡ sent_by before ++ bye_of (index_of before) w.ok ∷ [] → ComesBack job index w
+comes_back job index w before worked is all part seat at ended unmet same sent = record {
+  says = worker_says job.relation job.plan job.size w.seat.drawn w.seat.done w.ok before w.port worked sent is all part;
   seat = seat;
-  done = λ ok. done_where_ok (w.seat.done ≡ true) (AreScripts shared.relation shared.plan shared.size w.seat.drawn (said_by before)) worked
+  done = λ ok. done_where_ok (w.seat.done ≡ true) (AreScripts job.relation job.plan job.size w.seat.drawn (said_by before)) worked
       (sym is ∙ ok) all;
   port = record { ended = ended; unmet = unmet; index_is = same ∙ at };
 }

@@ -15,7 +15,7 @@ use Rattle.deliver_core.specs.Scripts.{content_of}
 use Rattle.parallel_core.specs.declared.receiver.Receiver.{Receiver}
 use Rattle.parallel_core.specs.declared.team.Team.{Team}
 use Rattle.parallel_core.specs.Receivers.{ReceivesFrom, Continues}
-use Rattle.parallel_core.specs.Shared.{SharedValue}
+use Rattle.parallel_core.specs.Jobs.{JobValue}
 use Rattle.parallel_core.specs.Workers.{WorkerSays, IsSeatBelow}
 
 -- the team has as many fresh seats as ports, which are the outlet's first ones and fresh
@@ -64,10 +64,10 @@ pub record AreShares (relation : Relation) (plan : List (Node × Node)) (size : 
       → IsShare relation plan size board (taken_by team.receiver.tap) team.all_ok index seat
 
 -- the result of a team of `count` workers that started with this receiver and capacity
-pub record HasRun (shared : SharedValue) (count room : ℕ) (begun : Receiver) (team : Team)
+pub record HasRun (job : JobValue) (count room : ℕ) (begun : Receiver) (team : Team)
     : Type 0 where
-  pub receiver : Continues shared.outlet begun team.receiver
+  pub receiver : Continues job.outlet begun team.receiver
   pub room_is : vec_capacity team.seats ≡ room
   pub few : length team.seats.items ≤ count
   pub shares : team.all_started ≡ true
-      → AreShares shared.relation shared.plan shared.size shared.board count team
+      → AreShares job.relation job.plan job.size job.board count team

@@ -13,7 +13,7 @@ use Rattle.deliver_core.specs.Ports.{index_of, is_spent}
 use Rattle.deliver_core.specs.Scripts.{Content, Task, bye, scripts_of}
 use Rattle.parallel_core.specs.declared.working.Worked.{Worked}
 use Rattle.parallel_core.specs.Sending.{said_by, Says}
-use Rattle.parallel_core.specs.Shared.{SharedValue}
+use Rattle.parallel_core.specs.Jobs.{JobValue}
 
 -- the row of the task with this number in the plan
 abbrev pub IsRowIn : Relation → List (Node × Node) → Task → Type 0
@@ -73,8 +73,8 @@ pub record IsReadyToMeet (outlet : Outlet) (index : ℕ) (port : Port) : Type 0 
 
 -- the result of a worker: its port has sent the worker's messages, and its seat is done if it is
 -- successful
-pub record ComesBack (shared : SharedValue) (index : ℕ) (w : Worked) : Type 0 where
-  pub says : WorkerSays shared.relation shared.plan shared.size w.seat.drawn w.ok (said_by w.port)
-  pub seat : IsSeatBelow shared.board w.seat
+pub record ComesBack (job : JobValue) (index : ℕ) (w : Worked) : Type 0 where
+  pub says : WorkerSays job.relation job.plan job.size w.seat.drawn w.ok (said_by w.port)
+  pub seat : IsSeatBelow job.board w.seat
   pub done : w.ok ≡ true → w.seat.done ≡ true
-  pub port : IsReadyToMeet shared.outlet index w.port
+  pub port : IsReadyToMeet job.outlet index w.port

@@ -5,17 +5,16 @@
 mod delivery;
 mod fault;
 mod fused_collector;
-mod gate;
+mod job;
 mod pause;
 mod receiver;
 mod rows;
 mod script;
-mod shared;
 mod team;
 mod working;
 
 pub use delivery::run_workers;
 pub use fault::JoinFault;
-pub use gate::{Gate, OpenGate};
+pub use job::Job;
 pub use rows::Rows;
 pub use working::{Worked, worker};

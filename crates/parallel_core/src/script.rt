@@ -3,57 +3,39 @@
 ghost use Rattle.std.specs.Prelude.{◌≡◌, ◌<◌, ◌++◌, ◌∷◌, [], false, IfErr, IfOk};
 ghost use Rattle.deliver_core.specs.Byes.{is_bye_body};
 ghost use Rattle.deliver_core.specs.OutletCalls.{IsOpenPort};
-ghost use Rattle.deliver_core.specs.Scripts.{script, batch_of, body_content};
-ghost use Rattle.parallel_core.specs.Sending.{said_by, StaysOpen, Says, SaysPart};
+ghost use Rattle.deliver_core.specs.Scripts.{script, body_content};
+ghost use Rattle.parallel_core.specs.Sending.{StaysOpen, Says, SaysPart};
 
+use crate::job::Job;
 use deliver_core::{Body, Message, Outlet, Port};
-use std::alloc::{AllocError, Global};
+use std::alloc::AllocError;
 use std::sync::Wait;
 
-/// Sends the script of a task: its row in batches of `batch` pairs, the last of which may have
-/// fewer, and then the end. If an allocation fails, it stops between two messages.
+/// Sends the script of a task: its row in batches of the job's size, the last of which is what is
+/// left, and then the end. Where memory is refused, it stops after a whole message.
 #[tactic(auto, using(crate::proofs::Scripts::says_part))]
-pub(crate) fn send_script<R: Wait>(
+pub(crate) fn send_script<R: Wait, P>(
     rt: &R,
-    alloc: Global,
-    outlet: &Outlet,
+    job: &Job<'_, P>,
     port: &mut Port,
     task: u32,
     row: &[(u32, u32)],
-    batch: u32,
 ) -> Result<(), AllocError>
-    requires port { IsOpenPort outlet.now port.old }
-    requires batch { 0 < batch }
-    ensures port { StaysOpen outlet.now port.old port.new }
-    ensures ok { IfOk result (λ _. Says port.old port.new (script task batch row.now)) }
-    ensures err { IfErr result (λ _. SaysPart port.old port.new (script task batch row.now)) }
+    requires port { IsOpenPort job.now.outlet.now port.old }
+    requires batch { 0 < job.now.batch }
+    ensures port { StaysOpen job.now.outlet.now port.old port.new }
+    ensures ok { let sent = script task job.now.batch row.now in
+        IfOk result (λ _. Says port.old port.new sent) }
+    ensures err { let sent = script task job.now.batch row.now in
+        IfErr result (λ _. SaysPart port.old port.new sent) }
 {
     let mut number = 0;
-    for piece in row.chunks(batch as usize) {
-        send_batch(rt, alloc, outlet, port, task, number, piece)?;
+    for piece in row.chunks(job.batch as usize) {
+        let pairs = Vec::from_slice(job.alloc, piece)?;
+        send(rt, job.outlet, port, task, Body::Batch(number, pairs));
         number += 1;
     }
-    send(rt, outlet, port, task, Body::End(number));
-    Ok(())
-}
-
-/// Sends a batch of a task, or nothing if an allocation fails.
-fn send_batch<R: Wait>(
-    rt: &R,
-    alloc: Global,
-    outlet: &Outlet,
-    port: &mut Port,
-    task: u32,
-    number: u64,
-    pairs: &[(u32, u32)],
-) -> Result<(), AllocError>
-    requires { IsOpenPort outlet.now port.old }
-    ensures port { StaysOpen outlet.now port.old port.new }
-    ensures ok { IfOk result (λ _. Says port.old port.new (batch_of task number pairs.now ∷ [])) }
-    ensures err { IfErr result (λ _. said_by port.new ≡ said_by port.old) }
-{
-    let pairs = Vec::from_slice(alloc, pairs)?;
-    send(rt, outlet, port, task, Body::Batch(number, pairs));
+    send(rt, job.outlet, port, task, Body::End(number));
     Ok(())
 }
 

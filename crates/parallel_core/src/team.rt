@@ -1,28 +1,20 @@
 //! A team of workers, each in a thread of its own, while the starting thread receives.
 
-ghost use Rattle.std.specs.Prelude.{◌≡◌, ◌+◌, ◌≤◌, true, length, vec_capacity, IfSome, IfNone};
+ghost use Rattle.std.specs.Prelude.{◌≡◌, ◌+◌, ◌<◌, true, length, vec_capacity, IfSome, IfNone};
 ghost use Rattle.std.specs.Thread.{IsSync};
-ghost use Rattle.relation_core.specs.JoinRelations.{relation_of};
 ghost use Rattle.deliver_core.specs.Boards.{BoardValue, fresh_seat};
 ghost use Rattle.deliver_core.specs.declared.outlet.Outlet.{Outlet};
 ghost use Rattle.deliver_core.specs.OutletCalls.{IsFreshPort};
 ghost use Rattle.deliver_core.specs.Ports.{index_of};
 ghost use Rattle.parallel_core.specs.Teams.{IsReady, IsBeside, IsAsBefore, HasRun};
-ghost use Rattle.parallel_core.specs.Shared.{shared_by, shared_of};
 ghost use Rattle.parallel_core.specs.Workers.{ComesBack};
 
-use crate::gate::Gate;
 use crate::receiver::Receiver;
-use crate::rows::Rows;
-use crate::shared::Shared;
-use crate::working::{Worked, work};
-use deliver_core::{Board, BoardSeat, Outlet, Port};
-use options_core::MAX_BATCH;
-use relation_core::JoinRelation;
-use std::alloc::Global;
+use crate::working::{Work, Worked};
+use deliver_core::{BoardSeat, Outlet, Port};
 use std::sync::Wait;
 use std::thread;
-use std::thread::{Promise, Threads};
+use std::thread::{Promise, PromisedHandle, Scope, Threads};
 
 /// The seats and ports of workers that are still to be started, and later the seats of those that
 /// have ended, in the order of their ports.
@@ -75,95 +67,57 @@ impl Team {
 
 /// The promise of a worker's thread on its result, given its inputs.
 #[derive(Drop)]
-struct Working<'a, P, G> {
-    shared: Shared<'a, P, G>,
+struct Working<'a, W> {
+    work: &'a W,
     index: u32,
 }
 
-impl<'a, P: Rows, G> Promise<Worked> for Working<'a, P, G> {
-    ghost kept_by = { λ p w. ComesBack (shared_of P.tasks p.shared) p.index w };
+impl<'a, W: Work> Promise<Worked> for Working<'a, W> {
+    ghost kept_by = { λ p w. ComesBack (W.job p.work.now) p.index w };
 }
 
 /// Runs the workers of a team in parallel, and receives until all that were started have ended.
 ///
 /// It starts the next worker in a thread, runs the rest of the team, and then takes the worker's
 /// remaining messages. Each level takes the messages of all ports, so no worker waits for another.
-pub(crate) fn run<'a, R: Threads + Wait + Sync, P: Rows + Sync, G: Gate + Sync>(
+pub(crate) fn run<R: Threads + Wait + Sync, W: Work + Sync>(
     rt: &R,
-    alloc: Global,
-    shared: Shared<'a, P, G>,
+    work: &W,
+    outlet: &Outlet,
     mut team: Team,
 ) -> Team
-    requires batch { (1 ≤ shared.batch) × (shared.batch ≤ MAX_BATCH) }
-    requires tasks { shared.board.now.tasks ≡ length (P.tasks shared.plan.now) }
-    requires ready { IsReady shared.board.now shared.outlet.now team }
+    requires outlet { outlet.now ≡ (W.job work.now).outlet }
+    requires batch { 0 < (W.job work.now).size }
+    requires tasks { let it = W.job work.now in it.board.tasks ≡ length it.plan }
+    requires ready { let it = W.job work.now in IsReady it.board it.outlet team }
     ensures { let count = length team.ports.items in let room = vec_capacity team.seats in
-        HasRun (shared_of P.tasks shared.entry) count room team.receiver result }
+        HasRun (W.job work.now) count room team.receiver result }
 {
     let Some((seat, port)) = team.next() else {
         return team;
     };
     let index = port.index();
-    // A closure that captures the struct itself would have no contract.
-    let Shared {
-        plan,
-        relation,
-        batch,
-        gate,
-        board,
-        outlet,
-    } = shared;
     thread::scope(
         thread::scope_env(),
         rt,
         move |scope| -> Team
             requires sync { IsSync R.row }
-            requires batch { (1 ≤ batch) × (batch ≤ MAX_BATCH) }
-            requires tasks { board.now.tasks ≡ length (P.tasks plan.now) }
-            requires beside { IsBeside board.now outlet.now team seat port }
+            requires outlet { outlet.now ≡ (W.job work.now).outlet }
+            requires batch { 0 < (W.job work.now).size }
+            requires tasks { let it = W.job work.now in it.board.tasks ≡ length it.plan }
+            requires beside { let it = W.job work.now in IsBeside it.board it.outlet team seat port }
             requires index { index ≡ index_of port }
-            ensures { let all = shared_by (relation_of relation.entry.now)
-                (P.tasks plan.entry.now) batch board.entry.now outlet.entry.now in
-                let count = length team.ports.items + 1 in let room = vec_capacity team.seats in
-                HasRun all count room team.receiver result }
+            ensures { let count = length team.ports.items + 1 in
+                let room = vec_capacity team.seats in
+                HasRun (W.job work.entry.now) count room team.receiver result }
         {
-            let shared = Shared {
-                plan,
-                relation,
-                batch,
-                gate,
-                board,
-                outlet,
-            };
-            let child = scope.spawn_with(
-                Working { shared, index },
-                move || -> Worked
-                    requires batch { (1 ≤ batch) × (batch ≤ MAX_BATCH) }
-                    requires tasks { board.now.tasks ≡ length (P.tasks plan.now) }
-                    requires seat { seat ≡ fresh_seat board.now }
-                    requires port { IsFreshPort outlet.now port }
-                    ensures { let all = shared_by (relation_of relation.entry.now)
-                        (P.tasks plan.entry.now) batch board.entry.now outlet.entry.now in
-                        ComesBack all (index_of port) result }
-                {
-                    let shared = Shared {
-                        plan,
-                        relation,
-                        batch,
-                        gate,
-                        board,
-                        outlet,
-                    };
-                    work(rt, alloc, &shared, seat, port)
-                },
-            );
-            let Ok(child) = child else {
+            let Some(child) = start(scope, rt, work, seat, port) else {
                 return Team {
                     all_started: false,
                     ..team
                 };
             };
-            let mut team = run(rt, alloc, shared, team);
+            let mut team = run(rt, work, outlet, team);
             team.receiver.take_until_bye(rt, outlet, index);
             let worked = child.join(rt);
             let Worked { seat, port, ok } = worked;
@@ -173,4 +127,33 @@ pub(crate) fn run<'a, R: Threads + Wait + Sync, P: Rows + Sync, G: Gate + Sync>(
             team
         },
     )
+}
+
+/// Gives the worker with this seat and port a thread of its own, if there is one.
+fn start<'s, E, R: Threads + Wait + Sync, W: Work + Sync>(
+    scope: &Scope<'s, E>,
+    rt: &'s R,
+    work: &'s W,
+    seat: BoardSeat,
+    port: Port,
+) -> Option<PromisedHandle<Worked, Working<'s, W>>>
+    requires batch { 0 < (W.job work.now).size }
+    requires tasks { let it = W.job work.now in it.board.tasks ≡ length it.plan }
+    requires seat { seat ≡ fresh_seat (W.job work.now).board }
+    requires port { IsFreshPort (W.job work.now).outlet port }
+    ensures job { IfSome result (λ child. W.job child.promise.work.now ≡ W.job work.now) }
+    ensures index { IfSome result (λ child. child.promise.index ≡ index_of port) }
+{
+    let index = port.index();
+    let child = scope.spawn_with(
+        Working { work, index },
+        move || -> Worked
+            requires batch { 0 < (W.job work.now).size }
+            requires tasks { let it = W.job work.now in it.board.tasks ≡ length it.plan }
+            requires seat { seat ≡ fresh_seat (W.job work.now).board }
+            requires port { IsFreshPort (W.job work.now).outlet port }
+            ensures { ComesBack (W.job work.entry.now) (index_of port) result }
+        { work.work(rt, seat, port) },
+    );
+    child.ok()
 }

@@ -6,22 +6,18 @@ ghost use Rattle.deliver_core.specs.Boards.{fresh_seat};
 ghost use Rattle.deliver_core.specs.OutletCalls.{IsFreshPort, IsOpenPort};
 ghost use Rattle.deliver_core.specs.Ports.{index_of};
 ghost use Rattle.parallel_core.specs.Sending.{said_by, StaysOpen};
-ghost use Rattle.parallel_core.specs.Shared.{shared_of};
+ghost use Rattle.parallel_core.specs.Jobs.{JobValue, job_of};
 ghost use Rattle.parallel_core.specs.Workers.{IsSeatBelow, IsReadyToMeet, WorkerSays};
 ghost use Rattle.parallel_core.specs.Workers.{AreScripts, BeginScripts, SaysScripts, SaysBeginning};
 ghost use Rattle.parallel_core.specs.Workers.{ComesBack};
 
-use crate::gate::Gate;
+use crate::job::Job;
 use crate::rows::Rows;
 use crate::script::send_script;
-use crate::shared::Shared;
-use deliver_core::{Board, BoardSeat, Outlet, Port};
-use descent_core::Plan;
+use deliver_core::{BoardSeat, Port};
 use options_core::MAX_BATCH;
-use relation_core::JoinRelation;
-use std::alloc::{AllocError, Global};
+use std::alloc::AllocError;
 use std::sync::Wait;
-use std::thread::Threads;
 
 /// A worker's seat and port after it has said bye.
 #[derive(Drop)]
@@ -32,113 +28,97 @@ pub struct Worked {
     pub ok: bool,
 }
 
-/// Draws tasks and sends the script of each until none is left, and then says bye. Before each task
-/// it enters the gate. If an allocation fails, it stops between two messages and says bye with
-/// false.
-pub fn worker<'a, R: Threads + Wait + Sync>(
-    rt: &R,
-    alloc: Global,
-    plan: &'a Plan<'_>,
-    relation: &'a JoinRelation,
-    batch: u32,
-    board: &'a Board,
-    seat: BoardSeat,
-    outlet: &'a Outlet,
-    port: Port,
-    gate: &'a impl Gate,
-) -> Worked
-    requires batch { (1 ≤ batch) × (batch ≤ MAX_BATCH) }
-    requires tasks { board.now.tasks ≡ length plan.now }
-    requires seat { seat ≡ fresh_seat board.now }
-    requires port { IsFreshPort outlet.now port }
-    ensures says { let drawn = result.seat.drawn in
-        WorkerSays (relation_of relation.now) plan.now batch drawn result.ok (said_by result.port) }
-    ensures seat { IsSeatBelow board.now result.seat }
-    ensures done { result.ok ≡ true → result.seat.done ≡ true }
-    ensures port { IsReadyToMeet outlet.now (index_of port) result.port }
-{
-    let shared = Shared {
-        plan,
-        relation,
-        batch,
-        gate,
-        board,
-        outlet,
-    };
-    work(rt, alloc, &shared, seat, port)
+/// The work of a job's workers. Threads share it in place of the job, which has a lifetime of its
+/// own.
+pub(crate) trait Work {
+    /// The job that it is of.
+    ghost job: { Self → JobValue };
+
+    /// Draws tasks and sends the script of each, until there are none left, and then says bye.
+    fn work<R: Wait>(&self, rt: &R, seat: BoardSeat, port: Port) -> Worked
+        requires batch { 0 < (job self.now).size }
+        requires tasks { (job self.now).board.tasks ≡ length (job self.now).plan }
+        requires seat { seat ≡ fresh_seat (job self.now).board }
+        requires port { IsFreshPort (job self.now).outlet port }
+        ensures { ComesBack (job self.now) (index_of port) result };
 }
 
-/// A worker that takes the rows of its tasks from any [`Rows`].
-#[tactic(auto, using(crate::proofs::Workers::comes_back))]
-pub(crate) fn work<R: Threads + Wait + Sync, P: Rows, G: Gate>(
-    rt: &R,
-    alloc: Global,
-    shared: &Shared<'_, P, G>,
-    mut seat: BoardSeat,
-    mut port: Port,
-) -> Worked
-    requires batch { (1 ≤ shared.now.batch) × (shared.now.batch ≤ MAX_BATCH) }
-    requires tasks { shared.now.board.now.tasks ≡ length (P.tasks shared.now.plan.now) }
-    requires seat { seat ≡ fresh_seat shared.now.board.now }
-    requires port { IsFreshPort shared.now.outlet.now port }
-    ensures { ComesBack (shared_of P.tasks shared.now) (index_of port) result }
+impl<'a, P: Rows> Work for Job<'a, P> {
+    ghost job = { λ job. job_of P.tasks job };
+
+    #[tactic(auto, using(crate::proofs::Workers::comes_back))]
+    fn work<R: Wait>(&self, rt: &R, mut seat: BoardSeat, mut port: Port) -> Worked {
+        let worked = process_tasks(rt, self, &mut seat, &mut port);
+        let ok = worked.is_ok();
+        self.outlet.bye(rt, &mut port, ok);
+        Worked { seat, port, ok }
+    }
+}
+
+/// Draws tasks and sends the script of each, until there are none left, and then says bye. Where
+/// memory is refused, it stops after a whole message and says bye with false.
+pub fn worker<R: Wait, P: Rows>(rt: &R, job: &Job<'_, P>, seat: BoardSeat, port: Port) -> Worked
+    requires batch { (1 ≤ job.now.batch) × (job.now.batch ≤ MAX_BATCH) }
+    requires tasks { job.now.board.now.tasks ≡ length (P.tasks job.now.rows.now) }
+    requires seat { seat ≡ fresh_seat job.now.board.now }
+    requires port { IsFreshPort job.now.outlet.now port }
+    ensures says { let relation = relation_of job.now.relation.now in
+        let tasks = P.tasks job.now.rows.now in let drawn = result.seat.drawn in
+        WorkerSays relation tasks job.now.batch drawn result.ok (said_by result.port) }
+    ensures seat { IsSeatBelow job.now.board.now result.seat }
+    ensures done { result.ok ≡ true → result.seat.done ≡ true }
+    ensures port { IsReadyToMeet job.now.outlet.now (index_of port) result.port }
 {
-    let worked = process_tasks(rt, alloc, shared, &mut seat, &mut port);
-    let ok = worked.is_ok();
-    shared.outlet.bye(rt, &mut port, ok);
-    Worked { seat, port, ok }
+    job.work(rt, seat, port)
 }
 
 /// Processes tasks until the seat meets the end of the numbers.
 #[tactic(auto, using(crate::proofs::Workers::stopped))]
-fn process_tasks<R: Threads + Wait + Sync, P: Rows, G: Gate>(
+fn process_tasks<R: Wait, P: Rows>(
     rt: &R,
-    alloc: Global,
-    shared: &Shared<'_, P, G>,
+    job: &Job<'_, P>,
     seat: &mut BoardSeat,
     port: &mut Port,
 ) -> Result<(), AllocError>
-    requires batch { 0 < shared.now.batch }
-    requires tasks { shared.now.board.now.tasks ≡ length (P.tasks shared.now.plan.now) }
-    requires seat { seat.old ≡ fresh_seat shared.now.board.now }
-    requires port { IsFreshPort shared.now.outlet.now port.old }
-    ensures seat { IsSeatBelow shared.now.board.now seat.new }
-    ensures port { StaysOpen shared.now.outlet.now port.old port.new }
-    ensures ok { let it = shared_of P.tasks shared.now in let drawn = seat.new.drawn in
+    requires batch { 0 < job.now.batch }
+    requires tasks { job.now.board.now.tasks ≡ length (P.tasks job.now.rows.now) }
+    requires seat { seat.old ≡ fresh_seat job.now.board.now }
+    requires port { IsFreshPort job.now.outlet.now port.old }
+    ensures seat { IsSeatBelow job.now.board.now seat.new }
+    ensures port { StaysOpen job.now.outlet.now port.old port.new }
+    ensures ok { let it = job_of P.tasks job.now in let drawn = seat.new.drawn in
         IfOk result (λ _. (seat.new.done ≡ true)
         × AreScripts it.relation it.plan it.size drawn (said_by port.new)) }
-    ensures err { let it = shared_of P.tasks shared.now in let drawn = seat.new.drawn in
+    ensures err { let it = job_of P.tasks job.now in let drawn = seat.new.drawn in
         IfErr result (λ _. BeginScripts it.relation it.plan it.size drawn (said_by port.new)) }
 {
     for _ in rt.forever() {
-        let drawn = shared.board.claim(seat);
+        let drawn = job.board.claim(seat);
         let Some(task) = drawn else {
             return Ok(());
         };
-        shared.gate.enter(rt, task);
-        send_task(rt, alloc, shared, task, port)?;
+        send_task(rt, job, task, port)?;
     }
     unreachable!()
 }
 
 /// Sends the script of one task.
 #[tactic(auto, using(crate::proofs::Workers::one_task))]
-fn send_task<R: Wait, P: Rows, G>(
+fn send_task<R: Wait, P: Rows>(
     rt: &R,
-    alloc: Global,
-    shared: &Shared<'_, P, G>,
+    job: &Job<'_, P>,
     task: u32,
     port: &mut Port,
 ) -> Result<(), AllocError>
-    requires task { task < length (P.tasks shared.now.plan.now) }
-    requires batch { 0 < shared.now.batch }
-    requires port { IsOpenPort shared.now.outlet.now port.old }
-    ensures port { StaysOpen shared.now.outlet.now port.old port.new }
-    ensures ok { let it = shared_of P.tasks shared.now in let numbers = task ∷ [] in IfOk result
+    requires task { task < length (P.tasks job.now.rows.now) }
+    requires batch { 0 < job.now.batch }
+    requires port { IsOpenPort job.now.outlet.now port.old }
+    ensures port { StaysOpen job.now.outlet.now port.old port.new }
+    ensures ok { let it = job_of P.tasks job.now in let numbers = task ∷ [] in IfOk result
         (λ _. SaysScripts it.relation it.plan it.size numbers port.old port.new) }
-    ensures err { let it = shared_of P.tasks shared.now in let numbers = task ∷ [] in IfErr result
+    ensures err { let it = job_of P.tasks job.now in let numbers = task ∷ [] in IfErr result
         (λ _. SaysBeginning it.relation it.plan it.size numbers port.old port.new) }
 {
-    let row = shared.plan.row_of(alloc, task, shared.relation)?;
-    send_script(rt, alloc, shared.outlet, port, task, &row, shared.batch)
+    let row = job.rows.row_of(job.alloc, task, job.relation)?;
+    send_script(rt, job, port, task, &row)
 }

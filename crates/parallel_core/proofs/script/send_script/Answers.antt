@@ -8,7 +8,7 @@ pub loop-piece-preserved : goal.loop-piece-preserved
 loop-piece-preserved g c =
     let so_far = c.loop-piece.invariant in
     let steps = c.in-Some.ensures.steps in
-    let next = after_piece c.args.batch c.loop-piece.number c.args.row.now (chunks_rest c.loop-piece.piece-iterator) c.in-Some.piece.now
+    let next = after_piece c.args.job.now.batch c.loop-piece.number c.args.row.now (chunks_rest c.loop-piece.piece-iterator) c.in-Some.piece.now
     _ c.requires.batch so_far.rest so_far.left steps.1.0 (rw so_far.size at steps.1.1) steps.1.2 in
     record {
       can_next = search rules;
@@ -23,6 +23,6 @@ loop-piece-preserved g c =
 pub returns-clause-ok : goal.returns-clause-ok
 returns-clause-ok g c =
     let so_far = c.loop-piece.invariant in
-    let none = no_batches c.args.batch (chunks_rest c.loop-piece.piece-iterator) c.requires.batch c.in-None.ensures.steps.1.0 in
-    let all : c.loop-piece.number ≡ batches_for c.args.batch c.args.row.now = omega (arith, none, so_far.left) in
+    let none = no_batches c.args.job.now.batch (chunks_rest c.loop-piece.piece-iterator) c.requires.batch c.in-None.ensures.steps.1.0 in
+    let all : c.loop-piece.number ≡ batches_for c.args.job.now.batch c.args.row.now = omega (arith, none, so_far.left) in
     search (rules, says_script, all)

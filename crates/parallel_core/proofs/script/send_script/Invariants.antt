@@ -8,9 +8,9 @@ abbrev pub invariant-loop-piece : goal.invariant-loop-piece
 invariant-loop-piece g l = record {
   can_next : (goal.iterator-loop-piece g).can_next l.piece-iterator;
   finite : (goal.iterator-loop-piece g).is_finite l.piece-iterator;
-  size : chunks_size l.piece-iterator ≡ l.batch;
-  rest : chunks_rest l.piece-iterator ≡ drop (l.number * l.batch) l.row;
-  left : l.number + batches_for l.batch (chunks_rest l.piece-iterator) ≡ batches_for l.batch l.row;
-  port : StaysOpen l.outlet l.initial.port l.port;
-  said : Says l.initial.port l.port (script_batches l.task l.batch l.row l.number);
+  size : chunks_size l.piece-iterator ≡ l.job.batch;
+  rest : chunks_rest l.piece-iterator ≡ drop (l.number * l.job.batch) l.row;
+  left : l.number + batches_for l.job.batch (chunks_rest l.piece-iterator) ≡ batches_for l.job.batch l.row;
+  port : StaysOpen l.job.outlet.now l.initial.port l.port;
+  said : Says l.initial.port l.port (script_batches l.task l.job.batch l.row l.number);
 }
