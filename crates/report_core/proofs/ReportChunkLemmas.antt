@@ -1,6 +1,6 @@
 -- The records of all pairs are those of their chunks, one after another.
 use Rattle.std.proofs.Common.{◌≡◌, ℕ, zero, suc, ◌+◌, ◌*◌, ◌/◌, ◌%◌, ◌<◌, ◌≤◌, min, List, [], ◌∷◌, ◌++◌, Result, Ok, Err}
-use Rattle.std.proofs.Common.{IsOk, IfOk, OnOk, refl, sym, ap, subst, ◌∙◌, arith}
+use Rattle.std.proofs.Common.{IsOk, IfOk, refl, sym, ap, subst, ◌∙◌, arith}
 use Rattle.std.proofs.Common.{length, length-append, get_or, take, suc-mul, add-one, zero-mul, add-mul, one-mul, div-add-mod', ⊎_elim, All}
 use Rattle.std.proofs.Common.{mul_comm, mul-le-mul_right, lt_of_mul-lt-mul_right}
 use Rattle.std.specs.Global.{Global}
@@ -19,9 +19,10 @@ use Rattle.layer_core.specs.Layers.{Contents}
 use Rattle.csv.specs.Writing.{row_text, default_writer}
 use Rattle.report_core.specs.declared.columns.Columns.{Columns}
 use Rattle.report_core.specs.Columns.{AreColumnsFor}
-use Rattle.report_core.specs.ReportRows.{AreRows, AddsRows, text_or_none}
-use Rattle.report_core.specs.Reports.{IsHeld, IsRow}
+use Rattle.report_core.specs.ReportRows.{AreRows, AddsRows, header_line, text_or_none}
+use Rattle.report_core.specs.Reports.{IsHeld, IsRow, IsReport}
 use Rattle.report_core.specs.Written.{joined}
+use Rattle.report_core.proofs.ReportLemmas.{report_pushed}
 
 zip_append : {A B : Type 0} (R : A → B → Type 0) (xs : List A) (ys : List B) (vs : List A) (ws : List B)
     → AllZip R xs ys → AllZip R vs ws → AllZip R (xs ++ vs) (ys ++ ws)
@@ -131,15 +132,6 @@ pub one_more : {A B : Type 0} (n : ℕ) (old new : List A) (x : A) (parts : List
 one_more n old new x parts part so_far grown =
     rw grown (simp length-append (omega arith))
 
--- the header, and a text for each chunk
-pub few_pushed : {T E : Type 0} (out : Result T E) (old mid new : List (Vec ℕ Global)) (header : Vec ℕ Global) (parts : List (Result (Vec ℕ Global) AllocError))
-    (workers : ℕ) → mid ≡ old ++ header ∷ [] → length parts ≤ workers → OnOk out (length new ≡ length mid + length parts)
-    → OnOk out (length new ≤ length old + (workers + 1))
-few_pushed (Ok t) old mid new header parts workers grown few added =
-    let first : length mid ≡ length old + 1 = ap length grown ∙ length-append old (header ∷ []) in
-    omega arith
-few_pushed (Err e) old mid new header parts workers grown few added = tt
-
 -- the header, and then the records of all chunks
 pub chunks_added : (left right : Contents Shape) (pairs : List (ℕ × ℕ)) (old mid new : List (Vec ℕ Global)) (header : Vec ℕ Global) (line : List ℕ)
     (parts : List (Result (Vec ℕ Global) AllocError)) → mid ≡ old ++ header ∷ [] → header.items ≡ line → AreRows left right pairs (flat_map text_or_none parts)
@@ -151,14 +143,13 @@ chunks_added left right pairs old mid new header line parts grown is rows all = 
       (ap joined grown ∙ sym (flat_map_more (λ t. t.items) [] old header) ∙ ap (λ l. joined old ++ l) is);
 }
 
--- the header is pushed, and then the records of all chunks, unless memory was refused to one of them
-pub chunks_pushed : {T E : Type 0} (out : Result T E) (left right : Contents Shape) (pairs : List (ℕ × ℕ)) (old mid new : List (Vec ℕ Global)) (header : Vec ℕ Global)
-    (line : List ℕ) (parts : List (Result (Vec ℕ Global) AllocError)) → mid ≡ old ++ header ∷ [] → header.items ≡ line
-    → (All IsOk parts → AreRows left right pairs (flat_map text_or_none parts)) → OnOk out (All IsOk parts)
-    → OnOk out (joined new ≡ joined mid ++ flat_map text_or_none parts) → OnOk out (AddsRows left right pairs (joined old ++ line) (joined new))
-chunks_pushed (Ok t) left right pairs old mid new header line parts grown is rows ok all =
-    chunks_added left right pairs old mid new header line parts grown is (rows ok) all
-chunks_pushed (Err e) left right pairs old mid new header line parts grown is rows ok all = tt
+-- the header alone, and then the records of all chunks, are the report
+pub report_of_chunks : (left right : Contents Shape) (pairs : List (ℕ × ℕ)) (old mid new : List (Vec ℕ Global)) (header : Vec ℕ Global)
+    (parts : List (Result (Vec ℕ Global) AllocError)) → old ≡ [] → mid ≡ old ++ header ∷ [] → header.items ≡ header_line
+    → (All IsOk parts → AreRows left right pairs (flat_map text_or_none parts)) → All IsOk parts → joined new ≡ joined mid ++ flat_map text_or_none parts
+    → IsReport left right pairs (joined new)
+report_of_chunks left right pairs old mid new header parts none grown is rows ok all =
+    report_pushed old new left right pairs none (chunks_added left right pairs old mid new header header_line parts grown is (rows ok) all)
 
 -- the value that is used for texts past the last one
 pub no_text : Result (Vec ℕ Global) AllocError

@@ -1,4 +1,5 @@
-//! The ids of the features of two layers, as CSV fields, by number.
+//! The columns of a report: the ids of two layers' features as CSV fields, found by number, and the
+//! letters of matrices.
 
 ghost use Rattle.std.specs.Prelude.{◌≡◌, ◌≤◌, ◌<◌, ◌+◌, ◌++◌, ◌^◌, All, length};
 ghost use Rattle.std.specs.Prelude.{IfOk, OnOk, IsSomeAnd};
@@ -9,6 +10,7 @@ ghost use Rattle.report_core.specs.Reports.{IsHeld};
 
 use crate::csv_fields::push_leading_field;
 use layer_core::Layer;
+use relation_core::Letters;
 use std::alloc::{AllocError, Global};
 use std::thread;
 use std::thread::Threads;
@@ -29,11 +31,12 @@ pub(crate) struct Column {
     text: Vec<u8>,
 }
 
-/// The columns of a left and a right layer.
+/// The columns of a report: the ids of a left and a right layer, and the letters of matrices.
 #[derive(Drop)]
 pub(crate) struct Columns {
     pub(crate) left: Column,
     pub(crate) right: Column,
+    pub(crate) letters: Letters,
 }
 
 impl Column {
@@ -104,20 +107,21 @@ impl Columns {
         Ok(Columns {
             left: Column::new(alloc, left, left_bound)?,
             right: Column::new(alloc, right, right_bound)?,
+            letters: Letters::new(),
         })
     }
 
     /// The same columns, the left and the right one made in parallel.
-    pub(crate) fn side_by_side<R: Threads + Sync>(
-        alloc: Global,
+    pub(crate) fn side_by_side<R: AllocGlobal + Threads + Sync>(
+        rt: &R,
         left: &Layer,
         right: &Layer,
         pairs: &[(u32, u32)],
-        rt: &R,
     ) -> Result<Columns, AllocError>
         requires { All (IsHeld left.now.list right.now.list) pairs.now }
         ensures { IfOk result (AreColumnsFor left.now.list right.now.list pairs.now) }
     {
+        let alloc = rt.alloc();
         let (left_bound, right_bound) = bounds(pairs);
         let (left_column, right_column) = thread::join(
             rt,
@@ -127,6 +131,7 @@ impl Columns {
         Ok(Columns {
             left: left_column?,
             right: right_column?,
+            letters: Letters::new(),
         })
     }
 }

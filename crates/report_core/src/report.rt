@@ -11,7 +11,6 @@ ghost use Rattle.report_core.specs.Written.{joined};
 
 use crate::columns::Columns;
 use layer_core::Layer;
-use relation_core::Letters;
 use std::alloc::{AllocError, Global};
 use std::thread;
 use std::thread::Threads;
@@ -25,13 +24,12 @@ const BLOCK: usize = 32;
 ///
 /// # Errors
 /// If an allocation fails.
-pub fn report_texts<R: Threads + Sync>(
-    alloc: Global,
+pub fn report_texts<R: AllocGlobal + Threads + Sync>(
+    rt: &R,
     left: &Layer,
     right: &Layer,
     pairs: &[(u32, u32)],
     workers: u32,
-    rt: &R,
 ) -> Result<Vec<Vec<u8>>, AllocError>
     requires { All (IsHeld left.now.list right.now.list) pairs.now }
     ensures report { IfOk result
@@ -39,21 +37,20 @@ pub fn report_texts<R: Threads + Sync>(
     ensures few { IfOk result (λ texts. length texts.items ≤ workers + 1) }
 {
     if workers > 1 {
-        chunked_report(alloc, left, right, pairs, workers, rt)
+        chunked_report(rt, left, right, pairs, workers)
     } else {
-        whole_report(alloc, left, right, pairs)
+        whole_report(rt.alloc(), left, right, pairs)
     }
 }
 
-/// The report as a text for the header and one for each chunk of the pairs.
-#[tactic(auto, using(crate::proofs::ReportLemmas::report_pushed))]
-fn chunked_report<R: Threads + Sync>(
-    alloc: Global,
+/// The report as a text for the header, and one for each chunk of the pairs, each written by a
+/// thread of its own.
+fn chunked_report<R: AllocGlobal + Threads + Sync>(
+    rt: &R,
     left: &Layer,
     right: &Layer,
     pairs: &[(u32, u32)],
     workers: u32,
-    rt: &R,
 ) -> Result<Vec<Vec<u8>>, AllocError>
     requires held { All (IsHeld left.now.list right.now.list) pairs.now }
     requires workers { 0 < workers }
@@ -61,8 +58,12 @@ fn chunked_report<R: Threads + Sync>(
         (λ texts. IsReport left.now.list right.now.list pairs.now (joined texts.items)) }
     ensures few { IfOk result (λ texts. length texts.items ≤ workers + 1) }
 {
-    let mut texts = Vec::new(alloc);
-    push_texts(alloc, &mut texts, left, right, pairs, workers, rt)?;
+    let size = pairs.len().div_ceil(workers as usize).max(1);
+    let chunks = chunk_rows(rt, left, right, pairs, size)?;
+    let mut texts = Vec::new(rt.alloc());
+    let header = header_text(rt.alloc())?;
+    texts.push(header)?;
+    push_all(&mut texts, chunks)?;
     Ok(texts)
 }
 
@@ -100,32 +101,6 @@ fn whole_text(
     Ok(text)
 }
 
-/// Adds the texts of the report: the header, then one text for each chunk of the pairs, each
-/// written by a thread of its own.
-fn push_texts<R: Threads + Sync>(
-    alloc: Global,
-    texts: &mut Vec<Vec<u8>>,
-    left: &Layer,
-    right: &Layer,
-    pairs: &[(u32, u32)],
-    workers: u32,
-    rt: &R,
-) -> Result<(), AllocError>
-    requires held { All (IsHeld left.now.list right.now.list) pairs.now }
-    requires workers { 0 < workers }
-    ensures rows { OnOk result (AddsRows left.now.list right.now.list pairs.now
-        (joined texts.old.items ++ header_line) (joined texts.new.items)) }
-    ensures few { OnOk result
-        (length texts.new.items ≤ length texts.old.items + (workers + 1)) }
-{
-    let size = pairs.len().div_ceil(workers as usize).max(1);
-    let columns = Columns::side_by_side(alloc, left, right, pairs, rt)?;
-    let chunks = chunk_rows(alloc, left, right, &columns, pairs, size, rt)?;
-    let header = header_text(alloc)?;
-    texts.push(header)?;
-    push_all(texts, chunks)
-}
-
 /// The header.
 fn header_text(alloc: Global) -> Result<Vec<u8>, AllocError>
     ensures { IfOk result (λ text. text.items ≡ header_line) }
@@ -136,22 +111,21 @@ fn header_text(alloc: Global) -> Result<Vec<u8>, AllocError>
 }
 
 /// The records of each chunk of `size` pairs; the last chunk may be shorter.
-fn chunk_rows<R: Threads + Sync>(
-    alloc: Global,
+fn chunk_rows<R: AllocGlobal + Threads + Sync>(
+    rt: &R,
     left: &Layer,
     right: &Layer,
-    columns: &Columns,
     pairs: &[(u32, u32)],
     size: usize,
-    rt: &R,
 ) -> Result<Vec<Result<Vec<u8>, AllocError>>, AllocError>
-    requires columns { AreColumnsFor left.now.list right.now.list pairs.now columns.now }
+    requires held { All (IsHeld left.now.list right.now.list) pairs.now }
     requires size { 0 < size }
     ensures rows { IfOk result (λ chunks. All IsOk chunks.items
         → AreRows left.now.list right.now.list pairs.now (flat_map text_or_none chunks.items)) }
     ensures count { IfOk result
         (λ chunks. length chunks.items ≡ div_ceil (length pairs.now) size) }
 {
+    let (alloc, columns) = (rt.alloc(), &Columns::side_by_side(rt, left, right, pairs)?);
     let rows = move |_start: usize, chunk: &[(u32, u32)]| {
         rows_text(alloc, left, right, columns, chunk)
     };
@@ -187,7 +161,6 @@ fn push_rows(
         (AddsRows left.now.list right.now.list pairs.now text.old.items text.new.items) }
 {
     text.reserve(pairs.len().saturating_mul(columns.likely_record()))?;
-    let letters = Letters::new();
     for place in 0..pairs.len() {
         make_room(text, right, columns, pairs, place)?;
         let pair = pairs[place];
@@ -198,7 +171,7 @@ fn push_rows(
         let right_id = right_field.unwrap();
         let left_shape = left.shape(pair.0).unwrap();
         let right_shape = right.shape(pair.1).unwrap();
-        let matrix = letters.of(left_shape, right_shape);
+        let matrix = columns.letters.of(left_shape, right_shape);
         push_row(text, left_id, right_id, matrix)?;
     }
     Ok(())
