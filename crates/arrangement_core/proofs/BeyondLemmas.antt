@@ -1,5 +1,5 @@
 -- An edge beyond the box of the other geometry lies in its exterior, and so does the space just above
--- the edge: where a matrix shows all that this can add, the edge adds nothing.
+-- the edge.
 use Rattle.std.proofs.Common.{◌≡◌, ◌≤◌, ◌<◌, ◌⊎◌, inl, inr, arith, refl, sym, subst, ap, ◌∙◌, true, false, List, [], ◌∷◌, ◌++◌, map}
 use Rattle.std.specs.Prelude.{ℕ, ℤ, pos, ◌*ℤ◌, ◌<ℤ◌, ◌≤ℤ◌, ◌≢◌, Bool, ◌&&◌, ◌||◌, not, int_lt, int_le, if◌then◌else◌, All, count_by}
 use Rattle.std.specs.List.{list_any, list_all, flat_map}
@@ -34,7 +34,8 @@ use Rattle.arrangement_core.specs.Marks.{rank}
 use Rattle.arrangement_core.specs.Growth.{Mark, HasGrownBy, mark_at, mark_above, piece_marks, gap_marks, gaps_marks, edge_marks, transposed}
 use Rattle.arrangement_core.specs.ReadOffs.{IsEdgeMarked}
 use Rattle.arrangement_core.specs.Shown.{AreShown, IsOnEdge, parts_above, is_odd_end}
-use Rattle.arrangement_core.specs.Beyond.{is_beyond, IsBounded, has_no_end, parts_along, IsEdgeShown}
+use Rattle.arrangement_core.specs.Beyond.{is_beyond, IsBounded}
+use Rattle.arrangement_core.specs.Near.{LiesIn}
 use Rattle.arrangement_core.proofs.AmongLemmas.{among_flat, among_either, count_none}
 use Rattle.arrangement_core.proofs.NodeLemmas.{all_among}
 use Rattle.arrangement_core.proofs.PathLemmas.{edge_length}
@@ -99,10 +100,10 @@ pub data IsAside (s : Shape) (p : Point) : Type 0 where
   Low : p.y <ℤ (pos p.w *ℤ y1 s) → IsAside s p
   High : (pos p.w *ℤ y2 s) <ℤ p.y → IsAside s p
 
-between_less : (m n z k : ℤ) → ((int_le m z && int_le z n) || (int_le n z && int_le z m)) ≡ true → m <ℤ k → n <ℤ k → z <ℤ k
+pub between_less : (m n z k : ℤ) → ((int_le m z && int_le z n) || (int_le n z && int_le z m)) ≡ true → m <ℤ k → n <ℤ k → z <ℤ k
 between_less m n z k h a b = grind (arith, ints)
 
-between_more : (m n z k : ℤ) → ((int_le m z && int_le z n) || (int_le n z && int_le z m)) ≡ true → k <ℤ m → k <ℤ n → k <ℤ z
+pub between_more : (m n z k : ℤ) → ((int_le m z && int_le z n) || (int_le n z && int_le z m)) ≡ true → k <ℤ m → k <ℤ n → k <ℤ z
 between_more m n z k h a b = grind (arith, ints)
 
 and_left : (t u : Bool) → (t && u) ≡ true → t ≡ true
@@ -122,10 +123,10 @@ or_four false true v w h f g k l = g refl
 or_four false false true w h f g k l = k refl
 or_four false false false w h f g k l = l h
 
-columns_of : (e : Edge) (p : Point) → is_on e p ≡ true → is_between e.a.x e.b.x p.w p.x ≡ true
+pub columns_of : (e : Edge) (p : Point) → is_on e p ≡ true → is_between e.a.x e.b.x p.w p.x ≡ true
 columns_of e p h = and_right _ _ (and_left _ _ h)
 
-rows_of : (e : Edge) (p : Point) → is_on e p ≡ true → is_between e.a.y e.b.y p.w p.y ≡ true
+pub rows_of : (e : Edge) (p : Point) → is_on e p ≡ true → is_between e.a.y e.b.y p.w p.y ≡ true
 rows_of e p h = and_right _ _ h
 
 aside : (s : Shape) (e : Edge) (p : Point) → 0 < p.w → is_on e p ≡ true → is_beyond s e ≡ true → IsAside s p
@@ -144,10 +145,10 @@ aside_part g s p good wide all (Right h) = right_exterior g s p good (wide_z p.w
 aside_part g s p good wide all (Low h) = low_exterior g s p good (wide_z p.w wide) all h
 aside_part g s p good wide all (High h) = high_outside g s p good (wide_z p.w wide) all h
 
-none_on : {A : Type 0} (q : A → Bool) (xs : List A) (x : A) → list_any q xs ≡ false → IsAmong x xs → q x ≡ false
+pub none_on : {A : Type 0} (q : A → Bool) (xs : List A) (x : A) → list_any q xs ≡ false → IsAmong x xs → q x ≡ false
 none_on q xs x off k = by_test (q x) (λ yes. clash (list_any q xs) (any_among q xs x k yes) off) (λ no_. no_)
 
-below_same : (e : Edge) (p : Point) → HasLength e → 0 < p.w → is_on e p ≡ false → is_at_or_below e p ≡ is_below e p
+pub below_same : (e : Edge) (p : Point) → HasLength e → 0 < p.w → is_on e p ≡ false → is_at_or_below e p ≡ is_below e p
 below_same e p long wide off = elim (forward_or_flipped e long) [
   | inl fw ↦ at_or_below_off e p fw wide off
   | inr fw ↦ sym (is_at_or_below-flip e p) ∙ at_or_below_off (flip e) p fw wide (is_on-flip e p ∙ off) ∙ is_below-flip e p
@@ -179,103 +180,8 @@ beyond_above o s e p b beyond wide on =
     outline_above-is b.figure o p b.outline
     ∙ above_exterior b.figure p b.geometry wide (aside_part b.figure s p b.geometry wide (holds_all s b.figure b.box) (aside s e p wide on beyond))
 
--- and in its own
-three : (i : Part) → pick i (record { interior = true; boundary = true; exterior = true }) ≡ true
-three Interior = refl
-three Boundary = refl
-three Exterior = refl
-
-along_by : (k : Kind) (ends : List Vertex) (es : List Edge) (p : Point) → list_any (λ e. is_on e p) es ≡ true → (k ≡ Polylines → is_odd (count_by (λ v. is_at v p) ends) ≡ false)
-    → pick (part_by k ends es p) (parts_along k) ≡ true
-along_by Dots ends es p on free = three (part_by Dots ends es p)
-along_by Polylines ends es p on free = rw (free refl, on) refl
-along_by Rings ends es p on free = rw on refl
-
-no_odd_end : (own : Outline) (e : Edge) (p : Point) → has_no_end own e ≡ true → 0 < p.w → is_on e p ≡ true → is_odd (count_by (λ v. is_at v p) own.ends.items) ≡ false
-no_odd_end own e p all wide on = ap is_odd (count_none (λ v. is_at v p) own.ends.items
-    (λ v k. by_test (is_at v p)
-    (λ here. clash (is_on e (at v)) (on_there e v p wide on (at_same v p here)) (not_true (is_on e (at v)) (among_all (λ v. not (is_on e (at v))) own.ends.items v all k)))
-    (λ no_. no_)))
-
--- so all that the edge can add is known
-abbrev IsKnown : Matrix → Mark → Type 0
-IsKnown m k = rank k.extent ≤ rank (entry m k.first k.second)
-
-record IsAllShown (m : Matrix) (own other : Outline) (s : Shape) (e : Edge) : Type 0 where
-  bounded : IsBounded other s
-  beyond : is_beyond s e ≡ true
-  shown : IsEdgeShown m own e
-  one : IsAmong e own.edges.items
-  long : HasLength e
-
-line_known : (m : Matrix) (own other : Outline) (s : Shape) (e : Edge) (p : Point) → IsAllShown m own other s e → 0 < p.w → is_on e p ≡ true → 2 ≤ rank (entry m (outline_part own p) (outline_part other p))
-line_known m own other s e p h wide on =
-    subst (λ (j : Part). 2 ≤ rank (entry m (outline_part own p) j)) (sym (beyond_part other s e p h.bounded h.beyond wide on))
-    (subst (λ (x : Extent). 2 ≤ rank x) (entry-transposed m Exterior (outline_part own p))
-    (h.shown.pieces (outline_part own p) (along_by own.kind own.ends.items own.edges.items p
-    (any_among (λ f. is_on f p) own.edges.items e h.one on) (λ is. no_odd_end own e p (h.shown.free is) wide on))))
-
-face_known : (m : Matrix) (own other : Outline) (s : Shape) (e : Edge) (p : Point) → IsAllShown m own other s e → run e ≢ pos 0 → 0 < p.w → is_on e p ≡ true → 3 ≤ rank (entry m (outline_above own p) (outline_above other p))
-face_known m own other s e p h slanted wide on =
-    subst (λ (j : Part). 3 ≤ rank (entry m (outline_above own p) j)) (sym (beyond_above other s e p h.bounded h.beyond wide on))
-    (subst (λ (x : Extent). 3 ≤ rank x) (entry-transposed m Exterior (outline_above own p))
-    (h.shown.faces slanted (outline_above own p) (in_above own.kind own.edges.items p)))
-
-known_as : (m : Matrix) (k l : Mark) → k ≡ l → IsKnown m l → IsKnown m k
-known_as m k l is h = subst (IsKnown m) (sym is) h
-
-piece_known : (m : Matrix) (own other : Outline) (s : Shape) (e : Edge) (p : Point) (k : Mark) → IsAllShown m own other s e → 0 < p.w → is_on e p ≡ true → IsAmong k (piece_marks own other e p) → IsKnown m k
-piece_known m own other s e p k h wide on (inl is) = known_as m k (mark_at own other Line p) is (line_known m own other s e p h wide on)
-piece_known m own other s e p k h wide on (inr more) = by_bool (int_eq (run e) (pos 0))
-    (λ flat. absurd (subst (λ (t : Bool). IsAmong k (if t then [] else mark_above own other p ∷ [])) flat more))
-    (λ slanted. elim (subst (λ (t : Bool). IsAmong k (if t then [] else mark_above own other p ∷ [])) slanted more) [
-      | inl is ↦ known_as m k (mark_above own other p) is (face_known m own other s e p h (not_level (run e) slanted) wide on)
-      | inr none ↦ absurd none
-    ])
-
-gap_known : (m : Matrix) (own other : Outline) (s : Shape) (e : Edge) (p q : Point) (k : Mark) → IsAllShown m own other s e → IsPointOf e p → IsPointOf e q → IsAmong k (gap_marks own other e p q) → IsKnown m k
-gap_known m own other s e p q k h of_p of_q one = by_bool (is_lt (place_order p q))
-    (λ yes. piece_known m own other s e (middle p q) k h (middle_wide p q of_p.wide of_q.wide) (middle_on e p q h.long of_p of_q (order_before p q yes))
-    (subst (λ (t : Bool). IsAmong k (if t then piece_marks own other e (middle p q) else [])) yes one))
-    (λ none. absurd (subst (λ (t : Bool). IsAmong k (if t then piece_marks own other e (middle p q) else [])) none one))
-
-gaps_known : (m : Matrix) (own other : Outline) (s : Shape) (e : Edge) (ns : List Point) (k : Mark) → IsAllShown m own other s e → All (IsPointOf e) ns → IsAmong k (gaps_marks own other e ns) → IsKnown m k
-gaps_known m own other s e [] k h on one = absurd one
-gaps_known m own other s e (n ∷ []) k h on one = absurd one
-gaps_known m own other s e (p ∷ q ∷ ns) k h on one =
-    let rest = All-tail (IsPointOf e) p (q ∷ ns) on in
-    elim (among_either k (gap_marks own other e p q) (gaps_marks own other e (q ∷ ns)) one) [
-      | inl here ↦ gap_known m own other s e p q k h (All-head (IsPointOf e) p (q ∷ ns) on) (All-head (IsPointOf e) q ns rest) here
-      | inr later ↦ gaps_known m own other s e (q ∷ ns) k h rest later
-    ]
-
-edge_known : (m : Matrix) (own other : Outline) (s : Shape) (e : Edge) (ns : List Point) (k : Mark) → IsAllShown m own other s e → All (IsPointOf e) ns
-    → IsAmong k (edge_marks own other (record { edge = e; nodes = ns })) → IsKnown m k
-edge_known m own other s e ns k h on one = elim (among_either k (map (mark_at own other Dot) ns) (gaps_marks own other e ns) one) [
-  | inl dot ↦
-      let p = among_map (mark_at own other Dot) ns k dot in
-      let of_p = all_among (IsPointOf e) p.0 ns on p.1 in
-      known_as m k (mark_at own other Dot p.0) p.2 (weaker _ (line_known m own other s e p.0 h of_p.wide of_p.on))
-  | inr gap ↦ gaps_known m own other s e ns k h on gap
-]
-  where
-    weaker : (r : ℕ) → 2 ≤ r → 1 ≤ r
-    weaker r h = omega arith
-
-pub edge_adds_none : (m : Matrix) (own other : Outline) (es : List Edge) (vs : List Vertex) (s : Shape) (e : Edge) → IsBounded other s → is_beyond s e ≡ true → IsEdgeShown m own e
-    → IsAmong e own.edges.items → HasLength e → IsEdgeMarked own other es vs e m m
-edge_adds_none m own other es vs s e bounded beyond shown one long =
-    let n = nodes_exist es vs e long in
-    let h : IsAllShown m own other s e = record { bounded = bounded; beyond = beyond; shown = shown; one = one; long = long } in
-    record {
-      nodes = n.nodes;
-      are_nodes = n.are;
-      grown = record {
-        kept = λ i j. same (rank (entry m i j));
-        reached = λ k among. edge_known m own other s e n.nodes k h n.are.points among;
-        sound = λ i j. inl refl;
-      };
-    }
-  where
-    same : (r : ℕ) → r ≤ r
-    same r = omega arith
+pub lies_beyond : (o : Outline) (s : Shape) (e : Edge) → IsBounded o s → is_beyond s e ≡ true → LiesIn o e Exterior
+lies_beyond o s e b beyond = record {
+  on = λ p wide on. beyond_part o s e p b beyond wide on;
+  above = λ p wide on. beyond_above o s e p b beyond wide on;
+}

@@ -82,10 +82,10 @@ no_less : (m n : ℤ) → m ≤ℤ n → pos 0 ≤ℤ (n -ℤ m)
 no_less m n h = omega (arith, ints)
 
 -- tests over plain numbers: a and b are the columns of the ends, z of the point
-both_left : (a b z s : ℤ) → z <ℤ a → z <ℤ b → ((int_le a z && int_lt z b) && int_lt (pos 0) s || (int_le b z && int_lt z a) && int_lt s (pos 0)) ≡ false
+pub both_left : (a b z s : ℤ) → z <ℤ a → z <ℤ b → ((int_le a z && int_lt z b) && int_lt (pos 0) s || (int_le b z && int_lt z a) && int_lt s (pos 0)) ≡ false
 both_left a b z s h k = grind (arith, ints)
 
-both_right : (a b z s : ℤ) → a <ℤ z → b <ℤ z → ((int_le a z && int_lt z b) && int_lt (pos 0) s || (int_le b z && int_lt z a) && int_lt s (pos 0)) ≡ false
+pub both_right : (a b z s : ℤ) → a <ℤ z → b <ℤ z → ((int_le a z && int_lt z b) && int_lt (pos 0) s || (int_le b z && int_lt z a) && int_lt s (pos 0)) ≡ false
 both_right a b z s h k = grind (arith, ints)
 
 test_left : (a b z s : ℤ) → z <ℤ a → z <ℤ b → ((int_le a z && int_lt z b) && int_lt (pos 0) s || (int_le b z && int_lt z a) && int_lt s (pos 0)) ≡ differ (int_le a z) (int_le b z)
@@ -110,7 +110,7 @@ low_second : (a b z s : ℤ) → b ≤ℤ z → z <ℤ a → pos 0 <ℤ s → ((
 low_second a b z s h k l = grind (arith, ints)
 
 -- a point lower than both ends of an edge isn't above the edge
-not_below_low : (e : Edge) (p : Point) → pos 0 <ℤ pos p.w → p.y <ℤ (pos p.w *ℤ e.a.y) → p.y <ℤ (pos p.w *ℤ e.b.y) → is_below e p ≡ false
+pub not_below_low : (e : Edge) (p : Point) → pos 0 <ℤ pos p.w → p.y <ℤ (pos p.w *ℤ e.a.y) → p.y <ℤ (pos p.w *ℤ e.b.y) → is_below e p ≡ false
 not_below_low e p wide h k =
     by_lt_z p.x (pos p.w *ℤ e.a.x)
     (λ left. by_lt_z p.x (pos p.w *ℤ e.b.x)
@@ -123,7 +123,7 @@ not_below_low e p wide h k =
     (λ also. low_right (pos p.w *ℤ e.a.x) (pos p.w *ℤ e.b.x) p.x (side e p) right also))
 
 -- one higher than both is above it where just one of the ends isn't right of it
-below_high : (e : Edge) (p : Point) → pos 0 <ℤ pos p.w → (pos p.w *ℤ e.a.y) <ℤ p.y → (pos p.w *ℤ e.b.y) <ℤ p.y → is_below e p ≡ differ (int_le (pos p.w *ℤ e.a.x) p.x) (int_le (pos p.w *ℤ e.b.x) p.x)
+pub below_high : (e : Edge) (p : Point) → pos 0 <ℤ pos p.w → (pos p.w *ℤ e.a.y) <ℤ p.y → (pos p.w *ℤ e.b.y) <ℤ p.y → is_below e p ≡ differ (int_le (pos p.w *ℤ e.a.x) p.x) (int_le (pos p.w *ℤ e.b.x) p.x)
 below_high e p wide h k =
     by_lt_z p.x (pos p.w *ℤ e.a.x)
     (λ left. by_lt_z p.x (pos p.w *ℤ e.b.x)

@@ -1,6 +1,6 @@
 -- Points of an edge that are collected one by one.
 use Rattle.std.proofs.Common.{◌≡◌, ◌<◌, ◌+◌, ◌⊎◌, inl, inr, arith, refl, sym, subst, ap, ◌∙◌, true, false, List, [], ◌∷◌, ◌++◌, length, get_or, take, map, All, append_assoc, append-nil, suc, zero}
-use Rattle.std.specs.Prelude.{ℕ, ℤ, pos, nat_abs, Bool, ◌&&◌, ◌||◌, int_le, ◌*ℤ◌, ◌-ℤ◌, ◌+ℤ◌, ◌<ℤ◌, ◌≤ℤ◌}
+use Rattle.std.specs.Prelude.{◌≢◌, ℕ, ℤ, pos, nat_abs, Bool, ◌&&◌, ◌||◌, int_le, ◌*ℤ◌, ◌-ℤ◌, ◌+ℤ◌, ◌<ℤ◌, ◌≤ℤ◌}
 use Rattle.std.specs.Ordering.{int_eq}
 use Rattle.std.proofs.lemmas.Int.{ints, by_lt_z}
 use Rattle.std.specs.List.{Contains}
@@ -15,7 +15,7 @@ use Rattle.plane_core.specs.Boxes.{does_reach, do_overlap, do_boxes_meet}
 use Rattle.plane_core.specs.Figures.{HasLength}
 use Rattle.plane_core.specs.Places.{node_point}
 use Rattle.plane_core.specs.Meetings.{IsMeeting, HaveNoMeeting}
-use Rattle.arrangement_core.specs.Gathered.{Extends, IsOn, HasPlace, HasVertex, HasMeeting, HasMeetings}
+use Rattle.arrangement_core.specs.Gathered.{Extends, IsOn, HasPlace, HasVertex, HasMeeting, HasMeetings, HasEnds, is_same, is_end, IsJoint}
 use Rattle.arrangement_core.specs.Nodes.{IsNode, IsPlaceOf, Ascend, IsPointOf, AreNodesOf}
 use Rattle.arrangement_core.specs.Nodes.IsNode.{FirstEnd, LastEnd, Meeting, Single}
 use Rattle.plane_core.proofs.Ring.{monomials, times-zero, times-one, one-times, times_comm}
@@ -55,16 +55,16 @@ or_first a b h = rw h refl
 same_fact : (m n : ℤ) → int_eq m n ≡ true → m ≡ n
 same_fact m n h = grind (arith, ints)
 
-pub extends-refl : (ns : List Node) → Extends ns ns
+pub extends-refl : {A : Type 0} (ns : List A) → Extends ns ns
 extends-refl ns = record { more = []; is = sym (append-nil ns) }
 
-pub extends-push : (ns ms : List Node) (n : Node) → ms ≡ ns ++ n ∷ [] → Extends ns ms
+pub extends-push : {A : Type 0} (ns ms : List A) (n : A) → ms ≡ ns ++ n ∷ [] → Extends ns ms
 extends-push ns ms n e = record { more = n ∷ []; is = e }
 
-pub extends-trans : (a b c : List Node) → Extends a b → Extends b c → Extends a c
-extends-trans a b c h k = record {
+pub extends-trans : {A : Type 0} (a b c : List A) → Extends a b → Extends b c → Extends a c
+extends-trans {A = A} a b c h k = record {
   more = h.more ++ k.more;
-  is = k.is ∙ ap (λ (ns : List Node). ns ++ k.more) h.is ∙ append_assoc a h.more k.more;
+  is = k.is ∙ ap (λ (ns : List A). ns ++ k.more) h.is ∙ append_assoc a h.more k.more;
 }
 
 pub place_kept : (ns ms : List Node) (p : Point) → Extends ns ms → HasPlace ns p → HasPlace ms p
@@ -327,6 +327,52 @@ nodes_made e es vs ns ms long on first last meetings singles moved up = record {
   last_end = place_sorted ns ms (at e.b) moved (last.here (last_on e (at e.b) (at_first e.b)));
   nodes = λ p wide here node. place_sorted ns ms p moved (node_found e es vs ns p long meetings singles wide here node);
 }
+
+pub ends_kept : (e : Edge) (ns ms : List Node) → Extends ns ms → HasEnds e ns → HasEnds e ms
+ends_kept e ns ms k h = record { first = vertex_kept e ns ms e.a k h.first; last = vertex_kept e ns ms e.b k h.last }
+
+-- both ends are on an edge
+first_placed : (e : Edge) (ns : List Node) → HasEnds e ns → HasPlace ns (at e.a)
+first_placed e ns h = h.first.here (first_on e (at e.a) (at_first e.a))
+
+last_placed : (e : Edge) (ns : List Node) → HasEnds e ns → HasPlace ns (at e.b)
+last_placed e ns h = h.last.here (last_on e (at e.b) (at_first e.b))
+
+-- vertices that are one point
+same_at : (u v : Vertex) → is_same u v ≡ true → at u ≡ at v
+same_at u v h =
+    let x : u.x ≡ v.x = same_fact u.x v.x (and_first (int_eq u.x v.x) (int_eq u.y v.y) h) in
+    let y : u.y ≡ v.y = same_fact u.y v.y (and_second (int_eq u.x v.x) (int_eq u.y v.y) h) in
+    λ i. record { x = x i; y = y i; w = 1 }
+
+pub end_vertex : (e : Edge) (ns : List Node) (v : Vertex) → HasEnds e ns → is_end e v ≡ true → HasVertex e ns v
+end_vertex e ns v h is = by_test (is_same e.a v)
+    (λ yes. record { here = λ on. subst (HasPlace ns) (same_at e.a v yes) (first_placed e ns h) })
+    (λ no. record { here = λ on. subst (HasPlace ns) (same_at e.b v (or_second (is_same e.a v) (is_same e.b v) is no)) (last_placed e ns h) })
+
+-- edges with an end in common that aren't parallel share no other point
+end_on : (e : Edge) (v : Vertex) → is_end e v ≡ true → is_on e (at v) ≡ true
+end_on e v is = by_test (is_same e.a v)
+    (λ yes. ap (is_on e) (sym (same_at e.a v yes)) ∙ first_on e (at e.a) (at_first e.a))
+    (λ no. ap (is_on e) (sym (same_at e.b v (or_second (is_same e.a v) (is_same e.b v) is no))) ∙ last_on e (at e.b) (at_first e.b))
+
+joint_by : (e f : Edge) (ns : List Node) (v : Vertex) → HasEnds e ns → turn_of e f ≢ pos 0 → is_end e v ≡ true → is_on f (at v) ≡ true → HasMeetings e ns f
+joint_by e f ns v ends turning is on_f = record {
+  first = record { here = λ on. there (at f.a) (omega arith) (record { turning = turning; first = on; second = first_on f (at f.a) (at_first f.a) }) };
+  last = record { here = λ on. there (at f.b) (omega arith) (record { turning = turning; first = on; second = last_on f (at f.b) (at_first f.b) }) };
+  meeting = record { here = there };
+}
+  where
+    shared : IsMeeting e f (at v)
+    shared = record { turning = turning; first = end_on e v is; second = on_f }
+
+    there : (p : Point) → 0 < p.w → IsMeeting e f p → HasPlace ns p
+    there p wide m = place_same ns p (at v) wide (omega arith) (meeting_same e f p (at v) m shared) ((end_vertex e ns v ends is).here (end_on e v is))
+
+pub joint_meetings : (e f : Edge) (ns : List Node) → HasEnds e ns → IsJoint e f → HasMeetings e ns f
+joint_meetings e f ns ends h = by_test (is_end e f.a)
+    (λ yes. joint_by e f ns f.a ends h.turning yes (first_on f (at f.a) (at_first f.a)))
+    (λ no. joint_by e f ns f.b ends h.turning (or_second (is_end e f.a) (is_end e f.b) h.end no) (last_on f (at f.b) (at_first f.b)))
 
 pub all_meetings_kept : (e : Edge) (ns ms : List Node) (fs : List Edge) → Extends ns ms → All (HasMeetings e ns) fs → All (HasMeetings e ms) fs
 all_meetings_kept e ns ms fs k h = λ i d lt. meetings_kept e ns ms _ k (h i d lt)

@@ -2,12 +2,14 @@ pub mod AmongLemmas
 pub mod ArrangementLemmas
 pub mod BeyondLemmas
 pub mod BoxLemmas
+pub mod ClearLemmas
 pub mod CrossLemmas
 pub mod ExistLemmas
 pub mod FaceLemmas
 pub mod FlipLemmas
 pub mod GatherLemmas
 pub mod GrowthLemmas
+pub mod KnownLemmas
 pub mod LawLemmas
 pub mod LineLemmas
 pub mod MatrixLemmas

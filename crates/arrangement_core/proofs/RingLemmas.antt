@@ -37,7 +37,7 @@ differ_turned true false = refl
 differ_turned false true = refl
 differ_turned false false = refl
 
-differ_pairs : (t u v x : Bool) → differ (differ t u) (differ v x) ≡ differ (differ t v) (differ u x)
+pub differ_pairs : (t u v x : Bool) → differ (differ t u) (differ v x) ≡ differ (differ t v) (differ u x)
 differ_pairs true true true true = refl
 differ_pairs true true true false = refl
 differ_pairs true true false true = refl

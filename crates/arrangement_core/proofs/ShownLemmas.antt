@@ -2,7 +2,7 @@
 use Rattle.std.proofs.Common.{◌≡◌, ◌≤◌, ◌<◌, ◌+◌, ◌-◌, inl, inr, arith, refl, sym, subst, ap, ◌∙◌, true, false, suc, zero, List, [], ◌∷◌, map, take, get_or, length, All}
 use Rattle.std.specs.Prelude.{ℕ, ℤ, pos, neg_ℤ, nat_abs, ◌*ℤ◌, ◌<ℤ◌, ◌⊎◌, Bool, not, ◌&&◌, ◌||◌, ◌↔◌, count_by, if◌then◌else◌}
 use Rattle.std.specs.List.{list_any, list_all, slice_index_or}
-use Rattle.std.specs.Ordering.{int_eq, int_cmp, is_eq, ordering_then}
+use Rattle.std.specs.Ordering.{int_eq, int_cmp, is_eq, is_lt, ordering_then}
 use Rattle.std.proofs.lemmas.Int.{ints}
 use Rattle.std.proofs.lemmas.List.Elements.{All-head, All-tail, All-cons, All-nil, All-weaker}
 use Rattle.relation_core.specs.declared.extent.Extent.{Extent}
@@ -36,7 +36,7 @@ use Rattle.arrangement_core.proofs.LineLemmas.{IsForward, within_from_on, on_fro
 use Rattle.arrangement_core.proofs.FlipLemmas.{flip, is_on-flip, turn_of-turned, forward_or_flipped, is_at-itself, first_level}
 use Rattle.arrangement_core.proofs.TestLemmas.{by_test, clash, first_holds, second_holds, not_true}
 use Rattle.arrangement_core.proofs.AmongLemmas.{among_left, among_right, none_any}
-use Rattle.arrangement_core.proofs.NodeLemmas.{all_among, IsWide, gap_first, gap_second, none_in_gap}
+use Rattle.arrangement_core.proofs.NodeLemmas.{all_among, IsWide, gap_first, gap_second, gap_order, none_in_gap}
 use Rattle.arrangement_core.proofs.PieceLemmas.{level_mix, line_shared}
 use Rattle.arrangement_core.proofs.ArrangementLemmas.{before_middle, middle_before, middle_wide}
 use Rattle.arrangement_core.proofs.GatherLemmas.{boxes_meet}
@@ -44,11 +44,11 @@ use Rattle.arrangement_core.proofs.GrowthLemmas.{grown_none, grown_more, grown-t
 use Rattle.arrangement_core.proofs.ReadOffLemmas.{order_before, map_among}
 
 -- the parts of a geometry by its kind
-one_of_two : (t : Bool) (b : Bool) → pick (if t then Interior else Exterior) (record { interior = true; boundary = b; exterior = true }) ≡ true
+pub one_of_two : (t : Bool) (b : Bool) → pick (if t then Interior else Exterior) (record { interior = true; boundary = b; exterior = true }) ≡ true
 one_of_two true b = refl
 one_of_two false b = refl
 
-one_of_three : (i : Part) → pick i (record { interior = true; boundary = true; exterior = true }) ≡ true
+pub one_of_three : (i : Part) → pick i (record { interior = true; boundary = true; exterior = true }) ≡ true
 one_of_three Interior = refl
 one_of_three Boundary = refl
 one_of_three Exterior = refl
@@ -101,7 +101,7 @@ among_all q [] x h k = absurd k
 among_all q (y ∷ ys) x h (inl e) = ap q e ∙ first_holds _ _ h
 among_all q (y ∷ ys) x h (inr k) = among_all q ys x (second_holds (q y) _ h) k
 
-off_others : (other : Outline) (e : Edge) (p : Point) → IsUncrossed other e p → list_all (λ f. not (is_along e f)) other.edges.items ≡ true → list_any (λ f. is_on f p) other.edges.items ≡ false
+pub off_others : (other : Outline) (e : Edge) (p : Point) → IsUncrossed other e p → list_all (λ f. not (is_along e f)) other.edges.items ≡ true → list_any (λ f. is_on f p) other.edges.items ≡ false
 off_others other e p in_ apart = none_any (λ f. is_on f p) other.edges.items
     (λ f one. by_test (is_on f p)
     (λ on. clash (is_along e f) (in_.along f one on) (not_true (is_along e f) (among_all (λ f. not (is_along e f)) other.edges.items f apart one)))
@@ -301,38 +301,32 @@ gap_of ns (suc j) k l one lt ek el before = next ns j lt (subst (λ (i : ℕ). k
     next (m ∷ n ∷ ns) zero lt ek el = inl (ap node_point ek, ap node_point el, subst (λ (p : Point). IsBefore p (node_point n)) (ap node_point ek) (subst (λ (p : Point). IsBefore (node_point k) p) (ap node_point el) before))
     next (m ∷ n ∷ ns) (suc j) lt ek el = inr (next (n ∷ ns) j (omega arith) ek el)
 
-pub gap_at : (own other : Outline) (e : Edge) (ns : List Node) (i : ℕ) (k l : Node) → AreCuts own other e (map node_point ns) → 1 ≤ i → i < length ns → k ≡ get_or ns (i - 1) k → l ≡ get_or ns i l
-    → IsGap own other e (node_point k) (node_point l)
-gap_at own other e ns i k l cuts one lt ek el = record {
-  on = λ less. any_among (λ f. is_on f m) own.edges.items e cuts.one (on_e (order_before p q less));
-  uncrossed = λ less. record { on = on_e (order_before p q less); along = along (order_before p q less) };
-}
+pub gap_middle : (own other : Outline) (e : Edge) (ns : List Point) (p q : Point) → AreCuts own other e ns → IsGapOf p q ns → IsUncrossed other e (middle p q)
+gap_middle own other e ns p q cuts gap = record { on = on_e; along = along }
   where
-    p : Point
-    p = node_point k
-
-    q : Point
-    q = node_point l
-
     m : Point
-    m = middle (node_point k) (node_point l)
+    m = middle p q
 
-    ns_wide : All IsWide (map node_point ns)
-    ns_wide = All-weaker (IsPointOf e) IsWide (λ n h. h.wide) (map node_point ns) cuts.points
+    of_p : IsPointOf e p
+    of_p = all_among (IsPointOf e) p ns cuts.points (gap_first p q ns gap)
+
+    of_q : IsPointOf e q
+    of_q = all_among (IsPointOf e) q ns cuts.points (gap_second p q ns gap)
+
+    before : IsBefore p q
+    before = gap_order p q ns gap
 
     wm : 0 < m.w
-    wm = middle_wide p q (node_wide k) (node_wide l)
+    wm = middle_wide p q of_p.wide of_q.wide
 
-    on_e : IsBefore p q → is_on e m ≡ true
-    on_e before =
-        let gap = gap_of ns i k l one lt ek el before in
-        middle_on e p q cuts.long (all_among (IsPointOf e) p (map node_point ns) cuts.points (gap_first p q (map node_point ns) gap)) (all_among (IsPointOf e) q (map node_point ns) cuts.points (gap_second p q (map node_point ns) gap)) before
+    on_e : is_on e m ≡ true
+    on_e = middle_on e p q cuts.long of_p of_q before
 
-    parallel : IsBefore p q → (f : Edge) → IsAmong f other.edges.items → is_on f m ≡ true → turn_of e f ≡ pos 0
-    parallel before f one_f on_f = by_zero (turn_of e f)
-        (λ some. absurd (none_in_gap p q m (map node_point ns) wm ns_wide cuts.ascend
-        (record { gap = gap_of ns i k l one lt ek el before; after = before_middle p q before; before = middle_before p q before })
-        (cuts.meetings f m one_f wm (on_e before) on_f some)))
+    parallel : (f : Edge) → IsAmong f other.edges.items → is_on f m ≡ true → turn_of e f ≡ pos 0
+    parallel f one_f on_f = by_zero (turn_of e f)
+        (λ some. absurd (none_in_gap p q m ns wm (All-weaker (IsPointOf e) IsWide (λ n h. h.wide) ns cuts.points) cuts.ascend
+        (record { gap = gap; after = before_middle p q before; before = middle_before p q before })
+        (cuts.meetings f m one_f wm on_e on_f some)))
         (λ flat. flat)
 
     turned_zero : (a b : ℤ) → b ≡ neg_ℤ a → a ≡ pos 0 → b ≡ pos 0
@@ -341,12 +335,28 @@ gap_at own other e ns i k l cuts one lt ek el = record {
     all_three : (t : Bool) (a b : ℤ) → t ≡ true → a ≡ pos 0 → b ≡ pos 0 → (t && (int_eq a (pos 0) && int_eq b (pos 0))) ≡ true
     all_three t a b h g k = rw (h, g, k) refl
 
-    along : IsBefore p q → (f : Edge) → IsAmong f other.edges.items → is_on f m ≡ true → is_along e f ≡ true
-    along before f one_f on_f =
-        let turn = parallel before f one_f on_f in
+    along : (f : Edge) → IsAmong f other.edges.items → is_on f m ≡ true → is_along e f ≡ true
+    along f one_f on_f =
+        let turn = parallel f one_f on_f in
         let back : turn_of f e ≡ pos 0 = turned_zero _ _ (turn_of-turned e f) turn in
-        all_three (do_boxes_meet e f) (turn_of e f) (side e (at f.a)) (boxes_meet e f m wm (on_e before) on_f) turn
-        (line_shared f e m (at f.a) (cuts.others_long f one_f) wm back (on_level f m on_f) (first_level f) (on_level e m (on_e before)))
+        all_three (do_boxes_meet e f) (turn_of e f) (side e (at f.a)) (boxes_meet e f m wm on_e on_f) turn
+        (line_shared f e m (at f.a) (cuts.others_long f one_f) wm back (on_level f m on_f) (first_level f) (on_level e m on_e))
+
+pub gap_at : (own other : Outline) (e : Edge) (ns : List Node) (i : ℕ) (k l : Node) → AreCuts own other e (map node_point ns) → 1 ≤ i → i < length ns → k ≡ get_or ns (i - 1) k → l ≡ get_or ns i l
+    → IsGap own other e (node_point k) (node_point l)
+gap_at own other e ns i k l cuts one lt ek el = record {
+  on = λ less. any_among (λ f. is_on f (middle p q)) own.edges.items e cuts.one (here less).on;
+  uncrossed = here;
+}
+  where
+    p : Point
+    p = node_point k
+
+    q : Point
+    q = node_point l
+
+    here : is_lt (place_order p q) ≡ true → IsUncrossed other e (middle p q)
+    here less = gap_middle own other e (map node_point ns) p q cuts (gap_of ns i k l one lt ek el (order_before p q less))
 
 -- the nodes that an edge has among all edges cut it
 pub cuts_of : (own other : Outline) (es : List Edge) (vs : List Vertex) (e : Edge) (ns : List Point) → IsOneOf own other es e → AreNodesOf es vs e ns → AreCuts own other e ns

@@ -1,4 +1,4 @@
--- Edges beyond the box of the other geometry, which can't add anything to a matrix.
+-- Edges beyond the box of the other geometry, and what an edge in one part of it can add to a matrix.
 use Rattle.std.specs.Prelude.{◌≡◌, ◌≢◌, pos, Bool, true, false, ◌&&◌, ◌||◌, not, int_lt, All}
 use Rattle.std.specs.List.{list_all}
 use Rattle.geom_core.specs.declared.shape.Shape.{Shape}
@@ -6,7 +6,7 @@ use Rattle.geom_core.specs.Shapes.{x1, y1, x2, y2}
 use Rattle.relation_core.specs.declared.extent.Extent.TheVariants.{Line, Area}
 use Rattle.relation_core.specs.declared.part.Parts.{Parts}
 use Rattle.relation_core.specs.declared.matrix.Matrix.{Matrix}
-use Rattle.plane_core.specs.declared.part.Part.TheVariants.{Exterior}
+use Rattle.plane_core.specs.declared.part.Part.{Part}
 use Rattle.plane_core.specs.declared.edge.Edge.{Edge}
 use Rattle.plane_core.specs.declared.outline.Kind.{Kind}
 use Rattle.plane_core.specs.declared.outline.Kind.TheVariants.{Points as Dots}
@@ -54,8 +54,8 @@ parts_along Dots = record { interior = true; boundary = true; exterior = true }
 parts_along Polylines = record { interior = true; boundary = false; exterior = false }
 parts_along Rings = record { interior = false; boundary = true; exterior = false }
 
--- the matrix includes all that an edge can add in the exterior of the other geometry
-pub record IsEdgeShown (m : Matrix) (own : Outline) (e : Edge) : Type 0 where
-  pub pieces : AreShown (pick Exterior (transposed m).rows) (parts_along own.kind) Line
-  pub faces : run e ≢ pos 0 → AreShown (pick Exterior (transposed m).rows) (parts_above own.kind) Area
+-- the matrix has all that an edge can show of a part of the other geometry
+pub record IsEdgeShown (m : Matrix) (own : Outline) (part : Part) (e : Edge) : Type 0 where
+  pub pieces : AreShown (pick part (transposed m).rows) (parts_along own.kind) Line
+  pub faces : run e ≢ pos 0 → AreShown (pick part (transposed m).rows) (parts_above own.kind) Area
   pub free : own.kind ≡ Polylines → has_no_end own e ≡ true

@@ -1,17 +1,17 @@
 -- Points of an edge that are collected one by one, before they are sorted.
-use Rattle.std.specs.Prelude.{◌≡◌, ◌<◌, List, ◌++◌, true}
-use Rattle.std.specs.List.{Contains, slice_index_or}
+use Rattle.std.specs.Prelude.{◌≡◌, ◌≢◌, ◌<◌, pos, List, ◌++◌, Bool, true, ◌&&◌, ◌||◌}
+use Rattle.std.specs.Ordering.{int_eq}
+use Rattle.std.specs.List.{Contains}
 use Rattle.plane_core.specs.declared.edge.Edge.{Edge}
 use Rattle.plane_core.specs.declared.node.Node.{Node}
 use Rattle.plane_core.specs.declared.vertex.Vertex.{Vertex}
-use Rattle.plane_core.specs.Points.{Point, at, is_on, IsSamePlace}
+use Rattle.plane_core.specs.Points.{Point, at, is_on, turn_of, IsSamePlace}
 use Rattle.plane_core.specs.Places.{node_point}
 use Rattle.plane_core.specs.Meetings.{IsMeeting}
-use Rattle.rtree_core.specs.declared.node.Entry.{Entry}
 
--- the same nodes, and more after them
-pub record Extends (old new : List Node) : Type 0 where
-  pub more : List Node
+-- the same elements, and more after them
+pub record Extends {A : Type 0} (old new : List A) : Type 0 where
+  pub more : List A
   pub is : new ≡ old ++ more
 
 abbrev pub IsOn : Edge → Node → Type 0
@@ -37,6 +37,19 @@ pub record HasMeetings (e : Edge) (ns : List Node) (f : Edge) : Type 0 where
   pub last : HasVertex e ns f.b
   pub meeting : HasMeeting e ns f
 
--- the same for the edge with an entry's number
-abbrev pub HasEntryMeetings : Edge → List Edge → List Node → Entry → Type 0
-HasEntryMeetings e es ns x = (d : Edge) → HasMeetings e ns (slice_index_or es x.number d)
+-- both ends of the edge
+pub record HasEnds (e : Edge) (ns : List Node) : Type 0 where
+  pub first : HasVertex e ns e.a
+  pub last : HasVertex e ns e.b
+
+abbrev pub is_same : Vertex → Vertex → Bool
+is_same u v = int_eq u.x v.x && int_eq u.y v.y
+
+-- a vertex is an end of an edge
+abbrev pub is_end : Edge → Vertex → Bool
+is_end e v = is_same e.a v || is_same e.b v
+
+-- edges that aren't parallel have an end in common
+pub record IsJoint (e f : Edge) : Type 0 where
+  pub turning : turn_of e f ≢ pos 0
+  pub end : is_end e f.a || is_end e f.b ≡ true

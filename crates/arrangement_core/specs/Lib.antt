@@ -1,7 +1,9 @@
 pub mod Beyond
 pub mod Gathered
 pub mod Growth
+pub mod Known
 pub mod Marks
+pub mod Near
 pub mod Nodes
 pub mod ReadOffs
 pub mod Shown

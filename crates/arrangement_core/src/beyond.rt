@@ -1,4 +1,5 @@
-//! Edges beyond the box of the other geometry, which can't add anything to a matrix.
+//! Edges beyond the box of the other geometry, and whether a matrix has all that an edge in one part
+//! of it can add.
 
 ghost use Rattle.std.specs.Prelude.{◌≡◌, ◌≢◌, pos, IsTrue};
 ghost use Rattle.relation_core.specs.declared.extent.Extent.TheVariants.{Area};
@@ -71,7 +72,7 @@ fn has_no_end(own: &Outline, e: &Edge) -> bool
 }
 
 /// The same for polylines; true for other kinds.
-fn is_free(own: &Outline, e: &Edge) -> bool
+pub(crate) fn is_free(own: &Outline, e: &Edge) -> bool
     ensures { IsTrue result → own.now.kind ≡ Kind.Lines → IsTrue (has_no_end own.now e.now) }
 {
     match own.kind {
@@ -92,11 +93,11 @@ fn are_faces_in(column: &Parts<Extent>, kind: Kind, e: &Edge) -> bool
     }
 }
 
-/// Whether a matrix includes all that an edge can add in the exterior of the other geometry.
-pub(crate) fn is_edge_shown(matrix: &Matrix, own: &Outline, e: &Edge) -> bool
-    ensures { IsTrue result → IsEdgeShown matrix.now own.now e.now }
+/// Whether a matrix has all that an edge can show of a part of the other geometry.
+pub(crate) fn is_edge_shown(matrix: &Matrix, own: &Outline, part: Part, e: &Edge) -> bool
+    ensures { IsTrue result → IsEdgeShown matrix.now own.now part e.now }
 {
-    let column = column_of(matrix, Part::Exterior);
+    let column = column_of(matrix, part);
     if is_free(own, e) {
         if are_faces_in(&column, own.kind, e) {
             are_shown(&column, &parts_along(own.kind), Extent::Line)

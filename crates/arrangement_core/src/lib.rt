@@ -4,11 +4,13 @@
 
 mod beyond;
 mod entries;
+mod known;
 mod marks;
 mod matrices;
 mod near;
 mod nodes;
 mod pair;
 mod shown;
+mod work;
 
 pub use matrices::relate;

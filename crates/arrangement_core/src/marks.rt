@@ -15,9 +15,7 @@ ghost use Rattle.arrangement_core.specs.ReadOffs.{points_by};
 ghost use Rattle.arrangement_core.specs.Shown.{IsOnEdge, IsUncrossed, IsKnownApart, AreCuts, IsRepeated, IsGap};
 
 use crate::entries::{column_of, raised, row_of};
-use crate::shown::{
-    Course, all_parts, are_shown, course_of, is_piece_shown, part_on_edge, parts_above,
-};
+use crate::shown::{Course, all_parts, are_shown, is_piece_shown, part_on_edge, parts_above};
 use edge_index_core::IndexedOutline;
 use plane_core::{Edge, Kind, Node, Part, Place};
 use relation_core::{Extent, Matrix};
@@ -219,14 +217,17 @@ pub(crate) fn mark_noded(
     matrix: Matrix,
     own: &IndexedOutline,
     other: &IndexedOutline,
-    e: &Edge,
+    course: &Course,
     nodes: &[Node],
 ) -> Matrix
-    requires { AreCuts own.now other.now e.now (map node_point nodes.now) }
-    ensures { let noded : NodedEdge = record { edge = e.now; nodes = map node_point nodes.now } in
+    requires cuts { AreCuts own.now other.now course.now.edge (map node_point nodes.now) }
+    requires apart { IsKnownApart other.now course.now }
+    ensures { let noded : NodedEdge = record {
+      edge = course.now.edge;
+      nodes = map node_point nodes.now;
+    } in
         HasGrownBy (edge_marks own.now other.now noded) matrix result }
 {
     let with_nodes = mark_nodes(matrix, own, other, nodes);
-    let course = course_of(&with_nodes, own.outline().kind, other.outline(), e);
-    mark_gaps(with_nodes, own, other, &course, nodes)
+    mark_gaps(with_nodes, own, other, course, nodes)
 }

@@ -1,20 +1,26 @@
 //! The matrix of two geometries.
 
-ghost use Rattle.std.specs.Prelude.{◌≡◌, ◌++◌, All, List, OnOk, IfOk, IsTrue};
+ghost use Rattle.std.specs.Prelude.{◌≡◌, ◌++◌, All, List, OnOk, IfOk, IfSome, IsTrue};
 ghost use Rattle.plane_core.specs.Figures.{HasLength, IsGeometry};
 ghost use Rattle.plane_core.specs.Outlines.{IsOutlineOf};
 ghost use Rattle.plane_core.specs.PlaneMatrices.{IsPlaneMatrix};
 ghost use Rattle.arrangement_core.specs.Beyond.{IsBounded};
+ghost use Rattle.arrangement_core.specs.Near.{IsFound, IsSeen};
+ghost use Rattle.arrangement_core.specs.Shown.{IsKnownApart};
 ghost use Rattle.arrangement_core.specs.ReadOffs.{points_by, outline_edges, outline_points};
 ghost use Rattle.arrangement_core.specs.ReadOffs.{IsOneOf, IsEdgeMarked, AreMarked, IsReadOffBy};
 
 use crate::beyond::{is_beyond, is_edge_shown};
 use crate::entries::{outside, transposed};
+use crate::known::{adds_none_near, seen_along};
 use crate::marks::{mark_noded, mark_points};
+use crate::near::push_near;
 use crate::nodes::gather_nodes;
 use crate::pair::Pair;
+use crate::shown::{Course, course_of};
+use crate::work::Work;
 use edge_index_core::IndexedOutline;
-use plane_core::{Edge, Geometry, Kind, Node, Outline, Vertex};
+use plane_core::{Edge, Geometry, Kind, Outline, Part, Vertex};
 use relation_core::Matrix;
 use std::alloc::{AllocError, Global};
 
@@ -42,27 +48,63 @@ fn all_points(alloc: Global, a: &Outline, b: &Outline) -> Result<Vec<Vertex>, Al
     Ok(points)
 }
 
-/// The matrix with an edge of the first geometry: its nodes, its pieces, and the faces above these.
-/// `nodes` is a list to reuse.
+/// A matrix that shows an edge of the first geometry, given the edges of the second near it: its
+/// nodes, its pieces, and the faces above these.
 fn mark_near_edge(
-    nodes: &mut Vec<Node>,
+    work: &mut Work,
+    matrix: Matrix,
+    pair: &Pair,
+    points: &[Vertex],
+    course: &Course,
+) -> Result<Matrix, AllocError>
+    requires one { let a = pair.now.first in let b = pair.now.second in
+        IsOneOf a b (outline_edges a b) course.now.edge }
+    requires found { All (IsFound course.now.edge work.old.near.items) pair.now.second.edges.items }
+    requires apart { IsKnownApart pair.now.second course.now }
+    ensures marked { let a = pair.now.first in let b = pair.now.second in
+        let marked = IsEdgeMarked a b (outline_edges a b) points.now course.now.edge in
+        IfOk result (λ m. marked matrix m) }
+    ensures seen { work.new.seen ≡ work.old.seen }
+{
+    push_near(&mut work.near, &course.edge, &pair.first)?;
+    let near = work.near.as_slice();
+    gather_nodes(&mut work.nodes, &course.edge, near, points)?;
+    let nodes = work.nodes.as_slice();
+    let marked = mark_noded(matrix, &pair.first, &pair.second, course, nodes);
+    Ok(marked)
+}
+
+/// The same matrix, if the edges of the second geometry near an edge of the first tell that it can
+/// add nothing, and else one that shows the edge.
+fn mark_met_edge(
+    work: &mut Work,
     matrix: Matrix,
     pair: &Pair,
     points: &[Vertex],
     e: &Edge,
 ) -> Result<Matrix, AllocError>
-    requires { let a = pair.now.first in let b = pair.now.second in
+    requires bounded { IsBounded pair.now.second pair.now.second_box }
+    requires one { let a = pair.now.first in let b = pair.now.second in
         IsOneOf a b (outline_edges a b) e.now }
-    ensures { let a = pair.now.first in let b = pair.now.second in
+    requires seen { IfSome work.old.seen (IsSeen pair.now.second) }
+    ensures marked { let a = pair.now.first in let b = pair.now.second in
         IfOk result (λ m. IsEdgeMarked a b (outline_edges a b) points.now e.now matrix m) }
+    ensures seen { IfSome work.new.seen (IsSeen pair.now.second) }
 {
-    gather_nodes(nodes, e, pair, points)?;
-    Ok(mark_noded(matrix, &pair.first, &pair.second, e, nodes))
+    work.near.clear();
+    push_near(&mut work.near, e, &pair.second)?;
+    let course = course_of(e, &work.near);
+    work.seen = seen_along(pair, e, &work.near, work.seen);
+    if adds_none_near(&matrix, pair, &course, &work.near, work.seen) {
+        Ok(matrix)
+    } else {
+        mark_near_edge(work, matrix, pair, points, &course)
+    }
 }
 
 /// Whether an edge of the first geometry lies beyond the box of the second, and the matrix includes
 /// all that it can add.
-fn adds_none(matrix: &Matrix, pair: &Pair, e: &Edge) -> bool
+fn adds_none_beyond(matrix: &Matrix, pair: &Pair, e: &Edge) -> bool
     requires bounded { IsBounded pair.now.second pair.now.second_box }
     requires one { let a = pair.now.first in let b = pair.now.second in
         IsOneOf a b (outline_edges a b) e.now }
@@ -71,7 +113,7 @@ fn adds_none(matrix: &Matrix, pair: &Pair, e: &Edge) -> bool
         → IsEdgeMarked a b (outline_edges a b) points e.now matrix.now matrix.now }
 {
     if is_beyond(e, &pair.second_box) {
-        is_edge_shown(matrix, pair.first.outline(), e)
+        is_edge_shown(matrix, pair.first.outline(), Part::Exterior, e)
     } else {
         false
     }
@@ -79,7 +121,7 @@ fn adds_none(matrix: &Matrix, pair: &Pair, e: &Edge) -> bool
 
 /// The matrix with an edge of the first geometry. It is unchanged if the edge can add nothing.
 fn mark_edge(
-    nodes: &mut Vec<Node>,
+    work: &mut Work,
     matrix: Matrix,
     pair: &Pair,
     points: &[Vertex],
@@ -88,13 +130,26 @@ fn mark_edge(
     requires bounded { IsBounded pair.now.second pair.now.second_box }
     requires one { let a = pair.now.first in let b = pair.now.second in
         IsOneOf a b (outline_edges a b) e.now }
-    ensures { let a = pair.now.first in let b = pair.now.second in
+    requires seen { IfSome work.old.seen (IsSeen pair.now.second) }
+    ensures marked { let a = pair.now.first in let b = pair.now.second in
         IfOk result (λ m. IsEdgeMarked a b (outline_edges a b) points.now e.now matrix m) }
+    ensures seen { IfSome work.new.seen (IsSeen pair.now.second) }
 {
-    if adds_none(&matrix, pair, e) {
+    if adds_none_beyond(&matrix, pair, e) {
         Ok(matrix)
     } else {
-        mark_near_edge(nodes, matrix, pair, points, e)
+        mark_met_edge(work, matrix, pair, points, e)
+    }
+}
+
+/// Empty lists, and no vertex.
+fn no_work(alloc: Global) -> Work
+    ensures { result.seen ≡ None }
+{
+    Work {
+        near: Vec::new(alloc),
+        nodes: Vec::new(alloc),
+        seen: None,
     }
 }
 
@@ -111,11 +166,11 @@ fn mark_edges(
         let marked = AreMarked a b (outline_edges a b) points.now a.edges.items in
         IfOk result (λ m. marked matrix m) }
 {
-    let mut nodes = Vec::new(alloc);
+    let mut work = no_work(alloc);
     let mut grown = matrix;
     let own_edges = pair.first.edges();
     for e in own_edges {
-        grown = mark_edge(&mut nodes, grown, pair, points, e)?;
+        grown = mark_edge(&mut work, grown, pair, points, e)?;
     }
     Ok(grown)
 }

@@ -1,33 +1,32 @@
-//! The points where the edges in a tree meet an edge.
+//! The edges of a geometry that may meet an edge: those whose boxes meet the edge's box.
 
 ghost use Rattle.std.specs.Prelude.{All, OnOk};
 ghost use Rattle.std.specs.List.{flat_map};
+ghost use Rattle.plane_core.specs.declared.edge.Edge.{Edge};
 ghost use Rattle.rtree_core.specs.Nodes.{entries_of, IsLawful};
 ghost use Rattle.edge_index_core.specs.Bounds.{IsBoxOf};
 ghost use Rattle.edge_index_core.specs.Trees.{IsEntryIn};
-ghost use Rattle.arrangement_core.specs.Gathered.{Extends, IsOn, HasEntryMeetings};
+ghost use Rattle.arrangement_core.specs.Gathered.{Extends};
+ghost use Rattle.arrangement_core.specs.Near.{IsFound, IsEntryFound};
 
-use crate::nodes::push_meetings;
+use edge_index_core::{IndexedOutline, bounds_of};
 use geom_core::Shape;
-use plane_core::{Edge, Node};
+use plane_core::Edge;
 use rtree_core::{Entry, Node as TreeNode};
 use std::alloc::AllocError;
 
-/// Adds the points where the edges of a leaf meet the edge, whose bounding box is `bounds`.
-fn push_entry_meetings(
-    nodes: &mut Vec<Node>,
-    e: &Edge,
+/// Adds the edges of a leaf whose boxes meet an edge's box.
+fn push_entries(
+    near: &mut Vec<Edge>,
     bounds: &Shape,
     edges: &[Edge],
     entries: &[Entry],
 ) -> Result<(), AllocError>
-    requires on { All (IsOn e.now) nodes.old.items }
-    requires bounds { IsBoxOf e.now bounds.now }
-    requires entries { All (IsEntryIn edges.now) entries.now }
-    ensures kept { OnOk result (Extends nodes.old.items nodes.new.items) }
-    ensures on { OnOk result (All (IsOn e.now) nodes.new.items) }
-    ensures meetings { let has = HasEntryMeetings e.now edges.now nodes.new.items in
-        OnOk result (All has entries.now) }
+    requires { All (IsEntryIn edges.now) entries.now }
+    ensures kept { OnOk result (Extends near.old.items near.new.items) }
+    ensures found { let near = near.new.items in
+        OnOk result ((e : Edge) → IsBoxOf e bounds.now
+        → All (IsEntryFound e edges.now near) entries.now) }
 {
     for entry in entries {
         let meets = entry.shape.meets(bounds);
@@ -35,29 +34,26 @@ fn push_entry_meetings(
             continue;
         }
         let f = &edges[entry.number as usize];
-        push_meetings(nodes, e, f)?;
+        near.push(*f)?;
     }
     Ok(())
 }
 
-/// Adds those of the edges below nodes of a tree. A node is skipped if its cover doesn't meet the
-/// edge's box.
+/// Adds those of the edges below some nodes of a tree. Below a node whose cover doesn't meet the
+/// edge's box there are none.
 #[cycle(near)]
-fn push_nodes_meetings(
-    nodes: &mut Vec<Node>,
-    e: &Edge,
+fn push_nodes(
+    near: &mut Vec<Edge>,
     bounds: &Shape,
     edges: &[Edge],
     tree: &[TreeNode],
 ) -> Result<(), AllocError>
-    requires on { All (IsOn e.now) nodes.old.items }
-    requires bounds { IsBoxOf e.now bounds.now }
     requires lawful { All IsLawful tree.now }
     requires entries { All (IsEntryIn edges.now) (flat_map entries_of tree.now) }
-    ensures kept { OnOk result (Extends nodes.old.items nodes.new.items) }
-    ensures on { OnOk result (All (IsOn e.now) nodes.new.items) }
-    ensures meetings { let has = HasEntryMeetings e.now edges.now nodes.new.items in
-        OnOk result (All has (flat_map entries_of tree.now)) }
+    ensures kept { OnOk result (Extends near.old.items near.new.items) }
+    ensures found { let near = near.new.items in
+        OnOk result ((e : Edge) → IsBoxOf e bounds.now
+        → All (IsEntryFound e edges.now near) (flat_map entries_of tree.now)) }
 {
     for node in tree {
         let cover = node.cover();
@@ -65,35 +61,68 @@ fn push_nodes_meetings(
         if !meets {
             continue;
         }
-        push_node_meetings(nodes, e, bounds, edges, node)?;
+        push_node(near, bounds, edges, node)?;
     }
     Ok(())
 }
 
 /// Adds those of the edges below a node of a tree.
 #[cycle(near)]
-pub(crate) fn push_node_meetings(
-    nodes: &mut Vec<Node>,
-    e: &Edge,
+fn push_node(
+    near: &mut Vec<Edge>,
     bounds: &Shape,
     edges: &[Edge],
     node: &TreeNode,
 ) -> Result<(), AllocError>
-    requires on { All (IsOn e.now) nodes.old.items }
-    requires bounds { IsBoxOf e.now bounds.now }
     requires lawful { IsLawful node.now }
     requires entries { All (IsEntryIn edges.now) (entries_of node.now) }
-    ensures kept { OnOk result (Extends nodes.old.items nodes.new.items) }
-    ensures on { OnOk result (All (IsOn e.now) nodes.new.items) }
-    ensures meetings { let has = HasEntryMeetings e.now edges.now nodes.new.items in
-        OnOk result (All has (entries_of node.now)) }
+    ensures kept { OnOk result (Extends near.old.items near.new.items) }
+    ensures found { let near = near.new.items in
+        OnOk result ((e : Edge) → IsBoxOf e bounds.now
+        → All (IsEntryFound e edges.now near) (entries_of node.now)) }
 {
     let leaf = node.is_leaf();
     if leaf {
         let entries = node.entries();
-        push_entry_meetings(nodes, e, bounds, edges, entries)
+        push_entries(near, bounds, edges, entries)
     } else {
         let children = node.children();
-        push_nodes_meetings(nodes, e, bounds, edges, children)
+        push_nodes(near, bounds, edges, children)
+    }
+}
+
+/// Adds those of a list of edges.
+fn push_few(near: &mut Vec<Edge>, e: &Edge, edges: &[Edge]) -> Result<(), AllocError>
+    ensures kept { OnOk result (Extends near.old.items near.new.items) }
+    ensures found { let near = near.new.items in OnOk result (All (IsFound e.now near) edges.now) }
+{
+    for f in edges {
+        let meets = e.is_box_meeting(f);
+        if !meets {
+            continue;
+        }
+        near.push(*f)?;
+    }
+    Ok(())
+}
+
+/// Adds the edges of an outline whose boxes meet an edge's box.
+pub(crate) fn push_near(
+    near: &mut Vec<Edge>,
+    e: &Edge,
+    outline: &IndexedOutline,
+) -> Result<(), AllocError>
+    ensures kept { OnOk result (Extends near.old.items near.new.items) }
+    ensures found { let near = near.new.items in
+        OnOk result (All (IsFound e.now near) outline.now.edges.items) }
+{
+    let edges = outline.edges();
+    match outline.root() {
+        Some(root) => {
+            let bounds = bounds_of(e);
+            push_node(near, &bounds, edges, root)?;
+            Ok(())
+        }
+        None => push_few(near, e, edges),
     }
 }

@@ -1,8 +1,9 @@
 //! Whether a matrix already includes all that a point could add to it.
 
-ghost use Rattle.std.specs.Prelude.{◌≡◌, ◌≤◌, ◌↔◌, pos, not, IsTrue, count_by};
+ghost use Rattle.std.specs.Prelude.{◌≡◌, ◌≤◌, ◌↔◌, pos, not, All, IsTrue, count_by};
 ghost use Rattle.std.specs.List.{list_all};
 ghost use Rattle.std.specs.Ordering.{int_eq};
+ghost use Rattle.plane_core.specs.declared.outline.Outline.{Outline};
 ghost use Rattle.plane_core.specs.Points.{at, side, turn_of, is_at};
 ghost use Rattle.plane_core.specs.Places.{point_of};
 ghost use Rattle.plane_core.specs.Figures.{is_odd};
@@ -13,6 +14,7 @@ ghost use Rattle.arrangement_core.specs.Shown.{AreShown, all_parts, parts_above,
 ghost use Rattle.arrangement_core.specs.Shown.{is_along, IsOnEdge, IsUncrossed, IsKnownApart};
 ghost use Rattle.arrangement_core.specs.Shown.{AreFacesShown, IsFaceShown};
 ghost use Rattle.arrangement_core.specs.Growth.{HasGrownBy, piece_marks};
+ghost use Rattle.arrangement_core.specs.Near.{IsFound};
 
 use crate::entries::{rank, row_of};
 use plane_core::{Edge, Kind, Outline, Part, Place, Vertex};
@@ -131,36 +133,14 @@ pub(crate) struct Course {
     pub(crate) is_apart: bool,
 }
 
-/// Whether a matrix includes so much that it pays to find out if an edge runs along none of the
-/// other geometry's.
-fn has_most(matrix: &Matrix, own: Kind, other: Kind) -> bool {
-    let part = match own {
-        Kind::Areas => Part::Boundary,
-        Kind::Points | Kind::Lines => Part::Interior,
-    };
-    let row = row_of(matrix, part);
-    let rest = Parts {
-        interior: other == Kind::Areas,
-        boundary: false,
-        exterior: true,
-    };
-    are_shown(&row, &rest, Extent::Line)
-}
-
-/// The course of an edge. Whether it runs along another is found out only if that pays.
-pub(crate) fn course_of(matrix: &Matrix, own: Kind, other: &Outline, e: &Edge) -> Course
+/// The course of an edge, by the edges of the other geometry near it.
+pub(crate) fn course_of(e: &Edge, near: &[Edge]) -> Course
     ensures edge { result.edge ≡ e.now }
-    ensures apart { IsKnownApart other.now result }
+    ensures apart { (other : Outline) → All (IsFound e.now near.now) other.edges.items
+        → IsKnownApart other result }
 {
-    if has_most(matrix, own, other.kind) {
-        let is_apart = is_apart(e, &other.edges);
-        Course { edge: *e, is_apart }
-    } else {
-        Course {
-            edge: *e,
-            is_apart: false,
-        }
-    }
+    let is_apart = is_apart(e, near);
+    Course { edge: *e, is_apart }
 }
 
 /// The part of a geometry in which a point of one of its edges lies.
@@ -215,7 +195,7 @@ fn are_faces_shown(matrix: &Matrix, own: Kind, other: Kind) -> bool
 }
 
 /// Whether a matrix includes the face above an edge, if there is one.
-fn is_face_shown(matrix: &Matrix, own: Kind, other: Kind, e: &Edge) -> bool
+pub(crate) fn is_face_shown(matrix: &Matrix, own: Kind, other: Kind, e: &Edge) -> bool
     ensures { IsTrue result → IsFaceShown matrix.now own other e.now }
 {
     if e.is_vertical() {

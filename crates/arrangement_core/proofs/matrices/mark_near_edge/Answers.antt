@@ -1,17 +1,35 @@
+use Rattle.std.proofs.lemmas.List.Elements.{All-append}
 use Rattle.plane_core.specs.Figures.{HasLength}
+use Rattle.arrangement_core.specs.Near.{IsFound}
 use Rattle.arrangement_core.specs.ReadOffs.{outline_edges}
 use Rattle.arrangement_core.proofs.NodeLemmas.{all_among}
+use Rattle.arrangement_core.proofs.NearLemmas.{all_found_kept, near_nodes}
 use Rattle.arrangement_core.proofs.ReadOffLemmas.{edge_marked}
 use Rattle.arrangement_core.proofs.ShownLemmas.{cuts_at}
 use Rattle.arrangement_core.proofs.matrices.mark_near_edge.Goals as goal
 
-pub mark_noded-requires : goal.mark_noded-requires
-mark_noded-requires c = cuts_at _ _ _ _ _ _ c.deref.result.now c.requires c.in_ok-gather_nodes.ensures c.deref.ensures.value
-
 pub gather_nodes-requires : goal.gather_nodes-requires
 gather_nodes-requires c =
+    let e = c.args.course.now.edge in
     let es = outline_edges c.args.pair.now.first c.args.pair.now.second in
-    all_among HasLength c.args.e.now es c.requires.edges.long (c.requires.edges.first c.args.e.now c.requires.one)
+    all_among HasLength e es c.requires.one.edges.long (c.requires.one.edges.first e c.requires.one.one)
 
-pub returns : goal.returns
-returns c = edge_marked _ _ _ _ _ _ c.deref.result.now _ _ c.in_ok-gather_nodes.ensures c.deref.ensures.value c.mark_noded.ensures
+pub mark_noded-marked-requires-clause-cuts : goal.mark_noded-marked-requires-clause-cuts
+mark_noded-marked-requires-clause-cuts c =
+    let e = c.args.course.now.edge in
+    let a = c.args.pair.now.first in
+    let b = c.args.pair.now.second in
+    let near = c.in_ok-push_near.ensures in
+    let found = All-append (IsFound e _) a.edges.items b.edges.items near.found (all_found_kept e _ _ b.edges.items near.kept c.requires.found) in
+    cuts_at _ _ _ _ _ _ c.as_slice-nodes.result.now c.requires.one
+    (near_nodes e (outline_edges a b) _ _ _ found (rw c.as_slice-near.ensures.value at c.in_ok-gather_nodes.ensures)) c.as_slice-nodes.ensures.value
+
+pub returns-clause-marked : goal.returns-clause-marked
+returns-clause-marked c =
+    let e = c.args.course.now.edge in
+    let a = c.args.pair.now.first in
+    let b = c.args.pair.now.second in
+    let near = c.in_ok-push_near.ensures in
+    let found = All-append (IsFound e _) a.edges.items b.edges.items near.found (all_found_kept e _ _ b.edges.items near.kept c.requires.found) in
+    edge_marked _ _ _ _ _ _ c.as_slice-nodes.result.now _ _
+    (near_nodes e (outline_edges a b) _ _ _ found (rw c.as_slice-near.ensures.value at c.in_ok-gather_nodes.ensures)) c.as_slice-nodes.ensures.value c.mark_noded-marked.ensures

@@ -1,0 +1,162 @@
+//! Edges that can add nothing more to a matrix, by what is known of their places in the other
+//! geometry.
+
+ghost use Rattle.std.specs.Prelude.{◌≡◌, ◌≢◌, [], All, List, IsTrue, IfSome};
+ghost use Rattle.std.specs.List.{list_any};
+ghost use Rattle.plane_core.specs.declared.vertex.Vertex.{Vertex};
+ghost use Rattle.plane_core.specs.Points.{at, is_on};
+ghost use Rattle.plane_core.specs.Outlines.{outline_part};
+ghost use Rattle.arrangement_core.specs.Beyond.{IsBounded};
+ghost use Rattle.arrangement_core.specs.Known.{part_along, parts_met, parts_passed, is_touched};
+ghost use Rattle.arrangement_core.specs.Known.{IsAllShown};
+ghost use Rattle.arrangement_core.specs.Near.{IsFound, IsSeen, IsSeenAlong};
+ghost use Rattle.arrangement_core.specs.ReadOffs.{outline_edges, IsOneOf, IsEdgeMarked};
+ghost use Rattle.arrangement_core.specs.Shown.{IsKnownApart};
+
+use crate::beyond::{is_edge_shown, is_free};
+use crate::entries::row_of;
+use crate::pair::Pair;
+use crate::shown::{Course, are_shown, is_face_shown};
+use edge_index_core::IndexedOutline;
+use plane_core::{Edge, Kind, Outline, Part, Place, Vertex};
+use relation_core::{Extent, Matrix, Parts};
+
+/// A vertex, and the part of the other geometry in which it lies.
+#[derive(Clone, Copy)]
+pub(crate) struct Seen {
+    pub(crate) vertex: Vertex,
+    pub(crate) part: Part,
+}
+
+/// The part of a geometry in which a vertex lies, looked up unless it was seen.
+fn part_at(other: &IndexedOutline, v: &Vertex, seen: Option<Seen>) -> Part
+    requires { IfSome seen (IsSeen other.now) }
+    ensures { result ≡ outline_part other.now (at v.now) }
+{
+    if let Some(known) = seen {
+        if known.vertex.x == v.x && known.vertex.y == v.y {
+            return known.part;
+        }
+    }
+    other.standing_at(&Place::at(v)).part
+}
+
+/// Whether a geometry has edges, and none of them is near.
+fn is_clear(kind: Kind, near: &[Edge]) -> bool
+    ensures edges { IsTrue result → kind ≢ Kind.Points }
+    ensures none { IsTrue result → near.now ≡ [] }
+{
+    kind != Kind::Points && near.is_empty()
+}
+
+/// The last end of an edge, and the part of the second geometry in which the edge lies: one that
+/// has none of its edges near it lies in one part.
+pub(crate) fn seen_along(pair: &Pair, e: &Edge, near: &[Edge], seen: Option<Seen>) -> Option<Seen>
+    requires bounded { IsBounded pair.now.second pair.now.second_box }
+    requires found { All (IsFound e.now near.now) pair.now.second.edges.items }
+    requires seen { IfSome seen (IsSeen pair.now.second) }
+    ensures { IfSome result (IsSeenAlong pair.now.second e.now) }
+{
+    let outline = pair.second.outline();
+    if is_clear(outline.kind, near) {
+        let part = part_at(&pair.second, &e.a, seen);
+        Some(Seen { vertex: e.b, part })
+    } else {
+        None
+    }
+}
+
+/// The part in which the points of an edge lie at which no polyline ends.
+fn part_along(kind: Kind) -> Part
+    ensures { result ≡ part_along kind }
+{
+    match kind {
+        Kind::Points => Part::Interior,
+        Kind::Lines => Part::Interior,
+        Kind::Areas => Part::Boundary,
+    }
+}
+
+/// Whether an end of an edge near another is on that one.
+fn is_touched(e: &Edge, near: &[Edge]) -> bool
+    ensures { result ≡ is_touched e.now near.now }
+{
+    near.iter()
+        .any(|f| e.is_on_vertex(&f.a) || e.is_on_vertex(&f.b))
+}
+
+/// The parts of the other geometry in which a point of an edge may lie.
+fn parts_met(kind: Kind, e: &Edge, near: &[Edge]) -> Parts<bool>
+    ensures { result ≡ parts_met kind (is_touched e.now near.now) }
+{
+    let boundary = match kind {
+        Kind::Points => is_touched(e, near),
+        Kind::Lines => is_touched(e, near),
+        Kind::Areas => true,
+    };
+    Parts {
+        interior: true,
+        boundary,
+        exterior: true,
+    }
+}
+
+/// The parts of the other geometry in which a piece of an edge may lie that runs along none of it.
+fn parts_passed(kind: Kind) -> Parts<bool>
+    ensures { result ≡ parts_passed kind }
+{
+    Parts {
+        interior: kind != Kind::Lines,
+        boundary: kind == Kind::Points,
+        exterior: true,
+    }
+}
+
+/// Whether a matrix has the nodes and pieces of an edge that runs along none of the other geometry.
+fn is_all_shown(matrix: &Matrix, own: &Outline, other: &Outline, e: &Edge, near: &[Edge]) -> bool
+    ensures { IsTrue result → IsAllShown matrix.now own.now other.now e.now near.now }
+{
+    if own.kind == Kind::Points || other.kind == Kind::Points {
+        return false;
+    }
+    if !is_face_shown(matrix, own.kind, other.kind, e) || !is_free(own, e) {
+        return false;
+    }
+    let row = row_of(matrix, part_along(own.kind));
+    if !are_shown(&row, &parts_passed(other.kind), Extent::Line) {
+        return false;
+    }
+    are_shown(&row, &parts_met(other.kind, e, near), Extent::Point)
+}
+
+/// Whether an edge of the first geometry can add nothing to a matrix, by the part of the second in
+/// which it lies, where this is known, and by the edges of the second near it.
+pub(crate) fn adds_none_near(
+    matrix: &Matrix,
+    pair: &Pair,
+    course: &Course,
+    near: &[Edge],
+    seen: Option<Seen>,
+) -> bool
+    requires bounded { IsBounded pair.now.second pair.now.second_box }
+    requires one { let a = pair.now.first in let b = pair.now.second in
+        IsOneOf a b (outline_edges a b) course.now.edge }
+    requires found { All (IsFound course.now.edge near.now) pair.now.second.edges.items }
+    requires apart { IsKnownApart pair.now.second course.now }
+    requires seen { IfSome seen (IsSeenAlong pair.now.second course.now.edge) }
+    ensures { let a = pair.now.first in let b = pair.now.second in
+        (points : List Vertex) → IsTrue result
+        → IsEdgeMarked a b (outline_edges a b) points course.now.edge matrix.now matrix.now }
+{
+    let own = pair.first.outline();
+    match seen {
+        Some(known) => is_edge_shown(matrix, own, known.part, &course.edge),
+        None => {
+            if course.is_apart {
+                is_all_shown(matrix, own, pair.second.outline(), &course.edge, near)
+            } else {
+                false
+            }
+        }
+    }
+}
