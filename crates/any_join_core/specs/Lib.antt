@@ -1,0 +1,3 @@
+pub mod AnyGeometries
+pub mod Matches
+pub mod StandingNear

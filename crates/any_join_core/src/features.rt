@@ -1,0 +1,69 @@
+//! The relation of two features, each given by its number in a layer, as a condition that a
+//! refinement decides.
+
+ghost use Rattle.any_join_core.specs.Matches.{AllowRings};
+
+use crate::geometry::AnyGeometry;
+use crate::matching::related;
+use any_relation_core::AnyRelation;
+use layer_core::Layer;
+use refine_core::Condition;
+use relation_core::Matrix;
+use std::alloc::{AllocError, Global};
+
+/// Which features of two layers stand in a relation.
+#[derive(Drop)]
+pub struct RelatedFeatures<'a> {
+    left: &'a Layer<AnyGeometry>,
+    right: &'a Layer<AnyGeometry>,
+    relation: &'a AnyRelation,
+    ghost left_rings: { ∥ AllowRings relation.now left.now.list ∥₁ },
+    ghost right_rings: { ∥ AllowRings relation.now right.now.list ∥₁ },
+}
+
+impl<'a> RelatedFeatures<'a> {
+    ghost use Rattle.std.specs.Prelude.{◌≡◌};
+
+    /// The relation of the features of these layers.
+    pub fn new(
+        left: &'a Layer<AnyGeometry>,
+        right: &'a Layer<AnyGeometry>,
+        relation: &'a AnyRelation,
+    ) -> RelatedFeatures<'a>
+        requires left { AllowRings relation.now left.now.list }
+        requires right { AllowRings relation.now right.now.list }
+        ensures left { result.left.now.list ≡ left.now.list }
+        ensures right { result.right.now.list ≡ right.now.list }
+        ensures relation { result.relation.now ≡ relation.now }
+    {
+        RelatedFeatures {
+            left,
+            right,
+            relation,
+        }
+    }
+}
+
+impl<'a> Condition for RelatedFeatures<'a> {
+    ghost use Rattle.any_join_core.specs.Matches.{HaveBoth, BoxesMeet, StandIn, HaveMatrix};
+    ghost use Rattle.any_join_core.specs.StandingNear.{standing_near};
+
+    /// The matrix of the two geometries.
+    type Answer = Matrix;
+
+    ghost near = { λ c i j. HaveBoth BoxesMeet c.left.now.list c.right.now.list i j };
+
+    ghost stands = { λ c i j. HaveBoth (StandIn c.relation.now) c.left.now.list c.right.now.list i j };
+
+    ghost answers = { λ c i j m. HaveBoth (HaveMatrix m) c.left.now.list c.right.now.list i j };
+
+    fn decide(&self, alloc: Global, left: u32, right: u32) -> Result<Option<Matrix>, AllocError> {
+        match (self.left.shape(left), self.right.shape(right)) {
+            (Some(first), Some(second)) => related(alloc, self.relation, first, second),
+            _ => Ok(None),
+        }
+    }
+
+    ghost stands_near = { λ c i j stands. standing_near c.relation.now c.left.now.list
+        c.right.now.list c.left_rings c.right_rings i j stands };
+}
