@@ -16,7 +16,7 @@ use Rattle.plane_core.proofs.ScaleLemmas.{less_scaled}
 use Rattle.arrangement_core.proofs.TestLemmas.{by_test}
 use Rattle.arrangement_core.proofs.OrderLemmas.{wide_z}
 use Rattle.arrangement_core.proofs.BeyondLemmas.{holds_all, IsAside, aside_part}
-use Rattle.arrangement_core.proofs.BeyondLemmas.IsAside.{Left, Right, Low, High}
+use Rattle.arrangement_core.proofs.BeyondLemmas.IsAside.{Left as AsideLeft, Right as AsideRight, Low, High}
 use Rattle.any_relation_core.specs.PlaneRelations.{HoldsOf, AreDisjoint, ForbidsDisjoint}
 
 -- ---- boxes that lie apart
@@ -35,8 +35,8 @@ module _ (g h : Figure) (s t : Shape) (good_g : IsGeometry g) (good_h : IsGeomet
   left_of apart p wide in_g in_h =
       let up = wide_z p.w wide in
       by_test (int_lt (pos p.w *ℤ x2 s) p.x)
-      (λ beyond. in_g (aside_part g s p good_g wide (holds_all s g in_s) (Right (more _ _ beyond))))
-      (λ not_beyond. in_h (aside_part h t p good_h wide (holds_all t h in_t) (Left (past (pos p.w) (x2 s) (x1 t) p.x (less_scaled (pos p.w) (x2 s) (x1 t) up apart) not_beyond))))
+      (λ beyond. in_g (aside_part g s p good_g wide (holds_all s g in_s) (AsideRight (more _ _ beyond))))
+      (λ not_beyond. in_h (aside_part h t p good_h wide (holds_all t h in_t) (AsideLeft (past (pos p.w) (x2 s) (x1 t) p.x (less_scaled (pos p.w) (x2 s) (x1 t) up apart) not_beyond))))
 
   below_it : y2 s <ℤ y1 t → AreDisjoint g h
   below_it apart p wide in_g in_h =
@@ -68,21 +68,26 @@ spans_meet a b h k =
     less_or_level : (m n : ℤ) → m <ℤ n → m ≤ℤ n
     less_or_level m n h = grind (arith, ints)
 
-boxes_meet : (s t : Shape) → int_lt (x2 s) (x1 t) ≡ false → int_lt (x2 t) (x1 s) ≡ false → int_lt (y2 s) (y1 t) ≡ false → int_lt (y2 t) (y1 s) ≡ false → Meets s t
-boxes_meet s t h k l m =
-    let (u, in_s, in_t) = spans_meet s.x t.x h k in
-    let (v, up_s, up_t) = spans_meet s.y t.y l m in
-    (u, v, (in_s, up_s), (in_t, up_t))
-
 -- ---- the law
 
-pub boxes_of_relation : (rings : Rings) (relation : Relation) (g h : Figure) (s t : Shape) → ForbidsDisjoint rings relation → IsGeometryOf rings g → IsGeometryOf rings h → All (HoldsVertex s) (vertices_of g) → All (HoldsVertex t) (vertices_of h) → HoldsOf relation g h → Meets s t
-boxes_of_relation rings relation g h s t forbids is_g is_h in_s in_t holds =
-    by_test (int_lt (x2 s) (x1 t)) (λ apart. never (left_of g h s t is_g.0 is_h.0 in_s in_t (more _ _ apart)))
-    (λ near_1. by_test (int_lt (x2 t) (x1 s)) (λ apart. never (turned g h (left_of h g t s is_h.0 is_g.0 in_t in_s (more _ _ apart))))
-    (λ near_2. by_test (int_lt (y2 s) (y1 t)) (λ apart. never (below_it g h s t is_g.0 is_h.0 in_s in_t (more _ _ apart)))
-    (λ near_3. by_test (int_lt (y2 t) (y1 s)) (λ apart. never (turned g h (below_it h g t s is_h.0 is_g.0 in_t in_s (more _ _ apart))))
-    (λ near_4. boxes_meet s t near_1 near_2 near_3 near_4))))
-  where
-    never : AreDisjoint g h → Meets s t
-    never apart = absurd (forbids g h is_g is_h apart holds)
+-- one of the boxes lies beyond the other
+pub data AreApart (s t : Shape) : Type 0 where
+  Left : x2 s <ℤ x1 t → AreApart s t
+  Right : x2 t <ℤ x1 s → AreApart s t
+  Below : y2 s <ℤ y1 t → AreApart s t
+  Above : y2 t <ℤ y1 s → AreApart s t
+
+pub meet_or_apart : (s t : Shape) → ¬ (AreApart s t) → Meets s t
+meet_or_apart s t near =
+    let (u, in_s, in_t) = spans_meet s.x t.x (by_test (int_lt (x2 s) (x1 t)) (λ k. absurd (near (Left (more _ _ k)))) (λ k. k)) (by_test (int_lt (x2 t) (x1 s)) (λ k. absurd (near (Right (more _ _ k)))) (λ k. k)) in
+    let (v, up_s, up_t) = spans_meet s.y t.y (by_test (int_lt (y2 s) (y1 t)) (λ k. absurd (near (Below (more _ _ k)))) (λ k. k)) (by_test (int_lt (y2 t) (y1 s)) (λ k. absurd (near (Above (more _ _ k)))) (λ k. k)) in
+    (u, v, (in_s, up_s), (in_t, up_t))
+
+disjoint_apart : (g h : Figure) (s t : Shape) → IsGeometry g → IsGeometry h → All (HoldsVertex s) (vertices_of g) → All (HoldsVertex t) (vertices_of h) → AreApart s t → AreDisjoint g h
+disjoint_apart g h s t good_g good_h in_s in_t (Left k) = left_of g h s t good_g good_h in_s in_t k
+disjoint_apart g h s t good_g good_h in_s in_t (Right k) = turned g h (left_of h g t s good_h good_g in_t in_s k)
+disjoint_apart g h s t good_g good_h in_s in_t (Below k) = below_it g h s t good_g good_h in_s in_t k
+disjoint_apart g h s t good_g good_h in_s in_t (Above k) = turned g h (below_it h g t s good_h good_g in_t in_s k)
+
+pub boxes_of_relation : (rings : Rings) (relation : Relation) (g h : Figure) (s t : Shape) → ForbidsDisjoint rings relation → IsGeometryOf rings g → IsGeometryOf rings h → All (HoldsVertex s) (vertices_of g) → All (HoldsVertex t) (vertices_of h) → HoldsOf relation g h → ¬ (AreApart s t)
+boxes_of_relation rings relation g h s t forbids is_g is_h in_s in_t holds apart = forbids g h is_g is_h (disjoint_apart g h s t is_g.0 is_h.0 in_s in_t apart) holds
