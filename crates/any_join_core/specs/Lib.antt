@@ -1,3 +1,4 @@
 pub mod AnyGeometries
+pub mod Conditions
 pub mod Matches
 pub mod StandingNear

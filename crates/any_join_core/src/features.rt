@@ -1,5 +1,4 @@
-//! The relation of two features, each given by its number in a layer, as a condition that a
-//! refinement decides.
+//! The relation of two features of two layers, as a condition that a refinement decides.
 
 ghost use Rattle.any_join_core.specs.Matches.{AllowRings};
 
@@ -23,6 +22,7 @@ pub struct RelatedFeatures<'a> {
 
 impl<'a> RelatedFeatures<'a> {
     ghost use Rattle.std.specs.Prelude.{◌≡◌};
+    ghost use Rattle.any_join_core.specs.Conditions.{left_of, right_of, wanted};
 
     /// The relation of the features of these layers.
     pub fn new(
@@ -32,9 +32,9 @@ impl<'a> RelatedFeatures<'a> {
     ) -> RelatedFeatures<'a>
         requires left { AllowRings relation.now left.now.list }
         requires right { AllowRings relation.now right.now.list }
-        ensures left { result.left.now.list ≡ left.now.list }
-        ensures right { result.right.now.list ≡ right.now.list }
-        ensures relation { result.relation.now ≡ relation.now }
+        ensures left { left_of result ≡ left.now.list }
+        ensures right { right_of result ≡ right.now.list }
+        ensures relation { wanted result ≡ relation.now }
     {
         RelatedFeatures {
             left,
@@ -45,17 +45,18 @@ impl<'a> RelatedFeatures<'a> {
 }
 
 impl<'a> Condition for RelatedFeatures<'a> {
+    ghost use Rattle.any_join_core.specs.Conditions.{left_of, right_of, wanted};
     ghost use Rattle.any_join_core.specs.Matches.{HaveBoth, BoxesMeet, StandIn, HaveMatrix};
     ghost use Rattle.any_join_core.specs.StandingNear.{standing_near};
 
     /// The matrix of the two geometries.
     type Answer = Matrix;
 
-    ghost near = { λ c i j. HaveBoth BoxesMeet c.left.now.list c.right.now.list i j };
+    ghost near = { λ c i j. HaveBoth BoxesMeet (left_of c) (right_of c) i j };
 
-    ghost stands = { λ c i j. HaveBoth (StandIn c.relation.now) c.left.now.list c.right.now.list i j };
+    ghost stands = { λ c i j. HaveBoth (StandIn (wanted c)) (left_of c) (right_of c) i j };
 
-    ghost answers = { λ c i j m. HaveBoth (HaveMatrix m) c.left.now.list c.right.now.list i j };
+    ghost answers = { λ c i j m. HaveBoth (HaveMatrix m) (left_of c) (right_of c) i j };
 
     fn decide(&self, alloc: Global, left: u32, right: u32) -> Result<Option<Matrix>, AllocError> {
         match (self.left.shape(left), self.right.shape(right)) {
