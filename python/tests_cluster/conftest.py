@@ -107,13 +107,19 @@ def running_group(words: Sequence[str]) -> Iterator[Any]:
     end.
     """
     with subprocess.Popen(
-        words, stderr=subprocess.PIPE, text=True, start_new_session=True
+        words, stderr=subprocess.PIPE, text=True, start_new_session=True, preexec_fn=hear_signals
     ) as process:
         try:
             yield process
         finally:
             if process.poll() is None:
                 os.killpg(process.pid, signal.SIGTERM)
+
+
+def hear_signals() -> None:
+    """What runs in the background may ignore some of them, and what it starts too."""
+    for ending in (signal.SIGHUP, signal.SIGINT, signal.SIGTERM):
+        signal.signal(ending, signal.SIG_DFL)
 
 
 @contextmanager
