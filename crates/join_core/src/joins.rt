@@ -11,5 +11,4 @@ mod sources;
 pub use edits::apply_edits;
 pub use job::{JoinJob, Product};
 pub use pairs::join;
-pub use run::run_join;
 pub use sources::JoinSources;

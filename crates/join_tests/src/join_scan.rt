@@ -2,7 +2,7 @@
 //! loop.
 
 use crate::layers::{edited, seen};
-use join_core::{OpenGate, Options, join};
+use join_core::{Options, join};
 use layer_core::{FeatureRef, Layer};
 use relation_core::{JoinRelation, Relation};
 use std::alloc::{AllocError, Global};
@@ -59,9 +59,8 @@ struct Joined<'a> {
 }
 
 /// Whether a join with these options has the expected pairs.
-fn has_pairs<R: Threads + Wait + Sync>(
+fn has_pairs<R: Threads + Wait + Sync + AllocGlobal>(
     rt: &R,
-    alloc: Global,
     joined: &Joined<'_>,
     options: &Options,
     wanted: &[(u32, u32)],
@@ -71,25 +70,18 @@ fn has_pairs<R: Threads + Wait + Sync>(
         right,
         relation,
     } = *joined;
-    let outcome = join(rt, alloc, left, right, relation, options, &OpenGate);
+    let outcome = join(rt, left, right, relation, options);
     Ok(outcome.map(|outcome| outcome.pairs() == wanted)?)
 }
 
 /// Checks that a join with any of these options has the expected pairs.
-fn see_ways<R: Threads + Wait + Sync>(
+fn see_ways<R: Threads + Wait + Sync + AllocGlobal>(
     rt: &R,
-    alloc: Global,
     joined: &Joined<'_>,
     wanted: &[(u32, u32)],
 ) -> Result<(), Fail> {
     for &(workers, batch, cut) in WAYS {
-        if !has_pairs(
-            rt,
-            alloc,
-            joined,
-            &Options::new(workers, batch, cut)?,
-            wanted,
-        )? {
+        if !has_pairs(rt, joined, &Options::new(workers, batch, cut)?, wanted)? {
             return Err(Fail::new("a join differs from the nested loop"));
         }
     }
@@ -97,19 +89,17 @@ fn see_ways<R: Threads + Wait + Sync>(
 }
 
 /// Checks that a join has the pairs of the nested loop.
-fn see_join<R: Threads + Wait + Sync>(
+fn see_join<R: Threads + Wait + Sync + AllocGlobal>(
     rt: &R,
-    alloc: Global,
     joined: &Joined<'_>,
 ) -> Result<(), Fail> {
-    let wanted = nested_loop(alloc, joined.left, joined.right, joined.relation)?;
-    see_ways(rt, alloc, joined, wanted.as_slice())
+    let wanted = nested_loop(rt.alloc(), joined.left, joined.right, joined.relation)?;
+    see_ways(rt, joined, wanted.as_slice())
 }
 
 /// Checks the same for two layers in either order.
-fn see_both_orders<'a, R: Threads + Wait + Sync>(
+fn see_both_orders<'a, R: Threads + Wait + Sync + AllocGlobal>(
     rt: &R,
-    alloc: Global,
     layers: &'a (Layer, Layer),
     relation: &'a JoinRelation,
 ) -> Result<(), Fail> {
@@ -119,13 +109,13 @@ fn see_both_orders<'a, R: Threads + Wait + Sync>(
         right: two,
         relation,
     };
-    see_join(rt, alloc, &joined)?;
+    see_join(rt, &joined)?;
     let turned = Joined {
         left: two,
         right: one,
         relation,
     };
-    see_join(rt, alloc, &turned)
+    see_join(rt, &turned)
 }
 
 /// A layer that is mostly packed, and one that is mostly edits. Both trees have at least four
@@ -142,10 +132,7 @@ fn see_relation<R: Threads + Wait + Sync + RandomSource + AllocGlobal>(
     name: &[u8],
 ) -> Result<(), Fail> {
     let relation = JoinRelation::new(Relation::read(name)?)?;
-    seen(
-        layers(rt)?,
-        |layers| see_both_orders(rt, rt.alloc(), layers, &relation),
-    )
+    seen(layers(rt)?, |layers| see_both_orders(rt, layers, &relation))
 }
 
 #[test]

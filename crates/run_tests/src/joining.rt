@@ -1,4 +1,4 @@
-//! Rows of `run_join`.
+//! The rows of reports.
 
 use crate::example::{EDITED, LEFT, REPORT, RIGHT};
 use crate::running::{Files, at_once, edited_example, ends, example, join};

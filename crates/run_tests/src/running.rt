@@ -5,7 +5,7 @@ ghost use Rattle.report_core.specs.ToWrite.{failed_of};
 
 use crate::example::{EDITS, LEFT, RIGHT};
 use file_core::FromRead;
-use join_core::{JoinSources, OpenGate, Options, RunFault, ToWrite, run_join};
+use join_core::{JoinJob, JoinSources, Options, Product, RunFault, ToWrite};
 use relation_core::{JoinRelation, Relation};
 use std::hash::RandomState;
 use std::io;
@@ -96,25 +96,19 @@ pub fn run<R: Threads + Wait + Sync + RandomSource + AllocGlobal, W: Write>(
 ) -> Option<Result<(), RunFault>>
     requires { failed_of sink.old ≡ false }
 {
-    let relation = JoinRelation::new(relation).ok()?;
-    let (alloc, gate, scale) = (rt.alloc(), OpenGate, Scale::new(0)?);
+    let job = JoinJob {
+        scale: Scale::new(0)?,
+        relation: JoinRelation::new(relation).ok()?,
+        options: *options,
+        product: Product::Report,
+    };
     let states = (RandomState::new(rt).ok()?, RandomState::new(rt).ok()?);
     let mut sources = JoinSources {
         left: FromRead::new(files.left),
         right: FromRead::new(files.right),
         edits: files.edits.map(|edits| FromRead::new(edits)),
     };
-    Some(run_join(
-        rt,
-        alloc,
-        states,
-        scale,
-        &mut sources,
-        &relation,
-        options,
-        &gate,
-        sink,
-    ))
+    Some(job.run(rt, states, &mut sources, sink))
 }
 
 /// The result of a run, and its output.

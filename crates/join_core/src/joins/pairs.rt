@@ -11,7 +11,7 @@ use deliver_core::Outcome;
 use descent_core::Plan;
 use layer_core::Layer;
 use options_core::Options;
-use parallel_core::{Gate, JoinFault, run_workers};
+use parallel_core::{JoinFault, run_workers};
 use relation_core::JoinRelation;
 use std::alloc::{AllocError, Global};
 use std::sync::Wait;
@@ -20,21 +20,19 @@ use std::thread::Threads;
 /// The pairs of numbers of the left and right features that stand in the relation, in order, with
 /// the marks of their delivery.
 ///
-/// The trees of the two layers are cut into tasks, to the depth that the options give. Workers,
-/// each in a thread of its own, draw the tasks, enter the gate before each and descend its two
-/// subtrees. All workers have ended when the call returns.
+/// The trees of the two layers are cut into tasks, as deep as the options say. Workers, each in a
+/// thread of its own, draw the tasks and descend the two subtrees of each. All of them have ended
+/// when the call returns.
 ///
 /// # Errors
 /// `Memory` if an allocation fails, and `NoThread` if a worker's thread can't be started.
 #[tactic(auto, using(crate::proofs::TreeJoinLemmas::delivered))]
-pub fn join<R: Threads + Wait + Sync, G: Gate + Sync>(
+pub fn join<R: AllocGlobal + Threads + Wait + Sync>(
     rt: &R,
-    alloc: Global,
     left: &Layer,
     right: &Layer,
     relation: &JoinRelation,
     options: &Options,
-    gate: &G,
 ) -> Result<Outcome, JoinFault>
     ensures pairs { IfOk result (λ outcome.
         IsJoinList (relation_of relation.now) left.now.list right.now.list outcome.pairs) }
@@ -42,9 +40,8 @@ pub fn join<R: Threads + Wait + Sync, G: Gate + Sync>(
         IfOk result (HasMarks (relation_of relation.now) left.now.root right.now.root cut size) }
     ensures err { IfErr result IsWant }
 {
-    let plan = plan_of(alloc, left, right, options.cut())?;
-    let (workers, batch) = (options.workers(), options.batch());
-    run_workers(rt, alloc, &plan, relation, workers, batch, gate)
+    let plan = plan_of(rt.alloc(), left, right, options.cut())?;
+    run_workers(rt, &plan, relation, options)
 }
 
 /// The tasks of two layers, at this cut.

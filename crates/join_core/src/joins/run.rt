@@ -8,7 +8,7 @@ ghost use Rattle.parallel_core.specs.Faults.{IsWant};
 ghost use Rattle.join_core.specs.DrawRuns.{IsLateDrawFault, features_of};
 ghost use Rattle.join_core.specs.Inputs.{BlamesInput};
 ghost use Rattle.join_core.specs.Joins.{IsJoinList};
-ghost use Rattle.join_core.specs.JoinRuns.{files_of, JoinGives, IsJoinFault, IsLateFault};
+ghost use Rattle.join_core.specs.JoinRuns.{files_of, IsLateFault};
 ghost use Rattle.join_core.specs.Products.{IsReported, IsDrawn, IsLateProductFault};
 ghost use Rattle.join_core.specs.Products.{JobGives, IsMade, IsJobFault};
 ghost use Rattle.join_core.specs.Runs.{NoTextFault, RunEnds};
@@ -27,15 +27,11 @@ use deliver_core::Outcome;
 use draw_core::{can_be_drawn, picture};
 use file_core::Source;
 use layer_core::Layer;
-use options_core::Options;
-use parallel_core::{Gate, JoinFault, OpenGate};
-use relation_core::JoinRelation;
+use parallel_core::JoinFault;
 use report_core::{Sink, report_texts};
-use std::alloc::Global;
 use std::hash::RandomState;
 use std::sync::Wait;
 use std::thread::Threads;
-use wkt_core::Scale;
 
 impl JoinJob {
     /// Writes the product of a join of two layers, after the edits of both. `states` hash the ids
@@ -66,61 +62,19 @@ impl JoinJob {
             (HasFailed A.has_failed B.has_failed E.has_failed sources.new)
             S.written S.is_flushed S.has_failed sink.old sink.new result }
     {
-        let run = JoinRun {
-            rt,
-            alloc: rt.alloc(),
-            gate: &OpenGate,
-            job: self,
-        };
+        let run = JoinRun { rt, job: self };
         run.write(states, sources, sink)
     }
 }
 
-/// Writes the report of two layers, after the edits of both, by workers that enter a gate before
-/// each task. Otherwise it does the same as [`JoinJob::run`].
-pub fn run_join<R: Threads + Wait + Sync, A: Source, B: Source, E: Source, G: Gate + Sync, S: Sink>(
-    rt: &R,
-    alloc: Global,
-    states: (RandomState, RandomState),
-    scale: Scale,
-    sources: &mut JoinSources<A, B, E>,
-    relation: &JoinRelation,
-    options: &Options,
-    gate: &G,
-    sink: &mut S,
-) -> Result<(), RunFault>
-    requires sources { AreFresh A.has_failed B.has_failed E.has_failed sources.old }
-    requires sink { S.has_failed sink.old ≡ false }
-    ensures { let files = files_of scale A.remaining B.remaining E.remaining sources.old in
-        RunEnds (JoinGives (relation_of relation.now) files) NoTextFault (IsJoinFault files)
-        (HasFailed A.has_failed B.has_failed E.has_failed sources.new)
-        S.written S.is_flushed S.has_failed sink.old sink.new result }
-{
-    let job = JoinJob {
-        scale,
-        relation: *relation,
-        options: *options,
-        product: Product::Report,
-    };
-    let run = JoinRun {
-        rt,
-        alloc,
-        gate,
-        job: &job,
-    };
-    run.write(states, sources, sink)
-}
-
-/// A job with its resources: threads, memory, and the gate that its workers enter.
+/// A job, and what gives it threads and memory.
 #[derive(Drop)]
-struct JoinRun<'a, R, G> {
+struct JoinRun<'a, R> {
     rt: &'a R,
-    alloc: Global,
-    gate: &'a G,
     job: &'a JoinJob,
 }
 
-impl<R: Threads + Wait + Sync, G: Gate + Sync> JoinRun<'_, R, G> {
+impl<R: AllocGlobal + Threads + Wait + Sync> JoinRun<'_, R> {
     /// Makes the text and writes it. After a fault of an input, nothing is written.
     fn write<A: Source, B: Source, E: Source, S: Sink>(
         &self,
@@ -162,7 +116,7 @@ impl<R: Threads + Wait + Sync, G: Gate + Sync> JoinRun<'_, R, G> {
         let workers = self.job.options.workers();
         let reader = LayerReader {
             rt: self.rt,
-            alloc: self.alloc,
+            alloc: self.rt.alloc(),
             scale: self.job.scale,
             threads: workers,
         };
@@ -195,7 +149,7 @@ impl<R: Threads + Wait + Sync, G: Gate + Sync> JoinRun<'_, R, G> {
         let outcome = self.join(left, right)?;
         let pairs = outcome.pairs();
         let workers = self.job.options.workers();
-        let reported = report_texts(self.alloc, left, right, pairs, workers, self.rt);
+        let reported = report_texts(self.rt, left, right, pairs, workers);
         Ok(Text::Report(reported?))
     }
 
@@ -212,7 +166,7 @@ impl<R: Threads + Wait + Sync, G: Gate + Sync> JoinRun<'_, R, G> {
         }
         let outcome = self.join(left, right)?;
         let pairs = outcome.pairs();
-        let drawn = picture(self.alloc, left, right, pairs)?;
+        let drawn = picture(self.rt.alloc(), left, right, pairs)?;
         Ok(Text::Picture(drawn))
     }
 
@@ -228,8 +182,6 @@ impl<R: Threads + Wait + Sync, G: Gate + Sync> JoinRun<'_, R, G> {
             options,
             ..
         } = self.job;
-        join(
-            self.rt, self.alloc, left, right, relation, options, self.gate,
-        )
+        join(self.rt, left, right, relation, options)
     }
 }
