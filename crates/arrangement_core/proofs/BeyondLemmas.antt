@@ -1,56 +1,37 @@
 -- An edge beyond the box of the other geometry lies in its exterior, and so does the space just above
 -- the edge.
-use Rattle.std.proofs.Common.{◌≡◌, ◌≤◌, ◌<◌, ◌⊎◌, inl, inr, arith, refl, sym, subst, ap, ◌∙◌, true, false, List, [], ◌∷◌, ◌++◌, map}
-use Rattle.std.specs.Prelude.{ℕ, ℤ, pos, ◌*ℤ◌, ◌<ℤ◌, ◌≤ℤ◌, ◌≢◌, Bool, ◌&&◌, ◌||◌, not, int_lt, int_le, if◌then◌else◌, All, count_by}
-use Rattle.std.specs.List.{list_any, list_all, flat_map}
-use Rattle.std.specs.Ordering.{int_eq, is_lt}
+use Rattle.std.proofs.Common.{◌≡◌, ◌<◌, inl, inr, arith, refl, sym, subst, ap, ◌∙◌, true, false, List, [], ◌∷◌}
+use Rattle.std.specs.Prelude.{ℤ, pos, ◌*ℤ◌, ◌<ℤ◌, Bool, ◌&&◌, ◌||◌, int_lt, int_le, if◌then◌else◌, All, count_by}
+use Rattle.std.specs.List.{list_any, flat_map}
 use Rattle.std.proofs.lemmas.Int.{ints}
-use Rattle.std.proofs.lemmas.List.Elements.{All-head, All-tail}
 use Rattle.geom_core.specs.declared.shape.Shape.{Shape}
 use Rattle.geom_core.specs.Shapes.{x1, y1, x2, y2}
-use Rattle.relation_core.specs.declared.extent.Extent.{Extent}
-use Rattle.relation_core.specs.declared.extent.Extent.TheVariants.{Point as Dot, Line, Area}
-use Rattle.relation_core.specs.declared.part.Parts.{Parts}
-use Rattle.relation_core.specs.declared.matrix.Matrix.{Matrix}
-use Rattle.plane_core.specs.declared.part.Part.{Part}
 use Rattle.plane_core.specs.declared.part.Part.TheVariants.{Interior, Boundary, Exterior}
 use Rattle.plane_core.specs.declared.vertex.Vertex.{Vertex}
 use Rattle.plane_core.specs.declared.edge.Edge.{Edge}
-use Rattle.plane_core.specs.declared.outline.Kind.{Kind}
-use Rattle.plane_core.specs.declared.outline.Kind.TheVariants.{Points as Dots, Lines as Polylines, Areas as Rings}
 use Rattle.plane_core.specs.declared.outline.Outline.{Outline}
-use Rattle.plane_core.specs.Points.{Point, at, run, is_on, is_at, is_below, is_at_or_below, is_between}
-use Rattle.plane_core.specs.Places.{place_order}
+use Rattle.plane_core.specs.Points.{Point, is_on, is_below, is_at_or_below, is_between}
 use Rattle.plane_core.specs.Figures.{Figure, IsGeometry, HasLength, edges, edges_of, points_of, part_of, part_above, is_odd}
 use Rattle.plane_core.specs.Figures.Figure.{Points, Lines, Areas}
-use Rattle.plane_core.specs.Outlines.{outline_part, outline_above, part_by}
+use Rattle.plane_core.specs.Outlines.{outline_part, outline_above}
 use Rattle.plane_core.specs.Vertices as vertices
 use Rattle.plane_core.specs.Vertices.{paths_in, vertices_of}
-use Rattle.plane_core.specs.PlaneMatrices.{pick, entry}
 use Rattle.plane_core.proofs.OutlineLemmas.{outline_part-is, outline_above-is}
 use Rattle.plane_core.proofs.ScaleLemmas.{less_scaled}
-use Rattle.arrangement_core.specs.Nodes.{IsAmong, IsPointOf, middle}
-use Rattle.arrangement_core.specs.Marks.{rank}
-use Rattle.arrangement_core.specs.Growth.{Mark, HasGrownBy, mark_at, mark_above, piece_marks, gap_marks, gaps_marks, edge_marks, transposed}
-use Rattle.arrangement_core.specs.ReadOffs.{IsEdgeMarked}
-use Rattle.arrangement_core.specs.Shown.{AreShown, IsOnEdge, parts_above, is_odd_end}
+use Rattle.arrangement_core.specs.Nodes.{IsAmong}
 use Rattle.arrangement_core.specs.Beyond.{is_beyond, IsBounded}
 use Rattle.arrangement_core.specs.Near.{LiesIn}
-use Rattle.arrangement_core.proofs.AmongLemmas.{among_flat, among_either, count_none}
+use Rattle.arrangement_core.proofs.AmongLemmas.{among_flat}
 use Rattle.arrangement_core.proofs.NodeLemmas.{all_among}
 use Rattle.arrangement_core.proofs.PathLemmas.{edge_length}
 use Rattle.arrangement_core.proofs.FlipLemmas.{flip, is_on-flip, is_below-flip, is_at_or_below-flip, forward_or_flipped}
 use Rattle.arrangement_core.proofs.PassLemmas.{at_or_below_off}
-use Rattle.arrangement_core.proofs.OffPartLemmas.{off_part, off_part-same, above_part-is}
+use Rattle.arrangement_core.proofs.OffPartLemmas.{off_part-same}
 use Rattle.arrangement_core.proofs.BoxLemmas.{HoldsVertex, HoldsAll, left_exterior, right_exterior, low_exterior, high_outside}
 use Rattle.arrangement_core.proofs.OrderLemmas.{wide_z}
-use Rattle.arrangement_core.proofs.ArrangementLemmas.{middle_wide}
-use Rattle.arrangement_core.proofs.TestLemmas.{by_test, clash, not_true}
-use Rattle.arrangement_core.proofs.GatherLemmas.{at_same, on_there}
-use Rattle.arrangement_core.proofs.ReadOffLemmas.{by_bool, order_before, not_level, among_map, among_each}
-use Rattle.arrangement_core.proofs.TurnLemmas.{entry-transposed}
-use Rattle.arrangement_core.proofs.ShownLemmas.{middle_on, in_above, any_among, among_all}
-use Rattle.arrangement_core.proofs.ExistLemmas.{nodes_exist}
+use Rattle.arrangement_core.proofs.TestLemmas.{by_test, clash}
+use Rattle.arrangement_core.proofs.ReadOffLemmas.{among_each}
+use Rattle.arrangement_core.proofs.ShownLemmas.{any_among}
 
 -- the box of a geometry's vertices holds the ends of its edges and its points
 edge_first : (path : List Vertex) (e : Edge) → IsAmong e (edges path) → IsAmong e.a path

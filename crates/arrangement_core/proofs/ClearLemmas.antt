@@ -1,12 +1,11 @@
 -- An edge whose box meets no box of a geometry's edges lies in one part of the geometry, and so does
 -- the space just above the edge.
-use Rattle.std.proofs.Common.{◌≡◌, ◌<◌, ◌⊎◌, inl, inr, refl, sym, subst, ap, ◌∙◌, true, false, arith, List, [], ◌∷◌, All}
-use Rattle.std.specs.Prelude.{ℕ, ℤ, pos, ◌*ℤ◌, ◌≤ℤ◌, ◌<ℤ◌, ◌≢◌, Bool, ◌&&◌, ◌||◌, int_le, int_lt, count_by, if◌then◌else◌}
+use Rattle.std.proofs.Common.{◌≡◌, ◌<◌, ◌⊎◌, inl, inr, refl, sym, subst, ap, ◌∙◌, true, false, arith, List, [], All}
+use Rattle.std.specs.Prelude.{ℕ, ℤ, pos, ◌*ℤ◌, ◌≤ℤ◌, ◌<ℤ◌, ◌≢◌, Bool, ◌&&◌, ◌||◌, int_le, int_lt, if◌then◌else◌}
 use Rattle.std.specs.Prelude.{Option, None, Some, IfSome}
-use Rattle.std.specs.List.{flat_map, Contains}
+use Rattle.std.specs.List.{Contains}
 use Rattle.std.proofs.lemmas.Int.{ints}
 use Rattle.geom_core.specs.declared.shape.Shape.{Shape}
-use Rattle.plane_core.specs.declared.part.Part.{Part}
 use Rattle.plane_core.specs.declared.part.Part.TheVariants.{Interior, Exterior}
 use Rattle.plane_core.specs.declared.vertex.Vertex.{Vertex}
 use Rattle.plane_core.specs.declared.edge.Edge.{Edge}
@@ -14,8 +13,8 @@ use Rattle.plane_core.specs.declared.outline.Kind.TheVariants.{Points as Dots}
 use Rattle.plane_core.specs.declared.outline.Outline.{Outline}
 use Rattle.plane_core.specs.Boxes.{does_reach, do_overlap, do_boxes_meet}
 use Rattle.plane_core.specs.Points.{Point, at, side, is_on, is_below, is_at_or_below}
-use Rattle.plane_core.specs.Figures.{Figure, Points, Lines, Areas, IsGeometry, edges, edges_of, points_of, part_of, part_above, is_odd}
-use Rattle.plane_core.specs.Outlines.{outline_part, outline_above, kind_of}
+use Rattle.plane_core.specs.Figures.{Figure, Points, Lines, Areas, IsGeometry, edges_of, points_of, part_of, part_above}
+use Rattle.plane_core.specs.Outlines.{outline_part, kind_of}
 use Rattle.plane_core.proofs.OutlineLemmas.{outline_part-is, outline_above-is}
 use Rattle.plane_core.proofs.ScaleLemmas.{less_scaled}
 use Rattle.arrangement_core.specs.Beyond.{IsBounded}

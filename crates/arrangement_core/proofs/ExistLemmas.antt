@@ -1,5 +1,5 @@
 -- Each edge has a list of its nodes, whatever the other edges and points are.
-use Rattle.std.proofs.Common.{◌≡◌, ◌<◌, ◌⊎◌, inl, inr, arith, refl, sym, subst, ◌∙◌, true, false, List, [], ◌∷◌}
+use Rattle.std.proofs.Common.{◌≡◌, ◌<◌, inl, inr, arith, refl, sym, subst, true, false, List, [], ◌∷◌}
 use Rattle.std.specs.Prelude.{ℕ, ℤ, pos, ◌<ℤ◌, ◌≤ℤ◌, neg_ℤ, nat_abs, Bool, All}
 use Rattle.std.proofs.lemmas.Int.{ints, by_lt_z}
 use Rattle.std.proofs.lemmas.List.Elements.{All-cons, All-head, All-tail}
@@ -8,12 +8,12 @@ use Rattle.plane_core.specs.declared.edge.Edge.{Edge}
 use Rattle.plane_core.specs.Points.{Point, at, side, turn_of, is_on, is_at, IsSamePlace}
 use Rattle.plane_core.specs.Crossings.{do_cross}
 use Rattle.plane_core.specs.Figures.{HasLength}
-use Rattle.plane_core.specs.Meetings.{divided, IsMeeting, HaveNoMeeting}
+use Rattle.plane_core.specs.Meetings.{divided, IsMeeting}
 use Rattle.plane_core.proofs.FormLemmas.{by_zero}
-use Rattle.plane_core.proofs.CrossingLemmas.{no_meeting, meeting_up, meeting_down, IsCrossing, crossing_of}
+use Rattle.plane_core.proofs.CrossingLemmas.{no_meeting, meeting_up, meeting_down, crossing_of}
 use Rattle.arrangement_core.specs.Nodes.{IsAmong, IsNode, IsPlaceOf, IsUpTo, Ascend, IsPointOf, AreNodesOf}
 use Rattle.arrangement_core.specs.Nodes.IsNode.{FirstEnd, LastEnd, Meeting, Single}
-use Rattle.arrangement_core.proofs.OrderLemmas.{same_refl, same_trans, same_sym, up_to_or_after, before_up_to, up_to_before, before_same, same_before}
+use Rattle.arrangement_core.proofs.OrderLemmas.{same_refl, same_trans, up_to_or_after, before_up_to, same_before}
 use Rattle.arrangement_core.proofs.OffPartLemmas.{first_on, last_on}
 use Rattle.arrangement_core.proofs.ReadOffLemmas.{by_bool}
 use Rattle.arrangement_core.proofs.GatherLemmas.{at_first, at_same, on_there, parallel_both, meeting_same}

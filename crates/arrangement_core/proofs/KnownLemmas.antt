@@ -1,14 +1,11 @@
 -- Where a matrix shows all that an edge can add to it, the edge adds nothing.
-use Rattle.std.proofs.Common.{◌≡◌, ◌≤◌, ◌<◌, ◌⊎◌, inl, inr, arith, refl, sym, subst, ap, ◌∙◌, true, false, List, [], ◌∷◌, ◌++◌, map}
-use Rattle.std.specs.Prelude.{ℕ, ℤ, pos, ◌≢◌, Bool, ◌&&◌, ◌||◌, not, if◌then◌else◌, All, count_by, sum_by}
+use Rattle.std.proofs.Common.{◌≡◌, ◌≤◌, ◌<◌, inl, inr, arith, refl, sym, subst, ap, ◌∙◌, true, false, List, [], ◌∷◌, map}
+use Rattle.std.specs.Prelude.{ℕ, pos, ◌≢◌, Bool, ◌||◌, not, if◌then◌else◌, All, count_by}
 use Rattle.std.specs.List.{list_any, list_all, flat_map}
 use Rattle.std.specs.Ordering.{int_eq, is_lt}
-use Rattle.std.proofs.lemmas.Int.{ints}
-use Rattle.std.proofs.lemmas.List.Elements.{All-head, All-tail}
 use Rattle.geom_core.specs.declared.shape.Shape.{Shape}
 use Rattle.relation_core.specs.declared.extent.Extent.{Extent}
-use Rattle.relation_core.specs.declared.extent.Extent.TheVariants.{Point as Dot, Line, Area}
-use Rattle.relation_core.specs.declared.part.Parts.{Parts}
+use Rattle.relation_core.specs.declared.extent.Extent.TheVariants.{Point as Dot, Line}
 use Rattle.relation_core.specs.declared.matrix.Matrix.{Matrix}
 use Rattle.plane_core.specs.declared.part.Part.{Part}
 use Rattle.plane_core.specs.declared.part.Part.TheVariants.{Interior, Boundary, Exterior}
@@ -19,23 +16,23 @@ use Rattle.plane_core.specs.declared.outline.Kind.TheVariants.{Points as Dots, L
 use Rattle.plane_core.specs.declared.outline.Outline.{Outline}
 use Rattle.plane_core.specs.Points.{Point, at, run, is_on, is_at, is_below, IsBefore}
 use Rattle.plane_core.specs.Places.{place_order}
-use Rattle.plane_core.specs.Figures.{Figure, IsGeometry, HasLength, edges, edges_of, points_of, part_of, is_odd, end_count}
+use Rattle.plane_core.specs.Figures.{Figure, IsGeometry, HasLength, edges, edges_of, part_of, is_odd}
 use Rattle.plane_core.specs.Figures.Figure.{Points, Lines, Areas}
 use Rattle.plane_core.specs.Outlines.{outline_part, outline_above, part_by, kind_of}
 use Rattle.plane_core.specs.PlaneMatrices.{pick, entry}
 use Rattle.plane_core.proofs.OutlineLemmas.{outline_part-is}
 use Rattle.arrangement_core.specs.Nodes.{IsAmong, IsPointOf, AreNodesOf, IsGapOf, middle}
 use Rattle.arrangement_core.specs.Marks.{rank}
-use Rattle.arrangement_core.specs.Growth.{Mark, HasGrownBy, mark_at, mark_above, piece_marks, gap_marks, gaps_marks, edge_marks, transposed}
+use Rattle.arrangement_core.specs.Growth.{Mark, mark_at, mark_above, piece_marks, gap_marks, gaps_marks, edge_marks}
 use Rattle.arrangement_core.specs.ReadOffs.{IsEdgeMarked, IsOneOf}
-use Rattle.arrangement_core.specs.Shown.{AreShown, parts_above, is_along, IsUncrossed, AreCuts}
+use Rattle.arrangement_core.specs.Shown.{is_along, AreCuts}
 use Rattle.arrangement_core.specs.Beyond.{IsBounded, has_no_end, parts_along, IsEdgeShown}
 use Rattle.arrangement_core.specs.Near.{IsFound, LiesIn}
 use Rattle.arrangement_core.specs.Known.{part_along, is_touched, parts_met, parts_passed, IsAllShown}
 use Rattle.arrangement_core.proofs.AmongLemmas.{among_either, count_none}
 use Rattle.arrangement_core.proofs.NodeLemmas.{all_among, gap_first, gap_second, gap_order}
 use Rattle.arrangement_core.proofs.PathLemmas.{IsOffEnds, ends_none}
-use Rattle.arrangement_core.proofs.OffPartLemmas.{IsOffAll, off_part-is, first_on, last_on}
+use Rattle.arrangement_core.proofs.OffPartLemmas.{off_part-is, first_on, last_on}
 use Rattle.arrangement_core.proofs.ArrangementLemmas.{middle_wide}
 use Rattle.arrangement_core.proofs.TestLemmas.{by_test, clash, not_true}
 use Rattle.arrangement_core.proofs.GatherLemmas.{at_same, on_there}

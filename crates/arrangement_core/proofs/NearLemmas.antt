@@ -1,9 +1,9 @@
 -- The edges near an edge, and what follows for those that aren't.
-use Rattle.std.proofs.Common.{arith, refl, zero, suc, ◌≡◌, ◌<◌, ◌+◌, ◌⊎◌, inl, inr, true, false, ℕ, List, [], ◌∷◌, ◌++◌, length, get_or, take, sym, subst, ap, ◌∙◌, All}
+use Rattle.std.proofs.Common.{arith, refl, zero, suc, ◌≡◌, ◌<◌, ◌+◌, inl, inr, true, false, ℕ, List, [], ◌∷◌, ◌++◌, length, get_or, take, sym, subst, ap, ◌∙◌, All}
 use Rattle.std.specs.Prelude.{ℤ, pos, ◌≤ℤ◌, int_le, Bool, ◌&&◌, ◌||◌, not}
 use Rattle.std.specs.Int.{int_min, int_max}
 use Rattle.std.specs.Ordering.{int_eq}
-use Rattle.std.specs.List.{flat_map, list_all, list_any, Contains}
+use Rattle.std.specs.List.{flat_map, list_all, Contains}
 use Rattle.std.proofs.lemmas.Int.{ints, clamps}
 use Rattle.std.proofs.lemmas.List.Elements.{All-append, All-more, All-contains, Contains-append_left, Contains-push}
 use Rattle.geom_core.specs.declared.shape.Shape.{Shape}
@@ -13,7 +13,7 @@ use Rattle.plane_core.specs.declared.edge.Edge.{Edge}
 use Rattle.plane_core.specs.declared.vertex.Vertex.{Vertex}
 use Rattle.plane_core.specs.declared.outline.Outline.{Outline}
 use Rattle.plane_core.specs.Boxes.{does_reach, do_overlap, do_boxes_meet}
-use Rattle.plane_core.specs.Points.{Point, at, is_on, is_at, side, turn_of}
+use Rattle.plane_core.specs.Points.{Point, at, is_on, side, turn_of}
 use Rattle.rtree_core.specs.declared.node.Entry.{Entry}
 use Rattle.rtree_core.specs.declared.node.Node.{Node as TreeNode}
 use Rattle.rtree_core.specs.Nodes.{entries_of}

@@ -21,7 +21,7 @@ use Rattle.arrangement_core.specs.Nodes.{IsAmong, IsNode, NodedEdge, AreNodesOf,
 use Rattle.arrangement_core.specs.Nodes.IsNode.{FirstEnd, LastEnd, Meeting, Single}
 use Rattle.arrangement_core.specs.Marks.{rank}
 use Rattle.arrangement_core.specs.Growth.{Mark, HasGrownBy, mark_at, mark_above, piece_marks, gap_marks, gaps_marks, edge_marks, outside, transposed}
-use Rattle.arrangement_core.specs.ReadOffs.{points_by, outline_edges, outline_points, AreMarked, IsReadOffBy}
+use Rattle.arrangement_core.specs.ReadOffs.{points_by, outline_edges, outline_points, IsOwn, AreMarked, IsReadOffBy}
 use Rattle.arrangement_core.proofs.NodeLemmas.{all_among}
 use Rattle.arrangement_core.proofs.AmongLemmas.{among_left, among_right, among_either}
 use Rattle.arrangement_core.proofs.GrowthLemmas.{grown_as, grown-trans}
@@ -204,3 +204,32 @@ all_marked a b c d vs start first turned second marked points again all new hc h
     (subst (λ (x : Outline). HasGrownBy (point_marks b x (points_by b.kind b.ends.items)) again all) hd
     (subst (λ (x : Outline). HasGrownBy (point_marks x d (points_by x.kind x.ends.items)) again all) hc l)))))
     is
+
+-- edges that are marked before others that stand before them
+swapped : {A : Type 0} (x : A) (xs ys : List A) → IsAmong x (xs ++ ys) → IsAmong x (ys ++ xs)
+swapped x xs ys h = elim (among_either x xs ys h) [ inl k ↦ among_right x ys xs k | inr k ↦ among_left x ys xs k ]
+
+grown_swapped : (xs ys : List Mark) (old new : Matrix) → HasGrownBy (ys ++ xs) old new → HasGrownBy (xs ++ ys) old new
+grown_swapped xs ys old new h = record {
+  kept = h.kept;
+  reached = λ k one. h.reached k (swapped k xs ys one);
+  sound = λ i j. elim (h.sound i j) [ inl e ↦ inl e | inr g ↦ inr (swapped _ ys xs g) ];
+}
+
+pub marked_from : (a b : Outline) (es : List Edge) (vs : List Vertex) (xs ys ds : List Edge) (old mid new : Matrix) → ds ≡ xs ++ ys
+    → AreMarked a b es vs ys old mid → AreMarked a b es vs xs mid new → AreMarked a b es vs ds old new
+marked_from a b es vs xs ys ds old mid new is later earlier = subst (λ (done : List Edge). AreMarked a b es vs done old new) (sym is) (record {
+  noded = earlier.noded ++ later.noded;
+  are_noded = noded_both es vs xs ys earlier.noded later.noded earlier.are_noded later.are_noded;
+  grown = grown_as (flat_map (edge_marks a b) earlier.noded ++ flat_map (edge_marks a b) later.noded) (flat_map (edge_marks a b) (earlier.noded ++ later.noded)) old new
+      (sym (flat_map-append (edge_marks a b) earlier.noded later.noded))
+      (grown_swapped (flat_map (edge_marks a b) earlier.noded) (flat_map (edge_marks a b) later.noded) old new
+      (grown-trans (flat_map (edge_marks a b) later.noded) (flat_map (edge_marks a b) earlier.noded) old mid new later.grown earlier.grown));
+})
+
+-- the edges of a geometry in two parts
+pub own_front : (o : Outline) (ds xs ys : List Edge) → ds ≡ o.edges.items → ds ≡ xs ++ ys → All (IsOwn o) xs
+own_front o ds xs ys is split = λ i d lt. subst (IsAmong (get_or xs i d)) (sym split ∙ is) (among_left (get_or xs i d) xs ys (get_among xs i d lt))
+
+pub own_back : (o : Outline) (ds xs ys : List Edge) → ds ≡ o.edges.items → ds ≡ xs ++ ys → All (IsOwn o) ys
+own_back o ds xs ys is split = λ i d lt. subst (IsAmong (get_or ys i d)) (sym split ∙ is) (among_right (get_or ys i d) xs ys (get_among ys i d lt))

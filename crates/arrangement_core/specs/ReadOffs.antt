@@ -26,6 +26,9 @@ outline_edges a b = a.edges.items ++ b.edges.items
 abbrev pub outline_points : Outline → Outline → List Vertex
 outline_points a b = points_by a.kind a.ends.items ++ points_by b.kind b.ends.items
 
+abbrev pub IsOwn : Outline → Edge → Type 0
+IsOwn o e = IsAmong e o.edges.items
+
 -- the edges of two geometries, in either order of the two
 pub record AreEdgesOf (own other : Outline) (es : List Edge) : Type 0 where
   pub long : All HasLength es

@@ -1,13 +1,13 @@
 //! The matrix of two geometries.
 
-ghost use Rattle.std.specs.Prelude.{◌≡◌, ◌++◌, All, List, OnOk, IfOk, IfSome, IsTrue};
+ghost use Rattle.std.specs.Prelude.{◌≡◌, ◌≤◌, ◌++◌, length, All, List, OnOk, IfOk, IfSome, IsTrue};
 ghost use Rattle.plane_core.specs.Figures.{HasLength, IsGeometry};
 ghost use Rattle.plane_core.specs.Outlines.{IsOutlineOf};
 ghost use Rattle.plane_core.specs.PlaneMatrices.{IsPlaneMatrix};
 ghost use Rattle.arrangement_core.specs.Beyond.{IsBounded};
 ghost use Rattle.arrangement_core.specs.Near.{IsFound, IsSeen};
 ghost use Rattle.arrangement_core.specs.Shown.{IsKnownApart};
-ghost use Rattle.arrangement_core.specs.ReadOffs.{points_by, outline_edges, outline_points};
+ghost use Rattle.arrangement_core.specs.ReadOffs.{points_by, outline_edges, outline_points, IsOwn};
 ghost use Rattle.arrangement_core.specs.ReadOffs.{IsOneOf, IsEdgeMarked, AreMarked, IsReadOffBy};
 
 use crate::beyond::{is_beyond, is_edge_shown};
@@ -23,6 +23,12 @@ use edge_index_core::IndexedOutline;
 use plane_core::{Edge, Geometry, Kind, Outline, Part, Vertex};
 use relation_core::Matrix;
 use std::alloc::{AllocError, Global};
+
+/// The greatest number of edges of a geometry apart from the other one that has no tree.
+const MANY: usize = 1024;
+
+/// The greatest number of ends of its polylines.
+const FEW: usize = 16;
 
 /// Adds the points of a geometry, if it consists of points.
 fn push_points(points: &mut Vec<Vertex>, a: &Outline) -> Result<(), AllocError>
@@ -153,7 +159,48 @@ fn no_work(alloc: Global) -> Work
     }
 }
 
-/// The matrix with all edges of the first geometry.
+/// A matrix that shows some edges of the first geometry.
+fn mark_some(
+    work: &mut Work,
+    matrix: Matrix,
+    pair: &Pair,
+    points: &[Vertex],
+    edges: &[Edge],
+) -> Result<Matrix, AllocError>
+    requires long { All HasLength (outline_edges pair.now.first pair.now.second) }
+    requires own { All (IsOwn pair.now.first) edges.now }
+    requires bounded { IsBounded pair.now.second pair.now.second_box }
+    requires seen { IfSome work.old.seen (IsSeen pair.now.second) }
+    ensures marked { let a = pair.now.first in let b = pair.now.second in
+        let marked = AreMarked a b (outline_edges a b) points.now edges.now in
+        IfOk result (λ m. marked matrix m) }
+    ensures seen { IfSome work.new.seen (IsSeen pair.now.second) }
+{
+    let mut grown = matrix;
+    for e in edges {
+        grown = mark_edge(work, grown, pair, points, e)?;
+    }
+    Ok(grown)
+}
+
+/// The place of the edge whose last end is lowest.
+fn lowest(edges: &[Edge]) -> usize
+    ensures { result ≤ length edges.now }
+{
+    let mut place = 0;
+    let mut least = i64::MAX;
+    for i in 0..edges.len() {
+        let y = edges[i].b.y;
+        if y < least {
+            least = y;
+            place = i;
+        }
+    }
+    place
+}
+
+/// A matrix that shows all edges of the first geometry, beginning at its lowest vertex: the
+/// interior of a ring lies above one of the edges there, so that it is soon shown.
 fn mark_edges(
     alloc: Global,
     matrix: Matrix,
@@ -167,11 +214,11 @@ fn mark_edges(
         IfOk result (λ m. marked matrix m) }
 {
     let mut work = no_work(alloc);
-    let mut grown = matrix;
     let own_edges = pair.first.edges();
-    for e in own_edges {
-        grown = mark_edge(&mut work, grown, pair, points, e)?;
-    }
+    let start = lowest(own_edges);
+    let (before, after) = own_edges.split_at(start);
+    let begun = mark_some(&mut work, matrix, pair, points, after)?;
+    let grown = mark_some(&mut work, begun, pair, points, before)?;
     Ok(grown)
 }
 
@@ -196,13 +243,18 @@ fn read_off(alloc: Global, pair: Pair) -> Result<Matrix, AllocError>
     Ok(transposed(&with_second))
 }
 
-/// The outline of a geometry with a tree over its edges.
-fn indexed(alloc: Global, geometry: &Geometry) -> Result<IndexedOutline, AllocError>
+/// The outline of a geometry with a tree over its edges, or with none where they are few and the
+/// other geometry's box doesn't meet its own: then few are looked for.
+fn indexed(alloc: Global, geometry: &Geometry, is_apart: bool) -> Result<IndexedOutline, AllocError>
     ensures outline { IfOk result (IsOutlineOf geometry.now) }
     ensures geometry { OnOk result (IsGeometry geometry.now) }
 {
     let outline = geometry.outline(alloc)?;
-    IndexedOutline::new(alloc, outline)
+    if is_apart && outline.edges.len() <= MANY && outline.ends.len() <= FEW {
+        Ok(IndexedOutline::plain(outline))
+    } else {
+        IndexedOutline::new(alloc, outline)
+    }
 }
 
 /// The nine-intersection matrix of two geometries: for each part of the first and each part of the
@@ -213,13 +265,16 @@ fn indexed(alloc: Global, geometry: &Geometry) -> Result<IndexedOutline, AllocEr
 pub fn relate(alloc: Global, a: &Geometry, b: &Geometry) -> Result<Matrix, AllocError>
     ensures { IfOk result (λ m. IsPlaneMatrix a.now b.now m) }
 {
-    let first = indexed(alloc, a)?;
-    let second = indexed(alloc, b)?;
+    let first_box = a.bounds();
+    let second_box = b.bounds();
+    let is_apart = !first_box.meets(&second_box);
+    let first = indexed(alloc, a, is_apart)?;
+    let second = indexed(alloc, b, is_apart)?;
     let pair = Pair {
         first,
-        first_box: a.bounds(),
+        first_box,
         second,
-        second_box: b.bounds(),
+        second_box,
     };
     let matrix = read_off(alloc, pair)?;
     Ok(matrix)

@@ -66,6 +66,16 @@ impl IndexedOutline {
         Ok(IndexedOutline { outline, tree })
     }
 
+    /// Takes an outline without a tree, so that its edges are looked at one by one.
+    pub fn plain(outline: Outline) -> IndexedOutline
+        ensures { result ≡ outline }
+    {
+        IndexedOutline {
+            outline,
+            tree: None,
+        }
+    }
+
     /// The outline without the index.
     pub fn outline(&self) -> &Outline
         ensures { result.now ≡ self.now }

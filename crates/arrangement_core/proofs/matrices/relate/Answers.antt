@@ -10,12 +10,12 @@ read_off-requires-clause-long c =
 pub read_off-requires-clause-first : goal.read_off-requires-clause-first
 read_off-requires-clause-first c =
     let f = c.in_ok-first.ensures in
-    record { figure = c.args.a.now; geometry = f.geometry; outline = f.outline; box = c.bounds.ensures.holds }
+    record { figure = c.args.a.now; geometry = f.geometry; outline = f.outline; box = c.bounds-first_box.ensures.holds }
 
 pub read_off-requires-clause-second : goal.read_off-requires-clause-second
 read_off-requires-clause-second c =
     let s = c.in_ok-second.ensures in
-    record { figure = c.args.b.now; geometry = s.geometry; outline = s.outline; box = c.bounds-2.ensures.holds }
+    record { figure = c.args.b.now; geometry = s.geometry; outline = s.outline; box = c.bounds-second_box.ensures.holds }
 
 pub returns : goal.returns
 returns c =

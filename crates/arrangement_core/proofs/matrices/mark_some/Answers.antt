@@ -1,0 +1,29 @@
+use Rattle.std.proofs.Common.{sym, subst, refl}
+use Rattle.arrangement_core.specs.ReadOffs.{outline_edges, IsOwn}
+use Rattle.arrangement_core.proofs.ReadOffLemmas.{marked_none, marked_more, marked_whole}
+use Rattle.arrangement_core.proofs.ShownLemmas.{edges_of_first}
+use Rattle.arrangement_core.proofs.matrices.mark_some.Goals as goal
+
+pub loop-e-init : goal.loop-e-init
+loop-e-init c = record { marked = marked_none _ _ _ _ _; seen = c.requires.seen }
+
+pub mark_edge-requires-clause-one : goal.mark_edge-requires-clause-one
+mark_edge-requires-clause-one c =
+    let a = c.args.pair.now.first in
+    let b = c.args.pair.now.second in
+    record {
+      edges = edges_of_first a b (outline_edges a b) c.requires.long refl;
+      one = subst (IsOwn a) (sym c.e-item.is) (c.requires.own c.loop-e.e-index c.e-item.result c.loop-e-test.true);
+    }
+
+pub mark_edge-requires-clause-seen : goal.mark_edge-requires-clause-seen
+mark_edge-requires-clause-seen c = c.loop-e.invariant.seen
+
+pub loop-e-preserved : goal.loop-e-preserved
+loop-e-preserved c = record {
+  marked = marked_more _ _ _ _ _ _ _ _ _ _ c.loop-e-test.true c.e-item.is c.loop-e.invariant.marked c.in_ok-grown.ensures.marked;
+  seen = c.in_ok-grown.ensures.seen;
+}
+
+pub returns-clause-marked : goal.returns-clause-marked
+returns-clause-marked c = marked_whole _ _ _ _ _ c.loop-e.e-index _ _ c.loop-e-test.false c.loop-e.invariant.marked
