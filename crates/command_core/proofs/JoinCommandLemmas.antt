@@ -5,6 +5,7 @@ use Rattle.std.specs.Prelude.{⊤}
 use Rattle.std.proofs.lemmas.Result.{IfErr-weaker}
 use Rattle.std.specs.Borrow.{Bor}
 use Rattle.relation_core.specs.JoinRelations.{relation_of}
+use Rattle.geom_core.specs.declared.shape.Shape.{Shape}
 use Rattle.layer_core.specs.Edits.{Layers}
 use Rattle.join_core.specs.declared.fault.Input.{Input}
 use Rattle.join_core.specs.declared.fault.Input.TheVariants.{Left, Right, Edits}
@@ -208,7 +209,7 @@ IsOfLayers (run.Read i f) = ⊤
 IsOfLayers (run.Edit row f) = ⊤
 IsOfLayers _ = ⊥
 
-layers_fault : (files : JoinFiles) (answer : Result Layers RunFault) (g : RunFault) → LayersGive files answer → answer ≡ Err g → IsOfLayers g
+layers_fault : (files : JoinFiles) (answer : Result (Layers Shape) RunFault) (g : RunFault) → LayersGive files answer → answer ≡ Err g → IsOfLayers g
 layers_fault files answer g (left_fault f a) is = subst IsOfLayers (let same : run.Read Left f ≡ g = cc in same) tt
 layers_fault files answer g (right_fault l f a b) is = subst IsOfLayers (let same : run.Read Right f ≡ g = cc in same) tt
 layers_fault files answer g (edits_fault l r f a b d) is = subst IsOfLayers (let same : run.Read Edits f ≡ g = cc in same) tt

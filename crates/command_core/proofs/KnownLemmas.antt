@@ -2,6 +2,7 @@
 use Rattle.std.proofs.Common.{◌≡◌, ℕ, List, Option, Some, None, Result, Ok, sym, ap, subst, ◌∙◌, refl}
 use Rattle.std.specs.Borrow.{Bor}
 use Rattle.wkt_core.specs.declared.scale.Scale.{Scale}
+use Rattle.geom_core.specs.declared.shape.Shape.{Shape}
 use Rattle.layer_core.specs.Edits.{EditContent, Layers}
 use Rattle.file_core.specs.declared.read_fault.ReadFault.{ReadFault}
 use Rattle.join_core.specs.declared.fault.Input.TheVariants as input
@@ -39,12 +40,12 @@ untold_edits (Some told) = Some None
 abbrev untold : JoinFiles → JoinFiles
 untold files = record { scale = files.scale; left = None; right = None; edits = untold_edits files.edits }
 
-edits_untold : (scale : Scale) (e : Option (Option (List ℕ))) (answer : Result (List EditContent) ReadFault) → EditFile scale e answer
+edits_untold : (scale : Scale) (e : Option (Option (List ℕ))) (answer : Result (List (EditContent Shape)) ReadFault) → EditFile scale e answer
     → EditFile scale (untold_edits e) answer
 edits_untold scale None answer is = is
 edits_untold scale (Some told) answer is = tt
 
-layers_untold : (files : JoinFiles) (layers : Layers) (answer : Result Layers RunFault) → LayersGive files answer → answer ≡ Ok layers
+layers_untold : (files : JoinFiles) (layers : Layers Shape) (answer : Result (Layers Shape) RunFault) → LayersGive files answer → answer ≡ Ok layers
     → LayersGive (untold files) (Ok layers)
 layers_untold files layers answer (left_fault f a) is = absurd cc
 layers_untold files layers answer (right_fault l f a b) is = absurd cc

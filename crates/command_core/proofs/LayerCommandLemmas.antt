@@ -6,6 +6,7 @@ use Rattle.std.specs.Borrow.{Bor}
 use Rattle.wkt_core.specs.declared.fault.WktFault.{WktFault}
 use Rattle.wkt_core.specs.declared.scale.Scale.{Scale}
 use Rattle.file_core.specs.declared.read_fault.ReadFault.{ReadFault}
+use Rattle.geom_core.specs.declared.shape.Shape.{Shape}
 use Rattle.layer_core.specs.Layers.{Contents}
 use Rattle.join_core.specs.declared.fault.Input.{Input}
 use Rattle.join_core.specs.declared.fault.Input.TheVariants as input
@@ -139,7 +140,7 @@ handed_unready known path (Ok x) e f h same unready = tt
 handed_unready known path (Err x) e f h same unready = subst (IsLayerUnready known path) (let is : f ≡ x = cc in is) unready
 
 -- a fault of a layer is one of its file
-gives_only : (IsTextOf : Contents → List ℕ → Type 0) (scale : Scale) (l : Option (List ℕ)) (P : RunFault → Type 0)
+gives_only : (IsTextOf : Contents Shape → List ℕ → Type 0) (scale : Scale) (l : Option (List ℕ)) (P : RunFault → Type 0)
     → ((f : ReadFault) → P (run.Read input.Layer f)) → (g : RunFault) → LayerGives IsTextOf scale l (Err g) → P g
 gives_only IsTextOf scale l P of_layer g given = by (Err g) given refl
   where
@@ -227,7 +228,7 @@ window_ran {T} {S} known written is_flushed has_failed scale path wkt text l old
 -- ---- a text of one layer
 
 -- a command that asks for a text of the layer at this path, and for nothing else
-pub record AsksLayer (command : Command) (path : List ℕ) (scale : Scale) (IsTextOf : Contents → List ℕ → Type 0) : Type 0 where
+pub record AsksLayer (command : Command) (path : List ℕ) (scale : Scale) (IsTextOf : Contents Shape → List ℕ → Type 0) : Type 0 where
   pub reads : ReadsOne command path (LayerGives IsTextOf scale)
   pub not_first : (f : ReadFault) → IsFoundFirst command (run.Read input.Layer f) → ⊥
   pub not_next : (g : RunFault) → IsFoundNext command g → ⊥
@@ -249,7 +250,7 @@ bounds_asks scale path = record {
   allows = λ known f is. is;
 }
 
-layer_blamed : (IsTextOf : Contents → List ℕ → Type 0) (scale : Scale) (l : Option (List ℕ)) (f : RunFault) → IsLayerRunFault scale l f
+layer_blamed : (IsTextOf : Contents Shape → List ℕ → Type 0) (scale : Scale) (l : Option (List ℕ)) (f : RunFault) → IsLayerRunFault scale l f
     → (BlamesInput f → LayerGives IsTextOf scale l (Err f)) → BlamesCommand f → LayerGives IsTextOf scale l (Err f)
 layer_blamed IsTextOf scale l (run.Wkt i w) is given blame = absurd is
 layer_blamed IsTextOf scale l (run.Geometry i g) is given blame = absurd is
@@ -262,13 +263,13 @@ layer_blamed IsTextOf scale l run.Write is given blame = absurd is
 layer_blamed IsTextOf scale l run.Memory is given blame = absurd blame
 layer_blamed IsTextOf scale l run.NoKeys is given blame = absurd is
 
-layer_fault_of : {T : Type 0} (IsTextOf : Contents → List ℕ → Type 0) (scale : Scale) (l : Option (List ℕ)) (result : Result T RunFault)
+layer_fault_of : {T : Type 0} (IsTextOf : Contents Shape → List ℕ → Type 0) (scale : Scale) (l : Option (List ℕ)) (result : Result T RunFault)
     → IfErr result (λ f. BlamesInput f → LayerGives IsTextOf scale l (Err f))
     → IfErr result (λ f. f ≢ run.Write → IsLayerRunFault scale l f) → IfErr result (λ f. BlamesCommand f → LayerGives IsTextOf scale l (Err f))
 layer_fault_of IsTextOf scale l (Ok x) fault faults = tt
 layer_fault_of IsTextOf scale l (Err f) fault faults = λ blame. layer_blamed IsTextOf scale l f (faults (λ w. subst BlamesCommand w blame)) fault blame
 
-module _ {command : Command} {path : List ℕ} {scale : Scale} {IsTextOf : Contents → List ℕ → Type 0} (asks : AsksLayer command path scale IsTextOf) where
+module _ {command : Command} {path : List ℕ} {scale : Scale} {IsTextOf : Contents Shape → List ℕ → Type 0} (asks : AsksLayer command path scale IsTextOf) where
   pub layer_none_first : (l : Option (List ℕ)) (g : RunFault) → IsFoundFirst command g → LayerGives IsTextOf scale l (Err g) → ⊥
   layer_none_first l g found given = gives_only IsTextOf scale l (λ f. IsFoundFirst command f → ⊥) asks.not_first g given found
 

@@ -1,6 +1,7 @@
 -- The results of a picture of files.
 use Rattle.std.proofs.Common.{◌≡◌, ◌<◌, ℕ, List, Result, Ok, Err, IsErrAnd, IsErrOf, IfErr, refl, sym, subst}
 use Rattle.relation_core.specs.declared.relation.Relation.{Relation}
+use Rattle.geom_core.specs.declared.shape.Shape.{Shape}
 use Rattle.layer_core.specs.Edits.{Layers}
 use Rattle.layer_core.specs.Layers.{Contents}
 use Rattle.draw_core.specs.Limits.{most_drawn}
@@ -19,25 +20,25 @@ pub no_picture : {T : Type 0} (relation : Relation) (files : JoinFiles) (out : R
 no_picture relation files out e h fault = handed_on (DrawGives relation files) out e e h refl (λ blame. no_layers e (fault blame))
 
 -- the picture of listed pairs
-pub pairs_drawn : (relation : Relation) (left right : Contents) (pairs list : List (ℕ × ℕ)) (text : List ℕ) → list ≡ pairs
+pub pairs_drawn : (relation : Relation) (left right : Contents Shape) (pairs list : List (ℕ × ℕ)) (text : List ℕ) → list ≡ pairs
     → IsJoinList relation left right pairs → text ≡ picture_of left right list
     → (ps : List (ℕ × ℕ)) × IsJoinList relation left right ps × (text ≡ picture_of left right ps)
 pairs_drawn relation left right pairs list text same joined is =
     (pairs, joined, subst (λ (l : List (ℕ × ℕ)). text ≡ picture_of left right l) same is)
 
 -- among the late faults, only that of too many features blames the input
-late_blamed : (relation : Relation) (files : JoinFiles) (layers : Layers) (e : RunFault) → LayersGive files (Ok layers)
+late_blamed : (relation : Relation) (files : JoinFiles) (layers : Layers Shape) (e : RunFault) → LayersGive files (Ok layers)
     → (e ≡ TooManyToDraw → most_drawn < features_of layers) → IsLateDrawFault e → BlamesInput e → DrawGives relation files (Err e)
 late_blamed relation files layers TooManyToDraw given many late blame = too_many layers given (many refl)
 late_blamed relation files layers e given many late blame = absurd (none_blamed e late blame)
 
-pub picture_blamed : {T : Type 0} (relation : Relation) (files : JoinFiles) (layers : Layers) (out : Result T RunFault) → LayersGive files (Ok layers)
+pub picture_blamed : {T : Type 0} (relation : Relation) (files : JoinFiles) (layers : Layers Shape) (out : Result T RunFault) → LayersGive files (Ok layers)
     → (IsErrOf out TooManyToDraw → most_drawn < features_of layers) → IfErr out IsLateDrawFault
     → IfErr out (λ x. BlamesInput x → DrawGives relation files (Err x))
 picture_blamed relation files layers (Ok x) given many late = tt
 picture_blamed relation files layers (Err e) given many late = λ blame. late_blamed relation files layers e given (λ is. many cc) late blame
 
-module _ (files : JoinFiles) (layers : Layers) (given : LayersGive files (Ok layers)) where
+module _ (files : JoinFiles) (layers : Layers Shape) (given : LayersGive files (Ok layers)) where
   late_is_of_draw : (e : RunFault) → IsLateDrawFault e → IsDrawFault files e
   late_is_of_draw TooManyToDraw late = tt
   late_is_of_draw e late = late_is_of_join files layers given e late

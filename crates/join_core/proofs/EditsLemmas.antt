@@ -1,7 +1,7 @@
 -- Edits that are applied in order, up to the first at which they end.
-use Rattle.std.proofs.Common.{◌≡◌, ◌+◌, ◌<◌, ◌≤◌, ℕ, suc, Bool, true, false, Option, Some, None, Result, Ok, Err, List, [], ◌∷◌, ◌++◌, length, get_or, take, drop, map}
-use Rattle.std.proofs.Common.{refl, sym, ap, subst, ◌∙◌, arith, if◌then◌else◌, not, is_some, nat_le, take-append-drop, drop-cons, take_all}
-use Rattle.std.proofs.lemmas.List.{take_more, map-append, take-map, length-take-le, length-map}
+use Rattle.std.proofs.Common.{◌≡◌, ◌+◌, ◌<◌, ℕ, Bool, true, false, Option, Some, None, Result, Ok, Err, List, [], ◌∷◌, ◌++◌, length, take, map}
+use Rattle.std.proofs.Common.{refl, sym, ap, subst, ◌∙◌, arith, if◌then◌else◌, not, is_some, nat_le, append_assoc}
+use Rattle.std.proofs.lemmas.List.{append-nil, length-append, length-map, map-append, take_at}
 use Rattle.geom_core.specs.declared.shape.Shape.{Shape}
 use Rattle.layer_core.specs.declared.edit.Edit.{Edit}
 use Rattle.layer_core.specs.declared.fault.LayerFault.{LayerFault}
@@ -14,19 +14,19 @@ use Rattle.join_core.specs.Inputs.{BlamesEdit}
 use Rattle.join_core.specs.JoinRuns.{AreMade, EndsAt}
 
 -- the result of edits that follow others
-gives_append : (row : ℕ) (layers made : Layers) (xs ys : List EditContent) → edits_give row layers xs ≡ Ok made
+gives_append : (row : ℕ) (layers made : Layers Shape) (xs ys : List (EditContent Shape)) → edits_give row layers xs ≡ Ok made
     → edits_give row layers (xs ++ ys) ≡ edits_give (row + length xs) made ys
 gives_append row layers made [] ys is =
     let same : layers ≡ made = cc in
     let none : row ≡ row + 0 = omega arith in
-    ap (λ (l : Layers). edits_give row l ys) same ∙ ap (λ n. edits_give n made ys) none
+    ap (λ (l : Layers Shape). edits_give row l ys) same ∙ ap (λ n. edits_give n made ys) none
 gives_append row layers made (x ∷ xs) ys is =
     go (edit_refusal layers x) (edits_give (row + 1) (edited_layers layers x) xs) (edits_give (row + 1) (edited_layers layers x) (xs ++ ys)) is
     (λ h. gives_append (row + 1) (edited_layers layers x) made xs ys h ∙ ap (λ n. edits_give n made ys) (omega arith))
   where
-    go : (r : Option LayerFault) (front all : Result Layers (ℕ × LayerFault)) → unless_refused row r front ≡ Ok made
+    go : (r : Option LayerFault) (front all : Result (Layers Shape) (ℕ × LayerFault)) → unless_refused row r front ≡ Ok made
         → (front ≡ Ok made → all ≡ edits_give (row + length (x ∷ xs)) made ys) → unless_refused row r all ≡ edits_give (row + length (x ∷ xs)) made ys
-    go (Some f) front all is rest = absurd (let bad : (let r : Result Layers (ℕ × LayerFault) = Err (row, f) in r) ≡ Ok made = is in cc)
+    go (Some f) front all is rest = absurd (let bad : (let r : Result (Layers Shape) (ℕ × LayerFault) = Err (row, f) in r) ≡ Ok made = is in cc)
     go None front all is rest = rest is
 
 -- lack of memory is no reason to refuse an edit
@@ -41,10 +41,10 @@ delete_never true b is = cc
 delete_never false true is = cc
 delete_never false false is = cc
 
-never_memory : (layers : Layers) (edit : EditContent) → edit_refusal layers edit ≡ Some Memory → ⊥
+never_memory : (layers : Layers Shape) (edit : EditContent Shape) → edit_refusal layers edit ≡ Some Memory → ⊥
 never_memory layers edit = by (layer_on edit.side layers) edit.shape
   where
-    by : (layer : Contents) (shape : Option Shape) → change_refusal layer edit.id shape ≡ Some Memory → ⊥
+    by : (layer : Contents Shape) (shape : Option Shape) → change_refusal layer edit.id shape ≡ Some Memory → ⊥
     by layer (Some s) = insert_never (not (is_id edit.id)) (is_some (with_id edit.id layer)) (nat_le most_features layer.next)
     by layer None = delete_never (not (is_id edit.id)) (is_some (with_id edit.id layer))
 
@@ -60,59 +60,72 @@ err_unrefused : (T : Type 0) (r : Option LayerFault) → (r ≡ Some Memory → 
 err_unrefused T (Some g) never h = absurd (never (let same : (let out : Result T LayerFault = Err Memory in out) ≡ Err g = h in cc))
 err_unrefused T None never h = refl
 
--- this number of edits is applied, and the last of them is on this row
-pub record Done (row index : ℕ) (start now : Layers) (edits : List Edit) : Type 0 where
-  pub row_is : row ≡ index
-  pub made : edits_give 1 start (map content_of (take index edits)) ≡ Ok now
+-- the edits up to this row are made, and these are left
+pub record Done (row : ℕ) (start now : Layers Shape) (edits left : List (Edit Shape)) : Type 0 where
+  pub before : List (Edit Shape)
+  pub split : edits ≡ before ++ left
+  pub row_is : row ≡ length before
+  pub made : edits_give 1 start (map content_of before) ≡ Ok now
 
-pub none_done : (start : Layers) (edits : List Edit) → Done 0 0 start start edits
-none_done start edits = record { row_is = refl; made = refl }
+pub none_done : (start : Layers Shape) (edits left : List (Edit Shape)) → left ≡ edits → Done 0 start start edits left
+none_done start edits left same = record { before = []; split = sym same; row_is = refl; made = refl }
 
-module _ (row index : ℕ) (start now : Layers) (edits : List Edit) (x : Edit) (done : Done row index start now edits) (within : index < length edits)
-    (at : x ≡ get_or edits index x) where
-  abbrev front : List EditContent
-  front = map content_of (take index edits)
+-- a row is not below the number of edits while one is left
+pub row_within : (row : ℕ) (start now : Layers Shape) (edits left rest : List (Edit Shape)) (x : Edit Shape) → Done row start now edits left → left ≡ x ∷ rest
+    → row < length edits
+row_within row start now edits left rest x done next =
+    let all = ap length (done.split ∙ ap (λ l. done.before ++ l) next) ∙ length-append done.before (x ∷ rest) in
+    let same : row ≡ length done.before = done.row_is in
+    omega arith
 
-  front_has : length front ≡ index
-  front_has = length-map (take index edits) content_of ∙ length-take-le index edits (omega arith)
+module _ (row : ℕ) (start now : Layers Shape) (edits left rest : List (Edit Shape)) (x : Edit Shape) (done : Done row start now edits left)
+    (next : left ≡ x ∷ rest) where
+  abbrev front : List (EditContent Shape)
+  front = map content_of done.before
+
+  front_has : length front ≡ row
+  front_has = length-map done.before content_of ∙ sym done.row_is
+
+  split_here : edits ≡ done.before ++ (x ∷ rest)
+  split_here = done.split ∙ ap (λ l. done.before ++ l) next
 
   one_more : (r : Option LayerFault) → edit_refusal now (content_of x) ≡ r → r ≡ None
-      → edits_give 1 start (map content_of (take (index + 1) edits)) ≡ Ok (edited_layers now (content_of x))
+      → edits_give 1 start (map content_of (done.before ++ x ∷ [])) ≡ Ok (edited_layers now (content_of x))
   one_more r is none =
-      let longer : map content_of (take (index + 1) edits) ≡ front ++ content_of x ∷ [] =
-      ap (map content_of) (take_more edits index x within ∙ ap (λ e. take index edits ++ e ∷ []) (sym at))
-      ∙ map-append content_of (take index edits) (x ∷ []) in
-      ap (edits_give 1 start) longer ∙ gives_append 1 start now front (content_of x ∷ []) done.made
+      ap (edits_give 1 start) (map-append content_of done.before (x ∷ []))
+      ∙ gives_append 1 start now front (content_of x ∷ []) done.made
       ∙ ap (λ t. unless_refused (1 + length front) t (Ok (edited_layers now (content_of x)))) (is ∙ none)
 
   -- one more edit is applied
-  pub one_done : {T : Type 0} (u : T) (after : Layers) → after ≡ edited_layers now (content_of x) → AnswersWith (edit_refusal now (content_of x)) (Ok u)
-      → Done (row + 1) (index + 1) start after edits
+  pub one_done : {T : Type 0} (u : T) (after : Layers Shape) → after ≡ edited_layers now (content_of x) → AnswersWith (edit_refusal now (content_of x)) (Ok u)
+      → Done (row + 1) start after edits rest
   one_done u after is answers = record {
-    row_is = let same : row ≡ index = done.row_is in omega arith;
+    before = done.before ++ x ∷ [];
+    split = split_here ∙ sym (append_assoc done.before (x ∷ []) rest);
+    row_is = let same : row ≡ length done.before = done.row_is in let all = length-append done.before (x ∷ []) in omega arith;
     made = one_more (edit_refusal now (content_of x)) refl (ok_unrefused _ u answers) ∙ ap Ok (sym is);
   }
 
   refused_at : (f : LayerFault) → edit_refusal now (content_of x) ≡ Some f → edits_give 1 start (map content_of edits) ≡ Err (row + 1, f)
   refused_at f is =
-      let rest = map content_of (drop (suc index) edits) in
-      let split : map content_of edits ≡ front ++ (content_of x ∷ rest) =
-      ap (map content_of) (sym (take-append-drop index edits) ∙ ap (λ l. take index edits ++ l)
-      (drop-cons edits index x within ∙ ap (λ e. e ∷ drop (suc index) edits) (sym at)))
-      ∙ map-append content_of (take index edits) (x ∷ drop (suc index) edits) in
-      let place : 1 + length front ≡ row + 1 = let same : row ≡ index = done.row_is in let has = front_has in omega arith in
-      ap (edits_give 1 start) split ∙ gives_append 1 start now front (content_of x ∷ rest) done.made
-      ∙ ap (λ t. unless_refused (1 + length front) t (edits_give (1 + length front + 1) (edited_layers now (content_of x)) rest)) is
+      let split = ap (map content_of) split_here ∙ map-append content_of done.before (x ∷ rest) in
+      let place : 1 + length front ≡ row + 1 = let has = front_has in omega arith in
+      ap (edits_give 1 start) split ∙ gives_append 1 start now front (content_of x ∷ map content_of rest) done.made
+      ∙ ap (λ t. unless_refused (1 + length front) t (edits_give (1 + length front + 1) (edited_layers now (content_of x)) (map content_of rest))) is
       ∙ ap (λ n. Err (n, f)) place
 
   want_at : edit_refusal now (content_of x) ≡ None → AreMade (row + 1) start (map content_of edits)
   want_at none =
-      let next : row + 1 ≡ index + 1 = let same : row ≡ index = done.row_is in omega arith in record {
+      let made = done.before ++ x ∷ [] in
+      let split : edits ≡ made ++ rest = split_here ∙ sym (append_assoc done.before (x ∷ []) rest) in
+      let whole : map content_of edits ≡ map content_of made ++ map content_of rest = ap (map content_of) split ∙ map-append content_of made rest in
+      let many : length (map content_of made) ≡ row + 1 =
+      let has = front_has in let all = ap length (map-append content_of done.before (x ∷ [])) ∙ length-append front (content_of x ∷ []) in omega arith in record {
         some = omega arith;
-        within = let all = length-map edits content_of in omega arith;
+        within = let all = ap length whole ∙ length-append (map content_of made) (map content_of rest) in omega arith;
         made = edited_layers now (content_of x);
-        none_refused = ap (edits_give 1 start) (take-map content_of (row + 1) edits ∙ ap (λ n. map content_of (take n edits)) next)
-            ∙ one_more None none refl;
+        none_refused = ap (λ l. edits_give 1 start (take (row + 1) l)) whole
+            ∙ ap (edits_give 1 start) (take_at (map content_of made) (map content_of rest) (row + 1) many) ∙ one_more None none refl;
       }
 
   -- the edits end at this one
@@ -124,6 +137,7 @@ module _ (row index : ℕ) (start now : Layers) (edits : List Edit) (x : Edit) (
   }
 
 -- all edits are applied
-pub all_done : (row index : ℕ) (start now : Layers) (edits : List Edit) → Done row index start now edits → length edits ≤ index
+pub all_done : (row : ℕ) (start now : Layers Shape) (edits left : List (Edit Shape)) → Done row start now edits left → left ≡ []
     → edits_give 1 start (map content_of edits) ≡ Ok now
-all_done row index start now edits done all = ap (λ l. edits_give 1 start (map content_of l)) (sym (take_all index edits all)) ∙ done.made
+all_done row start now edits left done none =
+    ap (λ l. edits_give 1 start (map content_of l)) (done.split ∙ ap (λ l. done.before ++ l) none ∙ append-nil done.before) ∙ done.made

@@ -7,6 +7,7 @@ use Rattle.std.proofs.lemmas.List.{get_or_default}
 use Rattle.std.proofs.lemmas.List.Elements.{Contains-append_right}
 use Rattle.std.proofs.lemmas.Grind.{common_steps}
 use Rattle.std.proofs.lemmas.Bool.Decides.{nat_tests}
+use Rattle.geom_core.specs.declared.shape.Shape.{Shape}
 use Rattle.layer_core.specs.Layers.{Feature, has_number}
 
 pub contains_at : {X : Type 0} (xs : List X) (k : ℕ) (d : X) → k < length xs → Contains xs (get_or xs k d)
@@ -22,43 +23,43 @@ pub contains_cases : {X : Type 0} (x : X) (xs : List X) (y : X) → Contains (x 
 contains_cases x xs y (zero, within, at) = inl at
 contains_cases x xs y (suc k, within, at) = inr (k, omega arith, at)
 
-first_taken : (b : Bool) (x : Feature) (rest : Option Feature) → b ≡ true → cond b (Some x) rest ≡ Some x
+first_taken : (b : Bool) (x : Feature Shape) (rest : Option (Feature Shape)) → b ≡ true → cond b (Some x) rest ≡ Some x
 first_taken true x rest e = refl
 first_taken false x rest e = absurd cc
 
-first_passed : (b : Bool) (x : Feature) (rest : Option Feature) → b ≡ false → cond b (Some x) rest ≡ rest
+first_passed : (b : Bool) (x : Feature Shape) (rest : Option (Feature Shape)) → b ≡ false → cond b (Some x) rest ≡ rest
 first_passed true x rest e = absurd cc
 first_passed false x rest e = refl
 
 higher_differs : (a b : ℕ) → a < b → nat_eq b a ≡ false
 higher_differs a b lower = grind (arith, nat_tests)
 
-held_at : (fs : List Feature) (f : Feature) (k : ℕ) → AllPairs (λ a b. a.number < b.number) fs → k < length fs → get_or fs k f ≡ f
+held_at : (fs : List (Feature Shape)) (f : Feature Shape) (k : ℕ) → AllPairs (λ a b. a.number < b.number) fs → k < length fs → get_or fs k f ≡ f
     → find (has_number f.number) fs ≡ Some f
 held_at [] f k rising within at = absurd (omega arith)
 held_at (g ∷ fs) f zero rising within at =
     let same : g ≡ f = at in
-    first_taken (nat_eq f.number g.number) g (find (has_number f.number) fs) (eq-eqb f.number g.number (ap (λ (h : Feature). h.number)
+    first_taken (nat_eq f.number g.number) g (find (has_number f.number) fs) (eq-eqb f.number g.number (ap (λ (h : Feature Shape). h.number)
     (sym same))) ∙ ap Some same
 held_at (g ∷ fs) f (suc k) rising within at =
     let lower = rising 0 (suc k) f (omega arith) within in
     let at_f : get_or (g ∷ fs) (suc k) f ≡ f = at in
     first_passed (nat_eq f.number g.number) g (find (has_number f.number) fs)
-    (higher_differs g.number f.number (subst (λ (h : Feature). g.number < h.number) at_f lower))
+    (higher_differs g.number f.number (subst (λ (h : Feature Shape). g.number < h.number) at_f lower))
     ∙ held_at fs f k (λ i j d lt later. rising (suc i) (suc j) d (omega arith) (omega arith)) (omega arith) at
 
 -- a lookup by number finds the feature that has it
-pub held_by_number : (fs : List Feature) (f : Feature) → AllPairs (λ a b. a.number < b.number) fs → Contains fs f → find (has_number f.number) fs ≡ Some f
+pub held_by_number : (fs : List (Feature Shape)) (f : Feature Shape) → AllPairs (λ a b. a.number < b.number) fs → Contains fs f → find (has_number f.number) fs ≡ Some f
 held_by_number fs f rising c = held_at fs f c.0 rising c.1 c.2
 
-listed_from : (n : ℕ) (g f : Feature) (fs : List Feature) (b : Bool) → nat_eq n g.number ≡ b → cond b (Some g) (find (has_number n) fs) ≡ Some f
+listed_from : (n : ℕ) (g f : Feature Shape) (fs : List (Feature Shape)) (b : Bool) → nat_eq n g.number ≡ b → cond b (Some g) (find (has_number n) fs) ≡ Some f
     → (find (has_number n) fs ≡ Some f → Contains fs f × (f.number ≡ n)) → Contains (g ∷ fs) f × (f.number ≡ n)
 listed_from n g f fs true t e later =
     let same : g ≡ f = cc in
-    (subst (λ (h : Feature). Contains (g ∷ fs) h) same (contains_here g fs), ap (λ (h : Feature). h.number) (sym same) ∙ sym (eqb-true n g.number t))
+    (subst (λ (h : Feature Shape). Contains (g ∷ fs) h) same (contains_here g fs), ap (λ (h : Feature Shape). h.number) (sym same) ∙ sym (eqb-true n g.number t))
 listed_from n g f fs false t e later = (contains_later g fs f (later e).0, (later e).1)
 
 -- the feature that a lookup finds has that number
-pub listed_by_number : (fs : List Feature) (n : ℕ) (f : Feature) → find (has_number n) fs ≡ Some f → Contains fs f × (f.number ≡ n)
+pub listed_by_number : (fs : List (Feature Shape)) (n : ℕ) (f : Feature Shape) → find (has_number n) fs ≡ Some f → Contains fs f × (f.number ≡ n)
 listed_by_number [] n f e = absurd (let bad : None ≡ Some f = e in cc)
 listed_by_number (g ∷ fs) n f e = listed_from n g f fs (nat_eq n g.number) refl e (listed_by_number fs n f)

@@ -4,6 +4,7 @@ use Rattle.std.proofs.Common.{◌↔◌, ◌≢◌, All, get_or, refl, sym, subs
 use Rattle.std.specs.Prelude.{⊤}
 use Rattle.relation_core.specs.declared.relation.Relation.{Relation}
 use Rattle.wkt_core.specs.declared.scale.Scale.{Scale}
+use Rattle.geom_core.specs.declared.shape.Shape.{Shape}
 use Rattle.layer_core.specs.declared.edit.Edit.{Edit as EditType}
 use Rattle.layer_core.specs.declared.fault.LayerFault.{LayerFault}
 use Rattle.file_core.specs.declared.read_fault.ReadFault.{ReadFault}
@@ -23,12 +24,12 @@ use Rattle.report_core.specs.Reports.{IsHeld}
 use Rattle.report_core.specs.Written.{joined}
 use Rattle.join_core.proofs.JoinLemmas.{contains_at}
 
-is_some_of : (o : Option Feature) (f : Feature) → o ≡ Some f → IsSome o
+is_some_of : (o : Option (Feature Shape)) (f : Feature Shape) → o ≡ Some f → IsSome o
 is_some_of None f e = absurd (let bad : None ≡ Some f = e in cc)
 is_some_of (Some g) f e = refl
 
 -- the layers hold the features of their pairs
-pub pairs_held : (relation : Relation) (left right : Contents) (pairs list : List (ℕ × ℕ)) → list ≡ pairs → IsJoinList relation left right pairs
+pub pairs_held : (relation : Relation) (left right : Contents Shape) (pairs list : List (ℕ × ℕ)) → list ≡ pairs → IsJoinList relation left right pairs
     → All (IsHeld left right) list
 pairs_held relation left right pairs list e joined =
     subst (All (IsHeld left right)) (sym e)
@@ -47,7 +48,7 @@ handed_on J (Err x) e is h same gives =
 -- ---- the edits of a file
 
 -- a fault of the edits, if both layers are valid
-module _ (files : JoinFiles) (l r : Contents) (left : LayerFile files.scale files.left (Ok l)) (right : LayerFile files.scale files.right (Ok r)) where
+module _ (files : JoinFiles) (l r : Contents Shape) (left : LayerFile files.scale files.left (Ok l)) (right : LayerFile files.scale files.right (Ok r)) where
   edits_give_fault : (e : RunFault) → IsEditsFault files.scale files.edits (both l r) e → BlamesInput e → LayersGive files (Err e)
   edits_give_fault e (unread f blames) blame = edits_fault l r f left right (blames blame)
   edits_give_fault e (ended edits row f file ends) blame = edit_refused l r edits row f left right file (ends.refused blame)
@@ -74,30 +75,30 @@ module _ (files : JoinFiles) (l r : Contents) (left : LayerFile files.scale file
   edits_join_fault (Ok x) e h fault = absurd h
   edits_join_fault (Err x) e h fault = subst (IsJoinFault files) (sym h) (edits_join e fault)
 
-  pub layers_edited : (layers : Layers) → AreEdited files.scale files.edits (both l r) layers → LayersGive files (Ok layers)
+  pub layers_edited : (layers : Layers Shape) → AreEdited files.scale files.edits (both l r) layers → LayersGive files (Ok layers)
   layers_edited layers given = edited l r given.0 layers left right given.1 given.2
 
-module _ (scale : Scale) (file : Option (Option (List ℕ))) (layers : Layers) where
+module _ (scale : Scale) (file : Option (Option (List ℕ))) (layers : Layers Shape) where
   pub edits_handed_on : {T : Type 0} (out : Result T RunFault) (e : RunFault) (f : ReadFault) → IsErrAnd out (λ x. x ≡ e) → e ≡ Read Edits f
       → (BlamesBytes f → EditFile scale file (Err f)) → IfErr out (IsEditsFault scale file layers)
   edits_handed_on (Ok x) e f h is blames = absurd h
   edits_handed_on (Err x) e f h is blames = subst (IsEditsFault scale file layers) (sym (h ∙ is)) (unread f blames)
 
-  pub edits_made : {T : Type 0} (out : Result T RunFault) (list items : List EditType) (after : Layers) → list ≡ items
+  pub edits_made : {T : Type 0} (out : Result T RunFault) (list items : List (EditType Shape)) (after : Layers Shape) → list ≡ items
       → EditFile scale file (Ok (map content_of items)) → OnOk out (edits_give 1 layers (map content_of list) ≡ Ok after)
       → OnOk out (AreEdited scale file layers after)
   edits_made (Err x) list items after same read made = tt
   edits_made (Ok x) list items after same read made =
-      (map content_of items, read, subst (λ (es : List EditType). edits_give 1 layers (map content_of es) ≡ Ok after) same made)
+      (map content_of items, read, subst (λ (es : List (EditType Shape)). edits_give 1 layers (map content_of es) ≡ Ok after) same made)
 
-  pub edits_ended : {T : Type 0} (out : Result T RunFault) (list items : List EditType) → list ≡ items
+  pub edits_ended : {T : Type 0} (out : Result T RunFault) (list items : List (EditType Shape)) → list ≡ items
       → EditFile scale file (Ok (map content_of items))
       → IfErr out (λ e. (row : ℕ) × (f : LayerFault) × (e ≡ Edit row f) × EndsAt row f layers (map content_of list))
       → IfErr out (IsEditsFault scale file layers)
   edits_ended (Ok x) list items same read err = tt
   edits_ended (Err x) list items same read err =
       subst (IsEditsFault scale file layers) (sym err.2)
-      (ended (map content_of items) err.0 err.1 read (subst (λ (es : List EditType). EndsAt err.0 err.1 layers (map content_of es)) same err.3))
+      (ended (map content_of items) err.0 err.1 read (subst (λ (es : List (EditType Shape)). EndsAt err.0 err.1 layers (map content_of es)) same err.3))
 
 -- a late fault blames no input, and is no fault of a source
 pub none_blamed : (e : RunFault) → IsLateFault e → BlamesInput e → ⊥
@@ -123,7 +124,7 @@ pub last_fault : {T : Type 0} (relation : Relation) (files : JoinFiles) (out : R
 last_fault relation files (Ok x) err = tt
 last_fault relation files (Err e) err = λ blame. absurd (none_blamed e err blame)
 
-module _ (files : JoinFiles) (layers : Layers) (given : LayersGive files (Ok layers)) where
+module _ (files : JoinFiles) (layers : Layers Shape) (given : LayersGive files (Ok layers)) where
   pub late_is_of_join : (e : RunFault) → IsLateFault e → IsJoinFault files e
   late_is_of_join (NoFile i) late = absurd late
   late_is_of_join (Read i f) late = absurd late
@@ -215,7 +216,7 @@ edits_unread F (Some s) (Err x) e fresh h other = (
 )
 
 -- the sources, if the layers were read and not all edits were applied
-pub edits_io : {T U V : Type 0} {scale : Scale} {file : Option (Option (List ℕ))} {layers : Layers} (L R E : Type 0) (out : Result T RunFault) (e : RunFault)
+pub edits_io : {T U V : Type 0} {scale : Scale} {file : Option (Option (List ℕ))} {layers : Layers Shape} (L R E : Type 0) (out : Result T RunFault) (e : RunFault)
     (y : U) → IsErrAnd out (λ x. x ≡ e) → IsEditsFault scale file layers e → IsErrOf {E = RunFault} (Ok y) (Read Left Io) ↔ L
     → IsErrOf {E = RunFault} (Ok y) (Read Right Io) ↔ R → IsErrOf {T = V} (Err e) (Read Edits Io) ↔ E
     → (i : Input) → IsErrOf out (Read i Io) ↔ FailedAt L R E i

@@ -6,6 +6,7 @@ use Rattle.wkt_core.specs.declared.scale.Scale.{Scale}
 use Rattle.file_core.specs.declared.read_fault.ReadFault.{ReadFault}
 use Rattle.file_core.specs.declared.read_fault.ReadFault.TheVariants as read_faults
 use Rattle.file_core.specs.LayerFiles.{IsLayerFile, LayerRowGives, layer_columns, list_read}
+use Rattle.geom_core.specs.declared.shape.Shape.{Shape}
 use Rattle.layer_core.specs.LayerTrees.{LayerState}
 use Rattle.layer_core.specs.Layers.{Contents, empty}
 use Rattle.file_core.specs.Limits.{most_file_bytes}
@@ -26,24 +27,24 @@ unread_blamed scale known f reading long blame =
 
 module _ (scale : Scale) where
   -- the layer built of a source's bytes is that of its file
-  built_blamed : (known : Option (List ℕ)) (items : List ℕ) (out : Result LayerState ReadFault) (f : ReadFault)
+  built_blamed : (known : Option (List ℕ)) (items : List ℕ) (out : Result (LayerState Shape) ReadFault) (f : ReadFault)
       → IfSome known (λ bytes. items ≡ bytes) → Builds scale items out → out ≡ Err f → BlamesBytes f → LayerFile scale known (Err f)
   built_blamed None items out f same built is blame = tt
   built_blamed (Some bytes) items out f same built is blame =
       let no_memory : out ≢ Err read_faults.Memory = λ e. let m : f ≡ read_faults.Memory = cc in subst BlamesBytes m blame in
-      let gives = subst (λ (r : Result LayerState ReadFault). IsLayerFile scale items (list_read r)) is (built.gives no_memory) in
+      let gives = subst (λ (r : Result (LayerState Shape) ReadFault). IsLayerFile scale items (list_read r)) is (built.gives no_memory) in
       subst (λ (b : List ℕ). IsLayerFile scale b (Err f)) same gives
 
-  built_well : (known : Option (List ℕ)) (items : List ℕ) (out : Result LayerState ReadFault) (layer : LayerState)
+  built_well : (known : Option (List ℕ)) (items : List ℕ) (out : Result (LayerState Shape) ReadFault) (layer : LayerState Shape)
       → IfSome known (λ bytes. items ≡ bytes) → Builds scale items out → out ≡ Ok layer → LayerFile scale known (Ok layer.list)
   built_well None items out layer same built is = tt
   built_well (Some bytes) items out layer same built is =
       let no_memory : out ≢ Err read_faults.Memory = λ e. absurd cc in
-      let gives = subst (λ (r : Result LayerState ReadFault). IsLayerFile scale items (list_read r)) is (built.gives no_memory) in
+      let gives = subst (λ (r : Result (LayerState Shape) ReadFault). IsLayerFile scale items (list_read r)) is (built.gives no_memory) in
       subst (λ (b : List ℕ). IsLayerFile scale b (Ok layer.list)) same gives
 
   -- a source that isn't read to its end is read as a fault
-  pub unread : {T : Type 0} (list : T → Contents) (known : Option (List ℕ)) (out : Result T ReadFault) (f : ReadFault) → IsErrAnd out (λ x. x ≡ f)
+  pub unread : {T : Type 0} (list : T → Contents Shape) (known : Option (List ℕ)) (out : Result T ReadFault) (f : ReadFault) → IsErrAnd out (λ x. x ≡ f)
       → IsReadingFault f → (f ≡ read_faults.TooLong → IfSome known (λ bytes. most_file_bytes < length bytes)) → ReadsList list scale known out
   unread list known (Ok layer) f is reading long = absurd is
   unread list known (Err g) f is reading long = record {
@@ -52,9 +53,9 @@ module _ (scale : Scale) where
   }
 
   -- the result of reading a source blames it
-  read_blamed : (known : Option (List ℕ)) (out : Result LayerState ReadFault) (f : ReadFault)
+  read_blamed : (known : Option (List ℕ)) (out : Result (LayerState Shape) ReadFault) (f : ReadFault)
       → Reads scale known out → out ≡ Err f → BlamesBytes f → LayerFile scale known (Err f)
-  read_blamed known out f reads is = subst (λ (r : Result LayerState ReadFault). IfErr r (λ x. BlamesBytes x → LayerFile scale known (Err x))) is reads.fault
+  read_blamed known out f reads is = subst (λ (r : Result (LayerState Shape) ReadFault). IfErr r (λ x. BlamesBytes x → LayerFile scale known (Err x))) is reads.fault
 
 -- a fault of the right layer alone is reported
 right_first : (f : ReadFault) → first_fault None f ≡ Read Right f
@@ -77,7 +78,7 @@ left_first g (read_faults.Layer n h) = inr refl
 left_first g read_faults.Memory = inr refl
 
 -- a fault of two layers, the right one of which wasn't built, is one of their files
-told_blamed : (scale : Scale) (left right : Option (List ℕ)) (items : List ℕ) (built out : Result LayerState ReadFault) (f : ReadFault)
+told_blamed : (scale : Scale) (left right : Option (List ℕ)) (items : List ℕ) (built out : Result (LayerState Shape) ReadFault) (f : ReadFault)
     → IfSome left (λ bytes. items ≡ bytes) → Builds scale items built → Reads scale right out → out ≡ Err f
     → IsLayersFault scale left right (first_fault (result_err built) f)
 told_blamed scale left right items (Ok layer) out f same built reads is =
@@ -88,7 +89,7 @@ told_blamed scale left right items (Err g) out f same built reads is = elim (lef
   | inr told ↦ subst (IsLayersFault scale left right) (sym told) (built_blamed scale left items (Err g) g same built refl)
 ]
 
-pub first_blamed : (scale : Scale) (left right : Option (List ℕ)) (items : List ℕ) (built out : Result LayerState ReadFault) (f : ReadFault)
+pub first_blamed : (scale : Scale) (left right : Option (List ℕ)) (items : List ℕ) (built out : Result (LayerState Shape) ReadFault) (f : ReadFault)
     (e : RunFault) → IfSome left (λ bytes. items ≡ bytes) → Builds scale items built → Reads scale right out → out ≡ Err f
     → e ≡ first_fault (result_err built) f → IsLayersFault scale left right e
 first_blamed scale left right items built out f e same gives reads is told =

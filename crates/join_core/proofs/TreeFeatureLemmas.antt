@@ -6,6 +6,7 @@ use Rattle.rtree_core.specs.contracts.node.EntryPartialEq.TheImpl.{eq-value}
 use Rattle.rtree_core.specs.declared.node.Entry.{Entry}
 use Rattle.rtree_core.specs.Collections.{HasSame}
 use Rattle.rtree_core.proofs.RemovalLemmas.{entry_same, entry_itself}
+use Rattle.geom_core.specs.declared.shape.Shape.{Shape}
 use Rattle.layer_core.specs.Layers.{Feature}
 use Rattle.layer_core.specs.LayerTrees.{indexed}
 use Rattle.join_core.proofs.JoinLemmas.{contains_here, contains_later, contains_cases}
@@ -35,16 +36,19 @@ counted-contains e (x ∷ xs) c =
 pub same-contains : (xs ys : List Entry) (e : Entry) → HasSame xs ys → Contains xs e → Contains ys e
 same-contains xs ys e same c = contains-counted e ys (omega (arith, counted-contains e xs c, same (eq-value.it e)))
 
-pub feature_of : (fs : List Feature) (e : Entry) → Contains (map indexed fs) e → (f : Feature) × Contains fs f × (indexed f ≡ e)
-feature_of [] e c = absurd (let none_there = c.1 in omega arith)
-feature_of (f ∷ fs) e c = elim (contains_cases (indexed f) (map indexed fs) e c) [
-  | inl same ↦ (f, contains_here f fs, same)
-  | inr later ↦ let found = feature_of fs e later in (found.0, contains_later f fs found.0 found.1, found.2)
-]
+module _ {G : Type 0} (box_of : G → Shape) where
+  pub feature_of : (fs : List (Feature G)) (e : Entry) → Contains (map (indexed box_of) fs) e
+      → (f : Feature G) × Contains fs f × (indexed box_of f ≡ e)
+  feature_of [] e c = absurd (let none_there = c.1 in omega arith)
+  feature_of (f ∷ fs) e c = elim (contains_cases (indexed box_of f) (map (indexed box_of) fs) e c) [
+    | inl same ↦ (f, contains_here f fs, same)
+    | inr later ↦ let found = feature_of fs e later in (found.0, contains_later f fs found.0 found.1, found.2)
+  ]
 
-pub entry_of : (fs : List Feature) (f : Feature) → Contains fs f → Contains (map indexed fs) (indexed f)
-entry_of [] f c = absurd (let none_there = c.1 in omega arith)
-entry_of (g ∷ fs) f c = elim (contains_cases g fs f c) [
-  | inl same ↦ subst (λ (h : Feature). Contains (map indexed (g ∷ fs)) (indexed h)) same (contains_here (indexed g) (map indexed fs))
-  | inr later ↦ contains_later (indexed g) (map indexed fs) (indexed f) (entry_of fs f later)
-]
+  pub entry_of : (fs : List (Feature G)) (f : Feature G) → Contains fs f → Contains (map (indexed box_of) fs) (indexed box_of f)
+  entry_of [] f c = absurd (let none_there = c.1 in omega arith)
+  entry_of (g ∷ fs) f c = elim (contains_cases g fs f c) [
+    | inl same ↦ subst (λ (h : Feature G). Contains (map (indexed box_of) (g ∷ fs)) (indexed box_of h)) same
+        (contains_here (indexed box_of g) (map (indexed box_of) fs))
+    | inr later ↦ contains_later (indexed box_of g) (map (indexed box_of) fs) (indexed box_of f) (entry_of fs f later)
+  ]

@@ -10,6 +10,7 @@ use Rattle.relation_core.specs.Relations.{Holds, ForbidsDisjoint}
 use Rattle.rtree_core.specs.declared.node.Entry.{Entry}
 use Rattle.rtree_core.specs.declared.node.Node.{Node}
 use Rattle.rtree_core.specs.Trees.{entries_in}
+use Rattle.geom_core.specs.declared.shape.Shape.{Shape}
 use Rattle.layer_core.specs.Layers.{Contents, IsLayer, with_number}
 use Rattle.layer_core.specs.LayerTrees.{indexed, HoldsExactly}
 use Rattle.descent_core.specs.Plans.{IsPlan}
@@ -23,14 +24,18 @@ use Rattle.join_core.specs.Joins.{StandIn, IsJoinList, RowsAreJoinList, HasMarks
 use Rattle.join_core.proofs.JoinLemmas.{held_by_number, listed_by_number}
 use Rattle.join_core.proofs.TreeFeatureLemmas.{same-contains, feature_of, entry_of}
 
-module _ (relation : Relation) (left right : Contents) (left_root right_root : Option Node)
-    (left_layer : IsLayer left) (right_layer : IsLayer right) (left_tree : HoldsExactly left left_root) (right_tree : HoldsExactly right right_root) where
+-- a shape is its own box
+abbrev box_of : Shape → Shape
+box_of s = s
+
+module _ (relation : Relation) (left right : Contents Shape) (left_root right_root : Option Node)
+    (left_layer : IsLayer left) (right_layer : IsLayer right) (left_tree : HoldsExactly box_of left left_root) (right_tree : HoldsExactly box_of right right_root) where
   -- two entries of the trees are two features
   of_entries : (pair : ℕ × ℕ) → EntriesStandIn relation (entries_in left_root) (entries_in right_root) pair → StandIn relation left right pair
   of_entries pair s =
-      let f = feature_of left.features s.first (same-contains (entries_in left_root) (map indexed left.features) s.first
+      let f = feature_of box_of left.features s.first (same-contains (entries_in left_root) (map (indexed box_of) left.features) s.first
       (λ p. sym (left_tree p)) s.first_held) in
-      let g = feature_of right.features s.second (same-contains (entries_in right_root) (map indexed right.features) s.second
+      let g = feature_of box_of right.features s.second (same-contains (entries_in right_root) (map (indexed box_of) right.features) s.second
       (λ p. sym (right_tree p)) s.second_held) in
       record {
         first = f.0;
@@ -49,10 +54,10 @@ module _ (relation : Relation) (left right : Contents) (left_root right_root : O
       let a = listed_by_number left.features pair.0 s.first s.first_held in
       let b = listed_by_number right.features pair.1 s.second s.second_held in
       record {
-        first = indexed s.first;
-        second = indexed s.second;
-        first_held = same-contains (map indexed left.features) (entries_in left_root) (indexed s.first) left_tree (entry_of left.features s.first a.0);
-        second_held = same-contains (map indexed right.features) (entries_in right_root) (indexed s.second) right_tree (entry_of right.features s.second b.0);
+        first = indexed box_of s.first;
+        second = indexed box_of s.second;
+        first_held = same-contains (map (indexed box_of) left.features) (entries_in left_root) (indexed box_of s.first) left_tree (entry_of box_of left.features s.first a.0);
+        second_held = same-contains (map (indexed box_of) right.features) (entries_in right_root) (indexed box_of s.second) right_tree (entry_of box_of right.features s.second b.0);
         numbers = λ i. (sym a.1 i, sym b.1 i);
         holds = s.holds;
       }
@@ -70,20 +75,20 @@ module _ (relation : Relation) (left right : Contents) (left_root right_root : O
   }
 
 -- the rows of the tasks of two layers' trees
-pub rows_are_list : {E : Type 0} (left right : Contents) (left_root right_root left_tree right_tree : Option Node) (out : Result (List (Node × Node)) E)
-    → IsLayer left → IsLayer right → HoldsExactly left left_root → HoldsExactly right right_root → left_tree ≡ left_root → right_tree ≡ right_root
+pub rows_are_list : {E : Type 0} (left right : Contents Shape) (left_root right_root left_tree right_tree : Option Node) (out : Result (List (Node × Node)) E)
+    → IsLayer left → IsLayer right → HoldsExactly box_of left left_root → HoldsExactly box_of right right_root → left_tree ≡ left_root → right_tree ≡ right_root
     → IfOk out (λ tasks. (relation : Relation) → ForbidsDisjoint relation → RowsJoin relation (entries_in left_tree) (entries_in right_tree) tasks)
     → IfOk out (RowsAreJoinList left right)
 rows_are_list left right left_root right_root left_tree right_tree (Err e) left_layer right_layer left_holds right_holds left_is right_is join = tt
 rows_are_list left right left_root right_root left_tree right_tree (Ok tasks) left_layer right_layer left_holds right_holds left_is right_is join =
     record {
       list = λ relation rows pairs forbids are same up.
-          sorted_join relation left right left_tree right_tree left_layer right_layer (subst (HoldsExactly left) (sym left_is) left_holds)
-          (subst (HoldsExactly right) (sym right_is) right_holds) (flat_map (λ row. row) rows) pairs (join relation forbids rows are) same up;
+          sorted_join relation left right left_tree right_tree left_layer right_layer (subst (HoldsExactly box_of left) (sym left_is) left_holds)
+          (subst (HoldsExactly box_of right) (sym right_is) right_holds) (flat_map (λ row. row) rows) pairs (join relation forbids rows are) same up;
     }
 
 -- what workers have delivered of a plan's rows
-pub delivered_list : (left right : Contents) (tasks : List (Node × Node)) (join : JoinRelation) (size : ℕ) (outcome : Delivery)
+pub delivered_list : (left right : Contents Shape) (tasks : List (Node × Node)) (join : JoinRelation) (size : ℕ) (outcome : Delivery)
     → RowsAreJoinList left right tasks → IsDelivered (relation_of join) tasks size outcome
     → IsJoinList (relation_of join) left right outcome.pairs
 delivered_list left right tasks join size outcome rows d =

@@ -1,6 +1,7 @@
 -- The results of a picture of three files.
 use Rattle.std.specs.Prelude.{◌+◌, ◌≤◌, ◌<◌, ⊤, ℕ, List, Result, Ok, Err, length}
 use Rattle.relation_core.specs.declared.relation.Relation.{Relation}
+use Rattle.geom_core.specs.declared.shape.Shape.{Shape}
 use Rattle.layer_core.specs.Edits.{Layers}
 use Rattle.draw_core.specs.Limits.{most_drawn}
 use Rattle.draw_core.specs.Pictures.{picture_of}
@@ -10,7 +11,7 @@ use Rattle.join_core.specs.Joins.{IsJoinList}
 use Rattle.join_core.specs.JoinRuns.{JoinFiles, LayersGive, IsLateFault, IsJoinFault}
 
 -- the number of features of two layers
-abbrev pub features_of : Layers → ℕ
+abbrev pub features_of : Layers Shape → ℕ
 features_of layers = length layers.left.features + length layers.right.features
 
 -- the picture of the edited layers and their pairs, or the fault that there are no such layers, or
@@ -18,9 +19,9 @@ features_of layers = length layers.left.features + length layers.right.features
 pub data DrawGives (relation : Relation) (files : JoinFiles)
     : Result (List ℕ) RunFault → Type 0 where
   no_layers : (f : RunFault) → LayersGive files (Err f) → DrawGives relation files (Err f)
-  too_many : (layers : Layers) → LayersGive files (Ok layers)
+  too_many : (layers : Layers Shape) → LayersGive files (Ok layers)
       → most_drawn < features_of layers → DrawGives relation files (Err TooManyToDraw)
-  drawn : (layers : Layers) (pairs : List (ℕ × ℕ)) → LayersGive files (Ok layers)
+  drawn : (layers : Layers Shape) (pairs : List (ℕ × ℕ)) → LayersGive files (Ok layers)
       → features_of layers ≤ most_drawn → IsJoinList relation layers.left layers.right pairs
       → DrawGives relation files (Ok (picture_of layers.left layers.right pairs))
 

@@ -1,6 +1,7 @@
 -- The results of the inputs of a run, and the faults that blame one.
 use Rattle.std.specs.Prelude.{◌≢◌, ⊤, ℕ, List, Option, Result, Ok, Err, IfSome, IfOk, IfErr}
 use Rattle.wkt_core.specs.declared.scale.Scale.{Scale}
+use Rattle.geom_core.specs.declared.shape.Shape.{Shape}
 use Rattle.layer_core.specs.declared.fault.LayerFault.{LayerFault}
 use Rattle.layer_core.specs.declared.fault.LayerFault.TheVariants as layer_faults
 use Rattle.file_core.specs.declared.read_fault.ReadFault.{ReadFault}
@@ -12,15 +13,15 @@ use Rattle.join_core.specs.declared.fault.RunFault.{RunFault}
 use Rattle.join_core.specs.declared.fault.RunFault.TheVariants.{Read, Edit, TooManyToDraw}
 
 -- the layer or the fault of a layer's file at a scale, if its bytes are known
-abbrev pub LayerFile : Scale → Option (List ℕ) → Result Contents ReadFault → Type 0
+abbrev pub LayerFile : Scale → Option (List ℕ) → Result (Contents Shape) ReadFault → Type 0
 LayerFile scale known answer = IfSome known (λ bytes. IsLayerFile scale bytes answer)
 
 -- a file that gives a valid layer at a scale
 abbrev pub GivesLayer : Scale → Option (List ℕ) → Type 0
-GivesLayer scale known = (layer : Contents) × LayerFile scale known (Ok layer)
+GivesLayer scale known = (layer : Contents Shape) × LayerFile scale known (Ok layer)
 
 -- the result is that of a layer's bytes at a scale, or that memory ran out
-pub record Builds (scale : Scale) (bytes : List ℕ) (answer : Result LayerState ReadFault)
+pub record Builds (scale : Scale) (bytes : List ℕ) (answer : Result (LayerState Shape) ReadFault)
     : Type 0 where
   pub no_io : answer ≢ Err read_faults.Io
   pub gives : answer ≢ Err read_faults.Memory → IsLayerFile scale bytes (list_read answer)
@@ -33,16 +34,16 @@ BlamesBytes _ = ⊤
 
 -- the result, of which this is the list of a layer, is that of the layer's file at a scale, a fault
 -- of a device, or that memory ran out
-pub record ReadsList {T : Type 0} (list : T → Contents) (scale : Scale) (known : Option (List ℕ))
-    (answer : Result T ReadFault) : Type 0 where
+pub record ReadsList {T : Type 0} (list : T → Contents Shape) (scale : Scale)
+    (known : Option (List ℕ)) (answer : Result T ReadFault) : Type 0 where
   pub ok : IfOk answer (λ layer. LayerFile scale known (Ok (list layer)))
   pub fault : IfErr answer (λ f. BlamesBytes f → LayerFile scale known (Err f))
 
 -- the same for a layer, and for its features alone
-abbrev pub Reads : Scale → Option (List ℕ) → Result LayerState ReadFault → Type 0
+abbrev pub Reads : Scale → Option (List ℕ) → Result (LayerState Shape) ReadFault → Type 0
 Reads = ReadsList (λ layer. layer.list)
 
-abbrev pub ReadsFeatures : Scale → Option (List ℕ) → Result Contents ReadFault → Type 0
+abbrev pub ReadsFeatures : Scale → Option (List ℕ) → Result (Contents Shape) ReadFault → Type 0
 ReadsFeatures = ReadsList (λ features. features)
 
 abbrev pub BlamesEdit : LayerFault → Type 0

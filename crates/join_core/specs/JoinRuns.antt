@@ -3,6 +3,7 @@ use Rattle.std.specs.Prelude.{◌≡◌, ◌≢◌, ◌<◌, ◌≤◌, ⊤, ℕ
 use Rattle.std.specs.Prelude.{Err, IfSome, length, take}
 use Rattle.relation_core.specs.declared.relation.Relation.{Relation}
 use Rattle.wkt_core.specs.declared.scale.Scale.{Scale}
+use Rattle.geom_core.specs.declared.shape.Shape.{Shape}
 use Rattle.layer_core.specs.declared.fault.LayerFault.{LayerFault}
 use Rattle.layer_core.specs.declared.fault.LayerFault.TheVariants.{Memory as no_memory}
 use Rattle.file_core.specs.declared.read_fault.ReadFault.{ReadFault}
@@ -42,7 +43,7 @@ files_of scale left_bytes right_bytes edits_bytes sources = record {
 
 -- the edits or the fault of a file of edits at a scale; no edits without a file
 abbrev pub EditFile : Scale → Option (Option (List ℕ))
-    → Result (List EditContent) ReadFault → Type 0
+    → Result (List (EditContent Shape)) ReadFault → Type 0
 EditFile scale None answer = answer ≡ Ok []
 EditFile scale (Some known) answer = IfSome known (λ bytes. IsEditFile scale bytes answer)
 
@@ -63,19 +64,19 @@ first_fault None right = Read Right right
 
 -- the edited layers, or the first fault of the left file, the right one, that of edits and the
 -- edits, in this order
-pub data LayersGive (files : JoinFiles) : Result Layers RunFault → Type 0 where
+pub data LayersGive (files : JoinFiles) : Result (Layers Shape) RunFault → Type 0 where
   left_fault : (f : ReadFault) → LayerFile files.scale files.left (Err f)
       → LayersGive files (Err (Read Left f))
-  right_fault : (l : Contents) (f : ReadFault) → LayerFile files.scale files.left (Ok l)
+  right_fault : (l : Contents Shape) (f : ReadFault) → LayerFile files.scale files.left (Ok l)
       → LayerFile files.scale files.right (Err f) → LayersGive files (Err (Read Right f))
-  edits_fault : (l r : Contents) (f : ReadFault) → LayerFile files.scale files.left (Ok l)
+  edits_fault : (l r : Contents Shape) (f : ReadFault) → LayerFile files.scale files.left (Ok l)
       → LayerFile files.scale files.right (Ok r)
       → EditFile files.scale files.edits (Err f) → LayersGive files (Err (Read Edits f))
-  edit_refused : (l r : Contents) (edits : List EditContent) (row : ℕ) (f : LayerFault)
-      → LayerFile files.scale files.left (Ok l) → LayerFile files.scale files.right (Ok r)
+  edit_refused : (l r : Contents Shape) (edits : List (EditContent Shape)) (row : ℕ)
+      (f : LayerFault) → LayerFile files.scale files.left (Ok l) → LayerFile files.scale files.right (Ok r)
       → EditFile files.scale files.edits (Ok edits)
       → edits_give 1 (both l r) edits ≡ Err (row, f) → LayersGive files (Err (Edit row f))
-  edited : (l r : Contents) (edits : List EditContent) (layers : Layers)
+  edited : (l r : Contents Shape) (edits : List (EditContent Shape)) (layers : Layers Shape)
       → LayerFile files.scale files.left (Ok l) → LayerFile files.scale files.right (Ok r)
       → EditFile files.scale files.edits (Ok edits)
       → edits_give 1 (both l r) edits ≡ Ok layers → LayersGive files (Ok layers)
@@ -84,7 +85,7 @@ pub data LayersGive (files : JoinFiles) : Result Layers RunFault → Type 0 wher
 pub data JoinGives (relation : Relation) (files : JoinFiles)
     : Result (List ℕ) RunFault → Type 0 where
   no_layers : (f : RunFault) → LayersGive files (Err f) → JoinGives relation files (Err f)
-  reported : (layers : Layers) (pairs : List (ℕ × ℕ)) (text : List ℕ)
+  reported : (layers : Layers Shape) (pairs : List (ℕ × ℕ)) (text : List ℕ)
       → LayersGive files (Ok layers)
       → IsJoinList relation layers.left layers.right pairs
       → IsReport layers.left layers.right pairs text → JoinGives relation files (Ok text)
@@ -97,32 +98,33 @@ IsLateFault Memory = ⊤
 IsLateFault _ = ⊥
 
 -- this number of edits, at least one, can be applied: none of them is refused
-pub record AreMade (count : ℕ) (layers : Layers) (edits : List EditContent) : Type 0 where
+pub record AreMade (count : ℕ) (layers : Layers Shape) (edits : List (EditContent Shape))
+    : Type 0 where
   pub some : 0 < count
   pub within : count ≤ length edits
-  pub made : Layers
+  pub made : Layers Shape
   pub none_refused : edits_give 1 layers (take count edits) ≡ Ok made
 
 -- applying edits ends at this row with this fault: its edit is the first that is refused, or memory
 -- ran out at it, and neither it nor any edit before it is refused
-pub record EndsAt (row : ℕ) (fault : LayerFault) (layers : Layers) (edits : List EditContent)
-    : Type 0 where
+pub record EndsAt (row : ℕ) (fault : LayerFault) (layers : Layers Shape)
+    (edits : List (EditContent Shape)) : Type 0 where
   pub refused : BlamesEdit fault → edits_give 1 layers edits ≡ Err (row, fault)
   pub want : fault ≡ no_memory → AreMade row layers edits
 
 -- the layers after all edits of a file
-abbrev pub AreEdited : Scale → Option (Option (List ℕ)) → Layers → Layers → Type 0
+abbrev pub AreEdited : Scale → Option (Option (List ℕ)) → Layers Shape → Layers Shape → Type 0
 AreEdited scale file old new =
-    (edits : List EditContent) × EditFile scale file (Ok edits)
+    (edits : List (EditContent Shape)) × EditFile scale file (Ok edits)
     × (edits_give 1 old edits ≡ Ok new)
 
 -- why not all edits of a file are applied: it can't be read, or applying them ends at a row
-pub data IsEditsFault (scale : Scale) (file : Option (Option (List ℕ))) (layers : Layers)
+pub data IsEditsFault (scale : Scale) (file : Option (Option (List ℕ))) (layers : Layers Shape)
     : RunFault → Type 0 where
   unread : (f : ReadFault) → (BlamesBytes f → EditFile scale file (Err f))
       → IsEditsFault scale file layers (Read Edits f)
-  ended : (edits : List EditContent) (row : ℕ) (f : LayerFault) → EditFile scale file (Ok edits)
-      → EndsAt row f layers edits → IsEditsFault scale file layers (Edit row f)
+  ended : (edits : List (EditContent Shape)) (row : ℕ) (f : LayerFault)
+      → EditFile scale file (Ok edits) → EndsAt row f layers edits → IsEditsFault scale file layers (Edit row f)
 
 -- both layer files are valid
 abbrev pub GiveLayers : JoinFiles → Type 0
@@ -131,9 +133,9 @@ GiveLayers files =
 
 -- the file of edits is valid too, and its edits are applied up to that of this row
 pub record AreMadeTo (files : JoinFiles) (row : ℕ) : Type 0 where
-  pub left : Contents
-  pub right : Contents
-  pub edits : List EditContent
+  pub left : Contents Shape
+  pub right : Contents Shape
+  pub edits : List (EditContent Shape)
   pub left_read : LayerFile files.scale files.left (Ok left)
   pub right_read : LayerFile files.scale files.right (Ok right)
   pub edits_read : EditFile files.scale files.edits (Ok edits)
@@ -148,4 +150,4 @@ IsJoinFault files (Read Right f) = f ≢ Io → GivesLayer files.scale files.lef
 IsJoinFault files (Read Edits f) = GiveLayers files
 IsJoinFault files (Edit row f) = f ≡ no_memory → AreMadeTo files row
 IsJoinFault files fault =
-    IsLateFault fault × ((layers : Layers) × LayersGive files (Ok layers))
+    IsLateFault fault × ((layers : Layers Shape) × LayersGive files (Ok layers))

@@ -5,6 +5,7 @@ use Rattle.std.specs.List.{flat_map}
 use Rattle.relation_core.specs.declared.relation.Relation.{Relation}
 use Rattle.relation_core.specs.Relations.{Holds, ForbidsDisjoint}
 use Rattle.rtree_core.specs.declared.node.Node.{Node}
+use Rattle.geom_core.specs.declared.shape.Shape.{Shape}
 use Rattle.layer_core.specs.Layers.{Feature, Contents, with_number}
 use Rattle.descent_core.specs.Plans.{IsPlan}
 use Rattle.descent_core.specs.Rows.{Precedes}
@@ -15,22 +16,22 @@ use Rattle.deliver_core.specs.Marks.{IsLegalHistory, IsClosed}
 use Rattle.parallel_core.specs.Deliveries.{AreMarks}
 
 -- the features with these numbers stand in the relation
-pub record StandIn (relation : Relation) (left right : Contents) (pair : ℕ × ℕ) : Type 0 where
-  pub first : Feature
-  pub second : Feature
+pub record StandIn (relation : Relation) (left right : Contents Shape) (pair : ℕ × ℕ) : Type 0 where
+  pub first : Feature Shape
+  pub second : Feature Shape
   pub first_held : with_number pair.0 left ≡ Some first
   pub second_held : with_number pair.1 right ≡ Some second
   pub holds : Holds relation first.shape second.shape
 
 -- exactly the pairs that stand in the relation, each once and in order; since numbers ascend along
 -- a layer, this is the order of the left layer, and for each left feature that of the right
-pub record IsJoinList (relation : Relation) (left right : Contents)
+pub record IsJoinList (relation : Relation) (left right : Contents Shape)
     (pairs : List (ℕ × ℕ)) : Type 0 where
   pub in_order : AllPairs Precedes pairs
   pub exact : (pair : ℕ × ℕ) → Contains pairs pair ↔ StandIn relation left right pair
 
 -- the rows of these tasks, in ascending order, are the join list of the two layers
-pub record RowsAreJoinList (left right : Contents) (tasks : List (Node × Node)) : Type 0 where
+pub record RowsAreJoinList (left right : Contents Shape) (tasks : List (Node × Node)) : Type 0 where
   pub list : (relation : Relation) (rows : List (List (ℕ × ℕ))) (pairs : List (ℕ × ℕ))
       → ForbidsDisjoint relation → AreRows relation tasks rows
       → IsPermutation (flat_map (λ row. row) rows) pairs → IsSorted pair_cmp pairs

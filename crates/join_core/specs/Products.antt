@@ -2,6 +2,7 @@
 use Rattle.std.specs.Prelude.{◌≡◌, ◌≤◌, ℕ, List, Result}
 use Rattle.relation_core.specs.declared.relation.Relation.{Relation}
 use Rattle.relation_core.specs.JoinRelations.{relation_of}
+use Rattle.geom_core.specs.declared.shape.Shape.{Shape}
 use Rattle.layer_core.specs.Edits.{Layers}
 use Rattle.draw_core.specs.Limits.{most_drawn}
 use Rattle.draw_core.specs.Pictures.{picture_of}
@@ -19,18 +20,18 @@ ProductGives Report = JoinGives
 ProductGives Picture = DrawGives
 
 -- the report of the pairs of these layers
-abbrev pub IsReported : Relation → Layers → List ℕ → Type 0
+abbrev pub IsReported : Relation → Layers Shape → List ℕ → Type 0
 IsReported relation layers text = (pairs : List (ℕ × ℕ))
     × IsJoinList relation layers.left layers.right pairs
     × IsReport layers.left layers.right pairs text
 
 -- the picture of these layers and their pairs, if they don't have too many features
-abbrev pub IsDrawn : Relation → Layers → List ℕ → Type 0
+abbrev pub IsDrawn : Relation → Layers Shape → List ℕ → Type 0
 IsDrawn relation layers text = (features_of layers ≤ most_drawn)
     × ((pairs : List (ℕ × ℕ)) × IsJoinList relation layers.left layers.right pairs
     × (text ≡ picture_of layers.left layers.right pairs))
 
-abbrev pub IsProduct : Product → Relation → Layers → List ℕ → Type 0
+abbrev pub IsProduct : Product → Relation → Layers Shape → List ℕ → Type 0
 IsProduct Report = IsReported
 IsProduct Picture = IsDrawn
 
@@ -49,7 +50,7 @@ abbrev pub JobGives : JoinJob → JoinFiles → Result (List ℕ) RunFault → T
 JobGives job = ProductGives job.product (relation_of job.relation)
 
 -- the product of a job for two layers
-abbrev pub IsMade : JoinJob → Layers → List ℕ → Type 0
+abbrev pub IsMade : JoinJob → Layers Shape → List ℕ → Type 0
 IsMade job = IsProduct job.product (relation_of job.relation)
 
 -- the possible faults of a job, except that of the sink

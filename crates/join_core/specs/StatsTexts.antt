@@ -1,6 +1,8 @@
 -- Counts as lines of text.
 use Rattle.std.specs.Prelude.{◌≡◌, ℕ, List, [], ◌∷◌, ◌++◌, codes, decimal, length}
 use Rattle.rtree_core.specs.Packings.{IsPackedHeight}
+use Rattle.geom_core.specs.declared.shape.Shape.{Shape}
+use Rattle.geom_core.specs.Shapes.{dim_of}
 use Rattle.layer_core.specs.declared.stats.Stats.{Stats}
 use Rattle.layer_core.specs.Layers.{Contents}
 use Rattle.layer_core.specs.Statistics.{counts_of}
@@ -18,7 +20,7 @@ stats_text stats =
     ++ count_line (codes "height") stats.height
 
 -- the counts of a layer, with the height of a tree packed from its features
-abbrev pub AreCounts : Contents → List ℕ → Type 0
+abbrev pub AreCounts : Contents Shape → List ℕ → Type 0
 AreCounts layer text =
     (height : ℕ) × IsPackedHeight (length layer.features) height
-    × (text ≡ stats_text (counts_of layer height))
+    × (text ≡ stats_text (counts_of dim_of layer height))

@@ -84,7 +84,7 @@ fn bounds_text(alloc: Global, features: &FeatureList) -> Result<Vec<u8>, AllocEr
 fn push_bounds(writer: &mut Writer<Vec<u8>>, feature: &FeatureRef) -> Result<(), AllocError>
     ensures { OnOk result (AddsRow writer.old writer.new (bounds_row (feature_read feature.now))) }
 {
-    let shape = &feature.shape;
+    let shape = feature.shape;
     let mut x1 = Buffer::new();
     let mut y1 = Buffer::new();
     let mut x2 = Buffer::new();

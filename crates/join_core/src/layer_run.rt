@@ -2,6 +2,7 @@
 
 ghost use Rattle.std.specs.Prelude.{◌≡◌, ◌↔◌, ℕ, List, Ok, Err, false, IsTrue, IsErrOf, IfErr};
 ghost use Rattle.std.specs.Prelude.{IfOk};
+ghost use Rattle.geom_core.specs.declared.shape.Shape.{Shape};
 ghost use Rattle.layer_core.specs.Layers.{Contents};
 ghost use Rattle.join_core.specs.declared.fault.Input.{Input};
 ghost use Rattle.join_core.specs.Inputs.{BlamesInput};
@@ -26,7 +27,7 @@ pub const DEFAULT_WORKERS: u32 = 4;
 /// The text that a run makes of a layer's features. No run needs the layer's tree, so it isn't
 /// packed.
 pub(crate) trait LayerText {
-    ghost is_text_of: { Self → Contents → List ℕ → Type 0 };
+    ghost is_text_of: { Self → Contents Shape → List ℕ → Type 0 };
 
     /// The text of a layer, made of its features.
     fn text(&self, alloc: Global, features: &FeatureList) -> Result<Text, AllocError>

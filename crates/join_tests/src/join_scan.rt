@@ -20,7 +20,7 @@ fn push_pairs(
     relation: &JoinRelation,
 ) -> Result<(), AllocError> {
     for feature in right.iter() {
-        if relation.holds(&left.shape, &feature.shape) {
+        if relation.holds(left.shape, feature.shape) {
             pairs.push((left.number, feature.number))?;
         }
     }

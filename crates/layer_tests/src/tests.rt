@@ -135,7 +135,7 @@ fn has_features(layer: &Layer, features: &[(&str, Shape)]) -> bool {
 
 /// Whether the layer finds this shape and number under the id.
 fn finds(layer: &Layer, id: &str, number: u32, shape: Shape) -> bool {
-    layer.find(id) == Some((number, shape))
+    layer.find(id) == Some((number, &shape))
 }
 
 /// A layer as text: each feature by its id, number and shape, the counts, and each node of the

@@ -65,7 +65,7 @@ fn edit_layers<E: Source>(
         ↔ IsSomeAnd edits.new (λ e. IsTrue (E.has_failed e)) }
 {
     let edit_list = read_edit_list(alloc, scale, edits)?;
-    apply_edits(&edit_list, &mut layers.0, &mut layers.1)
+    apply_edits(edit_list, &mut layers.0, &mut layers.1)
 }
 
 /// The edits, if there is a file of them.

@@ -9,13 +9,13 @@ use crate::fault::RunFault;
 use layer_core::{Edit, Layer};
 
 /// Applies the edits in order, up to the first that is refused. Edit k is that of row k + 1.
-pub fn apply_edits(edits: &[Edit], left: &mut Layer, right: &mut Layer) -> Result<(), RunFault>
-    requires { length edits.now < 2 ^ 32 }
+pub fn apply_edits(edits: Vec<Edit>, left: &mut Layer, right: &mut Layer) -> Result<(), RunFault>
+    requires { length edits.items < 2 ^ 32 }
     ensures ok { OnOk result
-        (edits_give 1 (both left.old.list right.old.list) (map content_of edits.now)
+        (edits_give 1 (both left.old.list right.old.list) (map content_of edits.items)
         ≡ Ok (both left.new.list right.new.list)) }
     ensures err { IfErr result (λ e. (row : ℕ) × (f : LayerFault) × (e ≡ RunFault.Edit row f)
-        × EndsAt row f (both left.old.list right.old.list) (map content_of edits.now)) }
+        × EndsAt row f (both left.old.list right.old.list) (map content_of edits.items)) }
 {
     let mut row = 0;
     for edit in edits {

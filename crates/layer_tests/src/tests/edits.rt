@@ -193,15 +193,19 @@ fn full_layer<R: Threads + Sync + RandomSource + AllocGlobal>(rt: &R) -> Result<
 
 /// A summary of a layer: its counts, the length of its tree and the feature `new`. A full layer has
 /// too many features to list them after each refusal.
-fn sight(layer: &Layer) -> (Stats, usize, Option<(u32, Shape)>) {
-    (layer.stats(), layer.tree().len(), layer.find("new"))
+fn sight(layer: &Layer) -> (Stats, usize, bool) {
+    (
+        layer.stats(),
+        layer.tree().len(),
+        layer.find("new").is_some(),
+    )
 }
 
 /// Whether a full layer refuses a new id.
 fn refuses_new(full: &mut Layer) -> Result<bool, Fail> {
     let before = sight(full);
     let is_refused = full.insert("new", point(0, 0)?) == Err(LayerFault::LayerFull);
-    Ok(is_refused && before.2.is_none() && sight(full) == before)
+    Ok(is_refused && !before.2 && sight(full) == before)
 }
 
 /// Whether a full layer refuses a new id, even after a removal.
@@ -273,7 +277,7 @@ fn deleted_and_inserted_again(rt: HostRuntime) -> Result<(), Fail> {
     Ok(())
 }
 
-fn apply_all(edits: &[Edit], left: &mut Layer, right: &mut Layer) -> Result<(), LayerFault> {
+fn apply_all(edits: Vec<Edit>, left: &mut Layer, right: &mut Layer) -> Result<(), LayerFault> {
     for edit in edits {
         edit.apply(left, right)?;
     }
@@ -281,7 +285,7 @@ fn apply_all(edits: &[Edit], left: &mut Layer, right: &mut Layer) -> Result<(), 
 }
 
 /// Whether each edit of the right layer is refused because its id exists.
-fn are_doubles(edits: &[Edit], left: &mut Layer, right: &mut Layer) -> bool {
+fn are_doubles(edits: Vec<Edit>, left: &mut Layer, right: &mut Layer) -> bool {
     for edit in edits {
         if edit.side() == Side::Right && edit.apply(left, right) != Err(LayerFault::DoubleId) {
             return false;
@@ -293,7 +297,7 @@ fn are_doubles(edits: &[Edit], left: &mut Layer, right: &mut Layer) -> bool {
 /// Whether each edit of the right layer is refused, and leaves both layers unchanged.
 fn are_doubles_alone(
     alloc: Global,
-    edits: &[Edit],
+    edits: Vec<Edit>,
     left: &mut Layer,
     right: &mut Layer,
 ) -> Result<bool, Fail> {
@@ -306,20 +310,22 @@ fn are_doubles_alone(
 /// Applies the edits, and then those of the right layer again.
 fn edits_twice(
     alloc: Global,
-    edits: &[Edit],
+    edits: Vec<Edit>,
+    again: Vec<Edit>,
     left: &mut Layer,
     right: &mut Layer,
 ) -> Result<bool, Fail> {
     apply_all(edits, left, right)?;
     let segment = Shape::new(0, 0, 0, 3).ok_or("a segment")?;
     let edited = left.is_empty() && finds(right, "b", 0, segment);
-    Ok(edited && are_doubles_alone(alloc, edits, left, right)? && right.len() == 1)
+    Ok(edited && are_doubles_alone(alloc, again, left, right)? && right.len() == 1)
 }
 
 /// Whether a list of edits is read, and has the expected effect on two empty layers.
 fn reads_edits(alloc: Global, left: &mut Layer, right: &mut Layer) -> Result<bool, Fail> {
     let edits = edits_of_bytes(alloc, EDITS, whole()?)?;
-    Ok(edits.len() == 3 && edits_twice(alloc, &edits, left, right)?)
+    let again = edits_of_bytes(alloc, EDITS, whole()?)?;
+    Ok(edits.len() == 3 && edits_twice(alloc, edits, again, left, right)?)
 }
 
 /// Whether edits of a left layer and a new right one are read and applied.

@@ -152,7 +152,7 @@ impl Trial {
         let mut features = self.layer.iter();
         for held in &self.list {
             match features.next() {
-                Some(f) if f.number == held.entry.number && f.shape == held.entry.shape => {}
+                Some(f) if f.number == held.entry.number && *f.shape == held.entry.shape => {}
                 _ => return false,
             }
         }
@@ -164,7 +164,7 @@ impl Trial {
         for name in 0..NAMES {
             let found = self.layer.find(id_of(alloc, name)?.as_str());
             let held = self.place(name).and_then(|place| self.list.get(place));
-            if found != held.map(|held| (held.entry.number, held.entry.shape)) {
+            if found != held.map(|held| (held.entry.number, &held.entry.shape)) {
                 return Ok(false);
             }
         }

@@ -39,7 +39,7 @@ fn features_of<R: Threads + Sync + RandomSource + AllocGlobal>(
 /// The counts of features without a tree, if the first of them is the point a at (4 4).
 fn stats_from_a(features: &mut FeatureList) -> Result<Option<Stats>, Fail> {
     let first = features.iter().next().ok_or("a first feature")?;
-    let is_a = first.id == "a" && first.shape == point(4, 4)?;
+    let is_a = first.id == "a" && *first.shape == point(4, 4)?;
     Ok(is_a.then_some(features.stats()))
 }
 

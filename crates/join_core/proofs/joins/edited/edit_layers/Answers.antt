@@ -1,3 +1,4 @@
+use Rattle.std.proofs.Common.{refl}
 use Rattle.join_core.proofs.JoinRunLemmas.{edits_handed_on, edits_made, edits_ended}
 use Rattle.join_core.proofs.joins.edited.edit_layers.Goals as goal
 
@@ -7,7 +8,7 @@ returns-in_err-edit_list-clause-fault g c =
     edits_handed_on _ _ _ c.from_residual.result _ fault.0 c.from_residual.ensures.1 fault.1 fault.2
 
 pub returns-clause-ok : goal.returns-clause-ok
-returns-clause-ok g c = edits_made _ _ _ _ _ _ _ c.deref.ensures.value c.in_ok-edit_list.ensures.ok (search)
+returns-clause-ok g c = edits_made _ _ _ _ _ _ _ refl c.in_ok-edit_list.ensures.ok (search)
 
 pub returns-clause-fault : goal.returns-clause-fault
-returns-clause-fault g c = edits_ended _ _ _ _ _ _ c.deref.ensures.value c.in_ok-edit_list.ensures.ok (search)
+returns-clause-fault g c = edits_ended _ _ _ _ _ _ refl c.in_ok-edit_list.ensures.ok (search)
