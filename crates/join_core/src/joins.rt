@@ -11,4 +11,5 @@ mod sources;
 pub use edits::apply_edits;
 pub use job::{JoinJob, Product};
 pub use pairs::join;
+pub use run::run_join;
 pub use sources::JoinSources;

@@ -19,10 +19,10 @@ pub use deliver_core::Outcome;
 pub use draw_core::MAX_DRAWN;
 pub use fault::{Input, RunFault};
 pub use fault_text::fault_line;
-pub use joins::{JoinJob, JoinSources, Product, apply_edits, join};
+pub use joins::{JoinJob, JoinSources, Product, apply_edits, join, run_join};
 pub use layer_run::DEFAULT_WORKERS;
 pub use options_core::{MAX_BATCH, MAX_CUT, MAX_WORKERS, OptionFault, Options};
-pub use parallel_core::JoinFault;
+pub use parallel_core::{Gate, JoinFault, OpenGate};
 pub use relate::{matrix_line, run_relate};
 pub use report_core::{
     ROOM, ShortText, Sink, ToWrite, WriteFailed, report_texts, write_text, write_texts,

@@ -5,6 +5,7 @@
 mod delivery;
 mod fault;
 mod fused_collector;
+mod gate;
 mod job;
 mod pause;
 mod receiver;
@@ -15,6 +16,7 @@ mod working;
 
 pub use delivery::run_workers;
 pub use fault::JoinFault;
+pub use gate::{Gate, Gated, OpenGate};
 pub use job::Job;
 pub use rows::Rows;
 pub use working::{Worked, worker};

@@ -11,7 +11,7 @@ use deliver_core::Outcome;
 use descent_core::Plan;
 use layer_core::Layer;
 use options_core::Options;
-use parallel_core::{JoinFault, run_workers};
+use parallel_core::{Gate, Gated, JoinFault, run_workers};
 use relation_core::JoinRelation;
 use std::alloc::{AllocError, Global};
 use std::sync::Wait;
@@ -20,14 +20,14 @@ use std::thread::Threads;
 /// The pairs of numbers of the left and right features that stand in the relation, in order, with
 /// the marks of their delivery.
 ///
-/// The trees of the two layers are cut into tasks, as deep as the options say. Workers, each in a
-/// thread of its own, draw the tasks and descend the two subtrees of each. All of them have ended
-/// when the call returns.
+/// The trees of the two layers are cut into tasks, to the depth that the options give. Workers,
+/// each in a thread of its own, draw the tasks and descend the two subtrees of each. All workers
+/// have ended when the call returns.
 ///
 /// # Errors
 /// `Memory` if an allocation fails, and `NoThread` if a worker's thread can't be started.
 #[tactic(auto, using(crate::proofs::TreeJoinLemmas::delivered))]
-pub fn join<R: AllocGlobal + Threads + Wait + Sync>(
+pub(crate) fn join_layers<R: AllocGlobal + Threads + Wait + Sync>(
     rt: &R,
     left: &Layer,
     right: &Layer,
@@ -42,6 +42,34 @@ pub fn join<R: AllocGlobal + Threads + Wait + Sync>(
 {
     let plan = plan_of(rt.alloc(), left, right, options.cut())?;
     run_workers(rt, &plan, relation, options)
+}
+
+/// The same pairs and marks, found by workers that enter a gate with each task that they draw.
+///
+/// # Errors
+/// `Memory` if an allocation fails, and `NoThread` if a worker's thread can't be started.
+#[tactic(auto, using(crate::proofs::TreeJoinLemmas::delivered))]
+pub fn join<R: AllocGlobal + Threads + Wait + Sync, G: Gate + Sync>(
+    rt: &R,
+    left: &Layer,
+    right: &Layer,
+    relation: &JoinRelation,
+    options: &Options,
+    gate: &G,
+) -> Result<Outcome, JoinFault>
+    ensures pairs { IfOk result (λ outcome.
+        IsJoinList (relation_of relation.now) left.now.list right.now.list outcome.pairs) }
+    ensures marks { let cut = cut_of options.now in let size = batch_of options.now in
+        IfOk result (HasMarks (relation_of relation.now) left.now.root right.now.root cut size) }
+    ensures err { IfErr result IsWant }
+{
+    let plan = plan_of(rt.alloc(), left, right, options.cut())?;
+    let rows = Gated {
+        rt,
+        rows: &plan,
+        gate,
+    };
+    run_workers(rt, &rows, relation, options)
 }
 
 /// The tasks of two layers, at this cut.

@@ -8,7 +8,7 @@ ghost use Rattle.parallel_core.specs.Faults.{IsWant};
 ghost use Rattle.join_core.specs.DrawRuns.{IsLateDrawFault, features_of};
 ghost use Rattle.join_core.specs.Inputs.{BlamesInput};
 ghost use Rattle.join_core.specs.Joins.{IsJoinList};
-ghost use Rattle.join_core.specs.JoinRuns.{files_of, IsLateFault};
+ghost use Rattle.join_core.specs.JoinRuns.{files_of, IsLateFault, IsJoinFault, JoinGives};
 ghost use Rattle.join_core.specs.Products.{IsReported, IsDrawn, IsLateProductFault};
 ghost use Rattle.join_core.specs.Products.{JobGives, IsMade, IsJobFault};
 ghost use Rattle.join_core.specs.Runs.{NoTextFault, RunEnds};
@@ -18,7 +18,7 @@ ghost use Rattle.join_core.specs.Texts.{bytes_of_text};
 use super::edited::edited_layers;
 use super::job::{JoinJob, Product};
 use super::layers::free_layers;
-use super::pairs::join;
+use super::pairs::join_layers;
 use super::sources::JoinSources;
 use crate::fault::RunFault;
 use crate::layer_input::LayerReader;
@@ -27,11 +27,14 @@ use deliver_core::Outcome;
 use draw_core::{can_be_drawn, picture};
 use file_core::Source;
 use layer_core::Layer;
+use options_core::Options;
 use parallel_core::JoinFault;
+use relation_core::JoinRelation;
 use report_core::{Sink, report_texts};
 use std::hash::RandomState;
 use std::sync::Wait;
 use std::thread::Threads;
+use wkt_core::Scale;
 
 impl JoinJob {
     /// Writes the product of a join of two layers, after the edits of both. `states` hash the ids
@@ -67,7 +70,40 @@ impl JoinJob {
     }
 }
 
-/// A job, and what gives it threads and memory.
+/// Writes the report of a join of two layers, after the edits of both. All else is as
+/// [`JoinJob::run`] says.
+pub fn run_join<
+    R: AllocGlobal + Threads + Wait + Sync,
+    A: Source,
+    B: Source,
+    E: Source,
+    S: Sink,
+>(
+    rt: &R,
+    states: (RandomState, RandomState),
+    scale: Scale,
+    sources: &mut JoinSources<A, B, E>,
+    relation: &JoinRelation,
+    options: &Options,
+    sink: &mut S,
+) -> Result<(), RunFault>
+    requires sources { AreFresh A.has_failed B.has_failed E.has_failed sources.old }
+    requires sink { S.has_failed sink.old ≡ false }
+    ensures { let files = files_of scale A.remaining B.remaining E.remaining sources.old in
+        RunEnds (JoinGives (relation_of relation.now) files) NoTextFault (IsJoinFault files)
+        (HasFailed A.has_failed B.has_failed E.has_failed sources.new)
+        S.written S.is_flushed S.has_failed sink.old sink.new result }
+{
+    let job = JoinJob {
+        scale,
+        relation: *relation,
+        options: *options,
+        product: Product::Report,
+    };
+    job.run(rt, states, sources, sink)
+}
+
+/// A job and the runtime that runs it.
 #[derive(Drop)]
 struct JoinRun<'a, R> {
     rt: &'a R,
@@ -182,6 +218,6 @@ impl<R: AllocGlobal + Threads + Wait + Sync> JoinRun<'_, R> {
             options,
             ..
         } = self.job;
-        join(self.rt, left, right, relation, options)
+        join_layers(self.rt, left, right, relation, options)
     }
 }
