@@ -7,16 +7,15 @@ ghost use Rattle.deliver_core.specs.OutletCalls.{IsFreshPort};
 ghost use Rattle.deliver_core.specs.Ports.{IsTapOf};
 
 use crate::expected::{Expected, says};
+use crate::gates::{Gate, Gated, OpenGate};
 use deliver_core::{Board, BoardSeat, Body, Outlet, Port, Tap};
 use descent_core::Plan;
 use options_core::MAX_BATCH;
-use parallel_core::{Gate, OpenGate, Worked, worker};
+use parallel_core::{Job, Worked, worker};
 use relation_core::{JoinRelation, Relation};
 use rtree_core::RTree;
-use std::alloc::Global;
 use std::sync::Wait;
 use std::sync::atomic::{AtomicU32, Ordering};
-use std::thread::Threads;
 use test_data::on_packed;
 
 const BY_THREE: [Expected; 11] = [
@@ -93,67 +92,63 @@ fn has_worked(worked: &Worked) -> bool {
     worked.port.index() == 0 && worked.port.said_bye() && (is_drawn || !worked.ok)
 }
 
-/// Whether one worker with this seat sends the expected messages for a plan; `None` without memory.
-fn works_at<R: Threads + Wait + Sync>(
+/// Whether one worker with this seat sends of these rows what it has to; none without memory.
+fn works_at<R: Wait + AllocGlobal, G: Gate>(
     rt: &R,
-    alloc: Global,
-    plan: &Plan<'_>,
-    relation: &JoinRelation,
+    rows: &Gated<'_, Plan<'_>, G>,
     work: Work,
-    gate: &impl Gate,
     board: &Board,
     seat: BoardSeat,
 ) -> Option<bool>
     requires batch { (1 ≤ work.batch) × (work.batch ≤ MAX_BATCH) }
-    requires tasks { board.now.tasks ≡ length plan.now }
+    requires tasks { board.now.tasks ≡ length rows.now.plan.now }
     requires seat { seat ≡ fresh_seat board.now }
 {
+    let alloc = rt.alloc();
+    let relation = JoinRelation::new(work.relation).ok()?;
     let (outlet, mut ports, tap) = Outlet::new(alloc, 1).ok()?;
     let port = last_port(&outlet, &mut ports)?;
-    let worked = worker(
-        rt, alloc, plan, relation, work.batch, board, seat, &outlet, port, gate,
-    );
+    let job = Job {
+        alloc,
+        rows,
+        relation: &relation,
+        batch: work.batch,
+        board,
+        outlet: &outlet,
+    };
+    let worked = worker(rt, &job, seat, port);
     Some(has_worked(&worked) && waits(rt, &outlet, tap, worked.ok, work.wanted))
 }
 
-/// Whether one worker, on this thread, sends the expected messages for a plan; `None` without
-/// memory.
-fn works<R: Threads + Wait + Sync>(
+/// Whether one worker, on this thread, sends of these rows what it has to; none without memory.
+fn works<R: Wait + AllocGlobal, G: Gate>(
     rt: &R,
-    alloc: Global,
-    plan: &Plan<'_>,
+    rows: &Gated<'_, Plan<'_>, G>,
     work: Work,
-    gate: &impl Gate,
 ) -> Option<bool> {
     if work.batch == 0 || work.batch > MAX_BATCH {
         return None;
     }
-    let relation = JoinRelation::new(work.relation).ok()?;
-    let (board, mut seats) = Board::new(alloc, plan.len(), 1).ok()?;
-    works_at(rt, alloc, plan, &relation, work, gate, &board, seats.pop()?)
+    let (board, mut seats) = Board::new(rt.alloc(), rows.plan.len(), 1).ok()?;
+    works_at(rt, rows, work, &board, seats.pop()?)
 }
 
-/// Whether one worker sends the expected messages for two trees; `None` without memory.
-fn sends_of<R: Threads + Wait + Sync>(
+/// Whether one worker sends of two trees, through a gate, what it has to; none without memory.
+fn sends_of<R: Wait + AllocGlobal>(
     rt: &R,
-    alloc: Global,
     (left, right): (&RTree, &RTree),
     work: Work,
     gate: &impl Gate,
 ) -> Option<bool> {
-    works(
-        rt,
-        alloc,
-        &Plan::new(alloc, left, right, 1).ok()?,
-        work,
-        gate,
-    )
+    let plan = Plan::new(rt.alloc(), left, right, 1).ok()?;
+    let rows = Gated { plan: &plan, gate };
+    works(rt, &rows, work)
 }
 
-/// Whether one worker sends the expected messages for two trees of twenty points.
-fn sends<R: Threads + Wait + Sync>(rt: &R, alloc: Global, work: Work, gate: &impl Gate) -> bool {
-    let sends = on_packed(alloc, (20, 1), (20, 1), |left, right| {
-        sends_of(rt, alloc, (left, right), work, gate)
+/// Whether one worker sends of two times twenty points, through a gate, what it has to.
+fn sends<R: Wait + AllocGlobal>(rt: &R, work: Work, gate: &impl Gate) -> bool {
+    let sends = on_packed(rt.alloc(), (20, 1), (20, 1), |left, right| {
+        sends_of(rt, (left, right), work, gate)
     });
     sends == Ok(Some(true))
 }
@@ -165,7 +160,7 @@ struct Counts {
 }
 
 impl Gate for Counts {
-    fn enter<R: Threads + Wait + Sync>(&self, _rt: &R, task: u32) {
+    fn enter(&self, task: u32) {
         if let Some(times) = self.entered.get(task as usize) {
             times.fetch_add(1, Ordering::SeqCst);
         }
@@ -206,18 +201,18 @@ const WORKS: [Work; 3] = [
 #[test]
 fn plan_and_scripts(rt: HostRuntime) {
     for work in WORKS {
-        assert!(rt; sends(&rt, rt.alloc(), work, &OpenGate));
+        assert!(rt; sends(&rt, work, &OpenGate));
     }
 }
 
 #[test]
-fn gate_once_each(rt: HostRuntime) {
+fn row_made_once_each(rt: HostRuntime) {
     let gate = Counts::new();
     let work = Work {
         relation: Relation::Equals,
         batch: MAX_BATCH,
         wanted: &BY_SEVEN,
     };
-    assert!(rt; sends(&rt, rt.alloc(), work, &gate));
+    assert!(rt; sends(&rt, work, &gate));
     assert!(rt; gate.are_ones());
 }

@@ -1,9 +1,10 @@
 //! The deliveries of several workers.
 
+use crate::gates::{Gate, Gated, OpenGate};
 use deliver_core::{Mark, Outcome};
 use descent_core::Plan;
-use options_core::{MAX_BATCH, MAX_WORKERS};
-use parallel_core::{Gate, OpenGate, run_workers};
+use options_core::{MAX_BATCH, Options};
+use parallel_core::run_workers;
 use relation_core::{JoinRelation, Relation};
 use rtree_core::RTree;
 use std::alloc::Global;
@@ -13,22 +14,18 @@ use std::thread;
 use std::thread::Threads;
 use test_data::on_packed;
 
-/// The delivery of the workers for two trees, by equality, or `None` without memory or threads.
-fn delivered<R: Threads + Wait + Sync, G: Gate + Sync>(
+/// What the workers deliver of two trees, by equality and through a gate; none without memory or
+/// threads.
+fn delivered<R: Threads + Wait + Sync + AllocGlobal, G: Gate + Sync>(
     rt: &R,
-    alloc: Global,
     trees: (&RTree, &RTree),
-    cut: u8,
-    workers: u32,
-    batch: u32,
+    options: &Options,
     gate: &G,
 ) -> Option<Outcome> {
-    if workers == 0 || workers > MAX_WORKERS || batch == 0 || batch > MAX_BATCH {
-        return None;
-    }
     let relation = JoinRelation::new(Relation::Equals).ok()?;
-    let plan = Plan::new(alloc, trees.0, trees.1, cut).ok()?;
-    run_workers(rt, alloc, &plan, &relation, workers, batch, gate).ok()
+    let plan = Plan::new(rt.alloc(), trees.0, trees.1, options.cut()).ok()?;
+    let rows = Gated { plan: &plan, gate };
+    run_workers(rt, &rows, &relation, options).ok()
 }
 
 /// Whether these are the 81 pairs of two sets of nine numbers, in order.
@@ -51,7 +48,7 @@ fn are_marks(marks: &[Mark]) -> bool {
 }
 
 /// Whether these are the pairs (0, 0) to (19, 19).
-pub(crate) fn are_twenty(pairs: &[(u32, u32)]) -> bool {
+fn are_twenty(pairs: &[(u32, u32)]) -> bool {
     pairs.len() == 20 && pairs.iter().zip(0..20u32).all(|(pair, i)| *pair == (i, i))
 }
 
@@ -63,7 +60,7 @@ struct Meeting {
 }
 
 impl Gate for Meeting {
-    fn enter<R: Threads + Wait + Sync>(&self, _rt: &R, _task: u32) {
+    fn enter(&self, _task: u32) {
         self.entered.fetch_add(1, Ordering::SeqCst);
         for _ in 0..10_000_000 {
             if self.entered.load(Ordering::SeqCst) >= 2 {
@@ -77,26 +74,28 @@ impl Gate for Meeting {
 
 /// The result of `see` on two packed trees of equal numbers of points at equal steps; false if they
 /// can't be made.
-pub(crate) fn sees<F: FnOnce(&RTree, &RTree) -> bool>(
-    alloc: Global,
-    points: (u16, u16),
-    see: F,
-) -> bool
+fn sees<F: FnOnce(&RTree, &RTree) -> bool>(alloc: Global, points: (u16, u16), see: F) -> bool
     requires { F.IsAlwaysCallable see }
 {
     on_packed(alloc, points, points, see) == Ok(true)
 }
 
-/// Whether one worker delivers the pairs of two times nine points in batches of one.
-fn delivers_crowd<R: Threads + Wait + Sync>(
+/// What one worker delivers of the only task of two trees in batches of one.
+fn delivered_by_one<R: Threads + Wait + Sync + AllocGlobal>(
     rt: &R,
-    alloc: Global,
+    trees: (&RTree, &RTree),
+) -> Option<Outcome> {
+    delivered(rt, trees, &Options::new(1, 1, 0).ok()?, &OpenGate)
+}
+
+/// Whether one worker delivers the pairs of two times nine points in batches of one.
+fn delivers_crowd<R: Threads + Wait + Sync + AllocGlobal>(
+    rt: &R,
     left: &RTree,
     right: &RTree,
 ) -> bool {
-    delivered(rt, alloc, (left, right), 0, 1, 1, &OpenGate).is_some_and(|o| are_eighty_one(
-        o.pairs(),
-    ) && are_marks(o.taken()))
+    delivered_by_one(rt, (left, right)).is_some_and(|o| are_eighty_one(o.pairs())
+        && are_marks(o.taken()))
 }
 
 #[test]
@@ -106,30 +105,40 @@ fn delivery_extra(rt: HostRuntime) {
         sees(
             alloc,
             (9, 0),
-            |left, right| delivers_crowd(shared, alloc, left, right)
+            |left, right| delivers_crowd(shared, left, right)
         )
     );
 }
 
-/// Whether `workers` workers deliver the pairs of two trees of twenty points.
-fn delivers_twenty<R: Threads + Wait + Sync, G: Gate + Sync>(
+/// What so many workers deliver of two trees at cut 1, in batches of this size.
+fn delivered_by<R: Threads + Wait + Sync + AllocGlobal, G: Gate + Sync>(
     rt: &R,
-    alloc: Global,
+    trees: (&RTree, &RTree),
+    workers: u32,
+    batch: u32,
+    gate: &G,
+) -> Option<Outcome> {
+    delivered(rt, trees, &Options::new(workers, batch, 1).ok()?, gate)
+}
+
+/// Whether `workers` workers deliver the pairs of two trees of twenty points.
+fn delivers_twenty<R: Threads + Wait + Sync + AllocGlobal, G: Gate + Sync>(
+    rt: &R,
     trees: (&RTree, &RTree),
     workers: u32,
     batch: u32,
     gate: &G,
 ) -> bool {
-    delivered(rt, alloc, trees, 1, workers, batch, gate).is_some_and(|o| are_twenty(o.pairs()))
+    delivered_by(rt, trees, workers, batch, gate).is_some_and(|o| are_twenty(o.pairs()))
 }
 
 /// Whether two workers meet at the gate, enter it three times, and deliver all pairs.
-fn meets<R: Threads + Wait + Sync>(rt: &R, alloc: Global, left: &RTree, right: &RTree) -> bool {
+fn meets<R: Threads + Wait + Sync + AllocGlobal>(rt: &R, left: &RTree, right: &RTree) -> bool {
     let gate = Meeting {
         entered: AtomicU32::new(0),
         missed: AtomicBool::new(false),
     };
-    let is_delivered = delivers_twenty(rt, alloc, (left, right), 2, 4, &gate);
+    let is_delivered = delivers_twenty(rt, (left, right), 2, 4, &gate);
     let has_met = gate.entered.load(Ordering::SeqCst) == 3 && !gate.missed.load(Ordering::SeqCst);
     is_delivered && has_met
 }
@@ -137,13 +146,7 @@ fn meets<R: Threads + Wait + Sync>(rt: &R, alloc: Global, left: &RTree, right: &
 #[test]
 fn two_workers_meet(rt: HostRuntime) {
     let (alloc, shared) = (rt.alloc(), &rt);
-    assert!(rt;
-        sees(
-            alloc,
-            (20, 1),
-            |left, right| meets(shared, alloc, left, right)
-        )
-    );
+    assert!(rt; sees(alloc, (20, 1), |left, right| meets(shared, left, right)));
 }
 
 /// The number of times that a worker inside a room yields before it leaves.
@@ -159,7 +162,7 @@ struct Room {
 }
 
 impl Gate for Room {
-    fn enter<R: Threads + Wait + Sync>(&self, _rt: &R, _task: u32) {
+    fn enter(&self, _task: u32) {
         if self.inside.fetch_add(1, Ordering::SeqCst) >= self.most {
             self.overfull.store(true, Ordering::SeqCst);
         }
@@ -171,9 +174,8 @@ impl Gate for Room {
 }
 
 /// Whether at no time more than `workers` workers are at work, and they deliver all pairs.
-fn are_no_more<R: Threads + Wait + Sync>(
+fn are_no_more<R: Threads + Wait + Sync + AllocGlobal>(
     rt: &R,
-    alloc: Global,
     trees: (&RTree, &RTree),
     workers: u32,
 ) -> bool {
@@ -182,34 +184,27 @@ fn are_no_more<R: Threads + Wait + Sync>(
         inside: AtomicU32::new(0),
         overfull: AtomicBool::new(false),
     };
-    let is_delivered = delivers_twenty(rt, alloc, trees, workers, 4, &gate);
+    let is_delivered = delivers_twenty(rt, trees, workers, 4, &gate);
     is_delivered && !gate.overfull.load(Ordering::SeqCst)
 }
 
 /// Whether this holds for one worker and for two.
-fn are_few<R: Threads + Wait + Sync>(rt: &R, alloc: Global, left: &RTree, right: &RTree) -> bool {
+fn are_few<R: Threads + Wait + Sync + AllocGlobal>(rt: &R, left: &RTree, right: &RTree) -> bool {
     [1, 2]
         .iter()
-        .all(|workers| are_no_more(rt, alloc, (left, right), *workers))
+        .all(|workers| are_no_more(rt, (left, right), *workers))
 }
 
 #[test]
 fn no_more_workers_than_asked_for(rt: HostRuntime) {
     let (alloc, shared) = (rt.alloc(), &rt);
-    assert!(rt;
-        sees(
-            alloc,
-            (20, 1),
-            |left, right| are_few(shared, alloc, left, right)
-        )
-    );
+    assert!(rt; sees(alloc, (20, 1), |left, right| are_few(shared, left, right)));
 }
 
 /// Whether each of several numbers of workers delivers all pairs.
-fn deliver<R: Threads + Wait + Sync>(rt: &R, alloc: Global, left: &RTree, right: &RTree) -> bool {
+fn deliver<R: Threads + Wait + Sync + AllocGlobal>(rt: &R, left: &RTree, right: &RTree) -> bool {
     [1, 2, 3, 8, 16].iter().all(|workers| delivers_twenty(
         rt,
-        alloc,
         (left, right),
         *workers,
         1,
@@ -220,24 +215,17 @@ fn deliver<R: Threads + Wait + Sync>(rt: &R, alloc: Global, left: &RTree, right:
 #[test]
 fn any_number_of_workers(rt: HostRuntime) {
     let (alloc, shared) = (rt.alloc(), &rt);
-    assert!(rt;
-        sees(
-            alloc,
-            (20, 1),
-            |left, right| deliver(shared, alloc, left, right)
-        )
-    );
+    assert!(rt; sees(alloc, (20, 1), |left, right| deliver(shared, left, right)));
 }
 
 /// Whether batches of each size deliver all pairs.
-fn deliver_by_each_size<R: Threads + Wait + Sync>(
+fn deliver_by_each_size<R: Threads + Wait + Sync + AllocGlobal>(
     rt: &R,
-    alloc: Global,
     left: &RTree,
     right: &RTree,
 ) -> bool {
     for batch in 1..MAX_BATCH + 1 {
-        if !delivers_twenty(rt, alloc, (left, right), 1, batch, &OpenGate) {
+        if !delivers_twenty(rt, (left, right), 1, batch, &OpenGate) {
             return false;
         }
     }
@@ -251,7 +239,7 @@ fn any_batch_size(rt: HostRuntime) {
         sees(
             alloc,
             (20, 1),
-            |left, right| deliver_by_each_size(shared, alloc, left, right)
+            |left, right| deliver_by_each_size(shared, left, right)
         )
     );
 }
