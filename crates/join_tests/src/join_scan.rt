@@ -2,7 +2,7 @@
 //! loop.
 
 use crate::layers::{edited, seen};
-use join_core::{Options, join};
+use join_core::{OpenGate, Options, join};
 use layer_core::{FeatureRef, Layer};
 use relation_core::{JoinRelation, Relation};
 use std::alloc::{AllocError, Global};
@@ -70,7 +70,7 @@ fn has_pairs<R: Threads + Wait + Sync + AllocGlobal>(
         right,
         relation,
     } = *joined;
-    let outcome = join(rt, left, right, relation, options);
+    let outcome = join(rt, left, right, relation, options, &OpenGate);
     Ok(outcome.map(|outcome| outcome.pairs() == wanted)?)
 }
 

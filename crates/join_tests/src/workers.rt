@@ -1,13 +1,15 @@
-//! What the workers of a join deliver, by the marks of its outcome.
+//! The deliveries of a join's workers, checked by the marks of its outcome and by a gate.
 
 use crate::layers::{points, seen};
 use deliver_core::Mark;
-use join_core::{JoinFault, Options, Outcome, join};
+use join_core::{Gate, JoinFault, OpenGate, Options, Outcome, join};
 use layer_core::Layer;
 use relation_core::{JoinRelation, Relation};
 use std::random::RandomSource;
 use std::sync::Wait;
+use std::sync::atomic::{AtomicU32, Ordering};
 use std::test::Fail;
+use std::thread;
 use std::thread::Threads;
 
 const BY_THREE: &[Mark] = &[
@@ -66,23 +68,32 @@ impl Points {
     }
 
     /// The result of joining the layers.
-    fn answer<R: Threads + Wait + Sync + AllocGlobal>(
+    fn answer<R: Threads + Wait + Sync + AllocGlobal, G: Gate + Sync>(
         &self,
         rt: &R,
         way: Way,
+        gate: &G,
     ) -> Result<Result<Outcome, JoinFault>, Fail> {
         let relation = JoinRelation::new(way.relation)?;
         let options = Options::new(way.workers, way.batch, way.cut)?;
-        Ok(join(rt, &self.left, &self.right, &relation, &options))
+        Ok(join(
+            rt,
+            &self.left,
+            &self.right,
+            &relation,
+            &options,
+            gate,
+        ))
     }
 
     /// The outcome of joining the layers.
-    fn join<R: Threads + Wait + Sync + AllocGlobal>(
+    fn join<R: Threads + Wait + Sync + AllocGlobal, G: Gate + Sync>(
         &self,
         rt: &R,
         way: Way,
+        gate: &G,
     ) -> Result<Outcome, Fail> {
-        Ok(self.answer(rt, way)??)
+        Ok(self.answer(rt, way, gate)??)
     }
 
     /// Whether a join gives these marks.
@@ -92,7 +103,7 @@ impl Points {
         way: Way,
         marks: &[Mark],
     ) -> Result<bool, Fail> {
-        Ok(self.join(rt, way)?.taken() == marks)
+        Ok(self.join(rt, way, &OpenGate)?.taken() == marks)
     }
 
     /// Whether a join gives `count` pairs of equal numbers, each in a batch of its own.
@@ -102,17 +113,18 @@ impl Points {
         way: Way,
         count: u32,
     ) -> Result<bool, Fail> {
-        Ok(has_batches(&self.join(rt, way)?, count))
+        Ok(has_batches(&self.join(rt, way, &OpenGate)?, count))
     }
 
-    /// Whether a join in this way gives so many pairs of equal numbers.
-    fn gives_pairs<R: Threads + Wait + Sync + AllocGlobal>(
+    /// Whether a join through a gate gives `count` pairs of equal numbers.
+    fn passes<R: Threads + Wait + Sync + AllocGlobal, G: Gate + Sync>(
         &self,
         rt: &R,
         way: Way,
+        gate: &G,
         count: u32,
     ) -> Result<bool, Fail> {
-        Ok(are_diagonal(self.join(rt, way)?.pairs(), count))
+        Ok(are_diagonal(self.join(rt, way, gate)?.pairs(), count))
     }
 }
 
@@ -224,21 +236,87 @@ fn no_refusal(rt: HostRuntime) -> Result<(), Fail> {
     Ok(())
 }
 
-/// How two layers of 20 points each are joined by two workers.
-const BY_TWO: Way = Way {
+/// The greatest number of times that a worker yields while it waits for another.
+const TURNS: u32 = 10_000_000;
+
+/// A gate of three tasks that holds the first worker until a second one has entered. It counts the
+/// entries with each task, and the workers that waited in vain.
+#[derive(Drop)]
+struct PairGate {
+    inside: AtomicU32,
+    entered: [AtomicU32; 3],
+    given_up: AtomicU32,
+}
+
+impl Gate for PairGate {
+    fn enter<R: Threads + Wait + Sync>(&self, _rt: &R, task: u32) {
+        if let Some(times) = self.entered.get(task as usize) {
+            times.fetch_add(1, Ordering::SeqCst);
+        }
+        self.inside.fetch_add(1, Ordering::SeqCst);
+        for _ in 0..TURNS {
+            if self.inside.load(Ordering::SeqCst) >= 2 {
+                return;
+            }
+            thread::yield_now();
+        }
+        self.given_up.fetch_add(1, Ordering::SeqCst);
+    }
+}
+
+fn zero() -> AtomicU32 {
+    AtomicU32::new(0)
+}
+
+impl PairGate {
+    fn new() -> PairGate {
+        PairGate {
+            inside: zero(),
+            entered: [zero(), zero(), zero()],
+            given_up: zero(),
+        }
+    }
+
+    /// Whether each of the three tasks was entered once, and no worker waited in vain.
+    fn has_paired(&self) -> bool {
+        let has_entered = |times: &AtomicU32| times.load(Ordering::SeqCst) == 1;
+        self.inside.load(Ordering::SeqCst) == 3
+            && self.entered.iter().all(has_entered)
+            && self.given_up.load(Ordering::SeqCst) == 0
+    }
+}
+
+/// The join of two layers of 20 points through the gate.
+const OF_GATE: Way = Way {
     relation: Relation::Equals,
     workers: 2,
     batch: 4,
     cut: 1,
 };
 
-/// Whether a join by two workers gives its 20 pairs, tried again where memory is refused.
-fn gives_pairs_at_last<R: Threads + Wait + Sync + AllocGlobal>(
+#[test]
+fn gate_two_workers(rt: HostRuntime) -> Result<(), Fail> {
+    let (shared, gate) = (&rt, &PairGate::new());
+    assert!(rt;
+        on_points(
+            shared,
+            20,
+            |points| points.passes(shared, OF_GATE, gate, 20)
+        )?
+    );
+    assert!(rt; gate.has_paired());
+    Ok(())
+}
+
+/// Whether that join with an open gate gives its 20 pairs, tried again if an allocation fails.
+fn passes_at_last<R: Threads + Wait + Sync + AllocGlobal>(
     rt: &R,
     points: &Points,
 ) -> Result<bool, Fail> {
-    match points.answer(rt, BY_TWO)? {
-        Err(JoinFault::Memory | JoinFault::NoThread) => points.gives_pairs(rt, BY_TWO, 20),
+    match points.answer(rt, OF_GATE, &OpenGate)? {
+        Err(JoinFault::Memory | JoinFault::NoThread) => {
+            points.passes(rt, OF_GATE, &OpenGate, 20)
+        }
         first => Ok(are_diagonal(first?.pairs(), 20)),
     }
 }
@@ -247,6 +325,6 @@ fn gives_pairs_at_last<R: Threads + Wait + Sync + AllocGlobal>(
 #[test]
 fn join_without_memory(rt: HostRuntime) -> Result<(), Fail> {
     let shared = &rt;
-    assert!(rt; on_points(shared, 20, |points| gives_pairs_at_last(shared, points))?);
+    assert!(rt; on_points(shared, 20, |points| passes_at_last(shared, points))?);
     Ok(())
 }
