@@ -76,14 +76,7 @@ impl Points {
     ) -> Result<Result<Outcome, JoinFault>, Fail> {
         let relation = JoinRelation::new(way.relation)?;
         let options = Options::new(way.workers, way.batch, way.cut)?;
-        Ok(join(
-            rt,
-            &self.left,
-            &self.right,
-            &relation,
-            &options,
-            gate,
-        ))
+        Ok(join(rt, &self.left, &self.right, &relation, &options, gate))
     }
 
     /// The outcome of joining the layers.

@@ -72,13 +72,7 @@ impl JoinJob {
 
 /// Writes the report of a join of two layers, after the edits of both. All else is as
 /// [`JoinJob::run`] says.
-pub fn run_join<
-    R: AllocGlobal + Threads + Wait + Sync,
-    A: Source,
-    B: Source,
-    E: Source,
-    S: Sink,
->(
+pub fn run_join<R: AllocGlobal + Threads + Wait + Sync, A: Source, B: Source, E: Source, S: Sink>(
     rt: &R,
     states: (RandomState, RandomState),
     scale: Scale,
