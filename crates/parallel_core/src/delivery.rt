@@ -18,7 +18,7 @@ use std::sync::Wait;
 use std::thread::Threads;
 
 /// Processes the tasks of a plan by as many workers as the options say, each in a thread of its
-/// own, and gives what they delivered, in batches of the options' size.
+/// own, and returns what they delivered, in batches of the options' size.
 ///
 /// # Errors
 /// `Memory` if an allocation fails, `NoThread` if a worker's thread can't be started, and no other.

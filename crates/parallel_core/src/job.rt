@@ -1,15 +1,15 @@
-//! What the workers of a join share.
+//! The inputs that the workers of a join share.
 
 use deliver_core::{Board, Outlet};
 use relation_core::JoinRelation;
 use std::alloc::Global;
 
-/// What all workers of a join are given alike: whose rows to send and how, and where to draw tasks
-/// and send to. They borrow it.
+/// The inputs of all workers of a join, which borrow them: the rows to send, and the board and the
+/// outlet to draw tasks from and send to.
 #[derive(Drop)]
 pub struct Job<'a, P> {
     pub alloc: Global,
-    /// What gives the row of each task.
+    /// Provides the row of each task.
     pub rows: &'a P,
     /// The relation of the two entries of a pair.
     pub relation: &'a JoinRelation,

@@ -129,7 +129,7 @@ pub(crate) fn run<R: Threads + Wait + Sync, W: Work + Sync>(
     )
 }
 
-/// Gives the worker with this seat and port a thread of its own, if there is one.
+/// Starts a thread for the worker with this seat and port. `None` if none can be started.
 fn start<'s, E, R: Threads + Wait + Sync, W: Work + Sync>(
     scope: &Scope<'s, E>,
     rt: &'s R,

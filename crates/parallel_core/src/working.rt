@@ -28,13 +28,13 @@ pub struct Worked {
     pub ok: bool,
 }
 
-/// The work of a job's workers. Threads share it in place of the job, which has a lifetime of its
-/// own.
+/// The work of a job's workers. Threads share it in place of the job, which has a lifetime
+/// parameter.
 pub(crate) trait Work {
-    /// The job that it is of.
+    /// The job to work on.
     ghost job: { Self → JobValue };
 
-    /// Draws tasks and sends the script of each, until there are none left, and then says bye.
+    /// Draws tasks and sends the script of each until none is left, and then says bye.
     fn work<R: Wait>(&self, rt: &R, seat: BoardSeat, port: Port) -> Worked
         requires batch { 0 < (job self.now).size }
         requires tasks { (job self.now).board.tasks ≡ length (job self.now).plan }
@@ -55,8 +55,8 @@ impl<'a, P: Rows> Work for Job<'a, P> {
     }
 }
 
-/// Draws tasks and sends the script of each, until there are none left, and then says bye. Where
-/// memory is refused, it stops after a whole message and says bye with false.
+/// Draws tasks and sends the script of each until none is left, and then says bye. If an allocation
+/// fails, it stops after a whole message and says bye with false.
 pub fn worker<R: Wait, P: Rows>(rt: &R, job: &Job<'_, P>, seat: BoardSeat, port: Port) -> Worked
     requires batch { (1 ≤ job.now.batch) × (job.now.batch ≤ MAX_BATCH) }
     requires tasks { job.now.board.now.tasks ≡ length (P.tasks job.now.rows.now) }
