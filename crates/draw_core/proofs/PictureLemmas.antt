@@ -9,6 +9,7 @@ use Rattle.std.specs.List.{list_any}
 use Rattle.std.specs.Ordering.{nat_cmp}
 use Rattle.std.specs.BTreeSet.{BTreeSet, contains, Updates}
 use Rattle.geom_core.specs.Limits.{IsCoordinate}
+use Rattle.geom_core.specs.declared.shape.Shape.{Shape}
 use Rattle.layer_core.specs.Layers.{Feature, Contents}
 use Rattle.draw_core.specs.Marks.{has_left, has_right}
 use Rattle.draw_core.specs.Pictures.{closing, element, group, legend, canvas, opening, picture_of}
@@ -19,14 +20,14 @@ pub chain : (s t u a b : List ℕ) → t ≡ s ++ a → u ≡ t ++ b → u ≡ s
 chain s t u a b first rest = rest ∙ ap (λ l. l ++ b) first ∙ append_assoc s a b
 
 -- the features of a list, if two tests agree
-pub elements_same : (view : View) (f g : ℕ → Bool) → ((n : ℕ) → f n ≡ g n) → (fs : List Feature)
+pub elements_same : (view : View) (f g : ℕ → Bool) → ((n : ℕ) → f n ≡ g n) → (fs : List (Feature Shape))
     → flat_map (λ x. element view (f x.number) x) fs ≡ flat_map (λ x. element view (g x.number) x) fs
 elements_same view f g same [] = refl
 elements_same view f g same (x ∷ xs) =
     ap (λ b. element view b x ++ flat_map (λ y. element view (f y.number) y) xs) (same x.number)
     ∙ ap (λ l. element view (g x.number) x ++ l) (elements_same view f g same xs)
 
-pub group_same : (side : List ℕ) (view : View) (f g : ℕ → Bool) (layer : Contents) → ((n : ℕ) → f n ≡ g n)
+pub group_same : (side : List ℕ) (view : View) (f g : ℕ → Bool) (layer : Contents Shape) → ((n : ℕ) → f n ≡ g n)
     → group side view f layer ≡ group side view g layer
 group_same side view f g layer same = rw (elements_same view f g same layer.features) refl
 
@@ -74,7 +75,7 @@ pub around_is : (a b c d l t : ℤ) (w h m : ℕ) → w ≡ unsigned_abs (c -ℤ
 around_is a b c d l t w h m width height margin left top = rw (left, top, margin, width, height) refl
 
 -- the group of the features that the pairs highlight, at the view of the layers
-group_is : (side : List ℕ) (v w : View) (f g : ℕ → Bool) (layer : Contents) (t u : List ℕ) → v ≡ w → ((n : ℕ) → f n ≡ g n)
+group_is : (side : List ℕ) (v w : View) (f g : ℕ → Bool) (layer : Contents Shape) (t u : List ℕ) → v ≡ w → ((n : ℕ) → f n ≡ g n)
     → u ≡ t ++ group side v f layer → u ≡ t ++ group side w g layer
 group_is side v w f g layer t u view same more =
     more ∙ ap (λ l. t ++ l) (group_same side v f g layer same ∙ ap (λ x. group side x g layer) view)
@@ -113,7 +114,7 @@ six_pieces a b c d e f t0 t1 t2 t3 t4 t5 t6 e0 e1 e2 e3 e4 e5 e6 =
     chain t0 t1 t6 a (b ++ rest) e1 (chain t1 t2 t6 b rest e2 last) ∙ ap (λ l. l ++ (a ++ (b ++ rest))) e0
 
 -- the picture from its pieces
-pub assembled : (left right : Contents) (pairs : List (ℕ × ℕ)) (v : View) (h l r p : ℕ) (f g : ℕ → Bool) (t0 t1 t2 t3 t4 t5 t6 : List ℕ)
+pub assembled : (left right : Contents Shape) (pairs : List (ℕ × ℕ)) (v : View) (h l r p : ℕ) (f g : ℕ → Bool) (t0 t1 t2 t3 t4 t5 t6 : List ℕ)
     → v ≡ view_of left right → l ≡ length left.features → r ≡ length right.features → p ≡ length pairs → h ≡ drawn_height v → ((n : ℕ) → f n ≡ has_left pairs n) → ((n : ℕ) → g n ≡ has_right pairs n) → t0 ≡ []
     → t1 ≡ t0 ++ opening (h + 40)
     → t2 ≡ t1 ++ legend l r p → t3 ≡ t2 ++ canvas h v

@@ -42,13 +42,13 @@ abbrev pub title : List ℕ → List ℕ
 title id = codes "<title>" ++ (label id ++ codes "</title>")
 
 -- the element of a feature: its class, its shape and its id
-abbrev pub element : View → Bool → Feature → List ℕ
+abbrev pub element : View → Bool → Feature Shape → List ℕ
 element view is_match f =
     start_of (dim_of f.shape) is_match ++ (outline view f.shape
     ++ (codes "\">" ++ (title f.id ++ codes "</path>\n")))
 
 -- the elements of a layer's features, each once and in order
-abbrev pub group : List ℕ → View → (ℕ → Bool) → Contents → List ℕ
+abbrev pub group : List ℕ → View → (ℕ → Bool) → Contents Shape → List ℕ
 group side view is_match layer =
     codes "<g class=\"" ++ (side ++ (codes "\">\n"
     ++ (flat_map (λ f. element view (is_match f.number) f) layer.features ++ codes "</g>\n")))
@@ -111,7 +111,7 @@ closing = codes "</svg>\n</svg>\n"
 
 -- the legend, and each feature of the left layer and then of the right one, in order, with those
 -- that occur in a pair highlighted
-abbrev pub picture_of : Contents → Contents → List (ℕ × ℕ) → List ℕ
+abbrev pub picture_of : Contents Shape → Contents Shape → List (ℕ × ℕ) → List ℕ
 picture_of left right pairs =
     let view = view_of left right in
     let height = drawn_height view in

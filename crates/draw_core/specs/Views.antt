@@ -46,7 +46,7 @@ widened None s = s
 widened (Some cover) s = cover_of cover s
 
 -- the smallest shape that contains the cover, if there is one, and the shape of each feature
-abbrev pub cover_with : Option Shape → List Feature → Option Shape
+abbrev pub cover_with : Option Shape → List (Feature Shape) → Option Shape
 cover_with cover [] = cover
 cover_with cover (f ∷ fs) = cover_with (Some (widened cover f.shape)) fs
 
@@ -69,5 +69,5 @@ view_about None = view_around (pos 0) (pos 0) (pos 0) (pos 0)
 view_about (Some s) = view_around (x1 s) (y1 s) (x2 s) (y2 s)
 
 -- the view of two layers: their cover with its margin
-abbrev pub view_of : Contents → Contents → View
+abbrev pub view_of : Contents Shape → Contents Shape → View
 view_of left right = view_about (cover_with (cover_with None left.features) right.features)

@@ -65,8 +65,8 @@ fn cover_with(cover: Option<Shape>, layer: &Layer) -> Option<Shape>
     let mut cover = cover;
     for feature in layer.iter() {
         cover = match cover {
-            Some(cover) => Some(cover.cover(&feature.shape)),
-            None => Some(feature.shape),
+            Some(cover) => Some(cover.cover(feature.shape)),
+            None => Some(*feature.shape),
         };
     }
     cover

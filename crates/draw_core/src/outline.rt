@@ -103,7 +103,7 @@ pub(crate) fn push_element(
         ≡ string_bytes text.old ++ element frame.now is_match (feature_read feature.now)) }
 {
     push_start(text, feature.shape.dim(), is_match)?;
-    push_outline(text, frame, &feature.shape)?;
+    push_outline(text, frame, feature.shape)?;
     text.push_str("\">")?;
     push_title(text, feature.id)?;
     text.push_str("</path>\n")
