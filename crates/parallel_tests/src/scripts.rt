@@ -7,15 +7,15 @@ ghost use Rattle.deliver_core.specs.OutletCalls.{IsFreshPort};
 ghost use Rattle.deliver_core.specs.Ports.{IsTapOf};
 
 use crate::expected::{Expected, says};
-use crate::gates::{Gate, Gated, OpenGate};
 use deliver_core::{Board, BoardSeat, Body, Outlet, Port, Tap};
 use descent_core::Plan;
 use options_core::MAX_BATCH;
-use parallel_core::{Job, Worked, worker};
+use parallel_core::{Gate, Gated, Job, OpenGate, Rows, Worked, worker};
 use relation_core::{JoinRelation, Relation};
 use rtree_core::RTree;
 use std::sync::Wait;
 use std::sync::atomic::{AtomicU32, Ordering};
+use std::thread::Threads;
 use test_data::on_packed;
 
 const BY_THREE: [Expected; 11] = [
@@ -93,15 +93,15 @@ fn has_worked(worked: &Worked) -> bool {
 }
 
 /// Whether one worker with this seat sends of these rows what it has to; none without memory.
-fn works_at<R: Wait + AllocGlobal, G: Gate>(
+fn works_at<R: Threads + Wait + Sync + AllocGlobal, G: Gate>(
     rt: &R,
-    rows: &Gated<'_, Plan<'_>, G>,
+    rows: &Gated<'_, R, Plan<'_>, G>,
     work: Work,
     board: &Board,
     seat: BoardSeat,
 ) -> Option<bool>
     requires batch { (1 ≤ work.batch) × (work.batch ≤ MAX_BATCH) }
-    requires tasks { board.now.tasks ≡ length rows.now.plan.now }
+    requires tasks { board.now.tasks ≡ length rows.now.rows.now }
     requires seat { seat ≡ fresh_seat board.now }
 {
     let alloc = rt.alloc();
@@ -121,32 +121,36 @@ fn works_at<R: Wait + AllocGlobal, G: Gate>(
 }
 
 /// Whether one worker, on this thread, sends of these rows what it has to; none without memory.
-fn works<R: Wait + AllocGlobal, G: Gate>(
+fn works<R: Threads + Wait + Sync + AllocGlobal, G: Gate>(
     rt: &R,
-    rows: &Gated<'_, Plan<'_>, G>,
+    rows: &Gated<'_, R, Plan<'_>, G>,
     work: Work,
 ) -> Option<bool> {
     if work.batch == 0 || work.batch > MAX_BATCH {
         return None;
     }
-    let (board, mut seats) = Board::new(rt.alloc(), rows.plan.len(), 1).ok()?;
+    let (board, mut seats) = Board::new(rt.alloc(), rows.rows.len(), 1).ok()?;
     works_at(rt, rows, work, &board, seats.pop()?)
 }
 
 /// Whether one worker sends of two trees, through a gate, what it has to; none without memory.
-fn sends_of<R: Wait + AllocGlobal>(
+fn sends_of<R: Threads + Wait + Sync + AllocGlobal>(
     rt: &R,
     (left, right): (&RTree, &RTree),
     work: Work,
     gate: &impl Gate,
 ) -> Option<bool> {
     let plan = Plan::new(rt.alloc(), left, right, 1).ok()?;
-    let rows = Gated { plan: &plan, gate };
+    let rows = Gated {
+        rt,
+        rows: &plan,
+        gate,
+    };
     works(rt, &rows, work)
 }
 
 /// Whether one worker sends of two times twenty points, through a gate, what it has to.
-fn sends<R: Wait + AllocGlobal>(rt: &R, work: Work, gate: &impl Gate) -> bool {
+fn sends<R: Threads + Wait + Sync + AllocGlobal>(rt: &R, work: Work, gate: &impl Gate) -> bool {
     let sends = on_packed(rt.alloc(), (20, 1), (20, 1), |left, right| {
         sends_of(rt, (left, right), work, gate)
     });
@@ -160,7 +164,7 @@ struct Counts {
 }
 
 impl Gate for Counts {
-    fn enter(&self, task: u32) {
+    fn enter<R: Threads + Wait + Sync>(&self, _rt: &R, task: u32) {
         if let Some(times) = self.entered.get(task as usize) {
             times.fetch_add(1, Ordering::SeqCst);
         }

@@ -1,10 +1,9 @@
 //! The deliveries of several workers.
 
-use crate::gates::{Gate, Gated, OpenGate};
 use deliver_core::{Mark, Outcome};
 use descent_core::Plan;
 use options_core::{MAX_BATCH, Options};
-use parallel_core::run_workers;
+use parallel_core::{Gate, Gated, OpenGate, run_workers};
 use relation_core::{JoinRelation, Relation};
 use rtree_core::RTree;
 use std::alloc::Global;
@@ -24,7 +23,11 @@ fn delivered<R: Threads + Wait + Sync + AllocGlobal, G: Gate + Sync>(
 ) -> Option<Outcome> {
     let relation = JoinRelation::new(Relation::Equals).ok()?;
     let plan = Plan::new(rt.alloc(), trees.0, trees.1, options.cut()).ok()?;
-    let rows = Gated { plan: &plan, gate };
+    let rows = Gated {
+        rt,
+        rows: &plan,
+        gate,
+    };
     run_workers(rt, &rows, &relation, options).ok()
 }
 
@@ -48,7 +51,7 @@ fn are_marks(marks: &[Mark]) -> bool {
 }
 
 /// Whether these are the pairs (0, 0) to (19, 19).
-fn are_twenty(pairs: &[(u32, u32)]) -> bool {
+pub(crate) fn are_twenty(pairs: &[(u32, u32)]) -> bool {
     pairs.len() == 20 && pairs.iter().zip(0..20u32).all(|(pair, i)| *pair == (i, i))
 }
 
@@ -60,7 +63,7 @@ struct Meeting {
 }
 
 impl Gate for Meeting {
-    fn enter(&self, _task: u32) {
+    fn enter<R: Threads + Wait + Sync>(&self, _rt: &R, _task: u32) {
         self.entered.fetch_add(1, Ordering::SeqCst);
         for _ in 0..10_000_000 {
             if self.entered.load(Ordering::SeqCst) >= 2 {
@@ -74,7 +77,11 @@ impl Gate for Meeting {
 
 /// The result of `see` on two packed trees of equal numbers of points at equal steps; false if they
 /// can't be made.
-fn sees<F: FnOnce(&RTree, &RTree) -> bool>(alloc: Global, points: (u16, u16), see: F) -> bool
+pub(crate) fn sees<F: FnOnce(&RTree, &RTree) -> bool>(
+    alloc: Global,
+    points: (u16, u16),
+    see: F,
+) -> bool
     requires { F.IsAlwaysCallable see }
 {
     on_packed(alloc, points, points, see) == Ok(true)
@@ -110,7 +117,7 @@ fn delivery_extra(rt: HostRuntime) {
     );
 }
 
-/// What so many workers deliver of two trees at cut 1, in batches of this size.
+/// The outcome of `workers` workers on two trees at cut 1, in batches of this size.
 fn delivered_by<R: Threads + Wait + Sync + AllocGlobal, G: Gate + Sync>(
     rt: &R,
     trees: (&RTree, &RTree),
@@ -162,7 +169,7 @@ struct Room {
 }
 
 impl Gate for Room {
-    fn enter(&self, _task: u32) {
+    fn enter<R: Threads + Wait + Sync>(&self, _rt: &R, _task: u32) {
         if self.inside.fetch_add(1, Ordering::SeqCst) >= self.most {
             self.overfull.store(true, Ordering::SeqCst);
         }
