@@ -74,12 +74,12 @@ impl<'a, P: Rows> Rows for Watched<'a, P> {
 
 /// What workers deliver of these rows, by equality and through a gate; none without memory or
 /// threads.
-fn delivered<'x, R: Threads + Wait + Sync + AllocGlobal, P: Rows + Sync, G: Gate + Sync>(
-    rt: &'x R,
-    rows: &'x P,
-    options: &Options,
-    gate: &'x G,
-) -> Option<Outcome> {
+pub(crate) fn delivered_of<
+    'x,
+    R: Threads + Wait + Sync + AllocGlobal,
+    P: Rows + Sync,
+    G: Gate + Sync,
+>(rt: &'x R, rows: &'x P, options: &Options, gate: &'x G) -> Option<Outcome> {
     let relation = JoinRelation::new(Relation::Equals).ok()?;
     let gated = Gated { rt, rows, gate };
     run_workers(rt, &gated, &relation, options).ok()
@@ -98,7 +98,7 @@ fn enter_first<R: Threads + Wait + Sync + AllocGlobal>(
         rows: &plan,
         gate: &gate,
     };
-    let outcome = delivered(rt, &watched, &options, &gate)?;
+    let outcome = delivered_of(rt, &watched, &options, &gate)?;
     Some(are_twenty(outcome.pairs()) && gate.were(0b111))
 }
 

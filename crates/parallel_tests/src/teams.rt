@@ -1,10 +1,10 @@
 //! The deliveries of several workers.
 
+use crate::gates::delivered_of;
 use deliver_core::{Mark, Outcome};
 use descent_core::Plan;
 use options_core::{MAX_BATCH, Options};
-use parallel_core::{Gate, Gated, OpenGate, run_workers};
-use relation_core::{JoinRelation, Relation};
+use parallel_core::{Gate, OpenGate};
 use rtree_core::RTree;
 use std::alloc::Global;
 use std::sync::Wait;
@@ -21,14 +21,8 @@ fn delivered<R: Threads + Wait + Sync + AllocGlobal, G: Gate + Sync>(
     options: &Options,
     gate: &G,
 ) -> Option<Outcome> {
-    let relation = JoinRelation::new(Relation::Equals).ok()?;
     let plan = Plan::new(rt.alloc(), trees.0, trees.1, options.cut()).ok()?;
-    let rows = Gated {
-        rt,
-        rows: &plan,
-        gate,
-    };
-    run_workers(rt, &rows, &relation, options).ok()
+    delivered_of(rt, &plan, options, gate)
 }
 
 /// Whether these are the 81 pairs of two sets of nine numbers, in order.
