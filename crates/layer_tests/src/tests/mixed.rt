@@ -151,9 +151,12 @@ impl Trial {
     fn has_list(&self) -> bool {
         let mut features = self.layer.iter();
         for held in &self.list {
-            match features.next() {
-                Some(f) if f.number == held.entry.number && *f.shape == held.entry.shape => {}
-                _ => return false,
+            let Some(feature) = features.next() else {
+                return false;
+            };
+            let shape = *feature.shape;
+            if feature.number != held.entry.number || shape != held.entry.shape {
+                return false;
             }
         }
         features.next().is_none() && self.layer.len() == self.list.len()
