@@ -21,5 +21,6 @@ box_of g = g.bounds
 pub is_geometry : (g : AnyGeometry) → ∥ IsGeometryOf (rings_of g) (figure_of g) ∥₁
 is_geometry g = g.is_geometry
 
-pub holds_vertices : (g : AnyGeometry) → ∥ All (HoldsVertex (box_of g)) (vertices_of (figure_of g)) ∥₁
+pub holds_vertices : (g : AnyGeometry)
+    → ∥ All (HoldsVertex (box_of g)) (vertices_of (figure_of g)) ∥₁
 holds_vertices g = g.holds

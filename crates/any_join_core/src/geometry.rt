@@ -28,7 +28,8 @@ impl AnyGeometry {
         requires { TakesRings rings geometry }
         ensures figure { figure_of result ≡ geometry }
         ensures rings { rings_of result ≡ rings }
-        ensures bounds { (s : Shape) → All (HoldsVertex s) (vertices_of geometry) → IsIn (box_of result) s }
+        ensures bounds { (s : Shape) → All (HoldsVertex s) (vertices_of geometry)
+            → IsIn (box_of result) s }
     {
         let bounds = geometry.bounds();
         AnyGeometry {

@@ -12,7 +12,8 @@ ghost use Rattle.arrangement_core.specs.Nodes.{NodedEdge};
 ghost use Rattle.arrangement_core.specs.Growth.{HasGrownBy, mark_at, mark_in, mark_beside};
 ghost use Rattle.arrangement_core.specs.Growth.{piece_marks, gap_marks, gaps_marks, edge_marks};
 ghost use Rattle.arrangement_core.specs.ReadOffs.{points_by};
-ghost use Rattle.arrangement_core.specs.Shown.{IsOnEdge, IsUncrossed, IsKnownApart, AreCuts, IsRepeated, IsGap};
+ghost use Rattle.arrangement_core.specs.Shown.{IsOnEdge, IsUncrossed, IsKnownApart};
+ghost use Rattle.arrangement_core.specs.Shown.{AreCuts, IsRepeated, IsGap};
 
 use crate::entries::{column_of, raised, row_of};
 use crate::shown::{Course, all_parts, are_shown, is_piece_shown, part_on_edge, parts_above};
@@ -91,7 +92,8 @@ fn mark_piece(
     requires on { IsOnEdge own.now (point_of p.now) }
     requires uncrossed { IsUncrossed other.now course.now.edge (point_of p.now) }
     requires apart { IsKnownApart other.now course.now }
-    ensures { HasGrownBy (piece_marks own.now other.now course.now.edge (point_of p.now)) matrix result }
+    ensures { let marks = piece_marks own.now other.now course.now.edge (point_of p.now) in
+        HasGrownBy marks matrix result }
 {
     if is_piece_shown(&matrix, own.outline(), other.outline(), course, p) {
         matrix
@@ -111,7 +113,8 @@ fn mark_gap(
 ) -> Matrix
     requires gap { IsGap own.now other.now course.now.edge (node_point k.now) (node_point l.now) }
     requires apart { IsKnownApart other.now course.now }
-    ensures { let marks = gap_marks own.now other.now course.now.edge (node_point k.now) (node_point l.now) in
+    ensures { let edge = course.now.edge in
+        let marks = gap_marks own.now other.now edge (node_point k.now) (node_point l.now) in
         HasGrownBy marks matrix result }
 {
     if k.compare(l).is_lt() {
