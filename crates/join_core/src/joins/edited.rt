@@ -35,11 +35,14 @@ pub(crate) fn edited_layers<R: Threads + Sync, A: Source, B: Source, E: Source>(
     sources: &mut JoinSources<A, B, E>,
 ) -> Result<(Layer, Layer), RunFault>
     requires { AreFresh A.has_failed B.has_failed E.has_failed sources.old }
-    ensures ok { let files = files_of reader.now.scale A.remaining B.remaining E.remaining sources.old in
+    ensures ok { let scale = reader.now.scale in
+        let files = files_of scale A.remaining B.remaining E.remaining sources.old in
         IfOk result (λ layers. LayersGive files (Ok (both layers.0.list layers.1.list))) }
-    ensures fault { let files = files_of reader.now.scale A.remaining B.remaining E.remaining sources.old in
+    ensures fault { let scale = reader.now.scale in
+        let files = files_of scale A.remaining B.remaining E.remaining sources.old in
         IfErr result (λ f. BlamesInput f → LayersGive files (Err f)) }
-    ensures faults { let files = files_of reader.now.scale A.remaining B.remaining E.remaining sources.old in
+    ensures faults { let scale = reader.now.scale in
+        let files = files_of scale A.remaining B.remaining E.remaining sources.old in
         IfErr result (IsJoinFault files) }
     ensures io { TellsFailures A.has_failed B.has_failed E.has_failed sources.new result }
 {
