@@ -10,22 +10,8 @@ from dataclasses import dataclass
 from math import isqrt
 from pathlib import Path
 
-WORD = (1 << 64) - 1
-
-
-class Random:
-    """SplitMix64 (Steele, Lea, Flood 2014)."""
-
-    def __init__(self, seed: int) -> None:
-        self.state = seed
-
-    def below(self, limit: int) -> int:
-        """A number from 0 to limit - 1; the bias is below 2^-32 for the limits that stand here."""
-        self.state = (self.state + 0x9E3779B97F4A7C15) & WORD
-        mixed = self.state
-        mixed = ((mixed ^ (mixed >> 30)) * 0xBF58476D1CE4E5B9) & WORD
-        mixed = ((mixed ^ (mixed >> 27)) * 0x94D049BB133111EB) & WORD
-        return (mixed ^ (mixed >> 31)) % limit
+import irregular
+from splitmix import Random
 
 
 # Coordinates are whole numbers, or texts of decimal ones, here and below.
@@ -133,6 +119,8 @@ class Kind:
     left: Callable[[int, Random], Iterator[str]]
     right: Callable[[int, Random], Iterator[str]]
     relation: str
+    # What `--geometry` says of the layers.
+    geometry: str = "box"
 
 
 KINDS = {
@@ -141,7 +129,13 @@ KINDS = {
     "mixture": Kind(random_mixture, random_mixture, "touches"),
     "cadastre": Kind(parcels, blocks, "touches"),
     "chip": Kind(chip_bars, chip_wires, "intersects"),
+    "parcels": Kind(irregular.parcels, irregular.shifted_parcels, "intersects", "any"),
+    "neighbours": Kind(irregular.parcels, irregular.parcels, "touches", "any"),
+    "roads": Kind(irregular.roads, irregular.parcels, "crosses", "any"),
+    "zones": Kind(irregular.points, irregular.blobs, "within", "any"),
+    "giants": Kind(irregular.giants, irregular.parcels, "contains", "any"),
 }
+BOX_KINDS = {kind: made for kind, made in KINDS.items() if made.geometry == "box"}
 
 
 def expected(kind: str, relation: str, size: int) -> int | None:
@@ -150,6 +144,8 @@ def expected(kind: str, relation: str, size: int) -> int | None:
         return cadastre_pairs(relation, blocks_along(size))
     if kind == "chip" and relation == "intersects":
         return max(1, size // TRACKS) * TRACKS * TRACKS
+    if kind == "neighbours" and relation == "touches":
+        return irregular.neighbours(size)
     return None
 
 

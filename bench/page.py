@@ -9,7 +9,8 @@ from xml.sax.saxutils import escape
 
 from programs import Program, Run
 
-COLOURS = ("#1b6ca8", "#8aa29e", "#c98b3c", "#7b5ea7")
+COLOURS = ("#1b6ca8", "#8aa29e", "#c98b3c", "#7b5ea7", "#5b8c5a")
+TITLES = {"box": "Points, segments and rectangles", "any": "Any geometry"}
 WIDTH = 760
 LABEL = 130
 BAR = 15
@@ -23,6 +24,7 @@ class Row:
     """One join: its layers, and the best run of each program by its name, by all workers and by one."""
 
     kind: str
+    geometry: str
     relation: str
     size: int
     features: tuple[int, ...]
@@ -38,12 +40,13 @@ def write(options: Namespace, everyone: list[Program], rows: list[Row], wrong: l
 
 
 def page(options: Namespace, everyone: list[Program], rows: list[Row], wrong: list[str]) -> str:
-    names = [program.name for program in everyone]
     versions = ", ".join(f"{program.name} {program.version.removeprefix('rjoin ')}" for program in everyone)
     answer = "Every program gave the same pairs with the same DE-9IM letters." if not wrong else "\n".join(wrong)
+    groups = "\n\n".join(group(options, title, [row for row in rows if row.geometry == geometry])
+                         for geometry, title in TITLES.items() if any(row.geometry == geometry for row in rows))
     return f"""# Bench
 
-`bench/run` makes layers, joins them by rjoin and by what else is installed, compares the answers, and writes this page. It is of one run on one machine: the ratios tell more than the seconds.
+`bench/run` makes layers, joins them by rjoin and by what else is installed, compares the answers, and writes this page. It is of one run on one machine: compare the ratios, and not the seconds.
 
 | | |
 |---|---|
@@ -52,23 +55,13 @@ def page(options: Namespace, everyone: list[Program], rows: list[Row], wrong: li
 | System | {system()} |
 | Programs | {versions} |
 | Threads | {options.workers} |
-| Runs | the best of {options.times}, or of fewer where one takes {options.enough:g} s |
-
-Seconds from the two files to the written pairs by {options.workers} threads, and in brackets how many times as long as rjoin:
-
-{table(names, rows, lambda row: row.runs)}
+| Runs | the best of {options.times}, or of fewer where one takes {options.enough:g} s; one that takes {options.longest} s is stopped |
 
 {answer}
 
 ![Seconds of each program](bench.svg)
 
-The same by one thread each:
-
-{table(names, rows, lambda row: row.alone)}
-
-Seconds of the processor by {options.workers} threads, over all of them, and in brackets the most memory in megabytes. They depend less on what else the machine does. PostGIS is left out, since its server does the work.
-
-{work_table([name for name in names if name != "PostGIS"], rows)}
+{groups}
 
 ## What is joined
 
@@ -79,13 +72,40 @@ Seconds of the processor by {options.workers} threads, over all of them, and in 
 | mixture | points, segments and rectangles on a coarse grid, so that ends and sides coincide | the same |
 | cadastre | square parcels side by side | blocks of two by two parcels |
 | chip | horizontal bars, eight a cell | vertical wires, eight a cell, every second one without a width |
+| parcels | irregular parcels of 14 vertices on average, which share their sides | other such parcels, half a row away |
+| neighbours | such parcels | the same parcels |
+| roads | polylines of 2 to 33 vertices | such parcels |
+| zones | random points | areas of 100 vertices, as large as parcels |
+| giants | a few areas of 100,000 vertices, half as wide as the layer | such parcels |
 
-The generator has a fixed seed (`bench/layers.py`). Of the cadastre and the chip, the number of pairs follows by arithmetic and is compared too; `bench/smoke` does that alone, at small sizes and with no peer.
+The generator has a fixed seed (`bench/layers.py`, and `bench/irregular.py` for any geometry). Of the cadastre, the chip and the neighbours, the number of pairs follows by arithmetic and is compared too; `bench/smoke` does that alone, at small sizes and with no peer.
 
 ## What the peers do
 
-GEOS (C interface): an STRtree of the right layer, prepared geometries, the named predicate, and the letters of the pairs that hold. Boost.Geometry: a packed R-tree of boxes and `relation`, fitted to the masks. Both read the CSV files themselves and join by as many threads as rjoin. PostGIS: `\\copy` into unlogged tables, a GiST index each, `ANALYZE`, the join with `ST_Relate`; all of that is in its seconds. All of them take geometries of any form, and rjoin only points, axis-parallel segments and rectangles, which has a part in the difference.
+GEOS (C interface): an STRtree of the right layer, prepared geometries, the named predicate, and the letters of the pairs that hold. GEOS plain: the letters of all pairs whose boxes meet, fitted to the masks. Boost.Geometry: a packed R-tree of boxes and `relation`, fitted to the masks. These read the CSV files themselves and join by as many threads as rjoin. PostGIS: `\\copy` into unlogged tables, a GiST index each, `ANALYZE`, the join with `ST_Relate`; all of that is in its seconds. All of them take geometries of any form, and rjoin reads the first five kinds as points, axis-parallel segments and rectangles, which has a part in the difference. GEOS and Boost.Geometry round the points where lines cross, so their letters may differ from the exact ones.
 """  # noqa: E501
+
+
+def group(options: Namespace, title: str, rows: list[Row]) -> str:
+    """The tables of the joins of one sort of geometries."""
+    names = list(rows[0].runs)
+    return f"""## {title}
+
+Seconds from the two files to the written pairs by {options.workers} threads, and in brackets how many times as long as rjoin:
+
+{table(names, rows, lambda row: row.runs)}
+
+The same by one thread each:
+
+{table(names, rows, lambda row: row.alone)}
+
+Seconds of the processor over all threads, in brackets how many times as many as rjoin, and the most memory in megabytes. They depend less on the other work of the machine.{without_postgis(names)}
+
+{work_table([name for name in names if name != "PostGIS"], rows, options.workers)}"""  # noqa: E501
+
+
+def without_postgis(names: list[str]) -> str:
+    return " PostGIS is left out, since its server does the work." if "PostGIS" in names else ""
 
 
 def machine() -> str:
@@ -122,36 +142,41 @@ def features_of(row: Row) -> str:
 
 
 def seconds_cell(runs: Runs, name: str) -> str:
-    seconds = runs[name].seconds
+    seconds, over = runs[name].seconds, "over " if runs[name].is_stopped else ""
     if name == "rjoin":
-        return f"{seconds:.2f}"
-    return f"{seconds:.2f} ({seconds / runs['rjoin'].seconds:.1f})"
+        return f"{over}{seconds:.2f}"
+    return f"{over}{seconds:.2f} ({seconds / runs['rjoin'].seconds:.1f})"
 
 
-def work_table(names: list[str], rows: list[Row]) -> str:
-    lines = [f"| Kind | Features | {' | '.join(names)} |", "|---" * (2 + len(names)) + "|"]
+def work_table(names: list[str], rows: list[Row], workers: int) -> str:
+    lines = [f"| Kind | Features | Threads | {' | '.join(names)} |", "|---" * (3 + len(names)) + "|"]
     for row in rows:
-        cells = " | ".join(work_cell(row.runs[name]) for name in names)
-        lines.append(f"| {row.kind} | {features_of(row)} | {cells} |")
+        for threads, runs in ((workers, row.runs), (1, row.alone)):
+            cells = " | ".join(work_cell(runs, name) for name in names)
+            lines.append(f"| {row.kind} | {features_of(row)} | {threads} | {cells} |")
     return "\n".join(lines)
 
 
-def work_cell(run: Run) -> str:
-    return f"{run.processor:.2f} ({run.kilobytes / 1024:.0f})"
+def work_cell(runs: Runs, name: str) -> str:
+    """The seconds of the processor and the memory of a program, and for a peer how many times those of rjoin."""
+    run, own = runs[name], runs["rjoin"].processor
+    ratio = f" ({run.processor / max(own, 0.01):.1f})" if name != "rjoin" else ""
+    return f"{'over ' if run.is_stopped else ''}{run.processor:.2f}{ratio}, {run.kilobytes / 1024:.0f} MB"
 
 
 def picture(everyone: list[Program], rows: list[Row]) -> str:
-    """Bars of seconds, of the first size alone; a bar that would pass the edge is cut there, and its number tells. The
-    machine stands below."""
+    """Bars of seconds, of the first size alone of each sort of geometries; a bar that would pass the edge is cut there,
+    and its number stands beside it. The machine stands below."""
     names = [program.name for program in everyone]
-    rows = [row for row in rows if row.size == rows[0].size]
-    block = BAR * len(names) + GAP
-    foot = GAP * 3 + block * len(rows) + LETTER
-    height = foot + GAP
+    sizes = {row.geometry: row.size for row in reversed(rows)}
+    rows = [row for row in rows if row.size == sizes[row.geometry]]
     scale = (WIDTH - LABEL - 90) / cut_of(rows)
-    parts = [legend(names)]
-    for at, row in enumerate(rows):
-        parts.append(bars(row, names, GAP * 3 + at * block, scale))
+    parts, top = [legend(names)], GAP * 3
+    for row in rows:
+        parts.append(bars(row, names, top, scale))
+        top += BAR * len(row.runs) + GAP
+    foot = top + LETTER
+    height = foot + GAP
     parts.append(f'<text x="8" y="{foot}" fill="#666666" font-size="10">{escape(machine())}</text>')
     return (f'<svg xmlns="http://www.w3.org/2000/svg" viewBox="0 0 {WIDTH} {height}" width="{WIDTH}" '
             f'height="{height}" font-family="sans-serif" font-size="{LETTER}">\n'
@@ -177,10 +202,10 @@ def legend(names: list[str]) -> str:
 def bars(row: Row, names: list[str], top: int, scale: float) -> str:
     parts = [f'<text x="8" y="{top + LETTER}">{escape(row.kind)}</text>'
              f'<text x="8" y="{top + 2 * LETTER + 2}" fill="#666666">{escape(row.relation)}</text>']
-    for at, name in enumerate(names):
-        seconds = row.runs[name].seconds
-        width = max(1.0, min(seconds * scale, WIDTH - LABEL - 90))
-        y = top + at * BAR
-        parts.append(f'<rect x="{LABEL}" y="{y}" width="{width:.1f}" height="{BAR - 3}" fill="{COLOURS[at]}"/>'
-                     f'<text x="{LABEL + width + 5:.1f}" y="{y + LETTER - 2}">{seconds:.2f} s</text>')
+    for at, (name, run) in enumerate(row.runs.items()):
+        width = max(1.0, min(run.seconds * scale, WIDTH - LABEL - 90))
+        y, over = top + at * BAR, "over " if run.is_stopped else ""
+        parts.append(f'<rect x="{LABEL}" y="{y}" width="{width:.1f}" height="{BAR - 3}" '
+                     f'fill="{COLOURS[names.index(name)]}"/>'
+                     f'<text x="{LABEL + width + 5:.1f}" y="{y + LETTER - 2}">{over}{run.seconds:.2f} s</text>')
     return "\n".join(parts)

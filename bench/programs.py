@@ -14,32 +14,37 @@ Words = list[str | Path]
 
 @dataclass(frozen=True)
 class Task:
-    """Two layers, the relation that they are joined by, and how many threads may work."""
+    """Two layers, the relation that they are joined by, what `--geometry` says of them, and how many threads may
+    work."""
 
     left: Path
     right: Path
     relation: str
+    geometry: str
     workers: int
 
 
 @dataclass(frozen=True)
 class Program:
-    """A program that joins: its name, its version, and the words that run it."""
+    """A program that joins: its name, its version, the words that run it, and which geometries it is measured on."""
 
     name: str
     version: str
     words: Callable[[Task], Words]
+    geometries: tuple[str, ...] = ("box",)
 
 
 @dataclass(frozen=True)
 class Run:
-    """One run of a program: how long it took, all threads' time, its most memory, and its pairs in one order."""
+    """One run of a program: how long it took, all threads' time, its most memory, and its pairs in one order. A run
+    that was stopped, as it took too long, has no pairs."""
 
     seconds: float
     processor: float
     kilobytes: int
     pairs: int
     digest: str
+    is_stopped: bool = False
 
 
 def output_of(words: Words) -> str | None:
@@ -60,9 +65,11 @@ def rjoin(path: str | Path) -> Program:
     program = built if Path(path) == HERE.parent / "rjoin" else path
 
     def words(task: Task) -> Words:
-        return [program, "join", task.left, task.right, "--relation", task.relation, "--workers", str(task.workers)]
+        geometry = ["--geometry", task.geometry] if task.geometry != "box" else []
+        return [program, "join", task.left, task.right, "--relation", task.relation, *geometry,
+                "--workers", str(task.workers)]
 
-    return Program("rjoin", version, words)
+    return Program("rjoin", version, words, ("box", "any"))
 
 
 def built(source: Path, *libraries: str) -> Path | None:
@@ -83,22 +90,31 @@ def header_version(header: str, macro: str) -> str | None:
     return values[0].strip('"') if values else None
 
 
-def in_cplusplus(name: str, source: str, version: str | None, *libraries: str) -> Program | None:
-    program = built(HERE / "peers" / source, *libraries) if version else None
-    return Program(name, version, partial(cplusplus_words, program)) if version and program else None
+def cplusplus_words(program: Path, way: list[str], task: Task) -> Words:
+    return [program, task.left, task.right, task.relation, str(task.workers), *way]
 
 
-def cplusplus_words(program: Path, task: Task) -> Words:
-    return [program, task.left, task.right, task.relation, str(task.workers)]
+def geos_by(name: str, way: list[str], *geometries: str) -> Program | None:
+    """The join on GEOS by one of its two ways."""
+    version = header_version("geos_c.h", "GEOS_VERSION")
+    program = built(HERE / "peers/geos_join.cpp", "-lgeos_c") if version else None
+    return Program(name, version, partial(cplusplus_words, program, way), geometries) if version and program else None
 
 
 def geos() -> Program | None:
-    return in_cplusplus("GEOS", "geos_join.cpp", header_version("geos_c.h", "GEOS_VERSION"), "-lgeos_c")
+    return geos_by("GEOS", [], "box", "any")
+
+
+def geos_plain() -> Program | None:
+    return geos_by("GEOS plain", ["plain"], "any")
 
 
 def boost() -> Program | None:
     version = header_version("boost/version.hpp", "BOOST_LIB_VERSION")
-    return in_cplusplus("Boost.Geometry", "boost_join.cpp", version and version.replace("_", "."))
+    program = built(HERE / "peers/boost_join.cpp") if version else None
+    if not version or not program:
+        return None
+    return Program("Boost.Geometry", version.replace("_", "."), partial(cplusplus_words, program, []))
 
 
 def postgis() -> Program | None:
@@ -119,4 +135,6 @@ def postgis_words(task: Task) -> Words:
             "-f", HERE / "peers/postgis_join.sql"]
 
 
-PEERS: dict[str, Callable[[], Program | None]] = {"geos": geos, "boost": boost, "postgis": postgis}
+PEERS: dict[str, Callable[[], Program | None]] = {
+    "geos": geos, "geos-plain": geos_plain, "boost": boost, "postgis": postgis,
+}

@@ -3,7 +3,6 @@
 #include "common.hpp"
 
 #include <algorithm>
-#include <array>
 #include <boost/geometry.hpp>
 #include <boost/geometry/algorithms/relation.hpp>
 #include <boost/geometry/index/rtree.hpp>
@@ -65,38 +64,6 @@ struct MatrixOf : boost::static_visitor<std::string> {
     }
 };
 
-using Masks = std::vector<std::string>;
-
-// The masks of OGC 06-103r4; the dimensions are those of the two shapes, 0 to 2.
-Masks masks_of(const std::string& relation, int a, int b) {
-    if (relation == "intersects") return {"T********", "*T*******", "***T*****", "****T****"};
-    if (relation == "touches") return a + b == 0 ? Masks{} : Masks{"FT*******", "F**T*****", "F***T****"};
-    if (relation == "within") return {"T*F**F***"};
-    if (relation == "contains") return {"T*****FF*"};
-    if (relation == "crosses" && a != b) return {a < b ? "T*T******" : "T*****T**"};
-    if (relation == "crosses") return a == 1 ? Masks{"0********"} : Masks{};
-    if (relation == "overlaps" && a == b) return {a == 1 ? "1*T***T**" : "T*T***T**"};
-    if (relation == "overlaps") return {};
-    throw std::runtime_error("no such relation: " + relation);
-}
-
-bool fits(const std::string& mask, const std::string& matrix) {
-    for (std::size_t at = 0; at < 9; ++at) {
-        const bool fit = mask[at] == '*' || (mask[at] == 'T' ? matrix[at] != 'F' : mask[at] == matrix[at]);
-        if (!fit) return false;
-    }
-    return true;
-}
-
-using Table = std::array<std::array<Masks, 3>, 3>;
-
-Table table_of(const std::string& relation) {
-    Table table;
-    for (int a = 0; a < 3; ++a)
-        for (int b = 0; b < 3; ++b) table[a][b] = masks_of(relation, a, b);
-    return table;
-}
-
 struct Stretch {
     const Layer& left;
     const Layer& right;
@@ -112,9 +79,7 @@ void join_one(const Stretch& join, std::size_t at, std::string& text) {
     for (const Item& item : found) {
         const Shape& right = join.right.shapes[item.second];
         const std::string matrix = boost::apply_visitor(MatrixOf(), left, right);
-        const Masks& masks = join.masks[left.which()][right.which()];
-        const auto fit = [&](const std::string& mask) { return fits(mask, matrix); };
-        if (std::any_of(masks.begin(), masks.end(), fit))
+        if (fits_one(join.masks[left.which()][right.which()], matrix))
             push_pair(text, join.left.rows[at], join.right.rows[item.second], matrix.c_str());
     }
 }

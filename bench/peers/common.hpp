@@ -1,6 +1,8 @@
-// What the peers share: layers read from CSV, workers over stretches of the left layer, the report written.
+// What the peers share: layers read from CSV, masks, workers over stretches of the left layer, the report written.
 #pragma once
 
+#include <algorithm>
+#include <array>
 #include <cstdio>
 #include <cstdlib>
 #include <fstream>
@@ -39,11 +41,48 @@ struct Words {
     const char* right;
     std::string relation;
     unsigned workers;
+    bool is_plain;
 };
 
 inline Words words_of(int count, char** words) {
-    if (count != 5) throw std::runtime_error("LEFT RIGHT RELATION WORKERS");
-    return {words[1], words[2], words[3], unsigned(std::atoi(words[4]))};
+    if (count != 5 && count != 6) throw std::runtime_error("LEFT RIGHT RELATION WORKERS [plain]");
+    return {words[1], words[2], words[3], unsigned(std::atoi(words[4])), count == 6};
+}
+
+using Masks = std::vector<std::string>;
+
+// The masks of OGC 06-103r4; the dimensions are those of the two shapes, 0 to 2.
+inline Masks masks_of(const std::string& relation, int a, int b) {
+    if (relation == "intersects") return {"T********", "*T*******", "***T*****", "****T****"};
+    if (relation == "touches") return a + b == 0 ? Masks{} : Masks{"FT*******", "F**T*****", "F***T****"};
+    if (relation == "within") return {"T*F**F***"};
+    if (relation == "contains") return {"T*****FF*"};
+    if (relation == "crosses" && a != b) return {a < b ? "T*T******" : "T*****T**"};
+    if (relation == "crosses") return a == 1 ? Masks{"0********"} : Masks{};
+    if (relation == "overlaps" && a == b) return {a == 1 ? "1*T***T**" : "T*T***T**"};
+    if (relation == "overlaps") return {};
+    throw std::runtime_error("no such relation: " + relation);
+}
+
+inline bool fits(const std::string& mask, const std::string& matrix) {
+    for (std::size_t at = 0; at < 9; ++at) {
+        const bool fit = mask[at] == '*' || (mask[at] == 'T' ? matrix[at] != 'F' : mask[at] == matrix[at]);
+        if (!fit) return false;
+    }
+    return true;
+}
+
+inline bool fits_one(const Masks& masks, const std::string& matrix) {
+    return std::any_of(masks.begin(), masks.end(), [&](const std::string& mask) { return fits(mask, matrix); });
+}
+
+using Table = std::array<std::array<Masks, 3>, 3>;
+
+inline Table table_of(const std::string& relation) {
+    Table table;
+    for (int a = 0; a < 3; ++a)
+        for (int b = 0; b < 3; ++b) table[a][b] = masks_of(relation, a, b);
+    return table;
 }
 
 // Runs `join(first, last, text)` on one stretch of the left layer for each worker, and writes the texts in order.

@@ -1,5 +1,6 @@
 // A join on GEOS by its C interface: an STRtree of the right layer, prepared geometries of the left one, the named
-// predicate, and the matrix of the pairs for which it holds.
+// predicate, and the matrix of the pairs for which it holds; or, as `plain`, the matrix of each pair whose boxes meet,
+// which the masks of the relation are fitted to.
 #include "common.hpp"
 
 #include <algorithm>
@@ -52,18 +53,44 @@ struct Stretch {
     const Layer& right;
     GEOSSTRtree* tree;
     Predicate holds;
+    const Table masks;
+    bool is_plain;
 };
 
-void join_one(GEOSContextHandle_t context, const Stretch& join, std::size_t at, std::string& text) {
+// The features of the right layer whose boxes meet that of a feature of the left one, in order.
+std::vector<std::size_t> found_by(GEOSContextHandle_t context, const Stretch& join, std::size_t at) {
     std::vector<std::size_t> found;
     GEOSSTRtree_query_r(context, join.tree, join.left.shapes[at], note, &found);
     std::sort(found.begin(), found.end());
-    const GEOSPreparedGeometry* prepared = GEOSPrepare_r(context, join.left.shapes[at]);
-    for (const std::size_t other : found) {
-        if (join.holds(context, prepared, join.right.shapes[other]) != 1) continue;
-        char* matrix = GEOSRelate_r(context, join.left.shapes[at], join.right.shapes[other]);
-        push_pair(text, join.left.rows[at], join.right.rows[other], matrix);
-        GEOSFree_r(context, matrix);
+    return found;
+}
+
+std::string matrix_of(GEOSContextHandle_t context, const GEOSGeometry* left, const GEOSGeometry* right) {
+    char* letters = GEOSRelate_r(context, left, right);
+    if (!letters) throw std::runtime_error("not related");
+    const std::string matrix = letters;
+    GEOSFree_r(context, letters);
+    return matrix;
+}
+
+void join_plain(GEOSContextHandle_t context, const Stretch& join, std::size_t at, std::string& text) {
+    const GEOSGeometry* left = join.left.shapes[at];
+    for (const std::size_t other : found_by(context, join, at)) {
+        const GEOSGeometry* right = join.right.shapes[other];
+        const int a = GEOSGeom_getDimensions_r(context, left), b = GEOSGeom_getDimensions_r(context, right);
+        const std::string matrix = matrix_of(context, left, right);
+        if (fits_one(join.masks[a][b], matrix))
+            push_pair(text, join.left.rows[at], join.right.rows[other], matrix.c_str());
+    }
+}
+
+void join_prepared(GEOSContextHandle_t context, const Stretch& join, std::size_t at, std::string& text) {
+    const GEOSGeometry* left = join.left.shapes[at];
+    const GEOSPreparedGeometry* prepared = GEOSPrepare_r(context, left);
+    for (const std::size_t other : found_by(context, join, at)) {
+        const GEOSGeometry* right = join.right.shapes[other];
+        if (join.holds(context, prepared, right) != 1) continue;
+        push_pair(text, join.left.rows[at], join.right.rows[other], matrix_of(context, left, right).c_str());
     }
     GEOSPreparedGeom_destroy_r(context, prepared);
 }
@@ -75,10 +102,12 @@ int main(int count, char** argument) {
     GEOSContextHandle_t context = GEOS_init_r();
     const Layer left = read_layer(context, words.left);
     const Layer right = read_layer(context, words.right);
-    const Stretch join{left, right, tree_of(context, right), predicates.at(words.relation)};
+    const Stretch join{left, right, tree_of(context, right), predicates.at(words.relation), table_of(words.relation),
+                       words.is_plain};
     report(left.shapes.size(), words.workers, [&](std::size_t first, std::size_t last, std::string& text) {
         GEOSContextHandle_t own = GEOS_init_r();
-        for (std::size_t at = first; at < last; ++at) join_one(own, join, at, text);
+        for (std::size_t at = first; at < last; ++at)
+            join.is_plain ? join_plain(own, join, at, text) : join_prepared(own, join, at, text);
         GEOS_finish_r(own);
     });
     std::fflush(stdout);
