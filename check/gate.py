@@ -98,6 +98,7 @@ PARTS = (
     Part("stored-runs", ("check/stored_runs.py",), 15, Lane.LIGHT),
     Part("refusals", ("check/refusals.py",), 45, Lane.LIGHT),
     Part("reference", ("check/reference.sh",), 15, Lane.LIGHT),
+    Part("any-joins", ("check/any_joins.py",), 15, Lane.LIGHT),
     Part("smoke", ("bench/smoke", str(PROGRAM)), 10, Lane.LIGHT),
     Part("gate", ("python3", "check/test_gate.py"), 5, Lane.LIGHT),
     Part("packaging", ("check/packages.py", "--by-ci"), 40, Lane.LIGHT),

@@ -50,7 +50,7 @@ PAPERS = {
     "rjoin": {
         "README.md", "CHANGELOG.md", "docs/ARCHITECTURE.md", "docs/BENCH.md", "docs/DECISIONS.md",
         "docs/DEFINITIONS.md", "docs/FAULTS.md", "docs/GUARANTEES.md", "docs/INSTALL.md", "docs/bench.svg",
-        "docs/town.svg",
+        "docs/village.svg",
     },
     "python3-rjoin": {"docs/PYTHON.md", "docs/CLUSTER.md", "docs/python.svg"},
     "rjoin-integrations": {
@@ -67,11 +67,11 @@ INSTALLED = {
                            "lib/klayout/salt/rjoin/pymacros/join_layers.lym", "lib/klayout/salt/rjoin/grain.xml",
                            "share/man/man1/rjoin-postgis.1.gz", "share/rjoin/recipes/from-ogr"),
 }
-JOIN_OPTIONS = {"--relation", "--edits", "--workers", "--batch", "--cut", "--scale", "--help"}
+FORMAT_OPTIONS = {"--scale", "--geometry", "--rings", "--help"}
+JOIN_OPTIONS = {"--relation", "--edits", "--workers", "--batch", "--cut", *FORMAT_OPTIONS}
 OPTIONS = {
-    "relate": {"--scale", "--geometry", "--rings", "--help"}, "join": JOIN_OPTIONS, "draw": JOIN_OPTIONS,
-    "window": {"--scale", "--help"},
-    "stats": {"--scale", "--help"}, "bounds": {"--scale", "--help"},
+    "relate": FORMAT_OPTIONS, "join": JOIN_OPTIONS, "draw": JOIN_OPTIONS, "window": FORMAT_OPTIONS,
+    "stats": FORMAT_OPTIONS, "bounds": FORMAT_OPTIONS,
 }
 RELATIONS = {"intersects", "touches", "crosses", "within", "contains", "overlaps", "equals"}
 SCALES = {"0", "1", "2", "3", "4", "5", "6"}

@@ -196,6 +196,9 @@ STATUSES = {
     "draw refused": 1,
     "a bad geometry": 1,
     "a bad geometry of any direction": 1,
+    "join of any geometry refused": 1,
+    "draw of any geometry refused": 1,
+    "window by rings that cross": 1,
     "no file": 1,
     "no command": 2,
     "two standard inputs": 2,
@@ -207,6 +210,8 @@ def commands() -> dict[str, list[str]]:
     square = "POLYGON ((0 0, 9 0, 9 9, 0 9, 0 0))"
     join = ["join", "parcels.csv", "roads.csv", "--relation", "touches"]
     any_two = ["relate", "--geometry", "any"]
+    any_join = ["slanted.csv", "lines.csv", "--relation", "intersects", "--geometry", "any"]
+    even_odd = ["bow-ties.csv", "lines.csv", "--relation", "intersects", "--geometry", "any", "--rings", "even-odd"]
     bow_tie = "POLYGON ((0 0, 4 4, 4 0, 0 4, 0 0))"
     return {
         "join": join,
@@ -223,6 +228,18 @@ def commands() -> dict[str, list[str]]:
         "relate at a scale": ["relate", square, "POINT (9 9.25)", "--scale", "2"],
         "relate of any geometry": [*any_two, "LINESTRING (3 4, 6 2)", "LINESTRING (0 6, 6 2, 5 0, 6 5)"],
         "relate by the even-odd rule": [*any_two, "--rings", "even-odd", "POINT (1 2)", bow_tie],
+        "join of any geometry": ["join", *any_join],
+        "join of any geometry with edits": ["join", *any_join, "--edits", "any-edits.csv", "--workers", "3",
+                                            "--batch", "1"],
+        "join of any geometry refused": ["join", *any_join, "--edits", "any-bad.csv"],
+        "join by the even-odd rule": ["join", *even_odd],
+        "draw of any geometry": ["draw", *any_join],
+        "draw of any geometry refused": ["draw", *any_join, "--edits", "any-bad.csv"],
+        "draw by the even-odd rule": ["draw", *even_odd],
+        "window of any geometry": ["window", "slanted.csv", "LINESTRING (1 3, 5 -1)", "--geometry", "any"],
+        "window by rings that cross": ["window", "slanted.csv", bow_tie, "--geometry", "any"],
+        "stats of any geometry": ["stats", "slanted.csv", "--geometry", "any"],
+        "bounds of any geometry": ["bounds", "slanted.csv", "--geometry", "any"],
         "a bad geometry": ["relate", square, "POINT (9 9"],
         "a bad geometry of any direction": [*any_two, square, "POLYGON ((0 0, 9 3, 0 9, 0 1))"],
         "no file": ["stats", "nowhere.csv"],
@@ -232,6 +249,26 @@ def commands() -> dict[str, list[str]]:
     }
 
 
+SLANTED = """id,wkt
+corner,"POLYGON ((0 0, 4 0, 0 4, 0 0))"
+ring,"POLYGON ((0 0, 6 0, 6 6, 0 6, 0 0), (2 2, 4 2, 4 4, 2 4, 2 2))"
+parts,"MULTIPOLYGON (((0 0, 2 0, 0 2, 0 0)), ((4 0, 6 0, 6 2, 4 0)))"
+trees,"MULTIPOINT (1 1, 2 2, 3 3)"
+"""
+LINES = """id,wkt
+fence,"LINESTRING (1 3, 5 -1)"
+loop,"LINESTRING (0 0, 4 0, 2 3, 0 0)"
+fork,"MULTILINESTRING ((0 0, 2 2), (2 2, 4 0), (2 2, 2 5))"
+"""
+BOW_TIES = """id,wkt
+corner,"POLYGON ((0 0, 4 0, 0 4, 0 0))"
+bow tie,"POLYGON ((0 0, 4 4, 4 0, 0 4, 0 0))"
+"""
+ANY_EDITS = """op,layer,id,wkt
+delete,left,corner,
+insert,left,new corner,"POLYGON ((0 0, 5 0, 0 3, 0 0))"
+insert,right,tree,POINT (3 2)
+"""
 EDITS = """op,layer,id,wkt
 insert,left,new field,"POLYGON ((0 0, 2 0, 2 2, 0 2, 0 0))"
 delete,left,mill field,
@@ -398,6 +435,11 @@ def write_files(room: str) -> None:
     os.chdir(room)
     write_file("edits.csv", EDITS)
     write_file("bad.csv", EDITS + "delete,right,nowhere,\n")
+    write_file("slanted.csv", SLANTED)
+    write_file("lines.csv", LINES)
+    write_file("bow-ties.csv", BOW_TIES)
+    write_file("any-edits.csv", ANY_EDITS)
+    write_file("any-bad.csv", ANY_EDITS + "insert,right,fold,\"LINESTRING (1 1, 1 1)\"\n")
     write_file("longest.csv", "", 134_217_728)
     write_file("too-long.csv", "", 134_217_729)
     write_file("huge.csv", "", 1_099_511_627_776)

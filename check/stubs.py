@@ -11,7 +11,7 @@ from edits import Texts, read
 FUNCTION = r"(?m)^(?:%s#\[.*\]\n)*^(%s)(?:pub(?:\(\w+\))? )?fn (\w+)\b(?:.*{}\n|(?:.*\n)+?%s{?}\n)"
 FREE = re.compile(FUNCTION % (("",) * 3))
 METHOD = re.compile(FUNCTION % ((" {4}",) * 3))
-IMPL = re.compile(r"(?m)^impl(?:<.*>)? (\w+)(?:<.*>)? {\n(?:.*\n)+?}\n")
+IMPL = re.compile(r"(?m)^impl(?!.* for )(?:<.*>)? (\w+)(?:<.*>)? {\n(?:.*\n)+?}\n")
 TYPE = re.compile(r"(?m)^(?:pub(?:\(\w+\))? )?(?:struct|enum) (\w+)")
 # A lemma with a proof: the indent, the statement, the name, and then the clauses of its proof with what is below them.
 LEMMA = re.compile(r"(?m)^( *)((?:pub )?(\S+) :(?: .*)?\n(?:\1 .*\n|\1unfolding .*\n)*)"

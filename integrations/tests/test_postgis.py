@@ -104,7 +104,7 @@ def test_joins_of_the_town(server: Dict[str, str], join: Join) -> None:
 
 
 def test_made_layers(server: Dict[str, str], tmp_path: Path) -> None:
-    for kind, made in made_layers.KINDS.items():
+    for kind, made in made_layers.BOX_KINDS.items():
         for side, path in zip("lr", made_layers.write_pair(tmp_path, kind, 4000)):
             psql(server, f"create table {kind}_{side} (id text primary key, geom geometry)",
                  f"\\copy {kind}_{side} from '{path}' csv header",

@@ -23,10 +23,10 @@ use Rattle.agreement_core.proofs.BoxLemmas.{between_lines, from_line_to, is_at-c
 
 -- ---- intervals without length and with one
 
-flat_span : (s : Span) → span_dim s ≡ 0 → s.lo ≡ s.hi
+pub flat_span : (s : Span) → span_dim s ≡ 0 → s.lo ≡ s.hi
 flat_span s h = grind (arith, ints, h, s.ordered)
 
-long_span : (s : Span) → span_dim s ≡ 1 → s.lo <ℤ s.hi
+pub long_span : (s : Span) → span_dim s ≡ 1 → s.lo <ℤ s.hi
 long_span s h = grind (arith, ints, h)
 
 -- ---- points
@@ -85,7 +85,7 @@ turned m n Boundary p q h = ((h.0.1, h.0.0), λ k. h.1 (k.1, k.0))
 turned m n Exterior p q h = λ k. h (k.1, k.0)
 
 -- by how many ends are at the point, and whether it is on the line
-abbrev line_part_of : Bool → Bool → Bool → Part
+abbrev pub line_part_of : Bool → Bool → Bool → Part
 line_part_of a b o = if is_odd (0 + (cond a 1 0 + cond b 1 0)) then Boundary else (if o || false then Interior else Exterior)
 
 end_of_line : (m n : Span) (p q : ℤ) → m.lo <ℤ m.hi → n.lo ≡ n.hi → (p ≡ line m.lo) ⊎ (p ≡ line m.hi) → q ≡ line n.lo → IsProductPart m n Boundary p q
@@ -132,7 +132,7 @@ line_case m n p q h e false false false ha hb ho =
     outside : (a b c p q : ℤ) → (int_eq q c && (int_le a p && int_le p b || int_le b p && int_le p a)) ≡ false → a ≤ℤ p → p ≤ℤ b → ¬ (q ≡ c)
     outside a b c p q o h k e = grind (arith, ints, o, h, k, e)
 
-moved_part : (s : Shape) (u v : ℤ) (i j : Part) → i ≡ j → IsCellOf s j u v → IsCellOf s i u v
+pub moved_part : (s : Shape) (u v : ℤ) (i j : Part) → i ≡ j → IsCellOf s j u v → IsCellOf s i u v
 moved_part s u v i j e h = subst (λ k. IsCellOf s k u v) (sym e) h
 
 product_cell : (s : Shape) (i : Part) (u v : ℤ) → IsProductPart s.x s.y i u v → IsCellOf s i u v
@@ -141,7 +141,7 @@ product_cell s Boundary u v h = h
 product_cell s Exterior u v h = h
 
 -- one of two intervals has a length
-one_long : (s : Shape) → dim_of s ≡ 1 → ((s.x.lo <ℤ s.x.hi) × (s.y.lo ≡ s.y.hi)) ⊎ ((s.y.lo <ℤ s.y.hi) × (s.x.lo ≡ s.x.hi))
+pub one_long : (s : Shape) → dim_of s ≡ 1 → ((s.x.lo <ℤ s.x.hi) × (s.y.lo ≡ s.y.hi)) ⊎ ((s.y.lo <ℤ s.y.hi) × (s.x.lo ≡ s.x.hi))
 one_long s h = choose (by_dim s.x) (by_dim s.y)
   where
     by_dim : (n : Span) → (span_dim n ≡ 0) ⊎ (span_dim n ≡ 1)
@@ -220,13 +220,13 @@ line_has_parts s a b ha hb one =
 -- ---- rectangles
 
 -- by which of the four edges the point is on, and which pass below it
-abbrev ring_part_of : Bool → Bool → Bool → Bool → Bool → Bool → Bool → Bool → Part
+abbrev pub ring_part_of : Bool → Bool → Bool → Bool → Bool → Bool → Bool → Bool → Part
 ring_part_of o1 o2 o3 o4 b1 b2 b3 b4 =
     if o1 || (o2 || (o3 || (o4 || false))) then Boundary
     else (if is_odd (0 + cond b1 1 0 + cond b2 1 0 + cond b3 1 0 + cond b4 1 0) then Interior else Exterior)
 
 -- on the ring from (a, c) to (b, d)
-abbrev on_ring : ℤ → ℤ → ℤ → ℤ → ℤ → ℤ → Bool
+abbrev pub on_ring : ℤ → ℤ → ℤ → ℤ → ℤ → ℤ → Bool
 on_ring a b c d u v =
     (int_eq v c && (int_le a u && int_le u b || int_le b u && int_le u a))
     || ((int_eq u b && (int_le c v && int_le v d || int_le d v && int_le v c))
@@ -321,7 +321,7 @@ ring_outside s u v h k o same =
         → a ≤ℤ u → u ≤ℤ b → c ≤ℤ v → v ≤ℤ d → ⊥
     outside a b c d u v h k o same l m n p = grind (arith, ints, h, k, o, same, l, m, n, p)
 
-ring_case : (s : Shape) (u v : ℤ) → s.x.lo <ℤ s.x.hi → s.y.lo <ℤ s.y.hi → (o b1 b3 : Bool)
+pub ring_case : (s : Shape) (u v : ℤ) → s.x.lo <ℤ s.x.hi → s.y.lo <ℤ s.y.hi → (o b1 b3 : Bool)
     → o ≡ on_ring (line s.x.lo) (line s.x.hi) (line s.y.lo) (line s.y.hi) u v
     → b1 ≡ (from_line_to s.x.lo s.x.hi u && int_lt (line s.y.lo) v) → b3 ≡ (from_line_to s.x.lo s.x.hi u && int_lt (line s.y.hi) v)
     → IsCellOf s (if o then Boundary else (if is_odd (0 + cond b1 1 0 + 0 + cond b3 1 0 + 0) then Interior else Exterior)) u v
@@ -335,7 +335,7 @@ ring_case s u v h k false false true ho hb hc =
     above : (c d v : ℤ) (t : Bool) → c <ℤ d → (t && int_lt c v) ≡ false → (t && int_lt d v) ≡ true → ⊥
     above c d v t h k l = grind (arith, ints, h, k, l)
 
-two_long : (s : Shape) → dim_of s ≡ 2 → (s.x.lo <ℤ s.x.hi) × (s.y.lo <ℤ s.y.hi)
+pub two_long : (s : Shape) → dim_of s ≡ 2 → (s.x.lo <ℤ s.x.hi) × (s.y.lo <ℤ s.y.hi)
 two_long s h = (
   long_span s.x (first (span_dim s.x) (span_dim s.y) (at_most_one s.x) (at_most_one s.y) h),
   long_span s.y (second (span_dim s.x) (span_dim s.y) (at_most_one s.x) (at_most_one s.y) h),

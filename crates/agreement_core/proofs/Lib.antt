@@ -4,4 +4,6 @@ pub mod DirectionLemmas
 pub mod AgreementLemmas
 pub mod AxisLemmas
 pub mod BoxLemmas
+pub mod BoxTestLemmas
+pub mod CornerLemmas
 pub mod FigureLemmas

@@ -2,6 +2,8 @@
 //! grid and as geometries of the plane.
 #![tactic(auto)]
 
+mod boxes;
 mod laws;
 
+pub use boxes::{as_box, relate_boxes};
 pub use laws::agreement_law;

@@ -1,2 +1,4 @@
 pub mod DecisionLemmas
+pub mod JoinLemmas
+pub mod RefinedLayers
 pub mod RelatedLemmas

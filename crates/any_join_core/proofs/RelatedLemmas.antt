@@ -1,5 +1,5 @@
 -- Two geometries have one matrix, so the relation holds for them just where it fits their matrix.
-use Rattle.std.proofs.Common.{◌≡◌, ◌≤◌, arith, subst}
+use Rattle.std.proofs.Common.{◌≤◌, arith, subst}
 use Rattle.relation_core.specs.declared.matrix.Matrix.{Matrix}
 use Rattle.relation_core.specs.declared.relation.Relation.{Relation}
 use Rattle.relation_core.specs.Relations.{FitsOne, masks}

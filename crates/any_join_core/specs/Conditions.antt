@@ -1,7 +1,7 @@
 -- The layers and the relation of a condition on two features.
 use Rattle.layer_core.specs.Layers.{Contents}
 use Rattle.any_relation_core.specs.declared.any_relation.AnyRelation.{AnyRelation}
-use Rattle.any_join_core.specs.declared.geometry.AnyGeometry.{AnyGeometry}
+use Rattle.any_geometry_core.specs.declared.geometry.AnyGeometry.{AnyGeometry}
 use Rattle.any_join_core.specs.declared.features.RelatedFeatures.{RelatedFeatures}
 
 abbrev pub left_of : RelatedFeatures → Contents AnyGeometry

@@ -1,4 +1,3 @@
-pub mod AnyGeometries
 pub mod Conditions
 pub mod Matches
 pub mod StandingNear

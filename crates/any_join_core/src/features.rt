@@ -1,9 +1,7 @@
 //! The relation of two features of two layers, as a condition that a refinement decides.
 
-ghost use Rattle.any_join_core.specs.Matches.{AllowRings};
-
-use crate::geometry::AnyGeometry;
 use crate::matching::related;
+use any_geometry_core::AnyGeometry;
 use any_relation_core::AnyRelation;
 use layer_core::Layer;
 use refine_core::Condition;
@@ -16,8 +14,6 @@ pub struct RelatedFeatures<'a> {
     left: &'a Layer<AnyGeometry>,
     right: &'a Layer<AnyGeometry>,
     relation: &'a AnyRelation,
-    ghost left_rings: { ∥ AllowRings relation.now left.now.list ∥₁ },
-    ghost right_rings: { ∥ AllowRings relation.now right.now.list ∥₁ },
 }
 
 impl<'a> RelatedFeatures<'a> {
@@ -30,8 +26,6 @@ impl<'a> RelatedFeatures<'a> {
         right: &'a Layer<AnyGeometry>,
         relation: &'a AnyRelation,
     ) -> RelatedFeatures<'a>
-        requires left { AllowRings relation.now left.now.list }
-        requires right { AllowRings relation.now right.now.list }
         ensures left { left_of result ≡ left.now.list }
         ensures right { right_of result ≡ right.now.list }
         ensures relation { wanted result ≡ relation.now }
@@ -46,17 +40,18 @@ impl<'a> RelatedFeatures<'a> {
 
 impl<'a> Condition for RelatedFeatures<'a> {
     ghost use Rattle.any_join_core.specs.Conditions.{left_of, right_of, wanted};
-    ghost use Rattle.any_join_core.specs.Matches.{HaveBoth, BoxesMeet, StandIn, HaveMatrix};
+    ghost use Rattle.filter_core.specs.Joins.{StandIn};
+    ghost use Rattle.any_join_core.specs.Matches.{BoxesMeet, AreRelated, HaveMatrix};
     ghost use Rattle.any_join_core.specs.StandingNear.{standing_near};
 
     /// The matrix of the two geometries.
     type Answer = Matrix;
 
-    ghost near = { λ c i j. HaveBoth BoxesMeet (left_of c) (right_of c) i j };
+    ghost near = { λ c i j. StandIn BoxesMeet (left_of c) (right_of c) (i, j) };
 
-    ghost stands = { λ c i j. HaveBoth (StandIn (wanted c)) (left_of c) (right_of c) i j };
+    ghost stands = { λ c i j. StandIn (AreRelated (wanted c)) (left_of c) (right_of c) (i, j) };
 
-    ghost answers = { λ c i j m. HaveBoth (HaveMatrix m) (left_of c) (right_of c) i j };
+    ghost answers = { λ c i j m. StandIn (HaveMatrix m) (left_of c) (right_of c) (i, j) };
 
     fn decide(&self, alloc: Global, left: u32, right: u32) -> Result<Option<Matrix>, AllocError> {
         match (self.left.shape(left), self.right.shape(right)) {
@@ -66,5 +61,5 @@ impl<'a> Condition for RelatedFeatures<'a> {
     }
 
     ghost stands_near = { λ c i j stands. standing_near c.relation.now c.left.now.list
-        c.right.now.list c.left_rings c.right_rings i j stands };
+        c.right.now.list i j stands };
 }

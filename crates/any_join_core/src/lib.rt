@@ -3,9 +3,12 @@
 #![tactic(auto)]
 
 mod features;
-mod geometry;
+mod join;
 mod matching;
+mod outcome;
 
+pub use any_geometry_core::AnyGeometry;
 pub use features::RelatedFeatures;
-pub use geometry::AnyGeometry;
+pub use join::join_any;
 pub use matching::related;
+pub use outcome::AnyOutcome;

@@ -1,1 +1,1 @@
-mod NearLemmas
+mod LayerLemmas

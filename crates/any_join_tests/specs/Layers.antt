@@ -1,9 +1,9 @@
--- Layers whose areas have proper rings.
+-- Layers whose areas have rings by one rule.
 use Rattle.std.specs.Prelude.{◌≡◌, All}
-use Rattle.plane_core.specs.declared.rings.Rings.TheVariants.{Proper}
+use Rattle.plane_core.specs.declared.rings.Rings.{Rings}
 use Rattle.layer_core.specs.Layers.{Contents}
-use Rattle.any_join_core.specs.declared.geometry.AnyGeometry.{AnyGeometry}
-use Rattle.any_join_core.specs.AnyGeometries.{rings_of}
+use Rattle.any_geometry_core.specs.declared.geometry.AnyGeometry.{AnyGeometry}
+use Rattle.any_geometry_core.specs.AnyGeometries.{rings_of}
 
-abbrev pub HaveProperRings : Contents AnyGeometry → Type 0
-HaveProperRings layer = All (λ f. rings_of f.shape ≡ Proper) layer.features
+abbrev pub HaveRings : Rings → Contents AnyGeometry → Type 0
+HaveRings rings layer = All (λ f. rings_of f.shape ≡ rings) layer.features

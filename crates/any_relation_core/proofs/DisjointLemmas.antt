@@ -10,7 +10,7 @@ use Rattle.plane_core.specs.Figures.{Figure, IsGeometry, dim_of, part_of}
 use Rattle.plane_core.specs.PlaneMatrices.{IsInBoth, SharePoint, IsEntry, IsPlaneMatrix, entry}
 use Rattle.plane_core.specs.ProperRings.{IsGeometryOf}
 use Rattle.plane_core.proofs.OnePlaneMatrix.{one_plane_matrix}
-use Rattle.arrangement_core.proofs.OutsideLemmas.{outside_triangle}
+use Rattle.noding_core.proofs.OutsideLemmas.{outside_triangle}
 use Rattle.any_relation_core.specs.declared.class.Class.{Class}
 use Rattle.any_relation_core.specs.declared.class.Class.TheVariants.{Points, OpenLines, ClosedLines, Areas, HollowAreas}
 use Rattle.plane_core.specs.declared.rings.Rings.{Rings}

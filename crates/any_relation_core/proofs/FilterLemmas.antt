@@ -13,8 +13,8 @@ use Rattle.plane_core.specs.Figures.{Figure, IsGeometry}
 use Rattle.plane_core.specs.Vertices.{vertices_of, HoldsVertex}
 use Rattle.plane_core.specs.ProperRings.{IsGeometryOf}
 use Rattle.plane_core.proofs.ScaleLemmas.{less_scaled}
-use Rattle.arrangement_core.proofs.TestLemmas.{by_test}
-use Rattle.arrangement_core.proofs.OrderLemmas.{wide_z}
+use Rattle.noding_core.proofs.TestLemmas.{by_test}
+use Rattle.noding_core.proofs.OrderLemmas.{wide_z}
 use Rattle.arrangement_core.proofs.BeyondLemmas.{holds_all, IsAside, aside_part}
 use Rattle.arrangement_core.proofs.BeyondLemmas.IsAside.{Left as AsideLeft, Right as AsideRight, Low, High}
 use Rattle.any_relation_core.specs.PlaneRelations.{HoldsOf, AreDisjoint, ForbidsDisjoint}
@@ -83,7 +83,7 @@ meet_or_apart s t near =
     let (v, up_s, up_t) = spans_meet s.y t.y (by_test (int_lt (y2 s) (y1 t)) (λ k. absurd (near (Below (more _ _ k)))) (λ k. k)) (by_test (int_lt (y2 t) (y1 s)) (λ k. absurd (near (Above (more _ _ k)))) (λ k. k)) in
     (u, v, (in_s, up_s), (in_t, up_t))
 
-disjoint_apart : (g h : Figure) (s t : Shape) → IsGeometry g → IsGeometry h → All (HoldsVertex s) (vertices_of g) → All (HoldsVertex t) (vertices_of h) → AreApart s t → AreDisjoint g h
+pub disjoint_apart : (g h : Figure) (s t : Shape) → IsGeometry g → IsGeometry h → All (HoldsVertex s) (vertices_of g) → All (HoldsVertex t) (vertices_of h) → AreApart s t → AreDisjoint g h
 disjoint_apart g h s t good_g good_h in_s in_t (Left k) = left_of g h s t good_g good_h in_s in_t k
 disjoint_apart g h s t good_g good_h in_s in_t (Right k) = turned g h (left_of h g t s good_h good_g in_t in_s k)
 disjoint_apart g h s t good_g good_h in_s in_t (Below k) = below_it g h s t good_g good_h in_s in_t k

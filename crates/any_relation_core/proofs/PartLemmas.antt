@@ -15,15 +15,15 @@ use Rattle.plane_core.proofs.FormLemmas.{value, IsLine, Steep, Level, side_form,
 use Rattle.plane_core.proofs.LargeLemmas.{Large, large_weaker, large_both, one_large}
 use Rattle.plane_core.proofs.AvoidLemmas.{inner, triangle_off, between, segment_avoids}
 use Rattle.plane_core.proofs.OffLemmas.{side_off, not_at_column}
-use Rattle.arrangement_core.specs.Nodes.{IsAmong}
-use Rattle.arrangement_core.specs.Marks.{all_edges, all_points}
-use Rattle.arrangement_core.proofs.NodeLemmas.{all_among}
-use Rattle.arrangement_core.proofs.AmongLemmas.{large_all, none_any, among_left, among_either}
-use Rattle.arrangement_core.proofs.TestLemmas.{by_test}
-use Rattle.arrangement_core.proofs.PathLemmas.{ends_none, edge_length}
-use Rattle.arrangement_core.proofs.FlipLemmas.{is_at-itself}
-use Rattle.arrangement_core.proofs.OffPartLemmas.{IsOffAll, off_part, off_part-is}
-use Rattle.arrangement_core.proofs.OpenLemmas.{open_triangle}
+use Rattle.noding_core.specs.Nodes.{IsAmong}
+use Rattle.noding_core.specs.Marks.{all_edges, all_points}
+use Rattle.noding_core.proofs.NodeLemmas.{all_among}
+use Rattle.noding_core.proofs.AmongLemmas.{large_all, none_any, among_left, among_either}
+use Rattle.noding_core.proofs.TestLemmas.{by_test}
+use Rattle.noding_core.proofs.PathLemmas.{ends_none, edge_length}
+use Rattle.noding_core.proofs.FlipLemmas.{is_at-itself}
+use Rattle.noding_core.proofs.OffPartLemmas.{IsOffAll, off_part, off_part-is}
+use Rattle.noding_core.proofs.OpenLemmas.{open_triangle}
 use Rattle.any_relation_core.proofs.ShareLemmas.{share_triangle}
 use Rattle.any_relation_core.proofs.SpanLemmas.{Close, close_weaker, close_both, close_all, close_avoids, close_segment, on_mix}
 

@@ -21,14 +21,14 @@ use Rattle.plane_core.proofs.FormLemmas.{by_zero, by_sign, no_zero_divisor}
 use Rattle.plane_core.proofs.LargeLemmas.{Large, large_weaker, large_both, line_large}
 use Rattle.plane_core.proofs.AvoidLemmas.{between}
 use Rattle.plane_core.proofs.OnePlaneMatrix.{triangle_point}
-use Rattle.arrangement_core.specs.Nodes.{IsAmong}
-use Rattle.arrangement_core.proofs.NodeLemmas.{all_among}
-use Rattle.arrangement_core.proofs.AmongLemmas.{among_left, among_right, among_either, large_all, count_same, count_none}
-use Rattle.arrangement_core.proofs.TestLemmas.{by_test, clash, le_true, le_false, lt_true, lt_false}
-use Rattle.arrangement_core.proofs.FlipLemmas.{flip, is_on-flip, side-flip}
-use Rattle.arrangement_core.proofs.LineLemmas.{on_from_columns}
-use Rattle.arrangement_core.proofs.OpenLemmas.{face_triangle}
-use Rattle.arrangement_core.proofs.TopmostLemmas.{IsTop, topmost, below_agrees}
+use Rattle.noding_core.specs.Nodes.{IsAmong}
+use Rattle.noding_core.proofs.NodeLemmas.{all_among}
+use Rattle.noding_core.proofs.AmongLemmas.{among_left, among_right, among_either, large_all, count_same, count_none}
+use Rattle.noding_core.proofs.TestLemmas.{by_test, clash, le_true, le_false, lt_true, lt_false}
+use Rattle.noding_core.proofs.FlipLemmas.{flip, is_on-flip, side-flip}
+use Rattle.noding_core.proofs.LineLemmas.{on_from_columns}
+use Rattle.noding_core.proofs.OpenLemmas.{face_triangle}
+use Rattle.noding_core.proofs.TopmostLemmas.{IsTop, topmost, below_agrees}
 use Rattle.any_relation_core.proofs.PartLemmas.{IsInPart, HasInterior}
 use Rattle.any_relation_core.proofs.ShareLemmas.{share_point}
 use Rattle.any_relation_core.proofs.SpanLemmas.{on_mix}

@@ -19,9 +19,9 @@ use Rattle.plane_core.specs.PlaneMatrices.{SharePoint}
 use Rattle.plane_core.specs.ProperRings.{IsShared, MeetProperly, AreProper, HasProperRings, is_end}
 use Rattle.plane_core.proofs.Ring.{monomials}
 use Rattle.plane_core.proofs.AvoidLemmas.{same_place_trans}
-use Rattle.arrangement_core.specs.Nodes.{IsAmong}
-use Rattle.arrangement_core.proofs.BoxLemmas.{HoldsVertex, HoldsAll, part_in_box}
-use Rattle.arrangement_core.proofs.FlipLemmas.{is_at-itself, is_below-flip}
+use Rattle.noding_core.specs.Nodes.{IsAmong}
+use Rattle.noding_core.proofs.BoxLemmas.{HoldsVertex, HoldsAll, part_in_box}
+use Rattle.noding_core.proofs.FlipLemmas.{is_at-itself, is_below-flip}
 use Rattle.any_relation_core.specs.declared.class.Class.{Class}
 use Rattle.any_relation_core.specs.declared.class.Class.TheVariants.{Points, OpenLines, ClosedLines, Areas, HollowAreas}
 use Rattle.plane_core.specs.declared.rings.Rings.TheVariants.{Proper}

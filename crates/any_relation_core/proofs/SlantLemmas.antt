@@ -12,11 +12,11 @@ use Rattle.plane_core.specs.Figures.{Figure, HasLength, IsRing, IsGeometry, edge
 use Rattle.plane_core.specs.Figures.Figure.{Points as Dots, Lines as Polylines, Areas as Regions}
 use Rattle.plane_core.specs.ProperRings.{MeetProperly, AreProper, HasProperRings}
 use Rattle.plane_core.proofs.OnePlaneMatrix.{segment_point}
-use Rattle.arrangement_core.specs.Nodes.{IsAmong}
-use Rattle.arrangement_core.proofs.NodeLemmas.{all_among}
-use Rattle.arrangement_core.proofs.AmongLemmas.{among_left}
-use Rattle.arrangement_core.proofs.LineLemmas.{on_vertical_up, on_vertical_down}
-use Rattle.arrangement_core.proofs.MatrixLemmas.{some_or_none}
+use Rattle.noding_core.specs.Nodes.{IsAmong}
+use Rattle.noding_core.proofs.NodeLemmas.{all_among}
+use Rattle.noding_core.proofs.AmongLemmas.{among_left}
+use Rattle.noding_core.proofs.LineLemmas.{on_vertical_up, on_vertical_down}
+use Rattle.noding_core.proofs.MatrixLemmas.{some_or_none}
 use Rattle.any_relation_core.proofs.PartLemmas.{HasInterior, first_point, lines_segment}
 use Rattle.any_relation_core.proofs.ProperLemmas.{pairs_head, pairs_tail, slanted_inside}
 

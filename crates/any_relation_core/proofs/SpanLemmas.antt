@@ -10,9 +10,9 @@ use Rattle.plane_core.proofs.Ring.{monomials}
 use Rattle.plane_core.proofs.Signs.{times_not_negative}
 use Rattle.plane_core.proofs.FormLemmas.{by_zero, no_zero_divisor}
 use Rattle.plane_core.proofs.AvoidLemmas.{same_place_trans}
-use Rattle.arrangement_core.specs.Nodes.{IsAmong}
-use Rattle.arrangement_core.proofs.PieceLemmas.{level_mix}
-use Rattle.arrangement_core.proofs.FlipLemmas.{first_level, last_level}
+use Rattle.noding_core.specs.Nodes.{IsAmong}
+use Rattle.noding_core.proofs.PieceLemmas.{level_mix}
+use Rattle.noding_core.proofs.FlipLemmas.{first_level, last_level}
 
 -- what holds of all points of a segment that are near enough to its second end
 abbrev pub Close : (ℕ → ℕ → Type 0) → Type 0

@@ -18,19 +18,20 @@ use Rattle.plane_core.specs.Vertices as vertices
 use Rattle.plane_core.specs.Vertices.{paths_in, vertices_of}
 use Rattle.plane_core.proofs.OutlineLemmas.{outline_part-is, outline_above-is}
 use Rattle.plane_core.proofs.ScaleLemmas.{less_scaled}
-use Rattle.arrangement_core.specs.Nodes.{IsAmong}
-use Rattle.arrangement_core.specs.Beyond.{is_beyond, IsBounded}
-use Rattle.arrangement_core.specs.Near.{LiesIn}
-use Rattle.arrangement_core.proofs.AmongLemmas.{among_flat}
-use Rattle.arrangement_core.proofs.NodeLemmas.{all_among}
-use Rattle.arrangement_core.proofs.PathLemmas.{edge_length}
-use Rattle.arrangement_core.proofs.FlipLemmas.{flip, is_on-flip, is_below-flip, is_at_or_below-flip, forward_or_flipped}
-use Rattle.arrangement_core.proofs.PassLemmas.{at_or_below_off}
-use Rattle.arrangement_core.proofs.OffPartLemmas.{off_part-same}
-use Rattle.arrangement_core.proofs.BoxLemmas.{HoldsVertex, HoldsAll, left_exterior, right_exterior, low_exterior, high_outside}
-use Rattle.arrangement_core.proofs.OrderLemmas.{wide_z}
-use Rattle.arrangement_core.proofs.TestLemmas.{by_test, clash}
-use Rattle.arrangement_core.proofs.ReadOffLemmas.{among_each}
+use Rattle.noding_core.specs.Nodes.{IsAmong}
+use Rattle.edge_index_core.specs.Beyond.{is_beyond}
+use Rattle.arrangement_core.specs.Beyond.{IsBounded}
+use Rattle.arrangement_core.specs.Lying.{LiesIn}
+use Rattle.noding_core.proofs.AmongLemmas.{among_flat}
+use Rattle.noding_core.proofs.NodeLemmas.{all_among}
+use Rattle.noding_core.proofs.PathLemmas.{edge_length}
+use Rattle.noding_core.proofs.FlipLemmas.{flip, is_on-flip, is_below-flip, is_at_or_below-flip, forward_or_flipped}
+use Rattle.noding_core.proofs.PassLemmas.{at_or_below_off}
+use Rattle.noding_core.proofs.OffPartLemmas.{off_part-same}
+use Rattle.noding_core.proofs.BoxLemmas.{HoldsVertex, HoldsAll, left_exterior, right_exterior, low_exterior, high_outside}
+use Rattle.noding_core.proofs.OrderLemmas.{wide_z}
+use Rattle.noding_core.proofs.TestLemmas.{by_test, clash}
+use Rattle.noding_core.proofs.ReadOffLemmas.{among_each}
 use Rattle.arrangement_core.proofs.ShownLemmas.{any_among}
 
 -- the box of a geometry's vertices holds the ends of its edges and its points
@@ -95,10 +96,10 @@ and_right : (t u : Bool) → (t && u) ≡ true → u ≡ true
 and_right true u h = h
 and_right false u h = cc
 
-less_of : (m n : ℤ) → int_lt m n ≡ true → m <ℤ n
+pub less_of : (m n : ℤ) → int_lt m n ≡ true → m <ℤ n
 less_of m n h = grind (arith, ints)
 
-or_four : {P : Type 0} (t u v w : Bool) → (t || u || v || w) ≡ true → (t ≡ true → P) → (u ≡ true → P) → (v ≡ true → P) → (w ≡ true → P) → P
+pub or_four : {P : Type 0} (t u v w : Bool) → (t || u || v || w) ≡ true → (t ≡ true → P) → (u ≡ true → P) → (v ≡ true → P) → (w ≡ true → P) → P
 or_four true u v w h f g k l = f refl
 or_four false true v w h f g k l = g refl
 or_four false false true w h f g k l = k refl
@@ -110,7 +111,7 @@ columns_of e p h = and_right _ _ (and_left _ _ h)
 pub rows_of : (e : Edge) (p : Point) → is_on e p ≡ true → is_between e.a.y e.b.y p.w p.y ≡ true
 rows_of e p h = and_right _ _ h
 
-aside : (s : Shape) (e : Edge) (p : Point) → 0 < p.w → is_on e p ≡ true → is_beyond s e ≡ true → IsAside s p
+pub aside : (s : Shape) (e : Edge) (p : Point) → 0 < p.w → is_on e p ≡ true → is_beyond s e ≡ true → IsAside s p
 aside s e p wide on h =
     let up = wide_z p.w wide in
     or_four (int_lt e.a.x (x1 s) && int_lt e.b.x (x1 s)) (int_lt (x2 s) e.a.x && int_lt (x2 s) e.b.x) (int_lt e.a.y (y1 s) && int_lt e.b.y (y1 s)) (int_lt (y2 s) e.a.y && int_lt (y2 s) e.b.y) h

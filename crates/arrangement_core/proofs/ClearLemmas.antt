@@ -18,17 +18,18 @@ use Rattle.plane_core.specs.Outlines.{outline_part, kind_of}
 use Rattle.plane_core.proofs.OutlineLemmas.{outline_part-is, outline_above-is}
 use Rattle.plane_core.proofs.ScaleLemmas.{less_scaled}
 use Rattle.arrangement_core.specs.Beyond.{IsBounded}
-use Rattle.arrangement_core.specs.Near.{IsFound, LiesIn, IsSeen, IsSeenAlong}
+use Rattle.noding_core.specs.Near.{IsFound}
+use Rattle.arrangement_core.specs.Lying.{LiesIn, IsSeen, IsSeenAlong}
 use Rattle.arrangement_core.specs.declared.known.Seen.{Seen}
-use Rattle.arrangement_core.specs.Nodes.{IsAmong}
-use Rattle.arrangement_core.proofs.NodeLemmas.{all_among}
-use Rattle.arrangement_core.proofs.PathLemmas.{edge_length}
-use Rattle.arrangement_core.proofs.RingLemmas.{differ, differ_same, differ_pairs, rings_parity}
-use Rattle.arrangement_core.proofs.OffPartLemmas.{IsOffAll, off_part-is, off_part-same, above_part-is, first_on, last_on}
-use Rattle.arrangement_core.proofs.BoxLemmas.{both_left, both_right, not_below_low, below_high}
-use Rattle.arrangement_core.proofs.OrderLemmas.{wide_z}
-use Rattle.arrangement_core.proofs.TestLemmas.{by_test, clash, le_true, le_false, lt_true, lt_false, false_le, and_false}
-use Rattle.arrangement_core.proofs.GatherLemmas.{boxes_meet, at_first}
+use Rattle.noding_core.specs.Nodes.{IsAmong}
+use Rattle.noding_core.proofs.NodeLemmas.{all_among}
+use Rattle.noding_core.proofs.PathLemmas.{edge_length}
+use Rattle.noding_core.proofs.RingLemmas.{differ, differ_same, differ_pairs, rings_parity}
+use Rattle.noding_core.proofs.OffPartLemmas.{IsOffAll, off_part-is, off_part-same, above_part-is, first_on, last_on}
+use Rattle.noding_core.proofs.BoxLemmas.{both_left, both_right, not_below_low, below_high}
+use Rattle.noding_core.proofs.OrderLemmas.{wide_z}
+use Rattle.noding_core.proofs.TestLemmas.{by_test, clash, le_true, le_false, lt_true, lt_false, false_le, and_false}
+use Rattle.noding_core.proofs.GatherLemmas.{boxes_meet, at_first}
 use Rattle.arrangement_core.proofs.BeyondLemmas.{between_less, between_more, columns_of, rows_of, below_same}
 
 -- both of two numbers are less than both of two others

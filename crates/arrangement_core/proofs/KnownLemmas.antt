@@ -21,35 +21,36 @@ use Rattle.plane_core.specs.Figures.Figure.{Points, Lines, Areas}
 use Rattle.plane_core.specs.Outlines.{outline_part, outline_above, part_by, kind_of}
 use Rattle.plane_core.specs.PlaneMatrices.{pick, entry}
 use Rattle.plane_core.proofs.OutlineLemmas.{outline_part-is}
-use Rattle.arrangement_core.specs.Nodes.{IsAmong, IsPointOf, AreNodesOf, IsGapOf, middle}
-use Rattle.arrangement_core.specs.Marks.{rank}
-use Rattle.arrangement_core.specs.Growth.{Mark, mark_at, mark_above, piece_marks, gap_marks, gaps_marks, edge_marks}
-use Rattle.arrangement_core.specs.ReadOffs.{IsEdgeMarked, IsOneOf}
+use Rattle.noding_core.specs.Nodes.{IsAmong, IsPointOf, AreNodesOf, IsGapOf, middle}
+use Rattle.noding_core.specs.Marks.{rank}
+use Rattle.noding_core.specs.Growth.{Mark, mark_at, mark_above, piece_marks, gap_marks, gaps_marks, edge_marks}
+use Rattle.noding_core.specs.ReadOffs.{IsEdgeMarked, IsOneOf}
 use Rattle.arrangement_core.specs.Shown.{is_along, AreCuts}
 use Rattle.arrangement_core.specs.Beyond.{IsBounded, has_no_end, parts_along, IsEdgeShown}
-use Rattle.arrangement_core.specs.Near.{IsFound, LiesIn}
+use Rattle.noding_core.specs.Near.{IsFound}
+use Rattle.arrangement_core.specs.Lying.{LiesIn}
 use Rattle.arrangement_core.specs.Known.{part_along, is_touched, parts_met, parts_passed, IsAllShown}
-use Rattle.arrangement_core.proofs.AmongLemmas.{among_either, count_none}
-use Rattle.arrangement_core.proofs.NodeLemmas.{all_among, gap_first, gap_second, gap_order}
-use Rattle.arrangement_core.proofs.PathLemmas.{IsOffEnds, ends_none}
-use Rattle.arrangement_core.proofs.OffPartLemmas.{off_part-is, first_on, last_on}
-use Rattle.arrangement_core.proofs.ArrangementLemmas.{middle_wide}
-use Rattle.arrangement_core.proofs.TestLemmas.{by_test, clash, not_true}
-use Rattle.arrangement_core.proofs.GatherLemmas.{at_same, on_there}
-use Rattle.arrangement_core.proofs.NearLemmas.{near_of}
-use Rattle.arrangement_core.proofs.ReadOffLemmas.{by_bool, order_before, not_level, among_map}
-use Rattle.arrangement_core.proofs.TurnLemmas.{entry-transposed}
+use Rattle.noding_core.proofs.AmongLemmas.{among_either, count_none}
+use Rattle.noding_core.proofs.NodeLemmas.{all_among, gap_first, gap_second, gap_order}
+use Rattle.noding_core.proofs.PathLemmas.{IsOffEnds, ends_none}
+use Rattle.noding_core.proofs.OffPartLemmas.{off_part-is, first_on, last_on}
+use Rattle.noding_core.proofs.ArrangementLemmas.{middle_wide}
+use Rattle.noding_core.proofs.TestLemmas.{by_test, clash, not_true}
+use Rattle.noding_core.proofs.GatherLemmas.{at_same, on_there}
+use Rattle.noding_core.proofs.NearLemmas.{near_of}
+use Rattle.noding_core.proofs.ReadOffLemmas.{by_bool, order_before, not_level, among_map}
+use Rattle.noding_core.proofs.TurnLemmas.{entry-transposed}
 use Rattle.arrangement_core.proofs.ShownLemmas.{middle_on, in_above, any_among, among_all, cuts_of, gap_middle, off_others, one_of_two, one_of_three}
-use Rattle.arrangement_core.proofs.ExistLemmas.{HasNodeList, nodes_exist}
+use Rattle.noding_core.proofs.ExistLemmas.{HasNodeList, nodes_exist}
 
 -- what is known of the places of an edge, by its nodes
 abbrev IsKnown : Matrix → Mark → Type 0
 IsKnown m k = rank k.extent ≤ rank (entry m k.first k.second)
 
-record AreKnown (m : Matrix) (own other : Outline) (e : Edge) (ns : List Point) : Type 0 where
-  nodes : (p : Point) → IsPointOf e p → 1 ≤ rank (entry m (outline_part own p) (outline_part other p))
-  pieces : (p q : Point) → IsGapOf p q ns → 2 ≤ rank (entry m (outline_part own (middle p q)) (outline_part other (middle p q)))
-  faces : (p q : Point) → IsGapOf p q ns → run e ≢ pos 0 → 3 ≤ rank (entry m (outline_above own (middle p q)) (outline_above other (middle p q)))
+pub record AreKnown (m : Matrix) (own other : Outline) (e : Edge) (ns : List Point) : Type 0 where
+  pub nodes : (p : Point) → IsPointOf e p → 1 ≤ rank (entry m (outline_part own p) (outline_part other p))
+  pub pieces : (p q : Point) → IsGapOf p q ns → 2 ≤ rank (entry m (outline_part own (middle p q)) (outline_part other (middle p q)))
+  pub faces : (p q : Point) → IsGapOf p q ns → run e ≢ pos 0 → 3 ≤ rank (entry m (outline_above own (middle p q)) (outline_above other (middle p q)))
 
 known_as : (m : Matrix) (k l : Mark) → k ≡ l → IsKnown m l → IsKnown m k
 known_as m k l is h = subst (IsKnown m) (sym is) h
@@ -91,7 +92,7 @@ edge_known m own other e ns k h on one = elim (among_either k (map (mark_at own 
   | inr gap ↦ gaps_known m own other e ns ns k h (λ p q here. here) gap
 ]
 
-adds_none : (m : Matrix) (own other : Outline) (es : List Edge) (vs : List Vertex) (e : Edge) (ns : List Point) → AreNodesOf es vs e ns → AreKnown m own other e ns → IsEdgeMarked own other es vs e m m
+pub adds_none : (m : Matrix) (own other : Outline) (es : List Edge) (vs : List Vertex) (e : Edge) (ns : List Point) → AreNodesOf es vs e ns → AreKnown m own other e ns → IsEdgeMarked own other es vs e m m
 adds_none m own other es vs e ns are h = record {
   nodes = ns;
   are_nodes = are;
@@ -109,7 +110,7 @@ weaker : (r : ℕ) → 2 ≤ r → 1 ≤ r
 weaker r h = omega arith
 
 -- points of a gap
-gap_point : (e : Edge) (ns : List Point) (p q : Point) → HasLength e → All (IsPointOf e) ns → IsGapOf p q ns → IsPointOf e (middle p q)
+pub gap_point : (e : Edge) (ns : List Point) (p q : Point) → HasLength e → All (IsPointOf e) ns → IsGapOf p q ns → IsPointOf e (middle p q)
 gap_point e ns p q long on gap =
     let of_p = all_among (IsPointOf e) p ns on (gap_first p q ns gap) in
     let of_q = all_among (IsPointOf e) q ns on (gap_second p q ns gap) in

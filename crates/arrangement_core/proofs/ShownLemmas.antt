@@ -26,22 +26,23 @@ use Rattle.plane_core.specs.PlaneMatrices.{entry, pick}
 use Rattle.plane_core.proofs.FormLemmas.{by_zero}
 use Rattle.plane_core.proofs.ScaleLemmas.{is_below-scaled}
 use Rattle.plane_core.proofs.PartScaleLemmas.{scaled_same, is_on-same_place, is_at-same_place}
-use Rattle.arrangement_core.specs.Nodes.{IsAmong, IsPointOf, AreNodesOf, Meeting, IsGapOf, middle}
-use Rattle.arrangement_core.specs.Marks.{rank}
-use Rattle.arrangement_core.specs.Growth.{Mark, HasGrownBy, mark_at, mark_above, mark_beside, mark_in, piece_marks, transposed}
-use Rattle.arrangement_core.specs.ReadOffs.{outline_edges, AreEdgesOf, IsOneOf}
-use Rattle.arrangement_core.specs.Shown.{AreShown, all_parts, parts_above, rest_by, rest_parts, IsOnEdge, is_along, IsUncrossed, AreCuts, IsRepeated, IsGap, AreFacesShown, IsFaceShown}
-use Rattle.arrangement_core.proofs.OrderLemmas.{up_to_before, before_up_to}
-use Rattle.arrangement_core.proofs.LineLemmas.{IsForward, within_from_on, on_from_within}
-use Rattle.arrangement_core.proofs.FlipLemmas.{flip, is_on-flip, turn_of-turned, forward_or_flipped, is_at-itself, first_level}
-use Rattle.arrangement_core.proofs.TestLemmas.{by_test, clash, first_holds, second_holds, not_true}
-use Rattle.arrangement_core.proofs.AmongLemmas.{among_left, among_right, none_any}
-use Rattle.arrangement_core.proofs.NodeLemmas.{all_among, IsWide, gap_first, gap_second, gap_order, none_in_gap}
-use Rattle.arrangement_core.proofs.PieceLemmas.{level_mix, line_shared}
-use Rattle.arrangement_core.proofs.ArrangementLemmas.{before_middle, middle_before, middle_wide}
-use Rattle.arrangement_core.proofs.GatherLemmas.{boxes_meet}
-use Rattle.arrangement_core.proofs.GrowthLemmas.{grown_none, grown_more, grown-trans, level_not, piece_both}
-use Rattle.arrangement_core.proofs.ReadOffLemmas.{order_before, map_among}
+use Rattle.arrangement_core.specs.declared.course.Course.{Course}
+use Rattle.noding_core.specs.Nodes.{IsAmong, IsPointOf, AreNodesOf, Meeting, IsGapOf, middle}
+use Rattle.noding_core.specs.Marks.{rank}
+use Rattle.noding_core.specs.Growth.{Mark, HasGrownBy, mark_at, mark_above, mark_beside, mark_in, piece_marks, transposed}
+use Rattle.noding_core.specs.ReadOffs.{outline_edges, AreEdgesOf, IsOneOf}
+use Rattle.arrangement_core.specs.Shown.{AreShown, all_parts, parts_above, rest_by, rest_parts, IsOnEdge, IsOnCourse, is_along, IsUncrossed, AreCuts, IsRepeated, IsGap, AreFacesShown, IsFaceShown}
+use Rattle.noding_core.proofs.OrderLemmas.{up_to_before, before_up_to}
+use Rattle.noding_core.proofs.LineLemmas.{IsForward, within_from_on, on_from_within}
+use Rattle.noding_core.proofs.FlipLemmas.{flip, is_on-flip, turn_of-turned, forward_or_flipped, is_at-itself, first_level}
+use Rattle.noding_core.proofs.TestLemmas.{by_test, clash, first_holds, second_holds, not_true}
+use Rattle.noding_core.proofs.AmongLemmas.{among_left, among_right, none_any}
+use Rattle.noding_core.proofs.NodeLemmas.{all_among, IsWide, gap_first, gap_second, gap_order, none_in_gap}
+use Rattle.noding_core.proofs.PieceLemmas.{level_mix, line_shared}
+use Rattle.noding_core.proofs.ArrangementLemmas.{before_middle, middle_before, middle_wide}
+use Rattle.noding_core.proofs.GatherLemmas.{boxes_meet}
+use Rattle.noding_core.proofs.GrowthLemmas.{grown_none, grown_more, grown-trans, level_not, piece_both}
+use Rattle.noding_core.proofs.ReadOffLemmas.{order_before, map_among}
 
 -- the parts of a geometry by its kind
 pub one_of_two : (t : Bool) (b : Bool) → pick (if t then Interior else Exterior) (record { interior = true; boundary = b; exterior = true }) ≡ true
@@ -248,12 +249,13 @@ point_marked own other vs i v p old new is items lt at_i place h =
     node_marked own other (at v) Interior old new (interior_point own v is (subst (IsAmong v) items (index_among vs i v lt at_i)))
     (subst (λ (p : Point). HasGrownBy (mark_in Interior other p ∷ []) old new) place h)
 
-pub nodes_on : (own : Outline) (e : Edge) (ns : List Node) → IsAmong e own.edges.items → All (IsPointOf e) (map node_point ns) → All (λ n. IsOnEdge own (node_point n)) ns
-nodes_on own e [] one h = All-nil (λ n. IsOnEdge own (node_point n))
-nodes_on own e (n ∷ ns) one h =
-    All-cons (λ n. IsOnEdge own (node_point n)) n ns
-    (any_among (λ f. is_on f (node_point n)) own.edges.items e one (All-head (IsPointOf e) (node_point n) (map node_point ns) h).on)
-    (nodes_on own e ns one (All-tail (IsPointOf e) (node_point n) (map node_point ns) h))
+pub nodes_on : (own : Outline) (c : Course) (ns : List Node) → IsAmong c.edge own.edges.items → All (IsPointOf c.edge) (map node_point ns) → All (λ n. IsOnCourse own c (node_point n)) ns
+nodes_on own c [] one h = All-nil (λ n. IsOnCourse own c (node_point n))
+nodes_on own c (n ∷ ns) one h =
+    let here = All-head (IsPointOf c.edge) (node_point n) (map node_point ns) h in
+    All-cons (λ n. IsOnCourse own c (node_point n)) n ns
+    (record { own = any_among (λ f. is_on f (node_point n)) own.edges.items c.edge one here.on; on = here.on })
+    (nodes_on own c ns one (All-tail (IsPointOf c.edge) (node_point n) (map node_point ns) h))
 
 -- the middle of a gap
 forward_on : (f : Edge) (k l : Point) → IsForward f → 0 < k.w → 0 < l.w → is_on f k ≡ true → is_on f l ≡ true → IsBefore k l → is_on f (middle k l) ≡ true
@@ -452,3 +454,12 @@ pub piece_beside : (a b : Outline) (e : Edge) (p : Point) (f s j : Part) (old mi
     → (run e ≡ pos 0 → t ≡ true) → t ≡ false
     → HasGrownBy (record { first = f; second = s; extent = Line } ∷ []) old mid → HasGrownBy (mark_beside a j p ∷ []) mid new → HasGrownBy (piece_marks a b e p) old new
 piece_beside a b e p f s j old mid new t ef es ej vertical slanted h k = piece_both a b e p f s (outline_above a p) j old mid new t ef es refl ej vertical slanted h k
+
+pub row_shown : (m : Matrix) (i : Part) (row : Parts Extent) (ps qs : Parts Bool) (x : Extent) (t : Bool) → row ≡ pick i m.rows → ps ≡ qs → (t ≡ true ↔ AreShown row ps x) → t ≡ true → AreShown (pick i m.rows) qs x
+row_shown m i row ps qs x t is e h holds = subst (λ (r : Parts Extent). AreShown r qs x) is (shown_at row ps qs x t e h holds)
+
+-- a node, by its standing in the other geometry
+pub node_standing : (own other : Outline) (p : Point) (i j : Part) (old new : Matrix) → i ≡ outline_part own p → j ≡ outline_part other p
+    → HasGrownBy (record { first = i; second = j; extent = Dot } ∷ []) old new → HasGrownBy (mark_at own other Dot p ∷ []) old new
+node_standing own other p i j old new ei ej h =
+    node_marked own other p i old new ei (subst (λ (k : Part). HasGrownBy (record { first = i; second = k; extent = Dot } ∷ []) old new) ej h)

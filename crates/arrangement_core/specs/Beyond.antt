@@ -1,41 +1,30 @@
--- Edges beyond the box of the other geometry, and what an edge in one part of it can add to a matrix.
-use Rattle.std.specs.Prelude.{◌≡◌, ◌≢◌, pos, Bool, true, false, ◌&&◌, ◌||◌, not, int_lt, All}
+-- What an edge in one part of the other geometry can add to a matrix.
+use Rattle.std.specs.Prelude.{◌≡◌, ◌≢◌, ◌≤◌, ◌<◌, pos, Bool, true, false, not, All}
 use Rattle.std.specs.List.{list_all}
 use Rattle.geom_core.specs.declared.shape.Shape.{Shape}
-use Rattle.geom_core.specs.Shapes.{x1, y1, x2, y2}
 use Rattle.relation_core.specs.declared.extent.Extent.TheVariants.{Line, Area}
 use Rattle.relation_core.specs.declared.part.Parts.{Parts}
 use Rattle.relation_core.specs.declared.matrix.Matrix.{Matrix}
 use Rattle.plane_core.specs.declared.part.Part.{Part}
+use Rattle.plane_core.specs.declared.part.Part.TheVariants.{Exterior}
 use Rattle.plane_core.specs.declared.edge.Edge.{Edge}
 use Rattle.plane_core.specs.declared.outline.Kind.{Kind}
 use Rattle.plane_core.specs.declared.outline.Kind.TheVariants.{Points as Dots}
 use Rattle.plane_core.specs.declared.outline.Kind.TheVariants.{Lines as Polylines, Areas as Rings}
 use Rattle.plane_core.specs.declared.outline.Outline.{Outline}
-use Rattle.plane_core.specs.Points.{at, run, is_on}
+use Rattle.plane_core.specs.Points.{Point, at, run, is_on}
 use Rattle.plane_core.specs.Figures.{Figure, IsGeometry}
 use Rattle.plane_core.specs.Outlines.{IsOutlineOf}
 use Rattle.plane_core.specs.Vertices.{HoldsVertex, vertices_of}
 use Rattle.plane_core.specs.PlaneMatrices.{pick}
-use Rattle.arrangement_core.specs.Growth.{transposed}
-use Rattle.arrangement_core.specs.Shown.{AreShown, parts_above}
+use Rattle.edge_index_core.specs.Beyond.{is_beyond}
+use Rattle.noding_core.specs.Marks.{rank}
+use Rattle.noding_core.specs.Growth.{transposed}
+use Rattle.arrangement_core.specs.Shown.{AreShown, parts_above, is_odd_end}
 
--- the edge is entirely left of a box, right of it, below it, or above it
-abbrev pub is_left : Shape → Edge → Bool
-is_left s e = int_lt e.a.x (x1 s) && int_lt e.b.x (x1 s)
-
-abbrev pub is_right : Shape → Edge → Bool
-is_right s e = int_lt (x2 s) e.a.x && int_lt (x2 s) e.b.x
-
-abbrev pub is_low : Shape → Edge → Bool
-is_low s e = int_lt e.a.y (y1 s) && int_lt e.b.y (y1 s)
-
-abbrev pub is_high : Shape → Edge → Bool
-is_high s e = int_lt (y2 s) e.a.y && int_lt (y2 s) e.b.y
-
--- the edge is entirely on one side of the box
-abbrev pub is_beyond : Shape → Edge → Bool
-is_beyond s e = is_left s e || is_right s e || is_low s e || is_high s e
+-- the edge isn't entirely on one side of a box
+abbrev pub is_around : Shape → Edge → Bool
+is_around s e = not (is_beyond s e)
 
 -- the outline of a geometry all of whose vertices lie in the box
 pub record IsBounded (o : Outline) (s : Shape) : Type 0 where
@@ -59,3 +48,10 @@ pub record IsEdgeShown (m : Matrix) (own : Outline) (part : Part) (e : Edge) : T
   pub pieces : AreShown (pick part (transposed m).rows) (parts_along own.kind) Line
   pub faces : run e ≢ pos 0 → AreShown (pick part (transposed m).rows) (parts_above own.kind) Area
   pub free : own.kind ≡ Polylines → has_no_end own e ≡ true
+
+-- the matrix has all that edges beyond a box of the other geometry can show
+pub record IsOuterShown (m : Matrix) (own : Outline) (s : Shape) : Type 0 where
+  pub pieces : AreShown (pick Exterior (transposed m).rows) (parts_along own.kind) Line
+  pub faces : AreShown (pick Exterior (transposed m).rows) (parts_above own.kind) Area
+  pub ends : own.kind ≡ Polylines → (e : Edge) (p : Point) → is_beyond s e ≡ true → 0 < p.w → is_on e p ≡ true
+      → is_odd_end own p ≡ true → 1 ≤ rank (pick Exterior (transposed m).rows).boundary

@@ -1,9 +1,6 @@
 pub mod Beyond
-pub mod Gathered
-pub mod Growth
+pub mod Ends
 pub mod Known
-pub mod Marks
-pub mod Near
-pub mod Nodes
-pub mod ReadOffs
+pub mod Lying
+pub mod Prepared
 pub mod Shown

@@ -16,9 +16,9 @@ use Rattle.plane_core.specs.Points.{Point, at, run, is_on, is_at, side, turn_of,
 use Rattle.plane_core.specs.Places.{node_point, place_order}
 use Rattle.plane_core.specs.Figures.{HasLength, is_odd}
 use Rattle.plane_core.specs.PlaneMatrices.{pick, entry}
-use Rattle.arrangement_core.specs.declared.shown.Course.{Course}
-use Rattle.arrangement_core.specs.Nodes.{IsAmong, IsPlaceOf, IsPointOf, Ascend, middle}
-use Rattle.arrangement_core.specs.Marks.{rank}
+use Rattle.arrangement_core.specs.declared.course.Course.{Course}
+use Rattle.noding_core.specs.Nodes.{IsAmong, IsPlaceOf, IsPointOf, Ascend, middle}
+use Rattle.noding_core.specs.Marks.{rank}
 
 -- each entry of a row at these parts is at least an extent
 abbrev pub AreShown : Parts Extent → Parts Bool → Extent → Type 0
@@ -51,6 +51,11 @@ rest_parts o p = rest_by o.kind (is_odd_end o p)
 -- the point is on an edge of the geometry
 abbrev pub IsOnEdge : Outline → Point → Type 0
 IsOnEdge o p = list_any (λ e. is_on e p) o.edges.items ≡ true
+
+-- the point is on the course's edge, which is one of the geometry
+pub record IsOnCourse (o : Outline) (c : Course) (p : Point) : Type 0 where
+  pub own : IsOnEdge o p
+  pub on : is_on c.edge p ≡ true
 
 -- edges on the same line whose boxes meet
 abbrev pub is_along : Edge → Edge → Bool

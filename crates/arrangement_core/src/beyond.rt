@@ -1,57 +1,20 @@
-//! Edges beyond the box of the other geometry, and whether a matrix has all that an edge in one part
-//! of it can add.
+//! Whether a matrix has all that an edge in one part of the other geometry can add.
 
-ghost use Rattle.std.specs.Prelude.{◌≡◌, ◌≢◌, pos, IsTrue};
+ghost use Rattle.std.specs.Prelude.{◌≡◌, ◌≢◌, ◌≤◌, ◌⊎◌, pos, IsTrue};
 ghost use Rattle.relation_core.specs.declared.extent.Extent.TheVariants.{Area};
 ghost use Rattle.plane_core.specs.Points.{run};
 ghost use Rattle.arrangement_core.specs.Shown.{AreShown, parts_above};
-ghost use Rattle.arrangement_core.specs.Beyond.{is_left, is_right, is_low, is_high, is_beyond};
 ghost use Rattle.arrangement_core.specs.Beyond.{has_no_end, parts_along, IsEdgeShown};
+ghost use Rattle.arrangement_core.specs.Beyond.{IsOuterShown};
+ghost use Rattle.arrangement_core.specs.Ends.{HasNoOuterEnd};
+ghost use Rattle.noding_core.specs.Marks.{rank};
 
-use crate::entries::column_of;
+use crate::ends::has_no_outer_end;
 use crate::shown::{are_shown, parts_above};
 use geom_core::Shape;
+use noding_core::column_of;
 use plane_core::{Edge, Kind, Outline, Part};
 use relation_core::{Extent, Matrix, Parts};
-
-fn is_left(e: &Edge, bounds: &Shape) -> bool
-    ensures { result ≡ is_left bounds.now e.now }
-{
-    let limit = bounds.x1();
-    e.a.x < limit && e.b.x < limit
-}
-
-fn is_right(e: &Edge, bounds: &Shape) -> bool
-    ensures { result ≡ is_right bounds.now e.now }
-{
-    let limit = bounds.x2();
-    limit < e.a.x && limit < e.b.x
-}
-
-fn is_low(e: &Edge, bounds: &Shape) -> bool
-    ensures { result ≡ is_low bounds.now e.now }
-{
-    let limit = bounds.y1();
-    e.a.y < limit && e.b.y < limit
-}
-
-fn is_high(e: &Edge, bounds: &Shape) -> bool
-    ensures { result ≡ is_high bounds.now e.now }
-{
-    let limit = bounds.y2();
-    limit < e.a.y && limit < e.b.y
-}
-
-/// Whether an edge lies entirely on one side of a box.
-pub(crate) fn is_beyond(e: &Edge, bounds: &Shape) -> bool
-    ensures { result ≡ is_beyond bounds.now e.now }
-{
-    let left = is_left(e, bounds);
-    let right = is_right(e, bounds);
-    let low = is_low(e, bounds);
-    let high = is_high(e, bounds);
-    left | right | low | high
-}
 
 /// The part in which the points of an edge lie, except where polylines end.
 fn parts_along(kind: Kind) -> Parts<bool>
@@ -107,4 +70,36 @@ pub(crate) fn is_edge_shown(matrix: &Matrix, own: &Outline, part: Part, e: &Edge
     } else {
         false
     }
+}
+
+/// Whether a matrix has the boundary of a geometry at edges beyond a box, if polylines end there.
+fn are_ends_shown(column: &Parts<Extent>, own: &Outline, bounds: &Shape) -> bool
+    ensures { IsTrue result → own.now.kind ≡ Kind.Lines → (1 ≤ rank column.now.boundary)
+        ⊎ HasNoOuterEnd bounds.now own.now.ends.items }
+{
+    match own.kind {
+        Kind::Lines => {
+            if column.boundary == Extent::Empty {
+                has_no_outer_end(&own.ends, bounds)
+            } else {
+                true
+            }
+        }
+        Kind::Points => true,
+        Kind::Areas => true,
+    }
+}
+
+/// Whether a matrix has all that edges beyond a box of the other geometry can show.
+pub(crate) fn is_outer_shown(matrix: &Matrix, own: &Outline, bounds: &Shape) -> bool
+    ensures { IsTrue result → IsOuterShown matrix.now own.now bounds.now }
+{
+    let column = column_of(matrix, Part::Exterior);
+    if !are_shown(&column, &parts_along(own.kind), Extent::Line) {
+        return false;
+    }
+    if !are_shown(&column, &parts_above(own.kind), Extent::Area) {
+        return false;
+    }
+    are_ends_shown(&column, own, bounds)
 }

@@ -3,21 +3,25 @@
 
 ghost use Rattle.std.specs.Prelude.{◌≡◌, ◌≢◌, [], All, List, IsTrue, IfSome};
 ghost use Rattle.std.specs.List.{list_any};
+ghost use Rattle.plane_core.specs.declared.edge.Edge.{Edge};
+ghost use Rattle.plane_core.specs.declared.outline.Outline.{Outline};
 ghost use Rattle.plane_core.specs.declared.vertex.Vertex.{Vertex};
 ghost use Rattle.plane_core.specs.Points.{at, is_on};
 ghost use Rattle.plane_core.specs.Outlines.{outline_part};
 ghost use Rattle.arrangement_core.specs.Beyond.{IsBounded};
 ghost use Rattle.arrangement_core.specs.Known.{part_along, parts_met, parts_passed, is_touched};
 ghost use Rattle.arrangement_core.specs.Known.{IsAllShown};
-ghost use Rattle.arrangement_core.specs.Near.{IsFound, IsSeen, IsSeenAlong};
-ghost use Rattle.arrangement_core.specs.ReadOffs.{outline_edges, IsOneOf, IsEdgeMarked};
+ghost use Rattle.noding_core.specs.Near.{IsFound};
+ghost use Rattle.arrangement_core.specs.Lying.{IsSeen, IsSeenAlong, IsKnownIn, LiesIn};
+ghost use Rattle.noding_core.specs.ReadOffs.{outline_edges, IsOneOf, IsEdgeMarked};
 ghost use Rattle.arrangement_core.specs.Shown.{IsKnownApart};
 
 use crate::beyond::{is_edge_shown, is_free};
-use crate::entries::row_of;
+use crate::course::Course;
 use crate::pair::Pair;
-use crate::shown::{Course, are_shown, is_face_shown};
+use crate::shown::{are_shown, is_face_shown};
 use edge_index_core::IndexedOutline;
+use noding_core::row_of;
 use plane_core::{Edge, Kind, Outline, Part, Place, Vertex};
 use relation_core::{Extent, Matrix, Parts};
 
@@ -52,10 +56,10 @@ fn is_clear(kind: Kind, near: &[Edge]) -> bool
 /// The last end of an edge, and the part of the second geometry in which the edge lies: one that
 /// has none of its edges near it lies in one part.
 pub(crate) fn seen_along(pair: &Pair, e: &Edge, near: &[Edge], seen: Option<Seen>) -> Option<Seen>
-    requires bounded { IsBounded pair.now.second pair.now.second_box }
-    requires found { All (IsFound e.now near.now) pair.now.second.edges.items }
-    requires seen { IfSome seen (IsSeen pair.now.second) }
-    ensures { IfSome result (IsSeenAlong pair.now.second e.now) }
+    requires bounded { IsBounded pair.now.second.now pair.now.second_box }
+    requires found { All (IsFound e.now near.now) pair.now.second.now.edges.items }
+    requires seen { IfSome seen (IsSeen pair.now.second.now) }
+    ensures { IfSome result (IsSeenAlong pair.now.second.now e.now) }
 {
     let outline = pair.second.outline();
     if is_clear(outline.kind, near) {
@@ -129,28 +133,32 @@ fn is_all_shown(matrix: &Matrix, own: &Outline, other: &Outline, e: &Edge, near:
     are_shown(&row, &parts_met(other.kind, e, near), Extent::Point)
 }
 
+/// The part that is seen, if one is.
+pub(crate) fn part_seen(seen: Option<Seen>) -> Option<Part>
+    ensures { (o : Outline) (e : Edge) → IfSome seen (IsSeenAlong o e) → IfSome result (LiesIn o e) }
+{
+    match seen {
+        Some(known) => Some(known.part),
+        None => None,
+    }
+}
+
 /// Whether an edge of the first geometry can add nothing to a matrix, by the part of the second in
 /// which it lies, where this is known, and by the edges of the second near it.
-pub(crate) fn adds_none_near(
-    matrix: &Matrix,
-    pair: &Pair,
-    course: &Course,
-    near: &[Edge],
-    seen: Option<Seen>,
-) -> bool
-    requires bounded { IsBounded pair.now.second pair.now.second_box }
-    requires one { let a = pair.now.first in let b = pair.now.second in
+pub(crate) fn adds_none_near(matrix: &Matrix, pair: &Pair, course: &Course, near: &[Edge]) -> bool
+    requires bounded { IsBounded pair.now.second.now pair.now.second_box }
+    requires one { let a = pair.now.first.now in let b = pair.now.second.now in
         IsOneOf a b (outline_edges a b) course.now.edge }
-    requires found { All (IsFound course.now.edge near.now) pair.now.second.edges.items }
-    requires apart { IsKnownApart pair.now.second course.now }
-    requires seen { IfSome seen (IsSeenAlong pair.now.second course.now.edge) }
-    ensures { let a = pair.now.first in let b = pair.now.second in
+    requires found { All (IsFound course.now.edge near.now) pair.now.second.now.edges.items }
+    requires apart { IsKnownApart pair.now.second.now course.now }
+    requires known { IsKnownIn pair.now.second.now course.now }
+    ensures { let a = pair.now.first.now in let b = pair.now.second.now in
         (points : List Vertex) → IsTrue result
         → IsEdgeMarked a b (outline_edges a b) points course.now.edge matrix.now matrix.now }
 {
     let own = pair.first.outline();
-    match seen {
-        Some(known) => is_edge_shown(matrix, own, known.part, &course.edge),
+    match course.part {
+        Some(part) => is_edge_shown(matrix, own, part, &course.edge),
         None => {
             if course.is_apart {
                 is_all_shown(matrix, own, pair.second.outline(), &course.edge, near)

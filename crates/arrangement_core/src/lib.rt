@@ -1,16 +1,17 @@
-//! The arrangement of the edges of two geometries: its nodes, the pieces of edges between them, and
-//! the matrix of the two geometries, which is read off these.
+//! The matrix of two geometries, read off the arrangement of their edges by as few of these as are
+//! enough.
 #![tactic(auto)]
 
 mod beyond;
-mod entries;
+mod course;
+mod ends;
 mod known;
 mod marks;
 mod matrices;
-mod near;
-mod nodes;
 mod pair;
+mod prepared;
+mod rounds;
 mod shown;
 mod work;
 
-pub use matrices::relate;
+pub use prepared::{PreparedGeometry, relate, relate_prepared};

@@ -1,34 +1,47 @@
 //! Adding nodes, pieces of edges and the faces above these to a matrix.
 //!
-//! The edges are those of one of the two geometries, `own`, and the rows of matrices are its parts.
-//! A point is located in the other geometry only if this can still change the matrix.
+//! The edges are those of the first of two geometries, and the rows of matrices are its parts. A
+//! point is located in the other geometry only if this can still change the matrix.
 
 ghost use Rattle.std.specs.Prelude.{◌≡◌, ◌<◌, [], ◌∷◌, map, length, true, All, IsTrue};
 ghost use Rattle.std.specs.List.{slice_index_or};
 ghost use Rattle.relation_core.specs.declared.extent.Extent.TheVariants.{Point as Dot};
 ghost use Rattle.plane_core.specs.Points.{at};
 ghost use Rattle.plane_core.specs.Places.{point_of, node_point};
-ghost use Rattle.arrangement_core.specs.Nodes.{NodedEdge};
-ghost use Rattle.arrangement_core.specs.Growth.{HasGrownBy, mark_at, mark_in, mark_beside};
-ghost use Rattle.arrangement_core.specs.Growth.{piece_marks, gap_marks, gaps_marks, edge_marks};
-ghost use Rattle.arrangement_core.specs.ReadOffs.{points_by};
-ghost use Rattle.arrangement_core.specs.Shown.{IsOnEdge, IsUncrossed, IsKnownApart};
-ghost use Rattle.arrangement_core.specs.Shown.{AreCuts, IsRepeated, IsGap};
+ghost use Rattle.plane_core.specs.PlaneMatrices.{pick};
+ghost use Rattle.arrangement_core.specs.Lying.{IsKnownIn};
+ghost use Rattle.noding_core.specs.Nodes.{NodedEdge};
+ghost use Rattle.noding_core.specs.Growth.{HasGrownBy, mark_at, mark_in, mark_beside};
+ghost use Rattle.noding_core.specs.Growth.{piece_marks, gap_marks, gaps_marks, edge_marks};
+ghost use Rattle.noding_core.specs.ReadOffs.{points_by};
+ghost use Rattle.arrangement_core.specs.Shown.{all_parts, AreShown, IsOnEdge, IsOnCourse};
+ghost use Rattle.arrangement_core.specs.Shown.{IsUncrossed, IsKnownApart, AreCuts, IsRepeated, IsGap};
 
-use crate::entries::{column_of, raised, row_of};
-use crate::shown::{Course, all_parts, are_shown, is_piece_shown, part_on_edge, parts_above};
+use crate::course::{Course, standing_of};
+use crate::pair::Pair;
+use crate::shown::{all_parts, are_shown, is_piece_shown, part_on_edge, parts_above};
 use edge_index_core::IndexedOutline;
-use plane_core::{Edge, Kind, Node, Part, Place};
+use noding_core::{column_of, raised, row_of};
+use plane_core::{Kind, Node, Part, Place};
 use relation_core::{Extent, Matrix};
+
+/// Whether a matrix includes a point of which one part is known, wherever it lies in the other
+/// geometry.
+fn is_point_shown(matrix: &Matrix, part: Part, other: &IndexedOutline) -> bool
+    ensures { let parts = all_parts other.now.kind in
+        IsTrue result → AreShown (pick part matrix.now.rows) parts Dot }
+{
+    let row = row_of(matrix, part);
+    let kind = other.outline().kind;
+    are_shown(&row, &all_parts(kind), Extent::Point)
+}
 
 /// The matrix with a point of which one part is known. The other part is located only if the matrix
 /// may not include the point yet.
 fn mark_place(matrix: Matrix, part: Part, other: &IndexedOutline, p: &Place) -> Matrix
     ensures { HasGrownBy (mark_in part other.now (point_of p.now) ∷ []) matrix result }
 {
-    let row = row_of(&matrix, part);
-    let kind = other.outline().kind;
-    if are_shown(&row, &all_parts(kind), Extent::Point) {
+    if is_point_shown(&matrix, part, other) {
         matrix
     } else {
         let standing = other.standing_at(p);
@@ -37,12 +50,19 @@ fn mark_place(matrix: Matrix, part: Part, other: &IndexedOutline, p: &Place) -> 
 }
 
 /// The matrix with a point of an edge.
-fn mark_node(matrix: Matrix, own: &IndexedOutline, other: &IndexedOutline, p: &Place) -> Matrix
-    requires { IsOnEdge own.now (point_of p.now) }
-    ensures { HasGrownBy (mark_at own.now other.now Dot (point_of p.now) ∷ []) matrix result }
+fn mark_node(matrix: Matrix, pair: &Pair, course: &Course, p: &Place) -> Matrix
+    requires known { IsKnownIn pair.now.second.now course.now }
+    requires on { IsOnCourse pair.now.first.now course.now (point_of p.now) }
+    ensures { let a = pair.now.first.now in let b = pair.now.second.now in
+        HasGrownBy (mark_at a b Dot (point_of p.now) ∷ []) matrix result }
 {
-    let part = part_on_edge(own.outline(), p);
-    mark_place(matrix, part, other, p)
+    let part = part_on_edge(pair.first.outline(), p);
+    if is_point_shown(&matrix, part, pair.second) {
+        matrix
+    } else {
+        let standing = standing_of(pair.second, course, p);
+        raised(matrix, part, standing.part, Extent::Point)
+    }
 }
 
 /// The matrix with the face above a point, of which the part in the other geometry is known.
@@ -60,65 +80,57 @@ fn mark_above(matrix: Matrix, own: &IndexedOutline, above: Part, p: &Place) -> M
 }
 
 /// The matrix with the piece of an edge on which a point lies, and the face above it.
-fn place_piece(
-    matrix: Matrix,
-    own: &IndexedOutline,
-    other: &IndexedOutline,
-    e: &Edge,
-    p: &Place,
-) -> Matrix
-    requires { IsOnEdge own.now (point_of p.now) }
-    ensures { HasGrownBy (piece_marks own.now other.now e.now (point_of p.now)) matrix result }
+fn place_piece(matrix: Matrix, pair: &Pair, course: &Course, p: &Place) -> Matrix
+    requires known { IsKnownIn pair.now.second.now course.now }
+    requires on { IsOnCourse pair.now.first.now course.now (point_of p.now) }
+    ensures { let a = pair.now.first.now in let b = pair.now.second.now in
+        HasGrownBy (piece_marks a b course.now.edge (point_of p.now)) matrix result }
 {
-    let part = part_on_edge(own.outline(), p);
-    let standing = other.standing_at(p);
+    let part = part_on_edge(pair.first.outline(), p);
+    let standing = standing_of(pair.second, course, p);
     let on = raised(matrix, part, standing.part, Extent::Line);
-    if e.is_vertical() {
+    if course.edge.is_vertical() {
         on
     } else {
-        mark_above(on, own, standing.above, p)
+        mark_above(on, pair.first, standing.above, p)
     }
 }
 
 /// The matrix with the piece of an edge on which a point lies, and the face above it. It is
 /// unchanged if it includes all that these can be.
-fn mark_piece(
-    matrix: Matrix,
-    own: &IndexedOutline,
-    other: &IndexedOutline,
-    course: &Course,
-    p: &Place,
-) -> Matrix
-    requires on { IsOnEdge own.now (point_of p.now) }
-    requires uncrossed { IsUncrossed other.now course.now.edge (point_of p.now) }
-    requires apart { IsKnownApart other.now course.now }
-    ensures { let marks = piece_marks own.now other.now course.now.edge (point_of p.now) in
-        HasGrownBy marks matrix result }
+fn mark_piece(matrix: Matrix, pair: &Pair, course: &Course, p: &Place) -> Matrix
+    requires on { IsOnEdge pair.now.first.now (point_of p.now) }
+    requires uncrossed { IsUncrossed pair.now.second.now course.now.edge (point_of p.now) }
+    requires apart { IsKnownApart pair.now.second.now course.now }
+    requires known { IsKnownIn pair.now.second.now course.now }
+    ensures { let a = pair.now.first.now in let b = pair.now.second.now in
+        HasGrownBy (piece_marks a b course.now.edge (point_of p.now)) matrix result }
 {
-    if is_piece_shown(&matrix, own.outline(), other.outline(), course, p) {
+    if is_piece_shown(
+        &matrix,
+        pair.first.outline(),
+        pair.second.outline(),
+        course,
+        p,
+    ) {
         matrix
     } else {
-        place_piece(matrix, own, other, &course.edge, p)
+        place_piece(matrix, pair, course, p)
     }
 }
 
 /// The matrix with the piece of an edge between two of its points, if these differ.
-fn mark_gap(
-    matrix: Matrix,
-    own: &IndexedOutline,
-    other: &IndexedOutline,
-    course: &Course,
-    k: &Node,
-    l: &Node,
-) -> Matrix
-    requires gap { IsGap own.now other.now course.now.edge (node_point k.now) (node_point l.now) }
-    requires apart { IsKnownApart other.now course.now }
-    ensures { let edge = course.now.edge in
-        let marks = gap_marks own.now other.now edge (node_point k.now) (node_point l.now) in
+fn mark_gap(matrix: Matrix, pair: &Pair, course: &Course, k: &Node, l: &Node) -> Matrix
+    requires gap { let a = pair.now.first.now in let b = pair.now.second.now in
+        IsGap a b course.now.edge (node_point k.now) (node_point l.now) }
+    requires apart { IsKnownApart pair.now.second.now course.now }
+    requires known { IsKnownIn pair.now.second.now course.now }
+    ensures { let a = pair.now.first.now in let b = pair.now.second.now in
+        let marks = gap_marks a b course.now.edge (node_point k.now) (node_point l.now) in
         HasGrownBy marks matrix result }
 {
     if k.compare(l).is_lt() {
-        mark_piece(matrix, own, other, course, &k.middle(l))
+        mark_piece(matrix, pair, course, &k.middle(l))
     } else {
         matrix
     }
@@ -146,44 +158,37 @@ fn is_repeated(nodes: &[Node], i: usize) -> bool
 }
 
 /// The matrix with the nodes of an edge.
-fn mark_nodes(
-    matrix: Matrix,
-    own: &IndexedOutline,
-    other: &IndexedOutline,
-    nodes: &[Node],
-) -> Matrix
-    requires { All (λ n. IsOnEdge own.now (node_point n)) nodes.now }
-    ensures { let marks = map (λ n. mark_at own.now other.now Dot (node_point n)) nodes.now in
-        HasGrownBy marks matrix result }
+fn mark_nodes(matrix: Matrix, pair: &Pair, course: &Course, nodes: &[Node]) -> Matrix
+    requires known { IsKnownIn pair.now.second.now course.now }
+    requires on { let a = pair.now.first.now in
+        All (λ n. IsOnCourse a course.now (node_point n)) nodes.now }
+    ensures { let a = pair.now.first.now in let b = pair.now.second.now in
+        HasGrownBy (map (λ n. mark_at a b Dot (node_point n)) nodes.now) matrix result }
 {
     let mut grown = matrix;
     for i in 0..nodes.len() {
         if !is_repeated(nodes, i) {
             let node = node_at(nodes, i);
-            grown = mark_node(grown, own, other, &node.place);
+            grown = mark_node(grown, pair, course, &node.place);
         }
     }
     grown
 }
 
 /// The matrix with the pieces of an edge between its nodes, and the faces above these.
-fn mark_gaps(
-    matrix: Matrix,
-    own: &IndexedOutline,
-    other: &IndexedOutline,
-    course: &Course,
-    nodes: &[Node],
-) -> Matrix
-    requires cuts { AreCuts own.now other.now course.now.edge (map node_point nodes.now) }
-    requires apart { IsKnownApart other.now course.now }
-    ensures { let marks = gaps_marks own.now other.now course.now.edge (map node_point nodes.now) in
-        HasGrownBy marks matrix result }
+fn mark_gaps(matrix: Matrix, pair: &Pair, course: &Course, nodes: &[Node]) -> Matrix
+    requires cuts { let a = pair.now.first.now in let b = pair.now.second.now in
+        AreCuts a b course.now.edge (map node_point nodes.now) }
+    requires apart { IsKnownApart pair.now.second.now course.now }
+    requires known { IsKnownIn pair.now.second.now course.now }
+    ensures { let a = pair.now.first.now in let b = pair.now.second.now in
+        HasGrownBy (gaps_marks a b course.now.edge (map node_point nodes.now)) matrix result }
 {
     let mut grown = matrix;
     for i in 1..nodes.len() {
         let k = node_at(nodes, i - 1);
         let l = node_at(nodes, i);
-        grown = mark_gap(grown, own, other, course, &k, &l);
+        grown = mark_gap(grown, pair, course, &k, &l);
     }
     grown
 }
@@ -216,21 +221,16 @@ pub(crate) fn mark_points(matrix: Matrix, own: &IndexedOutline, other: &IndexedO
 
 /// The matrix with an edge of the first geometry, given its nodes: these, its pieces, and the faces
 /// above these.
-pub(crate) fn mark_noded(
-    matrix: Matrix,
-    own: &IndexedOutline,
-    other: &IndexedOutline,
-    course: &Course,
-    nodes: &[Node],
-) -> Matrix
-    requires cuts { AreCuts own.now other.now course.now.edge (map node_point nodes.now) }
-    requires apart { IsKnownApart other.now course.now }
-    ensures { let noded : NodedEdge = record {
-      edge = course.now.edge;
-      nodes = map node_point nodes.now;
-    } in
-        HasGrownBy (edge_marks own.now other.now noded) matrix result }
+pub(crate) fn mark_noded(matrix: Matrix, pair: &Pair, course: &Course, nodes: &[Node]) -> Matrix
+    requires cuts { let a = pair.now.first.now in let b = pair.now.second.now in
+        AreCuts a b course.now.edge (map node_point nodes.now) }
+    requires apart { IsKnownApart pair.now.second.now course.now }
+    requires known { IsKnownIn pair.now.second.now course.now }
+    ensures { let a = pair.now.first.now in let b = pair.now.second.now in
+        let ns = map node_point nodes.now in
+        let noded : NodedEdge = record { edge = course.now.edge; nodes = ns } in
+        HasGrownBy (edge_marks a b noded) matrix result }
 {
-    let with_nodes = mark_nodes(matrix, own, other, nodes);
-    mark_gaps(with_nodes, own, other, course, nodes)
+    let with_nodes = mark_nodes(matrix, pair, course, nodes);
+    mark_gaps(with_nodes, pair, course, nodes)
 }

@@ -9,14 +9,15 @@ ghost use Rattle.plane_core.specs.Places.{point_of};
 ghost use Rattle.plane_core.specs.Figures.{is_odd};
 ghost use Rattle.plane_core.specs.Outlines.{outline_part};
 ghost use Rattle.plane_core.specs.PlaneMatrices.{pick, entry};
-ghost use Rattle.arrangement_core.specs.Marks.{rank};
+ghost use Rattle.noding_core.specs.Marks.{rank};
 ghost use Rattle.arrangement_core.specs.Shown.{AreShown, all_parts, parts_above, rest_parts};
-ghost use Rattle.arrangement_core.specs.Shown.{is_along, IsOnEdge, IsUncrossed, IsKnownApart};
+ghost use Rattle.arrangement_core.specs.Shown.{IsOnEdge, IsUncrossed, IsKnownApart};
 ghost use Rattle.arrangement_core.specs.Shown.{AreFacesShown, IsFaceShown};
-ghost use Rattle.arrangement_core.specs.Growth.{HasGrownBy, piece_marks};
-ghost use Rattle.arrangement_core.specs.Near.{IsFound};
+ghost use Rattle.noding_core.specs.Growth.{HasGrownBy, piece_marks};
+ghost use Rattle.noding_core.specs.Near.{IsFound};
 
-use crate::entries::{rank, row_of};
+use crate::course::Course;
+use noding_core::{rank, row_of};
 use plane_core::{Edge, Kind, Outline, Part, Place, Vertex};
 use relation_core::{Extent, Matrix, Parts};
 
@@ -91,56 +92,6 @@ fn rest_parts(other: &Outline, p: &Place) -> Parts<bool>
             exterior: true,
         },
     }
-}
-
-fn is_parallel(e: &Edge, f: &Edge) -> bool
-    ensures { result ≡ int_eq (turn_of e.now f.now) (pos 0) }
-{
-    e.turn_to(f) == 0
-}
-
-/// Whether a vertex lies on an edge's line.
-fn is_level(e: &Edge, v: &Vertex) -> bool
-    ensures { result ≡ int_eq (side e.now (at v.now)) (pos 0) }
-{
-    e.side_of(v) == 0
-}
-
-/// Whether two edges are on the same line and their boxes meet.
-fn is_along(e: &Edge, f: &Edge) -> bool
-    ensures { result ≡ is_along e.now f.now }
-{
-    if e.is_box_meeting(f) {
-        let is_parallel = is_parallel(e, f);
-        let is_level = is_level(e, &f.a);
-        is_parallel & is_level
-    } else {
-        false
-    }
-}
-
-/// Whether an edge runs along none of the others.
-fn is_apart(e: &Edge, others: &[Edge]) -> bool
-    ensures { result ≡ list_all (λ f. not (is_along e.now f)) others.now }
-{
-    others.iter().all(|f| !is_along(e, f))
-}
-
-/// An edge of a geometry, and whether it is known to run along no edge of the other geometry.
-#[derive(Clone, Copy)]
-pub(crate) struct Course {
-    pub(crate) edge: Edge,
-    pub(crate) is_apart: bool,
-}
-
-/// The course of an edge, by the edges of the other geometry near it.
-pub(crate) fn course_of(e: &Edge, near: &[Edge]) -> Course
-    ensures edge { result.edge ≡ e.now }
-    ensures apart { (other : Outline) → All (IsFound e.now near.now) other.edges.items
-        → IsKnownApart other result }
-{
-    let is_apart = is_apart(e, near);
-    Course { edge: *e, is_apart }
 }
 
 /// The part of a geometry in which a point of one of its edges lies.

@@ -1,6 +1,7 @@
 -- How a command ends, given its files and its run.
 use Rattle.std.proofs.Common.{◌≡◌, ◌≢◌, ◌↔◌, ℕ, List, Option, Some, None, Bool, false, Result, Ok, Err, IsErrAnd, ◌⊎◌, inl, inr, IfErr, IfSome, IsTrue}
 use Rattle.std.proofs.Common.{refl, sym, subst, ◌∙◌}
+use Rattle.std.specs.Prelude.{⊤}
 use Rattle.report_core.specs.Written.{AppendsPrefix}
 use Rattle.wkt_core.specs.declared.fault.WktFault.{WktFault}
 use Rattle.wkt_core.specs.declared.scale.Scale.{Scale}
@@ -13,12 +14,12 @@ use Rattle.join_core.specs.Runs.{Ends}
 use Rattle.join_core.proofs.RunLemmas.{ends_as, not_begun}
 use Rattle.words_core.specs.declared.words.Command.{Command}
 use Rattle.words_core.specs.declared.words.Command.TheVariants.{Relate}
-use Rattle.words_core.specs.declared.words.Geometries.{Geometries}
-use Rattle.words_core.specs.declared.words.Geometries.TheVariants.{Box, Any}
+use Rattle.words_core.specs.declared.condition.Geometries.{Geometries}
+use Rattle.words_core.specs.declared.condition.Geometries.TheVariants.{Box, Any}
 use Rattle.words_core.specs.declared.words.RelateRequest.{RelateRequest}
-use Rattle.command_core.specs.Commands.{AfterOpening, CommandGives, IsCommandText, BlamesCommand, IsFoundFirst, IsFoundNext}
+use Rattle.command_core.specs.Commands.{CommandGives, IsCommandText, BlamesCommand, IsFoundFirst, IsFoundNext}
 use Rattle.command_core.specs.Commands.{GeometriesGive, IsFaultOf, IsRelateFault, CommandEnds}
-use Rattle.command_core.specs.Opening.{Files}
+use Rattle.command_core.specs.Opening.{AfterOpening, Files}
 use Rattle.relate_any_core.specs.TextMatrices.{HasTextFault}
 use Rattle.relate_any_core.specs.declared.texts.TextFault.{TextFault}
 
@@ -157,6 +158,21 @@ write_failed P written is_flushed has_failed old new (Err e) text h is front fai
 }
 
 -- ---- opening
+
+-- the fault of a file that can't be opened
+abbrev pub IsNoFile : RunFault → Type 0
+IsNoFile (run.NoFile i) = ⊤
+IsNoFile _ = ⊥
+
+abbrev pub OpensFiles : Command → Type 0
+OpensFiles (Relate request) = ⊥
+OpensFiles _ = ⊤
+
+-- a command that opens files finds only such a fault first
+pub found_missing : (command : Command) (g : RunFault) → OpensFiles command → IsFoundFirst command g → IsNoFile g
+found_missing command (run.NoFile i) opens found = tt
+found_missing (Relate request) g opens found = absurd opens
+found_missing command g opens found = absurd found
 
 -- the consequence of opening one input, given that it can be opened
 pub input_opened : (lies : Option (List ℕ)) (bytes : List ℕ) (input : Input) (answer : Result (List ℕ) RunFault) (Then : List ℕ → Type 0)

@@ -2,19 +2,31 @@
 use Rattle.std.proofs.Common.{◌≡◌, ℕ, List, Option, Some, None, Result, Ok, sym, ap, subst, ◌∙◌, refl}
 use Rattle.std.specs.Borrow.{Bor}
 use Rattle.wkt_core.specs.declared.scale.Scale.{Scale}
-use Rattle.geom_core.specs.declared.shape.Shape.{Shape}
 use Rattle.layer_core.specs.Edits.{EditContent, Layers}
+use Rattle.any_geometry_core.specs.declared.geometry.AnyGeometry.{AnyGeometry}
+use Rattle.any_relation_core.specs.AnyRelations.{rings_of}
+use Rattle.file_core.specs.Formats.{Reading, ReadsAny, ReadsBox}
 use Rattle.file_core.specs.declared.read_fault.ReadFault.{ReadFault}
+use Rattle.options_core.specs.declared.product.Product.{Product}
+use Rattle.options_core.specs.declared.product.Product.TheVariants.{Report, Picture}
 use Rattle.join_core.specs.declared.fault.Input.TheVariants as input
 use Rattle.join_core.specs.declared.fault.RunFault.{RunFault}
 use Rattle.join_core.specs.declared.fault.RunFault.TheVariants as run
-use Rattle.join_core.specs.DrawRuns.{IsDrawFault}
-use Rattle.join_core.specs.JoinRuns.{JoinFiles, EditFile, LayersGive, edited, left_fault, right_fault, edits_fault, edit_refused, IsJoinFault}
+use Rattle.join_core.specs.JoinRuns.{EditFile, LayersGive, edited, left_fault, right_fault, edits_fault, edit_refused, IsJoinFault}
 use Rattle.join_core.specs.LayerRuns.{IsLayerRunFault}
+use Rattle.join_core.specs.Products.{IsProductFault}
 use Rattle.join_core.specs.WindowRuns.{IsWindowFault}
+use Rattle.any_run_core.specs.AnyWindows.{IsAnyWindowFault}
+use Rattle.words_core.specs.declared.condition.Condition.{Condition}
+use Rattle.words_core.specs.declared.condition.Condition.TheVariants.{Boxes, Any}
+use Rattle.words_core.specs.declared.condition.Geometries.{Geometries}
+use Rattle.words_core.specs.declared.condition.Geometries.TheVariants as geometries
 use Rattle.words_core.specs.declared.words.JoinRequest.{JoinRequest}
-use Rattle.command_core.specs.Commands.{bytes_at, edits_at, known_files}
-use Rattle.command_core.specs.Opening.{Files, IsAt, AreEditsAt, AreOpened}
+use Rattle.command_core.specs.JoinResults.{IsConditionFault, IsJoinRequestFault, edits_at, files_read, known_bytes}
+use Rattle.command_core.specs.LayerResults.{IsLayerFaultOf, IsWindowFaultOf}
+use Rattle.command_core.specs.Opening.{Files, IsAt, AreEditsAt, AreOpened, JoinBytes, bytes_at}
+
+-- ---- the file of a layer
 
 -- a fact that holds for the bytes of a file, and for unknown ones, holds for those known at its
 -- path
@@ -23,13 +35,29 @@ pub told_at : (known : Option Files) (path : List ℕ) (l : Option (List ℕ)) �
 told_at None path l is P into h = into h
 told_at (Some at) path l is P into h = subst P (is.2 ∙ sym is.1) h
 
-pub layer_untold : (scale : Scale) (l : Option (List ℕ)) (f : RunFault) → IsLayerRunFault scale l f → IsLayerRunFault scale None f
-layer_untold scale l run.Memory is = (is.0, tt)
-layer_untold scale l f is = is
+run_untold : {G : Type 0} (reads : Reading G) (l : Option (List ℕ)) (f : RunFault) → IsLayerRunFault reads l f → IsLayerRunFault reads None f
+run_untold reads l run.Memory is = (is.0, tt)
+run_untold reads l f is = is
 
-pub window_untold : (scale : Scale) (wkt : List ℕ) (l : Option (List ℕ)) (f : RunFault) → IsWindowFault scale wkt l f → IsWindowFault scale wkt None f
-window_untold scale wkt l (run.Wkt input.Window w) is = is
-window_untold scale wkt l f is = (is.0, layer_untold scale l f is.1)
+pub layer_untold : (kind : Geometries) (scale : Scale) (l : Option (List ℕ)) (f : RunFault) → IsLayerFaultOf kind scale l f
+    → IsLayerFaultOf kind scale None f
+layer_untold geometries.Box scale l f is = run_untold (ReadsBox scale) l f is
+layer_untold (geometries.Any rings) scale l f is = run_untold (ReadsAny scale rings) l f is
+
+box_window_untold : (scale : Scale) (wkt : List ℕ) (l : Option (List ℕ)) (f : RunFault) → IsWindowFault scale wkt l f → IsWindowFault scale wkt None f
+box_window_untold scale wkt l (run.Wkt input.Window w) is = is
+box_window_untold scale wkt l f is = (is.0, run_untold (ReadsBox scale) l f is.1)
+
+any_window_untold : (reads : Reading AnyGeometry) (wkt : List ℕ) (l : Option (List ℕ)) (f : RunFault) → IsAnyWindowFault reads wkt l f
+    → IsAnyWindowFault reads wkt None f
+any_window_untold reads wkt l (run.Geometry input.Window g) is = is
+any_window_untold reads wkt l run.Memory is = is
+any_window_untold reads wkt l f is = (is.0, run_untold reads l f is.1)
+
+pub window_untold : (kind : Geometries) (scale : Scale) (wkt : List ℕ) (l : Option (List ℕ)) (f : RunFault) → IsWindowFaultOf kind scale wkt l f
+    → IsWindowFaultOf kind scale wkt None f
+window_untold geometries.Box scale wkt l f is = box_window_untold scale wkt l f is
+window_untold (geometries.Any rings) scale wkt l f is = any_window_untold (ReadsAny scale rings) wkt l f is
 
 -- ---- the files of a join
 
@@ -37,37 +65,50 @@ abbrev untold_edits : Option (Option (List ℕ)) → Option (Option (List ℕ))
 untold_edits None = None
 untold_edits (Some told) = Some None
 
-abbrev untold : JoinFiles → JoinFiles
-untold files = record { scale = files.scale; left = None; right = None; edits = untold_edits files.edits }
+-- the same files with unknown bytes
+abbrev untold : JoinBytes → JoinBytes
+untold bytes = record { left = None; right = None; edits = untold_edits bytes.edits }
 
-edits_untold : (scale : Scale) (e : Option (Option (List ℕ))) (answer : Result (List (EditContent Shape)) ReadFault) → EditFile scale e answer
-    → EditFile scale (untold_edits e) answer
-edits_untold scale None answer is = is
-edits_untold scale (Some told) answer is = tt
+module _ {G : Type 0} (reads : Reading G) where
+  edits_untold : (e : Option (Option (List ℕ))) (answer : Result (List (EditContent G)) ReadFault) → EditFile reads e answer
+      → EditFile reads (untold_edits e) answer
+  edits_untold None answer is = is
+  edits_untold (Some told) answer is = tt
 
-layers_untold : (files : JoinFiles) (layers : Layers Shape) (answer : Result (Layers Shape) RunFault) → LayersGive files answer → answer ≡ Ok layers
-    → LayersGive (untold files) (Ok layers)
-layers_untold files layers answer (left_fault f a) is = absurd cc
-layers_untold files layers answer (right_fault l f a b) is = absurd cc
-layers_untold files layers answer (edits_fault l r f a b d) is = absurd cc
-layers_untold files layers answer (edit_refused l r es row f a b d e) is = absurd cc
-layers_untold files layers answer (edited l r es made a b d e) is =
-    edited l r es layers tt tt (edits_untold files.scale files.edits (Ok es) d) (let same : made ≡ layers = cc in e ∙ ap Ok same)
+  layers_untold : (bytes : JoinBytes) (layers : Layers G) (answer : Result (Layers G) RunFault) → LayersGive (files_read reads bytes) answer
+      → answer ≡ Ok layers → LayersGive (files_read reads (untold bytes)) (Ok layers)
+  layers_untold bytes layers answer (left_fault f a) is = absurd cc
+  layers_untold bytes layers answer (right_fault l f a b) is = absurd cc
+  layers_untold bytes layers answer (edits_fault l r f a b d) is = absurd cc
+  layers_untold bytes layers answer (edit_refused l r es row f a b d e) is = absurd cc
+  layers_untold bytes layers answer (edited l r es made a b d e) is =
+      edited l r es layers tt tt (edits_untold bytes.edits (Ok es) d) (let same : made ≡ layers = cc in e ∙ ap Ok same)
 
-join_untold : (files : JoinFiles) (f : RunFault) → IsJoinFault files f → IsJoinFault (untold files) f
-join_untold files (run.Read input.Left f) is = tt
-join_untold files (run.Read input.Right f) is = λ other. ((is other).0, tt)
-join_untold files (run.Read input.Edits f) is = ((is.0.0, tt), (is.1.0, tt))
-join_untold files (run.Edit row f) is = λ want. let made = is want in record {
-  left = made.left;
-  right = made.right;
-  edits = made.edits;
-  left_read = tt;
-  right_read = tt;
-  edits_read = edits_untold files.scale files.edits (Ok made.edits) made.edits_read;
-  are_made = made.are_made;
-}
-join_untold files f is = (is.0, (is.1.0, layers_untold files is.1.0 (Ok is.1.0) is.1.1 refl))
+  join_untold : (bytes : JoinBytes) (f : RunFault) → IsJoinFault (files_read reads bytes) f → IsJoinFault (files_read reads (untold bytes)) f
+  join_untold bytes (run.Read input.Left f) is = tt
+  join_untold bytes (run.Read input.Right f) is = λ other. ((is other).0, tt)
+  join_untold bytes (run.Read input.Edits f) is = ((is.0.0, tt), (is.1.0, tt))
+  join_untold bytes (run.Edit row f) is = λ want. let made = is want in record {
+    left = made.left;
+    right = made.right;
+    edits = made.edits;
+    left_read = tt;
+    right_read = tt;
+    edits_read = edits_untold bytes.edits (Ok made.edits) made.edits_read;
+    are_made = made.are_made;
+  }
+  join_untold bytes f is = (is.0, (is.1.0, layers_untold bytes is.1.0 (Ok is.1.0) is.1.1 refl))
+
+  product_untold : (product : Product) (bytes : JoinBytes) (f : RunFault) → IsProductFault product (files_read reads bytes) f
+      → IsProductFault product (files_read reads (untold bytes)) f
+  product_untold Report bytes f is = join_untold bytes f is
+  product_untold Picture bytes run.TooManyToDraw is = tt
+  product_untold Picture bytes f is = join_untold bytes f is
+
+condition_untold : (condition : Condition) (scale : Scale) (product : Product) (bytes : JoinBytes) (f : RunFault)
+    → IsConditionFault condition scale product bytes f → IsConditionFault condition scale product (untold bytes) f
+condition_untold (Boxes relation) scale product bytes f is = product_untold (ReadsBox scale) product bytes f is
+condition_untold (Any relation) scale product bytes f is = product_untold (ReadsAny scale (rings_of relation)) product bytes f is
 
 edits_none : (path : Option (Bor (List ℕ))) (e : Option (Option (List ℕ))) → AreEditsAt None path e → untold_edits e ≡ edits_at None path
 edits_none None e is = ap untold_edits is
@@ -77,19 +118,20 @@ edits_some : (at : Files) (path : Option (Bor (List ℕ))) (e : Option (Option (
 edits_some at None e is = is
 edits_some at (Some path) e is = is.1 ∙ ap Some (is.2.2 ∙ sym is.2.1)
 
-pub join_known : (known : Option Files) (join : JoinRequest) (l r : Option (List ℕ)) (e : Option (Option (List ℕ))) → AreOpened known join l r e
-    → (f : RunFault) → IsJoinFault (record { scale = join.scale; left = l; right = r; edits = e }) f → IsJoinFault (known_files known join) f
-join_known None join l r e is f fault =
-    subst (λ (d : Option (Option (List ℕ))). IsJoinFault (record { scale = join.scale; left = None; right = None; edits = d }) f)
-    (edits_none join.edits_path e is.at_edits) (join_untold (record { scale = join.scale; left = l; right = r; edits = e }) f fault)
-join_known (Some at) join l r e is f fault =
-    subst (λ (d : Option (Option (List ℕ))). IsJoinFault (record { scale = join.scale; left = at join.left_path.now; right = at join.right_path.now; edits = d }) f)
-    (edits_some at join.edits_path e is.at_edits)
-    (subst (λ (q : Option (List ℕ)). IsJoinFault (record { scale = join.scale; left = at join.left_path.now; right = q; edits = e }) f)
-    (is.at_right.2 ∙ sym is.at_right.1)
-    (subst (λ (p : Option (List ℕ)). IsJoinFault (record { scale = join.scale; left = p; right = r; edits = e }) f) (is.at_left.2 ∙ sym is.at_left.1) fault))
+bytes_are : (a b : JoinBytes) → a.left ≡ b.left → a.right ≡ b.right → a.edits ≡ b.edits → a ≡ b
+bytes_are a b left right edits =
+    let made : Option (List ℕ) → Option (List ℕ) → Option (Option (List ℕ)) → JoinBytes = λ l r e. record { left = l; right = r; edits = e } in
+    ap (λ l. made l a.right a.edits) left ∙ ap (λ r. made b.left r a.edits) right ∙ ap (λ e. made b.left b.right e) edits
 
-pub draw_known : (known : Option Files) (join : JoinRequest) (l r : Option (List ℕ)) (e : Option (Option (List ℕ))) → AreOpened known join l r e
-    → (f : RunFault) → IsDrawFault (record { scale = join.scale; left = l; right = r; edits = e }) f → IsDrawFault (known_files known join) f
-draw_known known join l r e is run.TooManyToDraw fault = tt
-draw_known known join l r e is f fault = join_known known join l r e is f fault
+-- the bytes that the files of a join tell are those known at its paths
+told_known : (at : Files) (join : JoinRequest) (bytes : JoinBytes) → AreOpened (Some at) join bytes → bytes ≡ known_bytes (Some at) join
+told_known at join bytes is = bytes_are bytes (known_bytes (Some at) join) (is.at_left.2 ∙ sym is.at_left.1) (is.at_right.2 ∙ sym is.at_right.1)
+    (edits_some at join.edits_path bytes.edits is.at_edits)
+
+-- a possible fault by what the files tell is one by what is known of them
+pub join_known : (known : Option Files) (join : JoinRequest) (bytes : JoinBytes) → AreOpened known join bytes → (f : RunFault)
+    → IsJoinRequestFault join bytes f → IsJoinRequestFault join (known_bytes known join) f
+join_known None join bytes is f fault =
+    subst (λ (e : Option (Option (List ℕ))). IsJoinRequestFault join (record { left = None; right = None; edits = e }) f)
+    (edits_none join.edits_path bytes.edits is.at_edits) (condition_untold join.condition join.scale join.product bytes f fault)
+join_known (Some at) join bytes is f fault = subst (λ (b : JoinBytes). IsJoinRequestFault join b f) (told_known at join bytes is) fault

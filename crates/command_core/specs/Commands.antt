@@ -1,58 +1,28 @@
 -- The results of a command, by the content of the files at the paths that it names.
-use Rattle.std.specs.Prelude.{◌≡◌, ◌≢◌, ⊤, ℕ, List, [], ◌∷◌, ◌++◌, Option, Some, None, Bool, false}
+use Rattle.std.specs.Prelude.{◌≡◌, ◌≢◌, ⊤, ℕ, List, [], ◌∷◌, ◌++◌, Option, Some, Bool, false}
 use Rattle.std.specs.Prelude.{Result, Ok, Err, IfSome, IfErr}
-use Rattle.std.specs.Borrow.{Bor}
-use Rattle.relation_core.specs.JoinRelations.{relation_of}
 use Rattle.relation_core.specs.Matrices.{letters_of}
 use Rattle.wkt_core.specs.declared.scale.Scale.{Scale}
 use Rattle.relate_any_core.specs.TextMatrices.{HasTextFault, IsRelated}
 use Rattle.relate_any_core.specs.declared.improper.Improper.{Improper}
 use Rattle.relate_any_core.specs.declared.texts.Related.{Related}
 use Rattle.relate_any_core.specs.declared.texts.TextFault.TheVariants as texts
-use Rattle.join_core.specs.declared.fault.Input.{Input}
 use Rattle.join_core.specs.declared.fault.Input.TheVariants as input
 use Rattle.join_core.specs.declared.fault.RunFault.{RunFault}
 use Rattle.join_core.specs.declared.fault.RunFault.TheVariants as run
-use Rattle.join_core.specs.declared.joins.job.Product.{Product}
-use Rattle.join_core.specs.declared.joins.job.Product.TheVariants.{Report, Picture}
-use Rattle.join_core.specs.Bounds.{ListsCorners}
-use Rattle.join_core.specs.DrawRuns.{DrawGives, IsDrawFault}
-use Rattle.join_core.specs.JoinRuns.{JoinFiles, JoinGives, IsJoinFault}
 use Rattle.join_core.specs.Inputs.{BlamesInput}
-use Rattle.join_core.specs.LayerRuns.{LayerGives, IsLayerRunFault}
 use Rattle.join_core.specs.Relating.{RelateGives, IsTextFault}
 use Rattle.join_core.specs.Runs.{Ends}
-use Rattle.join_core.specs.StatsTexts.{AreCounts}
-use Rattle.join_core.specs.WindowRuns.{WindowGives, IsWindowFault}
-use Rattle.command_core.specs.Opening.{Files}
+use Rattle.command_core.specs.JoinResults.{IsJoinRequestFault, PathsGive, known_bytes}
+use Rattle.command_core.specs.LayerResults.{GivesCorners, GivesCounts, GivesWindow}
+use Rattle.command_core.specs.LayerResults.{IsLayerFaultOf, IsWindowFaultOf}
+use Rattle.command_core.specs.Opening.{AfterOpening, Files, bytes_at}
+use Rattle.words_core.specs.declared.condition.Geometries.{Geometries}
+use Rattle.words_core.specs.declared.condition.Geometries.TheVariants.{Box, Any}
 use Rattle.words_core.specs.declared.words.Command.{Command}
-use Rattle.words_core.specs.declared.words.Command.TheVariants.{Relate, Join, Draw, Window, Stats}
+use Rattle.words_core.specs.declared.words.Command.TheVariants.{Relate, Join, Window, Stats}
 use Rattle.words_core.specs.declared.words.Command.TheVariants.{Bounds}
-use Rattle.words_core.specs.declared.words.Geometries.{Geometries}
-use Rattle.words_core.specs.declared.words.Geometries.TheVariants.{Box, Any}
-use Rattle.words_core.specs.declared.words.JoinRequest.{JoinRequest}
-
--- an input that has to be opened, and the consequence if it is
-abbrev pub AfterOpening : Input → Option (List ℕ) → Result (List ℕ) RunFault
-    → (List ℕ → Type 0) → Type 0
-AfterOpening input None answer Then = answer ≡ Err (run.NoFile input)
-AfterOpening input (Some bytes) answer Then = Then bytes
-
--- the file of edits, if one is given
-abbrev pub AfterEdits : Files → Option (Bor (List ℕ)) → Result (List ℕ) RunFault
-    → (Option (Option (List ℕ)) → Type 0) → Type 0
-AfterEdits at None answer Then = Then None
-AfterEdits at (Some path) answer Then =
-    AfterOpening input.Edits (at path.now) answer (λ bytes. Then (Some (Some bytes)))
-
--- the result of the files of a join, which are opened in the order left, right, edits
-abbrev pub PathsGive : (JoinFiles → Result (List ℕ) RunFault → Type 0) → Files → JoinRequest
-    → Result (List ℕ) RunFault → Type 0
-PathsGive Gives at join answer =
-    AfterOpening input.Left (at join.left_path.now) answer (λ l.
-    AfterOpening input.Right (at join.right_path.now) answer (λ r.
-    AfterEdits at join.edits_path answer (λ e.
-    Gives (record { scale = join.scale; left = Some l; right = Some r; edits = e }) answer)))
+use Rattle.words_core.specs.declared.words.LayerRequest.{LayerRequest}
 
 -- the letters of the matrix of two texts and a line feed, or the fault of the first text that
 -- spells none of these geometries
@@ -67,20 +37,21 @@ GeometriesGive (Any rings) scale a b (Err (run.Geometry input.Second fault)) =
     HasTextFault scale rings a b (texts.Second fault)
 GeometriesGive (Any rings) scale a b (Err _) = ⊥
 
+-- the result of a layer's file, which is opened first
+abbrev pub LayerPathGives : (Geometries → Scale → Option (List ℕ) → Result (List ℕ) RunFault
+    → Type 0) → Files → LayerRequest → Result (List ℕ) RunFault → Type 0
+LayerPathGives Gives at layer answer =
+    AfterOpening input.Layer (at layer.path.now) answer
+    (λ bytes. Gives layer.geometries layer.scale (Some bytes) answer)
+
 abbrev pub CommandGives : Files → Command → Result (List ℕ) RunFault → Type 0
 CommandGives at (Relate request) answer =
     GeometriesGive request.geometries request.scale request.a.now request.b.now answer
-CommandGives at (Join join) answer =
-    PathsGive (JoinGives (relation_of join.relation)) at join answer
-CommandGives at (Draw join) answer =
-    PathsGive (DrawGives (relation_of join.relation)) at join answer
-CommandGives at (Window path wkt scale) answer =
-    AfterOpening input.Layer (at path.now) answer (λ l. WindowGives scale wkt.now (Some l) answer)
-CommandGives at (Stats path scale) answer =
-    AfterOpening input.Layer (at path.now) answer (λ l. LayerGives AreCounts scale (Some l) answer)
-CommandGives at (Bounds path scale) answer =
-    AfterOpening input.Layer (at path.now) answer
-    (λ l. LayerGives ListsCorners scale (Some l) answer)
+CommandGives at (Join join) answer = PathsGive at join answer
+CommandGives at (Window layer wkt) answer =
+    LayerPathGives (λ geometries scale. GivesWindow geometries scale wkt.now) at layer answer
+CommandGives at (Stats layer) answer = LayerPathGives GivesCounts at layer answer
+CommandGives at (Bounds layer) answer = LayerPathGives GivesCorners at layer answer
 
 -- no geometry has improper rings
 abbrev pub none_improper : Improper
@@ -97,11 +68,6 @@ abbrev pub HasImproper : Command → Improper → Type 0
 HasImproper (Relate request) improper =
     AreImproper request.geometries request.scale request.a.now request.b.now improper
 HasImproper _ improper = improper ≡ none_improper
-
--- the command for this product of a join
-abbrev pub command_of : Product → JoinRequest → Command
-command_of Report join = Join join
-command_of Picture join = Draw join
 
 -- the text that a command writes, if the content of its files is known
 abbrev pub IsCommandText : Option Files → Command → List ℕ → Type 0
@@ -124,9 +90,9 @@ IsFoundFirst (Relate request) (run.Wkt input fault) = IsBox request.geometries
 IsFoundFirst _ (run.NoFile input) = ⊤
 IsFoundFirst _ _ = ⊥
 
--- a fault that is found next, once there are keys: that of a window's text
+-- a fault that is found next, once there are keys: that of the text of a window that is a box
 abbrev pub IsFoundNext : Command → RunFault → Type 0
-IsFoundNext (Window path wkt scale) (run.Wkt input fault) = ⊤
+IsFoundNext (Window layer wkt) (run.Wkt input fault) = IsBox layer.geometries
 IsFoundNext _ _ = ⊥
 
 -- a possible fault of a command over one layer, given those of its run
@@ -141,24 +107,6 @@ OrNoFile IsRunFault (run.NoFile input) = ⊤
 OrNoFile IsRunFault run.NoKeys = ⊤
 OrNoFile IsRunFault fault = IsRunFault fault
 
--- the bytes at a path, if the content of the files is known
-abbrev pub bytes_at : Option Files → List ℕ → Option (List ℕ)
-bytes_at None path = None
-bytes_at (Some at) path = at path
-
-abbrev pub edits_at : Option Files → Option (Bor (List ℕ)) → Option (Option (List ℕ))
-edits_at known None = None
-edits_at known (Some path) = Some (bytes_at known path.now)
-
--- the files of a join, as far as their content is known
-abbrev pub known_files : Option Files → JoinRequest → JoinFiles
-known_files known join = record {
-  scale = join.scale;
-  left = bytes_at known join.left_path.now;
-  right = bytes_at known join.right_path.now;
-  edits = edits_at known join.edits_path;
-}
-
 -- a possible fault of relating two texts, except that of its sink
 abbrev pub IsRelateFault : Geometries → RunFault → Type 0
 IsRelateFault Box fault = IsTextFault fault
@@ -170,13 +118,13 @@ IsRelateFault (Any rings) _ = ⊥
 -- a possible fault of a command, except that of its sink, if the content of its files is known
 abbrev pub IsFaultOf : Option Files → Command → RunFault → Type 0
 IsFaultOf known (Relate request) = IsRelateFault request.geometries
-IsFaultOf known (Join join) = OrNoFile (IsJoinFault (known_files known join))
-IsFaultOf known (Draw join) = OrNoFile (IsDrawFault (known_files known join))
-IsFaultOf known (Window path wkt scale) =
-    OrNoLayer (IsWindowFault scale wkt.now (bytes_at known path.now))
-IsFaultOf known (Stats path scale) = OrNoLayer (IsLayerRunFault scale (bytes_at known path.now))
-IsFaultOf known (Bounds path scale) =
-    OrNoLayer (IsLayerRunFault scale (bytes_at known path.now))
+IsFaultOf known (Join join) = OrNoFile (IsJoinRequestFault join (known_bytes known join))
+IsFaultOf known (Window layer wkt) = OrNoLayer
+    (IsWindowFaultOf layer.geometries layer.scale wkt.now (bytes_at known layer.path.now))
+IsFaultOf known (Stats layer) =
+    OrNoLayer (IsLayerFaultOf layer.geometries layer.scale (bytes_at known layer.path.now))
+IsFaultOf known (Bounds layer) =
+    OrNoLayer (IsLayerFaultOf layer.geometries layer.scale (bytes_at known layer.path.now))
 
 -- how a command ends: its output, its fault, exactly when the faults that are found first and next
 -- come, and that no others do

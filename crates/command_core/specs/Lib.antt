@@ -1,4 +1,6 @@
 pub mod Commands
 pub mod Endings
+pub mod JoinResults
+pub mod LayerResults
 pub mod Opening
 pub mod WordFaults

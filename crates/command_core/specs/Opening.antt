@@ -1,14 +1,28 @@
 -- The results of opening a file, and the known content of the files of a join.
 use Rattle.std.specs.Prelude.{◌≡◌, ⊤, ℕ, List, Option, Some, None, Result, Ok, Err, IfSome}
 use Rattle.std.specs.Borrow.{Bor}
+use Rattle.join_core.specs.declared.fault.Input.{Input}
 use Rattle.join_core.specs.declared.fault.Input.TheVariants.{Left, Right, Edits, Layer}
 use Rattle.join_core.specs.declared.fault.RunFault.{RunFault}
 use Rattle.join_core.specs.declared.fault.RunFault.TheVariants.{NoFile, NoKeys}
+use Rattle.join_core.specs.declared.joins.sources.JoinSources.{JoinSources}
+use Rattle.join_core.specs.JoinRuns.{bytes_of}
 use Rattle.words_core.specs.declared.words.JoinRequest.{JoinRequest}
 
 -- the content at each path: bytes, or `None` if nothing can be opened there
 abbrev pub Files : Type 0
 Files = List ℕ → Option (List ℕ)
+
+-- an input that has to be opened, and the consequence if it is
+abbrev pub AfterOpening : Input → Option (List ℕ) → Result (List ℕ) RunFault
+    → (List ℕ → Type 0) → Type 0
+AfterOpening input None answer Then = answer ≡ Err (NoFile input)
+AfterOpening input (Some bytes) answer Then = Then bytes
+
+-- the bytes at a path, if the content of the files is known
+abbrev pub bytes_at : Option Files → List ℕ → Option (List ℕ)
+bytes_at None path = None
+bytes_at (Some at) path = at path
 
 -- the file with the bytes at its path, or an error if there are none
 abbrev pub Opens : {F E : Type 0} → (F → Option (List ℕ)) → Option (List ℕ) → Result F E → Type 0
@@ -40,12 +54,25 @@ pub data IsLayerUnready (known : Option Files) (path : List ℕ) : RunFault → 
   no_file : IsMissing known path → IsLayerUnready known path (NoFile Layer)
   no_keys : (told : Option (List ℕ)) → IsAt known path told → IsLayerUnready known path NoKeys
 
+-- the known bytes of the files of a join; there may be no file of edits
+pub record JoinBytes : Type 0 where
+  pub left : Option (List ℕ)
+  pub right : Option (List ℕ)
+  pub edits : Option (Option (List ℕ))
+
+-- those of its opened files
+abbrev pub bytes_in : {F : Type 0} → (F → Option (List ℕ)) → JoinSources F F F → JoinBytes
+bytes_in remaining sources = record {
+  left = remaining sources.left;
+  right = remaining sources.right;
+  edits = bytes_of remaining sources.edits;
+}
+
 -- the bytes at the paths of a join, as reported by its opened files
-pub record AreOpened (known : Option Files) (join : JoinRequest)
-    (left right : Option (List ℕ)) (edits : Option (Option (List ℕ))) : Type 0 where
-  pub at_left : IsAt known join.left_path.now left
-  pub at_right : IsAt known join.right_path.now right
-  pub at_edits : AreEditsAt known join.edits_path edits
+pub record AreOpened (known : Option Files) (join : JoinRequest) (told : JoinBytes) : Type 0 where
+  pub at_left : IsAt known join.left_path.now told.left
+  pub at_right : IsAt known join.right_path.now told.right
+  pub at_edits : AreEditsAt known join.edits_path told.edits
 
 -- the first file of a join that can't be opened, in the order left, right, edits
 pub data IsFirstMissing (known : Option Files) (join : JoinRequest) : RunFault → Type 0 where

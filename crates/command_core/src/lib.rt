@@ -5,6 +5,9 @@
 mod command;
 mod improper;
 mod inputs;
+mod joining;
+mod layers;
+mod opening;
 mod program;
 mod relating;
 mod word_fault;
@@ -14,5 +17,6 @@ pub use inputs::{Inputs, NotOpened};
 pub use program::{run_program, run_words};
 pub use word_fault::{word_line, word_status};
 pub use words_core::{
-    Command, Geometries, JoinRequest, RelateRequest, WordFault, is_standard_input, read_words,
+    Command, Condition, Geometries, JoinRequest, LayerRequest, RelateRequest, WordFault,
+    is_standard_input, read_words,
 };

@@ -7,7 +7,7 @@ ghost use Rattle.command_core.specs.Opening.{Files};
 ghost use Rattle.join_core.specs.Runs.{Ends};
 ghost use Rattle.relate_any_core.specs.TextMatrices.{IsRelated};
 ghost use Rattle.words_core.specs.declared.words.Command.TheVariants.{Relate};
-ghost use Rattle.words_core.specs.declared.words.Geometries.TheVariants.{Any};
+ghost use Rattle.words_core.specs.declared.condition.Geometries.TheVariants.{Any};
 
 use join_core::{Input, RunFault, Sink, matrix_line, run_relate, write_text};
 use relate_any_core::{Improper, Related, TextFault, relate_texts};

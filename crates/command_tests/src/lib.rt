@@ -2,6 +2,8 @@
 #![tactic(auto)]
 
 #[cfg(test)]
+mod any_layers;
+#[cfg(test)]
 mod any_relate;
 #[cfg(test)]
 mod commands;
@@ -10,7 +12,7 @@ mod faults;
 #[cfg(test)]
 mod help;
 #[cfg(test)]
-mod help_texts;
+mod refused;
 #[cfg(test)]
 mod runs;
 #[cfg(test)]

@@ -62,6 +62,28 @@ pub fn ends<R: RandomSource + AllocGlobal + Threads + Wait + Sync>(
     )
 }
 
+/// Whether a run that should succeed ends as expected, or `None` if it fails without memory: then a
+/// prefix of the expected output was written.
+pub fn attempt<R: RandomSource + AllocGlobal + Threads + Wait + Sync>(
+    rt: &R,
+    files: &[(&str, &str)],
+    run: &(&str, u8, &str, &str),
+) -> Option<bool> {
+    let (words, _, written, said) = *run;
+    let Ok(words) = given_words(rt.alloc(), words) else {
+        return None;
+    };
+    let ended = run_on(rt, files, words.as_slice());
+    if ended.status == 1 && written.as_bytes().starts_with(ended.written.as_slice()) {
+        return None;
+    }
+    Some(
+        ended.status == 0
+            && ended.written.as_slice() == written.as_bytes()
+            && ended.said.as_slice() == said.as_bytes(),
+    )
+}
+
 /// Whether a run succeeds, and writes a text that starts and ends as given.
 pub fn writes<R: RandomSource + AllocGlobal + Threads + Wait + Sync>(
     rt: &R,

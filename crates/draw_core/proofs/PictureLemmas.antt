@@ -1,16 +1,17 @@
 -- Texts that grow by pieces, groups of the same features, and sets that grow by a number.
-use Rattle.std.proofs.Common.{◌≡◌, ℕ, ℤ, pos, ◌-ℤ◌, ◌+ℤ◌, ◌<◌, ◌+◌, ◌==◌, Bool, true, List, [], ◌∷◌, ◌++◌, refl, sym, ap, ◌∙◌, take, codes, length, get_or}
+use Rattle.std.proofs.Common.{◌≡◌, ℕ, ℤ, pos, ◌-ℤ◌, ◌+ℤ◌, ◌<◌, ◌+◌, ◌==◌, ◌||◌, Bool, true, List, [], ◌∷◌, ◌++◌, refl, sym, ap, ◌∙◌, map, take, codes, length, get_or}
 use Rattle.std.proofs.Common.{Result, Ok, Err, is_ok, OnOk, if◌then◌else◌}
 use Rattle.std.proofs.Common.{append_assoc, flat_map, ◌≤◌, ◌*◌, unsigned_abs, to_z, of_z, w64, arith}
 use Rattle.std.proofs.lemmas.Grind.{common_steps}
+use Rattle.std.proofs.lemmas.List.{take_all, take_more, flat_map_more}
 use Rattle.std.proofs.lemmas.List.Folds.{list_any_more}
 use Rattle.std.proofs.lemmas.Int.{ints, to_z_pos}
 use Rattle.std.specs.List.{list_any}
 use Rattle.std.specs.Ordering.{nat_cmp}
 use Rattle.std.specs.BTreeSet.{BTreeSet, contains, Updates}
 use Rattle.geom_core.specs.Limits.{IsCoordinate}
-use Rattle.geom_core.specs.declared.shape.Shape.{Shape}
 use Rattle.layer_core.specs.Layers.{Feature, Contents}
+use Rattle.draw_core.specs.Drawings.{Drawing}
 use Rattle.draw_core.specs.Marks.{has_left, has_right}
 use Rattle.draw_core.specs.Pictures.{closing, element, group, legend, canvas, opening, picture_of}
 use Rattle.draw_core.specs.Views.{View, drawn_height, greatest_margin, margin_of, view_around, view_of}
@@ -19,25 +20,47 @@ use Rattle.draw_core.specs.Views.{View, drawn_height, greatest_margin, margin_of
 pub chain : (s t u a b : List ℕ) → t ≡ s ++ a → u ≡ t ++ b → u ≡ s ++ (a ++ b)
 chain s t u a b first rest = rest ∙ ap (λ l. l ++ b) first ∙ append_assoc s a b
 
+-- the text of one item more
+pub item_added : {A : Type 0} (f : A → List ℕ) (old mid new : List ℕ) (items : List A) (i : ℕ) (item : A) → i < length items
+    → item ≡ get_or items i item → mid ≡ old ++ flat_map f (take i items) → new ≡ mid ++ f item
+    → new ≡ old ++ flat_map f (take (i + 1) items)
+item_added {A} f old mid new items i item within at so_far grown =
+    grown ∙ ap (λ t. t ++ f item) so_far ∙ flat_map_more f old (take i items) item
+    ∙ ap (λ (l : List A). old ++ flat_map f l) (ap (λ x. take i items ++ x ∷ []) at ∙ sym (take_more items i item within))
+
 -- the features of a list, if two tests agree
-pub elements_same : (view : View) (f g : ℕ → Bool) → ((n : ℕ) → f n ≡ g n) → (fs : List (Feature Shape))
-    → flat_map (λ x. element view (f x.number) x) fs ≡ flat_map (λ x. element view (g x.number) x) fs
-elements_same view f g same [] = refl
-elements_same view f g same (x ∷ xs) =
-    ap (λ b. element view b x ++ flat_map (λ y. element view (f y.number) y) xs) (same x.number)
-    ∙ ap (λ l. element view (g x.number) x ++ l) (elements_same view f g same xs)
+pub elements_same : {G : Type 0} (drawing : Drawing G) (view : View) (f g : ℕ → Bool) → ((n : ℕ) → f n ≡ g n) → (fs : List (Feature G))
+    → flat_map (λ x. element drawing view (f x.number) x) fs ≡ flat_map (λ x. element drawing view (g x.number) x) fs
+elements_same drawing view f g same [] = refl
+elements_same drawing view f g same (x ∷ xs) =
+    ap (λ b. element drawing view b x ++ flat_map (λ y. element drawing view (f y.number) y) xs) (same x.number)
+    ∙ ap (λ l. element drawing view (g x.number) x ++ l) (elements_same drawing view f g same xs)
 
-pub group_same : (side : List ℕ) (view : View) (f g : ℕ → Bool) (layer : Contents Shape) → ((n : ℕ) → f n ≡ g n)
-    → group side view f layer ≡ group side view g layer
-group_same side view f g layer same = rw (elements_same view f g same layer.features) refl
+pub group_same : {G : Type 0} (side : List ℕ) (drawing : Drawing G) (view : View) (f g : ℕ → Bool) (layer : Contents G) → ((n : ℕ) → f n ≡ g n)
+    → group side drawing view f layer ≡ group side drawing view g layer
+group_same side drawing view f g layer same = rw (elements_same drawing view f g same layer.features) refl
 
--- a set of the numbers of the pairs so far, and one number more
-pub held_more : (side : ℕ × ℕ → ℕ) (s n : BTreeSet ℕ) (pairs : List (ℕ × ℕ)) (i : ℕ) → i < length pairs
-    → Updates nat_cmp s n (side (get_or pairs i (0, 0))) true
-    → ((q : ℕ) → contains nat_cmp s q ≡ list_any (λ p. q == side p) (take i pairs))
-    → (q : ℕ) → contains nat_cmp n q ≡ list_any (λ p. q == side p) (take (i + 1) pairs)
-held_more side s n pairs i within new so_far q =
-    grind (arith, common_steps, new.0 q, so_far q, list_any_more (λ p. q == side p) pairs i (0, 0) within)
+-- a set of the numbers of the matches so far, and one number more
+pub held_more : {A : Type 0} (side : A → ℕ) (s n : BTreeSet ℕ) (matches : List A) (i : ℕ) (a : A) (key : ℕ) → i < length matches → a ≡ get_or matches i a
+    → key ≡ side a → Updates nat_cmp s n key true
+    → ((q : ℕ) → contains nat_cmp s q ≡ list_any (λ b. q == side b) (take i matches))
+    → (q : ℕ) → contains nat_cmp n q ≡ list_any (λ b. q == side b) (take (i + 1) matches)
+held_more side s n matches i a key within at same new so_far q =
+    grind (arith, common_steps, at, same, new.0 q, so_far q, list_any_more (λ b. q == side b) matches i a within)
+
+-- the matches with a number are those whose pairs have it
+any_of_pairs : {A : Type 0} (pair_of : A → ℕ × ℕ) (test : ℕ × ℕ → Bool) (matches : List A)
+    → list_any (λ a. test (pair_of a)) matches ≡ list_any test (map pair_of matches)
+any_of_pairs pair_of test [] = refl
+any_of_pairs pair_of test (a ∷ matches) = ap (λ b. test (pair_of a) || b) (any_of_pairs pair_of test matches)
+
+-- the set of the numbers of all matches is that of their pairs
+pub held_all : {A : Type 0} (pair_of : A → ℕ × ℕ) (side : ℕ × ℕ → ℕ) (s : BTreeSet ℕ) (matches : List A) (i : ℕ) → length matches ≤ i
+    → ((q : ℕ) → contains nat_cmp s q ≡ list_any (λ a. q == side (pair_of a)) (take i matches))
+    → (q : ℕ) → contains nat_cmp s q ≡ list_any (λ p. q == side p) (map pair_of matches)
+held_all {A} pair_of side s matches i all held q =
+    held q ∙ ap (list_any (λ (a : A). q == side (pair_of a))) (take_all i matches all)
+    ∙ any_of_pairs pair_of (λ p. q == side p) matches
 
 -- a coordinate, in 64 bits
 pub same_coordinate : (x : ℤ) → IsCoordinate x → to_z w64 (of_z w64 x) ≡ x
@@ -75,10 +98,10 @@ pub around_is : (a b c d l t : ℤ) (w h m : ℕ) → w ≡ unsigned_abs (c -ℤ
 around_is a b c d l t w h m width height margin left top = rw (left, top, margin, width, height) refl
 
 -- the group of the features that the pairs highlight, at the view of the layers
-group_is : (side : List ℕ) (v w : View) (f g : ℕ → Bool) (layer : Contents Shape) (t u : List ℕ) → v ≡ w → ((n : ℕ) → f n ≡ g n)
-    → u ≡ t ++ group side v f layer → u ≡ t ++ group side w g layer
-group_is side v w f g layer t u view same more =
-    more ∙ ap (λ l. t ++ l) (group_same side v f g layer same ∙ ap (λ x. group side x g layer) view)
+group_is : {G : Type 0} (side : List ℕ) (drawing : Drawing G) (v w : View) (f g : ℕ → Bool) (layer : Contents G) (t u : List ℕ) → v ≡ w
+    → ((n : ℕ) → f n ≡ g n) → u ≡ t ++ group side drawing v f layer → u ≡ t ++ group side drawing w g layer
+group_is side drawing v w f g layer t u view same more =
+    more ∙ ap (λ l. t ++ l) (group_same side drawing v f g layer same ∙ ap (λ x. group side drawing x g layer) view)
 
 -- the effect of a push, if it succeeded
 pub on_push : {T E : Type 0} (r : Result T E) (t u s : List ℕ) → u ≡ (if is_ok r then t ++ s else t) → OnOk r (u ≡ t ++ s)
@@ -114,20 +137,21 @@ six_pieces a b c d e f t0 t1 t2 t3 t4 t5 t6 e0 e1 e2 e3 e4 e5 e6 =
     chain t0 t1 t6 a (b ++ rest) e1 (chain t1 t2 t6 b rest e2 last) ∙ ap (λ l. l ++ (a ++ (b ++ rest))) e0
 
 -- the picture from its pieces
-pub assembled : (left right : Contents Shape) (pairs : List (ℕ × ℕ)) (v : View) (h l r p : ℕ) (f g : ℕ → Bool) (t0 t1 t2 t3 t4 t5 t6 : List ℕ)
-    → v ≡ view_of left right → l ≡ length left.features → r ≡ length right.features → p ≡ length pairs → h ≡ drawn_height v → ((n : ℕ) → f n ≡ has_left pairs n) → ((n : ℕ) → g n ≡ has_right pairs n) → t0 ≡ []
+pub assembled : {G : Type 0} (drawing : Drawing G) (left right : Contents G) (pairs : List (ℕ × ℕ)) (v : View) (h l r p : ℕ) (f g : ℕ → Bool)
+    (t0 t1 t2 t3 t4 t5 t6 : List ℕ) → v ≡ view_of drawing.box_of left right → l ≡ length left.features → r ≡ length right.features → p ≡ length pairs
+    → h ≡ drawn_height v → ((n : ℕ) → f n ≡ has_left pairs n) → ((n : ℕ) → g n ≡ has_right pairs n) → t0 ≡ []
     → t1 ≡ t0 ++ opening (h + 40)
     → t2 ≡ t1 ++ legend l r p → t3 ≡ t2 ++ canvas h v
-    → t4 ≡ t3 ++ group (codes "left") v f left
-    → t5 ≡ t4 ++ group (codes "right") v g right → t6 ≡ t5 ++ closing → t6 ≡ picture_of left right pairs
-assembled left right pairs v h l r p f g t0 t1 t2 t3 t4 t5 t6 view left_len right_len pairs_len drawn lefts rights e0 e1 e2 e3 h4 h5 e6 =
-    let height : h ≡ drawn_height (view_of left right) = drawn ∙ ap drawn_height view in
-    let e4 = group_is (codes "left") v (view_of left right) f (has_left pairs) left t3 t4 view lefts h4 in
-    let e5 = group_is (codes "right") v (view_of left right) g (has_right pairs) right t4 t5 view rights h5 in
-    let w = view_of left right in
+    → t4 ≡ t3 ++ group (codes "left") drawing v f left
+    → t5 ≡ t4 ++ group (codes "right") drawing v g right → t6 ≡ t5 ++ closing → t6 ≡ picture_of drawing left right pairs
+assembled drawing left right pairs v h l r p f g t0 t1 t2 t3 t4 t5 t6 view left_len right_len pairs_len drawn lefts rights e0 e1 e2 e3 h4 h5 e6 =
+    let w = view_of drawing.box_of left right in
     let k = drawn_height w in
+    let height : h ≡ k = drawn ∙ ap drawn_height view in
+    let e4 = group_is (codes "left") drawing v w f (has_left pairs) left t3 t4 view lefts h4 in
+    let e5 = group_is (codes "right") drawing v w g (has_right pairs) right t4 t5 view rights h5 in
     six_pieces (opening (k + 40)) (legend (length left.features) (length right.features) (length pairs)) (canvas k w)
-    (group (codes "left") w (has_left pairs) left) (group (codes "right") w (has_right pairs) right) closing
+    (group (codes "left") drawing w (has_left pairs) left) (group (codes "right") drawing w (has_right pairs) right) closing
     t0 t1 t2 t3 t4 t5 t6 e0 (e1 ∙ ap (λ x. t0 ++ opening (x + 40)) height)
     (e2 ∙ ap (λ x. t1 ++ legend x r p) left_len ∙ ap (λ x. t1 ++ legend (length left.features) x p) right_len
     ∙ ap (λ x. t1 ++ legend (length left.features) (length right.features) x) pairs_len)

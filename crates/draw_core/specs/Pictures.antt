@@ -1,57 +1,28 @@
 -- The picture of two layers.
-use Rattle.std.specs.Prelude.{◌==◌, ℕ, ◌+◌, ℤ, ◌-ℤ◌, Bool, List, [], ◌++◌, length, decimal, codes}
-use Rattle.std.specs.Prelude.{if◌then◌else◌}
-use Rattle.std.specs.Fmt.{signed_decimal}
+use Rattle.std.specs.Prelude.{ℕ, ◌+◌, Bool, List, ◌++◌, length, decimal, codes}
 use Rattle.std.specs.List.{flat_map}
-use Rattle.geom_core.specs.declared.shape.Shape.{Shape}
-use Rattle.geom_core.specs.Shapes.{x1, y1, x2, y2, dim_of}
 use Rattle.layer_core.specs.Layers.{Feature, Contents}
+use Rattle.draw_core.specs.Drawings.{Drawing}
 use Rattle.draw_core.specs.Labels.{label}
 use Rattle.draw_core.specs.Marks.{has_left, has_right}
 use Rattle.draw_core.specs.Views.{View, view_of, drawn_height}
-
--- a command of a path, and its number
-abbrev pub numbered : List ℕ → ℤ → List ℕ
-numbered command number = command ++ signed_decimal number
-
--- the start of a shape's path (SVG 1.1, section 8.3): its upper left corner
-abbrev pub corner : View → Shape → List ℕ
-corner view s =
-    numbered (codes "M") (x1 s -ℤ view.left) ++ numbered (codes " ") (view.top -ℤ y2 s)
-
--- the way back to the start, if the shape is a rectangle
-abbrev pub way_back : Shape → List ℕ
-way_back s = if dim_of s == 2 then numbered (codes "h-") (x2 s -ℤ x1 s) ++ codes "z" else []
-
--- the path of a shape: from its upper left corner across, down and back
-abbrev pub outline : View → Shape → List ℕ
-outline view s =
-    corner view s ++ (numbered (codes "h") (x2 s -ℤ x1 s)
-    ++ (numbered (codes "v") (y2 s -ℤ y1 s) ++ way_back s))
-
--- the start of a path element: points and matches have classes
-abbrev pub start_of : ℕ → Bool → List ℕ
-start_of dim is_match =
-    if dim == 0
-    then (if is_match then codes "<path class=\"point match\" d=\""
-    else codes "<path class=\"point\" d=\"")
-    else (if is_match then codes "<path class=\"match\" d=\"" else codes "<path d=\"")
 
 -- the title of a feature: its id
 abbrev pub title : List ℕ → List ℕ
 title id = codes "<title>" ++ (label id ++ codes "</title>")
 
--- the element of a feature: its class, its shape and its id
-abbrev pub element : View → Bool → Feature Shape → List ℕ
-element view is_match f =
-    start_of (dim_of f.shape) is_match ++ (outline view f.shape
+-- the element of a feature: the path of its geometry, and its id
+abbrev pub element : {G : Type 0} → Drawing G → View → Bool → Feature G → List ℕ
+element drawing view is_match f =
+    drawing.start_of f.shape is_match ++ (drawing.path_of view f.shape
     ++ (codes "\">" ++ (title f.id ++ codes "</path>\n")))
 
 -- the elements of a layer's features, each once and in order
-abbrev pub group : List ℕ → View → (ℕ → Bool) → Contents Shape → List ℕ
-group side view is_match layer =
+abbrev pub group : {G : Type 0} → List ℕ → Drawing G → View → (ℕ → Bool) → Contents G → List ℕ
+group side drawing view is_match layer =
     codes "<g class=\"" ++ (side ++ (codes "\">\n"
-    ++ (flat_map (λ f. element view (is_match f.number) f) layer.features ++ codes "</g>\n")))
+    ++ (flat_map (λ f. element drawing view (is_match f.number) f) layer.features
+    ++ codes "</g>\n")))
 
 -- a text and a number
 abbrev pub counted : List ℕ → ℕ → List ℕ
@@ -111,13 +82,14 @@ closing = codes "</svg>\n</svg>\n"
 
 -- the legend, and each feature of the left layer and then of the right one, in order, with those
 -- that occur in a pair highlighted
-abbrev pub picture_of : Contents Shape → Contents Shape → List (ℕ × ℕ) → List ℕ
-picture_of left right pairs =
-    let view = view_of left right in
+abbrev pub picture_of : {G : Type 0} → Drawing G → Contents G → Contents G → List (ℕ × ℕ)
+    → List ℕ
+picture_of drawing left right pairs =
+    let view = view_of drawing.box_of left right in
     let height = drawn_height view in
     opening (height + 40)
     ++ (legend (length left.features) (length right.features) (length pairs)
     ++ (canvas height view
-    ++ (group (codes "left") view (has_left pairs) left
-    ++ (group (codes "right") view (has_right pairs) right
+    ++ (group (codes "left") drawing view (has_left pairs) left
+    ++ (group (codes "right") drawing view (has_right pairs) right
     ++ closing))))

@@ -45,10 +45,10 @@ abbrev pub widened : Option Shape → Shape → Shape
 widened None s = s
 widened (Some cover) s = cover_of cover s
 
--- the smallest shape that contains the cover, if there is one, and the shape of each feature
-abbrev pub cover_with : Option Shape → List (Feature Shape) → Option Shape
-cover_with cover [] = cover
-cover_with cover (f ∷ fs) = cover_with (Some (widened cover f.shape)) fs
+-- the smallest shape that contains the cover, if there is one, and the box of each feature
+abbrev pub cover_with : {G : Type 0} → (G → Shape) → Option Shape → List (Feature G) → Option Shape
+cover_with box_of cover [] = cover
+cover_with box_of cover (f ∷ fs) = cover_with box_of (Some (widened cover (box_of f.shape))) fs
 
 -- the view around these corners, with a margin on each side
 abbrev pub view_around : ℤ → ℤ → ℤ → ℤ → View
@@ -68,6 +68,7 @@ abbrev pub view_about : Option Shape → View
 view_about None = view_around (pos 0) (pos 0) (pos 0) (pos 0)
 view_about (Some s) = view_around (x1 s) (y1 s) (x2 s) (y2 s)
 
--- the view of two layers: their cover with its margin
-abbrev pub view_of : Contents Shape → Contents Shape → View
-view_of left right = view_about (cover_with (cover_with None left.features) right.features)
+-- the view of two layers: the cover of their boxes with its margin
+abbrev pub view_of : {G : Type 0} → (G → Shape) → Contents G → Contents G → View
+view_of box_of left right =
+    view_about (cover_with box_of (cover_with box_of None left.features) right.features)

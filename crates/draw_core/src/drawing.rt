@@ -1,18 +1,21 @@
 //! The picture of two layers.
 
-ghost use Rattle.std.specs.Prelude.{◌≡◌, ◌++◌, ◌+◌, ◌≤◌, ◌↔◌, length, IfOk, OnOk, IsTrue};
+ghost use Rattle.std.specs.Prelude.{◌≡◌, ◌++◌, ◌+◌, ◌≤◌, ◌↔◌, length, map, IfOk, OnOk, IsTrue};
 ghost use Rattle.std.specs.String.{string_bytes};
 ghost use Rattle.std.specs.Ordering.{nat_cmp};
 ghost use Rattle.std.specs.BTreeSet.{contains};
+ghost use Rattle.draw_core.specs.Drawings.{drawing_by};
 ghost use Rattle.draw_core.specs.Limits.{most_drawn};
 ghost use Rattle.draw_core.specs.Pictures.{counted, opening, legend, canvas, group};
 ghost use Rattle.draw_core.specs.Pictures.{picture_of};
 
+use crate::drawn::Drawn;
+use crate::element::push_element;
 use crate::frame::Frame;
 use crate::marks::Marks;
-use crate::outline::push_element;
 use itoa::Buffer;
-use layer_core::Layer;
+use layer_core::{Geometry, Layer};
+use refine_core::AsPair;
 use std::alloc::{AllocError, Global};
 use std::collections::BTreeSet;
 
@@ -72,7 +75,7 @@ const FRAME: &str = "\" preserveAspectRatio=\"xMidYMin\" viewBox=\"0 0 ";
 const CLOSING: &str = "</svg>\n</svg>\n";
 
 /// Whether a picture may show the features of both layers: at most [`MAX_DRAWN`].
-pub fn can_be_drawn(left: &Layer, right: &Layer) -> bool
+pub fn can_be_drawn<G: Geometry>(left: &Layer<G>, right: &Layer<G>) -> bool
     ensures { IsTrue result
         ↔ (length left.now.list.features + length right.now.list.features ≤ most_drawn) }
 {
@@ -121,15 +124,16 @@ fn push_canvas(text: &mut String, height: u64, frame: &Frame) -> Result<(), Allo
 }
 
 /// Adds the features of a layer, and highlights those whose numbers are in `matches`.
-fn push_group(
+fn push_group<G: Drawn>(
     text: &mut String,
     side: &str,
     frame: &Frame,
     matches: &BTreeSet<u32>,
-    layer: &Layer,
+    layer: &Layer<G>,
 ) -> Result<(), AllocError>
-    ensures { let is_match = contains nat_cmp matches.now in OnOk result (string_bytes text.new
-        ≡ string_bytes text.old ++ group side.now frame.now is_match layer.now.list) }
+    ensures { let drawing = drawing_by G.box_of G.start_of G.path_of in
+        let is_match = contains nat_cmp matches.now in OnOk result (string_bytes text.new
+        ≡ string_bytes text.old ++ group side.now drawing frame.now is_match layer.now.list) }
 {
     text.push_str("<g class=\"")?;
     text.push_str(side)?;
@@ -142,31 +146,32 @@ fn push_group(
 
 /// The picture of two layers, as SVG 1.1: a legend with three counts, and below it each feature of
 /// the left layer and then each of the right one, in layer order, with its id as its title.
-/// Features that occur in `pairs` are highlighted.
+/// Features that occur in `matches` are highlighted.
 ///
 /// The picture is 1,000 wide. Its height is that of the legend and the drawn frame, which is at
 /// most 2,000 high.
 ///
-/// Shapes are drawn relative to the frame's upper left corner, in units of the grid, with the
+/// Geometries are drawn relative to the frame's upper left corner, in units of the grid, with the
 /// second axis upwards.
 ///
 /// # Errors
 /// If an allocation fails.
-pub fn picture(
+pub fn picture<G: Drawn, M: AsPair>(
     alloc: Global,
-    left: &Layer,
-    right: &Layer,
-    pairs: &[(u32, u32)],
+    left: &Layer<G>,
+    right: &Layer<G>,
+    matches: &[M],
 ) -> Result<String, AllocError>
-    ensures text { IfOk result
-        (λ text. string_bytes text ≡ picture_of left.now.list right.now.list pairs.now) }
+    ensures text { let drawing = drawing_by G.box_of G.start_of G.path_of in
+        let pairs = map M.pair_of matches.now in IfOk result (λ text. string_bytes text
+        ≡ picture_of drawing left.now.list right.now.list pairs) }
 {
     let frame = Frame::new(left, right);
     let height = frame.drawn_height();
-    let marks = Marks::new(alloc, pairs)?;
+    let marks = Marks::new(alloc, matches)?;
     let mut text = String::new(alloc);
     push_opening(&mut text, height + LEGEND_HEIGHT)?;
-    push_legend(&mut text, left.len(), right.len(), pairs.len())?;
+    push_legend(&mut text, left.len(), right.len(), matches.len())?;
     push_canvas(&mut text, height, &frame)?;
     push_group(&mut text, "left", &frame, &marks.left, left)?;
     push_group(&mut text, "right", &frame, &marks.right, right)?;

@@ -5,17 +5,18 @@ ghost use Rattle.geom_core.specs.Shapes.{IsCoordinate};
 ghost use Rattle.draw_core.specs.Views.{cover_with, margin_of, greatest_distance, greatest_margin};
 
 use geom_core::Shape;
-use layer_core::Layer;
+use layer_core::{Geometry, Layer};
+use plane_core::Vertex;
 use std::marker::Model;
 
 /// The greatest height at which a frame is drawn, twice the picture's width of 1,000.
 const MAX_HEIGHT: u64 = 2000;
 
-/// The part of the plane that a picture shows: the cover of all shapes, with a margin around it.
+/// The part of the plane that a picture shows: the cover of all boxes, with a margin around it.
 ///
 /// Coordinates of the picture count from the frame's upper left corner, to the right and downwards.
 #[derive(Drop)]
-pub(crate) struct Frame {
+pub struct Frame {
     left: i64,
     top: i64,
     width: u64,
@@ -58,15 +59,16 @@ fn margin_of(width: u64, height: u64) -> u64
     width.max(height) / 20 + 1
 }
 
-/// The smallest shape that contains the cover and each shape of the layer.
-fn cover_with(cover: Option<Shape>, layer: &Layer) -> Option<Shape>
-    ensures { result ≡ cover_with cover layer.now.list.features }
+/// The smallest shape that contains the cover and the box of each feature of the layer.
+fn cover_with<G: Geometry>(cover: Option<Shape>, layer: &Layer<G>) -> Option<Shape>
+    ensures { result ≡ cover_with G.box_of cover layer.now.list.features }
 {
     let mut cover = cover;
     for feature in layer.iter() {
+        let bounds = feature.shape.bounds();
         cover = match cover {
-            Some(cover) => Some(cover.cover(feature.shape)),
-            None => Some(*feature.shape),
+            Some(cover) => Some(cover.cover(&bounds)),
+            None => Some(bounds),
         };
     }
     cover
@@ -77,8 +79,8 @@ impl Frame {
     ghost use Rattle.draw_core.specs.Views.{view_around, view_of, drawn_height};
 
     /// The frame of two layers, or that of the origin if they have no features.
-    pub(crate) fn new(left: &Layer, right: &Layer) -> Frame
-        ensures { result ≡ view_of left.now.list right.now.list }
+    pub(crate) fn new<G: Geometry>(left: &Layer<G>, right: &Layer<G>) -> Frame
+        ensures { result ≡ view_of G.box_of left.now.list right.now.list }
     {
         match cover_with(cover_with(None, left), right) {
             Some(cover) => Frame::around(cover.x1(), cover.y1(), cover.x2(), cover.y2()),
@@ -114,6 +116,20 @@ impl Frame {
         ensures { result ≡ self.now.top -ℤ y2 shape.now }
     {
         self.top - shape.y2()
+    }
+
+    /// The distance from the frame's left side to the vertex.
+    pub(crate) fn x_at(&self, vertex: &Vertex) -> i64
+        ensures { result ≡ vertex.now.x -ℤ self.now.left }
+    {
+        vertex.x - self.left
+    }
+
+    /// The distance from the frame's upper side down to the vertex.
+    pub(crate) fn y_at(&self, vertex: &Vertex) -> i64
+        ensures { result ≡ self.now.top -ℤ vertex.now.y }
+    {
+        self.top - vertex.y
     }
 
     /// The height at which the frame is drawn in a picture that is 1,000 wide.

@@ -2,9 +2,15 @@
 #![tactic(auto)]
 
 mod drawing;
+mod drawn;
+mod element;
+mod figure;
 mod frame;
 mod label;
 mod marks;
+mod number;
 mod outline;
 
 pub use drawing::{MAX_DRAWN, can_be_drawn, picture};
+pub use drawn::Drawn;
+pub use frame::Frame;

@@ -1,28 +1,15 @@
-//! Features as SVG paths.
+//! Boxes as SVG paths.
 
 ghost use Rattle.std.specs.Prelude.{◌≡◌, ◌++◌, ◌-ℤ◌, OnOk};
 ghost use Rattle.std.specs.String.{string_bytes};
 ghost use Rattle.geom_core.specs.Shapes.{x1, y1, x2, y2};
-ghost use Rattle.layer_core.specs.Walks.{feature_read};
-ghost use Rattle.draw_core.specs.Pictures.{numbered, corner, way_back, outline, title, start_of};
-ghost use Rattle.draw_core.specs.Pictures.{element};
+ghost use Rattle.draw_core.specs.Outlines.{corner, way_back, outline, start_of};
 
+use crate::drawn::Drawn;
 use crate::frame::Frame;
-use crate::label::push_label;
+use crate::number::push_number;
 use geom_core::Shape;
-use itoa::Buffer;
-use layer_core::FeatureRef;
 use std::alloc::AllocError;
-
-/// Adds a path command and its number.
-fn push_number(text: &mut String, command: &str, number: i64) -> Result<(), AllocError>
-    ensures { OnOk result
-        (string_bytes text.new ≡ string_bytes text.old ++ numbered command.now number) }
-{
-    let mut digits = Buffer::new();
-    text.push_str(command)?;
-    text.push_str(digits.format(number))
-}
 
 /// The width of a shape.
 fn width(shape: &Shape) -> i64
@@ -70,41 +57,32 @@ fn push_outline(text: &mut String, frame: &Frame, shape: &Shape) -> Result<(), A
     push_return(text, shape)
 }
 
-/// Adds the title of a feature, its id.
-fn push_title(text: &mut String, id: &str) -> Result<(), AllocError>
-    ensures { OnOk result (string_bytes text.new ≡ string_bytes text.old ++ title id.now) }
+/// The start of a path element, with its class if it is a point or a match.
+pub(crate) fn path_start(dim: u8, is_match: bool) -> &'static str
+    ensures { result.now ≡ start_of dim is_match }
 {
-    text.push_str("<title>")?;
-    push_label(text, id)?;
-    text.push_str("</title>")
-}
-
-/// Adds the start of a path element, with its class if it is a point or a match.
-fn push_start(text: &mut String, dim: u8, is_match: bool) -> Result<(), AllocError>
-    ensures { OnOk result
-        (string_bytes text.new ≡ string_bytes text.old ++ start_of dim is_match) }
-{
-    text.push_str(match (dim == 0, is_match) {
+    match (dim == 0, is_match) {
         (true, true) => "<path class=\"point match\" d=\"",
         (true, false) => "<path class=\"point\" d=\"",
         (false, true) => "<path class=\"match\" d=\"",
         (false, false) => "<path d=\"",
-    })
+    }
 }
 
-/// Adds the path element of a feature, with its id as title.
-pub(crate) fn push_element(
-    text: &mut String,
-    frame: &Frame,
-    feature: &FeatureRef<'_>,
-    is_match: bool,
-) -> Result<(), AllocError>
-    ensures { OnOk result (string_bytes text.new
-        ≡ string_bytes text.old ++ element frame.now is_match (feature_read feature.now)) }
-{
-    push_start(text, feature.shape.dim(), is_match)?;
-    push_outline(text, frame, feature.shape)?;
-    text.push_str("\">")?;
-    push_title(text, feature.id)?;
-    text.push_str("</path>\n")
+/// A box is drawn as its outline.
+impl Drawn for Shape {
+    ghost use Rattle.geom_core.specs.Shapes.{dim_of};
+    ghost use Rattle.draw_core.specs.Outlines as outlines;
+
+    ghost start_of = { λ s. outlines.start_of (dim_of s) };
+
+    ghost path_of = { outlines.outline };
+
+    fn start(&self, is_match: bool) -> &'static str {
+        path_start(self.dim(), is_match)
+    }
+
+    fn push_path(&self, frame: &Frame, text: &mut String) -> Result<(), AllocError> {
+        push_outline(text, frame, self)
+    }
 }

@@ -2,6 +2,10 @@
 #![tactic(auto)]
 
 #[cfg(test)]
+mod any_layers;
+#[cfg(test)]
+mod any_pictures;
+#[cfg(test)]
 mod layers;
 #[cfg(test)]
 mod pictures;

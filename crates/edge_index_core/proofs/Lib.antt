@@ -1,3 +1,4 @@
+pub mod AroundLemmas
 pub mod BetweenLemmas
 pub mod BoxLemmas
 pub mod EntryLemmas

@@ -1,13 +1,17 @@
 //! The outline of a geometry, with a tree over the boxes of its edges if they are many.
 
-ghost use Rattle.std.specs.Prelude.{◌≡◌, IfOk, IfSome};
+ghost use Rattle.std.specs.Prelude.{◌≡◌, ◌≤◌, length, IfOk, IfSome};
 ghost use Rattle.plane_core.specs.Places.{point_of};
 ghost use Rattle.plane_core.specs.Outlines.{outline_part, outline_above, IsScan};
 ghost use Rattle.rtree_core.specs.Trees.{entries_in};
+ghost use Rattle.edge_index_core.specs.Around.{AreAround};
 ghost use Rattle.edge_index_core.specs.Trees.{HoldsEdges, IsTreeOf};
 
+use crate::around::{find_around, scan_around};
 use crate::entries::entries_of;
 use crate::scan::scan_node;
+use crate::starts::Starts;
+use geom_core::Shape;
 use plane_core::{Edge, Outline, Place, Scan, Standing};
 use rtree_core::{Node, RTree};
 use std::alloc::{AllocError, Global};
@@ -21,19 +25,22 @@ const FEW: usize = 16;
 pub struct IndexedOutline {
     outline: Outline,
     tree: Option<RTree>,
+    starts: Starts,
 }
 
 impl Model for IndexedOutline {
-    ghost use Rattle.std.specs.Prelude.{IfSome};
+    ghost use Rattle.std.specs.Prelude.{IfSome, length};
     ghost use Rattle.plane_core.specs.declared.outline.Outline.{Outline};
     ghost use Rattle.rtree_core.specs.Trees.{entries_in};
+    ghost use Rattle.edge_index_core.specs.Starts.{AreWithin};
     ghost use Rattle.edge_index_core.specs.Trees.{HoldsEdges};
 
     ghost Value = { Outline };
 
     ghost view = { λ i. i.outline };
 
-    ghost invariant = { λ i. IfSome i.tree (λ t. HoldsEdges i.outline.edges.items (entries_in t)) };
+    ghost invariant = { λ i. IfSome i.tree (λ t. HoldsEdges i.outline.edges.items (entries_in t))
+        × AreWithin (length i.outline.edges.items) i.starts };
 }
 
 /// A tree over the boxes of edges, if they are many.
@@ -63,16 +70,23 @@ impl IndexedOutline {
         ensures { IfOk result (λ i. i ≡ outline) }
     {
         let tree = tree_of(alloc, &outline.edges)?;
-        Ok(IndexedOutline { outline, tree })
+        let starts = Starts::of(&outline.edges);
+        Ok(IndexedOutline {
+            outline,
+            tree,
+            starts,
+        })
     }
 
     /// Takes an outline without a tree, so that its edges are looked at one by one.
     pub fn plain(outline: Outline) -> IndexedOutline
         ensures { result ≡ outline }
     {
+        let starts = Starts::of(&outline.edges);
         IndexedOutline {
             outline,
             tree: None,
+            starts,
         }
     }
 
@@ -97,6 +111,24 @@ impl IndexedOutline {
         match &self.tree {
             Some(tree) => tree.root(),
             None => None,
+        }
+    }
+
+    /// The index of an edge that ends at an outermost vertex, on a side where the box of the
+    /// outline, the first, extends beyond another.
+    pub fn start(&self, own: &Shape, other: &Shape) -> usize
+        ensures { result ≤ length self.now.edges.items }
+    {
+        self.starts.beyond(own, other)
+    }
+
+    /// Edges of the outline, in order, among them all that don't lie on one side of a box.
+    pub fn edges_around(&self, alloc: Global, bounds: &Shape) -> Result<Vec<Edge>, AllocError>
+        ensures { IfOk result (λ v. AreAround bounds.now self.now.edges.items v.items) }
+    {
+        match &self.tree {
+            Some(tree) => find_around(alloc, tree, &self.outline.edges, bounds),
+            None => scan_around(alloc, &self.outline.edges, bounds),
         }
     }
 

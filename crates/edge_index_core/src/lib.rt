@@ -2,11 +2,15 @@
 //! point are found.
 #![tactic(auto)]
 
+mod around;
+mod beyond;
 mod bounds;
 mod entries;
 mod indexed;
 mod scan;
+mod starts;
 
+pub use beyond::is_beyond;
 pub use bounds::bounds_of;
 pub use entries::entries_of;
 pub use indexed::IndexedOutline;

@@ -3,16 +3,15 @@ use Rattle.std.proofs.Common.{◌≡◌, ◌≢◌, ◌∙◌, ◌+◌, ◌<◌,
 use Rattle.std.proofs.lemmas.List.Elements.{All-nil}
 use Rattle.std.specs.declared.alloc.Global.{Global}
 use Rattle.std.specs.declared.vec.Vec.{Vec}
-use Rattle.geom_core.specs.declared.shape.Shape.{Shape}
-use Rattle.wkt_core.specs.declared.fault.WktFault.{WktFault}
-use Rattle.wkt_core.specs.declared.scale.Scale.{Scale}
 use Rattle.file_core.specs.declared.layer_row.ReadRow.{ReadRow}
 use Rattle.file_core.specs.declared.read_fault.ReadFault.{ReadFault}
 use Rattle.file_core.specs.declared.read_fault.ReadFault.TheVariants.{Io, Memory}
 use Rattle.file_core.specs.declared.rows.Rows.{Rows as RowsOf}
+use Rattle.file_core.specs.declared.text_fault.TextFault.{TextFault}
 use Rattle.file_core.specs.declared.unread.Unread.{Unread}
 use Rattle.file_core.specs.declared.unread.Unread.TheVariants.{Rows}
 use Rattle.file_core.specs.Batches.{HasFault, HasId, IsBatch, SayInTurn, after_rows, all_rows, if_given, with_rows}
+use Rattle.file_core.specs.Formats.{Reading}
 use Rattle.file_core.specs.LayerFiles.{LayerRowGives, refused_or, with_row}
 use Rattle.file_core.specs.LayerRows.{RowContent, RowSays, Says, content_of, content_with}
 use Rattle.layer_core.specs.declared.fault.LayerFault.{LayerFault}
@@ -23,74 +22,74 @@ use Rattle.file_core.specs.Rows.{RowsGive, rows_left}
 use Rattle.file_core.specs.Unread.{count_unread, records_unread}
 
 -- ---- the layer with some rows
+module _ {G : Type 0} where
+  -- a row that is inserted uses a number
+  with_row-next : (n : ℕ) (layer : Contents G) (row : RowContent G) (next : Contents G) → with_row n layer (Ok row) ≡ Ok next → next.next ≡ layer.next + 1
+  with_row-next n layer row next given = by (insert_refusal layer row.id) given
+    where
+      by : (fault : Option LayerFault) → refused_or n fault (inserted layer row.id row.shape) ≡ Ok next → next.next ≡ layer.next + 1
+      by (Some fault) is = let none = is in cc
+      by None is = let same : inserted layer row.id row.shape ≡ next = cc in sym (ap (λ l. l.next) same)
 
--- a row that is inserted uses a number
-with_row-next : (n : ℕ) (layer : Contents Shape) (row : RowContent) (next : Contents Shape) → with_row n layer (Ok row) ≡ Ok next → next.next ≡ layer.next + 1
-with_row-next n layer row next given = by (insert_refusal layer row.id) given
-  where
-    by : (fault : Option LayerFault) → refused_or n fault (inserted layer row.id row.shape) ≡ Ok next → next.next ≡ layer.next + 1
-    by (Some fault) is = let none = is in cc
-    by None is = let same : inserted layer row.id row.shape ≡ next = cc in sym (ap (λ l. l.next) same)
+  pub with_rows-append : (layer : Contents G) (a b : List (ReadRow G)) → with_rows layer (a ++ b) ≡ if_given (with_rows layer a) (λ l. with_rows l b)
+  with_rows-append layer [] b = refl
+  with_rows-append layer (row ∷ a) b = by (with_row (layer.next + 1) layer (Ok (content_of row))) (λ l. with_rows-append l a b)
+    where
+      by : (w : Result (Contents G) ReadFault) → ((l : Contents G) → with_rows l (a ++ b) ≡ if_given (with_rows l a) (λ l. with_rows l b))
+          → if_given w (λ l. with_rows l (a ++ b)) ≡ if_given (if_given w (λ l. with_rows l a)) (λ l. with_rows l b)
+      by (Ok l) more = more l
+      by (Err fault) more = refl
 
-pub with_rows-append : (layer : Contents Shape) (a b : List ReadRow) → with_rows layer (a ++ b) ≡ if_given (with_rows layer a) (λ l. with_rows l b)
-with_rows-append layer [] b = refl
-with_rows-append layer (row ∷ a) b = by (with_row (layer.next + 1) layer (Ok (content_of row))) (λ l. with_rows-append l a b)
-  where
-    by : (w : Result (Contents Shape) ReadFault) → ((l : Contents Shape) → with_rows l (a ++ b) ≡ if_given (with_rows l a) (λ l. with_rows l b))
-        → if_given w (λ l. with_rows l (a ++ b)) ≡ if_given (if_given w (λ l. with_rows l a)) (λ l. with_rows l b)
-    by (Ok l) more = more l
-    by (Err fault) more = refl
+  pub with_rows-next : (layer : Contents G) (rows : List (ReadRow G)) (next : Contents G) → with_rows layer rows ≡ Ok next → next.next ≡ layer.next + length rows
+  with_rows-next layer [] next given = let same : layer ≡ next = cc in omega (arith, ap (λ l. l.next) same)
+  with_rows-next layer (row ∷ rows) next given =
+      by (with_row (layer.next + 1) layer (Ok (content_of row))) refl given (λ l more. with_rows-next l rows next more)
+    where
+      by : (w : Result (Contents G) ReadFault) → with_row (layer.next + 1) layer (Ok (content_of row)) ≡ w → if_given w (λ l. with_rows l rows) ≡ Ok next
+          → ((l : Contents G) → with_rows l rows ≡ Ok next → next.next ≡ l.next + length rows) → next.next ≡ layer.next + length (row ∷ rows)
+      by (Ok l) is given more = omega (arith, more l given, with_row-next (layer.next + 1) layer (content_of row) l is)
+      by (Err fault) is given more = let none = given in cc
 
-pub with_rows-next : (layer : Contents Shape) (rows : List ReadRow) (next : Contents Shape) → with_rows layer rows ≡ Ok next → next.next ≡ layer.next + length rows
-with_rows-next layer [] next given = let same : layer ≡ next = cc in omega (arith, ap (λ l. l.next) same)
-with_rows-next layer (row ∷ rows) next given =
-    by (with_row (layer.next + 1) layer (Ok (content_of row))) refl given (λ l more. with_rows-next l rows next more)
-  where
-    by : (w : Result (Contents Shape) ReadFault) → with_row (layer.next + 1) layer (Ok (content_of row)) ≡ w → if_given w (λ l. with_rows l rows) ≡ Ok next
-        → ((l : Contents Shape) → with_rows l rows ≡ Ok next → next.next ≡ l.next + length rows) → next.next ≡ layer.next + length (row ∷ rows)
-    by (Ok l) is given more = omega (arith, more l given, with_row-next (layer.next + 1) layer (content_of row) l is)
-    by (Err fault) is given more = let none = given in cc
+  pub all_rows_append : (a b : List (Vec (ReadRow G) Global)) → all_rows (a ++ b) ≡ all_rows a ++ all_rows b
+  all_rows_append [] b = refl
+  all_rows_append (rows ∷ a) b = ap (λ others. rows.items ++ others) (all_rows_append a b) ∙ sym (append_assoc rows.items (all_rows a) (all_rows b))
 
-pub all_rows_append : (a b : List (Vec ReadRow Global)) → all_rows (a ++ b) ≡ all_rows a ++ all_rows b
-all_rows_append [] b = refl
-all_rows_append (rows ∷ a) b = ap (λ others. rows.items ++ others) (all_rows_append a b) ∙ sym (append_assoc rows.items (all_rows a) (all_rows b))
-
-module _ (scale : Scale) where
+module _ {G : Type 0} (reads : Reading G) where
   -- ---- what records say
 
   -- the content of a row doesn't depend on its number
-  pub says-any : (n : ℕ) (fields : Record) (content : RowContent) → RowSays scale n fields (Ok content) → Says scale fields content
+  pub says-any : (n : ℕ) (fields : Record) (content : RowContent G) → RowSays reads n fields (Ok content) → Says reads fields content
   says-any n [] content says m = let none = says in cc
   says-any n (id ∷ []) content says m = let none = says in cc
   says-any n (id ∷ wkt ∷ other ∷ others) content says m = let none = says in cc
   says-any n (id ∷ wkt ∷ []) content (inl (bad, is)) m = let none = is in cc
-  says-any n (id ∷ wkt ∷ []) content (inr (good, (shape, reads, is))) m = inr (good, (shape, reads, by shape is))
+  says-any n (id ∷ wkt ∷ []) content (inr (good, (shape, read, is))) m = inr (good, (shape, read, by shape is))
     where
-      by : (shape : Result Shape WktFault) → Ok content ≡ content_with n id shape → Ok content ≡ content_with m id shape
+      by : (shape : Result G TextFault) → Ok content ≡ content_with n id shape → Ok content ≡ content_with m id shape
       by (Ok s) is = is
       by (Err fault) is = let none = is in cc
 
   -- one more row
-  pub say-push : (records : List Record) (rows : List ReadRow) (first : Record) (row : ReadRow) (left : List Record)
-      → SayInTurn scale records rows (first ∷ left) → Says scale first (content_of row) → SayInTurn scale records (rows ++ row ∷ []) left
+  pub say-push : (records : List Record) (rows : List (ReadRow G)) (first : Record) (row : ReadRow G) (left : List Record)
+      → SayInTurn reads records rows (first ∷ left) → Says reads first (content_of row) → SayInTurn reads records (rows ++ row ∷ []) left
   say-push records [] first row left say says = rw say (says, refl)
   say-push [] (r ∷ rows) first row left say says = absurd say
   say-push (other ∷ records) (r ∷ rows) first row left say says = (say.0, say-push records rows first row left say.1 says)
 
   -- the rows of two texts
-  pub say-append : (a b : List Record) (rows others : List ReadRow) (left : List Record)
-      → SayInTurn scale a rows [] → SayInTurn scale b others left → SayInTurn scale (a ++ b) (rows ++ others) left
+  pub say-append : (a b : List Record) (rows others : List (ReadRow G)) (left : List Record)
+      → SayInTurn reads a rows [] → SayInTurn reads b others left → SayInTurn reads (a ++ b) (rows ++ others) left
   say-append a b [] others left say more = rw say more
   say-append [] b (r ∷ rows) others left say more = absurd say
   say-append (first ∷ a) b (r ∷ rows) others left say more = (say.0, say-append a b rows others left say.1 more)
 
   -- and then the remaining rows
-  pub say-then : (a b : List Record) (rows : List ReadRow) → SayInTurn scale a rows [] → SayInTurn scale (a ++ b) rows b
+  pub say-then : (a b : List Record) (rows : List (ReadRow G)) → SayInTurn reads a rows [] → SayInTurn reads (a ++ b) rows b
   say-then a b [] say = rw say refl
   say-then [] b (r ∷ rows) say = absurd say
   say-then (first ∷ a) b (r ∷ rows) say = (say.0, say-then a b rows say.1)
 
-  pub say-length : (records : List Record) (rows : List ReadRow) (left : List Record) → SayInTurn scale records rows left
+  pub say-length : (records : List Record) (rows : List (ReadRow G)) (left : List Record) → SayInTurn reads records rows left
       → length records ≡ length rows + length left
   say-length records [] left say = omega (arith, ap length say)
   say-length [] (r ∷ rows) left say = absurd say
@@ -99,9 +98,9 @@ module _ (scale : Scale) where
   -- ---- what a layer is given
 
   -- a layer that accepts these rows, and then the remaining ones
-  pub say-give : (n m : ℕ) (records : List Record) (rows : List ReadRow) (left : List Record) (layer next : Contents Shape) (answer : Result (Contents Shape) ReadFault)
-      → SayInTurn scale records rows left → n ≡ layer.next + 1 → n + length rows ≡ m → with_rows layer rows ≡ Ok next
-      → RowsGive (LayerRowGives scale) m next left answer → RowsGive (LayerRowGives scale) n layer records answer
+  pub say-give : (n m : ℕ) (records : List Record) (rows : List (ReadRow G)) (left : List Record) (layer next : Contents G) (answer : Result (Contents G) ReadFault)
+      → SayInTurn reads records rows left → n ≡ layer.next + 1 → n + length rows ≡ m → with_rows layer rows ≡ Ok next
+      → RowsGive (LayerRowGives reads) m next left answer → RowsGive (LayerRowGives reads) n layer records answer
   say-give n m records [] left layer next answer say at sum given gives =
       let same : m ≡ n = omega arith in
       let layers : next ≡ layer = cc in
@@ -112,63 +111,63 @@ module _ (scale : Scale) where
       (λ l is more. say-give (n + 1) m records rows left l next answer say.1
       (omega (arith, with_row-next n layer (content_of r) l is)) (omega arith) more gives)
     where
-      by : (w : Result (Contents Shape) ReadFault) → with_row n layer (Ok (content_of r)) ≡ w
+      by : (w : Result (Contents G) ReadFault) → with_row n layer (Ok (content_of r)) ≡ w
           → if_given (with_row n layer (Ok (content_of r))) (λ l. with_rows l rows) ≡ Ok next
-          → ((l : Contents Shape) → with_row n layer (Ok (content_of r)) ≡ Ok l → with_rows l rows ≡ Ok next
-          → RowsGive (LayerRowGives scale) (n + 1) l records answer)
-          → RowsGive (LayerRowGives scale) n layer (first ∷ records) answer
+          → ((l : Contents G) → with_row n layer (Ok (content_of r)) ≡ Ok l → with_rows l rows ≡ Ok next
+          → RowsGive (LayerRowGives reads) (n + 1) l records answer)
+          → RowsGive (LayerRowGives reads) n layer (first ∷ records) answer
       by (Ok l) is given later = (Ok l, (Ok (content_of r), say.0 n, sym is), later l is (rw is at given))
       by (Err f) is given later = let none = rw is at given in cc
 
   -- a layer that refuses one of these rows
-  pub say-refuse : (n : ℕ) (records : List Record) (rows : List ReadRow) (left : List Record) (layer : Contents Shape) (fault : ReadFault)
-      → SayInTurn scale records rows left → n ≡ layer.next + 1 → with_rows layer rows ≡ Err fault
-      → RowsGive (LayerRowGives scale) n layer records (Err fault)
+  pub say-refuse : (n : ℕ) (records : List Record) (rows : List (ReadRow G)) (left : List Record) (layer : Contents G) (fault : ReadFault)
+      → SayInTurn reads records rows left → n ≡ layer.next + 1 → with_rows layer rows ≡ Err fault
+      → RowsGive (LayerRowGives reads) n layer records (Err fault)
   say-refuse n records [] left layer fault say at given = let none = given in cc
   say-refuse n [] (r ∷ rows) left layer fault say at given = absurd say
   say-refuse n (first ∷ records) (r ∷ rows) left layer fault say at given =
       by (with_row n layer (Ok (content_of r))) refl (ap (λ k. if_given (with_row k layer (Ok (content_of r))) (λ l. with_rows l rows)) at ∙ given)
       (λ l is more. say-refuse (n + 1) records rows left l fault say.1 (omega (arith, with_row-next n layer (content_of r) l is)) more)
     where
-      by : (w : Result (Contents Shape) ReadFault) → with_row n layer (Ok (content_of r)) ≡ w
+      by : (w : Result (Contents G) ReadFault) → with_row n layer (Ok (content_of r)) ≡ w
           → if_given (with_row n layer (Ok (content_of r))) (λ l. with_rows l rows) ≡ Err fault
-          → ((l : Contents Shape) → with_row n layer (Ok (content_of r)) ≡ Ok l → with_rows l rows ≡ Err fault
-          → RowsGive (LayerRowGives scale) (n + 1) l records (Err fault))
-          → RowsGive (LayerRowGives scale) n layer (first ∷ records) (Err fault)
+          → ((l : Contents G) → with_row n layer (Ok (content_of r)) ≡ Ok l → with_rows l rows ≡ Err fault
+          → RowsGive (LayerRowGives reads) (n + 1) l records (Err fault))
+          → RowsGive (LayerRowGives reads) n layer (first ∷ records) (Err fault)
       by (Ok l) is given later = (Ok l, (Ok (content_of r), say.0 n, sym is), later l is (rw is at given))
       by (Err f) is given later = (Err f, (Ok (content_of r), say.0 n, sym is), sym (rw is at given))
 
   -- a row that has a fault by itself
-  pub fault-gives : (n : ℕ) (records : List Record) (layer : Contents Shape) (fault : ReadFault) → HasFault scale n records fault
-      → RowsGive (LayerRowGives scale) n layer records (Err fault)
+  pub fault-gives : (n : ℕ) (records : List Record) (layer : Contents G) (fault : ReadFault) → HasFault reads n records fault
+      → RowsGive (LayerRowGives reads) n layer records (Err fault)
   fault-gives n [] layer fault has = absurd has
   fault-gives n (first ∷ records) layer fault has = (Err fault, (Err fault, has, refl), refl)
 
 -- ---- what ends a batch
-module _ (scale : Scale) (old new : Unread) (read : List ReadRow) (left : List Record)
-    (say : SayInTurn scale (records_unread old) read left) (ids : All HasId read) where
+module _ {G : Type 0} (reads : Reading G) (old new : Unread) (read : List (ReadRow G)) (left : List Record)
+    (say : SayInTurn reads (records_unread old) read left) (ids : All HasId read) where
   -- memory was refused
-  pub batch-refused : IsBatch scale old read (Err Memory) new
+  pub batch-refused : IsBatch reads old read (Err Memory) new
   batch-refused = record { left = left; rows = say; behind = λ other. absurd (other refl); ids = ids; no_io = λ e. cc }
 
   -- no row is left
-  pub batch-ended : left ≡ [] → IsBatch scale old read (Ok false) new
+  pub batch-ended : left ≡ [] → IsBatch reads old read (Ok false) new
   batch-ended none = record { left = left; rows = say; behind = none; ids = ids; no_io = λ e. cc }
 
   -- the first row that is left has a fault of its own, or memory was refused
-  pub batch-faulty : (fault : ReadFault) → fault ≢ Io → (fault ≢ Memory → HasFault scale (count_unread old + 1 + length read) left fault)
-      → IsBatch scale old read (Err fault) new
+  pub batch-faulty : (fault : ReadFault) → fault ≢ Io → (fault ≢ Memory → HasFault reads (count_unread old + 1 + length read) left fault)
+      → IsBatch reads old read (Err fault) new
   batch-faulty fault no_io has = record { left = left; rows = say; behind = has; ids = ids; no_io = λ e. no_io cc }
 
 -- memory was refused before a row was read
-pub batch-none : (scale : Scale) (old new : Unread) (rows : List (Vec ReadRow Global)) → rows ≡ [] → IsBatch scale old (all_rows rows) (Err Memory) new
-batch-none scale old new rows none = rw none (batch-refused scale old new [] (records_unread old) refl (All-nil HasId))
+pub batch-none : {G : Type 0} (reads : Reading G) (old new : Unread) (rows : List (Vec (ReadRow G) Global)) → rows ≡ [] → IsBatch reads old (all_rows rows) (Err Memory) new
+batch-none reads old new rows none = rw none (batch-refused reads old new [] (records_unread old) refl (All-nil HasId))
 
 -- rows that a reader reads are those that were left
-pub batch-begun : (scale : Scale) (old : Unread) (first new : RowsOf) (read : List ReadRow) (more : Result Bool ReadFault)
-    → rows_left first ≡ records_unread old → first.count ≡ count_unread old → IsBatch scale (Rows first) read more (Rows new)
-    → IsBatch scale old read more (Rows new)
-batch-begun scale old first new read more rows count batch = record {
+pub batch-begun : {G : Type 0} (reads : Reading G) (old : Unread) (first new : RowsOf) (read : List (ReadRow G)) (more : Result Bool ReadFault)
+    → rows_left first ≡ records_unread old → first.count ≡ count_unread old → IsBatch reads (Rows first) read more (Rows new)
+    → IsBatch reads old read more (Rows new)
+batch-begun reads old first new read more rows count batch = record {
   left = batch.left;
   rows = rw (← rows) batch.rows;
   behind = rw (← count) batch.behind;
@@ -183,53 +182,53 @@ most_rounds unread (Ok false) = 0
 most_rounds unread (Err fault) = 0
 
 -- the effect on a layer of a batch and of what follows it
-module _ (scale : Scale) where
+module _ {G : Type 0} (reads : Reading G) where
   -- the rows that are left give a layer this
-  abbrev pub Gives : Unread → Contents Shape → Result (Contents Shape) ReadFault → Type 0
-  Gives unread layer answer = RowsGive (LayerRowGives scale) (count_unread unread + 1) layer (records_unread unread) answer
+  abbrev pub Gives : Unread → Contents G → Result (Contents G) ReadFault → Type 0
+  Gives unread layer answer = RowsGive (LayerRowGives reads) (count_unread unread + 1) layer (records_unread unread) answer
 
-  module _ (old new : Unread) (read : List ReadRow) where
-    pub batch-smaller : (more : Result Bool ReadFault) → IsBatch scale old read more new → most_rounds new more < length (records_unread old) + 1
+  module _ (old new : Unread) (read : List (ReadRow G)) where
+    pub batch-smaller : (more : Result Bool ReadFault) → IsBatch reads old read more new → most_rounds new more < length (records_unread old) + 1
     batch-smaller (Ok true) batch =
-        omega (arith, say-length scale (records_unread old) read batch.left batch.rows, ap length batch.behind.1, batch.behind.3)
+        omega (arith, say-length reads (records_unread old) read batch.left batch.rows, ap length batch.behind.1, batch.behind.3)
     batch-smaller (Ok false) batch = omega arith
     batch-smaller (Err fault) batch = omega arith
 
-    module _ (layer : Contents Shape) (at : count_unread old ≡ layer.next) where
-      pub batch-refuses : (more : Result Bool ReadFault) (fault : ReadFault) → IsBatch scale old read more new
+    module _ (layer : Contents G) (at : count_unread old ≡ layer.next) where
+      pub batch-refuses : (more : Result Bool ReadFault) (fault : ReadFault) → IsBatch reads old read more new
           → with_rows layer read ≡ Err fault → Gives old layer (Err fault)
       batch-refuses more fault batch given =
-          say-refuse scale (count_unread old + 1) (records_unread old) read batch.left layer fault batch.rows (omega arith) given
+          say-refuse reads (count_unread old + 1) (records_unread old) read batch.left layer fault batch.rows (omega arith) given
 
-      module _ (next : Contents Shape) where
-        pub batch-goes-on : (answer : Result (Contents Shape) ReadFault) → IsBatch scale old read (Ok true) new → with_rows layer read ≡ Ok next
+      module _ (next : Contents G) where
+        pub batch-goes-on : (answer : Result (Contents G) ReadFault) → IsBatch reads old read (Ok true) new → with_rows layer read ≡ Ok next
             → Gives new next answer → Gives old layer answer
         batch-goes-on answer batch given gives =
-            say-give scale (count_unread old + 1) (count_unread new + 1) (records_unread old) read batch.left layer next answer batch.rows
+            say-give reads (count_unread old + 1) (count_unread new + 1) (records_unread old) read batch.left layer next answer batch.rows
             (omega arith) batch.behind.2 given (rw batch.behind.1 gives)
 
-        batch-ends : IsBatch scale old read (Ok false) new → with_rows layer read ≡ Ok next → Gives old layer (Ok next)
+        batch-ends : IsBatch reads old read (Ok false) new → with_rows layer read ≡ Ok next → Gives old layer (Ok next)
         batch-ends batch given =
-            say-give scale (count_unread old + 1) (count_unread old + 1 + length read) (records_unread old) read batch.left layer next (Ok next)
+            say-give reads (count_unread old + 1) (count_unread old + 1 + length read) (records_unread old) read batch.left layer next (Ok next)
             batch.rows (omega arith) refl given (rw batch.behind refl)
 
-        batch-fails : (fault : ReadFault) → IsBatch scale old read (Err fault) new → fault ≢ Memory → with_rows layer read ≡ Ok next
+        batch-fails : (fault : ReadFault) → IsBatch reads old read (Err fault) new → fault ≢ Memory → with_rows layer read ≡ Ok next
             → Gives old layer (Err fault)
         batch-fails fault batch known given =
-            say-give scale (count_unread old + 1) (count_unread old + 1 + length read) (records_unread old) read batch.left layer next (Err fault)
+            say-give reads (count_unread old + 1) (count_unread old + 1 + length read) (records_unread old) read batch.left layer next (Err fault)
             batch.rows (omega arith) refl given
-            (fault-gives scale (count_unread old + 1 + length read) batch.left next fault (batch.behind known))
+            (fault-gives reads (count_unread old + 1 + length read) batch.left next fault (batch.behind known))
 
         -- the layer has as many features more as rows were read
-        pub batch-counted : IsBatch scale old read (Ok true) new → with_rows layer read ≡ Ok next → count_unread new ≡ next.next
+        pub batch-counted : IsBatch reads old read (Ok true) new → with_rows layer read ≡ Ok next → count_unread new ≡ next.next
         batch-counted batch given = omega (arith, with_rows-next layer read next given, batch.behind.2)
 
       -- the last batch
-      pub batch-last : (more : Result Bool ReadFault) (answer : Result (Contents Shape) ReadFault) → IsBatch scale old read more new → more ≢ Ok true
+      pub batch-last : (more : Result Bool ReadFault) (answer : Result (Contents G) ReadFault) → IsBatch reads old read more new → more ≢ Ok true
           → answer ≢ Err Memory → answer ≡ if_given (with_rows layer read) (after_rows more) → Gives old layer answer
       batch-last more answer batch last known is = by (with_rows layer read) refl more batch last is
         where
-          by : (given : Result (Contents Shape) ReadFault) → with_rows layer read ≡ given → (more : Result Bool ReadFault) → IsBatch scale old read more new
+          by : (given : Result (Contents G) ReadFault) → with_rows layer read ≡ given → (more : Result Bool ReadFault) → IsBatch reads old read more new
               → more ≢ Ok true → answer ≡ if_given given (after_rows more) → Gives old layer answer
           by (Err fault) w more batch last is = subst (Gives old layer) (sym is) (batch-refuses more fault batch w)
           by (Ok next) w (Ok true) batch last is = absurd (last refl)

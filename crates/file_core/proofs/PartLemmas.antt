@@ -7,13 +7,13 @@ use Rattle.csv.specs.Reading.{default_config, is_bom, records, strip_bom}
 use Rattle.csv.specs.Records.{field_at}
 use Rattle.csv.specs.declared.parser.State.{State}
 use Rattle.csv.specs.declared.parser.State.TheVariants as st
-use Rattle.wkt_core.specs.declared.scale.Scale.{Scale}
 use Rattle.file_core.specs.declared.layer_row.ReadRow.{ReadRow}
 use Rattle.file_core.specs.declared.parts.Parts.{Parts}
 use Rattle.file_core.specs.declared.rows.Rows.{Rows as RowsOf}
 use Rattle.file_core.specs.declared.unread.Unread.TheVariants.{Text, Rows}
 use Rattle.file_core.specs.Batches.{HasId, IsBatch}
 use Rattle.file_core.specs.Cuts.{EndsBetween, EndsWithFeed, IsClosed, IsPlain, state_after}
+use Rattle.file_core.specs.Formats.{Reading}
 use Rattle.file_core.specs.LayerFiles.{layer_columns}
 use Rattle.file_core.specs.Limits.{most_file_bytes}
 use Rattle.file_core.specs.Parts.{IsBoth, IsOnePart, IsParts, rows_of}
@@ -124,36 +124,36 @@ ends-append a b first second = rw (state-append st.StartRecord a b) (ends-from (
 
 -- ---- parts
 
-pub parts_whole : (scale : Scale) (text : List ℕ) (old new : RowsOf) (read : List ReadRow) (parts : Parts) → EndsWithFeed text
-    → rows_left old ≡ records default_config text → IsBatch scale (Rows old) read (Ok false) (Rows new) → All IsClosed (rows_left old)
-    → IsOnePart read parts → IsParts scale text parts
-parts_whole scale text old new read parts ends rows batch closed one = record {
+pub parts_whole : {G : Type 0} (reads : Reading G) (text : List ℕ) (old new : RowsOf) (read : List (ReadRow G)) (parts : Parts G) → EndsWithFeed text
+    → rows_left old ≡ records default_config text → IsBatch reads (Rows old) read (Ok false) (Rows new) → All IsClosed (rows_left old)
+    → IsOnePart read parts → IsParts reads text parts
+parts_whole reads text old new read parts ends rows batch closed one = record {
   rows = rw (one.rows, ← rows, ← batch.behind) batch.rows;
   counted = rw one.rows one.count;
   ends = feed-between text ends (rw rows at closed);
   ids = rw one.rows batch.ids;
 }
 
-pub parts_both : (scale : Scale) (text a b : List ℕ) (first second all : Parts) → a ++ b ≡ text → IsParts scale a first → IsParts scale b second
-    → IsBoth first second all → IsParts scale text all
-parts_both scale text a b first second all is one other both =
+pub parts_both : {G : Type 0} (reads : Reading G) (text a b : List ℕ) (first second all : Parts G) → a ++ b ≡ text → IsParts reads a first → IsParts reads b second
+    → IsBoth first second all → IsParts reads text all
+parts_both reads text a b first second all is one other both =
     rw (← is)
     (record {
       rows = rw (text-cut a b one.ends, both.rows)
-          (say-append scale (records default_config a) (records default_config b) (rows_of first) (rows_of second) [] one.rows other.rows);
+          (say-append reads (records default_config a) (records default_config b) (rows_of first) (rows_of second) [] one.rows other.rows);
       counted = omega (arith, both.count, one.counted, other.counted, ap length both.rows, length-append (rows_of first) (rows_of second));
       ends = ends-append a b one.ends other.ends;
       ids = rw both.rows (All-append HasId (rows_of first) (rows_of second) one.ids other.ids);
     })
 
-pub parts-batch : (scale : Scale) (text rest : Bor (List ℕ)) (count behind : ℕ) (round : List ℕ) (parts : Parts) → IsUnread (Text text count)
-    → round ++ rest.now ≡ text.now → IsParts scale round parts → IsPlain rest.now → behind ≡ count + parts.count → 0 < parts.count
-    → IsBatch scale (Text text count) (rows_of parts) (Ok true) (Text rest behind)
-parts-batch scale text rest count behind round parts unread is read plain counted some =
+pub parts-batch : {G : Type 0} (reads : Reading G) (text rest : Bor (List ℕ)) (count behind : ℕ) (round : List ℕ) (parts : Parts G) → IsUnread (Text text count)
+    → round ++ rest.now ≡ text.now → IsParts reads round parts → IsPlain rest.now → behind ≡ count + parts.count → 0 < parts.count
+    → IsBatch reads (Text text count) (rows_of parts) (Ok true) (Text rest behind)
+parts-batch reads text rest count behind round parts unread is read plain counted some =
     let cut : records default_config text.now ≡ records default_config round ++ records default_config rest.now =
     ap (records default_config) (sym is) ∙ text-cut round rest.now read.ends in
-    let rows = say-then scale (records default_config round) (records default_config rest.now) (rows_of parts) read.rows in
-    let many = say-length scale (records default_config round ++ records default_config rest.now) (rows_of parts) (records default_config rest.now) rows in
+    let rows = say-then reads (records default_config round) (records default_config rest.now) (rows_of parts) read.rows in
+    let many = say-length reads (records default_config round ++ records default_config rest.now) (rows_of parts) (records default_config rest.now) rows in
     let few = unread.1 in
     record {
       left = records default_config rest.now;

@@ -1,15 +1,18 @@
 -- The text of each fault of a file.
 use Rattle.std.specs.Prelude.{ℕ, List, [], ◌++◌, Option, Some, None, codes, decimal}
 use Rattle.wkt_core.specs.FaultTexts.{wkt_text}
+use Rattle.wkt_any_core.specs.FaultTexts.{geometry_text}
 use Rattle.layer_core.specs.FaultTexts.{layer_text}
 use Rattle.file_core.specs.declared.read_fault.ReadFault.{ReadFault}
 use Rattle.file_core.specs.declared.read_fault.ReadFault.TheVariants.{Io, TooLong, Header, Row}
-use Rattle.file_core.specs.declared.read_fault.ReadFault.TheVariants.{Wkt, Layer, Memory}
+use Rattle.file_core.specs.declared.read_fault.ReadFault.TheVariants.{Wkt, Geometry, Layer}
+use Rattle.file_core.specs.declared.read_fault.ReadFault.TheVariants.{Memory}
 
 -- the number of the row at fault, if there is one
 abbrev pub row_of : ReadFault → Option ℕ
 row_of (Row n) = Some n
 row_of (Wkt n fault) = Some n
+row_of (Geometry n fault) = Some n
 row_of (Layer n fault) = Some n
 row_of Io = None
 row_of TooLong = None
@@ -23,6 +26,7 @@ cause_text TooLong = codes "file is too long"
 cause_text Header = codes "wrong header"
 cause_text (Row n) = codes "wrong fields"
 cause_text (Wkt n fault) = wkt_text fault
+cause_text (Geometry n fault) = geometry_text fault
 cause_text (Layer n fault) = layer_text fault
 cause_text Memory = codes "no memory"
 

@@ -1,12 +1,11 @@
 -- The layer of a CSV file, or its fault.
 use Rattle.std.specs.Prelude.{◌≡◌, ℕ, List, [], ◌∷◌, codes, Option, Some, None, Result, Ok, Err}
-use Rattle.wkt_core.specs.declared.scale.Scale.{Scale}
-use Rattle.geom_core.specs.declared.shape.Shape.{Shape}
 use Rattle.layer_core.specs.declared.fault.LayerFault.{LayerFault}
 use Rattle.layer_core.specs.declared.fault.LayerFault.TheVariants.{BadId, DoubleId, LayerFull}
 use Rattle.layer_core.specs.declared.fault.LayerFault.TheVariants.{NoSuchId, Memory}
 use Rattle.file_core.specs.declared.read_fault.ReadFault.{ReadFault}
 use Rattle.file_core.specs.declared.read_fault.ReadFault.TheVariants.{Memory as no_memory, Layer}
+use Rattle.file_core.specs.Formats.{Reading}
 use Rattle.file_core.specs.LayerRows.{RowContent, RowSays}
 use Rattle.layer_core.specs.Layers.{Contents, empty, inserted}
 use Rattle.layer_core.specs.LayerTrees.{LayerState}
@@ -30,24 +29,25 @@ fault_of_row n LayerFull = Layer n LayerFull
 fault_of_row n NoSuchId = Layer n NoSuchId
 
 -- the layer with the feature of the row with this number, or the row's fault
-abbrev pub with_row : ℕ → Contents Shape → Result RowContent ReadFault
-    → Result (Contents Shape) ReadFault
+abbrev pub with_row : {G : Type 0} → ℕ → Contents G → Result (RowContent G) ReadFault
+    → Result (Contents G) ReadFault
 with_row n layer (Ok row) =
     refused_or n (insert_refusal layer row.id) (inserted layer row.id row.shape)
 with_row n layer (Err fault) = Err fault
 
--- the result of adding the row with this number to a layer, with coordinates at a scale
-abbrev pub LayerRowGives : Scale → ℕ → Contents Shape → Record
-    → Result (Contents Shape) ReadFault → Type 0
-LayerRowGives scale n layer row answer =
-    (content : Result RowContent ReadFault) × RowSays scale n row content
+-- the result of adding the row with this number to a layer, given how geometries read
+abbrev pub LayerRowGives : {G : Type 0} → Reading G → ℕ → Contents G → Record
+    → Result (Contents G) ReadFault → Type 0
+LayerRowGives {G} reads n layer row answer =
+    (content : Result (RowContent G) ReadFault) × RowSays reads n row content
     × (answer ≡ with_row n layer content)
 
-abbrev pub IsLayerFile : Scale → List ℕ → Result (Contents Shape) ReadFault → Type 0
-IsLayerFile scale bytes answer =
-    FileGives layer_columns (LayerRowGives scale) empty bytes answer
+abbrev pub IsLayerFile : {G : Type 0} → Reading G → List ℕ → Result (Contents G) ReadFault → Type 0
+IsLayerFile reads bytes answer =
+    FileGives layer_columns (LayerRowGives reads) empty bytes answer
 
 -- the list of a layer that was read, or the fault
-abbrev pub list_read : Result (LayerState Shape) ReadFault → Result (Contents Shape) ReadFault
+abbrev pub list_read : {G : Type 0} → Result (LayerState G) ReadFault
+    → Result (Contents G) ReadFault
 list_read (Ok layer) = Ok layer.list
 list_read (Err fault) = Err fault

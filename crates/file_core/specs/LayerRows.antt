@@ -1,37 +1,36 @@
 -- The content of a row of a layer's file: a feature's id and shape, or the row's own fault.
 use Rattle.std.specs.Prelude.{◌≡◌, ℕ, List, [], ◌∷◌, Result, Ok, Err}
-use Rattle.geom_core.specs.declared.shape.Shape.{Shape}
 use Rattle.layer_core.specs.Ids.{id_bytes}
-use Rattle.wkt_core.specs.Readings.{Reads}
-use Rattle.wkt_core.specs.declared.fault.WktFault.{WktFault}
-use Rattle.wkt_core.specs.declared.scale.Scale.{Scale}
 use Rattle.file_core.specs.declared.layer_row.ReadRow.{ReadRow}
 use Rattle.file_core.specs.declared.read_fault.ReadFault.{ReadFault}
-use Rattle.file_core.specs.declared.read_fault.ReadFault.TheVariants.{Row, Wkt}
+use Rattle.file_core.specs.declared.read_fault.ReadFault.TheVariants.{Row}
+use Rattle.file_core.specs.declared.text_fault.TextFault.{TextFault}
 use Rattle.file_core.specs.Fields.{AfterId}
+use Rattle.file_core.specs.Formats.{Reading, fault_of_text}
 use Rattle.file_core.specs.Records.{Record}
 
 -- the id and the shape of a row's feature
-pub record RowContent : Type 0 where
+pub record RowContent (G : Type 0) : Type 0 where
   pub id : List ℕ
-  pub shape : Shape
+  pub shape : G
 
-abbrev pub content_of : ReadRow → RowContent
+abbrev pub content_of : {G : Type 0} → ReadRow G → RowContent G
 content_of row = record { id = id_bytes row.id; shape = row.shape }
 
 -- the content of the row with this number, given the result of reading its geometry
-abbrev pub content_with : ℕ → List ℕ → Result Shape WktFault → Result RowContent ReadFault
+abbrev pub content_with : {G : Type 0} → ℕ → List ℕ → Result G TextFault
+    → Result (RowContent G) ReadFault
 content_with n id (Ok shape) = Ok (record { id = id; shape = shape })
-content_with n id (Err fault) = Err (Wkt n fault)
+content_with n id (Err fault) = Err (fault_of_text n fault)
 
--- the content of the row with this number, with coordinates at a scale
-abbrev pub RowSays : Scale → ℕ → Record → Result RowContent ReadFault → Type 0
-RowSays scale n (id ∷ wkt ∷ []) content =
+-- the content of the row with this number, given how its geometry reads
+abbrev pub RowSays : {G : Type 0} → Reading G → ℕ → Record → Result (RowContent G) ReadFault
+    → Type 0
+RowSays {G} reads n (id ∷ wkt ∷ []) content =
     AfterId n id content
-    ((shape : Result Shape WktFault) × Reads scale wkt shape
-    × (content ≡ content_with n id shape))
-RowSays scale n _ content = content ≡ Err (Row n)
+    ((shape : Result G TextFault) × reads wkt shape × (content ≡ content_with n id shape))
+RowSays reads n _ content = content ≡ Err (Row n)
 
 -- the content of the row, whatever its number
-abbrev pub Says : Scale → Record → RowContent → Type 0
-Says scale row content = (n : ℕ) → RowSays scale n row (Ok content)
+abbrev pub Says : {G : Type 0} → Reading G → Record → RowContent G → Type 0
+Says reads row content = (n : ℕ) → RowSays reads n row (Ok content)

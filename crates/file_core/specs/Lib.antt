@@ -3,6 +3,7 @@ pub mod Cuts
 pub mod EditFiles
 pub mod FaultTexts
 pub mod Fields
+pub mod Formats
 pub mod LayerFiles
 pub mod LayerRows
 pub mod Limits

@@ -1,23 +1,25 @@
 //! Batches of rows, which are read ahead of their insertion.
 
-ghost use Rattle.std.specs.Prelude.{◌≡◌, ◌<◌, [], false, All, IfOk, IfSome, Ok};
-ghost use Rattle.file_core.specs.Batches.{HasId, AnswersRows, IsBatch, all_rows};
+ghost use Rattle.std.specs.Prelude.{◌≡◌, ◌<◌, ◌≤◌, [], false, All, IfOk, IfSome, Ok};
+ghost use Rattle.file_core.specs.Batches.{HasId, AnswersRows, IsBatch, IsNext, all_rows};
 ghost use Rattle.file_core.specs.Cuts.{IsClosed};
+ghost use Rattle.file_core.specs.Parts.{IsParts};
 ghost use Rattle.file_core.specs.Rows.{IsReading, rows_left};
 ghost use Rattle.file_core.specs.Unread.{IsUnread};
 
 use crate::cuts::{cut, is_plain};
+use crate::format::Format;
 use crate::insertion::add_parts;
 use crate::layer_row::{ReadRow, read_row};
-use crate::parts::{Parts, ReadParts};
+use crate::parts::{Parts, read_four, read_two};
 use crate::read_fault::ReadFault;
+use crate::row_reader::RowReader;
 use crate::rows::Rows;
 use crate::unread::Unread;
-use layer_core::FeatureList;
-use std::alloc::{AllocError, Global};
+use layer_core::{FeatureList, Geometry};
+use std::alloc::AllocError;
 use std::thread;
 use std::thread::Threads;
-use wkt_core::Scale;
 
 /// The number of rows in a batch that is read row by row, unless the file ends first.
 const BATCH_ROWS: usize = 4_096;
@@ -26,25 +28,28 @@ const BATCH_ROWS: usize = 4_096;
 const PART_BYTES: usize = 262_144;
 
 /// The number of bytes from which more than one thread is worth its cost.
-pub const MIN_THREADED_BYTES: usize = 65_536;
+pub(crate) const MIN_THREADED_BYTES: usize = 65_536;
 
 /// Consecutive rows of a file, in parts.
 #[derive(Drop)]
-pub(crate) struct Batch {
-    pub(crate) rows: Vec<Vec<ReadRow>>,
+pub(crate) struct Batch<G> {
+    pub(crate) rows: Vec<Vec<ReadRow<G>>>,
     /// Whether more rows may follow, or the fault of the next row.
     pub(crate) more: Result<bool, ReadFault>,
 }
 
 /// Reads the next rows, one after another.
-fn read_batch<'a>(alloc: Global, unread: Unread<'a>, scale: Scale) -> (Unread<'a>, Batch)
+fn read_batch<'a, F: Format>(
+    reader: RowReader<F>,
+    unread: Unread<'a>,
+) -> (Unread<'a>, Batch<F::Geometry>)
     requires { IsUnread unread }
-    ensures { IsBatch scale unread.entry (all_rows result.1.rows.items) result.1.more result.0 }
+    ensures { IsNext (F.reads reader.format) unread.entry result }
 {
-    match read_rows(alloc, unread, scale) {
+    match read_rows(reader, unread) {
         Ok(read) => read,
         Err(_) => {
-            let no_rows = Vec::new(alloc);
+            let no_rows = Vec::new(reader.alloc);
             let batch = Batch {
                 rows: no_rows,
                 more: Err(ReadFault::Memory),
@@ -56,35 +61,32 @@ fn read_batch<'a>(alloc: Global, unread: Unread<'a>, scale: Scale) -> (Unread<'a
 }
 
 /// The next rows, read one after another, or the error if an allocation fails.
-fn read_rows<'a>(
-    alloc: Global,
+fn read_rows<'a, F: Format>(
+    reader: RowReader<F>,
     unread: Unread<'a>,
-    scale: Scale,
-) -> Result<(Unread<'a>, Batch), AllocError>
+) -> Result<(Unread<'a>, Batch<F::Geometry>), AllocError>
     requires { IsUnread unread }
-    ensures { IfOk result (λ read.
-        IsBatch scale unread.entry (all_rows read.1.rows.items) read.1.more read.0) }
+    ensures { IfOk result (IsNext (F.reads reader.format) unread.entry) }
 {
-    let mut rows = unread.into_rows(alloc)?;
-    let mut read = Vec::new(alloc);
-    let more = fill(alloc, &mut read, &mut rows, scale, BATCH_ROWS);
-    let mut parts = Vec::new(alloc);
+    let mut rows = unread.into_rows(reader.alloc)?;
+    let mut read = Vec::new(reader.alloc);
+    let more = fill(reader, &mut read, &mut rows, BATCH_ROWS);
+    let mut parts = Vec::new(reader.alloc);
     parts.push(read)?;
     Ok((Unread::Rows(rows), Batch { rows: parts, more }))
 }
 
 /// Reads the next rows, at most `most`, into an empty list, and returns whether more may follow.
-pub(crate) fn fill(
-    alloc: Global,
-    read: &mut Vec<ReadRow>,
+pub(crate) fn fill<F: Format>(
+    reader: RowReader<F>,
+    read: &mut Vec<ReadRow<F::Geometry>>,
     rows: &mut Rows,
-    scale: Scale,
     most: usize,
 ) -> Result<bool, ReadFault>
     requires empty { read.old.items ≡ [] }
     requires reading { IsReading rows.old }
     requires some { 0 < most }
-    ensures batch { IsBatch scale (Unread.Rows rows.old) read.new.items result
+    ensures batch { IsBatch (F.reads reader.format) (Unread.Rows rows.old) read.new.items result
         (Unread.Rows rows.new) }
     ensures closed { result ≡ Ok false → rows.new.unended ≡ false
         → All IsClosed (rows_left rows.old) }
@@ -96,47 +98,63 @@ pub(crate) fn fill(
             return Ok(false);
         };
         let record = rows.row();
-        let row = read_row(alloc, number, record, scale)?;
+        let row = read_row(reader, number, record)?;
         read.push_reserved(row);
     }
     Ok(true)
 }
 
-/// Reads the next rows in parallel by `parts`, or else one after another.
-fn read_ahead<'a, P: ReadParts>(
-    alloc: Global,
-    unread: Unread<'a>,
-    scale: Scale,
-    parts: &P,
-) -> (Unread<'a>, Batch)
-    requires { IsUnread unread }
-    ensures { IsBatch scale unread.entry (all_rows result.1.rows.items) result.1.more result.0 }
-{
-    match read_parts(alloc, &unread, scale, parts) {
-        Some((behind, batch)) => (behind, batch),
-        None => read_batch(alloc, unread, scale),
+/// The threads that read a file.
+#[derive(Drop)]
+pub(crate) struct Crew<'r, R> {
+    pub(crate) rt: &'r R,
+    /// How many of them read, at most.
+    pub(crate) threads: u32,
+}
+
+impl<R> Crew<'_, R> {
+    /// The number of parts that several threads read side by side.
+    fn parts(&self) -> usize
+        ensures { result ≤ 4 }
+    {
+        if self.threads < 4 { 2 } else { 4 }
     }
 }
 
-/// The next rows, read by `parts`, if they are those of a text that isn't short.
-fn read_parts<'a, P: ReadParts>(
-    alloc: Global,
+/// Reads the next rows, side by side if there are several threads.
+pub(crate) fn read_next<'a, F: Format, R: Threads + Sync>(
+    reader: RowReader<F>,
+    crew: &Crew<'_, R>,
+    unread: Unread<'a>,
+) -> (Unread<'a>, Batch<F::Geometry>)
+    requires { IsUnread unread }
+    ensures { IsNext (F.reads reader.format) unread.entry result }
+{
+    if crew.threads > 1 {
+        if let Some((behind, batch)) = read_parts(reader, crew, &unread) {
+            return (behind, batch);
+        }
+    }
+    read_batch(reader, unread)
+}
+
+/// The next rows, read side by side, if they are those of a text that isn't short.
+fn read_parts<'a, F: Format, R: Threads + Sync>(
+    reader: RowReader<F>,
+    crew: &Crew<'_, R>,
     unread: &Unread<'a>,
-    scale: Scale,
-    parts: &P,
-) -> Option<(Unread<'a>, Batch)>
+) -> Option<(Unread<'a>, Batch<F::Geometry>)>
     requires { IsUnread unread.now }
-    ensures { IfSome result (λ read.
-        IsBatch scale unread.now (all_rows read.1.rows.items) read.1.more read.0) }
+    ensures { IfSome result (IsNext (F.reads reader.format) unread.now) }
 {
     let Unread::Text(text, count) = unread else {
         return None;
     };
-    let (round, rest) = cut(text, parts.count().saturating_mul(PART_BYTES));
+    let (round, rest) = cut(text, crew.parts() * PART_BYTES);
     if round.len() < MIN_THREADED_BYTES || !is_plain(rest) {
         return None;
     }
-    let Parts { rows, count: read } = parts.read(alloc, scale, round)?;
+    let Parts { rows, count: read } = read_round(reader, crew, round)?;
     let behind = count.checked_add(read)?;
     if read == 0 {
         return None;
@@ -148,86 +166,57 @@ fn read_parts<'a, P: ReadParts>(
     Some((Unread::Text(rest, behind), batch))
 }
 
-/// The order in which rows are inserted and the next batch is read.
-pub(crate) trait Order {
-    /// Reads the next batch.
-    fn read<'a>(&self, alloc: Global, scale: Scale, unread: Unread<'a>) -> (Unread<'a>, Batch)
+/// The rows of a text, read side by side.
+fn read_round<F: Format, R: Threads + Sync>(
+    reader: RowReader<F>,
+    crew: &Crew<'_, R>,
+    text: &[u8],
+) -> Option<Parts<F::Geometry>>
+    ensures { IfSome result (IsParts (F.reads reader.format) text.now) }
+{
+    match crew.parts() {
+        2 => read_two(reader, crew.rt, text),
+        _ => read_four(reader, crew.rt, text),
+    }
+}
+
+/// Inserts the given rows, and reads the next batch even if a row is refused: side by side if there
+/// are several threads.
+pub(crate) fn add_and_read<'a, F: Format, R: Threads + Sync>(
+    reader: RowReader<F>,
+    crew: &Crew<'_, R>,
+    loading: FeatureList<F::Geometry>,
+    read: Vec<Vec<ReadRow<F::Geometry>>>,
+    unread: Unread<'a>,
+) -> (
+    Result<FeatureList<F::Geometry>, ReadFault>,
+    (Unread<'a>, Batch<F::Geometry>),
+)
+    requires ids { All HasId (all_rows read.items) }
+    requires reading { IsUnread unread }
+    ensures added { AnswersRows loading (all_rows read.items) result.0 }
+    ensures read { IsNext (F.reads reader.format) unread.entry result.1 }
+{
+    let add = move || -> Result<FeatureList<F::Geometry>, ReadFault>
+        requires { All HasId (all_rows read.items) }
+        ensures { AnswersRows loading (all_rows read.items) result }
+    { with_parts(loading, read) };
+    let read_on = move || -> (Unread, Batch<F::Geometry>)
         requires { IsUnread unread }
-        ensures { IsBatch scale unread.entry (all_rows result.1.rows.items) result.1.more
-            result.0 };
-
-    /// Inserts the given rows, and reads the next batch even if a row is refused.
-    fn add_and_read<'a>(
-        &self,
-        alloc: Global,
-        scale: Scale,
-        loading: FeatureList,
-        read: Vec<Vec<ReadRow>>,
-        unread: Unread<'a>,
-    ) -> (Result<FeatureList, ReadFault>, (Unread<'a>, Batch))
-        requires ids { All HasId (all_rows read.items) }
-        requires reading { IsUnread unread }
-        ensures added { AnswersRows loading (all_rows read.items) result.0 }
-        ensures read { IsBatch scale unread.entry (all_rows result.1.1.rows.items) result.1.1.more
-            result.1.0 };
-}
-
-/// One after the other.
-#[derive(Drop)]
-pub(crate) struct InTurn;
-
-impl Order for InTurn {
-    fn read<'a>(&self, alloc: Global, scale: Scale, unread: Unread<'a>) -> (Unread<'a>, Batch) {
-        read_batch(alloc, unread, scale)
-    }
-
-    fn add_and_read<'a>(
-        &self,
-        alloc: Global,
-        scale: Scale,
-        loading: FeatureList,
-        read: Vec<Vec<ReadRow>>,
-        unread: Unread<'a>,
-    ) -> (Result<FeatureList, ReadFault>, (Unread<'a>, Batch)) {
-        let added = with_parts(loading, read);
-        let next = read_batch(alloc, unread, scale);
-        (added, next)
-    }
-}
-
-/// In parallel: one thread inserts while those of `P` read.
-#[derive(Drop)]
-pub(crate) struct SideBySide<'r, R, P>(pub(crate) &'r R, pub(crate) P);
-
-impl<R: Threads + Sync, P: ReadParts + Sync> Order for SideBySide<'_, R, P> {
-    fn read<'a>(&self, alloc: Global, scale: Scale, unread: Unread<'a>) -> (Unread<'a>, Batch) {
-        read_ahead(alloc, unread, scale, &self.1)
-    }
-
-    fn add_and_read<'a>(
-        &self,
-        alloc: Global,
-        scale: Scale,
-        loading: FeatureList,
-        read: Vec<Vec<ReadRow>>,
-        unread: Unread<'a>,
-    ) -> (Result<FeatureList, ReadFault>, (Unread<'a>, Batch)) {
-        let SideBySide(rt, parts) = self;
-        let add = move || -> Result<FeatureList, ReadFault>
-            requires { All HasId (all_rows read.items) }
-            ensures { AnswersRows loading (all_rows read.items) result }
-        { with_parts(loading, read) };
-        let read_on = move || -> (Unread, Batch)
-            requires { IsUnread unread }
-            ensures { IsBatch scale unread.entry (all_rows result.1.rows.items) result.1.more
-                result.0 }
-        { read_ahead(alloc, unread, scale, parts) };
-        thread::join(*rt, add, read_on)
+        ensures { IsNext (F.reads reader.format) unread.entry result }
+    { read_next(reader, crew, unread) };
+    if crew.threads > 1 {
+        thread::join(crew.rt, add, read_on)
+    } else {
+        (add(), read_on())
     }
 }
 
 /// The features, with the rows of these parts inserted.
-fn with_parts(mut loading: FeatureList, read: Vec<Vec<ReadRow>>) -> Result<FeatureList, ReadFault>
+fn with_parts<G: Geometry>(
+    mut loading: FeatureList<G>,
+    read: Vec<Vec<ReadRow<G>>>,
+) -> Result<FeatureList<G>, ReadFault>
     requires { All HasId (all_rows read.items) }
     ensures { AnswersRows loading (all_rows read.items) result }
 {

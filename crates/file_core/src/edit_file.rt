@@ -9,13 +9,14 @@ ghost use Rattle.file_core.specs.EditFiles.{InsertionGives, IsEditFile};
 ghost use Rattle.file_core.specs.Limits.{most_file_bytes};
 
 use crate::fields::{four_fields, id_in, side_in};
+use crate::format::Format;
 use crate::read_fault::ReadFault;
+use crate::row_reader::RowReader;
 use crate::rows::Rows;
 use crate::source::{Source, read_all};
 use csv::ByteRecord;
 use layer_core::{Edit, LayerFault, Side};
 use std::alloc::Global;
-use wkt_core::Scale;
 
 /// The columns of a file of edits.
 const COLUMNS: [&str; 4] = ["op", "layer", "id", "wkt"];
@@ -29,20 +30,26 @@ const COLUMNS: [&str; 4] = ["op", "layer", "id", "wkt"];
 /// # Errors
 /// [`ReadFault::TooLong`] and [`ReadFault::Header`], in this order, and then the fault of the
 /// first row that has one: [`ReadFault::Row`] if its fields aren't as above, else
-/// [`LayerFault::BadId`], else, in an insertion, [`ReadFault::Wkt`]. [`ReadFault::Memory`] may
-/// come in place of any other.
-pub fn edits_of_bytes(alloc: Global, bytes: &[u8], scale: Scale) -> Result<Vec<Edit>, ReadFault>
+/// [`LayerFault::BadId`], else, in an insertion, that of the geometry's text, which is
+/// [`ReadFault::Wkt`] or [`ReadFault::Geometry`]. [`ReadFault::Memory`] may come in place of any
+/// other.
+pub fn edits_of_bytes<F: Format>(
+    alloc: Global,
+    bytes: &[u8],
+    format: F,
+) -> Result<Vec<Edit<F::Geometry>>, ReadFault>
     ensures file { result ≢ Err ReadFault.Memory
-        → IsEditFile scale bytes.now (edit_contents result) }
+        → IsEditFile (F.reads format) bytes.now (edit_contents result) }
     ensures few { IfOk result (λ edits. length edits.items ≤ most_file_bytes) }
     ensures no_io { result ≢ Err ReadFault.Io }
 {
     let mut rows = Rows::open(alloc, bytes, &COLUMNS)?;
     let mut edits = Vec::new(alloc);
+    let reader = RowReader { alloc, format };
     while let Some(number) = rows.next()? {
         edits.reserve(1)?;
         let record = rows.row();
-        let edit = edit_of_row(alloc, number, record, scale)?;
+        let edit = edit_of_row(reader, number, record)?;
         edits.push_reserved(edit);
     }
     Ok(edits)
@@ -52,69 +59,68 @@ pub fn edits_of_bytes(alloc: Global, bytes: &[u8], scale: Scale) -> Result<Vec<E
 ///
 /// # Errors
 /// Those of [`read_all`], and then those of [`edits_of_bytes`].
-pub fn read_edits<S: Source>(
+pub fn read_edits<S: Source, F: Format>(
     alloc: Global,
     source: &mut S,
-    scale: Scale,
-) -> Result<Vec<Edit>, ReadFault>
+    format: F,
+) -> Result<Vec<Edit<F::Geometry>>, ReadFault>
     requires { S.has_failed source.old ≡ false }
     ensures io { IsErrOf result ReadFault.Io ↔ IsTrue (S.has_failed source.new) }
     ensures file { result ≢ Err ReadFault.Io → result ≢ Err ReadFault.Memory
-        → IfSome (S.remaining source.old) (λ bytes. IsEditFile scale bytes (edit_contents result)) }
+        → IfSome (S.remaining source.old)
+        (λ bytes. IsEditFile (F.reads format) bytes (edit_contents result)) }
     ensures few { IfOk result (λ edits. length edits.items ≤ most_file_bytes) }
 {
     let bytes = read_all(alloc, source)?;
-    edits_of_bytes(alloc, bytes.as_slice(), scale)
+    edits_of_bytes(alloc, bytes.as_slice(), format)
 }
 
 /// The edit of the row with this number.
-fn edit_of_row(
-    alloc: Global,
+fn edit_of_row<F: Format>(
+    reader: RowReader<F>,
     number: u32,
     row: &ByteRecord,
-    scale: Scale,
-) -> Result<Edit, ReadFault>
-    ensures ok { IfOk result
-        (λ edit. EditRowGives scale number (fields_of row.now) (Ok (content_of edit))) }
+) -> Result<Edit<F::Geometry>, ReadFault>
+    ensures ok { IfOk result (λ edit. EditRowGives (F.reads reader.format) number
+        (fields_of row.now) (Ok (content_of edit))) }
     ensures err { IfErr result (λ fault. fault ≢ ReadFault.Memory
-        → EditRowGives scale number (fields_of row.now) (Err fault)) }
+        → EditRowGives (F.reads reader.format) number (fields_of row.now) (Err fault)) }
     ensures no_io { result ≢ Err ReadFault.Io }
 {
     let (op, layer, id, wkt) = four_fields(row).ok_or(ReadFault::Row(number))?;
     let side = side_in(layer).ok_or(ReadFault::Row(number))?;
     if op == b"insert".as_slice() {
-        insertion(alloc, number, side, id, wkt, scale)
+        insertion(reader, number, side, id, wkt)
     } else if op == b"delete".as_slice() && wkt.is_empty() {
-        deletion(alloc, number, side, id)
+        deletion(reader.alloc, number, side, id)
     } else {
         Err(ReadFault::Row(number))
     }
 }
 
-fn insertion(
-    alloc: Global,
+fn insertion<F: Format>(
+    reader: RowReader<F>,
     number: u32,
     side: Side,
     id: &[u8],
     wkt: &[u8],
-    scale: Scale,
-) -> Result<Edit, ReadFault>
-    ensures ok { IfOk result
-        (λ edit. InsertionGives scale number side id.now wkt.now (Ok (content_of edit))) }
+) -> Result<Edit<F::Geometry>, ReadFault>
+    ensures ok { IfOk result (λ edit. InsertionGives (F.reads reader.format) number side id.now
+        wkt.now (Ok (content_of edit))) }
     ensures err { IfErr result (λ fault. fault ≢ ReadFault.Memory
-        → InsertionGives scale number side id.now wkt.now (Err fault)) }
+        → InsertionGives (F.reads reader.format) number side id.now wkt.now (Err fault)) }
     ensures no_io { result ≢ Err ReadFault.Io }
 {
     let id = id_in(id).ok_or(ReadFault::Layer(number, LayerFault::BadId))?;
-    let shape = wkt_core::read(wkt, scale).map_err(|fault| ReadFault::Wkt(number, fault))?;
-    let id = String::from_str(alloc, id)?;
+    let shape = reader.geometry(number, wkt)?;
+    let id = String::from_str(reader.alloc, id)?;
     Ok(Edit::Insert { side, id, shape })
 }
 
-fn deletion(alloc: Global, number: u32, side: Side, id: &[u8]) -> Result<Edit, ReadFault>
+fn deletion<G>(alloc: Global, number: u32, side: Side, id: &[u8]) -> Result<Edit<G>, ReadFault>
     ensures ok { IfOk result (λ edit. DeletionGives number side id.now (Ok (content_of edit))) }
     ensures err { IfErr result (λ fault. fault ≢ ReadFault.Memory
-        → DeletionGives number side id.now (Err fault)) }
+        → DeletionGives {G = G} number side id.now (Err fault)) }
     ensures no_io { result ≢ Err ReadFault.Io }
 {
     let id = id_in(id).ok_or(ReadFault::Layer(number, LayerFault::BadId))?;

@@ -7,10 +7,13 @@ ghost use Rattle.file_core.specs.LayerRows.{content_of};
 
 use crate::layer_row::ReadRow;
 use crate::read_fault::ReadFault;
-use layer_core::FeatureList;
+use layer_core::{FeatureList, Geometry};
 
 /// Inserts the feature of a row. Each row before it has inserted one.
-pub(crate) fn add_row(loading: &mut FeatureList, row: ReadRow) -> Result<(), ReadFault>
+pub(crate) fn add_row<G: Geometry>(
+    loading: &mut FeatureList<G>,
+    row: ReadRow<G>,
+) -> Result<(), ReadFault>
     requires { HasId row }
     ensures ok { OnOk result
         (with_row (loading.old.next + 1) loading.old (Ok (content_of row)) ≡ Ok loading.new) }
@@ -26,7 +29,10 @@ pub(crate) fn add_row(loading: &mut FeatureList, row: ReadRow) -> Result<(), Rea
 }
 
 /// Inserts the features of the rows in turn, up to the first that is refused.
-pub(crate) fn add_rows(loading: &mut FeatureList, rows: Vec<ReadRow>) -> Result<(), ReadFault>
+pub(crate) fn add_rows<G: Geometry>(
+    loading: &mut FeatureList<G>,
+    rows: Vec<ReadRow<G>>,
+) -> Result<(), ReadFault>
     requires { All HasId rows.items }
     ensures ok { OnOk result (with_rows loading.old rows.items ≡ Ok loading.new) }
     ensures err { IfErr result (λ fault. fault ≢ ReadFault.Memory
@@ -40,9 +46,9 @@ pub(crate) fn add_rows(loading: &mut FeatureList, rows: Vec<ReadRow>) -> Result<
 }
 
 /// Inserts the features of the rows of the parts in turn, up to the first that is refused.
-pub(crate) fn add_parts(
-    loading: &mut FeatureList,
-    parts: Vec<Vec<ReadRow>>,
+pub(crate) fn add_parts<G: Geometry>(
+    loading: &mut FeatureList<G>,
+    parts: Vec<Vec<ReadRow<G>>>,
 ) -> Result<(), ReadFault>
     requires { All HasId (all_rows parts.items) }
     ensures ok { OnOk result (with_rows loading.old (all_rows parts.items) ≡ Ok loading.new) }

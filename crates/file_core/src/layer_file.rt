@@ -8,126 +8,139 @@ ghost use Rattle.file_core.specs.LayerFiles.{IsLayerFile, list_read};
 ghost use Rattle.file_core.specs.Unread.{IsUnread};
 ghost use Rattle.layer_core.specs.Limits.{most_features};
 
-use crate::batch::{Batch, InTurn, Order, SideBySide};
+use crate::batch::{Batch, Crew, MIN_THREADED_BYTES, add_and_read, read_next};
 use crate::cuts::line_feeds;
+use crate::format::Format;
 use crate::insertion::add_parts;
-use crate::parts::{Beside, Whole};
 use crate::read_fault::ReadFault;
+use crate::row_reader::RowReader;
 use crate::source::{Source, read_all};
 use crate::unread::Unread;
-use layer_core::{FeatureList, Layer, MAX_FEATURES};
+use layer_core::{FeatureList, Geometry, Layer, MAX_FEATURES};
 use std::alloc::Global;
 use std::hash::RandomState;
 use std::thread::Threads;
-use wkt_core::Scale;
 
 /// The number of bytes at the start of a file from which its number of rows is estimated.
 const SAMPLE: usize = 65_536;
 
-/// The features of a layer's CSV file. `state` hashes the ids.
+/// A reader of the files of layers, by one thread or by several.
 ///
-/// If `threads` is more than 1, several threads read parts of the file ahead while another inserts
-/// the rows before them. The result is the same.
-///
-/// The file has records of comma-separated fields with double quotes if needed (RFC 4180), with
-/// line ends LF or CR LF. Its header is `id,wkt`, in any ASCII case, with or without a byte order
-/// mark before it. Each row inserts a feature, by [`FeatureList::add`].
-///
-/// # Errors
-/// [`ReadFault::TooLong`] and [`ReadFault::Header`], in this order, and then the fault of the
-/// first row that has one: [`ReadFault::Row`] if it doesn't have two fields, else
-/// [`LayerFault::BadId`], else [`ReadFault::Wkt`], else [`LayerFault::DoubleId`], else
-/// [`LayerFault::LayerFull`]. [`ReadFault::Memory`] may come in place of any other.
-pub fn features_of_bytes<R: Threads + Sync>(
-    alloc: Global,
-    state: RandomState,
-    bytes: &[u8],
-    scale: Scale,
-    threads: u32,
-    rt: &R,
-) -> Result<FeatureList, ReadFault>
-    ensures file { result ≢ Err ReadFault.Memory → IsLayerFile scale bytes.now result }
-    ensures no_io { result ≢ Err ReadFault.Io }
-{
-    match threads {
-        0 | 1 => load(alloc, state, bytes, scale, &InTurn),
-        2 | 3 => {
-            let two = Beside(rt, Whole);
-            load(alloc, state, bytes, scale, &SideBySide(rt, two))
-        }
-        _ => {
-            let four = Beside(rt, Beside(rt, Beside(rt, Whole)));
-            load(alloc, state, bytes, scale, &SideBySide(rt, four))
+/// If `threads` is more than 1 and a file isn't small, several threads read parts of it ahead while
+/// another inserts the rows before them. The result is the same.
+#[derive(Drop)]
+pub struct LayerReader<'r, F, R> {
+    pub rt: &'r R,
+    pub alloc: Global,
+    /// How the geometries read.
+    pub format: F,
+    pub threads: u32,
+}
+
+impl<F: Format, R: Threads + Sync> LayerReader<'_, F, R> {
+    /// The features of a layer's CSV file. `state` hashes the ids.
+    ///
+    /// The file has records of comma-separated fields with double quotes if needed (RFC 4180), with
+    /// line ends LF or CR LF. Its header is `id,wkt`, in any ASCII case, with or without a byte
+    /// order mark before it. Each row inserts a feature, by [`FeatureList::add`].
+    ///
+    /// # Errors
+    /// [`ReadFault::TooLong`] and [`ReadFault::Header`], in this order, and then the fault of the
+    /// first row that has one: [`ReadFault::Row`] if it doesn't have two fields, else
+    /// [`LayerFault::BadId`], else that of the geometry's text, which is [`ReadFault::Wkt`] or
+    /// [`ReadFault::Geometry`], else [`LayerFault::DoubleId`], else [`LayerFault::LayerFull`].
+    /// [`ReadFault::Memory`] may come in place of any other.
+    pub fn features_of_bytes(
+        &self,
+        state: RandomState,
+        bytes: &[u8],
+    ) -> Result<FeatureList<F::Geometry>, ReadFault>
+        ensures file { result ≢ Err ReadFault.Memory
+            → IsLayerFile (F.reads self.now.format) bytes.now result }
+        ensures no_io { result ≢ Err ReadFault.Io }
+    {
+        let reader = RowReader {
+            alloc: self.alloc,
+            format: self.format,
+        };
+        let crew = Crew {
+            rt: self.rt,
+            threads: self.threads_for(bytes),
+        };
+        load(reader, &crew, state, bytes)
+    }
+
+    /// The layer of a CSV file, read as by [`LayerReader::features_of_bytes`]. At most `threads`
+    /// threads pack its tree.
+    ///
+    /// # Errors
+    /// Those of [`LayerReader::features_of_bytes`].
+    pub fn layer_of_bytes(
+        &self,
+        state: RandomState,
+        bytes: Vec<u8>,
+    ) -> Result<Layer<F::Geometry>, ReadFault>
+        ensures file { result ≢ Err ReadFault.Memory
+            → IsLayerFile (F.reads self.now.format) bytes.items (list_read result) }
+        ensures no_io { result ≢ Err ReadFault.Io }
+    {
+        let loading = self.features_of_bytes(state, bytes.as_slice())?;
+        let threads = self.threads_for(bytes.as_slice());
+        // The file's memory is freed before the tree is packed.
+        drop(bytes);
+        Ok(loading.finish_by_threads(self.alloc, threads, self.rt)?)
+    }
+
+    /// The layer of a file, which is read from a source that hasn't failed.
+    ///
+    /// # Errors
+    /// Those of [`read_all`], and then those of [`LayerReader::layer_of_bytes`].
+    pub fn read_layer<S: Source>(
+        &self,
+        state: RandomState,
+        source: &mut S,
+    ) -> Result<Layer<F::Geometry>, ReadFault>
+        requires { S.has_failed source.old ≡ false }
+        ensures io { IsErrOf result ReadFault.Io ↔ IsTrue (S.has_failed source.new) }
+        ensures file { result ≢ Err ReadFault.Io → result ≢ Err ReadFault.Memory
+            → IfSome (S.remaining source.old)
+            (λ bytes. IsLayerFile (F.reads self.now.format) bytes (list_read result)) }
+    {
+        let bytes = read_all(self.alloc, source)?;
+        self.layer_of_bytes(state, bytes)
+    }
+
+    /// The number of threads for a file of these bytes: 1 if they are few.
+    fn threads_for(&self, bytes: &[u8]) -> u32 {
+        if bytes.len() >= MIN_THREADED_BYTES {
+            self.threads
+        } else {
+            1
         }
     }
 }
 
-/// The layer of a CSV file, read as by [`features_of_bytes`]. At most `threads` threads pack its
-/// tree.
-///
-/// # Errors
-/// Those of [`features_of_bytes`].
-pub fn layer_of_bytes<R: Threads + Sync>(
-    alloc: Global,
-    state: RandomState,
-    bytes: Vec<u8>,
-    scale: Scale,
-    threads: u32,
-    rt: &R,
-) -> Result<Layer, ReadFault>
-    ensures file { result ≢ Err ReadFault.Memory
-        → IsLayerFile scale bytes.items (list_read result) }
-    ensures no_io { result ≢ Err ReadFault.Io }
-{
-    let loading = features_of_bytes(alloc, state, bytes.as_slice(), scale, threads, rt)?;
-    // The file's memory is freed before the tree is packed.
-    drop(bytes);
-    Ok(loading.finish_by_threads(alloc, threads, rt)?)
-}
-
-/// The layer of a file, which is read from a source that hasn't failed.
-///
-/// # Errors
-/// Those of [`read_all`], and then those of [`layer_of_bytes`].
-pub fn read_layer<S: Source>(
-    alloc: Global,
-    state: RandomState,
-    source: &mut S,
-    scale: Scale,
-) -> Result<Layer, ReadFault>
-    requires { S.has_failed source.old ≡ false }
-    ensures io { IsErrOf result ReadFault.Io ↔ IsTrue (S.has_failed source.new) }
-    ensures file { result ≢ Err ReadFault.Io → result ≢ Err ReadFault.Memory
-        → IfSome (S.remaining source.old) (λ bytes. IsLayerFile scale bytes (list_read result)) }
-{
-    let bytes = read_all(alloc, source)?;
-    let loading = load(alloc, state, bytes.as_slice(), scale, &InTurn)?;
-    // The file's memory is freed before the tree is packed.
-    drop(bytes);
-    Ok(loading.finish(alloc)?)
-}
-
 /// The features of a file, read and inserted batch by batch.
-fn load<O: Order>(
-    alloc: Global,
+fn load<F: Format, R: Threads + Sync>(
+    reader: RowReader<F>,
+    crew: &Crew<'_, R>,
     state: RandomState,
     bytes: &[u8],
-    scale: Scale,
-    order: &O,
-) -> Result<FeatureList, ReadFault>
-    ensures file { result ≢ Err ReadFault.Memory → IsLayerFile scale bytes.now result }
+) -> Result<FeatureList<F::Geometry>, ReadFault>
+    ensures file { result ≢ Err ReadFault.Memory
+        → IsLayerFile (F.reads reader.format) bytes.now result }
     ensures no_io { result ≢ Err ReadFault.Io }
 {
-    let unread = Unread::open(alloc, bytes)?;
-    let loading = FeatureList::new(alloc, state, likely_rows(bytes))?;
-    let (unread, batch) = order.read(alloc, scale, unread);
+    let unread = Unread::open(reader.alloc, bytes)?;
+    let loading = FeatureList::new(reader.alloc, state, likely_rows(bytes))?;
+    let (unread, batch) = read_next(reader, crew, unread);
     let mut round = Round {
         loading,
         unread,
         batch,
     };
     while let Ok(true) = round.batch.more {
-        round = next_round(alloc, scale, round, order)?;
+        round = next_round(reader, crew, round)?;
     }
     let Round { loading, batch, .. } = round;
     add_last(loading, batch)
@@ -135,19 +148,18 @@ fn load<O: Order>(
 
 /// The state of reading a file: the features inserted, the batch after them, and the unread rest.
 #[derive(Drop)]
-struct Round<'a> {
-    loading: FeatureList,
-    batch: Batch,
+struct Round<'a, G: Geometry> {
+    loading: FeatureList<G>,
+    batch: Batch<G>,
     unread: Unread<'a>,
 }
 
 /// Inserts the features of a batch, and reads the next one.
-fn next_round<'a, O: Order>(
-    alloc: Global,
-    scale: Scale,
-    round: Round<'a>,
-    order: &O,
-) -> Result<Round<'a>, ReadFault>
+fn next_round<'a, F: Format, R: Threads + Sync>(
+    reader: RowReader<F>,
+    crew: &Crew<'_, R>,
+    round: Round<'a, F::Geometry>,
+) -> Result<Round<'a, F::Geometry>, ReadFault>
     requires ids { All HasId (all_rows round.batch.rows.items) }
     requires reading { IsUnread round.unread }
     ensures ok { IfOk result (λ next.
@@ -155,7 +167,7 @@ fn next_round<'a, O: Order>(
     ensures err { IfErr result (λ fault. fault ≢ ReadFault.Memory
         → with_rows round.entry.loading (all_rows round.entry.batch.rows.items) ≡ Err fault) }
     ensures no_io { result ≢ Err ReadFault.Io }
-    ensures read { IfOk result (λ next. IsBatch scale round.entry.unread
+    ensures read { IfOk result (λ next. IsBatch (F.reads reader.format) round.entry.unread
         (all_rows next.batch.rows.items) next.batch.more next.unread) }
 {
     let Round {
@@ -163,7 +175,7 @@ fn next_round<'a, O: Order>(
         batch,
         unread,
     } = round;
-    let (added, (unread, batch)) = order.add_and_read(alloc, scale, loading, batch.rows, unread);
+    let (added, (unread, batch)) = add_and_read(reader, crew, loading, batch.rows, unread);
     Ok(Round {
         loading: added?,
         batch,
@@ -172,7 +184,10 @@ fn next_round<'a, O: Order>(
 }
 
 /// Inserts the features of the last batch, and returns the fault of the row after it, if any.
-fn add_last(mut loading: FeatureList, batch: Batch) -> Result<FeatureList, ReadFault>
+fn add_last<G: Geometry>(
+    mut loading: FeatureList<G>,
+    batch: Batch<G>,
+) -> Result<FeatureList<G>, ReadFault>
     requires ids { All HasId (all_rows batch.rows.items) }
     requires no_io { batch.more ≢ Err ReadFault.Io }
     ensures rows { result ≢ Err ReadFault.Memory → result

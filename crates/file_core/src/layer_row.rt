@@ -6,38 +6,36 @@ ghost use Rattle.file_core.specs.LayerRows.{RowSays, content_of};
 ghost use Rattle.file_core.specs.Batches.{HasId};
 
 use crate::fields::{id_in, two_fields};
+use crate::format::Format;
 use crate::read_fault::ReadFault;
+use crate::row_reader::RowReader;
 use csv::ByteRecord;
-use geom_core::Shape;
 use layer_core::{Id, LayerFault};
-use std::alloc::Global;
-use wkt_core::Scale;
 
 /// A valid row: the id and the shape of its feature.
 #[derive(Drop)]
-pub(crate) struct ReadRow {
+pub(crate) struct ReadRow<G> {
     pub(crate) id: Id,
-    pub(crate) shape: Shape,
+    pub(crate) shape: G,
 }
 
 /// Reads the row with this number. The fault is that of the number of fields, else that of the id,
 /// else that of the geometry.
-pub(crate) fn read_row(
-    alloc: Global,
+pub(crate) fn read_row<F: Format>(
+    reader: RowReader<F>,
     number: u32,
     row: &ByteRecord,
-    scale: Scale,
-) -> Result<ReadRow, ReadFault>
-    ensures says { IfOk result
-        (λ read. RowSays scale number (fields_of row.now) (Ok (content_of read))) }
+) -> Result<ReadRow<F::Geometry>, ReadFault>
+    ensures says { IfOk result (λ read. RowSays (F.reads reader.format) number
+        (fields_of row.now) (Ok (content_of read))) }
     ensures id { IfOk result HasId }
     ensures fault { IfErr result (λ fault. fault ≢ ReadFault.Memory
-        → RowSays scale number (fields_of row.now) (Err fault)) }
+        → RowSays (F.reads reader.format) number (fields_of row.now) (Err fault)) }
     ensures no_io { result ≢ Err ReadFault.Io }
 {
     let (id, wkt) = two_fields(row).ok_or(ReadFault::Row(number))?;
     let id = id_in(id).ok_or(ReadFault::Layer(number, LayerFault::BadId))?;
-    let shape = wkt_core::read(wkt, scale).map_err(|fault| ReadFault::Wkt(number, fault))?;
-    let id = Id::from_str(alloc, id)?;
+    let shape = reader.geometry(number, wkt)?;
+    let id = Id::from_str(reader.alloc, id)?;
     Ok(ReadRow { id, shape })
 }

@@ -2,7 +2,6 @@
 use Rattle.std.proofs.Common.{◌≡◌, ◌+◌, ◌<◌, ℕ, Bool, true, false, Option, Some, None, Result, Ok, Err, List, [], ◌∷◌, ◌++◌, length, take, map}
 use Rattle.std.proofs.Common.{refl, sym, ap, subst, ◌∙◌, arith, if◌then◌else◌, not, is_some, nat_le, append_assoc}
 use Rattle.std.proofs.lemmas.List.{append-nil, length-append, length-map, map-append, take_at}
-use Rattle.geom_core.specs.declared.shape.Shape.{Shape}
 use Rattle.layer_core.specs.declared.edit.Edit.{Edit}
 use Rattle.layer_core.specs.declared.fault.LayerFault.{LayerFault}
 use Rattle.layer_core.specs.declared.fault.LayerFault.TheVariants.{BadId, DoubleId, LayerFull, NoSuchId, Memory}
@@ -14,19 +13,19 @@ use Rattle.join_core.specs.Inputs.{BlamesEdit}
 use Rattle.join_core.specs.JoinRuns.{AreMade, EndsAt}
 
 -- the result of edits that follow others
-gives_append : (row : ℕ) (layers made : Layers Shape) (xs ys : List (EditContent Shape)) → edits_give row layers xs ≡ Ok made
+gives_append : {G : Type 0} (row : ℕ) (layers made : Layers G) (xs ys : List (EditContent G)) → edits_give row layers xs ≡ Ok made
     → edits_give row layers (xs ++ ys) ≡ edits_give (row + length xs) made ys
-gives_append row layers made [] ys is =
+gives_append {G} row layers made [] ys is =
     let same : layers ≡ made = cc in
     let none : row ≡ row + 0 = omega arith in
-    ap (λ (l : Layers Shape). edits_give row l ys) same ∙ ap (λ n. edits_give n made ys) none
-gives_append row layers made (x ∷ xs) ys is =
+    ap (λ (l : Layers G). edits_give row l ys) same ∙ ap (λ n. edits_give n made ys) none
+gives_append {G} row layers made (x ∷ xs) ys is =
     go (edit_refusal layers x) (edits_give (row + 1) (edited_layers layers x) xs) (edits_give (row + 1) (edited_layers layers x) (xs ++ ys)) is
     (λ h. gives_append (row + 1) (edited_layers layers x) made xs ys h ∙ ap (λ n. edits_give n made ys) (omega arith))
   where
-    go : (r : Option LayerFault) (front all : Result (Layers Shape) (ℕ × LayerFault)) → unless_refused row r front ≡ Ok made
+    go : (r : Option LayerFault) (front all : Result (Layers G) (ℕ × LayerFault)) → unless_refused row r front ≡ Ok made
         → (front ≡ Ok made → all ≡ edits_give (row + length (x ∷ xs)) made ys) → unless_refused row r all ≡ edits_give (row + length (x ∷ xs)) made ys
-    go (Some f) front all is rest = absurd (let bad : (let r : Result (Layers Shape) (ℕ × LayerFault) = Err (row, f) in r) ≡ Ok made = is in cc)
+    go (Some f) front all is rest = absurd (let bad : (let r : Result (Layers G) (ℕ × LayerFault) = Err (row, f) in r) ≡ Ok made = is in cc)
     go None front all is rest = rest is
 
 -- lack of memory is no reason to refuse an edit
@@ -41,10 +40,10 @@ delete_never true b is = cc
 delete_never false true is = cc
 delete_never false false is = cc
 
-never_memory : (layers : Layers Shape) (edit : EditContent Shape) → edit_refusal layers edit ≡ Some Memory → ⊥
-never_memory layers edit = by (layer_on edit.side layers) edit.shape
+never_memory : {G : Type 0} (layers : Layers G) (edit : EditContent G) → edit_refusal layers edit ≡ Some Memory → ⊥
+never_memory {G} layers edit = by (layer_on edit.side layers) edit.shape
   where
-    by : (layer : Contents Shape) (shape : Option Shape) → change_refusal layer edit.id shape ≡ Some Memory → ⊥
+    by : (layer : Contents G) (shape : Option G) → change_refusal layer edit.id shape ≡ Some Memory → ⊥
     by layer (Some s) = insert_never (not (is_id edit.id)) (is_some (with_id edit.id layer)) (nat_le most_features layer.next)
     by layer None = delete_never (not (is_id edit.id)) (is_some (with_id edit.id layer))
 
@@ -61,26 +60,26 @@ err_unrefused T (Some g) never h = absurd (never (let same : (let out : Result T
 err_unrefused T None never h = refl
 
 -- the edits up to this row are made, and these are left
-pub record Done (row : ℕ) (start now : Layers Shape) (edits left : List (Edit Shape)) : Type 0 where
-  pub before : List (Edit Shape)
+pub record Done {G : Type 0} (row : ℕ) (start now : Layers G) (edits left : List (Edit G)) : Type 0 where
+  pub before : List (Edit G)
   pub split : edits ≡ before ++ left
   pub row_is : row ≡ length before
   pub made : edits_give 1 start (map content_of before) ≡ Ok now
 
-pub none_done : (start : Layers Shape) (edits left : List (Edit Shape)) → left ≡ edits → Done 0 start start edits left
+pub none_done : {G : Type 0} (start : Layers G) (edits left : List (Edit G)) → left ≡ edits → Done 0 start start edits left
 none_done start edits left same = record { before = []; split = sym same; row_is = refl; made = refl }
 
 -- a row is not below the number of edits while one is left
-pub row_within : (row : ℕ) (start now : Layers Shape) (edits left rest : List (Edit Shape)) (x : Edit Shape) → Done row start now edits left → left ≡ x ∷ rest
+pub row_within : {G : Type 0} (row : ℕ) (start now : Layers G) (edits left rest : List (Edit G)) (x : Edit G) → Done row start now edits left → left ≡ x ∷ rest
     → row < length edits
 row_within row start now edits left rest x done next =
     let all = ap length (done.split ∙ ap (λ l. done.before ++ l) next) ∙ length-append done.before (x ∷ rest) in
     let same : row ≡ length done.before = done.row_is in
     omega arith
 
-module _ (row : ℕ) (start now : Layers Shape) (edits left rest : List (Edit Shape)) (x : Edit Shape) (done : Done row start now edits left)
+module _ {G : Type 0} (row : ℕ) (start now : Layers G) (edits left rest : List (Edit G)) (x : Edit G) (done : Done row start now edits left)
     (next : left ≡ x ∷ rest) where
-  abbrev front : List (EditContent Shape)
+  abbrev front : List (EditContent G)
   front = map content_of done.before
 
   front_has : length front ≡ row
@@ -97,7 +96,7 @@ module _ (row : ℕ) (start now : Layers Shape) (edits left rest : List (Edit Sh
       ∙ ap (λ t. unless_refused (1 + length front) t (Ok (edited_layers now (content_of x)))) (is ∙ none)
 
   -- one more edit is applied
-  pub one_done : {T : Type 0} (u : T) (after : Layers Shape) → after ≡ edited_layers now (content_of x) → AnswersWith (edit_refusal now (content_of x)) (Ok u)
+  pub one_done : {T : Type 0} (u : T) (after : Layers G) → after ≡ edited_layers now (content_of x) → AnswersWith (edit_refusal now (content_of x)) (Ok u)
       → Done (row + 1) start after edits rest
   one_done u after is answers = record {
     before = done.before ++ x ∷ [];
@@ -137,7 +136,7 @@ module _ (row : ℕ) (start now : Layers Shape) (edits left rest : List (Edit Sh
   }
 
 -- all edits are applied
-pub all_done : (row : ℕ) (start now : Layers Shape) (edits left : List (Edit Shape)) → Done row start now edits left → left ≡ []
+pub all_done : {G : Type 0} (row : ℕ) (start now : Layers G) (edits left : List (Edit G)) → Done row start now edits left → left ≡ []
     → edits_give 1 start (map content_of edits) ≡ Ok now
 all_done row start now edits left done none =
     ap (λ l. edits_give 1 start (map content_of l)) (done.split ∙ ap (λ l. done.before ++ l) none ∙ append-nil done.before) ∙ done.made

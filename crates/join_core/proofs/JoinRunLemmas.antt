@@ -2,9 +2,7 @@
 use Rattle.std.proofs.Common.{◌≡◌, ℕ, List, Option, Some, None, Result, Ok, Err, IsSome, IsErrAnd, IsErrOf, IsSomeAnd, IfSome, IsTrue, Bool, true, false, IfErr, OnOk}
 use Rattle.std.proofs.Common.{◌↔◌, ◌≢◌, All, get_or, refl, sym, subst, ◌∙◌, map}
 use Rattle.std.specs.Prelude.{⊤}
-use Rattle.relation_core.specs.declared.relation.Relation.{Relation}
-use Rattle.wkt_core.specs.declared.scale.Scale.{Scale}
-use Rattle.geom_core.specs.declared.shape.Shape.{Shape}
+use Rattle.file_core.specs.Formats.{Reading}
 use Rattle.layer_core.specs.declared.edit.Edit.{Edit as EditType}
 use Rattle.layer_core.specs.declared.fault.LayerFault.{LayerFault}
 use Rattle.file_core.specs.declared.read_fault.ReadFault.{ReadFault}
@@ -19,19 +17,20 @@ use Rattle.join_core.specs.Inputs.{LayerFile, BlamesBytes, BlamesInput}
 use Rattle.join_core.specs.JoinRuns.{JoinFiles, EditFile, LayersGive, edits_fault, edit_refused, edited, JoinGives, no_layers, IsLateFault}
 use Rattle.join_core.specs.JoinRuns.{IsJoinFault, AreEdited, IsEditsFault, unread, ended, EndsAt}
 use Rattle.join_core.specs.SourceStates.{FailedAt}
-use Rattle.join_core.specs.Joins.{IsJoinList}
+use Rattle.filter_core.specs.Joins.{IsJoinList, StandIn}
+use Rattle.join_core.specs.Joinings.{Joining}
 use Rattle.report_core.specs.Reports.{IsHeld}
 use Rattle.report_core.specs.Written.{joined}
-use Rattle.join_core.proofs.JoinLemmas.{contains_at}
+use Rattle.filter_core.proofs.NumberLemmas.{contains_at}
 
-is_some_of : (o : Option (Feature Shape)) (f : Feature Shape) → o ≡ Some f → IsSome o
+is_some_of : {G : Type 0} (o : Option (Feature G)) (f : Feature G) → o ≡ Some f → IsSome o
 is_some_of None f e = absurd (let bad : None ≡ Some f = e in cc)
 is_some_of (Some g) f e = refl
 
 -- the layers hold the features of their pairs
-pub pairs_held : (relation : Relation) (left right : Contents Shape) (pairs list : List (ℕ × ℕ)) → list ≡ pairs → IsJoinList relation left right pairs
-    → All (IsHeld left right) list
-pairs_held relation left right pairs list e joined =
+pub pairs_held : {G : Type 0} (R : G → G → Type 0) (left right : Contents G) (pairs list : List (ℕ × ℕ)) → list ≡ pairs
+    → IsJoinList (StandIn R left right) pairs → All (IsHeld left right) list
+pairs_held R left right pairs list e joined =
     subst (All (IsHeld left right)) (sym e)
     (λ k d within.
     let s = (joined.exact (get_or pairs k d)).0 (contains_at pairs k d within) in
@@ -48,17 +47,17 @@ handed_on J (Err x) e is h same gives =
 -- ---- the edits of a file
 
 -- a fault of the edits, if both layers are valid
-module _ (files : JoinFiles) (l r : Contents Shape) (left : LayerFile files.scale files.left (Ok l)) (right : LayerFile files.scale files.right (Ok r)) where
-  edits_give_fault : (e : RunFault) → IsEditsFault files.scale files.edits (both l r) e → BlamesInput e → LayersGive files (Err e)
+module _ {G : Type 0} (files : JoinFiles G) (l r : Contents G) (left : LayerFile files.reads files.left (Ok l)) (right : LayerFile files.reads files.right (Ok r)) where
+  edits_give_fault : (e : RunFault) → IsEditsFault files.reads files.edits (both l r) e → BlamesInput e → LayersGive files (Err e)
   edits_give_fault e (unread f blames) blame = edits_fault l r f left right (blames blame)
   edits_give_fault e (ended edits row f file ends) blame = edit_refused l r edits row f left right file (ends.refused blame)
 
   pub edits_blamed : {T : Type 0} (out : Result T RunFault) (e : RunFault) → IsErrAnd out (λ x. x ≡ e)
-      → IsEditsFault files.scale files.edits (both l r) e → IfErr out (λ x. BlamesInput x → LayersGive files (Err x))
+      → IsEditsFault files.reads files.edits (both l r) e → IfErr out (λ x. BlamesInput x → LayersGive files (Err x))
   edits_blamed out e h fault = handed_on (LayersGive files) out e e h refl (edits_give_fault e fault)
 
   -- the edits are applied up to the one at which memory runs out
-  edits_join : (e : RunFault) → IsEditsFault files.scale files.edits (both l r) e → IsJoinFault files e
+  edits_join : (e : RunFault) → IsEditsFault files.reads files.edits (both l r) e → IsJoinFault files e
   edits_join e (unread f blames) = ((l, left), (r, right))
   edits_join e (ended edits row f file ends) = λ is. record {
     left = l;
@@ -71,34 +70,34 @@ module _ (files : JoinFiles) (l r : Contents Shape) (left : LayerFile files.scal
   }
 
   pub edits_join_fault : {T : Type 0} (out : Result T RunFault) (e : RunFault) → IsErrAnd out (λ x. x ≡ e)
-      → IsEditsFault files.scale files.edits (both l r) e → IfErr out (IsJoinFault files)
+      → IsEditsFault files.reads files.edits (both l r) e → IfErr out (IsJoinFault files)
   edits_join_fault (Ok x) e h fault = absurd h
   edits_join_fault (Err x) e h fault = subst (IsJoinFault files) (sym h) (edits_join e fault)
 
-  pub layers_edited : (layers : Layers Shape) → AreEdited files.scale files.edits (both l r) layers → LayersGive files (Ok layers)
+  pub layers_edited : (layers : Layers G) → AreEdited files.reads files.edits (both l r) layers → LayersGive files (Ok layers)
   layers_edited layers given = edited l r given.0 layers left right given.1 given.2
 
-module _ (scale : Scale) (file : Option (Option (List ℕ))) (layers : Layers Shape) where
+module _ {G : Type 0} (format : Reading G) (file : Option (Option (List ℕ))) (layers : Layers G) where
   pub edits_handed_on : {T : Type 0} (out : Result T RunFault) (e : RunFault) (f : ReadFault) → IsErrAnd out (λ x. x ≡ e) → e ≡ Read Edits f
-      → (BlamesBytes f → EditFile scale file (Err f)) → IfErr out (IsEditsFault scale file layers)
+      → (BlamesBytes f → EditFile format file (Err f)) → IfErr out (IsEditsFault format file layers)
   edits_handed_on (Ok x) e f h is blames = absurd h
-  edits_handed_on (Err x) e f h is blames = subst (IsEditsFault scale file layers) (sym (h ∙ is)) (unread f blames)
+  edits_handed_on (Err x) e f h is blames = subst (IsEditsFault format file layers) (sym (h ∙ is)) (unread f blames)
 
-  pub edits_made : {T : Type 0} (out : Result T RunFault) (list items : List (EditType Shape)) (after : Layers Shape) → list ≡ items
-      → EditFile scale file (Ok (map content_of items)) → OnOk out (edits_give 1 layers (map content_of list) ≡ Ok after)
-      → OnOk out (AreEdited scale file layers after)
+  pub edits_made : {T : Type 0} (out : Result T RunFault) (list items : List (EditType G)) (after : Layers G) → list ≡ items
+      → EditFile format file (Ok (map content_of items)) → OnOk out (edits_give 1 layers (map content_of list) ≡ Ok after)
+      → OnOk out (AreEdited format file layers after)
   edits_made (Err x) list items after same read made = tt
   edits_made (Ok x) list items after same read made =
-      (map content_of items, read, subst (λ (es : List (EditType Shape)). edits_give 1 layers (map content_of es) ≡ Ok after) same made)
+      (map content_of items, read, subst (λ (es : List (EditType G)). edits_give 1 layers (map content_of es) ≡ Ok after) same made)
 
-  pub edits_ended : {T : Type 0} (out : Result T RunFault) (list items : List (EditType Shape)) → list ≡ items
-      → EditFile scale file (Ok (map content_of items))
+  pub edits_ended : {T : Type 0} (out : Result T RunFault) (list items : List (EditType G)) → list ≡ items
+      → EditFile format file (Ok (map content_of items))
       → IfErr out (λ e. (row : ℕ) × (f : LayerFault) × (e ≡ Edit row f) × EndsAt row f layers (map content_of list))
-      → IfErr out (IsEditsFault scale file layers)
+      → IfErr out (IsEditsFault format file layers)
   edits_ended (Ok x) list items same read err = tt
   edits_ended (Err x) list items same read err =
-      subst (IsEditsFault scale file layers) (sym err.2)
-      (ended (map content_of items) err.0 err.1 read (subst (λ (es : List (EditType Shape)). EndsAt err.0 err.1 layers (map content_of es)) same err.3))
+      subst (IsEditsFault format file layers) (sym err.2)
+      (ended (map content_of items) err.0 err.1 read (subst (λ (es : List (EditType G)). EndsAt err.0 err.1 layers (map content_of es)) same err.3))
 
 -- a late fault blames no input, and is no fault of a source
 pub none_blamed : (e : RunFault) → IsLateFault e → BlamesInput e → ⊥
@@ -114,17 +113,17 @@ none_blamed Memory late blame = blame
 none_blamed NoKeys late blame = blame
 
 -- without layers there is no report
-pub no_report : {T : Type 0} (relation : Relation) (files : JoinFiles) (out : Result T RunFault) (e : RunFault) → IsErrAnd out (λ x. x ≡ e)
-    → (BlamesInput e → LayersGive files (Err e)) → IfErr out (λ x. BlamesInput x → JoinGives relation files (Err x))
-no_report relation files out e h fault = handed_on (JoinGives relation files) out e e h refl (λ blame. no_layers e (fault blame))
+pub no_report : {G T : Type 0} (joining : Joining G) (files : JoinFiles G) (out : Result T RunFault) (e : RunFault) → IsErrAnd out (λ x. x ≡ e)
+    → (BlamesInput e → LayersGive files (Err e)) → IfErr out (λ x. BlamesInput x → JoinGives joining files (Err x))
+no_report joining files out e h fault = handed_on (JoinGives joining files) out e e h refl (λ blame. no_layers e (fault blame))
 
 -- the last step of a join, which finds the pairs and makes the report
-pub last_fault : {T : Type 0} (relation : Relation) (files : JoinFiles) (out : Result T RunFault)
-    → IfErr out IsLateFault → IfErr out (λ f. BlamesInput f → JoinGives relation files (Err f))
-last_fault relation files (Ok x) err = tt
-last_fault relation files (Err e) err = λ blame. absurd (none_blamed e err blame)
+pub last_fault : {G T : Type 0} (joining : Joining G) (files : JoinFiles G) (out : Result T RunFault)
+    → IfErr out IsLateFault → IfErr out (λ f. BlamesInput f → JoinGives joining files (Err f))
+last_fault joining files (Ok x) err = tt
+last_fault joining files (Err e) err = λ blame. absurd (none_blamed e err blame)
 
-module _ (files : JoinFiles) (layers : Layers Shape) (given : LayersGive files (Ok layers)) where
+module _ {G : Type 0} (files : JoinFiles G) (layers : Layers G) (given : LayersGive files (Ok layers)) where
   pub late_is_of_join : (e : RunFault) → IsLateFault e → IsJoinFault files e
   late_is_of_join (NoFile i) late = absurd late
   late_is_of_join (Read i f) late = absurd late
@@ -142,7 +141,7 @@ module _ (files : JoinFiles) (layers : Layers Shape) (given : LayersGive files (
   last_faults (Err e) err = late_is_of_join e err
 
 -- an error that `?` returns is one of a join's faults
-pub is_join_fault : {T : Type 0} (files : JoinFiles) (out : Result T RunFault) (e is : RunFault) → IsErrAnd out (λ x. x ≡ e) → e ≡ is → IsJoinFault files is
+pub is_join_fault : {T : Type 0} {G : Type 0} (files : JoinFiles G) (out : Result T RunFault) (e is : RunFault) → IsErrAnd out (λ x. x ≡ e) → e ≡ is → IsJoinFault files is
     → IfErr out (IsJoinFault files)
 is_join_fault files (Ok x) e is h same fault = absurd h
 is_join_fault files (Err x) e is h same fault = subst (IsJoinFault files) (sym (h ∙ same)) fault
@@ -216,8 +215,8 @@ edits_unread F (Some s) (Err x) e fresh h other = (
 )
 
 -- the sources, if the layers were read and not all edits were applied
-pub edits_io : {T U V : Type 0} {scale : Scale} {file : Option (Option (List ℕ))} {layers : Layers Shape} (L R E : Type 0) (out : Result T RunFault) (e : RunFault)
-    (y : U) → IsErrAnd out (λ x. x ≡ e) → IsEditsFault scale file layers e → IsErrOf {E = RunFault} (Ok y) (Read Left Io) ↔ L
+pub edits_io : {T U V : Type 0} {G : Type 0} {format : Reading G} {file : Option (Option (List ℕ))} {layers : Layers G} (L R E : Type 0) (out : Result T RunFault) (e : RunFault)
+    (y : U) → IsErrAnd out (λ x. x ≡ e) → IsEditsFault format file layers e → IsErrOf {E = RunFault} (Ok y) (Read Left Io) ↔ L
     → IsErrOf {E = RunFault} (Ok y) (Read Right Io) ↔ R → IsErrOf {T = V} (Err e) (Read Edits Io) ↔ E
     → (i : Input) → IsErrOf out (Read i Io) ↔ FailedAt L R E i
 edits_io L R E out e y h (unread f blames) left right edits =

@@ -2,11 +2,10 @@
 use Rattle.std.proofs.Common.{◌≡◌, ◌≢◌, ◌<◌, ◌⊎◌, ℕ, List, Option, Some, None, Result, Ok, Err, IsErrAnd, IfSome, IfErr, length}
 use Rattle.std.proofs.Common.{refl, sym, subst, inl, inr}
 use Rattle.std.specs.Result.{result_err}
-use Rattle.wkt_core.specs.declared.scale.Scale.{Scale}
+use Rattle.file_core.specs.Formats.{Reading}
 use Rattle.file_core.specs.declared.read_fault.ReadFault.{ReadFault}
 use Rattle.file_core.specs.declared.read_fault.ReadFault.TheVariants as read_faults
 use Rattle.file_core.specs.LayerFiles.{IsLayerFile, LayerRowGives, layer_columns, list_read}
-use Rattle.geom_core.specs.declared.shape.Shape.{Shape}
 use Rattle.layer_core.specs.LayerTrees.{LayerState}
 use Rattle.layer_core.specs.Layers.{Contents, empty}
 use Rattle.file_core.specs.Limits.{most_file_bytes}
@@ -20,42 +19,42 @@ use Rattle.join_core.specs.JoinRuns.{JoinFiles, LayersGive, left_fault, right_fa
 use Rattle.join_core.proofs.JoinRunLemmas.{handed_on, IsJoinKind}
 
 -- a source that isn't read to its end gives no layer
-pub unread_blamed : (scale : Scale) (known : Option (List ℕ)) (f : ReadFault) → IsReadingFault f
-    → (f ≡ read_faults.TooLong → IfSome known (λ bytes. most_file_bytes < length bytes)) → BlamesBytes f → LayerFile scale known (Err f)
-unread_blamed scale known f reading long blame =
-    file-unread layer_columns (LayerRowGives scale) empty known f reading long (λ e. subst BlamesBytes e blame) (λ e. subst BlamesBytes e blame)
+pub unread_blamed : {G : Type 0} (format : Reading G) (known : Option (List ℕ)) (f : ReadFault) → IsReadingFault f
+    → (f ≡ read_faults.TooLong → IfSome known (λ bytes. most_file_bytes < length bytes)) → BlamesBytes f → LayerFile format known (Err f)
+unread_blamed format known f reading long blame =
+    file-unread layer_columns (LayerRowGives format) empty known f reading long (λ e. subst BlamesBytes e blame) (λ e. subst BlamesBytes e blame)
 
-module _ (scale : Scale) where
+module _ {G : Type 0} (format : Reading G) where
   -- the layer built of a source's bytes is that of its file
-  built_blamed : (known : Option (List ℕ)) (items : List ℕ) (out : Result (LayerState Shape) ReadFault) (f : ReadFault)
-      → IfSome known (λ bytes. items ≡ bytes) → Builds scale items out → out ≡ Err f → BlamesBytes f → LayerFile scale known (Err f)
+  built_blamed : (known : Option (List ℕ)) (items : List ℕ) (out : Result (LayerState G) ReadFault) (f : ReadFault)
+      → IfSome known (λ bytes. items ≡ bytes) → Builds format items out → out ≡ Err f → BlamesBytes f → LayerFile format known (Err f)
   built_blamed None items out f same built is blame = tt
   built_blamed (Some bytes) items out f same built is blame =
       let no_memory : out ≢ Err read_faults.Memory = λ e. let m : f ≡ read_faults.Memory = cc in subst BlamesBytes m blame in
-      let gives = subst (λ (r : Result (LayerState Shape) ReadFault). IsLayerFile scale items (list_read r)) is (built.gives no_memory) in
-      subst (λ (b : List ℕ). IsLayerFile scale b (Err f)) same gives
+      let gives = subst (λ (r : Result (LayerState G) ReadFault). IsLayerFile format items (list_read r)) is (built.gives no_memory) in
+      subst (λ (b : List ℕ). IsLayerFile format b (Err f)) same gives
 
-  built_well : (known : Option (List ℕ)) (items : List ℕ) (out : Result (LayerState Shape) ReadFault) (layer : LayerState Shape)
-      → IfSome known (λ bytes. items ≡ bytes) → Builds scale items out → out ≡ Ok layer → LayerFile scale known (Ok layer.list)
+  built_well : (known : Option (List ℕ)) (items : List ℕ) (out : Result (LayerState G) ReadFault) (layer : LayerState G)
+      → IfSome known (λ bytes. items ≡ bytes) → Builds format items out → out ≡ Ok layer → LayerFile format known (Ok layer.list)
   built_well None items out layer same built is = tt
   built_well (Some bytes) items out layer same built is =
       let no_memory : out ≢ Err read_faults.Memory = λ e. absurd cc in
-      let gives = subst (λ (r : Result (LayerState Shape) ReadFault). IsLayerFile scale items (list_read r)) is (built.gives no_memory) in
-      subst (λ (b : List ℕ). IsLayerFile scale b (Ok layer.list)) same gives
+      let gives = subst (λ (r : Result (LayerState G) ReadFault). IsLayerFile format items (list_read r)) is (built.gives no_memory) in
+      subst (λ (b : List ℕ). IsLayerFile format b (Ok layer.list)) same gives
 
   -- a source that isn't read to its end is read as a fault
-  pub unread : {T : Type 0} (list : T → Contents Shape) (known : Option (List ℕ)) (out : Result T ReadFault) (f : ReadFault) → IsErrAnd out (λ x. x ≡ f)
-      → IsReadingFault f → (f ≡ read_faults.TooLong → IfSome known (λ bytes. most_file_bytes < length bytes)) → ReadsList list scale known out
+  pub unread : {T : Type 0} (list : T → Contents G) (known : Option (List ℕ)) (out : Result T ReadFault) (f : ReadFault) → IsErrAnd out (λ x. x ≡ f)
+      → IsReadingFault f → (f ≡ read_faults.TooLong → IfSome known (λ bytes. most_file_bytes < length bytes)) → ReadsList list format known out
   unread list known (Ok layer) f is reading long = absurd is
   unread list known (Err g) f is reading long = record {
     ok = tt;
-    fault = λ blame. subst (λ (x : ReadFault). LayerFile scale known (Err x)) (sym is) (unread_blamed scale known f reading long (subst BlamesBytes is blame));
+    fault = λ blame. subst (λ (x : ReadFault). LayerFile format known (Err x)) (sym is) (unread_blamed format known f reading long (subst BlamesBytes is blame));
   }
 
   -- the result of reading a source blames it
-  read_blamed : (known : Option (List ℕ)) (out : Result (LayerState Shape) ReadFault) (f : ReadFault)
-      → Reads scale known out → out ≡ Err f → BlamesBytes f → LayerFile scale known (Err f)
-  read_blamed known out f reads is = subst (λ (r : Result (LayerState Shape) ReadFault). IfErr r (λ x. BlamesBytes x → LayerFile scale known (Err x))) is reads.fault
+  read_blamed : (known : Option (List ℕ)) (out : Result (LayerState G) ReadFault) (f : ReadFault)
+      → Reads format known out → out ≡ Err f → BlamesBytes f → LayerFile format known (Err f)
+  read_blamed known out f reads is = subst (λ (r : Result (LayerState G) ReadFault). IfErr r (λ x. BlamesBytes x → LayerFile format known (Err x))) is reads.fault
 
 -- a fault of the right layer alone is reported
 right_first : (f : ReadFault) → first_fault None f ≡ Read Right f
@@ -64,6 +63,7 @@ right_first read_faults.TooLong = refl
 right_first read_faults.Header = refl
 right_first (read_faults.Row n) = refl
 right_first (read_faults.Wkt n g) = refl
+right_first (read_faults.Geometry n g) = refl
 right_first (read_faults.Layer n g) = refl
 right_first read_faults.Memory = refl
 
@@ -74,29 +74,30 @@ left_first g read_faults.TooLong = inr refl
 left_first g read_faults.Header = inr refl
 left_first g (read_faults.Row n) = inr refl
 left_first g (read_faults.Wkt n h) = inr refl
+left_first g (read_faults.Geometry n h) = inr refl
 left_first g (read_faults.Layer n h) = inr refl
 left_first g read_faults.Memory = inr refl
 
 -- a fault of two layers, the right one of which wasn't built, is one of their files
-told_blamed : (scale : Scale) (left right : Option (List ℕ)) (items : List ℕ) (built out : Result (LayerState Shape) ReadFault) (f : ReadFault)
-    → IfSome left (λ bytes. items ≡ bytes) → Builds scale items built → Reads scale right out → out ≡ Err f
-    → IsLayersFault scale left right (first_fault (result_err built) f)
-told_blamed scale left right items (Ok layer) out f same built reads is =
-    subst (IsLayersFault scale left right) (sym (right_first f))
-    ((λ other. (layer.list, built_well scale left items (Ok layer) layer same built refl)), read_blamed scale right out f reads is)
-told_blamed scale left right items (Err g) out f same built reads is = elim (left_first g f) [
-  | inl io ↦ subst (λ (x : ReadFault). IsLayersFault scale left right (first_fault (Some g) x)) (sym io) ((λ other. absurd (other refl)), (λ blame. absurd blame))
-  | inr told ↦ subst (IsLayersFault scale left right) (sym told) (built_blamed scale left items (Err g) g same built refl)
+told_blamed : {G : Type 0} (format : Reading G) (left right : Option (List ℕ)) (items : List ℕ) (built out : Result (LayerState G) ReadFault) (f : ReadFault)
+    → IfSome left (λ bytes. items ≡ bytes) → Builds format items built → Reads format right out → out ≡ Err f
+    → IsLayersFault format left right (first_fault (result_err built) f)
+told_blamed format left right items (Ok layer) out f same built reads is =
+    subst (IsLayersFault format left right) (sym (right_first f))
+    ((λ other. (layer.list, built_well format left items (Ok layer) layer same built refl)), read_blamed format right out f reads is)
+told_blamed format left right items (Err g) out f same built reads is = elim (left_first g f) [
+  | inl io ↦ subst (λ (x : ReadFault). IsLayersFault format left right (first_fault (Some g) x)) (sym io) ((λ other. absurd (other refl)), (λ blame. absurd blame))
+  | inr told ↦ subst (IsLayersFault format left right) (sym told) (built_blamed format left items (Err g) g same built refl)
 ]
 
-pub first_blamed : (scale : Scale) (left right : Option (List ℕ)) (items : List ℕ) (built out : Result (LayerState Shape) ReadFault) (f : ReadFault)
-    (e : RunFault) → IfSome left (λ bytes. items ≡ bytes) → Builds scale items built → Reads scale right out → out ≡ Err f
-    → e ≡ first_fault (result_err built) f → IsLayersFault scale left right e
-first_blamed scale left right items built out f e same gives reads is told =
-    subst (IsLayersFault scale left right) (sym told) (told_blamed scale left right items built out f same gives reads is)
+pub first_blamed : {G : Type 0} (format : Reading G) (left right : Option (List ℕ)) (items : List ℕ) (built out : Result (LayerState G) ReadFault) (f : ReadFault)
+    (e : RunFault) → IfSome left (λ bytes. items ≡ bytes) → Builds format items built → Reads format right out → out ≡ Err f
+    → e ≡ first_fault (result_err built) f → IsLayersFault format left right e
+first_blamed format left right items built out f e same gives reads is told =
+    subst (IsLayersFault format left right) (sym told) (told_blamed format left right items built out f same gives reads is)
 
 -- a fault of the two layers is a result of the files
-layers_give : (files : JoinFiles) (e : RunFault) → IsLayersFault files.scale files.left files.right e → BlamesInput e
+layers_give : {G : Type 0} (files : JoinFiles G) (e : RunFault) → IsLayersFault files.reads files.left files.right e → BlamesInput e
     → LayersGive files (Err e)
 layers_give files (Read Left f) fault blame = left_fault f (fault blame)
 layers_give files (Read Right f) fault blame = let left = fault.0 (λ e. subst BlamesBytes e blame) in right_fault left.0 f left.1 (fault.1 blame)
@@ -115,14 +116,14 @@ layers_give files Write fault blame = absurd fault
 layers_give files Memory fault blame = absurd fault
 layers_give files NoKeys fault blame = absurd fault
 
-pub layers_blamed : {T : Type 0} (files : JoinFiles) (out : Result T RunFault) (e : RunFault)
-    → IsErrAnd out (λ x. x ≡ e) → IsLayersFault files.scale files.left files.right e
+pub layers_blamed : {T : Type 0} {G : Type 0} (files : JoinFiles G) (out : Result T RunFault) (e : RunFault)
+    → IsErrAnd out (λ x. x ≡ e) → IsLayersFault files.reads files.left files.right e
     → IfErr out (λ x. BlamesInput x → LayersGive files (Err x))
 layers_blamed files out e h fault =
     handed_on (LayersGive files) out e e h refl (λ blame. layers_give files e fault blame)
 
-module _ (scale : Scale) (left right : Option (List ℕ)) where
-  pub layers_join_kind : (e : RunFault) → IsLayersFault scale left right e → IsJoinKind e
+module _ {G : Type 0} (format : Reading G) (left right : Option (List ℕ)) where
+  pub layers_join_kind : (e : RunFault) → IsLayersFault format left right e → IsJoinKind e
   layers_join_kind (Read Left f) fault = tt
   layers_join_kind (Read Right f) fault = tt
   layers_join_kind (Read First f) fault = absurd fault
@@ -140,10 +141,10 @@ module _ (scale : Scale) (left right : Option (List ℕ)) where
   layers_join_kind Memory fault = absurd fault
   layers_join_kind NoKeys fault = absurd fault
 
-  pub none_of_edits : (e : RunFault) → IsLayersFault scale left right e → e ≢ Read Edits read_faults.Io
-  none_of_edits e fault is = subst (IsLayersFault scale left right) is fault
+  pub none_of_edits : (e : RunFault) → IsLayersFault format left right e → e ≢ Read Edits read_faults.Io
+  none_of_edits e fault is = subst (IsLayersFault format left right) is fault
 
-pub layers_join_fault : (files : JoinFiles) (e : RunFault) → IsLayersFault files.scale files.left files.right e → IsJoinFault files e
+pub layers_join_fault : {G : Type 0} (files : JoinFiles G) (e : RunFault) → IsLayersFault files.reads files.left files.right e → IsJoinFault files e
 layers_join_fault files (Read Left f) fault = tt
 layers_join_fault files (Read Right f) fault = fault.0
 layers_join_fault files (Read First f) fault = absurd fault

@@ -2,14 +2,12 @@ pub mod BoundsLemmas
 pub mod CsvLemmas
 pub mod DrawRunLemmas
 pub mod EditsLemmas
-pub mod JoinLemmas
 pub mod JoinRunLemmas
+pub mod LayerRunLemmas
 pub mod LayersLemmas
 pub mod LineLemmas
 pub mod ProductLemmas
 pub mod RelatingLemmas
 pub mod RunLemmas
-pub mod TreeFeatureLemmas
-pub mod TreeJoinLemmas
 pub mod WindowLemmas
 pub mod WindowRunLemmas

@@ -5,6 +5,7 @@ use Rattle.geom_core.specs.declared.shape.Shape.{Shape}
 use Rattle.wkt_core.specs.declared.fault.WktFault.{WktFault}
 use Rattle.wkt_core.specs.declared.scale.Scale.{Scale}
 use Rattle.wkt_core.specs.Readings.{Reads}
+use Rattle.file_core.specs.Formats.{ReadsBox}
 use Rattle.join_core.specs.declared.fault.Input.{Input}
 use Rattle.join_core.specs.declared.fault.Input.TheVariants.{Layer, Window}
 use Rattle.join_core.specs.declared.fault.RunFault.{RunFault}
@@ -30,7 +31,7 @@ window_spelled : {T : Type 0} (scale : Scale) (wkt : List ℕ) (s : Shape) (out 
 window_spelled scale wkt s out only none Window f = ((λ q. absurd (none Window f q)), (λ h. let bad = only (Err f) h in absurd cc))
 window_spelled scale wkt s out only none _ f = ((λ q. absurd (none _ f q)), (λ h. absurd h))
 
-of_layer : (scale : Scale) (wkt : List ℕ) (file : Option (List ℕ)) (s : Shape) → Reads scale wkt (Ok s) → (f : RunFault) → IsLayerRunFault scale file f
+of_layer : (scale : Scale) (wkt : List ℕ) (file : Option (List ℕ)) (s : Shape) → Reads scale wkt (Ok s) → (f : RunFault) → IsLayerRunFault (ReadsBox scale) file f
     → IsWindowFault scale wkt file f
 of_layer scale wkt file s spelled (Wkt i w) is = absurd is
 of_layer scale wkt file s spelled (Geometry i w) is = ((s, spelled), is)
@@ -60,7 +61,7 @@ module _ {S : Type 0} (written : S → Option (List ℕ)) (is_flushed has_failed
   -- the result of a window whose text spells a shape
   pub window_looked_up : {T : Type 0} (s : Shape) (HasFailed : Input → Type 0) (old new : S) (result : Result T RunFault) → Reads scale wkt (Ok s)
       → ReadsOnly scale wkt (Ok s)
-      → RunEnds (LayerGives (IsWindowList s) scale file) NoTextFault (IsLayerRunFault scale file) HasFailed written is_flushed has_failed old new result
+      → RunEnds (LayerGives (IsWindowList s) (ReadsBox scale) file) NoTextFault (IsLayerRunFault (ReadsBox scale) file) HasFailed written is_flushed has_failed old new result
       → RunEnds (WindowGives scale wkt file) (HasWindowFault scale wkt) (IsWindowFault scale wkt file) HasFailed written is_flushed has_failed old new result
   window_looked_up s HasFailed old new result spelled only ends = record {
     writes = ends_as _ _ written is_flushed has_failed old new result (λ text given. looked_up s (Ok text) spelled given) ends.writes;

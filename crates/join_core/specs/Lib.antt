@@ -5,7 +5,7 @@ pub mod FaultTexts
 pub mod Inputs
 pub mod Jobs
 pub mod JoinRuns
-pub mod Joins
+pub mod Joinings
 pub mod LayerRuns
 pub mod Lines
 pub mod Products

@@ -1,42 +1,47 @@
 -- The products of a join's pairs: a report or a picture.
-use Rattle.std.specs.Prelude.{◌≡◌, ◌≤◌, ℕ, List, Result}
-use Rattle.relation_core.specs.declared.relation.Relation.{Relation}
-use Rattle.relation_core.specs.JoinRelations.{relation_of}
-use Rattle.geom_core.specs.declared.shape.Shape.{Shape}
+use Rattle.std.specs.Prelude.{◌≡◌, ◌≤◌, ⊤, ℕ, List, Result}
+use Rattle.relation_core.specs.declared.matrix.Matrix.{Matrix}
 use Rattle.layer_core.specs.Edits.{Layers}
 use Rattle.draw_core.specs.Limits.{most_drawn}
+use Rattle.draw_core.specs.Drawings.{Drawing}
 use Rattle.draw_core.specs.Pictures.{picture_of}
 use Rattle.report_core.specs.Reports.{IsReport}
 use Rattle.join_core.specs.declared.fault.RunFault.{RunFault}
-use Rattle.join_core.specs.declared.joins.job.JoinJob.{JoinJob}
-use Rattle.join_core.specs.declared.joins.job.Product.{Product}
-use Rattle.join_core.specs.declared.joins.job.Product.TheVariants.{Report, Picture}
+use Rattle.options_core.specs.declared.product.Product.{Product}
+use Rattle.options_core.specs.declared.product.Product.TheVariants.{Report, Picture}
 use Rattle.join_core.specs.DrawRuns.{DrawGives, IsDrawFault, IsLateDrawFault, features_of}
-use Rattle.join_core.specs.Joins.{IsJoinList}
 use Rattle.join_core.specs.JoinRuns.{JoinFiles, JoinGives, IsJoinFault, IsLateFault}
+use Rattle.join_core.specs.Joinings.{Joining, ArePairs}
 
-abbrev pub ProductGives : Product → Relation → JoinFiles → Result (List ℕ) RunFault → Type 0
+-- the result of a job with this product
+abbrev pub ProductGives : {G : Type 0} → Product → Joining G → JoinFiles G
+    → Result (List ℕ) RunFault → Type 0
 ProductGives Report = JoinGives
 ProductGives Picture = DrawGives
 
--- the report of the pairs of these layers
-abbrev pub IsReported : Relation → Layers Shape → List ℕ → Type 0
-IsReported relation layers text = (pairs : List (ℕ × ℕ))
-    × IsJoinList relation layers.left layers.right pairs
-    × IsReport layers.left layers.right pairs text
+-- the report or the picture of these pairs of two layers
+abbrev pub IsMadeOf : {G : Type 0} → Product → (G → G → Matrix → Type 0) → Drawing G → Layers G
+    → List (ℕ × ℕ) → List ℕ → Type 0
+IsMadeOf Report is_matrix drawing layers pairs text =
+    IsReport is_matrix layers.left layers.right pairs text
+IsMadeOf Picture is_matrix drawing layers pairs text =
+    text ≡ picture_of drawing layers.left layers.right pairs
 
--- the picture of these layers and their pairs, if they don't have too many features
-abbrev pub IsDrawn : Relation → Layers Shape → List ℕ → Type 0
-IsDrawn relation layers text = (features_of layers ≤ most_drawn)
-    × ((pairs : List (ℕ × ℕ)) × IsJoinList relation layers.left layers.right pairs
-    × (text ≡ picture_of layers.left layers.right pairs))
+-- a picture doesn't have too many features
+abbrev pub IsFew : {G : Type 0} → Product → Layers G → Type 0
+IsFew Report layers = ⊤
+IsFew Picture layers = features_of layers ≤ most_drawn
 
-abbrev pub IsProduct : Product → Relation → Layers Shape → List ℕ → Type 0
-IsProduct Report = IsReported
-IsProduct Picture = IsDrawn
+-- the product of the pairs of these layers
+pub record IsProduct {G : Type 0} (product : Product) (joining : Joining G) (layers : Layers G)
+    (text : List ℕ) : Type 0 where
+  pub few : IsFew product layers
+  pub pairs : List (ℕ × ℕ)
+  pub are_pairs : ArePairs joining.stands layers pairs
+  pub made : IsMadeOf product joining.is_matrix joining.drawing layers pairs text
 
 -- a possible fault of such a job, except that of the sink
-abbrev pub IsProductFault : Product → JoinFiles → RunFault → Type 0
+abbrev pub IsProductFault : {G : Type 0} → Product → JoinFiles G → RunFault → Type 0
 IsProductFault Report = IsJoinFault
 IsProductFault Picture = IsDrawFault
 
@@ -44,15 +49,3 @@ IsProductFault Picture = IsDrawFault
 abbrev pub IsLateProductFault : Product → RunFault → Type 0
 IsLateProductFault Report = IsLateFault
 IsLateProductFault Picture = IsLateDrawFault
-
--- the result of a job
-abbrev pub JobGives : JoinJob → JoinFiles → Result (List ℕ) RunFault → Type 0
-JobGives job = ProductGives job.product (relation_of job.relation)
-
--- the product of a job for two layers
-abbrev pub IsMade : JoinJob → Layers Shape → List ℕ → Type 0
-IsMade job = IsProduct job.product (relation_of job.relation)
-
--- the possible faults of a job, except that of the sink
-abbrev pub IsJobFault : JoinJob → JoinFiles → RunFault → Type 0
-IsJobFault job = IsProductFault job.product

@@ -4,6 +4,7 @@ use Rattle.geom_core.specs.declared.shape.Shape.{Shape}
 use Rattle.wkt_core.specs.declared.fault.WktFault.{WktFault}
 use Rattle.wkt_core.specs.declared.scale.Scale.{Scale}
 use Rattle.wkt_core.specs.Readings.{Reads}
+use Rattle.file_core.specs.Formats.{ReadsBox}
 use Rattle.join_core.specs.declared.fault.Input.{Input}
 use Rattle.join_core.specs.declared.fault.Input.TheVariants as input
 use Rattle.join_core.specs.declared.fault.RunFault.{RunFault}
@@ -18,7 +19,7 @@ pub data WindowGives (scale : Scale) (wkt : List ℕ) (file : Option (List ℕ))
   text_fault : (f : WktFault) → Reads scale wkt (Err f)
       → WindowGives scale wkt file (Err (Wkt input.Window f))
   looked_up : (window : Shape) (answer : Result (List ℕ) RunFault) → Reads scale wkt (Ok window)
-      → LayerGives (IsWindowList window) scale file answer → WindowGives scale wkt file answer
+      → LayerGives (IsWindowList window) (ReadsBox scale) file answer → WindowGives scale wkt file answer
 
 -- the fault of the window's text
 abbrev pub HasWindowFault : Scale → List ℕ → Input → WktFault → Type 0
@@ -30,4 +31,4 @@ HasWindowFault scale wkt _ f = ⊥
 abbrev pub IsWindowFault : Scale → List ℕ → Option (List ℕ) → RunFault → Type 0
 IsWindowFault scale wkt file (Wkt input.Window f) = ⊤
 IsWindowFault scale wkt file fault =
-    ((window : Shape) × Reads scale wkt (Ok window)) × IsLayerRunFault scale file fault
+    ((window : Shape) × Reads scale wkt (Ok window)) × IsLayerRunFault (ReadsBox scale) file fault

@@ -11,18 +11,16 @@ ghost use Rattle.join_core.specs.Runs.{NoTextFault, RunEnds};
 
 use crate::csv_rows::{new_rows, push_row, rows_text};
 use crate::fault::RunFault;
-use crate::layer_input::LayerReader;
 use crate::layer_run::{DEFAULT_WORKERS, LayerText, run_on_layer};
 use crate::text::Text;
 use csv::Writer;
-use file_core::Source;
+use file_core::{Format, LayerReader, Source};
 use itoa::Buffer;
-use layer_core::{FeatureList, FeatureRef};
+use layer_core::{FeatureList, FeatureRef, Geometry};
 use report_core::Sink;
 use std::alloc::{AllocError, Global};
 use std::hash::RandomState;
 use std::thread::Threads;
-use wkt_core::Scale;
 
 /// Writes the corners of the features of a layer: a CSV record `id,x1,y1,x2,y2`, and then a record
 /// for each feature, in layer order.
@@ -32,25 +30,27 @@ use wkt_core::Scale;
 ///
 /// # Errors
 /// A fault of the layer, after which nothing is written, or a fault of the output.
-pub fn run_bounds<R: Threads + Sync, L: Source, S: Sink>(
+pub fn run_bounds<R: Threads + Sync, F: Format, L: Source, S: Sink>(
     rt: &R,
     alloc: Global,
     state: RandomState,
-    scale: Scale,
+    format: F,
     layer: &mut L,
     sink: &mut S,
 ) -> Result<(), RunFault>
     requires layer { L.has_failed layer.old ≡ false }
     requires sink { S.has_failed sink.old ≡ false }
-    ensures { RunEnds (LayerGives ListsCorners scale (L.remaining layer.old)) NoTextFault
-        (IsLayerRunFault scale (L.remaining layer.old))
+    ensures { let reads = F.reads format in
+        let corners = ListsCorners F.Geometry.box_of in
+        RunEnds (LayerGives corners reads (L.remaining layer.old)) NoTextFault
+        (IsLayerRunFault reads (L.remaining layer.old))
         (OnlyAt Input.Layer (IsTrue (L.has_failed layer.new)))
         S.written S.is_flushed S.has_failed sink.old sink.new result }
 {
     let reader = LayerReader {
         rt,
         alloc,
-        scale,
+        format,
         threads: DEFAULT_WORKERS,
     };
     run_on_layer(&reader, state, layer, &Corners, sink)
@@ -60,17 +60,17 @@ pub fn run_bounds<R: Threads + Sync, L: Source, S: Sink>(
 #[derive(Drop)]
 struct Corners;
 
-impl LayerText for Corners {
-    ghost is_text_of = { λ _. ListsCorners };
+impl<G: Geometry> LayerText<G> for Corners {
+    ghost is_text_of = { λ _. ListsCorners G.box_of };
 
-    fn text(&self, alloc: Global, features: &FeatureList) -> Result<Text, AllocError> {
+    fn text(&self, alloc: Global, features: &FeatureList<G>) -> Result<Text, AllocError> {
         Ok(Text::Rows(bounds_text(alloc, features)?))
     }
 }
 
 /// The corners of the features, as CSV.
-fn bounds_text(alloc: Global, features: &FeatureList) -> Result<Vec<u8>, AllocError>
-    ensures { IfOk result (λ text. text.items ≡ bounds_text features.now.features) }
+fn bounds_text<G: Geometry>(alloc: Global, features: &FeatureList<G>) -> Result<Vec<u8>, AllocError>
+    ensures { IfOk result (λ text. text.items ≡ bounds_text G.box_of features.now.features) }
 {
     let mut writer = new_rows(alloc);
     push_row(&mut writer, &[b"id", b"x1", b"y1", b"x2", b"y2"])?;
@@ -80,11 +80,15 @@ fn bounds_text(alloc: Global, features: &FeatureList) -> Result<Vec<u8>, AllocEr
     rows_text(writer)
 }
 
-/// Writes the id of a feature and the corners of its shape.
-fn push_bounds(writer: &mut Writer<Vec<u8>>, feature: &FeatureRef) -> Result<(), AllocError>
-    ensures { OnOk result (AddsRow writer.old writer.new (bounds_row (feature_read feature.now))) }
+/// Writes the id of a feature and the corners of its box.
+fn push_bounds<G: Geometry>(
+    writer: &mut Writer<Vec<u8>>,
+    feature: &FeatureRef<'_, G>,
+) -> Result<(), AllocError>
+    ensures { let row = bounds_row G.box_of (feature_read feature.now) in
+        OnOk result (AddsRow writer.old writer.new row) }
 {
-    let shape = feature.shape;
+    let shape = feature.shape.bounds();
     let mut x1 = Buffer::new();
     let mut y1 = Buffer::new();
     let mut x2 = Buffer::new();

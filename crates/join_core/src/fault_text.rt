@@ -33,7 +33,7 @@ pub fn fault_line<S: Sink>(fault: &RunFault, sink: &mut S) -> Result<(), WriteFa
 fn push_run_text(line: &mut ShortText, fault: &RunFault)
     requires { length line.old ≤ 7 }
     ensures text { line.new ≡ line.old ++ run_text fault.now }
-    ensures short { length line.new ≤ 100 }
+    ensures short { length line.new ≤ 101 }
 {
     match fault {
         RunFault::NoFile(input) => {
@@ -71,7 +71,7 @@ fn push_run_text(line: &mut ShortText, fault: &RunFault)
 fn push_read_text(line: &mut ShortText, fault: &ReadFault)
     requires { length line.old ≤ 15 }
     ensures text { line.new ≡ line.old ++ read_text fault.now }
-    ensures short { length line.new ≤ length line.old + 70 }
+    ensures short { length line.new ≤ length line.old + 86 }
 {
     if let Some(row) = fault.row() {
         push_row(line, row);

@@ -2,7 +2,6 @@
 
 ghost use Rattle.std.specs.Prelude.{◌≡◌, ◌↔◌, ℕ, List, Ok, Err, false, IsTrue, IsErrOf, IfErr};
 ghost use Rattle.std.specs.Prelude.{IfOk};
-ghost use Rattle.geom_core.specs.declared.shape.Shape.{Shape};
 ghost use Rattle.layer_core.specs.Layers.{Contents};
 ghost use Rattle.join_core.specs.declared.fault.Input.{Input};
 ghost use Rattle.join_core.specs.Inputs.{BlamesInput};
@@ -12,10 +11,10 @@ ghost use Rattle.join_core.specs.Runs.{NoTextFault, RunEnds};
 ghost use Rattle.join_core.specs.Texts.{bytes_of_text};
 
 use crate::fault::{Input, RunFault};
-use crate::layer_input::LayerReader;
+use crate::layer_input::read_features;
 use crate::text::Text;
-use file_core::{ReadFault, Source};
-use layer_core::FeatureList;
+use file_core::{Format, LayerReader, ReadFault, Source};
+use layer_core::{FeatureList, Geometry};
 use report_core::Sink;
 use std::alloc::{AllocError, Global};
 use std::hash::RandomState;
@@ -26,28 +25,35 @@ pub const DEFAULT_WORKERS: u32 = 4;
 
 /// The text that a run makes of a layer's features. No run needs the layer's tree, so it isn't
 /// packed.
-pub(crate) trait LayerText {
-    ghost is_text_of: { Self → Contents Shape → List ℕ → Type 0 };
+pub trait LayerText<G: Geometry> {
+    ghost is_text_of: { Self → Contents G → List ℕ → Type 0 };
 
     /// The text of a layer, made of its features.
-    fn text(&self, alloc: Global, features: &FeatureList) -> Result<Text, AllocError>
+    fn text(&self, alloc: Global, features: &FeatureList<G>) -> Result<Text, AllocError>
         ensures { IfOk result (λ text. is_text_of self.now features.now (bytes_of_text text)) };
 }
 
 /// Reads a layer, whose ids `state` hashes, and writes the text made of it. After a fault of the
 /// layer, nothing is written.
-pub(crate) fn run_on_layer<R: Threads + Sync, L: Source, T: LayerText, S: Sink>(
-    reader: &LayerReader<'_, R>,
+pub fn run_on_layer<R, F, L, T, S>(
+    reader: &LayerReader<'_, F, R>,
     state: RandomState,
     layer: &mut L,
     made: &T,
     sink: &mut S,
 ) -> Result<(), RunFault>
+where
+    R: Threads + Sync,
+    F: Format,
+    L: Source,
+    T: LayerText<F::Geometry>,
+    S: Sink,
     requires layer { L.has_failed layer.old ≡ false }
     requires sink { S.has_failed sink.old ≡ false }
     ensures { let file = L.remaining layer.old in
-        RunEnds (LayerGives (T.is_text_of made.now) reader.now.scale file)
-        NoTextFault (IsLayerRunFault reader.now.scale file)
+        let reads = F.reads reader.now.format in
+        RunEnds (LayerGives (T.is_text_of made.now) reads file)
+        NoTextFault (IsLayerRunFault reads file)
         (OnlyAt Input.Layer (IsTrue (L.has_failed layer.new)))
         S.written S.is_flushed S.has_failed sink.old sink.new result }
 {
@@ -57,34 +63,39 @@ pub(crate) fn run_on_layer<R: Threads + Sync, L: Source, T: LayerText, S: Sink>(
 }
 
 /// The text made of the layer that a source is read as.
-fn text_of<R: Threads + Sync, L: Source, T: LayerText>(
-    reader: &LayerReader<'_, R>,
+fn text_of<R, F, L, T>(
+    reader: &LayerReader<'_, F, R>,
     state: RandomState,
     source: &mut L,
     made: &T,
 ) -> Result<Text, RunFault>
+where
+    R: Threads + Sync,
+    F: Format,
+    L: Source,
+    T: LayerText<F::Geometry>,
     requires { L.has_failed source.old ≡ false }
     ensures ok { let file = L.remaining source.old in
-        let gives = LayerGives (T.is_text_of made.now) reader.now.scale file in
+        let gives = LayerGives (T.is_text_of made.now) (F.reads reader.now.format) file in
         IfOk result (λ text. gives (Ok (bytes_of_text text))) }
     ensures fault { let file = L.remaining source.old in
-        let gives = LayerGives (T.is_text_of made.now) reader.now.scale file in
+        let gives = LayerGives (T.is_text_of made.now) (F.reads reader.now.format) file in
         IfErr result (λ f. BlamesInput f → gives (Err f)) }
     ensures faults { IfErr result
-        (IsLayerRunFault reader.now.scale (L.remaining source.old)) }
+        (IsLayerRunFault (F.reads reader.now.format) (L.remaining source.old)) }
     ensures io { IsErrOf result (RunFault.Read Input.Layer ReadFault.Io)
         ↔ IsTrue (L.has_failed source.new) }
 {
-    match reader.read_features(state, source) {
+    match read_features(reader, state, source) {
         Ok(features) => text_from(reader.alloc, &features, made),
         Err(fault) => Err(RunFault::Read(Input::Layer, fault)),
     }
 }
 
 /// The text made of a layer's features.
-fn text_from<T: LayerText>(
+fn text_from<G: Geometry, T: LayerText<G>>(
     alloc: Global,
-    features: &FeatureList,
+    features: &FeatureList<G>,
     made: &T,
 ) -> Result<Text, RunFault>
     ensures ok { IfOk result (λ text. T.is_text_of made.now features.now (bytes_of_text text)) }

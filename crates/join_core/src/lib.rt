@@ -19,13 +19,18 @@ pub use deliver_core::Outcome;
 pub use draw_core::MAX_DRAWN;
 pub use fault::{Input, RunFault};
 pub use fault_text::fault_line;
-pub use joins::{JoinJob, JoinSources, Product, apply_edits, join, run_join};
-pub use layer_run::DEFAULT_WORKERS;
-pub use options_core::{MAX_BATCH, MAX_CUT, MAX_WORKERS, OptionFault, Options};
+pub use filter_core::join;
+pub use joins::{
+    BoxCondition, JoinJob, JoinSources, Output, apply_edits, can_be_made, edited_layers,
+    free_layers, run_join,
+};
+pub use layer_run::{DEFAULT_WORKERS, LayerText, run_on_layer};
+pub use options_core::{MAX_BATCH, MAX_CUT, MAX_WORKERS, OptionFault, Options, Product};
 pub use parallel_core::{Gate, JoinFault, OpenGate};
 pub use relate::{matrix_line, run_relate};
 pub use report_core::{
     ROOM, ShortText, Sink, ToWrite, WriteFailed, report_texts, write_text, write_texts,
 };
 pub use stats::run_stats;
-pub use window::run_window;
+pub use text::Text;
+pub use window::{Meeting, Window, run_window};

@@ -1,6 +1,7 @@
 //! Counts of the features of a layer.
 
 ghost use Rattle.std.specs.Prelude.{◌≡◌, ◌+◌, ◌≤◌, ◌++◌, false, length, IsTrue};
+ghost use Rattle.file_core.specs.Formats.{ReadsBox};
 ghost use Rattle.join_core.specs.declared.fault.Input.{Input};
 ghost use Rattle.join_core.specs.Jobs.{OnlyAt};
 ghost use Rattle.join_core.specs.LayerRuns.{LayerGives, IsLayerRunFault};
@@ -8,10 +9,10 @@ ghost use Rattle.join_core.specs.Runs.{NoTextFault, RunEnds};
 ghost use Rattle.join_core.specs.StatsTexts.{AreCounts, count_line, stats_text};
 
 use crate::fault::RunFault;
-use crate::layer_input::LayerReader;
 use crate::layer_run::{DEFAULT_WORKERS, LayerText, run_on_layer};
 use crate::text::Text;
-use file_core::Source;
+use file_core::{LayerReader, Source};
+use geom_core::Shape;
 use layer_core::{FeatureList, Stats};
 use report_core::{ROOM, ShortText, Sink};
 use std::alloc::{AllocError, Global};
@@ -36,15 +37,15 @@ pub fn run_stats<R: Threads + Sync, L: Source, S: Sink>(
 ) -> Result<(), RunFault>
     requires layer { L.has_failed layer.old ≡ false }
     requires sink { S.has_failed sink.old ≡ false }
-    ensures { RunEnds (LayerGives AreCounts scale (L.remaining layer.old)) NoTextFault
-        (IsLayerRunFault scale (L.remaining layer.old))
+    ensures { RunEnds (LayerGives AreCounts (ReadsBox scale) (L.remaining layer.old)) NoTextFault
+        (IsLayerRunFault (ReadsBox scale) (L.remaining layer.old))
         (OnlyAt Input.Layer (IsTrue (L.has_failed layer.new)))
         S.written S.is_flushed S.has_failed sink.old sink.new result }
 {
     let reader = LayerReader {
         rt,
         alloc,
-        scale,
+        format: scale,
         threads: DEFAULT_WORKERS,
     };
     run_on_layer(&reader, state, layer, &Counts, sink)
@@ -54,7 +55,7 @@ pub fn run_stats<R: Threads + Sync, L: Source, S: Sink>(
 #[derive(Drop)]
 struct Counts;
 
-impl LayerText for Counts {
+impl LayerText<Shape> for Counts {
     ghost is_text_of = { λ _. AreCounts };
 
     fn text(&self, _: Global, features: &FeatureList) -> Result<Text, AllocError> {

@@ -9,7 +9,7 @@ use report_core::{ShortText, Sink, WriteFailed, write_text, write_texts};
 
 /// A text that a run writes, in the form in which it was made.
 #[derive(Drop)]
-pub(crate) enum Text {
+pub enum Text {
     /// A few lines.
     Lines(ShortText),
     /// CSV.
@@ -22,7 +22,7 @@ pub(crate) enum Text {
 
 impl Text {
     /// Writes and flushes the text. If the device fails, a prefix of it was written.
-    pub(crate) fn write<S: Sink>(&self, sink: &mut S) -> Result<(), WriteFailed>
+    pub fn write<S: Sink>(&self, sink: &mut S) -> Result<(), WriteFailed>
         requires { S.has_failed sink.old ≡ false }
         ensures ok { OnOk result
             (Appends (S.written sink.old) (S.written sink.new) (bytes_of_text self.now)) }

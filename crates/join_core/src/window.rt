@@ -5,16 +5,15 @@ ghost use Rattle.join_core.specs.declared.fault.Input.{Input};
 ghost use Rattle.join_core.specs.Jobs.{OnlyAt};
 ghost use Rattle.join_core.specs.Runs.{RunEnds};
 ghost use Rattle.join_core.specs.WindowRuns.{WindowGives, HasWindowFault, IsWindowFault};
-ghost use Rattle.join_core.specs.Windows.{IsWindowList};
+ghost use Rattle.join_core.specs.Windows.{IsMeetingList};
 
 use crate::csv_rows::{new_rows, push_row, rows_text};
 use crate::fault::{Input, RunFault};
-use crate::layer_input::LayerReader;
 use crate::layer_run::{DEFAULT_WORKERS, LayerText, run_on_layer};
 use crate::text::Text;
-use file_core::Source;
+use file_core::{LayerReader, Source};
 use geom_core::Shape;
-use layer_core::FeatureList;
+use layer_core::{FeatureList, Geometry};
 use report_core::Sink;
 use std::alloc::{AllocError, Global};
 use std::hash::RandomState;
@@ -51,7 +50,7 @@ pub fn run_window<R: Threads + Sync, L: Source, S: Sink>(
             let reader = LayerReader {
                 rt,
                 alloc,
-                scale,
+                format: scale,
                 threads: DEFAULT_WORKERS,
             };
             run_on_layer(&reader, state, layer, &Meeting { window }, sink)
@@ -60,28 +59,59 @@ pub fn run_window<R: Threads + Sync, L: Source, S: Sink>(
     }
 }
 
-/// The text of `run_window`: the ids of a layer's features that meet the window.
-#[derive(Drop)]
-struct Meeting {
-    window: Shape,
+/// A window, which some geometries meet.
+pub trait Window<G: Geometry> {
+    ghost use Rattle.std.specs.Prelude.{◌↔◌, IfOk, IsTrue};
+
+    ghost is_met: { Self → G → Type 0 };
+
+    /// Whether a geometry meets it.
+    ///
+    /// # Errors
+    /// If an allocation fails.
+    fn meets(&self, alloc: Global, geometry: &G) -> Result<bool, AllocError>
+        ensures { IfOk result (λ meets. IsTrue meets ↔ is_met self.now geometry.now) };
 }
 
-impl LayerText for Meeting {
-    ghost is_text_of = { λ meeting. IsWindowList meeting.window };
+/// A box meets the boxes that share a point with it.
+impl Window<Shape> for Shape {
+    ghost use Rattle.geom_core.specs.Cells.{Meets};
 
-    fn text(&self, alloc: Global, features: &FeatureList) -> Result<Text, AllocError> {
-        Ok(Text::Rows(window_text(alloc, features, &self.window)?))
+    ghost is_met = { λ window s. Meets s window };
+
+    #[inline(always)]
+    fn meets(&self, _alloc: Global, geometry: &Shape) -> Result<bool, AllocError> {
+        Ok(geometry.meets(self))
+    }
+}
+
+/// The text of a window: the ids of a layer's features that meet it.
+#[derive(Drop)]
+pub struct Meeting<W> {
+    pub window: W,
+}
+
+impl<G: Geometry, W: Window<G>> LayerText<G> for Meeting<W> {
+    ghost is_text_of = { λ meeting. IsMeetingList (W.is_met meeting.window) };
+
+    fn text(&self, alloc: Global, features: &FeatureList<G>) -> Result<Text, AllocError> {
+        Ok(Text::Rows(meeting_text(alloc, features, &self.window)?))
     }
 }
 
 /// The ids of the features that meet the window, as CSV.
-fn window_text(alloc: Global, features: &FeatureList, window: &Shape) -> Result<Vec<u8>, AllocError>
-    ensures { IfOk result (λ text. IsWindowList window.now features.now text.items) }
+fn meeting_text<G: Geometry, W: Window<G>>(
+    alloc: Global,
+    features: &FeatureList<G>,
+    window: &W,
+) -> Result<Vec<u8>, AllocError>
+    ensures { IfOk result
+        (λ text. IsMeetingList (W.is_met window.now) features.now text.items) }
 {
     let mut writer = new_rows(alloc);
     push_row(&mut writer, &[b"id"])?;
     for feature in features.iter() {
-        let meets = feature.shape.meets(window);
+        let meets = window.meets(alloc, feature.shape)?;
         if meets {
             let id = feature.id.as_bytes();
             push_row(&mut writer, &[id])?;

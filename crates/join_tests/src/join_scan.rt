@@ -120,7 +120,7 @@ fn see_both_orders<'a, R: Threads + Wait + Sync + AllocGlobal>(
 
 /// A layer that is mostly packed, and one that is mostly edits. Both trees have at least four
 /// levels.
-fn layers<R: RandomSource + AllocGlobal>(rt: &R) -> Result<(Layer, Layer), Fail> {
+fn layers<R: Threads + Sync + RandomSource + AllocGlobal>(rt: &R) -> Result<(Layer, Layer), Fail> {
     let mut random = Random::new(1);
     let packed = edited(rt, &mut random, 700, 140)?;
     edited(rt, &mut random, 500, 500).map(|other| (packed, other))

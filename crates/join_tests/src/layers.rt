@@ -1,12 +1,13 @@
 //! Layers for tests.
 
-use file_core::{FromRead, ReadFault, read_layer};
+use file_core::{FromRead, LayerReader, ReadFault};
 use geom_core::Shape;
 use layer_core::Layer;
 use std::alloc::{AllocError, Global};
 use std::hash::RandomState;
 use std::random::RandomSource;
 use std::test::Fail;
+use std::thread::Threads;
 use test_data::{Random, points_text, shapes_text};
 use wkt_core::Scale;
 
@@ -23,22 +24,34 @@ pub(crate) fn seen<V: Drop, T, F: FnOnce(&V) -> T>(value: V, see: F) -> T
 }
 
 /// The result of reading a file with this text.
-fn read_text<R: RandomSource + AllocGlobal>(
+fn read_text<R: Threads + Sync + RandomSource + AllocGlobal>(
     rt: &R,
     text: &str,
 ) -> Result<Result<Layer, ReadFault>, Fail> {
-    let (state, scale) = (RandomState::new(rt)?, whole()?);
+    let state = RandomState::new(rt)?;
+    let reader = LayerReader {
+        rt,
+        alloc: rt.alloc(),
+        format: whole()?,
+        threads: 1,
+    };
     let mut source = FromRead::new(text.as_bytes());
-    Ok(read_layer(rt.alloc(), state, &mut source, scale))
+    Ok(reader.read_layer(state, &mut source))
 }
 
 /// The layer of a file with this text.
-pub(crate) fn layer_of<R: RandomSource + AllocGlobal>(rt: &R, text: &str) -> Result<Layer, Fail> {
+pub(crate) fn layer_of<R: Threads + Sync + RandomSource + AllocGlobal>(
+    rt: &R,
+    text: &str,
+) -> Result<Layer, Fail> {
     Ok(read_text(rt, text)??)
 }
 
 /// The layer of `count` points, read again if an allocation fails.
-pub(crate) fn points<R: RandomSource + AllocGlobal>(rt: &R, count: u32) -> Result<Layer, Fail> {
+pub(crate) fn points<R: Threads + Sync + RandomSource + AllocGlobal>(
+    rt: &R,
+    count: u32,
+) -> Result<Layer, Fail> {
     let text = points_text_at_last(rt.alloc(), count)?;
     match read_text(rt, text.as_str())? {
         Ok(layer) => Ok(layer),
@@ -77,7 +90,7 @@ fn edit(alloc: Global, layer: &mut Layer, random: &mut Random, count: u32) -> Op
 }
 
 /// A layer packed from `count` shapes.
-fn packed<R: RandomSource + AllocGlobal>(
+fn packed<R: Threads + Sync + RandomSource + AllocGlobal>(
     rt: &R,
     random: &mut Random,
     count: u32,
@@ -91,7 +104,7 @@ fn packed<R: RandomSource + AllocGlobal>(
 }
 
 /// A layer packed from `count` shapes, after `edits` insertions and a third as many deletions.
-pub(crate) fn edited<R: RandomSource + AllocGlobal>(
+pub(crate) fn edited<R: Threads + Sync + RandomSource + AllocGlobal>(
     rt: &R,
     random: &mut Random,
     count: u32,

@@ -62,7 +62,10 @@ struct Points {
 
 impl Points {
     /// Layers of `count` points each.
-    fn new<R: RandomSource + AllocGlobal>(rt: &R, count: u32) -> Result<Points, Fail> {
+    fn new<R: Threads + Sync + RandomSource + AllocGlobal>(
+        rt: &R,
+        count: u32,
+    ) -> Result<Points, Fail> {
         let left = points(rt, count)?;
         points(rt, count).map(|right| Points { left, right })
     }
@@ -122,11 +125,10 @@ impl Points {
 }
 
 /// The result of `see` on two layers of `count` points each.
-fn on_points<R: RandomSource + AllocGlobal, F: FnOnce(&Points) -> Result<bool, Fail>>(
-    rt: &R,
-    count: u32,
-    see: F,
-) -> Result<bool, Fail>
+fn on_points<
+    R: Threads + Sync + RandomSource + AllocGlobal,
+    F: FnOnce(&Points) -> Result<bool, Fail>,
+>(rt: &R, count: u32, see: F) -> Result<bool, Fail>
     requires { F.IsAlwaysCallable see }
 {
     seen(Points::new(rt, count)?, see)

@@ -4,6 +4,7 @@
 //! seconds more if it drops the layer. So layers are examined by functions that borrow them, and
 //! functions that own one pass it to `seen`.
 
+mod any_files;
 mod broken;
 mod devices;
 mod edits;
@@ -48,20 +49,39 @@ fn answer_by<R: Threads + Sync + RandomSource + AllocGlobal>(
     bytes: &[u8],
     threads: u32,
 ) -> Result<Result<Layer, ReadFault>, Fail> {
+    answer_in(rt, bytes, whole()?, threads)
+}
+
+/// The result of loading the bytes of a file of geometries of this format.
+fn answer_in<F: Format, R: Threads + Sync + RandomSource + AllocGlobal>(
+    rt: &R,
+    bytes: &[u8],
+    format: F,
+    threads: u32,
+) -> Result<Result<Layer<F::Geometry>, ReadFault>, Fail> {
     let state = RandomState::new(rt)?;
-    Ok(layer_of_copy(rt, state, bytes, whole()?, threads))
+    let reader = reader(rt, format, threads);
+    Ok(layer_of_copy(&reader, state, bytes))
+}
+
+/// A reader of layers of geometries of this format.
+fn reader<F, R: AllocGlobal>(rt: &R, format: F, threads: u32) -> LayerReader<'_, F, R> {
+    LayerReader {
+        rt,
+        alloc: rt.alloc(),
+        format,
+        threads,
+    }
 }
 
 /// The layer of a copy of these bytes.
-fn layer_of_copy<R: Threads + Sync + AllocGlobal>(
-    rt: &R,
+fn layer_of_copy<F: Format, R: Threads + Sync>(
+    reader: &LayerReader<'_, F, R>,
     state: RandomState,
     bytes: &[u8],
-    scale: Scale,
-    threads: u32,
-) -> Result<Layer, ReadFault> {
-    let copy = Vec::from_slice(rt.alloc(), bytes)?;
-    layer_of_bytes(rt.alloc(), state, copy, scale, threads, rt)
+) -> Result<Layer<F::Geometry>, ReadFault> {
+    let copy = Vec::from_slice(reader.alloc, bytes)?;
+    reader.layer_of_bytes(state, copy)
 }
 
 /// The layer of a file of these bytes, loaded by `threads` threads.

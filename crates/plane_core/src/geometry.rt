@@ -174,6 +174,13 @@ impl Geometry {
         }
     }
 
+    /// The number of vertices of all paths. A ring's last vertex, which equals its first, counts too.
+    pub fn vertex_count(&self) -> usize
+        ensures { result ≡ length (vertices_of self.now) }
+    {
+        self.vertices.as_slice().len()
+    }
+
     /// The number of paths: of polylines or rings, or 1 for points.
     pub fn path_count(&self) -> usize
         ensures { result ≡ length (paths_in self.now) }

@@ -9,4 +9,6 @@ mod many;
 #[cfg(test)]
 mod matrices;
 #[cfg(test)]
+mod prepared;
+#[cfg(test)]
 mod refused;

@@ -7,7 +7,7 @@ use std::process::Abort;
 use std::test::Fail;
 
 /// Adds the vertices of a side from a point in steps of one, without the last.
-fn push_side(
+pub(crate) fn push_side(
     vertices: &mut Vec<Vertex>,
     (x, y): (i64, i64),
     (across, up): (i64, i64),
@@ -24,14 +24,14 @@ fn push_side(
 }
 
 /// The geometry of a kind with one path.
-fn one_path(alloc: Global, kind: Kind, vertices: Vec<Vertex>) -> Result<Geometry, Fail> {
+pub(crate) fn one_path(alloc: Global, kind: Kind, vertices: Vec<Vertex>) -> Result<Geometry, Fail> {
     let mut ends = Vec::new(alloc);
     ends.push(u32::try_from(vertices.len())?)?;
     Ok(Geometry::new(kind, ends, vertices).ok_or("no geometry")?)
 }
 
 /// The square of this side whose least corner is (x, y), with a vertex at each grid point.
-fn square(alloc: Global, x: i64, y: i64, side: i64) -> Result<Geometry, Fail> {
+pub(crate) fn square(alloc: Global, x: i64, y: i64, side: i64) -> Result<Geometry, Fail> {
     let (right, top) = (x.wrapping_add(side), y.wrapping_add(side));
     let mut vertices = Vec::new(alloc);
     push_side(&mut vertices, (x, y), (1, 0), side)?;

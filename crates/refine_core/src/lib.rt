@@ -14,4 +14,4 @@ pub use condition::Condition;
 pub use laws::refinement_law;
 pub use options_core::MAX_WORKERS;
 pub use refine::refine_pairs;
-pub use refined::Refined;
+pub use refined::{AsPair, Refined};

@@ -1,6 +1,5 @@
-//! Measuring the time to relate a pair.
+//! Measuring the time of a call.
 
-use crate::pair::Pair;
 use std::alloc::{AllocError, Global};
 use std::io;
 use std::rt::Clock;
@@ -18,6 +17,11 @@ const ALL_NANOS: u64 = 1_000_000_000;
 /// The greatest number of times that the number of calls in a batch is doubled.
 const DOUBLINGS: u32 = 40;
 
+/// What is measured. A byte of the result keeps the call from being optimised away.
+pub(crate) trait Call {
+    fn call(&self, alloc: Global) -> Result<u8, AllocError>;
+}
+
 /// The time of calls, in nanoseconds by the clock and of the processor.
 #[derive(Clone, Copy)]
 pub(crate) struct Cost {
@@ -25,13 +29,11 @@ pub(crate) struct Cost {
     pub(crate) processor: u64,
 }
 
-/// Relates a pair `times` times. The sum of the matrices' first letters keeps calls from being
-/// optimised away.
-fn relate_times(alloc: Global, pair: &Pair, times: u64) -> Result<u64, AllocError> {
+/// Makes a call `times` times, and adds what it gives.
+fn call_times<C: Call>(alloc: Global, call: &C, times: u64) -> Result<u64, AllocError> {
     let mut sum = 0u64;
     for _ in 0..times {
-        let [letter, ..] = pair.letters(alloc)?;
-        sum = sum.wrapping_add(u64::from(letter));
+        sum = sum.wrapping_add(u64::from(call.call(alloc)?));
     }
     Ok(sum)
 }
@@ -41,10 +43,14 @@ fn nanos(time: Duration) -> u64 {
 }
 
 /// The time of a batch of calls.
-fn batch(rt: &(impl Clock + CpuClock + AllocGlobal), pair: &Pair, times: u64) -> io::Result<Cost> {
+fn batch<C: Call>(
+    rt: &(impl Clock + CpuClock + AllocGlobal),
+    call: &C,
+    times: u64,
+) -> io::Result<Cost> {
     let start = Instant::now(rt)?;
     let used = rt.thread_cpu_time()?;
-    let _ = relate_times(rt.alloc(), pair, times)?;
+    let _ = call_times(rt.alloc(), call, times)?;
     let processor = rt.thread_cpu_time()?.saturating_sub(used);
     let clock = start.elapsed(rt)?;
     Ok(Cost {
@@ -54,25 +60,31 @@ fn batch(rt: &(impl Clock + CpuClock + AllocGlobal), pair: &Pair, times: u64) ->
 }
 
 /// The number of calls in a batch that is long enough, and its time.
-fn first_batch(rt: &(impl Clock + CpuClock + AllocGlobal), pair: &Pair) -> io::Result<(u64, Cost)> {
+fn first_batch<C: Call>(
+    rt: &(impl Clock + CpuClock + AllocGlobal),
+    call: &C,
+) -> io::Result<(u64, Cost)> {
     let mut times = 1u64;
-    let mut cost = batch(rt, pair, times)?;
+    let mut cost = batch(rt, call, times)?;
     for _ in 0..DOUBLINGS {
         if cost.processor >= BATCH_NANOS {
             break;
         }
         times = times.saturating_mul(2);
-        cost = batch(rt, pair, times)?;
+        cost = batch(rt, call, times)?;
     }
     Ok((times, cost))
 }
 
-/// The time to relate a pair once.
-pub(crate) fn cost_of(rt: &(impl Clock + CpuClock + AllocGlobal), pair: &Pair) -> io::Result<Cost> {
-    let (times, mut best) = first_batch(rt, pair)?;
+/// The time of one call.
+pub(crate) fn cost_of<C: Call>(
+    rt: &(impl Clock + CpuClock + AllocGlobal),
+    call: &C,
+) -> io::Result<Cost> {
+    let (times, mut best) = first_batch(rt, call)?;
     let more = ALL_NANOS.checked_div(best.processor).unwrap_or(0);
     for _ in 0..more.min(MOST_BATCHES) {
-        let next = batch(rt, pair, times)?;
+        let next = batch(rt, call, times)?;
         best.clock = best.clock.min(next.clock);
         best.processor = best.processor.min(next.processor);
     }

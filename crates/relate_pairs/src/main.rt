@@ -3,7 +3,8 @@
 //! Each line of standard input holds two well-known texts with a tab between; for each the program
 //! writes the nine letters of the matrix. With the argument `times`, a name and a tab precede the
 //! texts; the program writes the name, the letters, and the nanoseconds to relate the two once, by
-//! the clock and of the processor, with tabs between. Reading the texts isn't measured. Coordinates
+//! the clock and of the processor, and of the processor where both are prepared before, with tabs
+//! between. Reading the texts isn't measured. Coordinates
 //! are integers, and rings are read by the even-odd rule.
 #![tactic(auto)]
 
@@ -45,7 +46,8 @@ fn time_line(rt: &(impl Print + AllocGlobal + Clock + CpuClock), line: &str) -> 
     let cost = cost_of(rt, &pair)?;
     let clock = cost.clock;
     let processor = cost.processor;
-    println!(rt; "\t{clock}\t{processor}")
+    let prepared = cost_of(rt, &pair.prepared(rt.alloc())?)?.processor;
+    println!(rt; "\t{clock}\t{processor}\t{prepared}")
 }
 
 /// Whether an argument is `times`.

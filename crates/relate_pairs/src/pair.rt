@@ -5,7 +5,8 @@ ghost use Rattle.relation_core.specs.declared.matrix.Matrix.{Matrix};
 ghost use Rattle.relation_core.specs.Matrices.{letters_of};
 ghost use Rattle.plane_core.specs.PlaneMatrices.{IsPlaneMatrix};
 
-use arrangement_core::relate;
+use crate::cost::Call;
+use arrangement_core::{PreparedGeometry, relate, relate_prepared};
 use plane_core::Geometry;
 use std::alloc::{AllocError, Global};
 use wkt_any_core::{Rings, read};
@@ -16,6 +17,13 @@ use wkt_core::Scale;
 pub(crate) struct Pair {
     first: Geometry,
     second: Geometry,
+}
+
+/// The same, prepared.
+#[derive(Drop)]
+pub(crate) struct PreparedPair<'a> {
+    first: PreparedGeometry<'a>,
+    second: PreparedGeometry<'a>,
 }
 
 /// The geometry of a text by the even-odd rule, with integer coordinates.
@@ -51,5 +59,26 @@ impl Pair {
     {
         let matrix = relate(alloc, &self.first, &self.second)?;
         Ok(matrix.text())
+    }
+
+    /// The pair with both geometries prepared.
+    pub(crate) fn prepared(&self, alloc: Global) -> Result<PreparedPair<'_>, AllocError> {
+        let first = PreparedGeometry::new(alloc, &self.first)?;
+        let second = PreparedGeometry::new(alloc, &self.second)?;
+        Ok(PreparedPair { first, second })
+    }
+}
+
+impl Call for Pair {
+    fn call(&self, alloc: Global) -> Result<u8, AllocError> {
+        let [letter, ..] = self.letters(alloc)?;
+        Ok(letter)
+    }
+}
+
+impl Call for PreparedPair<'_> {
+    fn call(&self, alloc: Global) -> Result<u8, AllocError> {
+        let [letter, ..] = relate_prepared(alloc, &self.first, &self.second)?.text();
+        Ok(letter)
     }
 }

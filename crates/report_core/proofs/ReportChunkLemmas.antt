@@ -1,7 +1,7 @@
 -- The records of all pairs are those of their chunks, one after another.
 use Rattle.std.proofs.Common.{◌≡◌, ℕ, zero, suc, ◌+◌, ◌*◌, ◌/◌, ◌%◌, ◌<◌, ◌≤◌, min, List, [], ◌∷◌, ◌++◌, Result, Ok, Err}
 use Rattle.std.proofs.Common.{IsOk, IfOk, refl, sym, ap, subst, ◌∙◌, arith}
-use Rattle.std.proofs.Common.{length, length-append, get_or, take, suc-mul, add-one, zero-mul, add-mul, one-mul, div-add-mod', ⊎_elim, All}
+use Rattle.std.proofs.Common.{map, length, length-append, get_or, take, suc-mul, add-one, zero-mul, add-mul, one-mul, div-add-mod', ⊎_elim, All}
 use Rattle.std.proofs.Common.{mul_comm, mul-le-mul_right, lt_of_mul-lt-mul_right}
 use Rattle.std.specs.Global.{Global}
 use Rattle.std.specs.Fork.{slice_chunk, IsChunk}
@@ -14,13 +14,13 @@ use Rattle.std.proofs.lemmas.Grind.{div_ceil_times}
 use Rattle.std.proofs.lemmas.Nat.{mod_below}
 use Rattle.std.proofs.lemmas.List.{take_all, take-take, drop-take, take-append-drop, take_more, flat_map_more}
 use Rattle.std.proofs.lemmas.List.Concat.{flat_map-append}
-use Rattle.geom_core.specs.declared.shape.Shape.{Shape}
+use Rattle.relation_core.specs.declared.matrix.Matrix.{Matrix}
 use Rattle.layer_core.specs.Layers.{Contents}
 use Rattle.csv.specs.Writing.{row_text, default_writer}
 use Rattle.report_core.specs.declared.columns.Columns.{Columns}
 use Rattle.report_core.specs.Columns.{AreColumnsFor}
-use Rattle.report_core.specs.ReportRows.{AreRows, AddsRows, header_line, text_or_none}
-use Rattle.report_core.specs.Reports.{IsHeld, IsRow, IsReport}
+use Rattle.report_core.specs.ReportRows.{AreRows, AddsRows, IsRowOf, header_line, text_or_none}
+use Rattle.report_core.specs.Reports.{IsReport}
 use Rattle.report_core.specs.Written.{joined}
 use Rattle.report_core.proofs.ReportLemmas.{report_pushed}
 
@@ -31,12 +31,12 @@ zip_append R [] (y ∷ ys) vs ws h k = absurd h
 zip_append R (x ∷ xs) [] vs ws h k = absurd h
 zip_append R (x ∷ xs) (y ∷ ys) vs ws h k = (h.0, zip_append R xs ys vs ws h.1 k)
 
--- the records of some pairs, and then those of others
-rows_append : (left right : Contents Shape) (ps qs : List (ℕ × ℕ)) (s t : List ℕ)
-    → AreRows left right ps s → AreRows left right qs t → AreRows left right (ps ++ qs) (s ++ t)
-rows_append left right ps qs s t a b = record {
+-- the records of some items, and then those of others
+rows_append : {A : Type 0} (R : A → List (List ℕ) → Type 0) (ps qs : List A) (s t : List ℕ)
+    → AreRows R ps s → AreRows R qs t → AreRows R (ps ++ qs) (s ++ t)
+rows_append R ps qs s t a b = record {
   rows = a.rows ++ b.rows;
-  are_rows = zip_append (IsRow left right) ps a.rows qs b.rows a.are_rows b.are_rows;
+  are_rows = zip_append R ps a.rows qs b.rows a.are_rows b.are_rows;
   written = ap (λ x. x ++ t) a.written ∙ ap (λ x. flat_map (row_text default_writer) a.rows ++ x) b.written
       ∙ sym (flat_map-append (row_text default_writer) a.rows b.rows);
 }
@@ -75,48 +75,48 @@ next_chunk xs size n =
     ∙ ap (λ z. take (n * size) ys ++ z) (sym (drop-take (n * size) size xs))
     ∙ take-append-drop (n * size) ys
 
-module _ (left right : Contents Shape) (size : ℕ) (pairs : List (ℕ × ℕ)) (parts : List (Result (Vec ℕ Global) AllocError)) (d : Result (Vec ℕ Global) AllocError)
-    (each : (n : ℕ) → n < length parts → AreRows left right (slice_chunk pairs size n) (text_or_none (get_or parts n d))) where
+module _ {A : Type 0} (R : A → List (List ℕ) → Type 0) (size : ℕ) (items : List A) (parts : List (Result (Vec ℕ Global) AllocError)) (d : Result (Vec ℕ Global) AllocError)
+    (each : (n : ℕ) → n < length parts → AreRows R (slice_chunk items size n) (text_or_none (get_or parts n d))) where
   -- the first chunks
-  so_far : (n : ℕ) → n ≤ length parts → AreRows left right (take (n * size) pairs) (flat_map text_or_none (take n parts))
-  so_far zero l = subst (λ k. AreRows left right (take k pairs) []) (sym (zero-mul size)) (record { rows = []; are_rows = tt; written = refl })
+  so_far : (n : ℕ) → n ≤ length parts → AreRows R (take (n * size) items) (flat_map text_or_none (take n parts))
+  so_far zero l = subst (λ k. AreRows R (take k items) []) (sym (zero-mul size)) (record { rows = []; are_rows = tt; written = refl })
   so_far (suc n) l =
-      subst (λ ps. AreRows left right ps (flat_map text_or_none (take (suc n) parts))) (next_chunk pairs size n ∙ ap (λ k. take k pairs) (sym (suc-mul n size)))
-      (subst (AreRows left right (take (n * size) pairs ++ slice_chunk pairs size n))
+      subst (λ ps. AreRows R ps (flat_map text_or_none (take (suc n) parts))) (next_chunk items size n ∙ ap (λ k. take k items) (sym (suc-mul n size)))
+      (subst (AreRows R (take (n * size) items ++ slice_chunk items size n))
       (flat_map_more text_or_none [] (take n parts) (get_or parts n d)
       ∙ ap (flat_map text_or_none) (sym (take_more parts n d (omega arith)) ∙ ap (λ k. take k parts) (add-one n)))
-      (rows_append left right (take (n * size) pairs) (slice_chunk pairs size n) (flat_map text_or_none (take n parts)) (text_or_none (get_or parts n d))
+      (rows_append R (take (n * size) items) (slice_chunk items size n) (flat_map text_or_none (take n parts)) (text_or_none (get_or parts n d))
       (so_far n (omega arith)) (each n (omega arith))))
 
-  -- the records of all chunks are those of all pairs
-  pub chunks_joined : 0 < size → length parts ≡ length pairs / size + min 1 (length pairs % size) → AreRows left right pairs (flat_map text_or_none parts)
+  -- the records of all chunks are those of all items
+  pub chunks_joined : 0 < size → length parts ≡ length items / size + min 1 (length items % size) → AreRows R items (flat_map text_or_none parts)
   chunks_joined p e =
-      subst (λ ps. AreRows left right ps (flat_map text_or_none parts)) (take_all (length parts * size) pairs (covered (length parts) (length pairs) size p e))
-      (subst (λ ts. AreRows left right (take (length parts * size) pairs) (flat_map text_or_none ts)) (take_all (length parts) parts (omega arith))
+      subst (λ ps. AreRows R ps (flat_map text_or_none parts)) (take_all (length parts * size) items (covered (length parts) (length items) size p e))
+      (subst (λ ts. AreRows R (take (length parts * size) items) (flat_map text_or_none ts)) (take_all (length parts) parts (omega arith))
       (so_far (length parts) (omega arith)))
 
-all_of_chunk : {X : Type 0} (P : X → Type 0) (xs ys : List X) (size start : ℕ) → IsChunk xs size start ys → All P xs → All P ys
+-- a fact of all elements is one of those of a chunk
+pub all_of_chunk : {X : Type 0} (P : X → Type 0) (xs ys : List X) (size start : ℕ) → IsChunk xs size start ys → All P xs → All P ys
 all_of_chunk P xs ys size start is all = λ k d l. subst P (sym (is.elements k d l)) (all (start + k) d (omega (arith, is.in_bounds)))
 
--- columns for some pairs are columns for a chunk of them
-pub chunk_told : (columns : Columns) (left right : Contents Shape) (pairs chunk : List (ℕ × ℕ)) (size start : ℕ)
-    → IsChunk pairs size start chunk → AreColumnsFor left right pairs columns → AreColumnsFor left right chunk columns
-chunk_told columns left right pairs chunk size start is tell = record {
-  left_column = tell.left_column;
-  right_column = tell.right_column;
-  left_within = all_of_chunk (λ (pair : ℕ × ℕ). pair.0 + 1 < length columns.left.starts.items) pairs chunk size start is tell.left_within;
-  right_within = all_of_chunk (λ (pair : ℕ × ℕ). pair.1 + 1 < length columns.right.starts.items) pairs chunk size start is tell.right_within;
-  held = all_of_chunk (IsHeld left right) pairs chunk size start is tell.held;
+-- columns for some matches are columns for a chunk of them
+pub columns_of_chunk : {G A : Type 0} (pair_of : A → ℕ × ℕ) (columns : Columns) (left right : Contents G) (matches chunk : List A) (size start : ℕ)
+    → IsChunk matches size start chunk → AreColumnsFor pair_of left right matches columns → AreColumnsFor pair_of left right chunk columns
+columns_of_chunk {A = A} pair_of columns left right matches chunk size start is are = record {
+  left_column = are.left_column;
+  right_column = are.right_column;
+  left_within = all_of_chunk (λ (a : A). (pair_of a).0 + 1 < length columns.left.starts.items) matches chunk size start is are.left_within;
+  right_within = all_of_chunk (λ (a : A). (pair_of a).1 + 1 < length columns.right.starts.items) matches chunk size start is are.right_within;
 }
 
 -- the result of a thread for a chunk
-pub chunk_written : (left right : Contents Shape) (pairs chunk : List (ℕ × ℕ)) (size n : ℕ) (part : Result (Vec ℕ Global) AllocError)
-    → IsChunk pairs size (n * size) chunk → IsOk part
-    → IfOk part (λ text. AreRows left right chunk text.items)
-    → AreRows left right (slice_chunk pairs size n) (text_or_none part)
-chunk_written left right pairs chunk size n (Ok text) is ok rows =
-    subst (λ ps. AreRows left right ps text.items) is.value rows
-chunk_written left right pairs chunk size n (Err e) is ok rows = absurd cc
+pub chunk_written : {A : Type 0} (R : A → List (List ℕ) → Type 0) (items chunk : List A) (size n : ℕ) (part : Result (Vec ℕ Global) AllocError)
+    → IsChunk items size (n * size) chunk → IsOk part
+    → IfOk part (λ text. AreRows R chunk text.items)
+    → AreRows R (slice_chunk items size n) (text_or_none part)
+chunk_written R items chunk size n (Ok text) is ok rows =
+    subst (λ ps. AreRows R ps text.items) is.value rows
+chunk_written R items chunk size n (Err e) is ok rows = absurd cc
 
 -- one text more
 pub text_added : (old mid new : List (Vec ℕ Global)) (parts : List (Result (Vec ℕ Global) AllocError)) (part : Result (Vec ℕ Global) AllocError)
@@ -133,10 +133,10 @@ one_more n old new x parts part so_far grown =
     rw grown (simp length-append (omega arith))
 
 -- the header, and then the records of all chunks
-pub chunks_added : (left right : Contents Shape) (pairs : List (ℕ × ℕ)) (old mid new : List (Vec ℕ Global)) (header : Vec ℕ Global) (line : List ℕ)
-    (parts : List (Result (Vec ℕ Global) AllocError)) → mid ≡ old ++ header ∷ [] → header.items ≡ line → AreRows left right pairs (flat_map text_or_none parts)
-    → joined new ≡ joined mid ++ flat_map text_or_none parts → AddsRows left right pairs (joined old ++ line) (joined new)
-chunks_added left right pairs old mid new header line parts grown is rows all = record {
+chunks_added : {A : Type 0} (R : A → List (List ℕ) → Type 0) (items : List A) (old mid new : List (Vec ℕ Global)) (header : Vec ℕ Global) (line : List ℕ)
+    (parts : List (Result (Vec ℕ Global) AllocError)) → mid ≡ old ++ header ∷ [] → header.items ≡ line → AreRows R items (flat_map text_or_none parts)
+    → joined new ≡ joined mid ++ flat_map text_or_none parts → AddsRows R items (joined old ++ line) (joined new)
+chunks_added R items old mid new header line parts grown is rows all = record {
   text = flat_map text_or_none parts;
   are_rows = rows;
   added = all ∙ ap (λ ts. ts ++ flat_map text_or_none parts)
@@ -144,12 +144,15 @@ chunks_added left right pairs old mid new header line parts grown is rows all = 
 }
 
 -- the header alone, and then the records of all chunks, are the report
-pub report_of_chunks : (left right : Contents Shape) (pairs : List (ℕ × ℕ)) (old mid new : List (Vec ℕ Global)) (header : Vec ℕ Global)
+pub report_of_chunks : {G A : Type 0} (pair_of : A → ℕ × ℕ) (is_matrix : G → G → Matrix → Type 0) (left right : Contents G) (matches : List A)
+    (old mid new : List (Vec ℕ Global)) (header : Vec ℕ Global)
     (parts : List (Result (Vec ℕ Global) AllocError)) → old ≡ [] → mid ≡ old ++ header ∷ [] → header.items ≡ header_line
-    → (All IsOk parts → AreRows left right pairs (flat_map text_or_none parts)) → All IsOk parts → joined new ≡ joined mid ++ flat_map text_or_none parts
-    → IsReport left right pairs (joined new)
-report_of_chunks left right pairs old mid new header parts none grown is rows ok all =
-    report_pushed old new left right pairs none (chunks_added left right pairs old mid new header header_line parts grown is (rows ok) all)
+    → (All IsOk parts → AreRows (IsRowOf pair_of is_matrix left right) matches (flat_map text_or_none parts)) → All IsOk parts
+    → joined new ≡ joined mid ++ flat_map text_or_none parts
+    → IsReport is_matrix left right (map pair_of matches) (joined new)
+report_of_chunks pair_of is_matrix left right matches old mid new header parts none grown is rows ok all =
+    report_pushed pair_of is_matrix left right matches old new none
+    (chunks_added (IsRowOf pair_of is_matrix left right) matches old mid new header header_line parts grown is (rows ok) all)
 
 -- the value that is used for texts past the last one
 pub no_text : Result (Vec ℕ Global) AllocError

@@ -1,3 +1,4 @@
+pub mod AnyMatches
 pub mod Columns
 pub mod CsvTexts
 pub mod ReportRows

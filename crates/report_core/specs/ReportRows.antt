@@ -3,21 +3,26 @@ use Rattle.std.specs.Prelude.{◌≡◌, ℕ, List, [], ◌∷◌, ◌++◌, Res
 use Rattle.std.specs.Global.{Global}
 use Rattle.std.specs.declared.alloc.AllocError.{AllocError}
 use Rattle.std.specs.declared.vec.Vec.{Vec}
-use Rattle.geom_core.specs.declared.shape.Shape.{Shape}
+use Rattle.relation_core.specs.declared.matrix.Matrix.{Matrix}
 use Rattle.layer_core.specs.Layers.{Contents}
 use Rattle.csv.specs.Machine.{line_feed}
 use Rattle.report_core.specs.CsvTexts.{csv_text}
-use Rattle.report_core.specs.Reports.{header, HasRecords}
+use Rattle.report_core.specs.Reports.{header, IsRow, HasRecords}
 
--- the text has one record for each pair in order
-abbrev pub AreRows : Contents Shape → Contents Shape → List (ℕ × ℕ) → List ℕ → Type 0
-AreRows left right pairs text = HasRecords [] left right pairs text
+-- the record of a match: that of its pair
+abbrev pub IsRowOf : {G A : Type 0} → (A → ℕ × ℕ) → (G → G → Matrix → Type 0)
+    → Contents G → Contents G → A → List (List ℕ) → Type 0
+IsRowOf pair_of is_matrix left right found row = IsRow is_matrix left right (pair_of found) row
+
+-- the text has one record for each item in order
+abbrev pub AreRows : {A : Type 0} → (A → List (List ℕ) → Type 0) → List A → List ℕ → Type 0
+AreRows IsRecord items text = HasRecords IsRecord [] items text
 
 -- such a text was added
-pub record AddsRows (left right : Contents Shape) (pairs : List (ℕ × ℕ)) (old new : List ℕ)
-    : Type 0 where
+pub record AddsRows {A : Type 0} (IsRecord : A → List (List ℕ) → Type 0) (items : List A)
+    (old new : List ℕ) : Type 0 where
   pub text : List ℕ
-  pub are_rows : AreRows left right pairs text
+  pub are_rows : AreRows IsRecord items text
   pub added : new ≡ old ++ text
 
 -- the header as CSV

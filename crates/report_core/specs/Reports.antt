@@ -2,35 +2,53 @@
 use Rattle.std.specs.Prelude.{◌≡◌, ℕ, List, [], ◌∷◌, ◌++◌, Some, IsSome, codes}
 use Rattle.std.specs.List.{AllZip}
 use Rattle.relation_core.specs.declared.matrix.Matrix.{Matrix}
-use Rattle.relation_core.specs.Matrices.{IsMatrix, letters_of}
-use Rattle.geom_core.specs.declared.shape.Shape.{Shape}
+use Rattle.relation_core.specs.Matrices.{letters_of}
 use Rattle.layer_core.specs.Layers.{Feature, Contents, with_number}
 use Rattle.report_core.specs.CsvTexts.{csv_text}
 
 -- the layers hold features with these numbers
-abbrev pub IsHeld : Contents Shape → Contents Shape → ℕ × ℕ → Type 0
+abbrev pub IsHeld : {G : Type 0} → Contents G → Contents G → ℕ × ℕ → Type 0
 IsHeld left right pair = IsSome (with_number pair.0 left) × IsSome (with_number pair.1 right)
 
+-- the layers hold features with these numbers, and this is the matrix of their geometries
+pub record HasMatrix {G : Type 0} (is_matrix : G → G → Matrix → Type 0) (left right : Contents G)
+    (pair : ℕ × ℕ) (matrix : Matrix) : Type 0 where
+  pub first : Feature G
+  pub second : Feature G
+  pub first_held : with_number pair.0 left ≡ Some first
+  pub second_held : with_number pair.1 right ≡ Some second
+  pub related : is_matrix first.shape second.shape matrix
+
+-- the letters of the matrix of the geometries of two features
+pub record HasLetters {G : Type 0} (is_matrix : G → G → Matrix → Type 0) (left right : Contents G)
+    (pair : ℕ × ℕ) (letters : List ℕ) : Type 0 where
+  pub matrix : Matrix
+  pub has_matrix : HasMatrix is_matrix left right pair matrix
+  pub written : letters ≡ letters_of matrix
+
 -- the record of a pair: the ids of its features, and the letters of their matrix
-pub record IsRow (left right : Contents Shape) (pair : ℕ × ℕ) (row : List (List ℕ)) : Type 0 where
-  pub first : Feature Shape
-  pub second : Feature Shape
+pub record IsRow {G : Type 0} (is_matrix : G → G → Matrix → Type 0) (left right : Contents G)
+    (pair : ℕ × ℕ) (row : List (List ℕ)) : Type 0 where
+  pub first : Feature G
+  pub second : Feature G
   pub matrix : Matrix
   pub first_held : with_number pair.0 left ≡ Some first
   pub second_held : with_number pair.1 right ≡ Some second
-  pub related : IsMatrix first.shape second.shape matrix
+  pub related : is_matrix first.shape second.shape matrix
   pub fields : row ≡ first.id ∷ second.id ∷ letters_of matrix ∷ []
 
 abbrev pub header : List (List ℕ)
 header = codes "left" ∷ codes "right" ∷ codes "matrix" ∷ []
 
--- these records, and then one for each pair in order
-pub record HasRecords (first : List (List (List ℕ))) (left right : Contents Shape)
-    (pairs : List (ℕ × ℕ)) (text : List ℕ) : Type 0 where
+-- these records, and then one for each item in order
+pub record HasRecords {A : Type 0} (IsRecord : A → List (List ℕ) → Type 0)
+    (first : List (List (List ℕ))) (items : List A) (text : List ℕ) : Type 0 where
   pub rows : List (List (List ℕ))
-  pub are_rows : AllZip (IsRow left right) pairs rows
+  pub are_rows : AllZip IsRecord items rows
   pub written : text ≡ csv_text (first ++ rows)
 
--- the header, and one record for each pair in order
-abbrev pub IsReport : Contents Shape → Contents Shape → List (ℕ × ℕ) → List ℕ → Type 0
-IsReport left right pairs text = HasRecords (header ∷ []) left right pairs text
+-- the header, and one record for each pair in order; which matrix two geometries have is a parameter
+abbrev pub IsReport : {G : Type 0} → (G → G → Matrix → Type 0) → Contents G → Contents G
+    → List (ℕ × ℕ) → List ℕ → Type 0
+IsReport is_matrix left right pairs text =
+    HasRecords (IsRow is_matrix left right) (header ∷ []) pairs text

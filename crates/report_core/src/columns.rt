@@ -1,15 +1,13 @@
 //! The columns of a report: the ids of two layers' features as CSV fields, found by number, and the
 //! letters of matrices.
 
-ghost use Rattle.std.specs.Prelude.{◌≡◌, ◌≤◌, ◌<◌, ◌+◌, ◌++◌, ◌^◌, All, length};
+ghost use Rattle.std.specs.Prelude.{◌≡◌, ◌≤◌, ◌<◌, ◌+◌, ◌++◌, ◌^◌, ℕ, List, Option, All, length};
 ghost use Rattle.std.specs.Prelude.{IfOk, OnOk, IsSomeAnd};
-ghost use Rattle.geom_core.specs.declared.shape.Shape.{Shape};
-ghost use Rattle.layer_core.specs.Layers.{Contents, with_number};
-ghost use Rattle.report_core.specs.Columns.{field_for, IsColumn, AreColumnsFor};
-ghost use Rattle.report_core.specs.Reports.{IsHeld};
+ghost use Rattle.report_core.specs.Columns.{id_in, field_for, IsColumn, AreColumnsFor};
 
 use crate::csv_fields::push_leading_field;
-use layer_core::Layer;
+use layer_core::{Geometry, Layer};
+use refine_core::AsPair;
 use relation_core::Letters;
 use std::alloc::{AllocError, Global};
 use std::thread;
@@ -41,10 +39,10 @@ pub(crate) struct Columns {
 
 impl Column {
     /// The column of the features of a layer whose numbers are less than `bound`.
-    fn new(alloc: Global, layer: &Layer, bound: usize) -> Result<Column, AllocError>
+    fn new<G: Geometry>(alloc: Global, layer: &Layer<G>, bound: usize) -> Result<Column, AllocError>
         requires { bound ≤ 2 ^ 32 }
         ensures fields { IfOk result
-            (λ column. IsColumn layer.now.list column.starts.items column.text.items) }
+            (λ column. IsColumn (id_in layer.now.list) column.starts.items column.text.items) }
         ensures len { IfOk result (λ column. length column.starts.items ≡ bound + 1) }
     {
         let mut starts = Vec::with_capacity(alloc, bound + 1)?;
@@ -60,10 +58,10 @@ impl Column {
 
     /// The id of the feature with this number, as a CSV field with its comma.
     pub(crate) fn at(&self, number: u32) -> Option<&[u8]>
-        ensures { (layer : Contents Shape)
-            → IsColumn layer self.now.starts.items self.now.text.items
+        ensures { (ids : ℕ → Option (List ℕ))
+            → IsColumn ids self.now.starts.items self.now.text.items
             → number + 1 < length self.now.starts.items
-            → IsSomeAnd result (λ field. field.now ≡ field_for (with_number number layer)) }
+            → IsSomeAnd result (λ field. field.now ≡ field_for (ids number)) }
     {
         let number = number as usize;
         let start = *self.starts.get(number)?;
@@ -87,23 +85,23 @@ impl Columns {
     }
 
     /// An estimate of the number of bytes of a pair's record.
-    pub(crate) fn room_of(&self, pair: &(u32, u32)) -> usize {
+    pub(crate) fn room_of(&self, pair: (u32, u32)) -> usize {
         let left = self.left.at(pair.0).map_or(0, room_of_field);
         let right = self.right.at(pair.1).map_or(0, room_of_field);
         LETTERS_AND_END.saturating_add(left).saturating_add(right)
     }
 
-    /// The columns of two layers, up to the greatest numbers that occur in the pairs.
-    pub(crate) fn new(
+    /// The columns of two layers, up to the greatest numbers that occur in the matches.
+    pub(crate) fn new<G: Geometry, M: AsPair>(
         alloc: Global,
-        left: &Layer,
-        right: &Layer,
-        pairs: &[(u32, u32)],
+        left: &Layer<G>,
+        right: &Layer<G>,
+        matches: &[M],
     ) -> Result<Columns, AllocError>
-        requires { All (IsHeld left.now.list right.now.list) pairs.now }
-        ensures { IfOk result (AreColumnsFor left.now.list right.now.list pairs.now) }
+        ensures { IfOk result
+            (AreColumnsFor M.pair_of left.now.list right.now.list matches.now) }
     {
-        let (left_bound, right_bound) = bounds(pairs);
+        let (left_bound, right_bound) = bounds(matches);
         Ok(Columns {
             left: Column::new(alloc, left, left_bound)?,
             right: Column::new(alloc, right, right_bound)?,
@@ -112,17 +110,21 @@ impl Columns {
     }
 
     /// The same columns, the left and the right one made in parallel.
-    pub(crate) fn side_by_side<R: AllocGlobal + Threads + Sync>(
+    pub(crate) fn side_by_side<R, G, M>(
         rt: &R,
-        left: &Layer,
-        right: &Layer,
-        pairs: &[(u32, u32)],
+        left: &Layer<G>,
+        right: &Layer<G>,
+        matches: &[M],
     ) -> Result<Columns, AllocError>
-        requires { All (IsHeld left.now.list right.now.list) pairs.now }
-        ensures { IfOk result (AreColumnsFor left.now.list right.now.list pairs.now) }
+    where
+        R: AllocGlobal + Threads + Sync,
+        G: Geometry + Sync,
+        M: AsPair,
+        ensures { IfOk result
+            (AreColumnsFor M.pair_of left.now.list right.now.list matches.now) }
     {
         let alloc = rt.alloc();
-        let (left_bound, right_bound) = bounds(pairs);
+        let (left_bound, right_bound) = bounds(matches);
         let (left_column, right_column) = thread::join(
             rt,
             move || Column::new(alloc, left, left_bound),
@@ -136,13 +138,15 @@ impl Columns {
     }
 }
 
-/// One more than the greatest number of each side, or 0 without pairs.
-fn bounds(pairs: &[(u32, u32)]) -> (usize, usize)
-    ensures above { All (λ pair. (pair.0 < result.0) × (pair.1 < result.1)) pairs.now }
+/// One more than the greatest number of each side, or 0 without matches.
+fn bounds<M: AsPair>(matches: &[M]) -> (usize, usize)
+    ensures left { All (λ a. (M.pair_of a).0 < result.0) matches.now }
+    ensures right { All (λ a. (M.pair_of a).1 < result.1) matches.now }
     ensures few { (result.0 ≤ 2 ^ 32) × (result.1 ≤ 2 ^ 32) }
 {
     let (mut left, mut right) = (0, 0);
-    for pair in pairs {
+    for found in matches {
+        let pair = found.as_pair();
         left = left.max(pair.0 as usize + 1);
         right = right.max(pair.1 as usize + 1);
     }
@@ -151,7 +155,7 @@ fn bounds(pairs: &[(u32, u32)]) -> (usize, usize)
 
 /// An estimate of the number of bytes of a layer's fields: the lengths of its ids, plus a comma
 /// each. It is reserved, so that a column is not moved as it grows.
-fn likely_room(layer: &Layer) -> usize {
+fn likely_room<G: Geometry>(layer: &Layer<G>) -> usize {
     let mut room: usize = 0;
     for feature in layer.iter() {
         room = room.saturating_add(feature.id.len()).saturating_add(1);
@@ -167,14 +171,14 @@ fn room_of_field(field: &[u8]) -> usize {
 }
 
 /// Adds the field of the feature with this number, if there is one, to `text`.
-fn push_field(
+fn push_field<G: Geometry>(
     alloc: Global,
     text: &mut Vec<u8>,
-    layer: &Layer,
+    layer: &Layer<G>,
     number: u32,
 ) -> Result<(), AllocError>
     ensures { OnOk result
-        (text.new.items ≡ text.old.items ++ field_for (with_number number layer.now.list)) }
+        (text.new.items ≡ text.old.items ++ field_for (id_in layer.now.list number)) }
 {
     match layer.at(number) {
         Some((id, _)) => push_leading_field(alloc, text, id.as_bytes()),

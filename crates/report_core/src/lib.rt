@@ -3,11 +3,13 @@
 
 mod columns;
 mod csv_fields;
+mod matches;
 mod report;
 mod short_text;
 mod sink;
 mod to_write;
 
+pub use matches::Match;
 pub use report::report_texts;
 pub use short_text::{ROOM, ShortText};
 pub use sink::{Sink, WriteFailed, write_text, write_texts};

@@ -6,7 +6,9 @@ ghost use Rattle.report_core.specs.ToWrite.{failed_of};
 use crate::example::{LEFT, RIGHT};
 use crate::running::{Ended, Files, at_once, edited_example};
 use file_core::{FromRead, ReadFault};
-use join_core::{Input, JoinJob, JoinSources, MAX_DRAWN, Options, Product, RunFault, ToWrite};
+use join_core::{
+    BoxCondition, Input, JoinJob, JoinSources, MAX_DRAWN, Options, Product, RunFault, ToWrite,
+};
 use layer_core::LayerFault;
 use relation_core::{JoinRelation, Relation};
 use std::hash::RandomState;
@@ -39,8 +41,10 @@ fn draw_into<R: Threads + Wait + Sync + RandomSource + AllocGlobal, W: Write>(
     requires { failed_of sink.old ≡ false }
 {
     let job = JoinJob {
-        scale: Scale::new(0)?,
-        relation: JoinRelation::new(Relation::Touches).ok()?,
+        condition: BoxCondition {
+            scale: Scale::new(0)?,
+            relation: JoinRelation::new(Relation::Touches).ok()?,
+        },
         options: Options::new(4, 256, 2).ok()?,
         product: Product::Picture,
     };

@@ -5,7 +5,7 @@ ghost use Rattle.report_core.specs.ToWrite.{failed_of};
 
 use crate::example::{EDITS, LEFT, RIGHT};
 use file_core::FromRead;
-use join_core::{JoinJob, JoinSources, Options, Product, RunFault, ToWrite};
+use join_core::{BoxCondition, JoinJob, JoinSources, Options, Product, RunFault, ToWrite};
 use relation_core::{JoinRelation, Relation};
 use std::hash::RandomState;
 use std::io;
@@ -97,8 +97,10 @@ pub fn run<R: Threads + Wait + Sync + RandomSource + AllocGlobal, W: Write>(
     requires { failed_of sink.old ≡ false }
 {
     let job = JoinJob {
-        scale: Scale::new(0)?,
-        relation: JoinRelation::new(relation).ok()?,
+        condition: BoxCondition {
+            scale: Scale::new(0)?,
+            relation: JoinRelation::new(relation).ok()?,
+        },
         options: *options,
         product: Product::Report,
     };

@@ -1,2 +1,4 @@
+pub mod GeometryLemmas
+pub mod JoinLemmas
 pub mod ReadingLemmas
 pub mod UsageLemmas

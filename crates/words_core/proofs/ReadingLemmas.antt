@@ -1,7 +1,6 @@
 -- The facts from which the readings of words follow.
 use Rattle.std.proofs.Common.{◌≡◌, ◌≢◌, ◌↔◌, length, find, map, IfOk, IfErr, IsErrAnd, ◌<◌, ◌^◌, ◌∙◌, ℕ, Bool, true, false, List, Option, Some, None, Result, Ok, Err, inl, inr, refl, sym, ap, ap₂, subst, arith, [], ◌∷◌}
 use Rattle.std.specs.Prelude.{if◌then◌else◌, unwrap_or, codes, option_map, option_and_then}
-use Rattle.std.specs.Bool.{MatchBool}
 use Rattle.std.specs.Borrow.{Bor}
 use Rattle.std.specs.Str.Parse.{ParsesUnsigned, IsNumeral, digits_value, without_leading_plus}
 use Rattle.clap.specs.Words.{ReadsOne, App, HasKind, HasMatchesOf, Kinds, Row, Text, app_of, fault_of, first_of, first_value, found_of, is_simple}
@@ -16,19 +15,12 @@ use Rattle.clap.specs.declared.builder.value_parser.ValueParser.TheVariants.{Uns
 use Rattle.clap.specs.declared.parser.matches.ArgMatches.{ArgMatches}
 use Rattle.clap.proofs.ValueTestLemmas.{accepts-Accepts, Accepts-accepts}
 use Rattle.clap.proofs.WalkLemmas.{first_value-rows, one_text-rows}
-use Rattle.options_core.specs.Options.{workers_of, batch_of, cut_of, AreWorkers, IsBatch, IsCut}
-use Rattle.options_core.specs.declared.options.Options.{Options}
-use Rattle.options_core.specs.declared.options.OptionFault.{OptionFault}
-use Rattle.options_core.specs.declared.options.OptionFault.TheVariants as range
-use Rattle.relation_core.specs.JoinRelations.{relation_of}
 use Rattle.relation_core.specs.Masks.{HasBadLetter}
-use Rattle.relation_core.specs.Relations.{Spells, SpellsNothing}
-use Rattle.relation_core.specs.declared.join_relation.JoinRelation.{JoinRelation}
+use Rattle.relation_core.specs.Relations.{SpellsNothing}
 use Rattle.relation_core.specs.declared.mask.MaskFault.{MaskFault}
 use Rattle.relation_core.specs.declared.mask.MaskFault.TheVariants as mask
 use Rattle.relation_core.specs.declared.relation.Relation.{Relation}
-use Rattle.words_core.specs.Readings.{found_in, hint_names, hint_of, is_near, missing_text, number_at, number_of, share_input, shared_text, text_in, AreOptionsIn, HasJoinFault, HasScaleFault}
-use Rattle.words_core.specs.Readings.{IsNoRelation, IsRangeFault, IsRelationFault, Needs, NeedsOneInput, NeedsOptions, NeedsRelation, Says}
+use Rattle.words_core.specs.Readings.{found_in, hint_names, hint_of, is_near, missing_text, number_at, number_of, text_in, IsNoRelation, Needs, Says}
 use Rattle.words_core.specs.Readings.{of_none, HasCommandFault, HasFault, HasMetFault, IsMetAs, IsUsageFault, Met, ReadAs, met_in, refusals_of}
 use Rattle.words_core.specs.Usage.{HasUsage, program_usage}
 use Rattle.words_core.specs.declared.words.Command.{Command}
@@ -79,44 +71,9 @@ needs_none name (Some x) f Then e says = cc
 pub needs_some : {X : Type 0} (name : Text) (o : Option X) (x : X) (f : WordFault) (Then : X → Type 0) → o ≡ Some x → Then x → Needs name o f Then
 needs_some name o x f Then e h = subst (λ (p : Option _). Needs name p f Then) (sym e) h
 
--- ---- options
-
--- the consequences of a fault of `Options::new`
-pub options_refused : (rows : List Row) (workers batch cut : ℕ) (reason : OptionFault) (f : WordFault)
-    → number_at (codes "workers") rows ≡ Some workers → number_at (codes "batch") rows ≡ Some batch → number_at (codes "cut") rows ≡ Some cut
-    → (reason ≡ range.Workers → ¬ (AreWorkers workers)) → (reason ≡ range.Batch → AreWorkers workers × ¬ (IsBatch batch))
-    → (reason ≡ range.Cut → AreWorkers workers × IsBatch batch × ¬ (IsCut cut)) → f ≡ fault.Options reason → NeedsOptions rows f ⊥
-options_refused rows workers batch cut reason f w b c is_workers is_batch is_cut e =
-    needs_some (codes "workers") (number_at (codes "workers") rows) workers f _ w
-    (needs_some (codes "batch") (number_at (codes "batch") rows) batch f _ b
-    (needs_some (codes "cut") (number_at (codes "cut") rows) cut f _ c
-    (inl (subst (λ (g : WordFault). IsRangeFault workers batch cut g) (sym e) (by reason is_workers is_batch is_cut)))))
-  where
-    by : (r : OptionFault) → (r ≡ range.Workers → ¬ (AreWorkers workers)) → (r ≡ range.Batch → AreWorkers workers × ¬ (IsBatch batch))
-        → (r ≡ range.Cut → AreWorkers workers × IsBatch batch × ¬ (IsCut cut)) → IsRangeFault workers batch cut (fault.Options r)
-    by range.Workers x y z = x refl
-    by range.Batch x y z = y refl
-    by range.Cut x y z = z refl
-
--- options that are in range, and then a further fault
-pub options_passed : (rows : List Row) (options : Options) (f : WordFault) (Then : Type 0) → AreOptionsIn rows options → Then → NeedsOptions rows f Then
-options_passed rows options f Then are rest =
-    needs_some (codes "workers") (number_at (codes "workers") rows) (workers_of options) f _ are.workers
-    (needs_some (codes "batch") (number_at (codes "batch") rows) (batch_of options) f _ are.batch
-    (needs_some (codes "cut") (number_at (codes "cut") rows) (cut_of options) f _ are.cut
-    (inr (are.ranges.0, are.ranges.1, are.ranges.2, rest))))
-
-needs_weaker : {X : Type 0} (name : Text) (o : Option X) (f : WordFault) (A B : X → Type 0) → ((x : X) → A x → B x) → Needs name o f A → Needs name o f B
+pub needs_weaker : {X : Type 0} (name : Text) (o : Option X) (f : WordFault) (A B : X → Type 0) → ((x : X) → A x → B x) → Needs name o f A → Needs name o f B
 needs_weaker name None f A B h n = n
 needs_weaker name (Some x) f A B h n = h x n
-
-pub options_weaker : (rows : List Row) (f : WordFault) (Then : Type 0) → NeedsOptions rows f ⊥ → NeedsOptions rows f Then
-options_weaker rows f Then n =
-    needs_weaker (codes "workers") (number_at (codes "workers") rows) f _ _ (λ w. needs_weaker (codes "batch") (number_at (codes "batch") rows) f _ _
-    (λ b. needs_weaker (codes "cut") (number_at (codes "cut") rows) f _ _ (λ c h. elim h [
-      | inl r ↦ inl r
-      | inr r ↦ absurd r.3
-    ]))) n
 
 -- ---- the fault of a call
 
@@ -138,42 +95,6 @@ pub hint_is : {E : Type 0} (result : Result (Option (Bor Text)) E) (word : Text)
 unfolding hint_of
 hint_is (Ok x) word names same h = h ∙ ap (find (is_near word)) same
 hint_is (Err e) word names same h = tt
-
--- ---- joins
-
-when_true : (b : Bool) (P Q : Type 0) → b ≡ true → P → MatchBool b P Q
-when_true true P Q e p = p
-when_true false P Q e p = cc
-
-when_false : (b : Bool) (P Q : Type 0) → b ≡ false → Q → MatchBool b P Q
-when_false true P Q e q = cc
-when_false false P Q e q = q
-
-module _ (rows : List Row) (left right : Text) (edits : Option Text) (f : WordFault) (is_left : first_of (codes "LEFT") rows ≡ Some left)
-    (is_right : first_of (codes "RIGHT") rows ≡ Some right) (are_edits : first_of (codes "edits") rows ≡ edits) where
-  join_from : NeedsOneInput left right edits f (NeedsRelation rows f (NeedsOptions rows f (HasScaleFault rows f))) → HasJoinFault rows f
-  join_from h =
-      needs_some (codes "LEFT") (first_of (codes "LEFT") rows) left f _ is_left
-      (needs_some (codes "RIGHT") (first_of (codes "RIGHT") rows) right f _ is_right
-      (subst (λ (e : Option Text). NeedsOneInput left right e f (NeedsRelation rows f (NeedsOptions rows f (HasScaleFault rows f)))) (sym are_edits) h))
-
-  -- two files are standard input
-  pub join_shares : share_input left right edits ≡ true → (f ≢ fault.Memory → Says shared_text f) → f ≢ fault.Memory → HasJoinFault rows f
-  join_shares e says known = join_from (when_true (share_input left right edits) _ _ e (says known))
-
-  -- no relation is given
-  pub join_misses : share_input left right edits ≡ false → first_of (codes "relation") rows ≡ None → Says (missing_text (codes "relation")) f → HasJoinFault rows f
-  join_misses e none says = join_from (when_false (share_input left right edits) _ _ e (needs_none (codes "relation") (first_of (codes "relation") rows) f _ none says))
-
-  -- the relation is at fault
-  pub join_refuses : share_input left right edits ≡ false → (word : Text) → first_of (codes "relation") rows ≡ Some word → IsRelationFault word f → HasJoinFault rows f
-  join_refuses e word is h = join_from (when_false (share_input left right edits) _ _ e (needs_some (codes "relation") (first_of (codes "relation") rows) word f _ is (inl h)))
-
-  -- a later argument is at fault
-  pub join_passes : share_input left right edits ≡ false → (word : Text) (relation : JoinRelation) → first_of (codes "relation") rows ≡ Some word
-      → Spells (relation_of relation) word → NeedsOptions rows f (HasScaleFault rows f) → HasJoinFault rows f
-  join_passes e word relation is spells h =
-      join_from (when_false (share_input left right edits) _ _ e (needs_some (codes "relation") (first_of (codes "relation") rows) word f _ is (inr ((relation, spells), h))))
 
 -- ---- the words
 

@@ -1,3 +1,4 @@
+pub mod Conditions
 pub mod Readings
 pub mod Tables
 pub mod Usage

@@ -16,10 +16,8 @@ use Rattle.clap.specs.declared.error.kind.ErrorKind.{ErrorKind}
 use Rattle.clap.specs.declared.error.kind.ErrorKind.TheVariants.{DisplayHelp, DisplayVersion}
 use Rattle.clap.specs.declared.parser.matches.ArgMatches.{ArgMatches}
 use Rattle.relation_core.specs.FaultTexts.{mask_text}
-use Rattle.relation_core.specs.JoinRelations.{relation_of}
 use Rattle.relation_core.specs.Masks.{HasBadLetter}
-use Rattle.relation_core.specs.Relations.{Spells, SpellsNothing, HoldsForDisjoint}
-use Rattle.relation_core.specs.declared.join_relation.JoinRelation.{JoinRelation}
+use Rattle.relation_core.specs.Relations.{Spells, SpellsNothing}
 use Rattle.relation_core.specs.declared.mask.MaskFault.{MaskFault}
 use Rattle.relation_core.specs.declared.mask.MaskFault.TheVariants as mask
 use Rattle.relation_core.specs.declared.relation.Relation.{Relation}
@@ -29,15 +27,21 @@ use Rattle.wkt_core.specs.declared.scale.Scale.{Scale}
 use Rattle.options_core.specs.Options.{workers_of, batch_of, cut_of, AreWorkers, IsBatch, IsCut}
 use Rattle.options_core.specs.declared.options.Options.{Options}
 use Rattle.options_core.specs.declared.options.OptionFault.TheVariants as range
-use Rattle.words_core.specs.Usage.{program_usage}
+use Rattle.options_core.specs.declared.product.Product.{Product}
+use Rattle.options_core.specs.declared.product.Product.TheVariants.{Report, Picture}
 use Rattle.plane_core.specs.declared.rings.Rings.{Rings}
 use Rattle.plane_core.specs.declared.rings.Rings.TheVariants.{Proper, EvenOdd}
+use Rattle.words_core.specs.Conditions.{ForbidsDisjoint, HoldsForDisjoint, geometries_of}
+use Rattle.words_core.specs.Conditions.{relation_of}
+use Rattle.words_core.specs.Usage.{program_usage}
+use Rattle.words_core.specs.declared.condition.Condition.{Condition}
+use Rattle.words_core.specs.declared.condition.Geometries.{Geometries}
+use Rattle.words_core.specs.declared.condition.Geometries.TheVariants.{Box, Any}
 use Rattle.words_core.specs.declared.words.Command.{Command}
-use Rattle.words_core.specs.declared.words.Command.TheVariants.{Relate, Join, Draw, Window, Stats}
+use Rattle.words_core.specs.declared.words.Command.TheVariants.{Relate, Join, Window, Stats}
 use Rattle.words_core.specs.declared.words.Command.TheVariants.{Bounds}
-use Rattle.words_core.specs.declared.words.Geometries.{Geometries}
-use Rattle.words_core.specs.declared.words.Geometries.TheVariants.{Box, Any}
 use Rattle.words_core.specs.declared.words.JoinRequest.{JoinRequest}
+use Rattle.words_core.specs.declared.words.LayerRequest.{LayerRequest}
 use Rattle.words_core.specs.declared.words.RelateRequest.{RelateRequest}
 use Rattle.words_core.specs.declared.words.WordFault.{WordFault}
 use Rattle.words_core.specs.declared.words.WordFault.TheVariants as fault
@@ -83,11 +87,20 @@ AreGeometriesIn rows Box = (first_of (codes "geometry") rows ≡ Some (codes "bo
 AreGeometriesIn rows (Any rings) = (first_of (codes "geometry") rows ≡ Some (codes "any"))
     × NamesRings (first_of (codes "rings") rows) rings
 
+-- the words name no kind of geometries
+abbrev pub NamesNoKind : List Row → Type 0
+NamesNoKind rows = (geometries : Geometries) → ¬ (AreGeometriesIn rows geometries)
+
 pub record IsRelateIn (rows : List Row) (request : RelateRequest) : Type 0 where
   pub first : first_of (codes "A") rows ≡ Some request.a.now
   pub second : first_of (codes "B") rows ≡ Some request.b.now
   pub scale : IsScaleIn rows request.scale
   pub geometries : AreGeometriesIn rows request.geometries
+
+pub record IsLayerIn (rows : List Row) (layer : LayerRequest) : Type 0 where
+  pub path : first_of (codes "LAYER") rows ≡ Some layer.path.now
+  pub scale : IsScaleIn rows layer.scale
+  pub geometries : AreGeometriesIn rows layer.geometries
 
 pub record AreOptionsIn (rows : List Row) (options : Options) : Type 0 where
   pub workers : number_at (codes "workers") rows ≡ Some (workers_of options)
@@ -97,9 +110,15 @@ pub record AreOptionsIn (rows : List Row) (options : Options) : Type 0 where
       × IsCut (cut_of options)
 
 -- the word spells the relation
-abbrev pub IsRelationIn : List Row → JoinRelation → Type 0
+abbrev pub IsRelationIn : List Row → Relation → Type 0
 IsRelationIn rows relation = (word : Text) × (first_of (codes "relation") rows ≡ Some word)
-    × Spells (relation_of relation) word
+    × Spells relation word
+
+-- the condition is this relation, of the kind of geometries that the words name
+pub record IsConditionIn (rows : List Row) (relation : Relation) (condition : Condition)
+    : Type 0 where
+  pub same : relation_of condition ≡ relation
+  pub geometries : AreGeometriesIn rows (geometries_of condition)
 
 abbrev pub text_in : Option (Bor Text) → Option Text
 text_in = option_map (λ text. text.now)
@@ -110,7 +129,8 @@ pub record IsJoinIn (rows : List Row) (join : JoinRequest) : Type 0 where
   pub edits : first_of (codes "edits") rows ≡ text_in join.edits_path
   pub one_input : share_input join.left_path.now join.right_path.now (text_in join.edits_path)
       ≡ false
-  pub relation : IsRelationIn rows join.relation
+  pub relation : IsRelationIn rows (relation_of join.condition)
+  pub geometries : AreGeometriesIn rows (geometries_of join.condition)
   pub options : AreOptionsIn rows join.options
   pub scale : IsScaleIn rows join.scale
 
@@ -139,14 +159,6 @@ abbrev pub HasScaleFault : List Row → WordFault → Type 0
 HasScaleFault rows f =
     NeedsNumber (codes "scale") rows f (λ digits. (most_digits < digits) × (f ≡ fault.Scale))
 
-abbrev pub HasLayerFault : List Row → WordFault → Type 0
-HasLayerFault rows f = NeedsText (codes "LAYER") rows f (λ _. HasScaleFault rows f)
-
-abbrev pub HasWindowFault : List Row → WordFault → Type 0
-HasWindowFault rows f =
-    NeedsText (codes "LAYER") rows f (λ _. NeedsText (codes "WKT") rows f (λ _.
-    HasScaleFault rows f))
-
 -- a fault of the scale, or the consequence if it has none
 abbrev pub NeedsScale : List Row → WordFault → Type 0 → Type 0
 NeedsScale rows f Then = NeedsNumber (codes "scale") rows f (λ digits.
@@ -167,10 +179,19 @@ abbrev pub HasGeometryFault : List Row → WordFault → Type 0
 HasGeometryFault rows f = NeedsText (codes "geometry") rows f (λ word.
     IsGeometryFault word (first_of (codes "rings") rows) f)
 
+-- a fault of how geometries are written: of the scale, or else of their kind
+abbrev pub HasFormatFault : List Row → WordFault → Type 0
+HasFormatFault rows f = NeedsScale rows f (HasGeometryFault rows f)
+
 abbrev pub HasRelateFault : List Row → WordFault → Type 0
 HasRelateFault rows f =
-    NeedsText (codes "A") rows f (λ _. NeedsText (codes "B") rows f (λ _.
-    NeedsScale rows f (HasGeometryFault rows f)))
+    NeedsText (codes "A") rows f (λ _. NeedsText (codes "B") rows f (λ _. HasFormatFault rows f))
+
+abbrev pub HasLayerFault : List Row → WordFault → Type 0
+HasLayerFault rows f = NeedsText (codes "LAYER") rows f (λ _. HasFormatFault rows f)
+
+abbrev pub HasWindowFault : List Row → WordFault → Type 0
+HasWindowFault rows f = NeedsText (codes "WKT") rows f (λ _. HasLayerFault rows f)
 
 -- the first of the three numbers that is out of range
 abbrev pub IsRangeFault : ℕ → ℕ → ℕ → WordFault → Type 0
@@ -210,21 +231,36 @@ abbrev pub hint_text : MaskFault → Text → Text
 hint_text reason name = codes "rjoin: --relation: " ++ (mask_text reason ++ (codes "\n"
     ++ (codes "did you mean " ++ (name ++ codes "?\n"))))
 
--- the word spells no relation that a join may use
+-- the word spells no relation
 abbrev pub IsRelationFault : Text → WordFault → Type 0
 IsRelationFault word (fault.Relation reason) = IsNoRelation word reason × (hint_of word ≡ None)
 IsRelationFault word (fault.Usage shown help) = (reason : MaskFault) × IsNoRelation word reason
     × MatchOption (hint_of word) ⊥ (λ name. Says (hint_text reason name) (fault.Usage shown help))
-IsRelationFault word fault.AllowsDisjoint =
-    (relation : Relation) × Spells relation word × HoldsForDisjoint relation
 IsRelationFault word _ = ⊥
 
-abbrev pub SpellsJoin : Text → Type 0
-SpellsJoin word = (relation : JoinRelation) × Spells (relation_of relation) word
+-- the relation holds for some two disjoint geometries of the kind that the words name
+abbrev pub AllowsDisjointIn : List Row → Relation → Type 0
+AllowsDisjointIn rows relation = (geometries : Geometries) × AreGeometriesIn rows geometries
+    × HoldsForDisjoint geometries relation
 
+-- the relation holds for no two disjoint geometries of the kind that the words name, if they name
+-- one
+abbrev pub ForbidsDisjointIn : List Row → Relation → Type 0
+ForbidsDisjointIn rows relation =
+    (geometries : Geometries) → AreGeometriesIn rows geometries
+    → ForbidsDisjoint geometries relation
+
+-- that disjoint geometries may stand in the relation, or the consequence if none do
+abbrev pub NeedsNoDisjoint : List Row → Relation → WordFault → Type 0 → Type 0
+NeedsNoDisjoint rows relation f Then =
+    (AllowsDisjointIn rows relation × (f ≡ fault.AllowsDisjoint))
+    ⊎ (ForbidsDisjointIn rows relation × Then)
+
+-- a fault of the relation, or the consequence if a join may use it
 abbrev pub NeedsRelation : List Row → WordFault → Type 0 → Type 0
 NeedsRelation rows f Then = NeedsText (codes "relation") rows f (λ word.
-    IsRelationFault word f ⊎ (SpellsJoin word × Then))
+    IsRelationFault word f
+    ⊎ ((relation : Relation) × Spells relation word × NeedsNoDisjoint rows relation f Then))
 
 abbrev pub shared_text : Text
 shared_text = codes "error: only one of LEFT, RIGHT and --edits can be -\n"
@@ -237,7 +273,7 @@ abbrev pub HasJoinFault : List Row → WordFault → Type 0
 HasJoinFault rows f =
     NeedsText (codes "LEFT") rows f (λ left. NeedsText (codes "RIGHT") rows f (λ right.
     NeedsOneInput left right (first_of (codes "edits") rows) f
-    (NeedsRelation rows f (NeedsOptions rows f (HasScaleFault rows f)))))
+    (NeedsRelation rows f (NeedsOptions rows f (HasFormatFault rows f)))))
 
 -- ---- the words
 
@@ -245,24 +281,24 @@ HasJoinFault rows f =
 abbrev pub Met : Type 0
 Met = Option (Text × List Row)
 
+-- the name of the command for this product of a join
+abbrev pub name_of : Product → Text
+name_of Report = codes "join"
+name_of Picture = codes "draw"
+
 -- the matches of the command with this name are this command
 abbrev pub IsCommandIn : Text → List Row → Command → Type 0
 IsCommandIn name rows (Relate request) = (name ≡ codes "relate") × IsRelateIn rows request
-IsCommandIn name rows (Join join) = (name ≡ codes "join") × IsJoinIn rows join
-IsCommandIn name rows (Draw join) = (name ≡ codes "draw") × IsJoinIn rows join
-IsCommandIn name rows (Window path wkt scale) = (name ≡ codes "window")
-    × (first_of (codes "LAYER") rows ≡ Some path.now)
-    × (first_of (codes "WKT") rows ≡ Some wkt.now) × IsScaleIn rows scale
-IsCommandIn name rows (Stats path scale) = (name ≡ codes "stats")
-    × (first_of (codes "LAYER") rows ≡ Some path.now) × IsScaleIn rows scale
-IsCommandIn name rows (Bounds path scale) = (name ≡ codes "bounds")
-    × (first_of (codes "LAYER") rows ≡ Some path.now) × IsScaleIn rows scale
+IsCommandIn name rows (Join join) = (name ≡ name_of join.product) × IsJoinIn rows join
+IsCommandIn name rows (Window layer wkt) = (name ≡ codes "window")
+    × (first_of (codes "WKT") rows ≡ Some wkt.now) × IsLayerIn rows layer
+IsCommandIn name rows (Stats layer) = (name ≡ codes "stats") × IsLayerIn rows layer
+IsCommandIn name rows (Bounds layer) = (name ≡ codes "bounds") × IsLayerIn rows layer
 
 -- the fault of the matches of the command with this name
 pub data HasCommandFault (rows : List Row) (f : WordFault) : Text → Type 0 where
   of_relate : HasRelateFault rows f → HasCommandFault rows f (codes "relate")
-  of_join : HasJoinFault rows f → HasCommandFault rows f (codes "join")
-  of_draw : HasJoinFault rows f → HasCommandFault rows f (codes "draw")
+  of_join : (product : Product) → HasJoinFault rows f → HasCommandFault rows f (name_of product)
   of_window : HasWindowFault rows f → HasCommandFault rows f (codes "window")
   of_stats : HasLayerFault rows f → HasCommandFault rows f (codes "stats")
   of_bounds : HasLayerFault rows f → HasCommandFault rows f (codes "bounds")

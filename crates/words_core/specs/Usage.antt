@@ -43,6 +43,10 @@ geometry_rule = record (new_rule (codes "geometry")) {
 abbrev pub rings_rule : Rule
 rings_rule = record (new_rule (codes "rings")) { long = Some (codes "rings") }
 
+-- the rules of how geometries are written, which all commands have
+abbrev pub format_rules : List Rule
+format_rules = scale_rule ∷ geometry_rule ∷ rings_rule ∷ []
+
 -- ---- commands
 
 abbrev pub layer_rules : List Rule
@@ -54,21 +58,20 @@ edit_rules = relation_rule ∷ edits_rule ∷ []
 abbrev pub option_rules : List Rule
 option_rules =
     numeric_rule (codes "workers") (codes "4") ∷ numeric_rule (codes "batch") (codes "256")
-    ∷ numeric_rule (codes "cut") (codes "2") ∷ scale_rule ∷ []
+    ∷ numeric_rule (codes "cut") (codes "2") ∷ []
 
 abbrev pub join_rules : List Rule
-join_rules = layer_rules ++ edit_rules ++ option_rules
+join_rules = layer_rules ++ edit_rules ++ option_rules ++ format_rules
 
 abbrev pub relate_rules : List Rule
-relate_rules = positional_rule (codes "A") ∷ positional_rule (codes "B") ∷ scale_rule
-    ∷ geometry_rule ∷ rings_rule ∷ []
+relate_rules = positional_rule (codes "A") ∷ positional_rule (codes "B") ∷ format_rules
 
 abbrev pub window_rules : List Rule
-window_rules = positional_rule (codes "LAYER") ∷ positional_rule (codes "WKT") ∷ scale_rule ∷ []
+window_rules = positional_rule (codes "LAYER") ∷ positional_rule (codes "WKT") ∷ format_rules
 
 -- the rules of `stats` and of `bounds`
 abbrev pub layer_only_rules : List Rule
-layer_only_rules = positional_rule (codes "LAYER") ∷ scale_rule ∷ []
+layer_only_rules = positional_rule (codes "LAYER") ∷ format_rules
 
 abbrev pub subcommand_shape : Text → List Rule → Shape
 subcommand_shape name rules = record (new_shape name) { rules = rules }

@@ -8,7 +8,7 @@ Layers are CSV files with the header id,wkt and one feature per row:
 Geometries are points, segments along an axis and rectangles, as well-known text:
   POINT (4 4)
   POLYGON ((0 0, 4 0, 4 4, 0 4, 0 0))
-rjoin relate --geometry any also accepts polylines and polygons of any direction.
+With --geometry any they are points, polylines and polygons of any direction, and MULTI forms.
 
 A coordinate has no decimals, or up to K with --scale K; counted in units of the last decimal, its
 absolute value is at most 1000000000000.
@@ -46,11 +46,15 @@ A layer is a CSV file such as             Edits are a CSV file such as
 
 The path - stands for standard input, for at most one of the files.
 
+Geometries are points, segments along an axis and rectangles. With --geometry any they are points,
+polylines and polygons of any direction, and MULTI forms; rings that cross or run along each other
+are refused, and --rings even-odd accepts any closed rings, as rjoin relate --help describes.
+
 Relations of a left feature to a right one:
   intersects  they share a point
   touches     they share a point, and their interiors share none
   crosses     different dimensions: their interiors share a point, and the one of lower dimension
-              also has points outside the other; two segments: their interiors share a single point
+              also has points outside the other; two lines: their interiors share isolated points
   within      the left one lies in the right one, and their interiors share a point
   contains    the right one lies in the left one, and their interiors share a point
   overlaps    equal dimensions, which the intersection of their interiors has too, and each also
@@ -69,7 +73,8 @@ Exit status: 0 for success, 1 for a fault of a file, output, memory, threads or 
 invalid arguments";
 
 pub(crate) const DRAW: &str = "\
-The layers are read, edited and joined as by rjoin join; its --help describes files and relations.
+The layers are read, edited and joined as by rjoin join; its --help describes files, geometries and
+relations.
 
 The picture is SVG 1.1, which browsers show: the second axis upwards, left features in blue and
 right ones in orange, those that occur in a pair highlighted by stronger lines and fills, each with
@@ -88,6 +93,10 @@ A layer is a CSV file such as
   mill lane,\"LINESTRING (10 0, 10 10)\"
 The path - stands for standard input.
 
+Geometries are points, segments along an axis and rectangles. With --geometry any the features and
+the window are points, polylines and polygons of any direction, and MULTI forms. Rings that cross or
+run along each other are refused; --rings even-odd accepts any closed rings.
+
 A feature meets the window if they share a point. The output is CSV: id, and then the ids in the
 order of the file.
 
@@ -100,7 +109,12 @@ A layer is a CSV file such as
   mill lane,\"LINESTRING (10 0, 10 10)\"
 The path - stands for standard input.
 
+Geometries are points, segments along an axis and rectangles. With --geometry any they are points,
+polylines and polygons of any direction, and MULTI forms. Rings that cross or run along each other
+are refused; --rings even-odd accepts any closed rings.
+
 The output has five lines: features, points, segments, rectangles and height, each with a number.
+With --geometry any it has six: features, points, lines, areas, vertices and height.
 
 Exit status: 0 for success, 1 for a fault of the file, output, memory or hashing keys, 2 for
 invalid arguments";
@@ -110,6 +124,10 @@ A layer is a CSV file such as
   id,wkt
   mill lane,\"LINESTRING (10 0, 10 10)\"
 The path - stands for standard input.
+
+Geometries are points, segments along an axis and rectangles. With --geometry any they are points,
+polylines and polygons of any direction, and MULTI forms. Rings that cross or run along each other
+are refused; --rings even-odd accepts any closed rings.
 
 The output is CSV: id,x1,y1,x2,y2, and for each feature, in the order of the file, its id and its
 least and greatest coordinates. They are whole numbers of units of the last decimal: with

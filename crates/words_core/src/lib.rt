@@ -2,6 +2,7 @@
 //! command or a fault.
 #![tactic(auto)]
 
+mod condition;
 mod help;
 mod hint;
 mod reading;
@@ -9,5 +10,6 @@ mod standard_input;
 mod usage;
 mod words;
 
+pub use condition::{Condition, Geometries};
 pub use standard_input::is_standard_input;
-pub use words::{Command, Geometries, JoinRequest, RelateRequest, WordFault, read_words};
+pub use words::{Command, JoinRequest, LayerRequest, RelateRequest, WordFault, read_words};

@@ -63,7 +63,7 @@ const RELATE_ARGUMENTS: [Argument; 5] = [
 ];
 
 /// The arguments of `join` and of `draw`.
-const JOIN_ARGUMENTS: [Argument; 8] = [
+const JOIN_ARGUMENTS: [Argument; 10] = [
     Argument::Positional {
         name: "LEFT",
         help: "CSV file of the left layer",
@@ -90,26 +90,30 @@ const JOIN_ARGUMENTS: [Argument; 8] = [
         default: "2",
     },
     SCALE,
+    Argument::Geometry,
+    Argument::Rings,
 ];
 
-const WINDOW_ARGUMENTS: [Argument; 3] = [
+const WINDOW_ARGUMENTS: [Argument; 5] = [
     LAYER,
     Argument::Positional {
         name: "WKT",
         help: "Geometry of the window, as well-known text",
     },
     SCALE,
+    Argument::Geometry,
+    Argument::Rings,
 ];
 
 /// The arguments of `stats` and of `bounds`.
-const LAYER_ARGUMENTS: [Argument; 2] = [LAYER, SCALE];
+const LAYER_ARGUMENTS: [Argument; 4] = [LAYER, SCALE, Argument::Geometry, Argument::Rings];
 
 const LAYER: Argument = Argument::Positional {
     name: "LAYER",
     help: "CSV file of the layer",
 };
 
-/// The option that all commands have: the number of decimals of all coordinates.
+/// The number of decimals of all coordinates.
 const SCALE: Argument = Argument::Number {
     name: "scale",
     help: "Decimals that a coordinate may have, 0 to 6",

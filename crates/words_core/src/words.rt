@@ -5,24 +5,15 @@ ghost use Rattle.clap.specs.Words.{kind_of};
 ghost use Rattle.words_core.specs.Readings.{IsUsageFault, ReadAs};
 ghost use Rattle.words_core.specs.declared.words.WordFault.TheVariants as word_faults;
 
+use crate::condition::{Condition, Geometries};
 use crate::reading::read_command;
 use crate::usage::usage;
 use clap::error::ErrorKind;
-use options_core::{OptionFault, Options};
-use relation_core::{AllowsDisjoint, JoinRelation, MaskFault};
+use options_core::{OptionFault, Options, Product};
+use relation_core::{AllowsDisjoint, MaskFault};
 use std::alloc::{AllocError, Global};
 use thiserror::Error;
-use wkt_any_core::Rings;
 use wkt_core::Scale;
-
-/// The kind of geometries that a command takes.
-#[derive(Clone, Copy, Debug, PartialEq, Eq)]
-pub enum Geometries {
-    /// Points, segments parallel to an axis, and rectangles.
-    Box,
-    /// Points, polylines and areas of any direction, with this rule for rings.
-    Any(Rings),
-}
 
 /// Two geometries given as texts, and how to read them.
 #[derive(Clone, Copy, Debug, PartialEq, Eq)]
@@ -33,15 +24,24 @@ pub struct RelateRequest<'a> {
     pub geometries: Geometries,
 }
 
-/// Two layers to join after edits, and how to join them.
+/// Two layers to join after edits, how to read and join them, and what to write.
 #[derive(Clone, Copy, Debug, PartialEq, Eq)]
 pub struct JoinRequest<'a> {
+    pub product: Product,
     pub left_path: &'a str,
     pub right_path: &'a str,
     pub edits_path: Option<&'a str>,
-    pub relation: JoinRelation,
+    pub condition: Condition,
     pub options: Options,
     pub scale: Scale,
+}
+
+/// A layer, and how to read it.
+#[derive(Clone, Copy, Debug, PartialEq, Eq)]
+pub struct LayerRequest<'a> {
+    pub path: &'a str,
+    pub scale: Scale,
+    pub geometries: Geometries,
 }
 
 /// A command of the program, with its arguments. Texts and paths borrow from the words.
@@ -49,26 +49,18 @@ pub struct JoinRequest<'a> {
 pub enum Command<'a> {
     /// Write the matrix of two geometries.
     Relate(RelateRequest<'a>),
-    /// Write the pairs of features of two layers that stand in a relation.
+    /// Write the pairs of features of two layers that stand in a relation, or a picture of the two
+    /// layers in which the features of these pairs are highlighted.
     Join(JoinRequest<'a>),
-    /// Write a picture of two layers, in which the features of those pairs are highlighted.
-    Draw(JoinRequest<'a>),
     /// Write the ids of a layer's features that meet the geometry of a text.
     Window {
-        path: &'a str,
+        layer: LayerRequest<'a>,
         wkt: &'a str,
-        scale: Scale,
     },
     /// Write counts of a layer's features.
-    Stats {
-        path: &'a str,
-        scale: Scale,
-    },
-    /// Write the corners of a layer's features.
-    Bounds {
-        path: &'a str,
-        scale: Scale,
-    },
+    Stats(LayerRequest<'a>),
+    /// Write the corners of the boxes of a layer's features.
+    Bounds(LayerRequest<'a>),
 }
 
 /// Why the words are no command.

@@ -15,13 +15,11 @@ use super::edits::apply_edits;
 use super::layers::read_layers;
 use super::sources::JoinSources;
 use crate::fault::{Input, RunFault};
-use crate::layer_input::LayerReader;
-use file_core::{ReadFault, Source, read_edits};
+use file_core::{Format, LayerReader, ReadFault, Source, read_edits};
 use layer_core::{Edit, Layer};
 use std::alloc::Global;
 use std::hash::RandomState;
 use std::thread::Threads;
-use wkt_core::Scale;
 
 /// Reads two layers and applies the edits to them. `states` hash their ids.
 ///
@@ -29,67 +27,67 @@ use wkt_core::Scale;
 /// in parallel if there is more than one thread. Then the edits are read and applied in order. The
 /// first fault is returned, except that a failing right source comes before a fault in the bytes of
 /// the left.
-pub(crate) fn edited_layers<R: Threads + Sync, A: Source, B: Source, E: Source>(
-    reader: &LayerReader<'_, R>,
+pub fn edited_layers<R: Threads + Sync, F: Format, A: Source, B: Source, E: Source>(
+    reader: &LayerReader<'_, F, R>,
     states: (RandomState, RandomState),
     sources: &mut JoinSources<A, B, E>,
-) -> Result<(Layer, Layer), RunFault>
+) -> Result<(Layer<F::Geometry>, Layer<F::Geometry>), RunFault>
     requires { AreFresh A.has_failed B.has_failed E.has_failed sources.old }
-    ensures ok { let scale = reader.now.scale in
-        let files = files_of scale A.remaining B.remaining E.remaining sources.old in
+    ensures ok { let reads = F.reads reader.now.format in
+        let files = files_of reads A.remaining B.remaining E.remaining sources.old in
         IfOk result (λ layers. LayersGive files (Ok (both layers.0.list layers.1.list))) }
-    ensures fault { let scale = reader.now.scale in
-        let files = files_of scale A.remaining B.remaining E.remaining sources.old in
+    ensures fault { let reads = F.reads reader.now.format in
+        let files = files_of reads A.remaining B.remaining E.remaining sources.old in
         IfErr result (λ f. BlamesInput f → LayersGive files (Err f)) }
-    ensures faults { let scale = reader.now.scale in
-        let files = files_of scale A.remaining B.remaining E.remaining sources.old in
+    ensures faults { let reads = F.reads reader.now.format in
+        let files = files_of reads A.remaining B.remaining E.remaining sources.old in
         IfErr result (IsJoinFault files) }
     ensures io { TellsFailures A.has_failed B.has_failed E.has_failed sources.new result }
 {
     let (left, right) = (&mut sources.left, &mut sources.right);
     let mut layers = read_layers(reader, states, left, right)?;
-    edit_layers(reader.alloc, reader.scale, &mut sources.edits, &mut layers)?;
+    edit_layers(reader.alloc, reader.format, &mut sources.edits, &mut layers)?;
     Ok(layers)
 }
 
 /// Applies the edits of a file in order, if there is one, up to the first that is refused.
-fn edit_layers<E: Source>(
+fn edit_layers<F: Format, E: Source>(
     alloc: Global,
-    scale: Scale,
+    format: F,
     edits: &mut Option<E>,
-    layers: &mut (Layer, Layer),
+    layers: &mut (Layer<F::Geometry>, Layer<F::Geometry>),
 ) -> Result<(), RunFault>
     requires { IfSome edits.old (λ e. E.has_failed e ≡ false) }
-    ensures ok { OnOk result (AreEdited scale (bytes_of E.remaining edits.old)
+    ensures ok { OnOk result (AreEdited (F.reads format) (bytes_of E.remaining edits.old)
         (both layers.old.0.list layers.old.1.list) (both layers.new.0.list layers.new.1.list)) }
-    ensures fault { IfErr result (IsEditsFault scale (bytes_of E.remaining edits.old)
+    ensures fault { IfErr result (IsEditsFault (F.reads format) (bytes_of E.remaining edits.old)
         (both layers.old.0.list layers.old.1.list)) }
     ensures io { IsErrOf result (RunFault.Read Input.Edits ReadFault.Io)
         ↔ IsSomeAnd edits.new (λ e. IsTrue (E.has_failed e)) }
 {
-    let edit_list = read_edit_list(alloc, scale, edits)?;
+    let edit_list = read_edit_list(alloc, format, edits)?;
     apply_edits(edit_list, &mut layers.0, &mut layers.1)
 }
 
 /// The edits, if there is a file of them.
-fn read_edit_list<E: Source>(
+fn read_edit_list<F: Format, E: Source>(
     alloc: Global,
-    scale: Scale,
+    format: F,
     edits: &mut Option<E>,
-) -> Result<Vec<Edit>, RunFault>
+) -> Result<Vec<Edit<F::Geometry>>, RunFault>
     requires { IfSome edits.old (λ e. E.has_failed e ≡ false) }
     ensures ok { IfOk result (λ list.
-        EditFile scale (bytes_of E.remaining edits.old) (Ok (map content_of list.items))) }
+        EditFile (F.reads format) (bytes_of E.remaining edits.old) (Ok (map content_of list.items))) }
     ensures few { IfOk result (λ list. length list.items ≤ most_file_bytes) }
     ensures fault { IfErr result (λ e. (f : ReadFault) × (e ≡ RunFault.Read Input.Edits f)
-        × (BlamesBytes f → EditFile scale (bytes_of E.remaining edits.old) (Err f))) }
+        × (BlamesBytes f → EditFile (F.reads format) (bytes_of E.remaining edits.old) (Err f))) }
     ensures io { IsErrOf result (RunFault.Read Input.Edits ReadFault.Io)
         ↔ IsSomeAnd edits.new (λ e. IsTrue (E.has_failed e)) }
 {
     let Some(source) = edits else {
         return Ok(Vec::new(alloc));
     };
-    match read_edits(alloc, source, scale) {
+    match read_edits(alloc, source, format) {
         Ok(list) => Ok(list),
         Err(fault) => Err(RunFault::Read(Input::Edits, fault)),
     }

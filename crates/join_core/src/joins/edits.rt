@@ -6,10 +6,14 @@ ghost use Rattle.layer_core.specs.Edits.{both, content_of, edits_give};
 ghost use Rattle.join_core.specs.JoinRuns.{EndsAt};
 
 use crate::fault::RunFault;
-use layer_core::{Edit, Layer};
+use layer_core::{Edit, Geometry, Layer};
 
 /// Applies the edits in order, up to the first that is refused. Edit k is that of row k + 1.
-pub fn apply_edits(edits: Vec<Edit>, left: &mut Layer, right: &mut Layer) -> Result<(), RunFault>
+pub fn apply_edits<G: Geometry>(
+    edits: Vec<Edit<G>>,
+    left: &mut Layer<G>,
+    right: &mut Layer<G>,
+) -> Result<(), RunFault>
     requires { length edits.items < 2 ^ 32 }
     ensures ok { OnOk result
         (edits_give 1 (both left.old.list right.old.list) (map content_of edits.items)

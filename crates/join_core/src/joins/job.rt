@@ -1,25 +1,23 @@
 //! The description of a join: its condition and its product.
 
-use options_core::Options;
+use options_core::{Options, Product};
 use relation_core::JoinRelation;
 use wkt_core::Scale;
 
-/// The output that a join makes of its pairs.
-#[derive(Clone, Copy, Debug, PartialEq, Eq)]
-pub enum Product {
-    /// A CSV record for each pair, in layer order, with the letters of its matrix.
-    Report,
-    /// The features of both layers as SVG, with those that occur in a pair highlighted.
-    Picture,
-}
-
 /// A join of two layers after edits: which features are pairs, and the output made of them.
 #[derive(Clone, Copy, Debug, PartialEq, Eq)]
-pub struct JoinJob {
+pub struct JoinJob<C> {
+    /// How geometries are read, and which two are a pair.
+    pub condition: C,
+    pub options: Options,
+    pub product: Product,
+}
+
+/// The condition of a join of boxes.
+#[derive(Clone, Copy, Debug, PartialEq, Eq)]
+pub struct BoxCondition {
     /// The number of decimals that coordinates of the layers and the edits may have.
     pub scale: Scale,
     /// The relation of the two features of a pair.
     pub relation: JoinRelation,
-    pub options: Options,
-    pub product: Product,
 }

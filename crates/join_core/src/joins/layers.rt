@@ -7,9 +7,9 @@ ghost use Rattle.join_core.specs.Inputs.{LayerFile, Builds, Reads};
 ghost use Rattle.join_core.specs.JoinRuns.{IsLayersFault, first_fault};
 
 use crate::fault::{Input, RunFault};
-use crate::layer_input::LayerReader;
-use file_core::{ReadFault, Source, read_all};
-use layer_core::Layer;
+use crate::layer_input::{build_layer, read_layer};
+use file_core::{Format, LayerReader, ReadFault, Source, read_all};
+use layer_core::{Geometry, Layer};
 use std::hash::RandomState;
 use std::thread::Threads;
 use std::{mem, thread};
@@ -20,20 +20,20 @@ use std::{mem, thread};
 /// layer built, in parallel if there is more than one thread; each build may itself use several
 /// threads, as `reader` says. If the left source fails, its fault is returned at once and the right
 /// source isn't read. A failing right source comes before a fault in the bytes of the left.
-pub(crate) fn read_layers<R: Threads + Sync, A: Source, B: Source>(
-    reader: &LayerReader<'_, R>,
+pub(crate) fn read_layers<R: Threads + Sync, F: Format, A: Source, B: Source>(
+    reader: &LayerReader<'_, F, R>,
     states: (RandomState, RandomState),
     left: &mut A,
     right: &mut B,
-) -> Result<(Layer, Layer), RunFault>
+) -> Result<(Layer<F::Geometry>, Layer<F::Geometry>), RunFault>
     requires left { A.has_failed left.old ≡ false }
     requires right { B.has_failed right.old ≡ false }
     ensures left { IfOk result (λ both.
-        LayerFile reader.now.scale (A.remaining left.old) (Ok both.0.list)) }
+        LayerFile (F.reads reader.now.format) (A.remaining left.old) (Ok both.0.list)) }
     ensures right { IfOk result (λ both.
-        LayerFile reader.now.scale (B.remaining right.old) (Ok both.1.list)) }
+        LayerFile (F.reads reader.now.format) (B.remaining right.old) (Ok both.1.list)) }
     ensures fault { IfErr result
-        (IsLayersFault reader.now.scale (A.remaining left.old) (B.remaining right.old)) }
+        (IsLayersFault (F.reads reader.now.format) (A.remaining left.old) (B.remaining right.old)) }
     ensures left_io { IsErrOf result (RunFault.Read Input.Left ReadFault.Io)
         ↔ IsTrue (A.has_failed left.new) }
     ensures right_io { IsErrOf result (RunFault.Read Input.Right ReadFault.Io)
@@ -64,26 +64,29 @@ fn first_fault(left: Option<ReadFault>, right: ReadFault) -> RunFault
 }
 
 /// The layer of the left file's bytes, and the layer of the right source.
-fn build_and_read<R: Threads + Sync, B: Source>(
-    reader: &LayerReader<'_, R>,
+fn build_and_read<R: Threads + Sync, F: Format, B: Source>(
+    reader: &LayerReader<'_, F, R>,
     states: (RandomState, RandomState),
     mut left: Vec<u8>,
     right: &mut B,
-) -> (Result<Layer, ReadFault>, Result<Layer, ReadFault>)
+) -> (
+    Result<Layer<F::Geometry>, ReadFault>,
+    Result<Layer<F::Geometry>, ReadFault>,
+)
     requires { B.has_failed right.old ≡ false }
-    ensures left { Builds reader.now.scale left.items result.0 }
-    ensures right { Reads reader.now.scale (B.remaining right.old) result.1 }
+    ensures left { Builds (F.reads reader.now.format) left.items result.0 }
+    ensures right { Reads (F.reads reader.now.format) (B.remaining right.old) result.1 }
     ensures right_io { IsErrOf result.1 ReadFault.Io ↔ IsTrue (B.has_failed right.new) }
 {
     let (left_state, right_state) = states;
-    let mut build_left = || -> Result<Layer, ReadFault>
-        ensures { Builds reader.entry.now.scale left.entry.items result }
+    let mut build_left = || -> Result<Layer<F::Geometry>, ReadFault>
+        ensures { Builds (F.reads reader.entry.now.format) left.entry.items result }
     { build_taken(reader, left_state, &mut left) };
-    let mut read_right = || -> Result<Layer, ReadFault>
+    let mut read_right = || -> Result<Layer<F::Geometry>, ReadFault>
         requires { B.has_failed right.now ≡ false }
-        ensures reads { Reads reader.entry.now.scale (B.remaining right.entry.now) result }
+        ensures reads { Reads (F.reads reader.entry.now.format) (B.remaining right.entry.now) result }
         ensures io { IsErrOf result ReadFault.Io ↔ IsTrue (B.has_failed right.exit.now) }
-    { reader.read(right_state, right) };
+    { read_layer(reader, right_state, right) };
     if reader.threads > 1 {
         thread::join_mut(reader.rt, &mut build_left, &mut read_right)
     } else {
@@ -93,19 +96,24 @@ fn build_and_read<R: Threads + Sync, B: Source>(
 
 /// The layer of a file's bytes, which are taken out of `bytes`, since the closure that calls this
 /// only borrows them.
-fn build_taken<R: Threads + Sync>(
-    reader: &LayerReader<'_, R>,
+fn build_taken<R: Threads + Sync, F: Format>(
+    reader: &LayerReader<'_, F, R>,
     state: RandomState,
     bytes: &mut Vec<u8>,
-) -> Result<Layer, ReadFault>
-    ensures { Builds reader.now.scale bytes.old.items result }
+) -> Result<Layer<F::Geometry>, ReadFault>
+    ensures { Builds (F.reads reader.now.format) bytes.old.items result }
 {
     let taken = mem::replace(bytes, Vec::new(reader.alloc));
-    reader.build(state, taken)
+    build_layer(reader, state, taken)
 }
 
 /// Frees both layers, in parallel if there is more than one worker.
-pub(crate) fn free_layers<R: Threads>(rt: &R, left: Layer, right: Layer, workers: u32) {
+pub fn free_layers<R: Threads, G: Geometry + Send>(
+    rt: &R,
+    left: Layer<G>,
+    right: Layer<G>,
+    workers: u32,
+) {
     if workers > 1 {
         thread::join(rt, move || drop(left), move || drop(right));
     }

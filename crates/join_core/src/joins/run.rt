@@ -1,42 +1,38 @@
-//! Joins of two layer files after a file of edits, and the output made of their pairs.
+//! Joins of two files of layers of boxes after a file of edits.
 
 ghost use Rattle.std.specs.Prelude.{◌≡◌, ◌<◌, Ok, Err, false, IfOk, IfErr, IsErrOf};
-ghost use Rattle.relation_core.specs.JoinRelations.{relation_of};
+ghost use Rattle.file_core.specs.Formats.{ReadsBox};
 ghost use Rattle.layer_core.specs.Edits.{both};
 ghost use Rattle.draw_core.specs.Limits.{most_drawn};
-ghost use Rattle.parallel_core.specs.Faults.{IsWant};
-ghost use Rattle.join_core.specs.DrawRuns.{IsLateDrawFault, features_of};
+ghost use Rattle.join_core.specs.DrawRuns.{features_of};
 ghost use Rattle.join_core.specs.Inputs.{BlamesInput};
-ghost use Rattle.join_core.specs.Joins.{IsJoinList};
-ghost use Rattle.join_core.specs.JoinRuns.{files_of, IsLateFault, IsJoinFault, JoinGives};
-ghost use Rattle.join_core.specs.Products.{IsReported, IsDrawn, IsLateProductFault};
-ghost use Rattle.join_core.specs.Products.{JobGives, IsMade, IsJobFault};
+ghost use Rattle.join_core.specs.Joinings.{box_joining};
+ghost use Rattle.join_core.specs.JoinRuns.{files_of, IsJoinFault, JoinGives};
+ghost use Rattle.join_core.specs.Products.{ProductGives, IsProduct, IsProductFault};
+ghost use Rattle.join_core.specs.Products.{IsLateProductFault};
 ghost use Rattle.join_core.specs.Runs.{NoTextFault, RunEnds};
 ghost use Rattle.join_core.specs.SourceStates.{AreFresh, HasFailed, TellsFailures};
 ghost use Rattle.join_core.specs.Texts.{bytes_of_text};
 
 use super::edited::edited_layers;
-use super::job::{JoinJob, Product};
+use super::job::{BoxCondition, JoinJob};
 use super::layers::free_layers;
-use super::pairs::join_layers;
+use super::output::{Output, can_be_made};
 use super::sources::JoinSources;
 use crate::fault::RunFault;
-use crate::layer_input::LayerReader;
 use crate::text::Text;
-use deliver_core::Outcome;
-use draw_core::{can_be_drawn, picture};
-use file_core::Source;
+use file_core::{LayerReader, Source};
+use filter_core::join_layers;
 use layer_core::Layer;
-use options_core::Options;
-use parallel_core::JoinFault;
+use options_core::{Options, Product};
 use relation_core::JoinRelation;
-use report_core::{Sink, report_texts};
+use report_core::Sink;
 use std::hash::RandomState;
 use std::sync::Wait;
 use std::thread::Threads;
 use wkt_core::Scale;
 
-impl JoinJob {
+impl JoinJob<BoxCondition> {
     /// Writes the product of a join of two layers, after the edits of both. `states` hash the ids
     /// of the two layers.
     ///
@@ -60,8 +56,11 @@ impl JoinJob {
         requires sources { AreFresh A.has_failed B.has_failed E.has_failed sources.old }
         requires sink { S.has_failed sink.old ≡ false }
         ensures { let job = self.now in
-            let files = files_of job.scale A.remaining B.remaining E.remaining sources.old in
-            RunEnds (JobGives job files) NoTextFault (IsJobFault job files)
+            let joining = box_joining job.condition.relation in
+            let reads = ReadsBox job.condition.scale in
+            let files = files_of reads A.remaining B.remaining E.remaining sources.old in
+            RunEnds (ProductGives job.product joining files) NoTextFault
+            (IsProductFault job.product files)
             (HasFailed A.has_failed B.has_failed E.has_failed sources.new)
             S.written S.is_flushed S.has_failed sink.old sink.new result }
     {
@@ -70,7 +69,7 @@ impl JoinJob {
     }
 }
 
-/// Writes the report of a join of two layers, after the edits of both. All else is as
+/// Writes the report of a join of two layers of boxes, after the edits of both. All else is as
 /// [`JoinJob::run`] says.
 pub fn run_join<R: AllocGlobal + Threads + Wait + Sync, A: Source, B: Source, E: Source, S: Sink>(
     rt: &R,
@@ -83,14 +82,18 @@ pub fn run_join<R: AllocGlobal + Threads + Wait + Sync, A: Source, B: Source, E:
 ) -> Result<(), RunFault>
     requires sources { AreFresh A.has_failed B.has_failed E.has_failed sources.old }
     requires sink { S.has_failed sink.old ≡ false }
-    ensures { let files = files_of scale A.remaining B.remaining E.remaining sources.old in
-        RunEnds (JoinGives (relation_of relation.now) files) NoTextFault (IsJoinFault files)
+    ensures { let reads = ReadsBox scale in
+        let files = files_of reads A.remaining B.remaining E.remaining sources.old in
+        RunEnds (JoinGives (box_joining relation.now) files) NoTextFault (IsJoinFault files)
         (HasFailed A.has_failed B.has_failed E.has_failed sources.new)
         S.written S.is_flushed S.has_failed sink.old sink.new result }
 {
-    let job = JoinJob {
+    let condition = BoxCondition {
         scale,
         relation: *relation,
+    };
+    let job = JoinJob {
+        condition,
         options: *options,
         product: Product::Report,
     };
@@ -101,7 +104,7 @@ pub fn run_join<R: AllocGlobal + Threads + Wait + Sync, A: Source, B: Source, E:
 #[derive(Drop)]
 struct JoinRun<'a, R> {
     rt: &'a R,
-    job: &'a JoinJob,
+    job: &'a JoinJob<BoxCondition>,
 }
 
 impl<R: AllocGlobal + Threads + Wait + Sync> JoinRun<'_, R> {
@@ -115,8 +118,11 @@ impl<R: AllocGlobal + Threads + Wait + Sync> JoinRun<'_, R> {
         requires sources { AreFresh A.has_failed B.has_failed E.has_failed sources.old }
         requires sink { S.has_failed sink.old ≡ false }
         ensures { let job = self.now.job.now in
-            let files = files_of job.scale A.remaining B.remaining E.remaining sources.old in
-            RunEnds (JobGives job files) NoTextFault (IsJobFault job files)
+            let joining = box_joining job.condition.relation in
+            let reads = ReadsBox job.condition.scale in
+            let files = files_of reads A.remaining B.remaining E.remaining sources.old in
+            RunEnds (ProductGives job.product joining files) NoTextFault
+            (IsProductFault job.product files)
             (HasFailed A.has_failed B.has_failed E.has_failed sources.new)
             S.written S.is_flushed S.has_failed sink.old sink.new result }
     {
@@ -133,21 +139,28 @@ impl<R: AllocGlobal + Threads + Wait + Sync> JoinRun<'_, R> {
     ) -> Result<Text, RunFault>
         requires { AreFresh A.has_failed B.has_failed E.has_failed sources.old }
         ensures ok { let job = self.now.job.now in
-            let files = files_of job.scale A.remaining B.remaining E.remaining sources.old in
-            IfOk result (λ text. JobGives job files (Ok (bytes_of_text text))) }
+            let joining = box_joining job.condition.relation in
+            let reads = ReadsBox job.condition.scale in
+            let files = files_of reads A.remaining B.remaining E.remaining sources.old in
+            let gives = ProductGives job.product joining files in
+            IfOk result (λ text. gives (Ok (bytes_of_text text))) }
         ensures fault { let job = self.now.job.now in
-            let files = files_of job.scale A.remaining B.remaining E.remaining sources.old in
-            IfErr result (λ f. BlamesInput f → JobGives job files (Err f)) }
+            let joining = box_joining job.condition.relation in
+            let reads = ReadsBox job.condition.scale in
+            let files = files_of reads A.remaining B.remaining E.remaining sources.old in
+            let gives = ProductGives job.product joining files in
+            IfErr result (λ f. BlamesInput f → gives (Err f)) }
         ensures faults { let job = self.now.job.now in
-            let files = files_of job.scale A.remaining B.remaining E.remaining sources.old in
-            IfErr result (IsJobFault job files) }
+            let reads = ReadsBox job.condition.scale in
+            let files = files_of reads A.remaining B.remaining E.remaining sources.old in
+            IfErr result (IsProductFault job.product files) }
         ensures io { TellsFailures A.has_failed B.has_failed E.has_failed sources.new result }
     {
         let workers = self.job.options.workers();
         let reader = LayerReader {
             rt: self.rt,
             alloc: self.rt.alloc(),
-            scale: self.job.scale,
+            format: self.job.condition.scale,
             threads: workers,
         };
         let (left, right) = edited_layers(&reader, states, sources)?;
@@ -158,60 +171,28 @@ impl<R: AllocGlobal + Threads + Wait + Sync> JoinRun<'_, R> {
 
     /// The product of two layers.
     fn product(&self, left: &Layer, right: &Layer) -> Result<Text, RunFault>
-        ensures ok { let layers = both left.now.list right.now.list in
-            IfOk result (λ text. IsMade self.now.job.now layers (bytes_of_text text)) }
+        ensures ok { let job = self.now.job.now in
+            let joining = box_joining job.condition.relation in
+            let layers = both left.now.list right.now.list in
+            IfOk result (λ text. IsProduct job.product joining layers (bytes_of_text text)) }
         ensures many { let layers = both left.now.list right.now.list in
             IsErrOf result RunFault.TooManyToDraw → most_drawn < features_of layers }
         ensures err { IfErr result (IsLateProductFault self.now.job.now.product) }
     {
-        match self.job.product {
-            Product::Report => self.report(left, right),
-            Product::Picture => self.picture(left, right),
-        }
-    }
-
-    /// The report of two layers.
-    fn report(&self, left: &Layer, right: &Layer) -> Result<Text, RunFault>
-        ensures ok { IfOk result (λ text. IsReported (relation_of self.now.job.now.relation)
-            (both left.now.list right.now.list) (bytes_of_text text)) }
-        ensures err { IfErr result IsLateFault }
-    {
-        let outcome = self.join(left, right)?;
-        let pairs = outcome.pairs();
-        let workers = self.job.options.workers();
-        let reported = report_texts(self.rt, left, right, pairs, workers);
-        Ok(Text::Report(reported?))
-    }
-
-    /// The picture of two layers.
-    fn picture(&self, left: &Layer, right: &Layer) -> Result<Text, RunFault>
-        ensures ok { IfOk result (λ text. IsDrawn (relation_of self.now.job.now.relation)
-            (both left.now.list right.now.list) (bytes_of_text text)) }
-        ensures many { let layers = both left.now.list right.now.list in
-            IsErrOf result RunFault.TooManyToDraw → most_drawn < features_of layers }
-        ensures err { IfErr result IsLateDrawFault }
-    {
-        if !can_be_drawn(left, right) {
+        let JoinJob {
+            condition,
+            options,
+            product,
+        } = self.job;
+        if !can_be_made(*product, left, right) {
             return Err(RunFault::TooManyToDraw);
         }
-        let outcome = self.join(left, right)?;
-        let pairs = outcome.pairs();
-        let drawn = picture(self.rt.alloc(), left, right, pairs)?;
-        Ok(Text::Picture(drawn))
-    }
-
-    /// The pairs of two layers.
-    fn join(&self, left: &Layer, right: &Layer) -> Result<Outcome, JoinFault>
-        ensures pairs { IfOk result (λ outcome.
-            IsJoinList (relation_of self.now.job.now.relation) left.now.list right.now.list
-            outcome.pairs) }
-        ensures err { IfErr result IsWant }
-    {
-        let JoinJob {
-            relation,
-            options,
-            ..
-        } = self.job;
-        join_layers(self.rt, left, right, relation, options)
+        let outcome = join_layers(self.rt, left, right, &condition.relation, options)?;
+        let output = Output {
+            rt: self.rt,
+            product: *product,
+            workers: options.workers(),
+        };
+        output.text(left, right, outcome.pairs())
     }
 }

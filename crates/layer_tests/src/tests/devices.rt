@@ -102,10 +102,13 @@ fn lengths_that_are_wrong(rt: HostRuntime) -> Result<(), Fail> {
 }
 
 /// The layer of this text, read one byte at a time.
-fn layer_bytewise(rt: &HostRuntime, text: &[u8]) -> Result<Layer, Fail> {
-    let (state, scale) = (RandomState::new(rt)?, whole()?);
+fn layer_bytewise<R: Threads + Sync + RandomSource + AllocGlobal>(
+    rt: &R,
+    text: &[u8],
+) -> Result<Layer, Fail> {
+    let state = RandomState::new(rt)?;
     let mut source = FromRead::new(Device::new(text, 1, 1_000));
-    Ok(read_layer(rt.alloc(), state, &mut source, scale)?)
+    Ok(reader(rt, whole()?, 1).read_layer(state, &mut source)?)
 }
 
 #[test]

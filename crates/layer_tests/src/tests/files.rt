@@ -4,6 +4,7 @@ ghost use Rattle.std.specs.Prelude.{◌≡◌, false};
 
 use super::devices::{Device, Endless};
 use super::*;
+use wkt_any_core::GeometryFault;
 use wkt_core::WktFault;
 
 const BROKEN_LAYERS: &[(&[u8], ReadFault)] = &[
@@ -77,10 +78,14 @@ fn edits_fault(alloc: Global, bytes: &[u8]) -> Result<Option<ReadFault>, Fail> {
 }
 
 /// The fault of reading a layer from this source, if it has one.
-fn fault_from<S: Source>(rt: &HostRuntime, source: &mut S) -> Result<Option<ReadFault>, Fail>
+fn fault_from<S: Source, R: Threads + Sync + RandomSource + AllocGlobal>(
+    rt: &R,
+    source: &mut S,
+) -> Result<Option<ReadFault>, Fail>
     requires { S.has_failed source.old ≡ false }
 {
-    Ok(read_layer(rt.alloc(), RandomState::new(rt)?, source, whole()?).err())
+    let state = RandomState::new(rt)?;
+    Ok(reader(rt, whole()?, 1).read_layer(state, source).err())
 }
 
 /// The file of a layer whose second read fails.
@@ -266,6 +271,11 @@ const FAULTS: &[(ReadFault, &str, Option<u32>)] = &[
         ReadFault::Wkt(4_000_000_000, WktFault::Text),
         "row 4000000000: not a geometry text",
         Some(4_000_000_000),
+    ),
+    (
+        ReadFault::Geometry(3, GeometryFault::Rings),
+        "row 3: rings cross or overlap",
+        Some(3),
     ),
     (
         ReadFault::Layer(12, LayerFault::DoubleId),

@@ -33,7 +33,7 @@ fn features_of<R: Threads + Sync + RandomSource + AllocGlobal>(
     bytes: &[u8],
 ) -> Result<FeatureList, Fail> {
     let state = RandomState::new(rt)?;
-    Ok(features_of_bytes(rt.alloc(), state, bytes, whole()?, 2, rt)?)
+    Ok(reader(rt, whole()?, 2).features_of_bytes(state, bytes)?)
 }
 
 /// The counts of features without a tree, if the first of them is the point a at (4 4).

@@ -1,11 +1,11 @@
 use Rattle.std.proofs.Common.{refl, sym, subst}
-use Rattle.arrangement_core.specs.Near.{LiesIn}
+use Rattle.arrangement_core.specs.Lying.{LiesIn}
 use Rattle.arrangement_core.proofs.ClearLemmas.{lies_clear}
 use Rattle.arrangement_core.proofs.known.seen_along.Goals as goal
 
 pub returns-then-is_clear : goal.returns-then-is_clear
 returns-then-is_clear c =
-    let o = c.args.pair.now.second in
+    let o = c.args.pair.now.second.now in
     let e = c.args.e.now in
     let holds = c.if-is_clear.true in
     record {

@@ -2,8 +2,8 @@ use Rattle.std.proofs.Common.{rules, subst, map, List}
 use Rattle.relation_core.specs.declared.extent.Extent.TheVariants.{Point as Dot}
 use Rattle.plane_core.specs.declared.vertex.Vertex.{Vertex}
 use Rattle.plane_core.specs.Points.{at}
-use Rattle.arrangement_core.specs.Growth.{mark_at, HasGrownBy}
-use Rattle.arrangement_core.proofs.GrowthLemmas.{grown_more, grown_whole}
+use Rattle.noding_core.specs.Growth.{mark_at, HasGrownBy}
+use Rattle.noding_core.proofs.GrowthLemmas.{grown_more, grown_whole}
 use Rattle.arrangement_core.proofs.ShownLemmas.{point_marked}
 use Rattle.arrangement_core.proofs.marks.mark_each.Goals as goal
 

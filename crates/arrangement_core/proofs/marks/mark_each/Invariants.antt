@@ -1,7 +1,7 @@
 use Rattle.std.proofs.Common.{map, take}
 use Rattle.relation_core.specs.declared.extent.Extent.TheVariants.{Point as Dot}
 use Rattle.plane_core.specs.Points.{at}
-use Rattle.arrangement_core.specs.Growth.{HasGrownBy, mark_at}
+use Rattle.noding_core.specs.Growth.{HasGrownBy, mark_at}
 use Rattle.arrangement_core.proofs.marks.mark_each.Given as goal
 
 abbrev pub invariant-loop-v : goal.invariant-loop-v

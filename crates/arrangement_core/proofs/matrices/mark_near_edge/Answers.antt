@@ -1,24 +1,24 @@
 use Rattle.std.proofs.lemmas.List.Elements.{All-append}
 use Rattle.plane_core.specs.Figures.{HasLength}
-use Rattle.arrangement_core.specs.Near.{IsFound}
-use Rattle.arrangement_core.specs.ReadOffs.{outline_edges}
-use Rattle.arrangement_core.proofs.NodeLemmas.{all_among}
-use Rattle.arrangement_core.proofs.NearLemmas.{all_found_kept, near_nodes}
-use Rattle.arrangement_core.proofs.ReadOffLemmas.{edge_marked}
+use Rattle.noding_core.specs.Near.{IsFound}
+use Rattle.noding_core.specs.ReadOffs.{outline_edges}
+use Rattle.noding_core.proofs.NodeLemmas.{all_among}
+use Rattle.noding_core.proofs.NearLemmas.{all_found_kept, near_nodes}
+use Rattle.noding_core.proofs.ReadOffLemmas.{edge_marked}
 use Rattle.arrangement_core.proofs.ShownLemmas.{cuts_at}
 use Rattle.arrangement_core.proofs.matrices.mark_near_edge.Goals as goal
 
 pub gather_nodes-requires : goal.gather_nodes-requires
 gather_nodes-requires c =
     let e = c.args.course.now.edge in
-    let es = outline_edges c.args.pair.now.first c.args.pair.now.second in
+    let es = outline_edges c.args.pair.now.first.now c.args.pair.now.second.now in
     all_among HasLength e es c.requires.one.edges.long (c.requires.one.edges.first e c.requires.one.one)
 
 pub mark_noded-marked-requires-clause-cuts : goal.mark_noded-marked-requires-clause-cuts
 mark_noded-marked-requires-clause-cuts c =
     let e = c.args.course.now.edge in
-    let a = c.args.pair.now.first in
-    let b = c.args.pair.now.second in
+    let a = c.args.pair.now.first.now in
+    let b = c.args.pair.now.second.now in
     let near = c.in_ok-push_near.ensures in
     let found = All-append (IsFound e _) a.edges.items b.edges.items near.found (all_found_kept e _ _ b.edges.items near.kept c.requires.found) in
     cuts_at _ _ _ _ _ _ c.as_slice-nodes.result.now c.requires.one
@@ -27,8 +27,8 @@ mark_noded-marked-requires-clause-cuts c =
 pub returns-clause-marked : goal.returns-clause-marked
 returns-clause-marked c =
     let e = c.args.course.now.edge in
-    let a = c.args.pair.now.first in
-    let b = c.args.pair.now.second in
+    let a = c.args.pair.now.first.now in
+    let b = c.args.pair.now.second.now in
     let near = c.in_ok-push_near.ensures in
     let found = All-append (IsFound e _) a.edges.items b.edges.items near.found (all_found_kept e _ _ b.edges.items near.kept c.requires.found) in
     edge_marked _ _ _ _ _ _ c.as_slice-nodes.result.now _ _

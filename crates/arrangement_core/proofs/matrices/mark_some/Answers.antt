@@ -1,6 +1,6 @@
 use Rattle.std.proofs.Common.{sym, subst, refl}
-use Rattle.arrangement_core.specs.ReadOffs.{outline_edges, IsOwn}
-use Rattle.arrangement_core.proofs.ReadOffLemmas.{marked_none, marked_more, marked_whole}
+use Rattle.noding_core.specs.ReadOffs.{outline_edges, IsOwn}
+use Rattle.noding_core.proofs.ReadOffLemmas.{marked_none, marked_more, marked_whole}
 use Rattle.arrangement_core.proofs.ShownLemmas.{edges_of_first}
 use Rattle.arrangement_core.proofs.matrices.mark_some.Goals as goal
 
@@ -9,8 +9,8 @@ loop-e-init c = record { marked = marked_none _ _ _ _ _; seen = c.requires.seen 
 
 pub mark_edge-requires-clause-one : goal.mark_edge-requires-clause-one
 mark_edge-requires-clause-one c =
-    let a = c.args.pair.now.first in
-    let b = c.args.pair.now.second in
+    let a = c.args.pair.now.first.now in
+    let b = c.args.pair.now.second.now in
     record {
       edges = edges_of_first a b (outline_edges a b) c.requires.long refl;
       one = subst (IsOwn a) (sym c.e-item.is) (c.requires.own c.loop-e.e-index c.e-item.result c.loop-e-test.true);

@@ -10,13 +10,13 @@ use Rattle.file_core.proofs.BatchLemmas.{say-push, says-any, batch-refused, batc
 use Rattle.file_core.proofs.batch.fill.Goals as goal
 
 pub returns-in_err-reserve-clause-batch : goal.returns-in_err-reserve-clause-batch
-returns-in_err-reserve-clause-batch c =
+returns-in_err-reserve-clause-batch g c =
     let none = c.reserve.ensures.items ∙ c.requires.empty in
     let p = err_from_is_err_and c.from_residual.result c.from_residual.ensures.1 in
-    rw (none, p.1, p.2) (batch-refused c.args.scale (Rows c.args.rows.now) (Rows c.args.rows.now) [] (rows_left c.args.rows.now) refl (All-nil HasId))
+    rw (none, p.1, p.2) (batch-refused (g.F.Format.reads c.args.reader.format) (Rows c.args.rows.now) (Rows c.args.rows.now) [] (rows_left c.args.rows.now) refl (All-nil HasId))
 
 pub loop-init : goal.loop-init
-loop-init c =
+loop-init g c =
     let none = c.reserve.ensures.items ∙ c.requires.empty in
     let few = ap length none in
     record {
@@ -30,45 +30,45 @@ loop-init c =
     }
 
 pub returns-in_err-next-clause-batch : goal.returns-in_err-next-clause-batch
-returns-in_err-next-clause-batch c =
+returns-in_err-next-clause-batch g c =
     let p = err_from_is_err_and c.from_residual-in_err-next.result c.from_residual-in_err-next.ensures.1 in
     rw (p.1, p.2)
-    (batch-refused c.args.scale (Rows c.args.rows.now) _ c.loop.read.items (rows_left c.loop.rows) c.loop.invariant.rows
+    (batch-refused (g.F.Format.reads c.args.reader.format) (Rows c.args.rows.now) _ c.loop.read.items (rows_left c.loop.rows) c.loop.invariant.rows
     c.loop.invariant.ids)
 
 pub returns-in_default-clause-batch : goal.returns-in_default-clause-batch
-returns-in_default-clause-batch c =
-    batch-ended c.args.scale (Rows c.args.rows.now) _ c.loop.read.items (rows_left c.loop.rows) c.loop.invariant.rows
+returns-in_default-clause-batch g c =
+    batch-ended (g.F.Format.reads c.args.reader.format) (Rows c.args.rows.now) _ c.loop.read.items (rows_left c.loop.rows) c.loop.invariant.rows
     c.loop.invariant.ids (rw c.in_default.is at c.in_ok-next.ensures).none_left
 
 pub returns-in_default-clause-closed : goal.returns-in_default-clause-closed
-returns-in_default-clause-closed c done unended =
+returns-in_default-clause-closed g c done unended =
     let ended = rw c.in_default.is at c.in_ok-next.ensures in
     c.loop.invariant.closed (sym ended.same ∙ unended) (rw ended.none_left (All-nil IsClosed))
 
 pub returns-in_err-row-clause-batch : goal.returns-in_err-row-clause-batch
-returns-in_err-row-clause-batch c =
+returns-in_err-row-clause-batch g c =
     let reads = rw c.in-Some.is at c.in_ok-next.ensures in
     let fault = c.in_err-row.field-0.0 in
     let p = err_from_is_err_and c.from_residual-in_err-row.result c.from_residual-in_err-row.ensures.1 in
     let at : c.in-Some.number ≡ c.args.rows.now.count + 1 + length c.loop.read.items =
     omega (arith, reads.numbered, c.loop.invariant.counted, c.loop.read.ok.0) in
     rw (p.1, p.2)
-    (batch-faulty c.args.scale (Rows c.args.rows.now) _ c.loop.read.items (rows_left c.loop.rows) c.loop.invariant.rows
+    (batch-faulty (g.F.Format.reads c.args.reader.format) (Rows c.args.rows.now) _ c.loop.read.items (rows_left c.loop.rows) c.loop.invariant.rows
     c.loop.invariant.ids fault (λ e. c.in_err-row.ensures.no_io (ap Err e))
     (λ known. rw (reads.row, ← at, ← c.row-record.ensures) (c.in_err-row.ensures.fault known)))
 
 pub loop-preserved : goal.loop-preserved
-loop-preserved c =
+loop-preserved g c =
     let reads = rw c.in-Some.is at c.in_ok-next.ensures in
     let say = rw reads.row at c.loop.invariant.rows in
     let row = c.in_ok-row.row in
     record {
       reading = reads.reading;
       rows = rw c.push_reserved.ensures.items
-          (say-push c.args.scale (rows_left c.args.rows.now) c.loop.read.items _ row
+          (say-push (g.F.Format.reads c.args.reader.format) (rows_left c.args.rows.now) c.loop.read.items _ row
           _ say
-          (says-any c.args.scale c.in-Some.number _ (content_of row) (rw (← c.row-record.ensures) c.in_ok-row.ensures.says)));
+          (says-any (g.F.Format.reads c.args.reader.format) c.in-Some.number _ (content_of row) (rw (← c.row-record.ensures) c.in_ok-row.ensures.says)));
       counted = omega (arith, reads.numbered, reads.counted, c.loop.invariant.counted, c.push_reserved.ensures.len);
       ids = rw c.push_reserved.ensures.items (All-push HasId c.loop.read.items row c.loop.invariant.ids c.in_ok-row.ensures.id);
       closed = λ unended all. c.loop.invariant.closed (reads.closed unended).0
@@ -78,7 +78,7 @@ loop-preserved c =
     }
 
 pub returns-clause-batch : goal.returns-clause-batch
-returns-clause-batch c =
+returns-clause-batch g c =
     let inv = c.loop.invariant in
     let count = c.loop.read.ok.0 in
     record {

@@ -6,6 +6,6 @@ pub returns : goal.returns
 returns g c =
     let unread = rw c.in-Text.is at c.requires in
     rw c.in-Text.is
-    (parts-batch c.args.scale c.in-Text.text _ c.in-Text.count c.in_ok-behind.behind _ c.in_ok-rows.field-0 unread
+    (parts-batch (g.F.Format.reads c.args.reader.format) c.in-Text.text _ c.in-Text.count c.in_ok-behind.behind _ c.in_ok-rows.field-0 unread
     (search) c.in_ok-rows.ensures (c.is_plain.ensures (search)) (omega (arith, c.in_ok-behind.ensures, c.in_ok-rows.read-is))
     (omega (arith, c.in_ok-rows.read-is)))

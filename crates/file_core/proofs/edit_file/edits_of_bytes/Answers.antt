@@ -5,7 +5,7 @@ use Rattle.layer_core.specs.Edits.{content_of}
 use Rattle.file_core.proofs.edit_file.edits_of_bytes.Goals as goal
 
 pub returns-in_err-edit-clause-file : goal.returns-in_err-edit-clause-file
-returns-in_err-edit-clause-file c =
+returns-in_err-edit-clause-file g c =
     let reads = rw c.in-Some.is at c.in_ok-number.ensures in
     let fault = c.in_err-edit.field-0.0 in
     let p = err_from_is_err_and c.from_residual-in_err-edit.result c.from_residual-in_err-edit.ensures.1 in
@@ -15,7 +15,7 @@ returns-in_err-edit-clause-file c =
     c.loop-edits.invariant.2 (Err fault) (rw reads.row (Err fault, (Err fault, gives, refl), refl)))
 
 pub loop-edits-preserved : goal.loop-edits-preserved
-loop-edits-preserved c =
+loop-edits-preserved g c =
     let reads = rw c.in-Some.is at c.in_ok-number.ensures in
     let items : c.push_reserved.new.self.items ≡ c.loop-edits.edits.items ++ (c.in_ok-edit.edit ∷ []) = cc in
     let edits = ap (map content_of) items ∙ map-append content_of c.loop-edits.edits.items (c.in_ok-edit.edit ∷ []) in

@@ -1,7 +1,6 @@
 use Rattle.std.proofs.Common.{◌+◌, ◌≤◌, List, Result, length, map}
 use Rattle.file_core.specs.declared.read_fault.ReadFault.{ReadFault}
 use Rattle.file_core.specs.EditFiles.{IsEditFile, EditsRowGives}
-use Rattle.geom_core.specs.declared.shape.Shape.{Shape}
 use Rattle.layer_core.specs.Edits.{EditContent, content_of}
 use Rattle.file_core.specs.Limits.{most_file_bytes}
 use Rattle.file_core.specs.Rows.{IsReading, RowsGive, rows_left}
@@ -9,11 +8,11 @@ use Rattle.file_core.proofs.edit_file.edits_of_bytes.Given as goal
 
 -- the remaining rows have the result of the file, and each row so far gave an edit
 abbrev pub invariant-loop-edits : goal.invariant-loop-edits
-invariant-loop-edits l =
+invariant-loop-edits g l =
     IsReading l.rows
     × (length l.edits.items + length (rows_left l.rows) ≤ most_file_bytes)
-    × ((answer : Result (List (EditContent Shape)) ReadFault) → RowsGive (EditsRowGives l.scale) (l.rows.count + 1) (map content_of l.edits.items)
-    (rows_left l.rows) answer → IsEditFile l.scale l.bytes answer)
+    × ((answer : Result (List (EditContent _)) ReadFault) → RowsGive (EditsRowGives (g.F.Format.reads l.fn.format)) (l.rows.count + 1) (map content_of l.edits.items)
+    (rows_left l.rows) answer → IsEditFile (g.F.Format.reads l.fn.format) l.bytes answer)
 
 abbrev pub decreases-loop-edits : goal.decreases-loop-edits
-decreases-loop-edits l = length (rows_left l.rows)
+decreases-loop-edits g l = length (rows_left l.rows)

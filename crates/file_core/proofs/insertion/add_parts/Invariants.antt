@@ -5,7 +5,7 @@ use Rattle.file_core.proofs.insertion.add_parts.Given as goal
 
 -- the remaining parts have the result of all parts
 abbrev pub invariant-loop-rows : goal.invariant-loop-rows
-invariant-loop-rows l = record {
+invariant-loop-rows g l = record {
   gives : with_rows l.fn.loading (all_rows l.fn.parts.items) ≡ with_rows l.loading (all_rows (into_iter_items l.rows-iterator));
   ids : All HasId (all_rows (into_iter_items l.rows-iterator));
 }

@@ -6,7 +6,7 @@ use Rattle.file_core.specs.Batches.{HasId, if_given, with_rows}
 use Rattle.file_core.proofs.insertion.add_rows.Goals as goal
 
 pub returns-in_err-add_row-clause-err : goal.returns-in_err-add_row-clause-err
-returns-in_err-add_row-clause-err c =
+returns-in_err-add_row-clause-err g c =
     let p = err_from_is_err_and c.from_residual.result c.from_residual.ensures.1 in
     rw (p.1, p.2)
     (λ known.
@@ -14,7 +14,7 @@ returns-in_err-add_row-clause-err c =
     ∙ ap (λ r. if_given r (λ l. with_rows l (into_iter_items c.next.new.self))) (c.in_err-add_row.ensures.err known))
 
 pub loop-row-preserved : goal.loop-row-preserved
-loop-row-preserved c =
+loop-row-preserved g c =
     let steps = c.in-Some.ensures.steps in
     record {
       gives = c.loop-row.invariant.gives ∙ ap (with_rows c.loop-row.loading) steps.0

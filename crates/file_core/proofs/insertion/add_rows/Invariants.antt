@@ -5,7 +5,7 @@ use Rattle.file_core.proofs.insertion.add_rows.Given as goal
 
 -- the remaining rows have the result of all rows
 abbrev pub invariant-loop-row : goal.invariant-loop-row
-invariant-loop-row l = record {
+invariant-loop-row g l = record {
   gives : with_rows l.fn.loading l.fn.rows.items ≡ with_rows l.loading (into_iter_items l.row-iterator);
   ids : All HasId (into_iter_items l.row-iterator);
 }

@@ -11,7 +11,7 @@ pub loop-round-init : goal.loop-round-init
 loop-round-init g c =
     let opened = c.in_ok-unread.ensures.ok in (
       c.in_ok-unread.unread,
-      c.read-unread.ensures,
+      c.read_next-unread.ensures,
       opened.none_read ∙ sym (ap (λ l. l.next) c.in_ok-loading.ensures),
       λ answer gives. (Ok (records_unread c.in_ok-unread.unread), opened.rows, rw (opened.none_read, c.in_ok-loading.ensures) at gives),
     )
@@ -28,10 +28,10 @@ loop-round-preserved g c =
     let given = c.in_ok-round.ensures.ok in (
       c.loop-round.round.unread,
       c.in_ok-round.ensures.read,
-      batch-counted c.args.scale inv.0 c.loop-round.round.unread rows c.loop-round.round.loading inv.2 next.loading batch given,
+      batch-counted (g.F.Format.reads c.args.reader.format) inv.0 c.loop-round.round.unread rows c.loop-round.round.loading inv.2 next.loading batch given,
       λ answer gives.
           inv.3 answer
-          (batch-goes-on c.args.scale inv.0 c.loop-round.round.unread rows c.loop-round.round.loading inv.2 next.loading answer batch given gives),
+          (batch-goes-on (g.F.Format.reads c.args.reader.format) inv.0 c.loop-round.round.unread rows c.loop-round.round.loading inv.2 next.loading answer batch given gives),
     )
 
 pub loop-round-smaller : goal.loop-round-smaller
@@ -42,7 +42,7 @@ loop-round-smaller g c =
     let next = c.in_ok-round.round in
     let P : Result Bool ReadFault → Type 0 = λ m. suc (most_rounds next.unread next.batch.more) ≤ most_rounds c.loop-round.round.unread m in
     subst P (sym more)
-    (batch-smaller c.args.scale c.loop-round.round.unread next.unread (all_rows next.batch.rows.items) next.batch.more c.in_ok-round.ensures.read)
+    (batch-smaller (g.F.Format.reads c.args.reader.format) c.loop-round.round.unread next.unread (all_rows next.batch.rows.items) next.batch.more c.in_ok-round.ensures.read)
 
 pub returns-in_err-round-clause-file : goal.returns-in_err-round-clause-file
 returns-in_err-round-clause-file g c =
@@ -52,7 +52,7 @@ returns-in_err-round-clause-file g c =
     rw (p.1, p.2)
     (λ known.
     inv.3 (Err fault)
-    (batch-refuses c.args.scale inv.0 c.loop-round.round.unread (all_rows c.loop-round.round.batch.rows.items) c.loop-round.round.loading inv.2
+    (batch-refuses (g.F.Format.reads c.args.reader.format) inv.0 c.loop-round.round.unread (all_rows c.loop-round.round.batch.rows.items) c.loop-round.round.loading inv.2
     c.loop-round.round.batch.more fault inv.1 (c.in_err-round.ensures.err (λ e. known (ap Err e)))))
 
 pub returns-clause-file : goal.returns-clause-file
@@ -64,5 +64,5 @@ returns-clause-file g c known =
       | in_default-2 w ↦ λ more. let is = w.in_default.is in absurd cc
     ] in
     inv.3 c.add_last.result
-    (batch-last c.args.scale inv.0 c.loop-round.round.unread (all_rows c.loop-round.round.batch.rows.items) c.loop-round.round.loading inv.2
+    (batch-last (g.F.Format.reads c.args.reader.format) inv.0 c.loop-round.round.unread (all_rows c.loop-round.round.batch.rows.items) c.loop-round.round.loading inv.2
     c.loop-round.round.batch.more c.add_last.result inv.1 last known (c.add_last.ensures.rows known))

@@ -4,7 +4,6 @@ use Rattle.file_core.specs.declared.unread.Unread.{Unread}
 use Rattle.file_core.specs.Batches.{IsBatch, all_rows}
 use Rattle.file_core.specs.LayerFiles.{IsLayerFile}
 use Rattle.file_core.specs.Unread.{count_unread}
-use Rattle.geom_core.specs.declared.shape.Shape.{Shape}
 use Rattle.layer_core.specs.Layers.{Contents}
 use Rattle.file_core.proofs.BatchLemmas.{Gives, most_rounds}
 use Rattle.file_core.proofs.layer_file.load.Given as goal
@@ -13,9 +12,9 @@ use Rattle.file_core.proofs.layer_file.load.Given as goal
 -- them has inserted a feature
 abbrev pub invariant-loop-round : goal.invariant-loop-round
 invariant-loop-round g l =
-    (old : Unread) × IsBatch l.scale old (all_rows l.round.batch.rows.items) l.round.batch.more l.round.unread
+    (old : Unread) × IsBatch (g.F.Format.reads l.reader.format) old (all_rows l.round.batch.rows.items) l.round.batch.more l.round.unread
     × (count_unread old ≡ l.round.loading.next)
-    × ((answer : Result (Contents Shape) ReadFault) → Gives l.scale old l.round.loading answer → IsLayerFile l.scale l.bytes answer)
+    × ((answer : Result (Contents _) ReadFault) → Gives (g.F.Format.reads l.reader.format) old l.round.loading answer → IsLayerFile (g.F.Format.reads l.reader.format) l.bytes answer)
 
 abbrev pub decreases-loop-round : goal.decreases-loop-round
 decreases-loop-round g l = most_rounds l.round.unread l.round.batch.more

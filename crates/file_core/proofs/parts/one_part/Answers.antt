@@ -5,7 +5,7 @@ use Rattle.file_core.specs.Batches.{all_rows}
 use Rattle.file_core.proofs.parts.one_part.Goals as goal
 
 pub returns : goal.returns
-returns c =
+returns g c =
     let good : is_ok c.push-pushed.result ≡ true = search rules in
     let items = rw good at c.push-pushed.ensures.items in
     record {

@@ -1,37 +1,47 @@
-use Rattle.std.proofs.Common.{refl, subst, arith, rules}
+use Rattle.std.proofs.Common.{ap, subst, arith, rules}
 use Rattle.std.proofs.lemmas.List.{take_all}
-use Rattle.report_core.specs.ReportRows.{AddsRows}
-use Rattle.report_core.proofs.ReportLemmas.{found, field_in, has_field, has_shape, none_added, pair_added}
+use Rattle.report_core.specs.Columns.{id_in}
+use Rattle.report_core.specs.ReportRows.{AddsRows, IsRowOf}
+use Rattle.report_core.proofs.ReportLemmas.{at_item, number_within, field_in, has_field, none_added, match_added}
 use Rattle.report_core.proofs.report.push_rows.Goals as goal
 
 pub loop-place-init : goal.loop-place-init
-loop-place-init c = none_added _ _ c.args.left.now.list c.args.right.now.list (search rules)
+loop-place-init g c = none_added _ _ _ (search rules)
 
 pub unwrap-left_id-requires : goal.unwrap-left_id-requires
-unwrap-left_id-requires c =
-    has_field _ _ (c.at-left_field.ensures _ c.requires.left_column (c.requires.left_within c.loop-place.place (0, 0) c.loop-place-test.true))
+unwrap-left_id-requires g c =
+    let a = c.index-matches-place in
+    has_field _ _ (c.at-left_field.ensures (id_in c.args.left.now.list) c.requires.columns.left_column
+    (number_within (λ a. (g.M.AsPair.pair_of a).0) _ _ _ _ _ c.requires.columns.left_within c.loop-place-test.true a.is
+    (ap (λ p. p.0) c.as_pair-pair.ensures)))
 
 pub unwrap-right_id-requires : goal.unwrap-right_id-requires
-unwrap-right_id-requires c =
-    has_field _ _ (c.at-right_field.ensures _ c.requires.right_column (c.requires.right_within c.loop-place.place (0, 0) c.loop-place-test.true))
+unwrap-right_id-requires g c =
+    let a = c.index-matches-place in
+    has_field _ _ (c.at-right_field.ensures (id_in c.args.right.now.list) c.requires.columns.right_column
+    (number_within (λ a. (g.M.AsPair.pair_of a).1) _ _ _ _ _ c.requires.columns.right_within c.loop-place-test.true a.is
+    (ap (λ p. p.1) c.as_pair-pair.ensures)))
+
+pub letters-letters-requires : goal.letters-letters-requires
+letters-letters-requires g c =
+    at_item (g.M.Match.is_match c.args.left.now.list c.args.right.now.list) _ _ _ c.requires.held c.loop-place-test.true c.index-matches-place.is
 
 pub loop-place-preserved : goal.loop-place-preserved
-loop-place-preserved c =
-    let i = c.loop-place.place in
-    let left_field = c.at-left_field.ensures _ c.requires.left_column (c.requires.left_within i (0, 0) c.loop-place-test.true) in
-    let right_field = c.at-right_field.ensures _ c.requires.right_column (c.requires.right_within i (0, 0) c.loop-place-test.true) in
-    pair_added _ _ _ _ _ _ i _ _ _ _ _ c.loop-place-test.true refl c.loop-place.invariant
-    (found _ _ _ _ (search) c.unwrap-left_shape.ensures (field_in _ _ _ left_field c.unwrap-left_id.ensures))
-    (found _ _ _ _ (search) c.unwrap-right_shape.ensures (field_in _ _ _ right_field c.unwrap-right_id.ensures))
-    _ _ c.of-matrix.ensures.is c.of-matrix.ensures.written (search rules)
+loop-place-preserved g c =
+    let a = c.index-matches-place in
+    let pair = c.as_pair-pair in
+    match_added g.M.AsPair.pair_of g.M.Match.is_matrix c.args.left.now.list c.args.right.now.list _ _ _ c.args.matches.now c.loop-place.place a.result
+    pair.result c.unwrap-left_id.result.now c.unwrap-right_id.result.now _ c.loop-place-test.true a.is pair.ensures c.loop-place.invariant
+    (field_in _ _ _ (c.at-left_field.ensures (id_in c.args.left.now.list) c.requires.columns.left_column
+    (number_within (λ a. (g.M.AsPair.pair_of a).0) _ _ _ _ _ c.requires.columns.left_within c.loop-place-test.true a.is
+    (ap (λ p. p.0) pair.ensures))) c.unwrap-left_id.ensures)
+    (field_in _ _ _ (c.at-right_field.ensures (id_in c.args.right.now.list) c.requires.columns.right_column
+    (number_within (λ a. (g.M.AsPair.pair_of a).1) _ _ _ _ _ c.requires.columns.right_within c.loop-place-test.true a.is
+    (ap (λ p. p.1) pair.ensures))) c.unwrap-right_id.ensures)
+    c.letters-letters.ensures (search rules)
 
 pub returns : goal.returns
-returns c =
-    subst (λ pairs. AddsRows c.args.left.now.list c.args.right.now.list pairs c.args.text.now.items c.loop-place.text.items)
-    (take_all c.loop-place.place c.args.pairs.now (omega arith)) c.loop-place.invariant
-
-pub unwrap-left_shape-requires : goal.unwrap-left_shape-requires
-unwrap-left_shape-requires c = has_shape _ _ (search) (c.requires.held c.loop-place.place (0, 0) c.loop-place-test.true).0
-
-pub unwrap-right_shape-requires : goal.unwrap-right_shape-requires
-unwrap-right_shape-requires c = has_shape _ _ (search) (c.requires.held c.loop-place.place (0, 0) c.loop-place-test.true).1
+returns g c =
+    let row = IsRowOf g.M.AsPair.pair_of g.M.Match.is_matrix c.args.left.now.list c.args.right.now.list in
+    subst (λ matches. AddsRows row matches c.args.text.now.items c.loop-place.text.items)
+    (take_all c.loop-place.place c.args.matches.now (omega arith)) c.loop-place.invariant

@@ -1,6 +1,7 @@
 use Rattle.std.proofs.Common.{take}
-use Rattle.report_core.specs.ReportRows.{AddsRows}
+use Rattle.report_core.specs.ReportRows.{AddsRows, IsRowOf}
 use Rattle.report_core.proofs.report.push_rows.Given as goal
 
 abbrev pub invariant-loop-place : goal.invariant-loop-place
-invariant-loop-place l = AddsRows l.left.list l.right.list (take l.place l.pairs) l.fn.text.items l.text.items
+invariant-loop-place g l =
+    AddsRows (IsRowOf g.M.AsPair.pair_of g.M.Match.is_matrix l.left.list l.right.list) (take l.place l.matches) l.fn.text.items l.text.items

@@ -2,7 +2,7 @@ use Rattle.std.proofs.Common.{subst}
 use Rattle.std.specs.Prelude.{Option}
 use Rattle.std.specs.Borrow.{Bor}
 use Rattle.layer_core.specs.Layers.{with_number, ShapeIs}
-use Rattle.any_join_core.specs.declared.geometry.AnyGeometry.{AnyGeometry}
+use Rattle.any_geometry_core.specs.declared.geometry.AnyGeometry.{AnyGeometry}
 use Rattle.any_join_core.proofs.DecisionLemmas.{decided}
 use Rattle.any_join_core.proofs.features.RelatedFeaturesCondition.decide.Goals as goal
 

@@ -12,24 +12,24 @@ returns-in_err-layers-clause-fault g c = layers_blamed _ c.from_residual.result 
 
 pub returns-in_err-layers-clause-faults : goal.returns-in_err-layers-clause-faults
 returns-in_err-layers-clause-faults g c =
-    let files = files_of c.args.reader.now.scale g.A.Source.remaining g.B.Source.remaining g.E.Source.remaining c.args.sources.now in
+    let files = files_of (g.F.Format.reads c.args.reader.now.format) g.A.Source.remaining g.B.Source.remaining g.E.Source.remaining c.args.sources.now in
     is_join_fault files c.from_residual.result _ _ c.from_residual.ensures.1 refl (layers_join_fault files _ c.in_err-layers.ensures.fault)
 
 pub returns-in_err-edit_layers-clause-fault : goal.returns-in_err-edit_layers-clause-fault
 returns-in_err-edit_layers-clause-fault g c =
-    let files = files_of c.args.reader.now.scale g.A.Source.remaining g.B.Source.remaining g.E.Source.remaining c.args.sources.now in
+    let files = files_of (g.F.Format.reads c.args.reader.now.format) g.A.Source.remaining g.B.Source.remaining g.E.Source.remaining c.args.sources.now in
     let r = c.from_residual-in_err-edit_layers in
     edits_blamed files _ _ c.in_ok-layers.ensures.left c.in_ok-layers.ensures.right r.result _ r.ensures.1 c.in_err-edit_layers.ensures.fault
 
 pub returns-in_err-edit_layers-clause-faults : goal.returns-in_err-edit_layers-clause-faults
 returns-in_err-edit_layers-clause-faults g c =
-    let files = files_of c.args.reader.now.scale g.A.Source.remaining g.B.Source.remaining g.E.Source.remaining c.args.sources.now in
+    let files = files_of (g.F.Format.reads c.args.reader.now.format) g.A.Source.remaining g.B.Source.remaining g.E.Source.remaining c.args.sources.now in
     let r = c.from_residual-in_err-edit_layers in
     edits_join_fault files _ _ c.in_ok-layers.ensures.left c.in_ok-layers.ensures.right r.result _ r.ensures.1 c.in_err-edit_layers.ensures.fault
 
 pub returns-clause-ok : goal.returns-clause-ok
 returns-clause-ok g c =
-    let files = files_of c.args.reader.now.scale g.A.Source.remaining g.B.Source.remaining g.E.Source.remaining c.args.sources.now in
+    let files = files_of (g.F.Format.reads c.args.reader.now.format) g.A.Source.remaining g.B.Source.remaining g.E.Source.remaining c.args.sources.now in
     layers_edited files _ _ c.in_ok-layers.ensures.left c.in_ok-layers.ensures.right _ c.in_ok-edit_layers.ensures.ok
 
 pub returns-in_err-layers-clause-io : goal.returns-in_err-layers-clause-io
@@ -38,8 +38,8 @@ returns-in_err-layers-clause-io g c =
     failed_at _ _ _ out
     (io_handed_on out _ _ _ c.from_residual.ensures.1 c.in_err-layers.ensures.left_io)
     (io_handed_on out _ _ _ c.from_residual.ensures.1 c.in_err-layers.ensures.right_io)
-    (edits_unread _ _ out _ c.requires.edits c.from_residual.ensures.1 (none_of_edits c.args.reader.now.scale _ _ _ c.in_err-layers.ensures.fault))
-    (is_join_kind out _ _ c.from_residual.ensures.1 refl (layers_join_kind c.args.reader.now.scale _ _ _ c.in_err-layers.ensures.fault))
+    (edits_unread _ _ out _ c.requires.edits c.from_residual.ensures.1 (none_of_edits (g.F.Format.reads c.args.reader.now.format) _ _ _ c.in_err-layers.ensures.fault))
+    (is_join_kind out _ _ c.from_residual.ensures.1 refl (layers_join_kind (g.F.Format.reads c.args.reader.now.format) _ _ _ c.in_err-layers.ensures.fault))
 
 pub returns-in_err-edit_layers-clause-io : goal.returns-in_err-edit_layers-clause-io
 returns-in_err-edit_layers-clause-io g c =

@@ -1,3 +1,4 @@
+use Rattle.file_core.specs.Formats.{ReadsBox}
 use Rattle.join_core.specs.JoinRuns.{files_of}
 use Rattle.join_core.specs.Products.{IsLateProductFault}
 use Rattle.join_core.proofs.JoinRunLemmas.{io_handed_on, io_before}
@@ -9,7 +10,7 @@ returns-in_err-left-clause-fault g c = no_product c.args.self.now.job.now.produc
 
 pub returns-in_err-left-clause-faults : goal.returns-in_err-left-clause-faults
 returns-in_err-left-clause-faults g c =
-    is_product_fault c.args.self.now.job.now.product (files_of c.args.self.now.job.now.scale g.A.Source.remaining g.B.Source.remaining g.E.Source.remaining c.args.sources.now)
+    is_product_fault c.args.self.now.job.now.product (files_of (ReadsBox c.args.self.now.job.now.condition.scale) g.A.Source.remaining g.B.Source.remaining g.E.Source.remaining c.args.sources.now)
     c.from_residual.result _ c.from_residual.ensures.1 c.in_err-left.ensures.faults
 
 pub returns-in_err-left-clause-io : goal.returns-in_err-left-clause-io
@@ -26,7 +27,7 @@ returns-clause-fault g c =
 
 pub returns-clause-faults : goal.returns-clause-faults
 returns-clause-faults g c =
-    late_faults c.args.self.now.job.now.product (files_of c.args.self.now.job.now.scale g.A.Source.remaining g.B.Source.remaining g.E.Source.remaining c.args.sources.now) _
+    late_faults c.args.self.now.job.now.product (files_of (ReadsBox c.args.self.now.job.now.condition.scale) g.A.Source.remaining g.B.Source.remaining g.E.Source.remaining c.args.sources.now) _
     c.product-text.result c.in_ok-left.ensures.ok c.product-text.ensures.err
 
 pub returns-clause-io : goal.returns-clause-io

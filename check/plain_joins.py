@@ -1,0 +1,178 @@
+#!/usr/bin/env python3
+"""Joins of layers of any geometry, computed plainly and slowly: all pairs, with their matrices by fractions.
+
+    check/plain_joins.py join LEFT RIGHT --relation R [--edits F] [--scale K]
+    check/plain_joins.py window LAYER WKT [--scale K]
+    check/plain_joins.py bounds LAYER [--scale K]
+
+write what rjoin has to write for these words with `--geometry any`. Rings are read by the even-odd rule, which agrees
+with the other rule wherever that one reads them. The files and words are valid.
+"""
+import argparse
+import csv
+import io
+import re
+import sys
+from collections.abc import Callable, Iterator
+from fractions import Fraction
+from itertools import combinations
+from pathlib import Path
+
+ROOT = Path(__file__).resolve().parent.parent
+sys.path.append(str(ROOT / "crates/plane_tests/reference"))
+
+from matrix import AREAS, LINES, POINTS, Edge, Geometry, Vertex, matrix, meeting  # noqa: E402
+from pairs import stepped  # noqa: E402
+
+KINDS = {"POINT": POINTS, "LINESTRING": LINES, "POLYGON": AREAS}
+# A list of points with no list in it.
+LIST = re.compile(r"\(([^()]*)\)")
+# Geometries by their ids. What is inserted comes last, as in a layer, also where its id was deleted before.
+Layer = dict[str, Geometry]
+
+
+def vertex_of(text: str, digits: int) -> Vertex:
+    """The vertex of two decimal numbers, in units of the last of some decimals."""
+    x, y = (Fraction(number) * 10 ** digits for number in text.split())
+    assert x.denominator == y.denominator == 1
+    return x.numerator, y.numerator
+
+
+def geometry_of(text: str, digits: int = 0) -> Geometry:
+    """The geometry of a well-known text. Which polygon a ring belongs to doesn't matter to the even-odd rule."""
+    kind = KINDS[text.partition("(")[0].strip().upper().removeprefix("MULTI")]
+    lists = [[vertex_of(point, digits) for point in found.split(",")] for found in LIST.findall(text)]
+    if kind == POINTS:
+        return Geometry(kind, tuple((vertex,) for vertices in lists for vertex in vertices))
+    return Geometry(kind, tuple(stepped(vertices) for vertices in lists))
+
+
+def rows_of(content: bytes) -> list[list[str]]:
+    """The rows of a file behind its header."""
+    return list(csv.reader(io.StringIO(content.decode("utf-8-sig"), newline="")))[1:]
+
+
+def layer_of(content: bytes, digits: int = 0) -> Layer:
+    return {name: geometry_of(text, digits) for name, text in rows_of(content)}
+
+
+def edit(left: Layer, right: Layer, content: bytes, digits: int = 0) -> None:
+    """Makes the edits of a file in order."""
+    for operation, side, name, text in rows_of(content):
+        layer = {"left": left, "right": right}[side]
+        if operation == "delete":
+            del layer[name]
+        else:
+            assert operation == "insert" and name not in layer
+            layer[name] = geometry_of(text, digits)
+
+
+def masks_of(relation: str, a: int, b: int) -> list[str]:
+    """The masks of OGC 06-103r4 for geometries of two dimensions; one of them fits where the relation holds."""
+    crosses = ["0********"] if a == 1 else []
+    overlaps = ["1*T***T**" if a == 1 else "T*T***T**"]
+    named = {
+        "intersects": ["T********", "*T*******", "***T*****", "****T****"],
+        "touches": ["FT*******", "F**T*****", "F***T****"] if a + b > 0 else [],
+        "crosses": crosses if a == b else ["T*T******" if a < b else "T*****T**"],
+        "within": ["T*F**F***"],
+        "contains": ["T*****FF*"],
+        "overlaps": overlaps if a == b else [],
+        "equals": ["T*F**FFF*"],
+    }
+    return named.get(relation, [relation.upper()])
+
+
+def fits(mask: str, letters: str) -> bool:
+    """Whether each place of the mask allows the letter."""
+    return all(place in ("*", letter) or (place == "T" and letter != "F") for place, letter in zip(mask, letters))
+
+
+def matches(left: Layer, right: Layer, relation: str) -> Iterator[tuple[str, str, str]]:
+    """The pairs that the relation holds for, each with the letters of its matrix, in the order of the layers."""
+    for one, first in left.items():
+        for other, second in right.items():
+            letters = matrix(first, second)
+            if any(fits(mask, letters) for mask in masks_of(relation, first.kind, second.kind)):
+                yield one, other, letters
+
+
+def field_of(text: str) -> str:
+    """A field of CSV, with quotes where it needs some."""
+    return '"' + text.replace('"', '""') + '"' if set(text) & set(',"\r\n') else text
+
+
+def report(left: Layer, right: Layer, relation: str) -> bytes:
+    rows = [("left", "right", "matrix"), *matches(left, right, relation)]
+    return "".join(",".join(map(field_of, row)) + "\n" for row in rows).encode()
+
+
+def window(layer: Layer, geometry: Geometry) -> bytes:
+    """The list of the features that share a point with a geometry."""
+    names = (one for one, _, _ in matches(layer, {"": geometry}, "intersects"))
+    return "".join(f"{name}\n" for name in ("id", *map(field_of, names))).encode()
+
+
+def bounds(layer: Layer) -> bytes:
+    """The least and the greatest coordinates of each feature."""
+    rows = ["id,x1,y1,x2,y2\n"]
+    for name, geometry in layer.items():
+        vertices = [vertex for path in geometry.paths for vertex in path]
+        corners = (end(vertex[axis] for vertex in vertices) for end in (min, max) for axis in (0, 1))
+        rows.append(f"{field_of(name)},{','.join(map(str, corners))}\n")
+    return "".join(rows).encode()
+
+
+def meet_properly(e: Edge, f: Edge) -> bool:
+    """Whether two edges share no point, or just one that is an end of one of them."""
+    place = meeting(e, f)
+    if place is not None:
+        return place in {(Fraction(x), Fraction(y)) for x, y in (*e, *f)}
+    (ax, ay), (bx, by) = e
+    if any((bx - ax) * (y - ay) != (by - ay) * (x - ax) for x, y in f):
+        return True  # not on one line
+    return max(min(e), min(f)) >= min(max(e), max(f))
+
+
+def has_proper_rings(geometry: Geometry) -> bool:
+    """Whether its rings neither cross, nor run along each other, nor are flat. What isn't an area has no rings."""
+    return geometry.kind != AREAS or all(meet_properly(e, f) for e, f in combinations(geometry.edges(), 2))
+
+
+def options_of(words: list[str]) -> argparse.Namespace:
+    """The words as the program reads them; what doesn't change the answer is taken and left."""
+    parser = argparse.ArgumentParser(description=__doc__, formatter_class=argparse.RawDescriptionHelpFormatter)
+    commands = parser.add_subparsers(dest="command", required=True)
+    for name, layers in (("join", 2), ("window", 1), ("bounds", 1)):
+        command = commands.add_parser(name)
+        command.add_argument("layers", nargs=layers)
+        for option in ("--geometry", "--rings"):
+            command.add_argument(option)
+        command.add_argument("--scale", type=int, default=0)
+    commands.choices["window"].add_argument("wkt")
+    commands.choices["join"].add_argument("--relation", required=True)
+    for option in ("--edits", "--workers", "--batch", "--cut"):
+        commands.choices["join"].add_argument(option)
+    return parser.parse_args(words)
+
+
+def answer(words: list[str], read: Callable[[str], bytes]) -> bytes:
+    """What the program has to write for these words, over the files that lie at the paths."""
+    options = options_of(words)
+    first, *others = (layer_of(read(path), options.scale) for path in options.layers)
+    if options.command == "bounds":
+        return bounds(first)
+    if options.command == "window":
+        return window(first, geometry_of(options.wkt, options.scale))
+    if options.edits:
+        edit(first, others[0], read(options.edits), options.scale)
+    return report(first, others[0], options.relation)
+
+
+def main(words: list[str]) -> int:
+    sys.stdout.buffer.write(answer(words, lambda path: Path(path).read_bytes()))
+    return 0
+
+
+if __name__ == "__main__":
+    sys.exit(main(sys.argv[1:]))

@@ -1,7 +1,0 @@
-use Rattle.std.proofs.Common.{All}
-use Rattle.refine_core.specs.Refinements.{IsPairIn}
-use Rattle.any_join_core.specs.Matches.{BoxesMeet, HaveBoth}
-use Rattle.any_join_tests.proofs.near.near_pairs.Given as goal
-
-abbrev pub invariant-loop-i : goal.invariant-loop-i
-invariant-loop-i l = All (IsPairIn (HaveBoth BoxesMeet l.left.list l.right.list)) l.pairs.items

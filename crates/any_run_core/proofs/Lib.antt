@@ -1,0 +1,3 @@
+pub mod AnyJoinLemmas
+pub mod AnyWindowLemmas
+pub mod IntersectionLemmas

@@ -1,0 +1,4 @@
+pub mod AnyJoinings
+pub mod AnyStats
+pub mod AnyWindows
+pub mod Intersections

@@ -1,0 +1,58 @@
+//! Whether two geometries share a point.
+
+ghost use Rattle.std.specs.Prelude.{◌≡◌, ◌≢◌, ◌↔◌, IfOk, IsTrue};
+ghost use Rattle.relation_core.specs.declared.extent.Extent.TheVariants.{Empty};
+ghost use Rattle.any_geometry_core.specs.AnyGeometries.{figure_of};
+ghost use Rattle.any_run_core.specs.Intersections.{Intersect, HasCommon};
+
+use any_geometry_core::AnyGeometry;
+use arrangement_core::relate;
+use layer_core::Geometry;
+use relation_core::{Extent, Matrix, Parts};
+use std::alloc::{AllocError, Global};
+
+/// Whether some point lies in neither the exterior of the one geometry nor that of the other.
+///
+/// # Errors
+/// If an allocation fails.
+pub(crate) fn intersect(
+    alloc: Global,
+    first: &AnyGeometry,
+    second: &AnyGeometry,
+) -> Result<bool, AllocError>
+    ensures { IfOk result (λ meets. IsTrue meets
+        ↔ Intersect (figure_of first.now) (figure_of second.now)) }
+{
+    if !first.bounds().meets(&second.bounds()) {
+        return Ok(false);
+    }
+    let matrix = relate(alloc, first.geometry(), second.geometry())?;
+    Ok(has_common(&matrix))
+}
+
+/// Whether the interiors or boundaries of two geometries with this matrix share a point.
+fn has_common(matrix: &Matrix) -> bool
+    ensures { IsTrue result ↔ HasCommon matrix.now }
+{
+    let Parts {
+        interior,
+        boundary,
+        ..
+    } = matrix.rows;
+    has_points(interior.interior)
+        || has_points(interior.boundary)
+        || has_points(boundary.interior)
+        || has_points(boundary.boundary)
+}
+
+/// Whether an intersection isn't empty.
+fn has_points(extent: Extent) -> bool
+    ensures { IsTrue result ↔ (extent ≢ Empty) }
+{
+    match extent {
+        Extent::Empty => false,
+        Extent::Point => true,
+        Extent::Line => true,
+        Extent::Area => true,
+    }
+}

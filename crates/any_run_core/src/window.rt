@@ -1,0 +1,78 @@
+//! The features of a layer of any geometry that share a point with a window.
+
+ghost use Rattle.std.specs.Prelude.{◌≡◌, Ok, false, IfOk, IfErr, IsTrue};
+ghost use Rattle.file_core.specs.Formats.{ReadsAny};
+ghost use Rattle.join_core.specs.declared.fault.Input.{Input};
+ghost use Rattle.join_core.specs.Jobs.{OnlyAt};
+ghost use Rattle.join_core.specs.Runs.{NoTextFault, RunEnds};
+ghost use Rattle.any_run_core.specs.AnyWindows.{AnyWindowGives, IsAnyWindowFault, IsUnread};
+
+use crate::intersection::intersect;
+use any_geometry_core::AnyGeometry;
+use file_core::{AnyFormat, Format, LayerReader, Source, TextFault};
+use join_core::{Input, Meeting, RunFault, Sink, Window, run_on_layer};
+use std::alloc::{AllocError, Global};
+use std::hash::RandomState;
+use std::thread::Threads;
+
+/// Writes the ids of the features of a layer that share a point with a window: a CSV record `id`,
+/// and then one record for each such feature, in layer order.
+///
+/// The text of the window is read first, then the layer, by several threads; `state` hashes its
+/// ids.
+///
+/// # Errors
+/// The first fault of the window or the layer, after which nothing is written, or a fault of the
+/// output.
+pub fn run_any_window<R: Threads + Sync, L: Source, S: Sink>(
+    reader: &LayerReader<'_, AnyFormat, R>,
+    state: RandomState,
+    layer: &mut L,
+    wkt: &[u8],
+    sink: &mut S,
+) -> Result<(), RunFault>
+    requires layer { L.has_failed layer.old ≡ false }
+    requires sink { S.has_failed sink.old ≡ false }
+    ensures { let reads = ReadsAny reader.now.format.scale reader.now.format.rings in
+        let file = L.remaining layer.old in
+        RunEnds (AnyWindowGives reads wkt.now file) NoTextFault
+        (IsAnyWindowFault reads wkt.now file)
+        (OnlyAt Input.Layer (IsTrue (L.has_failed layer.new)))
+        S.written S.is_flushed S.has_failed sink.old sink.new result }
+{
+    match read_window(reader.alloc, reader.format, wkt) {
+        Ok(window) => run_on_layer(reader, state, layer, &Meeting { window }, sink),
+        Err(fault) => Err(fault),
+    }
+}
+
+/// Reads the text of a window.
+fn read_window(alloc: Global, format: AnyFormat, wkt: &[u8]) -> Result<AnyWindow, RunFault>
+    ensures ok { IfOk result
+        (λ window. ReadsAny format.scale format.rings wkt.now (Ok window.geometry)) }
+    ensures err { IfErr result (IsUnread (ReadsAny format.scale format.rings) wkt.now) }
+{
+    match format.read(alloc, wkt)? {
+        Ok(geometry) => Ok(AnyWindow { geometry }),
+        Err(TextFault::Geometry(fault)) => Err(RunFault::Geometry(Input::Window, fault)),
+        Err(TextFault::Wkt(fault)) => Err(RunFault::Wkt(Input::Window, fault)),
+    }
+}
+
+/// A window that is a geometry of any kind.
+#[derive(Drop)]
+struct AnyWindow {
+    geometry: AnyGeometry,
+}
+
+/// It meets the geometries that share a point with it.
+impl Window<AnyGeometry> for AnyWindow {
+    ghost use Rattle.any_geometry_core.specs.AnyGeometries.{figure_of};
+    ghost use Rattle.any_run_core.specs.Intersections.{Intersect};
+
+    ghost is_met = { λ window g. Intersect (figure_of g) (figure_of window.geometry) };
+
+    fn meets(&self, alloc: Global, geometry: &AnyGeometry) -> Result<bool, AllocError> {
+        intersect(alloc, geometry, &self.geometry)
+    }
+}

@@ -1,0 +1,22 @@
+use Rattle.std.proofs.Common.{sym, subst}
+use Rattle.std.specs.Prelude.{Option, IfSome}
+use Rattle.arrangement_core.specs.declared.known.Seen.{Seen}
+use Rattle.arrangement_core.specs.Lying.{IsSeen}
+use Rattle.arrangement_core.proofs.ClearLemmas.{seen_last}
+use Rattle.arrangement_core.proofs.matrices.mark_edge.Goals as goal
+
+pub returns-then-adds_none_near-clause-seen : goal.returns-then-adds_none_near-clause-seen
+returns-then-adds_none_near-clause-seen c = seen_last c.args.pair.now.second.now c.args.e.now _ c.seen_along-work.ensures
+
+pub returns-else-adds_none_near-clause-seen : goal.returns-else-adds_none_near-clause-seen
+returns-else-adds_none_near-clause-seen c =
+    subst (λ (s : Option Seen). IfSome s (IsSeen c.args.pair.now.second.now)) (sym c.mark_near_edge.ensures.seen)
+    (seen_last c.args.pair.now.second.now c.args.e.now _ c.seen_along-work.ensures)
+
+pub adds_none_near-requires-clause-known : goal.adds_none_near-requires-clause-known
+adds_none_near-requires-clause-known c =
+    rw (c.course_of-course.ensures.part, c.course_of-course.ensures.edge) (c.part_seen.ensures c.args.pair.now.second.now c.args.e.now c.seen_along-work.ensures)
+
+pub mark_near_edge-requires-clause-known : goal.mark_near_edge-requires-clause-known
+mark_near_edge-requires-clause-known c =
+    rw (c.course_of-course.ensures.part, c.course_of-course.ensures.edge) (c.part_seen.ensures c.args.pair.now.second.now c.args.e.now c.seen_along-work.ensures)

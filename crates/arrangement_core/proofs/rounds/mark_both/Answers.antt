@@ -1,0 +1,19 @@
+use Rattle.edge_index_core.specs.Beyond.{is_beyond}
+use Rattle.noding_core.proofs.TurnLemmas.{long_turned}
+use Rattle.arrangement_core.proofs.RoundLemmas.{rounds}
+use Rattle.arrangement_core.proofs.rounds.mark_both.Goals as goal
+
+pub mark_around-requires-2-clause-long : goal.mark_around-requires-2-clause-long
+mark_around-requires-2-clause-long c = long_turned c.args.pair.now.first.now c.args.pair.now.second.now _ _ c.turned-turned.ensures.first c.turned-turned.ensures.second c.requires.long
+
+pub mark_outer-requires-clause-long : goal.mark_outer-requires-clause-long
+mark_outer-requires-clause-long c = long_turned c.args.pair.now.first.now c.args.pair.now.second.now _ _ c.turned-turned.ensures.first c.turned-turned.ensures.second c.requires.long
+
+pub returns : goal.returns
+returns c =
+    let t = c.turned-turned.ensures in
+    rounds c.args.pair.now.first.now c.args.pair.now.second.now (is_beyond c.args.pair.now.second_box) (is_beyond c.args.pair.now.first_box) _ _ _ _ _ _
+    (rw c.outside-start.ensures at c.in_ok-around_first.ensures)
+    (rw (t.first, t.second, t.second_box, c.transposed-across.ensures) at c.in_ok-around_both.ensures)
+    (rw (t.first, t.second, t.second_box) at c.in_ok-second.ensures)
+    (rw c.transposed-back.ensures at c.in_ok-all.ensures)

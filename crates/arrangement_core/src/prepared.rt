@@ -1,0 +1,133 @@
+//! The matrix of two geometries, which may be prepared for it.
+
+ghost use Rattle.std.specs.Prelude.{◌≡◌, All, IfOk, OnOk};
+ghost use Rattle.plane_core.specs.Figures.{IsGeometry};
+ghost use Rattle.plane_core.specs.Outlines.{IsOutlineOf};
+ghost use Rattle.plane_core.specs.PlaneMatrices.{IsPlaneMatrix};
+ghost use Rattle.plane_core.specs.Vertices.{HoldsVertex, vertices_of};
+
+use crate::pair::Pair;
+use crate::rounds::read_off;
+use edge_index_core::IndexedOutline;
+use geom_core::Shape;
+use plane_core::Geometry;
+use relation_core::Matrix;
+use std::alloc::{AllocError, Global};
+use std::marker::Model;
+
+/// The greatest number of edges of a geometry apart from the other one that has no tree.
+const MANY: usize = 1024;
+
+/// The greatest number of ends of its polylines.
+const FEW: usize = 16;
+
+/// A geometry with its outline, a tree over its edges and its box, which are computed once for its
+/// matrices with any number of others. In contracts its value is the geometry.
+#[derive(Drop)]
+pub struct PreparedGeometry<'a> {
+    geometry: &'a Geometry,
+    outline: IndexedOutline,
+    bounds: Shape,
+}
+
+impl<'a> Model for PreparedGeometry<'a> {
+    ghost use Rattle.plane_core.specs.Figures.{Figure};
+    ghost use Rattle.arrangement_core.specs.Prepared.{IsPrepared};
+
+    ghost Value = { Figure };
+
+    ghost view = { λ p. p.geometry.now };
+
+    ghost invariant = { λ p. IsPrepared p.geometry.now p.outline p.bounds };
+}
+
+impl<'a> PreparedGeometry<'a> {
+    /// Prepares a geometry.
+    ///
+    /// # Errors
+    /// If an allocation fails.
+    pub fn new(alloc: Global, geometry: &'a Geometry) -> Result<PreparedGeometry<'a>, AllocError>
+        ensures { IfOk result (λ p. p ≡ geometry.now) }
+    {
+        let bounds = geometry.bounds();
+        let plain = geometry.outline(alloc)?;
+        let outline = IndexedOutline::new(alloc, plain)?;
+        Ok(PreparedGeometry {
+            geometry,
+            outline,
+            bounds,
+        })
+    }
+
+    /// Prepares a geometry for one other, without a tree where the edges are few and the box of the
+    /// other doesn't meet its own: then few are looked for.
+    fn for_one(
+        alloc: Global,
+        geometry: &'a Geometry,
+        bounds: Shape,
+        is_apart: bool,
+    ) -> Result<PreparedGeometry<'a>, AllocError>
+        requires { All (HoldsVertex bounds) (vertices_of geometry.now) }
+        ensures { IfOk result (λ p. p ≡ geometry.now) }
+    {
+        let outline = indexed(alloc, geometry, is_apart)?;
+        Ok(PreparedGeometry {
+            geometry,
+            outline,
+            bounds,
+        })
+    }
+}
+
+/// The outline of a geometry with a tree over its edges, or with none where they are few and the
+/// other geometry's box doesn't meet its own.
+fn indexed(alloc: Global, geometry: &Geometry, is_apart: bool) -> Result<IndexedOutline, AllocError>
+    ensures outline { IfOk result (IsOutlineOf geometry.now) }
+    ensures geometry { OnOk result (IsGeometry geometry.now) }
+{
+    let outline = geometry.outline(alloc)?;
+    if is_apart && outline.edges.len() <= MANY && outline.ends.len() <= FEW {
+        Ok(IndexedOutline::plain(outline))
+    } else {
+        IndexedOutline::new(alloc, outline)
+    }
+}
+
+/// The nine-intersection matrix of two prepared geometries. It takes time by the edges of each that
+/// lie around the other's box, and by few beyond it.
+///
+/// # Errors
+/// If an allocation fails.
+pub fn relate_prepared(
+    alloc: Global,
+    a: &PreparedGeometry,
+    b: &PreparedGeometry,
+) -> Result<Matrix, AllocError>
+    ensures { IfOk result (λ m. IsPlaneMatrix a.now b.now m) }
+{
+    let pair = Pair {
+        first: &a.outline,
+        first_box: a.bounds,
+        second: &b.outline,
+        second_box: b.bounds,
+    };
+    let matrix = read_off(alloc, &pair)?;
+    Ok(matrix)
+}
+
+/// The nine-intersection matrix of two geometries: for each part of the first and each part of the
+/// second the dimension of their intersection (OGC 06-103r4, 6.1.15.2).
+///
+/// # Errors
+/// If an allocation fails.
+pub fn relate(alloc: Global, a: &Geometry, b: &Geometry) -> Result<Matrix, AllocError>
+    ensures { IfOk result (λ m. IsPlaneMatrix a.now b.now m) }
+{
+    let first_box = a.bounds();
+    let second_box = b.bounds();
+    let is_apart = !first_box.meets(&second_box);
+    let first = PreparedGeometry::for_one(alloc, a, first_box, is_apart)?;
+    let second = PreparedGeometry::for_one(alloc, b, second_box, is_apart)?;
+    let matrix = relate_prepared(alloc, &first, &second)?;
+    Ok(matrix)
+}

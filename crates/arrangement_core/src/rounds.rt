@@ -1,0 +1,186 @@
+//! The edges of two geometries in rounds: first those around the other geometry's box, then those
+//! beyond it, of which few are enough.
+
+ghost use Rattle.std.specs.Prelude.{◌≡◌, ◌≤◌, length, All, IfOk};
+ghost use Rattle.plane_core.specs.Figures.{HasLength};
+ghost use Rattle.edge_index_core.specs.Beyond.{is_beyond};
+ghost use Rattle.arrangement_core.specs.Beyond.{IsBounded, is_around};
+ghost use Rattle.noding_core.specs.Growth.{outside};
+ghost use Rattle.noding_core.specs.ReadOffs.{outline_edges, IsOwn, AreMarked, AreSomeMarked};
+ghost use Rattle.noding_core.specs.ReadOffs.{AreAllMarked, IsReadOffBy};
+
+use crate::beyond::is_outer_shown;
+use crate::marks::mark_points;
+use crate::matrices::{all_points, mark_outer_edge, mark_some, no_work};
+use crate::pair::Pair;
+use crate::work::Work;
+use edge_index_core::is_beyond;
+use noding_core::{outside, transposed};
+use plane_core::{Edge, Kind, Vertex};
+use relation_core::Matrix;
+use std::alloc::{AllocError, Global};
+
+/// The place of the edge whose last end is lowest.
+fn lowest(edges: &[Edge]) -> usize
+    ensures { result ≤ length edges.now }
+{
+    let mut place = 0;
+    let mut least = i64::MAX;
+    for i in 0..edges.len() {
+        let y = edges[i].b.y;
+        if y < least {
+            least = y;
+            place = i;
+        }
+    }
+    place
+}
+
+/// A matrix that shows edges of the first geometry, beginning at their lowest vertex: the interior
+/// of a ring lies above one of the edges there, so that it is soon shown.
+fn mark_edges(
+    alloc: Global,
+    matrix: Matrix,
+    pair: &Pair,
+    points: &[Vertex],
+    edges: &[Edge],
+) -> Result<Matrix, AllocError>
+    requires long { All HasLength (outline_edges pair.now.first.now pair.now.second.now) }
+    requires own { All (IsOwn pair.now.first.now) edges.now }
+    requires bounded { IsBounded pair.now.second.now pair.now.second_box }
+    ensures { let a = pair.now.first.now in let b = pair.now.second.now in
+        let marked = AreMarked a b (outline_edges a b) points.now edges.now in
+        IfOk result (λ m. marked matrix m) }
+{
+    let mut work = no_work(alloc);
+    let start = lowest(edges);
+    let (before, after) = edges.split_at(start);
+    let begun = mark_some(&mut work, matrix, pair, points, after)?;
+    let grown = mark_some(&mut work, begun, pair, points, before)?;
+    Ok(grown)
+}
+
+/// A matrix that shows the edges of the first geometry around the box of the second.
+fn mark_around(
+    alloc: Global,
+    matrix: Matrix,
+    pair: &Pair,
+    points: &[Vertex],
+) -> Result<Matrix, AllocError>
+    requires long { All HasLength (outline_edges pair.now.first.now pair.now.second.now) }
+    requires bounded { IsBounded pair.now.second.now pair.now.second_box }
+    ensures { let a = pair.now.first.now in let b = pair.now.second.now in
+        let es = outline_edges a b in let box = pair.now.second_box in
+        let marked = AreSomeMarked a b es points.now (is_around box) a.edges.items in
+        IfOk result (λ m. marked matrix m) }
+{
+    let around = pair.first.edges_around(alloc, &pair.second_box)?;
+    let edges = around.as_slice();
+    let grown = mark_edges(alloc, matrix, pair, points, edges)?;
+    Ok(grown)
+}
+
+/// A matrix that shows those of some edges of the first geometry that lie beyond the box of the
+/// second. Once it has all that such edges can add, the rest is left out.
+fn mark_beyond(
+    work: &mut Work,
+    matrix: Matrix,
+    pair: &Pair,
+    points: &[Vertex],
+    edges: &[Edge],
+) -> Result<Matrix, AllocError>
+    requires long { All HasLength (outline_edges pair.now.first.now pair.now.second.now) }
+    requires own { All (IsOwn pair.now.first.now) edges.now }
+    requires first { IsBounded pair.now.first.now pair.now.first_box }
+    requires second { IsBounded pair.now.second.now pair.now.second_box }
+    ensures { let a = pair.now.first.now in let b = pair.now.second.now in
+        let es = outline_edges a b in let box = pair.now.second_box in
+        let marked = AreSomeMarked a b es points.now (is_beyond box) edges.now in
+        IfOk result (λ m. marked matrix m) }
+{
+    let own = pair.first.outline();
+    let mut grown = matrix;
+    for e in edges {
+        let beyond = is_beyond(e, &pair.second_box);
+        if !beyond {
+            continue;
+        }
+        if is_outer_shown(&grown, own, &pair.second_box) {
+            return Ok(grown);
+        }
+        grown = mark_outer_edge(work, grown, pair, points, e)?;
+    }
+    Ok(grown)
+}
+
+/// Where to begin with the edges beyond the box of the second geometry: at an outermost vertex of
+/// rings, and of polylines at the last edge, which the first follows, since these have ends.
+fn outer_start(pair: &Pair) -> usize
+    ensures { result ≤ length pair.now.first.now.edges.items }
+{
+    match pair.first.outline().kind {
+        Kind::Lines => pair.first.edges().len().saturating_sub(1),
+        Kind::Points => 0,
+        Kind::Areas => pair.first.start(&pair.first_box, &pair.second_box),
+    }
+}
+
+/// A matrix that shows the edges of the first geometry that lie beyond the box of the second,
+/// beginning where few of them are likely to show all.
+fn mark_outer(
+    alloc: Global,
+    matrix: Matrix,
+    pair: &Pair,
+    points: &[Vertex],
+) -> Result<Matrix, AllocError>
+    requires long { All HasLength (outline_edges pair.now.first.now pair.now.second.now) }
+    requires first { IsBounded pair.now.first.now pair.now.first_box }
+    requires second { IsBounded pair.now.second.now pair.now.second_box }
+    ensures { let a = pair.now.first.now in let b = pair.now.second.now in
+        let es = outline_edges a b in let box = pair.now.second_box in
+        let marked = AreSomeMarked a b es points.now (is_beyond box) a.edges.items in
+        IfOk result (λ m. marked matrix m) }
+{
+    let mut work = no_work(alloc);
+    let own_edges = pair.first.edges();
+    let start = outer_start(pair);
+    let (before, after) = own_edges.split_at(start);
+    let begun = mark_beyond(&mut work, matrix, pair, points, after)?;
+    let grown = mark_beyond(&mut work, begun, pair, points, before)?;
+    Ok(grown)
+}
+
+/// The matrix with all edges of two geometries.
+fn mark_both(alloc: Global, pair: &Pair, points: &[Vertex]) -> Result<Matrix, AllocError>
+    requires long { All HasLength (outline_edges pair.now.first.now pair.now.second.now) }
+    requires first { IsBounded pair.now.first.now pair.now.first_box }
+    requires second { IsBounded pair.now.second.now pair.now.second_box }
+    ensures { let a = pair.now.first.now in let b = pair.now.second.now in
+        IfOk result (λ m. AreAllMarked a b points.now outside m) }
+{
+    let turned = pair.turned();
+    let start = outside();
+    let around_first = mark_around(alloc, start, pair, points)?;
+    let across = transposed(&around_first);
+    let around_both = mark_around(alloc, across, &turned, points)?;
+    let second = mark_outer(alloc, around_both, &turned, points)?;
+    let back = transposed(&second);
+    let all = mark_outer(alloc, back, pair, points)?;
+    Ok(all)
+}
+
+/// The matrix with all edges and points of two geometries.
+pub(crate) fn read_off(alloc: Global, pair: &Pair) -> Result<Matrix, AllocError>
+    requires long { All HasLength (outline_edges pair.now.first.now pair.now.second.now) }
+    requires first { IsBounded pair.now.first.now pair.now.first_box }
+    requires second { IsBounded pair.now.second.now pair.now.second_box }
+    ensures { IfOk result (λ m. IsReadOffBy pair.now.first.now pair.now.second.now m) }
+{
+    let point_list = all_points(alloc, pair.first.outline(), pair.second.outline())?;
+    let points = point_list.as_slice();
+    let marked = mark_both(alloc, pair, points)?;
+    let with_first = mark_points(marked, pair.first, pair.second);
+    let turned = transposed(&with_first);
+    let with_second = mark_points(turned, pair.second, pair.first);
+    Ok(transposed(&with_second))
+}

@@ -1,0 +1,72 @@
+-- The results and the faults of the join of a request, by the bytes of its files.
+use Rattle.std.specs.Prelude.{ℕ, List, Option, Some, None, Result}
+use Rattle.std.specs.Borrow.{Bor}
+use Rattle.wkt_core.specs.declared.scale.Scale.{Scale}
+use Rattle.file_core.specs.Formats.{Reading, ReadsAny, ReadsBox}
+use Rattle.options_core.specs.declared.product.Product.{Product}
+use Rattle.any_relation_core.specs.AnyRelations.{rings_of}
+use Rattle.join_core.specs.declared.fault.Input.TheVariants.{Left, Right, Edits}
+use Rattle.join_core.specs.declared.fault.RunFault.{RunFault}
+use Rattle.join_core.specs.Joinings.{box_joining}
+use Rattle.join_core.specs.JoinRuns.{JoinFiles}
+use Rattle.join_core.specs.Products.{ProductGives, IsProductFault}
+use Rattle.any_run_core.specs.AnyJoinings.{any_joining}
+use Rattle.words_core.specs.declared.condition.Condition.{Condition}
+use Rattle.words_core.specs.declared.condition.Condition.TheVariants.{Boxes, Any}
+use Rattle.words_core.specs.declared.words.JoinRequest.{JoinRequest}
+use Rattle.command_core.specs.Opening.{AfterOpening, Files, JoinBytes, bytes_at}
+
+-- these files, with geometries that read in this way
+abbrev pub files_read : {G : Type 0} → Reading G → JoinBytes → JoinFiles G
+files_read reads bytes =
+    record { reads = reads; left = bytes.left; right = bytes.right; edits = bytes.edits }
+
+-- the report or the picture of the join of files by this condition
+abbrev pub ConditionGives : Condition → Scale → Product → JoinBytes → Result (List ℕ) RunFault
+    → Type 0
+ConditionGives (Boxes relation) scale product bytes =
+    ProductGives product (box_joining relation) (files_read (ReadsBox scale) bytes)
+ConditionGives (Any relation) scale product bytes =
+    ProductGives product (any_joining relation)
+    (files_read (ReadsAny scale (rings_of relation)) bytes)
+
+abbrev pub JoinRequestGives : JoinRequest → JoinBytes → Result (List ℕ) RunFault → Type 0
+JoinRequestGives join = ConditionGives join.condition join.scale join.product
+
+-- a possible fault of the join of files by this condition, except that of its sink
+abbrev pub IsConditionFault : Condition → Scale → Product → JoinBytes → RunFault → Type 0
+IsConditionFault (Boxes relation) scale product bytes =
+    IsProductFault product (files_read (ReadsBox scale) bytes)
+IsConditionFault (Any relation) scale product bytes =
+    IsProductFault product (files_read (ReadsAny scale (rings_of relation)) bytes)
+
+abbrev pub IsJoinRequestFault : JoinRequest → JoinBytes → RunFault → Type 0
+IsJoinRequestFault join = IsConditionFault join.condition join.scale join.product
+
+-- the file of edits, if one is given
+abbrev pub AfterEdits : Files → Option (Bor (List ℕ)) → Result (List ℕ) RunFault
+    → (Option (Option (List ℕ)) → Type 0) → Type 0
+AfterEdits at None answer Then = Then None
+AfterEdits at (Some path) answer Then =
+    AfterOpening Edits (at path.now) answer (λ bytes. Then (Some (Some bytes)))
+
+-- the result of the join of the files at these paths, which are opened in the order left, right,
+-- edits
+abbrev pub PathsGive : Files → JoinRequest → Result (List ℕ) RunFault → Type 0
+PathsGive at join answer =
+    AfterOpening Left (at join.left_path.now) answer (λ l.
+    AfterOpening Right (at join.right_path.now) answer (λ r.
+    AfterEdits at join.edits_path answer (λ e.
+    JoinRequestGives join (record { left = Some l; right = Some r; edits = e }) answer)))
+
+abbrev pub edits_at : Option Files → Option (Bor (List ℕ)) → Option (Option (List ℕ))
+edits_at known None = None
+edits_at known (Some path) = Some (bytes_at known path.now)
+
+-- the bytes of the files of a join, as far as they are known
+abbrev pub known_bytes : Option Files → JoinRequest → JoinBytes
+known_bytes known join = record {
+  left = bytes_at known join.left_path.now;
+  right = bytes_at known join.right_path.now;
+  edits = edits_at known join.edits_path;
+}

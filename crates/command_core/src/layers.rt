@@ -1,0 +1,87 @@
+//! Commands over one layer of boxes or of any geometry: windows, counts and corners.
+
+ghost use Rattle.std.specs.Prelude.{◌≡◌, false};
+ghost use Rattle.command_core.specs.Commands.{CommandEnds};
+ghost use Rattle.words_core.specs.declared.words.Command.TheVariants.{Bounds, Stats, Window};
+
+use crate::inputs::Inputs;
+use crate::opening::open_layer;
+use any_run_core::{run_any_stats, run_any_window};
+use file_core::{AnyFormat, LayerReader};
+use join_core::{DEFAULT_WORKERS, RunFault, Sink, run_bounds, run_stats, run_window};
+use std::random::RandomSource;
+use std::thread::Threads;
+use words_core::{Geometries, LayerRequest};
+
+/// Writes the ids of the features of a layer that meet the geometry of a text.
+pub fn execute_window<R: RandomSource + AllocGlobal + Threads + Sync, I: Inputs, O: Sink>(
+    rt: &R,
+    inputs: &I,
+    request: &LayerRequest<'_>,
+    wkt: &str,
+    output: &mut O,
+) -> Result<(), RunFault>
+    requires { O.has_failed output.old ≡ false }
+    ensures { CommandEnds (I.files inputs.now) O.written O.is_flushed O.has_failed
+        (Window request.now wkt.entry) output.old output.new result }
+{
+    let (mut layer, state) = open_layer(rt, inputs, request.path)?;
+    let wkt = wkt.as_bytes();
+    let scale = request.scale;
+    match request.geometries {
+        Geometries::Box => run_window(rt, rt.alloc(), state, scale, &mut layer, wkt, output),
+        Geometries::Any(rings) => {
+            let reader = LayerReader {
+                rt,
+                alloc: rt.alloc(),
+                format: AnyFormat { scale, rings },
+                threads: DEFAULT_WORKERS,
+            };
+            run_any_window(&reader, state, &mut layer, wkt, output)
+        }
+    }
+}
+
+/// Writes the counts of the features of a layer.
+pub fn execute_stats<R: RandomSource + AllocGlobal + Threads + Sync, I: Inputs, O: Sink>(
+    rt: &R,
+    inputs: &I,
+    request: &LayerRequest<'_>,
+    output: &mut O,
+) -> Result<(), RunFault>
+    requires { O.has_failed output.old ≡ false }
+    ensures { CommandEnds (I.files inputs.now) O.written O.is_flushed O.has_failed
+        (Stats request.now) output.old output.new result }
+{
+    let (mut layer, state) = open_layer(rt, inputs, request.path)?;
+    let scale = request.scale;
+    match request.geometries {
+        Geometries::Box => run_stats(rt, rt.alloc(), state, scale, &mut layer, output),
+        Geometries::Any(rings) => {
+            let format = AnyFormat { scale, rings };
+            run_any_stats(rt, rt.alloc(), state, format, &mut layer, output)
+        }
+    }
+}
+
+/// Writes the corners of the boxes of a layer's features.
+pub fn execute_bounds<R: RandomSource + AllocGlobal + Threads + Sync, I: Inputs, O: Sink>(
+    rt: &R,
+    inputs: &I,
+    request: &LayerRequest<'_>,
+    output: &mut O,
+) -> Result<(), RunFault>
+    requires { O.has_failed output.old ≡ false }
+    ensures { CommandEnds (I.files inputs.now) O.written O.is_flushed O.has_failed
+        (Bounds request.now) output.old output.new result }
+{
+    let (mut layer, state) = open_layer(rt, inputs, request.path)?;
+    let scale = request.scale;
+    match request.geometries {
+        Geometries::Box => run_bounds(rt, rt.alloc(), state, scale, &mut layer, output),
+        Geometries::Any(rings) => {
+            let format = AnyFormat { scale, rings };
+            run_bounds(rt, rt.alloc(), state, format, &mut layer, output)
+        }
+    }
+}

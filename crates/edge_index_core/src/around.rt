@@ -1,0 +1,66 @@
+//! The edges of an outline around a box.
+
+ghost use Rattle.std.specs.Prelude.{◌≡◌, ◌<◌, length, map, All, IfOk, Contains};
+ghost use Rattle.std.specs.List.{slice_index_or};
+ghost use Rattle.plane_core.specs.declared.edge.Edge.{Edge};
+ghost use Rattle.rtree_core.specs.Trees.{entries_in};
+ghost use Rattle.edge_index_core.specs.Around.{AreAround};
+ghost use Rattle.edge_index_core.specs.Trees.{HoldsEdges};
+
+use crate::beyond::is_beyond;
+use geom_core::Shape;
+use plane_core::Edge;
+use rtree_core::RTree;
+use std::alloc::{AllocError, Global};
+
+/// The edges of a list that don't lie on one side of a box.
+pub(crate) fn scan_around(
+    alloc: Global,
+    edges: &[Edge],
+    bounds: &Shape,
+) -> Result<Vec<Edge>, AllocError>
+    ensures { IfOk result (λ v. AreAround bounds.now edges.now v.items) }
+{
+    let mut near = Vec::with_capacity(alloc, edges.len())?;
+    for e in edges {
+        let beyond = is_beyond(e, bounds);
+        if beyond {
+            continue;
+        }
+        near.push(*e)?;
+    }
+    Ok(near)
+}
+
+/// The edges at some indexes.
+fn edges_at(alloc: Global, edges: &[Edge], indexes: &[u32]) -> Result<Vec<Edge>, AllocError>
+    requires { All (λ k. k < length edges.now) indexes.now }
+    ensures { IfOk result (λ v. (d : Edge) → v.items ≡ map (λ k. slice_index_or edges.now k d) indexes.now) }
+{
+    let mut found = Vec::with_capacity(alloc, indexes.len())?;
+    for k in indexes {
+        let e = &edges[*k as usize];
+        found.push(*e)?;
+    }
+    Ok(found)
+}
+
+/// The greatest number of edges that are looked at one by one although they have a tree.
+const FEW: usize = 256;
+
+/// Some edges of a list, among them all whose bounding boxes meet a box, by a tree over the boxes.
+pub(crate) fn find_around(
+    alloc: Global,
+    tree: &RTree,
+    edges: &[Edge],
+    bounds: &Shape,
+) -> Result<Vec<Edge>, AllocError>
+    requires { HoldsEdges edges.now (entries_in tree.now) }
+    ensures { IfOk result (λ v. AreAround bounds.now edges.now v.items) }
+{
+    if edges.len() <= FEW {
+        return scan_around(alloc, edges, bounds);
+    }
+    let indexes = tree.window(alloc, bounds)?;
+    edges_at(alloc, edges, &indexes)
+}

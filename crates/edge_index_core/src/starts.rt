@@ -1,0 +1,61 @@
+//! The edges that end at the outermost vertices of an outline.
+
+ghost use Rattle.std.specs.Prelude.{ℕ, ◌≤◌, length};
+ghost use Rattle.edge_index_core.specs.Starts.{AreWithin};
+
+use geom_core::Shape;
+use plane_core::Edge;
+
+/// The index of an edge that ends at the lowest vertex, of one that ends at the leftmost, and of
+/// one that ends at the rightmost; 0 if there are no edges.
+#[derive(Clone, Copy, Drop)]
+pub(crate) struct Starts {
+    low: usize,
+    left: usize,
+    right: usize,
+}
+
+/// The index of the edge for which a number is least, or 0 if there are no edges.
+fn least_by<F: Fn(&Edge) -> i64>(edges: &[Edge], number: F) -> usize
+    requires { F.IsAlwaysCallable number }
+    ensures { result ≤ length edges.now }
+{
+    let mut place = 0;
+    let mut least = i64::MAX;
+    for (i, e) in edges.iter().enumerate() {
+        let here = number(e);
+        if here < least {
+            least = here;
+            place = i;
+        }
+    }
+    place
+}
+
+impl Starts {
+    /// The outermost edges of a list.
+    pub(crate) fn of(edges: &[Edge]) -> Starts
+        ensures { AreWithin (length edges.now) result }
+    {
+        Starts {
+            low: least_by(edges, |e| e.b.y),
+            left: least_by(edges, |e| e.b.x),
+            right: least_by(edges, |e| -e.b.x),
+        }
+    }
+
+    /// The edge that ends at the vertex where the box of all edges extends beyond another box.
+    pub(crate) fn beyond(&self, own: &Shape, other: &Shape) -> usize
+        ensures { (n : ℕ) → AreWithin n self.now → result ≤ n }
+    {
+        if own.y1() < other.y1() {
+            self.low
+        } else if own.x1() < other.x1() {
+            self.left
+        } else if other.x2() < own.x2() {
+            self.right
+        } else {
+            self.low
+        }
+    }
+}

@@ -1,0 +1,48 @@
+-- How the text of a geometry reads, and the fault of a row that has such a text.
+use Rattle.std.specs.Prelude.{◌≡◌, ℕ, List, Result, Ok, Err, All}
+use Rattle.geom_core.specs.Cells.{IsIn}
+use Rattle.geom_core.specs.declared.shape.Shape.{Shape}
+use Rattle.plane_core.specs.declared.rings.Rings.{Rings}
+use Rattle.plane_core.specs.Vertices.{vertices_of, HoldsVertex}
+use Rattle.any_geometry_core.specs.declared.geometry.AnyGeometry.{AnyGeometry}
+use Rattle.any_geometry_core.specs.AnyGeometries.{figure_of, rings_of, box_of}
+use Rattle.wkt_core.specs.declared.scale.Scale.{Scale}
+use Rattle.wkt_core.specs.Readings.{Reads}
+use Rattle.wkt_any_core.specs.Readings as any
+use Rattle.file_core.specs.declared.read_fault.ReadFault.{ReadFault}
+use Rattle.file_core.specs.declared.read_fault.ReadFault.TheVariants.{Wkt, Geometry}
+use Rattle.file_core.specs.declared.text_fault.TextFault.{TextFault}
+use Rattle.file_core.specs.declared.text_fault.TextFault.TheVariants as text
+
+-- which geometry or fault a text reads as
+abbrev pub Reading : Type 0 → Type 1
+Reading G = List ℕ → Result G TextFault → Type 0
+
+-- a box, with coordinates at a scale
+abbrev pub ReadsBox : Scale → Reading Shape
+ReadsBox scale wkt (Ok shape) = Reads scale wkt (Ok shape)
+ReadsBox scale wkt (Err (text.Wkt fault)) = Reads scale wkt (Err fault)
+ReadsBox scale wkt (Err (text.Geometry fault)) = ⊥
+
+-- the text spells the figure of this geometry, which has this rule of rings and the least box that
+-- holds its vertices
+pub record IsSpelled (scale : Scale) (rings : Rings) (wkt : List ℕ) (g : AnyGeometry) : Type 0 where
+  pub figure : any.Reads scale rings wkt (Ok (figure_of g))
+  pub rule : rings_of g ≡ rings
+  pub least : (s : Shape) → All (HoldsVertex s) (vertices_of (figure_of g)) → IsIn (box_of g) s
+
+-- a geometry of any kind, with coordinates at a scale and rings by a rule
+abbrev pub ReadsAny : Scale → Rings → Reading AnyGeometry
+ReadsAny scale rings wkt (Ok g) = IsSpelled scale rings wkt g
+ReadsAny scale rings wkt (Err (text.Wkt fault)) = ⊥
+ReadsAny scale rings wkt (Err (text.Geometry fault)) = any.Reads scale rings wkt (Err fault)
+
+-- the fault of the row with this number, whose geometry has this fault
+abbrev pub fault_of_text : ℕ → TextFault → ReadFault
+fault_of_text n (text.Wkt fault) = Wkt n fault
+fault_of_text n (text.Geometry fault) = Geometry n fault
+
+-- the text has a fault, which is this fault of the row with this number
+abbrev pub HasTextFault : {G : Type 0} → Reading G → ℕ → List ℕ → ReadFault → Type 0
+HasTextFault reads n wkt fault =
+    (cause : TextFault) × reads wkt (Err cause) × (fault ≡ fault_of_text n cause)

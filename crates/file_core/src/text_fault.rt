@@ -1,0 +1,13 @@
+//! The faults of a geometry's text.
+
+use wkt_any_core::GeometryFault;
+use wkt_core::WktFault;
+
+/// Why a text spells no geometry of its format.
+#[derive(Clone, Copy, Debug, PartialEq, Eq)]
+pub enum TextFault {
+    /// The text of a box.
+    Wkt(WktFault),
+    /// The text of a geometry of any kind.
+    Geometry(GeometryFault),
+}

@@ -1,0 +1,4 @@
+pub mod MeetingLemmas
+pub mod NumberLemmas
+pub mod TreeFeatureLemmas
+pub mod TreeJoinLemmas

@@ -1,0 +1,156 @@
+//! The nodes of an edge in order: its ends, and the points where edges or single points meet it.
+
+ghost use Rattle.std.specs.Prelude.{◌≡◌, map, All, OnOk, IsTrue};
+ghost use Rattle.std.specs.List.Sorted.{IsPermutation};
+ghost use Rattle.plane_core.specs.Figures.{HasLength};
+ghost use Rattle.plane_core.specs.Places.{node_point};
+ghost use Rattle.noding_core.specs.Nodes.{Ascend, AreNodesOf};
+ghost use Rattle.noding_core.specs.Gathered.{Extends, IsOn, HasVertex, HasMeeting, HasMeetings};
+ghost use Rattle.noding_core.specs.Gathered.{HasEnds, is_same, is_end, IsJoint};
+
+use plane_core::{Edge, Node, Vertex};
+use std::alloc::AllocError;
+
+/// Adds a vertex if it lies on the edge.
+fn push_vertex(nodes: &mut Vec<Node>, e: &Edge, v: &Vertex) -> Result<(), AllocError>
+    requires { All (IsOn e.now) nodes.old.items }
+    ensures kept { OnOk result (Extends nodes.old.items nodes.new.items) }
+    ensures on { OnOk result (All (IsOn e.now) nodes.new.items) }
+    ensures here { OnOk result (HasVertex e.now nodes.new.items v.now) }
+{
+    if e.is_on_vertex(v) {
+        let node = Node::at(v);
+        nodes.push(node)?;
+    }
+    Ok(())
+}
+
+/// Adds the point where another edge meets the edge, unless they are parallel.
+fn push_meeting(nodes: &mut Vec<Node>, e: &Edge, f: &Edge) -> Result<(), AllocError>
+    requires { All (IsOn e.now) nodes.old.items }
+    ensures kept { OnOk result (Extends nodes.old.items nodes.new.items) }
+    ensures on { OnOk result (All (IsOn e.now) nodes.new.items) }
+    ensures here { OnOk result (HasMeeting e.now nodes.new.items f.now) }
+{
+    if let Some(node) = Node::meeting(e, f) {
+        nodes.push(node)?;
+    }
+    Ok(())
+}
+
+/// Whether two vertices are one point.
+#[inline]
+fn is_same(u: &Vertex, v: &Vertex) -> bool
+    ensures { result ≡ is_same u.now v.now }
+{
+    u.x == v.x && u.y == v.y
+}
+
+/// Whether a vertex is an end of an edge.
+#[inline]
+fn is_end(e: &Edge, v: &Vertex) -> bool
+    ensures { result ≡ is_end e.now v.now }
+{
+    is_same(&e.a, v) || is_same(&e.b, v)
+}
+
+/// Whether two edges that aren't parallel have an end in common, and so no other point.
+#[inline]
+fn is_joint(e: &Edge, f: &Edge) -> bool
+    ensures { IsTrue result → IsJoint e.now f.now }
+{
+    let joined = is_end(e, &f.a) || is_end(e, &f.b);
+    joined && e.turn_to(f) != 0
+}
+
+/// Adds a vertex where it lies on the edge and is none of its ends, which are among the points.
+fn push_inner(nodes: &mut Vec<Node>, e: &Edge, v: &Vertex) -> Result<(), AllocError>
+    requires on { All (IsOn e.now) nodes.old.items }
+    requires ends { HasEnds e.now nodes.old.items }
+    ensures kept { OnOk result (Extends nodes.old.items nodes.new.items) }
+    ensures on { OnOk result (All (IsOn e.now) nodes.new.items) }
+    ensures here { OnOk result (HasVertex e.now nodes.new.items v.now) }
+{
+    if is_end(e, v) {
+        Ok(())
+    } else {
+        push_vertex(nodes, e, v)
+    }
+}
+
+/// Adds the ends of another edge that lie on the edge, and the point where the two meet, except
+/// for the ends of the edge, which are among the points.
+fn push_meetings(nodes: &mut Vec<Node>, e: &Edge, f: &Edge) -> Result<(), AllocError>
+    requires on { All (IsOn e.now) nodes.old.items }
+    requires ends { HasEnds e.now nodes.old.items }
+    ensures kept { OnOk result (Extends nodes.old.items nodes.new.items) }
+    ensures on { OnOk result (All (IsOn e.now) nodes.new.items) }
+    ensures meetings { OnOk result (HasMeetings e.now nodes.new.items f.now) }
+{
+    if is_joint(e, f) {
+        return Ok(());
+    }
+    push_inner(nodes, e, &f.a)?;
+    push_inner(nodes, e, &f.b)?;
+    push_meeting(nodes, e, f)?;
+    Ok(())
+}
+
+/// Adds the ends of other edges that lie on the edge, and the points where those edges meet it.
+fn push_each_meetings(nodes: &mut Vec<Node>, e: &Edge, edges: &[Edge]) -> Result<(), AllocError>
+    requires on { All (IsOn e.now) nodes.old.items }
+    requires ends { HasEnds e.now nodes.old.items }
+    ensures kept { OnOk result (Extends nodes.old.items nodes.new.items) }
+    ensures on { OnOk result (All (IsOn e.now) nodes.new.items) }
+    ensures meetings { OnOk result (All (HasMeetings e.now nodes.new.items) edges.now) }
+{
+    for f in edges {
+        push_meetings(nodes, e, f)?;
+    }
+    Ok(())
+}
+
+/// Adds the vertices that lie on the edge.
+fn push_vertices(nodes: &mut Vec<Node>, e: &Edge, vertices: &[Vertex]) -> Result<(), AllocError>
+    requires { All (IsOn e.now) nodes.old.items }
+    ensures kept { OnOk result (Extends nodes.old.items nodes.new.items) }
+    ensures on { OnOk result (All (IsOn e.now) nodes.new.items) }
+    ensures here { OnOk result (All (HasVertex e.now nodes.new.items) vertices.now) }
+{
+    for v in vertices {
+        push_vertex(nodes, e, v)?;
+    }
+    Ok(())
+}
+
+/// Sorts points by (x, y).
+fn sort_nodes(nodes: &mut Vec<Node>) -> Result<(), AllocError>
+    ensures permutation { IsPermutation nodes.old.items nodes.new.items }
+    ensures sorted { OnOk result (Ascend (map node_point nodes.new.items)) }
+{
+    nodes.sort_by(|a, b| a.compare(b))?;
+    Ok(())
+}
+
+/// Replaces points by the nodes of an edge among some edges and single points, from the least by
+/// (x, y) to the greatest.
+///
+/// Nodes at the same point may occur more than once.
+pub fn gather_nodes(
+    nodes: &mut Vec<Node>,
+    e: &Edge,
+    near: &[Edge],
+    points: &[Vertex],
+) -> Result<(), AllocError>
+    requires { HasLength e.now }
+    ensures { let gathered = map node_point nodes.new.items in
+        OnOk result (AreNodesOf near.now points.now e.now gathered) }
+{
+    nodes.clear();
+    push_vertex(nodes, e, &e.a)?;
+    push_vertex(nodes, e, &e.b)?;
+    push_each_meetings(nodes, e, near)?;
+    push_vertices(nodes, e, points)?;
+    sort_nodes(nodes)?;
+    Ok(())
+}

@@ -1,0 +1,11 @@
+//! Tests of reports of layers of any geometry, from outside: texts written by hand.
+#![tactic(auto)]
+
+#[cfg(test)]
+mod layers;
+#[cfg(test)]
+mod matching;
+#[cfg(test)]
+mod refused;
+#[cfg(test)]
+mod reports;

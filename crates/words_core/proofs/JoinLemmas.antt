@@ -1,0 +1,145 @@
+-- The faults of a join, in their order.
+use Rattle.std.proofs.Common.{◌≡◌, ◌≢◌, ◌≤◌, ℕ, Bool, true, false, Option, Some, None, List, refl, sym, subst, inl, inr}
+use Rattle.std.specs.Prelude.{codes, ◌⊎◌}
+use Rattle.std.specs.Bool.{MatchBool}
+use Rattle.clap.specs.Words.{Row, Text, first_of}
+use Rattle.options_core.specs.Options.{workers_of, batch_of, cut_of, AreWorkers, IsBatch, IsCut}
+use Rattle.options_core.specs.declared.options.Options.{Options}
+use Rattle.options_core.specs.declared.options.OptionFault.{OptionFault}
+use Rattle.options_core.specs.declared.options.OptionFault.TheVariants as range
+use Rattle.relation_core.specs.Relations.{Spells}
+use Rattle.relation_core.specs.declared.relation.Relation.{Relation}
+use Rattle.wkt_core.specs.ScaleLimits.{most_digits}
+use Rattle.wkt_core.specs.Scales.{digits_of}
+use Rattle.wkt_core.specs.declared.scale.Scale.{Scale}
+use Rattle.words_core.specs.Readings.{missing_text, number_at, share_input, shared_text, AllowsDisjointIn, AreOptionsIn, ForbidsDisjointIn, HasFormatFault, HasJoinFault, HasScaleFault, IsScaleIn}
+use Rattle.words_core.specs.Readings.{IsRangeFault, IsRelationFault, NeedsNoDisjoint, NeedsOneInput, NeedsOptions, NeedsRelation, NeedsScale, Says}
+use Rattle.words_core.specs.declared.words.WordFault.{WordFault}
+use Rattle.words_core.specs.declared.words.WordFault.TheVariants as fault
+use Rattle.words_core.proofs.ReadingLemmas.{needs_none, needs_some, needs_weaker}
+
+-- ---- options
+
+-- the consequences of a fault of `Options::new`
+pub options_refused : (rows : List Row) (workers batch cut : ℕ) (reason : OptionFault)
+    (f : WordFault) → number_at (codes "workers") rows ≡ Some workers
+    → number_at (codes "batch") rows ≡ Some batch → number_at (codes "cut") rows ≡ Some cut
+    → (reason ≡ range.Workers → ¬ (AreWorkers workers))
+    → (reason ≡ range.Batch → AreWorkers workers × ¬ (IsBatch batch))
+    → (reason ≡ range.Cut → AreWorkers workers × IsBatch batch × ¬ (IsCut cut))
+    → f ≡ fault.Options reason → NeedsOptions rows f ⊥
+options_refused rows workers batch cut reason f w b c is_workers is_batch is_cut e =
+    needs_some (codes "workers") (number_at (codes "workers") rows) workers f _ w
+    (needs_some (codes "batch") (number_at (codes "batch") rows) batch f _ b
+    (needs_some (codes "cut") (number_at (codes "cut") rows) cut f _ c
+    (inl (subst (λ (g : WordFault). IsRangeFault workers batch cut g) (sym e)
+    (by reason is_workers is_batch is_cut)))))
+  where
+    by : (r : OptionFault) → (r ≡ range.Workers → ¬ (AreWorkers workers))
+        → (r ≡ range.Batch → AreWorkers workers × ¬ (IsBatch batch))
+        → (r ≡ range.Cut → AreWorkers workers × IsBatch batch × ¬ (IsCut cut))
+        → IsRangeFault workers batch cut (fault.Options r)
+    by range.Workers x y z = x refl
+    by range.Batch x y z = y refl
+    by range.Cut x y z = z refl
+
+-- options that are in range, and then a further fault
+pub options_passed : (rows : List Row) (options : Options) (f : WordFault) (Then : Type 0)
+    → AreOptionsIn rows options → Then → NeedsOptions rows f Then
+options_passed rows options f Then are rest =
+    needs_some (codes "workers") (number_at (codes "workers") rows) (workers_of options) f _
+    are.workers
+    (needs_some (codes "batch") (number_at (codes "batch") rows) (batch_of options) f _ are.batch
+    (needs_some (codes "cut") (number_at (codes "cut") rows) (cut_of options) f _ are.cut
+    (inr (are.ranges.0, are.ranges.1, are.ranges.2, rest))))
+
+pub options_weaker : (rows : List Row) (f : WordFault) (Then : Type 0) → NeedsOptions rows f ⊥
+    → NeedsOptions rows f Then
+options_weaker rows f Then n =
+    needs_weaker (codes "workers") (number_at (codes "workers") rows) f _ _
+    (λ w. needs_weaker (codes "batch") (number_at (codes "batch") rows) f _ _
+    (λ b. needs_weaker (codes "cut") (number_at (codes "cut") rows) f _ _
+    (λ c h. elim h [
+      | inl r ↦ inl r
+      | inr r ↦ absurd r.3
+    ]))) n
+
+-- ---- the scale
+
+-- a fault of the scale comes before any other of how geometries are written
+pub scale_refused : (rows : List Row) (f : WordFault) (Then : Type 0) → HasScaleFault rows f
+    → NeedsScale rows f Then
+scale_refused rows f Then h =
+    needs_weaker (codes "scale") (number_at (codes "scale") rows) f _ _ (λ digits wrong. inl wrong)
+    h
+
+-- a scale in range, and then a further fault
+pub scale_passed : (rows : List Row) (scale : Scale) (f : WordFault) (Then : Type 0)
+    → IsScaleIn rows scale → digits_of scale ≤ most_digits → Then → NeedsScale rows f Then
+scale_passed rows scale f Then is few h =
+    needs_some (codes "scale") (number_at (codes "scale") rows) (digits_of scale) f _ is
+    (inr (few, h))
+
+-- ---- joins
+
+when_true : (b : Bool) (P Q : Type 0) → b ≡ true → P → MatchBool b P Q
+when_true true P Q e p = p
+when_true false P Q e p = cc
+
+when_false : (b : Bool) (P Q : Type 0) → b ≡ false → Q → MatchBool b P Q
+when_false true P Q e q = cc
+when_false false P Q e q = q
+
+-- a fault that comes behind those of the relation
+abbrev LaterFault : List Row → WordFault → Type 0
+LaterFault rows f = NeedsOptions rows f (HasFormatFault rows f)
+
+module _ (rows : List Row) (left right : Text) (edits : Option Text) (f : WordFault)
+    (is_left : first_of (codes "LEFT") rows ≡ Some left)
+    (is_right : first_of (codes "RIGHT") rows ≡ Some right)
+    (are_edits : first_of (codes "edits") rows ≡ edits) where
+  join_from : NeedsOneInput left right edits f (NeedsRelation rows f (LaterFault rows f))
+      → HasJoinFault rows f
+  join_from h =
+      needs_some (codes "LEFT") (first_of (codes "LEFT") rows) left f _ is_left
+      (needs_some (codes "RIGHT") (first_of (codes "RIGHT") rows) right f _ is_right
+      (subst (λ (e : Option Text). NeedsOneInput left right e f
+      (NeedsRelation rows f (LaterFault rows f))) (sym are_edits) h))
+
+  -- two files are standard input
+  pub join_shares : share_input left right edits ≡ true → (f ≢ fault.Memory → Says shared_text f)
+      → f ≢ fault.Memory → HasJoinFault rows f
+  join_shares e says known =
+      join_from (when_true (share_input left right edits) _ _ e (says known))
+
+  -- no relation is given
+  pub join_misses : share_input left right edits ≡ false
+      → first_of (codes "relation") rows ≡ None → Says (missing_text (codes "relation")) f
+      → HasJoinFault rows f
+  join_misses e none says =
+      join_from (when_false (share_input left right edits) _ _ e
+      (needs_none (codes "relation") (first_of (codes "relation") rows) f _ none says))
+
+  module _ (one_input : share_input left right edits ≡ false) (word : Text)
+      (is_word : first_of (codes "relation") rows ≡ Some word) where
+    relation_from : IsRelationFault word f ⊎ ((relation : Relation) × Spells relation word
+        × NeedsNoDisjoint rows relation f (LaterFault rows f)) → HasJoinFault rows f
+    relation_from h =
+        join_from (when_false (share_input left right edits) _ _ one_input
+        (needs_some (codes "relation") (first_of (codes "relation") rows) word f _ is_word h))
+
+    -- the relation is at fault
+    pub join_refuses : IsRelationFault word f → HasJoinFault rows f
+    join_refuses h = relation_from (inl h)
+
+    -- disjoint geometries may stand in the relation
+    pub join_allows : (relation : Relation) → Spells relation word
+        → AllowsDisjointIn rows relation → f ≡ fault.AllowsDisjoint → HasJoinFault rows f
+    join_allows relation spells allows e = relation_from (inr (relation, spells, inl (allows, e)))
+
+    -- a later argument is at fault
+    pub join_passes : (relation : Relation) → Spells relation word
+        → ForbidsDisjointIn rows relation → NeedsOptions rows f (HasFormatFault rows f)
+        → HasJoinFault rows f
+    join_passes relation spells forbids h =
+        relation_from (inr (relation, spells, inr (forbids, h)))

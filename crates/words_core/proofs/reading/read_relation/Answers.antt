@@ -1,6 +1,0 @@
-use Rattle.std.proofs.Common.{Err, refl}
-use Rattle.words_core.proofs.ReadingLemmas.{no_relation}
-use Rattle.words_core.proofs.reading.read_relation.Goals as goal
-
-pub relation_fault-requires : goal.relation_fault-requires
-relation_fault-requires c = no_relation (Err c.in-Err.fault) _ _ _ refl (search) c.in-Err.ensures.length c.in-Err.ensures.letter

@@ -1,0 +1,51 @@
+//! The condition of a join: a relation of geometries of one kind.
+
+ghost use Rattle.std.specs.Prelude.{◌≡◌, ◌↔◌, IsOk, IfOk, OnErr};
+ghost use Rattle.words_core.specs.Conditions.{ForbidsDisjoint, HoldsForDisjoint};
+ghost use Rattle.words_core.specs.Conditions.{geometries_of, relation_of};
+
+use any_relation_core::AnyRelation;
+use relation_core::{AllowsDisjoint, JoinRelation, Relation};
+use wkt_any_core::Rings;
+
+/// The kind of geometries that a command takes.
+#[derive(Clone, Copy, Debug, PartialEq, Eq)]
+pub enum Geometries {
+    /// Points, segments parallel to an axis, and rectangles.
+    Box,
+    /// Points, polylines and areas of any direction, with this rule for rings.
+    Any(Rings),
+}
+
+/// A relation of geometries of one kind that holds for no two disjoint ones.
+#[derive(Clone, Copy, Debug, PartialEq, Eq)]
+pub enum Condition {
+    /// A relation of points, segments parallel to an axis, and rectangles.
+    Boxes(JoinRelation),
+    /// A relation of points, polylines and areas of any direction.
+    Any(AnyRelation),
+}
+
+impl Condition {
+    /// The relation of geometries of this kind, if it holds for no two disjoint ones.
+    ///
+    /// # Errors
+    /// `AllowsDisjoint` if it holds for two such geometries.
+    pub fn new(relation: Relation, geometries: Geometries) -> Result<Condition, AllowsDisjoint>
+        ensures ok { IsOk result ↔ ForbidsDisjoint geometries relation }
+        ensures relation { IfOk result (λ condition. relation_of condition ≡ relation) }
+        ensures geometries { IfOk result (λ condition. geometries_of condition ≡ geometries) }
+        ensures err { OnErr result (HoldsForDisjoint geometries relation) }
+    {
+        match geometries {
+            Geometries::Box => {
+                let relation = JoinRelation::new(relation)?;
+                Ok(Condition::Boxes(relation))
+            }
+            Geometries::Any(rings) => {
+                let relation = AnyRelation::new(relation, rings)?;
+                Ok(Condition::Any(relation))
+            }
+        }
+    }
+}

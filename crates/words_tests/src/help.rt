@@ -1,0 +1,52 @@
+//! The help on commands and inputs, and the version.
+
+use crate::help_texts::{
+    OF_BOUNDS, OF_DRAW, OF_JOIN, OF_RELATE, OF_STATS, OF_THE_PROGRAM, OF_WINDOW,
+};
+use crate::words::parted;
+use std::alloc::Global;
+use std::test::Fail;
+use words_core::{WordFault, read_words};
+
+/// Words that ask for help or the version, and the text shown.
+const HELP: &[(&str, &str)] = &[
+    ("rjoin|--version", "rjoin 0.2.0\n"),
+    ("rjoin|--help", OF_THE_PROGRAM),
+    ("rjoin|help", OF_THE_PROGRAM),
+    ("rjoin|relate|--help", OF_RELATE),
+    ("rjoin|join|--help", OF_JOIN),
+    ("rjoin|draw|--help", OF_DRAW),
+    ("rjoin|help|draw", OF_DRAW),
+    ("rjoin|window|--help", OF_WINDOW),
+    ("rjoin|stats|--help", OF_STATS),
+    ("rjoin|bounds|--help", OF_BOUNDS),
+    ("rjoin|help|bounds", OF_BOUNDS),
+];
+
+/// The text of help that words ask for, or no text if they ask for none.
+fn help_of(alloc: Global, words: &'static str) -> Result<String, Fail> {
+    match read_words(alloc, parted(alloc, words)?.as_slice()) {
+        Err(WordFault::Usage { text, help: true }) => Ok(text),
+        _ => Ok(String::new(alloc)),
+    }
+}
+
+#[test]
+fn help_and_version(rt: HostRuntime) -> Result<(), Fail> {
+    for &(words, text) in HELP {
+        assert!(rt; help_of(rt.alloc(), words)?.as_str() == text, "{words}");
+    }
+    Ok(())
+}
+
+#[test]
+fn help_tells_the_farthest_coordinate(rt: HostRuntime) -> Result<(), Fail> {
+    let limit = geom_core::LIMIT;
+    let text = format!(in rt.alloc(); "absolute value is at most {limit}.")?;
+    assert!(rt;
+        help_of(rt.alloc(), "rjoin|--help")?
+            .as_str()
+            .contains(text.as_str())
+    );
+    Ok(())
+}

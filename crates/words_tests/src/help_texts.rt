@@ -1,0 +1,253 @@
+//! The whole help texts of the program and of each command.
+
+pub(crate) const OF_THE_PROGRAM: &str = "\
+Joins two layers of geometries by a spatial relation
+
+Usage: rjoin <COMMAND>
+
+Commands:
+  relate  Writes the DE-9IM matrix of two geometries
+  join    Writes the pairs of features of two layers that stand in a relation
+  draw    Writes a picture of two layers and of the pairs that stand in a relation, as SVG
+  window  Writes the ids of the features of a layer that meet a geometry
+  stats   Counts the features of a layer by kind, and the levels of its tree
+  bounds  Writes the corners of the features of a layer
+  help    Print this message or the help of the given subcommand(s)
+
+Options:
+  -h, --help     Print help
+  -V, --version  Print version
+
+Layers are CSV files with the header id,wkt and one feature per row:
+  id,wkt
+  mill lane,\"LINESTRING (10 0, 10 10)\"
+
+Geometries are points, segments along an axis and rectangles, as well-known text:
+  POINT (4 4)
+  POLYGON ((0 0, 4 0, 4 4, 0 4, 0 0))
+With --geometry any they are points, polylines and polygons of any direction, and MULTI forms.
+
+A coordinate has no decimals, or up to K with --scale K; counted in units of the last decimal, its
+absolute value is at most 1000000000000.
+
+The path - stands for standard input, for at most one file of a command.
+
+Exit status:
+  0  success: the output is written
+  1  a fault of input, output, memory, threads or hashing keys, reported on standard error
+  2  the arguments are invalid
+
+rjoin COMMAND --help gives details.
+";
+
+pub(crate) const OF_RELATE: &str = "\
+Writes the DE-9IM matrix of two geometries
+
+Usage: rjoin relate [OPTIONS] <A> <B>
+
+Arguments:
+  <A>  First geometry, as well-known text
+  <B>  Second geometry, as well-known text
+
+Options:
+      --scale <scale>        Decimals that a coordinate may have, 0 to 6 [default: 0]
+      --geometry <geometry>  Kind of the geometries, box or any [default: box]
+      --rings <rings>        Rings that --geometry any accepts, proper (the default) or even-odd
+  -h, --help                 Print help
+
+Geometries are points, segments along an axis and rectangles:
+  POINT (4 4)    LINESTRING (1 0, 3 0)
+  POLYGON ((0 0, 4 0, 4 4, 0 4, 0 0))
+
+With --geometry any they are points, polylines and polygons of any direction, and MULTI forms:
+  LINESTRING (0 0, 3 2, 5 2)    MULTIPOINT (1 1, 2 2)
+  MULTIPOLYGON (((0 0, 4 0, 0 4, 0 0)), ((9 9, 8 9, 9 8, 9 9)))
+Rings that cross or run along each other are refused. --rings even-odd accepts any closed
+rings: a point that lies on none is inside if a ray from it crosses them an odd number of times.
+
+The nine letters are those of DE-9IM, in three rows of three: interior, boundary and exterior of A,
+each with interior, boundary and exterior of B. F means that the two share nothing, and 0, 1 or 2
+that they share points, lines or areas.
+
+Exit status: 0 for success, 1 for a fault of a text or of the output, 2 for invalid arguments
+";
+
+pub(crate) const OF_JOIN: &str = "\
+Writes the pairs of features of two layers that stand in a relation
+
+Usage: rjoin join [OPTIONS] --relation <relation> <LEFT> <RIGHT>
+
+Arguments:
+  <LEFT>   CSV file of the left layer
+  <RIGHT>  CSV file of the right layer
+
+Options:
+      --relation <relation>  Name of a relation, or mask of nine letters
+      --edits <edits>        CSV file of edits, which are applied before the join
+      --workers <workers>    Number of threads, 1 to 16 [default: 4]
+      --batch <batch>        Pairs per batch, 1 to 4096 [default: 256]
+      --cut <cut>            Rounds of cutting the trees into tasks, 0 to 8 [default: 2]
+      --scale <scale>        Decimals that a coordinate may have, 0 to 6 [default: 0]
+      --geometry <geometry>  Kind of the geometries, box or any [default: box]
+      --rings <rings>        Rings that --geometry any accepts, proper (the default) or even-odd
+  -h, --help                 Print help
+
+A layer is a CSV file such as             Edits are a CSV file such as
+  id,wkt                                    op,layer,id,wkt
+  mill,\"LINESTRING (10 0, 10 10)\"           insert,left,inn,POINT (4 4)
+
+The path - stands for standard input, for at most one of the files.
+
+Geometries are points, segments along an axis and rectangles. With --geometry any they are points,
+polylines and polygons of any direction, and MULTI forms; rings that cross or run along each other
+are refused, and --rings even-odd accepts any closed rings, as rjoin relate --help describes.
+
+Relations of a left feature to a right one:
+  intersects  they share a point
+  touches     they share a point, and their interiors share none
+  crosses     different dimensions: their interiors share a point, and the one of lower dimension
+              also has points outside the other; two lines: their interiors share isolated points
+  within      the left one lies in the right one, and their interiors share a point
+  contains    the right one lies in the left one, and their interiors share a point
+  overlaps    equal dimensions, which the intersection of their interiors has too, and each also
+              has points outside the other
+  equals      they are the same set of points
+  disjoint    they share no point: refused, like each mask that disjoint features may fit
+A mask of nine letters may replace the name, with one for each letter of the matrix: T asks for
+0, 1 or 2, and F, 0, 1 and 2 for that letter; * allows any.
+
+The report is CSV: left,right,matrix, and for each pair the two ids and the nine letters of DE-9IM,
+in three rows of three: interior, boundary and exterior of the left one, each with interior,
+boundary and exterior of the right one. F means that the two share nothing, and 0, 1 or 2 that they
+share points, lines or areas. Neither --workers nor --batch nor --cut changes the report.
+
+Exit status: 0 for success, 1 for a fault of a file, output, memory, threads or hashing keys, 2 for
+invalid arguments
+";
+
+pub(crate) const OF_DRAW: &str = "\
+Writes a picture of two layers and of the pairs that stand in a relation, as SVG
+
+Usage: rjoin draw [OPTIONS] --relation <relation> <LEFT> <RIGHT>
+
+Arguments:
+  <LEFT>   CSV file of the left layer
+  <RIGHT>  CSV file of the right layer
+
+Options:
+      --relation <relation>  Name of a relation, or mask of nine letters
+      --edits <edits>        CSV file of edits, which are applied before the join
+      --workers <workers>    Number of threads, 1 to 16 [default: 4]
+      --batch <batch>        Pairs per batch, 1 to 4096 [default: 256]
+      --cut <cut>            Rounds of cutting the trees into tasks, 0 to 8 [default: 2]
+      --scale <scale>        Decimals that a coordinate may have, 0 to 6 [default: 0]
+      --geometry <geometry>  Kind of the geometries, box or any [default: box]
+      --rings <rings>        Rings that --geometry any accepts, proper (the default) or even-odd
+  -h, --help                 Print help
+
+The layers are read, edited and joined as by rjoin join; its --help describes files, geometries and
+relations.
+
+The picture is SVG 1.1, which browsers show: the second axis upwards, left features in blue and
+right ones in orange, those that occur in a pair highlighted by stronger lines and fills, each with
+its id as a title that appears under the pointer. A legend counts features and pairs:
+  rjoin draw parcels.csv roads.csv --relation touches > picture.svg
+
+Layers with more than 100000 features together, after the edits, are refused. Neither --workers nor
+--batch nor --cut changes the picture.
+
+Exit status: 0 for success, 1 for a fault of a file, output, memory, threads or hashing keys, or too
+many features, 2 for invalid arguments
+";
+
+pub(crate) const OF_WINDOW: &str = "\
+Writes the ids of the features of a layer that meet a geometry
+
+Usage: rjoin window [OPTIONS] <LAYER> <WKT>
+
+Arguments:
+  <LAYER>  CSV file of the layer
+  <WKT>    Geometry of the window, as well-known text
+
+Options:
+      --scale <scale>        Decimals that a coordinate may have, 0 to 6 [default: 0]
+      --geometry <geometry>  Kind of the geometries, box or any [default: box]
+      --rings <rings>        Rings that --geometry any accepts, proper (the default) or even-odd
+  -h, --help                 Print help
+
+A layer is a CSV file such as
+  id,wkt
+  mill lane,\"LINESTRING (10 0, 10 10)\"
+The path - stands for standard input.
+
+Geometries are points, segments along an axis and rectangles. With --geometry any the features and
+the window are points, polylines and polygons of any direction, and MULTI forms. Rings that cross or
+run along each other are refused; --rings even-odd accepts any closed rings.
+
+A feature meets the window if they share a point. The output is CSV: id, and then the ids in the
+order of the file.
+
+Exit status: 0 for success, 1 for a fault of the file, WKT, output, memory or hashing keys, 2 for
+invalid arguments
+";
+
+pub(crate) const OF_STATS: &str = "\
+Counts the features of a layer by kind, and the levels of its tree
+
+Usage: rjoin stats [OPTIONS] <LAYER>
+
+Arguments:
+  <LAYER>  CSV file of the layer
+
+Options:
+      --scale <scale>        Decimals that a coordinate may have, 0 to 6 [default: 0]
+      --geometry <geometry>  Kind of the geometries, box or any [default: box]
+      --rings <rings>        Rings that --geometry any accepts, proper (the default) or even-odd
+  -h, --help                 Print help
+
+A layer is a CSV file such as
+  id,wkt
+  mill lane,\"LINESTRING (10 0, 10 10)\"
+The path - stands for standard input.
+
+Geometries are points, segments along an axis and rectangles. With --geometry any they are points,
+polylines and polygons of any direction, and MULTI forms. Rings that cross or run along each other
+are refused; --rings even-odd accepts any closed rings.
+
+The output has five lines: features, points, segments, rectangles and height, each with a number.
+With --geometry any it has six: features, points, lines, areas, vertices and height.
+
+Exit status: 0 for success, 1 for a fault of the file, output, memory or hashing keys, 2 for
+invalid arguments
+";
+
+pub(crate) const OF_BOUNDS: &str = "\
+Writes the corners of the features of a layer
+
+Usage: rjoin bounds [OPTIONS] <LAYER>
+
+Arguments:
+  <LAYER>  CSV file of the layer
+
+Options:
+      --scale <scale>        Decimals that a coordinate may have, 0 to 6 [default: 0]
+      --geometry <geometry>  Kind of the geometries, box or any [default: box]
+      --rings <rings>        Rings that --geometry any accepts, proper (the default) or even-odd
+  -h, --help                 Print help
+
+A layer is a CSV file such as
+  id,wkt
+  mill lane,\"LINESTRING (10 0, 10 10)\"
+The path - stands for standard input.
+
+Geometries are points, segments along an axis and rectangles. With --geometry any they are points,
+polylines and polygons of any direction, and MULTI forms. Rings that cross or run along each other
+are refused; --rings even-odd accepts any closed rings.
+
+The output is CSV: id,x1,y1,x2,y2, and for each feature, in the order of the file, its id and its
+least and greatest coordinates. They are whole numbers of units of the last decimal: with
+--scale 2, 12.5 is written as 1250.
+
+Exit status: 0 for success, 1 for a fault of the file, output, memory or hashing keys, 2 for
+invalid arguments
+";

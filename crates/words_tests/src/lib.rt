@@ -1,0 +1,13 @@
+//! Tests of the words of the command line, from outside: commands, conditions, faults and help.
+#![tactic(auto)]
+
+#[cfg(test)]
+mod any_words;
+#[cfg(test)]
+mod help;
+#[cfg(test)]
+mod help_texts;
+#[cfg(test)]
+mod refused;
+#[cfg(test)]
+mod words;
