@@ -11,7 +11,8 @@ use Rattle.plane_core.specs.Figures.{Figure, part_of}
 -- the number z / w is on the grid line u, or in the gap u
 pub data LiesAt (z : ℤ) (w : ℕ) (u : ℤ) : Type 0 where
   OnLine : (k : ℤ) → u ≡ line k → z ≡ pos w *ℤ k → LiesAt z w u
-  InGap : (k : ℤ) → u ≡ line k +ℤ pos 1 → (pos w *ℤ k) <ℤ z → z <ℤ (pos w *ℤ k +ℤ pos w) → LiesAt z w u
+  InGap : (k : ℤ) → u ≡ line k +ℤ pos 1 → (pos w *ℤ k) <ℤ z → z <ℤ (pos w *ℤ k +ℤ pos w)
+      → LiesAt z w u
 
 -- the point is in the cell
 pub record IsInCell (p : Point) (u v : ℤ) : Type 0 where

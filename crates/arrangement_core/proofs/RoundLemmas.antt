@@ -12,7 +12,7 @@ use Rattle.plane_core.specs.declared.outline.Outline.{Outline}
 use Rattle.edge_index_core.specs.Around.{IsKept, AreAround}
 use Rattle.edge_index_core.specs.Beyond.{is_beyond}
 use Rattle.noding_core.specs.Nodes.{IsAmong, NodedEdge, AreAllNoded}
-use Rattle.noding_core.specs.Growth.{HasGrownBy, edge_marks, outside, transposed}
+use Rattle.noding_core.specs.Growth.{HasGrownBy, edge_marks, point_marks, outside, transposed}
 use Rattle.noding_core.specs.ReadOffs.{points_by, outline_edges, outline_points, IsOwn, IsEdgeMarked, AreMarked, AreSomeMarked, AreAllMarked, IsReadOffBy}
 use Rattle.noding_core.proofs.AmongLemmas.{among_left, among_right, among_either}
 use Rattle.noding_core.proofs.GrowthLemmas.{grown_as, grown-trans}
@@ -20,7 +20,7 @@ use Rattle.noding_core.proofs.NearLemmas.{contained}
 use Rattle.noding_core.proofs.NodeLemmas.{all_among}
 use Rattle.noding_core.proofs.ReadOffLemmas.{marked_none}
 use Rattle.noding_core.proofs.TestLemmas.{by_test, clash}
-use Rattle.noding_core.proofs.TurnLemmas.{turned_back, marked_from, point_marks, both_points}
+use Rattle.noding_core.proofs.TurnLemmas.{turned_back, marked_from, both_points}
 
 -- no edge, one edge, and one that isn't selected
 pub some_none : (a b : Outline) (es : List Edge) (vs : List Vertex) (which : Edge → Bool) (m : Matrix) → AreSomeMarked a b es vs which [] m m

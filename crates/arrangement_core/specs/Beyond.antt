@@ -53,5 +53,6 @@ pub record IsEdgeShown (m : Matrix) (own : Outline) (part : Part) (e : Edge) : T
 pub record IsOuterShown (m : Matrix) (own : Outline) (s : Shape) : Type 0 where
   pub pieces : AreShown (pick Exterior (transposed m).rows) (parts_along own.kind) Line
   pub faces : AreShown (pick Exterior (transposed m).rows) (parts_above own.kind) Area
-  pub ends : own.kind ≡ Polylines → (e : Edge) (p : Point) → is_beyond s e ≡ true → 0 < p.w → is_on e p ≡ true
-      → is_odd_end own p ≡ true → 1 ≤ rank (pick Exterior (transposed m).rows).boundary
+  pub ends : own.kind ≡ Polylines → (e : Edge) (p : Point) → is_beyond s e ≡ true → 0 < p.w
+      → is_on e p ≡ true → is_odd_end own p ≡ true
+      → 1 ≤ rank (pick Exterior (transposed m).rows).boundary

@@ -8,7 +8,8 @@ use Rattle.plane_core.specs.declared.part.Part.{Part}
 use Rattle.plane_core.specs.declared.part.Part.TheVariants.{Interior, Boundary}
 use Rattle.plane_core.specs.declared.edge.Edge.{Edge}
 use Rattle.plane_core.specs.declared.outline.Kind.{Kind}
-use Rattle.plane_core.specs.declared.outline.Kind.TheVariants.{Points as Dots, Lines as Polylines, Areas as Rings}
+use Rattle.plane_core.specs.declared.outline.Kind.TheVariants.{Points as Dots}
+use Rattle.plane_core.specs.declared.outline.Kind.TheVariants.{Lines as Polylines, Areas as Rings}
 use Rattle.plane_core.specs.declared.outline.Outline.{Outline}
 use Rattle.plane_core.specs.Points.{at, is_on}
 use Rattle.plane_core.specs.PlaneMatrices.{pick}
@@ -39,10 +40,12 @@ parts_passed Rings = record { interior = true; boundary = false; exterior = true
 
 -- the matrix has all that an edge can show that runs along none of the other geometry, whose edges
 -- near it are given
-pub record IsAllShown (m : Matrix) (own other : Outline) (e : Edge) (near : List Edge) : Type 0 where
+pub record IsAllShown (m : Matrix) (own other : Outline) (e : Edge) (near : List Edge)
+    : Type 0 where
   pub own_edges : own.kind ≢ Dots
   pub other_edges : other.kind ≢ Dots
   pub free : own.kind ≡ Polylines → has_no_end own e ≡ true
-  pub nodes : AreShown (pick (part_along own.kind) m.rows) (parts_met other.kind (is_touched e near)) Dot
+  pub nodes : AreShown (pick (part_along own.kind) m.rows)
+      (parts_met other.kind (is_touched e near)) Dot
   pub pieces : AreShown (pick (part_along own.kind) m.rows) (parts_passed other.kind) Line
   pub faces : IsFaceShown m own.kind other.kind e

@@ -1,5 +1,6 @@
 -- What a point can add to a matrix, by the parts in which it may lie.
-use Rattle.std.specs.Prelude.{◌≡◌, ◌≢◌, ℕ, ◌≤◌, ◌<◌, ◌-◌, pos, Bool, true, false, ◌&&◌, not, List, All, count_by}
+use Rattle.std.specs.Prelude.{◌≡◌, ◌≢◌, ℕ, ◌≤◌, ◌<◌, ◌-◌, pos, Bool, true, false, ◌&&◌, not}
+use Rattle.std.specs.Prelude.{List, All, count_by}
 use Rattle.std.specs.Ordering.{int_eq, is_lt}
 use Rattle.std.specs.List.{list_any, list_all, slice_index_or}
 use Rattle.relation_core.specs.declared.extent.Extent.{Extent}
@@ -9,7 +10,8 @@ use Rattle.plane_core.specs.declared.part.Part.{Part}
 use Rattle.plane_core.specs.declared.edge.Edge.{Edge}
 use Rattle.plane_core.specs.declared.node.Node.{Node}
 use Rattle.plane_core.specs.declared.outline.Kind.{Kind}
-use Rattle.plane_core.specs.declared.outline.Kind.TheVariants.{Points as Dots, Lines as Polylines, Areas as Rings}
+use Rattle.plane_core.specs.declared.outline.Kind.TheVariants.{Points as Dots}
+use Rattle.plane_core.specs.declared.outline.Kind.TheVariants.{Lines as Polylines, Areas as Rings}
 use Rattle.plane_core.specs.declared.outline.Outline.{Outline}
 use Rattle.plane_core.specs.Boxes.{do_boxes_meet}
 use Rattle.plane_core.specs.Points.{Point, at, run, is_on, is_at, side, turn_of, IsSamePlace}

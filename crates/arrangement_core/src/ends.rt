@@ -44,8 +44,8 @@ fn are_settled(first: &Vertex, last: &Vertex, bounds: &Shape) -> bool
     is_closed | (is_first_held & is_last_held)
 }
 
-/// Whether no point beyond a box is an end of polylines an odd number of times, by the ends of each:
-/// those of a polyline are equal or both in the box.
+/// Whether no point beyond a box is an end of polylines an odd number of times, by the ends of
+/// each: those of a polyline are equal or both in the box.
 pub(crate) fn has_no_outer_end(ends: &[Vertex], bounds: &Shape) -> bool
     ensures { IsTrue result → HasNoOuterEnd bounds.now ends.now }
 {

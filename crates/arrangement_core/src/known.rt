@@ -135,7 +135,8 @@ fn is_all_shown(matrix: &Matrix, own: &Outline, other: &Outline, e: &Edge, near:
 
 /// The part that is seen, if one is.
 pub(crate) fn part_seen(seen: Option<Seen>) -> Option<Part>
-    ensures { (o : Outline) (e : Edge) → IfSome seen (IsSeenAlong o e) → IfSome result (LiesIn o e) }
+    ensures { (o : Outline) (e : Edge)
+        → IfSome seen (IsSeenAlong o e) → IfSome result (LiesIn o e) }
 {
     match seen {
         Some(known) => Some(known.part),

@@ -6,16 +6,16 @@
 ghost use Rattle.std.specs.Prelude.{◌≡◌, ◌<◌, [], ◌∷◌, map, length, true, All, IsTrue};
 ghost use Rattle.std.specs.List.{slice_index_or};
 ghost use Rattle.relation_core.specs.declared.extent.Extent.TheVariants.{Point as Dot};
-ghost use Rattle.plane_core.specs.Points.{at};
 ghost use Rattle.plane_core.specs.Places.{point_of, node_point};
 ghost use Rattle.plane_core.specs.PlaneMatrices.{pick};
 ghost use Rattle.arrangement_core.specs.Lying.{IsKnownIn};
 ghost use Rattle.noding_core.specs.Nodes.{NodedEdge};
 ghost use Rattle.noding_core.specs.Growth.{HasGrownBy, mark_at, mark_in, mark_beside};
 ghost use Rattle.noding_core.specs.Growth.{piece_marks, gap_marks, gaps_marks, edge_marks};
+ghost use Rattle.noding_core.specs.Growth.{point_marks};
 ghost use Rattle.noding_core.specs.ReadOffs.{points_by};
-ghost use Rattle.arrangement_core.specs.Shown.{all_parts, AreShown, IsOnEdge, IsOnCourse};
-ghost use Rattle.arrangement_core.specs.Shown.{IsUncrossed, IsKnownApart, AreCuts, IsRepeated, IsGap};
+ghost use Rattle.arrangement_core.specs.Shown.{all_parts, AreShown, IsOnEdge, IsOnCourse, IsGap};
+ghost use Rattle.arrangement_core.specs.Shown.{IsUncrossed, IsKnownApart, AreCuts, IsRepeated};
 
 use crate::course::{Course, standing_of};
 use crate::pair::Pair;
@@ -196,8 +196,7 @@ fn mark_gaps(matrix: Matrix, pair: &Pair, course: &Course, nodes: &[Node]) -> Ma
 /// The matrix with single points, which are interior points of the first geometry.
 fn mark_each(matrix: Matrix, own: &IndexedOutline, other: &IndexedOutline) -> Matrix
     requires { own.now.kind ≡ Kind.Points }
-    ensures { let marks = map (λ v. mark_at own.now other.now Dot (at v)) own.now.ends.items in
-        HasGrownBy marks matrix result }
+    ensures { HasGrownBy (point_marks own.now other.now own.now.ends.items) matrix result }
 {
     let mut grown = matrix;
     let points = own.outline().ends.as_slice();
@@ -210,7 +209,7 @@ fn mark_each(matrix: Matrix, own: &IndexedOutline, other: &IndexedOutline) -> Ma
 /// The matrix with the points of the first geometry, if that consists of points.
 pub(crate) fn mark_points(matrix: Matrix, own: &IndexedOutline, other: &IndexedOutline) -> Matrix
     ensures { let points = points_by own.now.kind own.now.ends.items in
-        HasGrownBy (map (λ v. mark_at own.now other.now Dot (at v)) points) matrix result }
+        HasGrownBy (point_marks own.now other.now points) matrix result }
 {
     match own.outline().kind {
         Kind::Points => mark_each(matrix, own, other),

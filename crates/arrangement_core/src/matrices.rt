@@ -23,7 +23,8 @@ use std::alloc::{AllocError, Global};
 
 /// Adds the points of a geometry, if it consists of points.
 fn push_points(points: &mut Vec<Vertex>, a: &Outline) -> Result<(), AllocError>
-    ensures { OnOk result (points.new.items ≡ points.old.items ++ points_by a.now.kind a.now.ends.items) }
+    ensures { OnOk result
+        (points.new.items ≡ points.old.items ++ points_by a.now.kind a.now.ends.items) }
 {
     match a.kind {
         Kind::Points => {

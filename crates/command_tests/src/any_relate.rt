@@ -1,5 +1,5 @@
-//! Geometries of any direction related by the program: matrices, improper rings, and faults of texts
-//! and of words.
+//! Geometries of any direction related by the program: matrices, improper rings, and faults of
+//! texts and of words.
 
 use crate::runs::{Run, check};
 use std::test::Fail;

@@ -13,4 +13,5 @@ edges_at es d xs = map (λ x. slice_index_or es x.number d) xs
 
 -- a scan of some edges becomes one of these and of those with the entries' numbers
 pub record AddsScan (es : List Edge) (p : Point) (xs : List Entry) (old new : Scan) : Type 0 where
-  pub added : (d : Edge) (done : List Edge) → IsScan done p old → IsScan (done ++ edges_at es d xs) p new
+  pub added : (d : Edge) (done : List Edge) → IsScan done p old
+      → IsScan (done ++ edges_at es d xs) p new

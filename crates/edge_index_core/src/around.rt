@@ -35,7 +35,8 @@ pub(crate) fn scan_around(
 /// The edges at some indexes.
 fn edges_at(alloc: Global, edges: &[Edge], indexes: &[u32]) -> Result<Vec<Edge>, AllocError>
     requires { All (λ k. k < length edges.now) indexes.now }
-    ensures { IfOk result (λ v. (d : Edge) → v.items ≡ map (λ k. slice_index_or edges.now k d) indexes.now) }
+    ensures { IfOk result (λ v. (d : Edge)
+        → v.items ≡ map (λ k. slice_index_or edges.now k d) indexes.now) }
 {
     let mut found = Vec::with_capacity(alloc, indexes.len())?;
     for k in indexes {

@@ -33,8 +33,8 @@ BlamesBytes read_faults.Io = ⊥
 BlamesBytes read_faults.Memory = ⊥
 BlamesBytes _ = ⊤
 
--- the result, of which this is the list of a layer, is that of the layer's file, a fault of a device,
--- or that memory ran out
+-- the result, of which this is the list of a layer, is that of the layer's file, a fault of a
+-- device, or that memory ran out
 pub record ReadsList {G T : Type 0} (list : T → Contents G) (reads : Reading G)
     (known : Option (List ℕ)) (answer : Result T ReadFault) : Type 0 where
   pub ok : IfOk answer (λ layer. LayerFile reads known (Ok (list layer)))

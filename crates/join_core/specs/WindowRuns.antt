@@ -19,7 +19,8 @@ pub data WindowGives (scale : Scale) (wkt : List ℕ) (file : Option (List ℕ))
   text_fault : (f : WktFault) → Reads scale wkt (Err f)
       → WindowGives scale wkt file (Err (Wkt input.Window f))
   looked_up : (window : Shape) (answer : Result (List ℕ) RunFault) → Reads scale wkt (Ok window)
-      → LayerGives (IsWindowList window) (ReadsBox scale) file answer → WindowGives scale wkt file answer
+      → LayerGives (IsWindowList window) (ReadsBox scale) file answer
+      → WindowGives scale wkt file answer
 
 -- the fault of the window's text
 abbrev pub HasWindowFault : Scale → List ℕ → Input → WktFault → Type 0

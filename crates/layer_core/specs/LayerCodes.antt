@@ -27,7 +27,8 @@ coded_contents {G = G} coded_shape =
 -- the list with the root
 abbrev pub coded_layer : {G : Type 0} → Coded G → Coded (LayerState G)
 coded_layer {G = G} coded_shape =
-    code_by (Contents G × Option Node) (coded× (coded_contents coded_shape) (coded_option node.the_row.coded))
+    code_by (Contents G × Option Node)
+    (coded× (coded_contents coded_shape) (coded_option node.the_row.coded))
     (λ s. (s.list, s.root)) (λ p. record { list = p.0; root = p.1 }) (λ _. refl)
 
 -- the list with the room

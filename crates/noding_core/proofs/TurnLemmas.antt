@@ -20,7 +20,7 @@ use Rattle.plane_core.specs.Figures.{HasLength}
 use Rattle.noding_core.specs.Nodes.{IsAmong, IsNode, NodedEdge, AreNodesOf, AreNoded, middle}
 use Rattle.noding_core.specs.Nodes.IsNode.{FirstEnd, LastEnd, Meeting, Single}
 use Rattle.noding_core.specs.Marks.{rank}
-use Rattle.noding_core.specs.Growth.{Mark, HasGrownBy, mark_at, mark_above, piece_marks, gap_marks, gaps_marks, edge_marks, transposed}
+use Rattle.noding_core.specs.Growth.{Mark, HasGrownBy, mark_at, mark_above, piece_marks, gap_marks, gaps_marks, edge_marks, point_marks, transposed}
 use Rattle.noding_core.specs.ReadOffs.{outline_edges, IsOwn, AreMarked}
 use Rattle.noding_core.proofs.NodeLemmas.{all_among}
 use Rattle.noding_core.proofs.AmongLemmas.{among_left, among_right, among_either}
@@ -105,9 +105,6 @@ noded_both es vs (x ∷ xs) ys (m ∷ ms) ns h k = (h.0, h.1, noded_both es vs x
 turn_points : (a b : Outline) (vs : List Vertex) → map turn (map (λ (v : Vertex). mark_at b a Dot (at v)) vs) ≡ map (λ (v : Vertex). mark_at a b Dot (at v)) vs
 turn_points a b [] = refl
 turn_points a b (v ∷ vs) = ap (λ (xs : List Mark). mark_at a b Dot (at v) ∷ xs) (turn_points a b vs)
-
-abbrev pub point_marks : Outline → Outline → List Vertex → List Mark
-point_marks a b vs = map (λ (v : Vertex). mark_at a b Dot (at v)) vs
 
 -- the single points of the one geometry, and then those of the other
 pub both_points : (a b : Outline) (vs ws : List Vertex) (old first second : Matrix) → HasGrownBy (point_marks a b vs) old first → HasGrownBy (point_marks b a ws) (transposed first) second

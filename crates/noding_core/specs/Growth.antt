@@ -7,9 +7,10 @@ use Rattle.relation_core.specs.declared.part.Parts.{Parts}
 use Rattle.relation_core.specs.declared.matrix.Matrix.{Matrix}
 use Rattle.plane_core.specs.declared.part.Part.{Part}
 use Rattle.plane_core.specs.declared.part.Part.TheVariants.{Interior, Boundary, Exterior}
+use Rattle.plane_core.specs.declared.vertex.Vertex.{Vertex}
 use Rattle.plane_core.specs.declared.edge.Edge.{Edge}
 use Rattle.plane_core.specs.declared.outline.Outline.{Outline}
-use Rattle.plane_core.specs.Points.{Point, run}
+use Rattle.plane_core.specs.Points.{Point, at, run}
 use Rattle.plane_core.specs.Places.{place_order}
 use Rattle.plane_core.specs.Outlines.{outline_part, outline_above}
 use Rattle.plane_core.specs.PlaneMatrices.{entry}
@@ -23,7 +24,11 @@ pub record Mark : Type 0 where
   pub extent : Extent
 
 abbrev pub mark_at : Outline → Outline → Extent → Point → Mark
-mark_at a b extent p = record { first = outline_part a p; second = outline_part b p; extent = extent }
+mark_at a b extent p = record {
+  first = outline_part a p;
+  second = outline_part b p;
+  extent = extent;
+}
 
 abbrev pub mark_above : Outline → Outline → Point → Mark
 mark_above a b p = record { first = outline_above a p; second = outline_above b p; extent = Area }
@@ -61,6 +66,10 @@ gaps_marks a b e (m ∷ n ∷ ns) = gap_marks a b e m n ++ gaps_marks a b e (n �
 abbrev pub edge_marks : Outline → Outline → NodedEdge → List Mark
 edge_marks a b n = map (mark_at a b Dot) n.nodes ++ gaps_marks a b n.edge n.nodes
 
+-- the marks of single points
+abbrev pub point_marks : Outline → Outline → List Vertex → List Mark
+point_marks a b vs = map (λ v. mark_at a b Dot (at v)) vs
+
 -- the three values with one replaced
 abbrev pub with_part : {A : Type 0} → Part → A → Parts A → Parts A
 with_part Interior v parts = record parts { interior = v }
@@ -71,7 +80,8 @@ with_part Exterior v parts = record parts { exterior = v }
 abbrev pub outside : Matrix
 outside =
     let none : Parts Extent = record { interior = Empty; boundary = Empty; exterior = Empty } in
-    record { rows = record { interior = none; boundary = none; exterior = record none { exterior = Area } } }
+    let last : Parts Extent = record none { exterior = Area } in
+    record { rows = record { interior = none; boundary = none; exterior = last } }
 
 -- rows as columns
 abbrev pub column : Part → Matrix → Parts Extent

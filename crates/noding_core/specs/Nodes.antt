@@ -37,7 +37,8 @@ pub record IsPointOf (e : Edge) (p : Point) : Type 0 where
   pub on : is_on e p ≡ true
 
 -- points of an edge in order, including both its ends and all nodes on it
-pub record AreNodesOf (es : List Edge) (vs : List Vertex) (e : Edge) (ns : List Point) : Type 0 where
+pub record AreNodesOf (es : List Edge) (vs : List Vertex) (e : Edge) (ns : List Point)
+    : Type 0 where
   pub points : All (IsPointOf e) ns
   pub ascend : Ascend ns
   pub first_end : IsPlaceOf (at e.a) ns

@@ -88,42 +88,22 @@ pub fn transposed(matrix: &Matrix) -> Matrix
     }
 }
 
-/// A row with one entry replaced.
-fn with_entry(row: Parts<Extent>, part: Part, extent: Extent) -> Parts<Extent>
-    ensures { result ≡ with_part part extent row }
+/// The three values with one replaced.
+fn with_value<T: Copy>(values: Parts<T>, part: Part, value: T) -> Parts<T>
+    ensures { result ≡ with_part part value values }
 {
     match part {
         Part::Interior => Parts {
-            interior: extent,
-            ..row
+            interior: value,
+            ..values
         },
         Part::Boundary => Parts {
-            boundary: extent,
-            ..row
+            boundary: value,
+            ..values
         },
         Part::Exterior => Parts {
-            exterior: extent,
-            ..row
-        },
-    }
-}
-
-/// Rows with one row replaced.
-fn with_row(rows: Parts<Parts<Extent>>, part: Part, row: Parts<Extent>) -> Parts<Parts<Extent>>
-    ensures { result ≡ with_part part row rows }
-{
-    match part {
-        Part::Interior => Parts {
-            interior: row,
-            ..rows
-        },
-        Part::Boundary => Parts {
-            boundary: row,
-            ..rows
-        },
-        Part::Exterior => Parts {
-            exterior: row,
-            ..rows
+            exterior: value,
+            ..values
         },
     }
 }
@@ -138,8 +118,8 @@ pub fn raised(matrix: Matrix, first: Part, second: Part, extent: Extent) -> Matr
     let low = rank(known);
     let high = rank(extent);
     if low < high {
-        let changed = with_entry(row, second, extent);
-        let rows = with_row(matrix.rows, first, changed);
+        let changed = with_value(row, second, extent);
+        let rows = with_value(matrix.rows, first, changed);
         Matrix { rows }
     } else {
         matrix

@@ -1,5 +1,5 @@
-//! The nodes of edges, and the matrix of two geometries in terms of these: of the nodes, the pieces of
-//! edges between them, and the faces above the pieces.
+//! The nodes of edges, and the matrix of two geometries in terms of these: of the nodes, the
+//! pieces of edges between them, and the faces above the pieces.
 #![tactic(auto)]
 
 mod entries;

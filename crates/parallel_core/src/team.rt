@@ -105,7 +105,8 @@ pub(crate) fn run<R: Threads + Wait + Sync, W: Work + Sync>(
             requires outlet { outlet.now ≡ (W.job work.now).outlet }
             requires batch { 0 < (W.job work.now).size }
             requires tasks { let it = W.job work.now in it.board.tasks ≡ length it.plan }
-            requires beside { let it = W.job work.now in IsBeside it.board it.outlet team seat port }
+            requires beside { let it = W.job work.now in
+                IsBeside it.board it.outlet team seat port }
             requires index { index ≡ index_of port }
             ensures { let count = length team.ports.items + 1 in
                 let room = vec_capacity team.seats in

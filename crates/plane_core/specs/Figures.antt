@@ -1,7 +1,7 @@
 -- Geometries as lists of vertices, and their interior, boundary and exterior, as sets of points
 -- (OGC 06-103r4, 6.1.3 to 6.1.14).
-use Rattle.std.specs.Prelude.{◌≡◌, ⊤, ℕ, ◌+◌, ◌<◌, ◌%◌, Bool, cond, List, [], ◌∷◌, ◌==◌, count_by, sum_by}
-use Rattle.std.specs.Prelude.{length, if◌then◌else◌, All}
+use Rattle.std.specs.Prelude.{◌≡◌, ⊤, ℕ, ◌+◌, ◌<◌, ◌%◌, Bool, cond, List, [], ◌∷◌, ◌==◌}
+use Rattle.std.specs.Prelude.{count_by, sum_by, length, if◌then◌else◌, All}
 use Rattle.std.specs.List.{list_any, flat_map}
 use Rattle.plane_core.specs.declared.vertex.Vertex.{Vertex}
 use Rattle.plane_core.specs.declared.edge.Edge.{Edge}
@@ -101,4 +101,5 @@ abbrev pub part_above : Figure → Point → Part
 part_above (Points vs) p = Exterior
 part_above (Lines paths) p = Exterior
 part_above (Areas rings) p =
-    if is_odd (count_by (λ e. is_at_or_below e p) (flat_map edges rings)) then Interior else Exterior
+    if is_odd (count_by (λ e. is_at_or_below e p) (flat_map edges rings)) then Interior
+    else Exterior

@@ -6,7 +6,8 @@ use Rattle.plane_core.specs.declared.edge.Edge.{Edge}
 use Rattle.plane_core.specs.declared.part.Part.{Part}
 use Rattle.plane_core.specs.declared.part.Part.TheVariants.{Interior, Boundary, Exterior}
 use Rattle.plane_core.specs.declared.outline.Kind.{Kind}
-use Rattle.plane_core.specs.declared.outline.Kind.TheVariants.{Points as Dots, Lines as Polylines, Areas as Rings}
+use Rattle.plane_core.specs.declared.outline.Kind.TheVariants.{Points as Dots}
+use Rattle.plane_core.specs.declared.outline.Kind.TheVariants.{Lines as Polylines, Areas as Rings}
 use Rattle.plane_core.specs.declared.outline.Outline.{Outline}
 use Rattle.plane_core.specs.declared.outline.Scan.{Scan}
 use Rattle.plane_core.specs.Points.{Point, is_on, is_below, is_at_or_below, is_at}

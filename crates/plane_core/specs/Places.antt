@@ -17,7 +17,8 @@ node_point n = point_of n.place
 -- the order by x, and then by y
 abbrev pub place_order : Point → Point → Ordering
 place_order p q =
-    ordering_then (int_cmp (p.x *ℤ pos q.w) (q.x *ℤ pos p.w)) (int_cmp (p.y *ℤ pos q.w) (q.y *ℤ pos p.w))
+    ordering_then (int_cmp (p.x *ℤ pos q.w) (q.x *ℤ pos p.w))
+    (int_cmp (p.y *ℤ pos q.w) (q.y *ℤ pos p.w))
 
 -- how an edge lies to a point
 pub record IsLie (e : Edge) (p : Point) (lie : Lie) : Type 0 where

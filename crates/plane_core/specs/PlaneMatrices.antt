@@ -25,8 +25,8 @@ ShareSegment P =
 
 abbrev pub ShareTriangle : (Point → Type 0) → Type 0
 ShareTriangle P =
-    (p : Point) × (q : Point) × (r : Point) × (0 < p.w) × (0 < q.w) × (0 < r.w) × ¬ (turn p q r ≡ pos 0)
-    × ((s t u : ℕ) → 0 < s + t + u → P (mix 1 (mix s p t q) u r))
+    (p : Point) × (q : Point) × (r : Point) × (0 < p.w) × (0 < q.w) × (0 < r.w)
+    × ¬ (turn p q r ≡ pos 0) × ((s t u : ℕ) → 0 < s + t + u → P (mix 1 (mix s p t q) u r))
 
 -- the greatest dimension of the intersection
 abbrev pub IsEntry : (Point → Type 0) → Extent → Type 0

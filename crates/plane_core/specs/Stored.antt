@@ -3,7 +3,8 @@ use Rattle.std.specs.Prelude.{◌≡◌, ℕ, ◌≤◌, List, [], ◌∷◌, le
 use Rattle.std.specs.List.{slice_range}
 use Rattle.plane_core.specs.declared.vertex.Vertex.{Vertex}
 use Rattle.plane_core.specs.declared.outline.Kind.{Kind}
-use Rattle.plane_core.specs.declared.outline.Kind.TheVariants.{Points as Dots, Lines as Polylines, Areas as Rings}
+use Rattle.plane_core.specs.declared.outline.Kind.TheVariants.{Points as Dots}
+use Rattle.plane_core.specs.declared.outline.Kind.TheVariants.{Lines as Polylines, Areas as Rings}
 use Rattle.plane_core.specs.Figures.{Figure, IsGeometry}
 use Rattle.plane_core.specs.Figures.Figure.{Points, Lines, Areas}
 

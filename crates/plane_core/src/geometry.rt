@@ -174,7 +174,8 @@ impl Geometry {
         }
     }
 
-    /// The number of vertices of all paths. A ring's last vertex, which equals its first, counts too.
+    /// The number of vertices of all paths. A ring's last vertex, which equals its first, counts
+    /// too.
     pub fn vertex_count(&self) -> usize
         ensures { result ≡ length (vertices_of self.now) }
     {

@@ -1,6 +1,7 @@
 //! A point at which edges end or meet, and the order of such points.
 
-ghost use Rattle.std.specs.Prelude.{◌≡◌, ◌≤◌, ◌*ℤ◌, ◌<ℤ◌, ◌≤ℤ◌, int_lt, pos, nat_abs, IsTrue, IfSome, IfNone};
+ghost use Rattle.std.specs.Prelude.{◌≡◌, ◌≤◌, IsTrue, IfSome, IfNone};
+ghost use Rattle.std.specs.Prelude.{◌*ℤ◌, ◌<ℤ◌, ◌≤ℤ◌, int_lt, pos, nat_abs};
 ghost use Rattle.std.specs.Ordering.{int_cmp};
 ghost use Rattle.plane_core.specs.Limits.{greatest_turn};
 ghost use Rattle.plane_core.specs.Crossings.{is_zero_between, is_not_zero, do_cross};

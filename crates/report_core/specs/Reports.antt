@@ -47,7 +47,8 @@ pub record HasRecords {A : Type 0} (IsRecord : A → List (List ℕ) → Type 0)
   pub are_rows : AllZip IsRecord items rows
   pub written : text ≡ csv_text (first ++ rows)
 
--- the header, and one record for each pair in order; which matrix two geometries have is a parameter
+-- the header, and one record for each pair in order; which matrix two geometries have is a
+-- parameter
 abbrev pub IsReport : {G : Type 0} → (G → G → Matrix → Type 0) → Contents G → Contents G
     → List (ℕ × ℕ) → List ℕ → Type 0
 IsReport is_matrix left right pairs text =

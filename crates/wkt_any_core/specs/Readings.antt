@@ -3,7 +3,8 @@ use Rattle.std.specs.Prelude.{◌≡◌, ℕ, List, Result, Ok, Err}
 use Rattle.plane_core.specs.Figures.{Figure}
 use Rattle.wkt_core.specs.declared.scale.Scale.{Scale}
 use Rattle.wkt_any_core.specs.declared.fault.GeometryFault.{GeometryFault}
-use Rattle.wkt_any_core.specs.declared.fault.GeometryFault.TheVariants.{Text, Number, Form, Rings as RingFault}
+use Rattle.wkt_any_core.specs.declared.fault.GeometryFault.TheVariants.{Text, Number, Form}
+use Rattle.wkt_any_core.specs.declared.fault.GeometryFault.TheVariants.{Rings as RingFault}
 use Rattle.plane_core.specs.declared.rings.Rings.{Rings}
 use Rattle.wkt_any_core.specs.Spelling.{Spells, HasNoRawForm, HasBadNumber, HasNoFigure}
 use Rattle.wkt_any_core.specs.Spelling.{HasImproperRings}

@@ -76,8 +76,8 @@ fn read_edit_list<F: Format, E: Source>(
     edits: &mut Option<E>,
 ) -> Result<Vec<Edit<F::Geometry>>, RunFault>
     requires { IfSome edits.old (λ e. E.has_failed e ≡ false) }
-    ensures ok { IfOk result (λ list.
-        EditFile (F.reads format) (bytes_of E.remaining edits.old) (Ok (map content_of list.items))) }
+    ensures ok { IfOk result (λ list. EditFile (F.reads format) (bytes_of E.remaining edits.old)
+        (Ok (map content_of list.items))) }
     ensures few { IfOk result (λ list. length list.items ≤ most_file_bytes) }
     ensures fault { IfErr result (λ e. (f : ReadFault) × (e ≡ RunFault.Read Input.Edits f)
         × (BlamesBytes f → EditFile (F.reads format) (bytes_of E.remaining edits.old) (Err f))) }

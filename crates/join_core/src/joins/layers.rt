@@ -84,7 +84,8 @@ fn build_and_read<R: Threads + Sync, F: Format, B: Source>(
     { build_taken(reader, left_state, &mut left) };
     let mut read_right = || -> Result<Layer<F::Geometry>, ReadFault>
         requires { B.has_failed right.now ≡ false }
-        ensures reads { Reads (F.reads reader.entry.now.format) (B.remaining right.entry.now) result }
+        ensures reads { Reads (F.reads reader.entry.now.format)
+            (B.remaining right.entry.now) result }
         ensures io { IsErrOf result ReadFault.Io ↔ IsTrue (B.has_failed right.exit.now) }
     { read_layer(reader, right_state, right) };
     if reader.threads > 1 {
