@@ -1,4 +1,6 @@
 pub mod DecisionLemmas
 pub mod JoinLemmas
+pub mod PreparedLemmas
 pub mod RefinedLayers
 pub mod RelatedLemmas
+pub mod SyncLemmas

@@ -5,10 +5,10 @@ use Rattle.any_geometry_core.specs.declared.geometry.AnyGeometry.{AnyGeometry}
 use Rattle.any_join_core.specs.declared.features.RelatedFeatures.{RelatedFeatures}
 
 abbrev pub left_of : RelatedFeatures → Contents AnyGeometry
-left_of c = c.left.now.list
+left_of c = c.left
 
 abbrev pub right_of : RelatedFeatures → Contents AnyGeometry
-right_of c = c.right.now.list
+right_of c = c.right
 
 abbrev pub wanted : RelatedFeatures → AnyRelation
 wanted c = c.relation.now

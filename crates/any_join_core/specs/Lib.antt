@@ -1,3 +1,5 @@
 pub mod Conditions
 pub mod Matches
+pub mod Prepared
+pub mod PreparedPairs
 pub mod StandingNear

@@ -1,9 +1,8 @@
 //! The relation of two features of two layers, as a condition that a refinement decides.
 
-use crate::matching::related;
-use any_geometry_core::AnyGeometry;
+use crate::matching::{PreparedPair, related};
+use crate::prepared::PreparedLayer;
 use any_relation_core::AnyRelation;
-use layer_core::Layer;
 use refine_core::Condition;
 use relation_core::Matrix;
 use std::alloc::{AllocError, Global};
@@ -11,8 +10,8 @@ use std::alloc::{AllocError, Global};
 /// Which features of two layers stand in a relation.
 #[derive(Drop)]
 pub struct RelatedFeatures<'a> {
-    left: &'a Layer<AnyGeometry>,
-    right: &'a Layer<AnyGeometry>,
+    left: PreparedLayer<'a>,
+    right: PreparedLayer<'a>,
     relation: &'a AnyRelation,
 }
 
@@ -22,12 +21,12 @@ impl<'a> RelatedFeatures<'a> {
 
     /// The relation of the features of these layers.
     pub fn new(
-        left: &'a Layer<AnyGeometry>,
-        right: &'a Layer<AnyGeometry>,
+        left: PreparedLayer<'a>,
+        right: PreparedLayer<'a>,
         relation: &'a AnyRelation,
     ) -> RelatedFeatures<'a>
-        ensures left { left_of result ≡ left.now.list }
-        ensures right { right_of result ≡ right.now.list }
+        ensures left { left_of result ≡ left.entry }
+        ensures right { right_of result ≡ right.entry }
         ensures relation { wanted result ≡ relation.now }
     {
         RelatedFeatures {
@@ -54,12 +53,16 @@ impl<'a> Condition for RelatedFeatures<'a> {
     ghost answers = { λ c i j m. StandIn (HaveMatrix m) (left_of c) (right_of c) (i, j) };
 
     fn decide(&self, alloc: Global, left: u32, right: u32) -> Result<Option<Matrix>, AllocError> {
+        let prepared = PreparedPair {
+            first: self.left.prepared(left),
+            second: self.right.prepared(right),
+        };
         match (self.left.shape(left), self.right.shape(right)) {
-            (Some(first), Some(second)) => related(alloc, self.relation, first, second),
+            (Some(first), Some(second)) => related(alloc, self.relation, first, second, prepared),
             _ => Ok(None),
         }
     }
 
-    ghost stands_near = { λ c i j stands. standing_near c.relation.now c.left.now.list
-        c.right.now.list i j stands };
+    ghost stands_near = { λ c i j stands. standing_near c.relation.now c.left c.right i j
+        stands };
 }

@@ -10,6 +10,7 @@ ghost use Rattle.any_join_core.specs.Matches.{AreRelated, HasMatrix};
 
 use crate::features::RelatedFeatures;
 use crate::outcome::AnyOutcome;
+use crate::prepared::{PreparedLayer, Side};
 use any_geometry_core::AnyGeometry;
 use any_relation_core::AnyRelation;
 use filter_core::meeting_layers;
@@ -23,8 +24,8 @@ use std::thread::Threads;
 /// The pairs of numbers of the left and right features that stand in the relation, in order, each
 /// with its matrix.
 ///
-/// Workers find the pairs whose boxes meet, and then decide each of these by the two geometries. A
-/// relation for proper rings holds for no geometry that was read by the even-odd rule.
+/// Workers find the pairs whose boxes meet. Large geometries that occur in several of these are
+/// prepared, and then workers decide each pair by its two geometries. A relation for proper rings holds for no geometry that was read by the even-odd rule.
 /// All workers have ended when the call returns.
 ///
 /// # Errors
@@ -46,8 +47,10 @@ pub fn join_any<R: AllocGlobal + Threads + Wait + Sync>(
     ensures err { IfErr result IsWant }
 {
     let candidates = meeting_layers(rt, left, right, options)?;
-    let condition = RelatedFeatures::new(left, right, relation);
     let (alloc, workers) = (rt.alloc(), options.workers());
+    let left = PreparedLayer::new(alloc, left, candidates.pairs(), Side::Left)?;
+    let right = PreparedLayer::new(alloc, right, candidates.pairs(), Side::Right)?;
+    let condition = RelatedFeatures::new(left, right, relation);
     let matches = refine_pairs(rt, alloc, &condition, candidates.pairs(), workers)?;
     Ok(AnyOutcome {
         candidates,

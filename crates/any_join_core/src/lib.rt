@@ -6,9 +6,11 @@ mod features;
 mod join;
 mod matching;
 mod outcome;
+mod prepared;
 
 pub use any_geometry_core::AnyGeometry;
 pub use features::RelatedFeatures;
 pub use join::join_any;
-pub use matching::related;
+pub use matching::{PreparedPair, matrix_of, related};
 pub use outcome::AnyOutcome;
+pub use prepared::{PreparedLayer, Side};

@@ -6,14 +6,22 @@ ghost use Rattle.any_relation_core.specs.AnyRelations.{relation_of, rings_of as 
 ghost use Rattle.any_relation_core.specs.PlaneRelations.{HoldsOf};
 ghost use Rattle.any_geometry_core.specs.AnyGeometries.{figure_of, rings_of};
 ghost use Rattle.any_join_core.specs.Matches.{AreRelated, TakesRule};
+ghost use Rattle.any_join_core.specs.PreparedPairs.{AreOf};
 
 use agreement_core::relate_boxes;
 use any_geometry_core::AnyGeometry;
 use any_relation_core::{AnyRelation, Rings};
-use arrangement_core::relate;
+use arrangement_core::{PreparedGeometry, relate, relate_prepared};
 use plane_core::Geometry;
 use relation_core::Matrix;
 use std::alloc::{AllocError, Global};
+
+/// The prepared forms of two geometries, where there are any.
+#[derive(Clone, Copy)]
+pub struct PreparedPair<'a> {
+    pub first: Option<&'a PreparedGeometry<'a>>,
+    pub second: Option<&'a PreparedGeometry<'a>>,
+}
 
 /// The matrix of two geometries, if they stand in the relation, which takes their rings.
 ///
@@ -24,7 +32,9 @@ pub fn related(
     relation: &AnyRelation,
     first: &AnyGeometry,
     second: &AnyGeometry,
+    prepared: PreparedPair,
 ) -> Result<Option<Matrix>, AllocError>
+    requires { AreOf (figure_of first.now) (figure_of second.now) prepared }
     ensures holds { IfOk result (λ found. IsSome found
         ↔ AreRelated relation.now first.now second.now) }
     ensures matrix { IfOk result (λ found. IfSome found
@@ -36,7 +46,7 @@ pub fn related(
     if !takes_rings(relation, second) {
         return Ok(None);
     }
-    fitting(alloc, relation, first, second)
+    fitting(alloc, relation, first, second, prepared)
 }
 
 /// Whether a relation takes a geometry with such rings.
@@ -57,14 +67,16 @@ fn fitting(
     relation: &AnyRelation,
     first: &AnyGeometry,
     second: &AnyGeometry,
+    prepared: PreparedPair,
 ) -> Result<Option<Matrix>, AllocError>
+    requires { AreOf (figure_of first.now) (figure_of second.now) prepared }
     ensures holds { IfOk result (λ found. IsSome found
         ↔ HoldsOf (relation_of relation.now) (figure_of first.now) (figure_of second.now)) }
     ensures matrix { IfOk result (λ found. IfSome found
         (IsPlaneMatrix (figure_of first.now) (figure_of second.now))) }
 {
     let (first, second) = (first.geometry(), second.geometry());
-    let matrix = matrix_of(alloc, first, second)?;
+    let matrix = matrix_of(alloc, first, second, prepared)?;
     let relation = relation.relation();
     if relation.fits(&matrix, first.dim(), second.dim()) {
         Ok(Some(matrix))
@@ -73,15 +85,31 @@ fn fitting(
     }
 }
 
-/// The matrix of two geometries. Two boxes, such as points and rectangles, take no memory.
+/// The matrix of two geometries. Two boxes, such as points and rectangles, take no memory; of
+/// others, those that aren't prepared are prepared for this matrix alone.
 ///
 /// # Errors
 /// Out of memory.
-fn matrix_of(alloc: Global, first: &Geometry, second: &Geometry) -> Result<Matrix, AllocError>
+pub fn matrix_of(
+    alloc: Global,
+    first: &Geometry,
+    second: &Geometry,
+    prepared: PreparedPair,
+) -> Result<Matrix, AllocError>
+    requires { AreOf first.now second.now prepared }
     ensures { IfOk result (IsPlaneMatrix first.now second.now) }
 {
-    match relate_boxes(first, second) {
-        Some(matrix) => Ok(matrix),
-        None => relate(alloc, first, second),
+    if let Some(matrix) = relate_boxes(first, second) {
+        return Ok(matrix);
+    }
+    match (prepared.first, prepared.second) {
+        (Some(first), Some(second)) => relate_prepared(alloc, first, second),
+        (Some(first), None) => {
+            relate_prepared(alloc, first, &PreparedGeometry::new(alloc, second)?)
+        }
+        (None, Some(second)) => {
+            relate_prepared(alloc, &PreparedGeometry::new(alloc, first)?, second)
+        }
+        (None, None) => relate(alloc, first, second),
     }
 }

@@ -1,5 +1,5 @@
 -- The matches of a join of any geometry, as a report takes them.
-use Rattle.std.proofs.Common.{ℕ, List, All}
+use Rattle.std.proofs.Common.{List, All}
 use Rattle.relation_core.specs.declared.matrix.Matrix.{Matrix}
 use Rattle.layer_core.specs.Layers.{Contents}
 use Rattle.refine_core.specs.declared.refined.Refined.{Refined}

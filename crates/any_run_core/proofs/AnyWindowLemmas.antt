@@ -1,16 +1,12 @@
 -- How a window over a file of any geometry ends, by its text and by the result for the layer.
-use Rattle.std.proofs.Common.{◌≡◌, ◌⊎◌, inl, inr, ℕ, List, Option, Bool, true, false, Result, Ok, Err, IsTrue, ◌↔◌, sym, refl, ◌∙◌}
+use Rattle.std.proofs.Common.{◌≡◌, ℕ, List, Option, Bool, true, false, Result, Ok, Err, IsTrue, sym, refl, subst, ◌∙◌}
 use Rattle.std.proofs.lemmas.Result.{IfErr-weaker}
 use Rattle.any_geometry_core.specs.declared.geometry.AnyGeometry.{AnyGeometry}
 use Rattle.file_core.specs.Formats.{Reading}
-use Rattle.file_core.specs.declared.text_fault.TextFault.TheVariants as text
-use Rattle.wkt_core.specs.declared.fault.WktFault.{WktFault}
-use Rattle.wkt_any_core.specs.declared.fault.GeometryFault.{GeometryFault}
 use Rattle.join_core.specs.declared.fault.Input.{Input}
 use Rattle.join_core.specs.declared.fault.Input.TheVariants.{First, Second, Left, Right, Edits, Layer, Window}
 use Rattle.join_core.specs.declared.fault.RunFault.{RunFault}
 use Rattle.join_core.specs.declared.fault.RunFault.TheVariants.{NoFile, Read, Wkt, Geometry, Edit, Join, TooManyToDraw, Write, Memory, NoKeys}
-use Rattle.join_core.specs.Inputs.{BlamesInput}
 use Rattle.join_core.specs.Jobs.{OnlyAt}
 use Rattle.join_core.specs.LayerRuns.{LayerGives, IsLayerRunFault}
 use Rattle.join_core.specs.Runs.{NoTextFault, RunEnds}
@@ -60,13 +56,14 @@ module _ {S : Type 0} (written : S → Option (List ℕ)) (is_flushed has_failed
   not_looked_up f layer_failed sink is unread fresh = absurd is
 
   -- the result of a window whose text was read
-  pub window_looked_up : {T : Type 0} (w : AnyGeometry) (HasFailed : Input → Type 0) (old new : S) (result : Result T RunFault) → reads wkt (Ok w)
+  pub window_looked_up : {T : Type 0} (window w : AnyGeometry) (HasFailed : Input → Type 0) (old new : S) (result : Result T RunFault) → w ≡ window → reads wkt (Ok window)
       → RunEnds (LayerGives (IsAnyWindowList w) reads file) NoTextFault (IsLayerRunFault reads file) HasFailed written is_flushed has_failed old new result
       → RunEnds (AnyWindowGives reads wkt file) NoTextFault (IsAnyWindowFault reads wkt file) HasFailed written is_flushed has_failed old new result
-  window_looked_up w HasFailed old new result spelled ends = record {
-    writes = ends_as _ _ written is_flushed has_failed old new result (λ text given. looked_up w (Ok text) spelled given) ends.writes;
-    wkt = ends.wkt;
-    fault = IfErr-weaker result _ _ (λ f given blame. looked_up w (Err f) spelled (given blame)) ends.fault;
-    faults = IfErr-weaker result _ _ (λ f is other. of_layer reads wkt file w spelled f (is other)) ends.faults;
-    io = ends.io;
-  }
+  window_looked_up window w HasFailed old new result same read ends =
+      let spelled : reads wkt (Ok w) = subst (λ (v : AnyGeometry). reads wkt (Ok v)) (sym same) read in record {
+        writes = ends_as _ _ written is_flushed has_failed old new result (λ text given. looked_up w (Ok text) spelled given) ends.writes;
+        wkt = ends.wkt;
+        fault = IfErr-weaker result _ _ (λ f given blame. looked_up w (Err f) spelled (given blame)) ends.fault;
+        faults = IfErr-weaker result _ _ (λ f is other. of_layer reads wkt file w spelled f (is other)) ends.faults;
+        io = ends.io;
+      }

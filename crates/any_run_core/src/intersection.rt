@@ -6,12 +6,14 @@ ghost use Rattle.any_geometry_core.specs.AnyGeometries.{figure_of};
 ghost use Rattle.any_run_core.specs.Intersections.{Intersect, HasCommon};
 
 use any_geometry_core::AnyGeometry;
-use arrangement_core::relate;
+use any_join_core::{PreparedPair, matrix_of};
+use arrangement_core::PreparedGeometry;
 use layer_core::Geometry;
 use relation_core::{Extent, Matrix, Parts};
 use std::alloc::{AllocError, Global};
 
-/// Whether some point lies in neither the exterior of the one geometry nor that of the other.
+/// Whether some point lies in neither the exterior of the one geometry nor that of the other, of
+/// which the second is prepared.
 ///
 /// # Errors
 /// If an allocation fails.
@@ -19,14 +21,20 @@ pub(crate) fn intersect(
     alloc: Global,
     first: &AnyGeometry,
     second: &AnyGeometry,
+    second_prepared: &PreparedGeometry,
 ) -> Result<bool, AllocError>
+    requires { second_prepared.now ≡ figure_of second.now }
     ensures { IfOk result (λ meets. IsTrue meets
         ↔ Intersect (figure_of first.now) (figure_of second.now)) }
 {
     if !first.bounds().meets(&second.bounds()) {
         return Ok(false);
     }
-    let matrix = relate(alloc, first.geometry(), second.geometry())?;
+    let prepared = PreparedPair {
+        first: None,
+        second: Some(second_prepared),
+    };
+    let matrix = matrix_of(alloc, first.geometry(), second.geometry(), prepared)?;
     Ok(has_common(&matrix))
 }
 

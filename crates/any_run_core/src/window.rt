@@ -9,17 +9,19 @@ ghost use Rattle.any_run_core.specs.AnyWindows.{AnyWindowGives, IsAnyWindowFault
 
 use crate::intersection::intersect;
 use any_geometry_core::AnyGeometry;
+use arrangement_core::PreparedGeometry;
 use file_core::{AnyFormat, Format, LayerReader, Source, TextFault};
 use join_core::{Input, Meeting, RunFault, Sink, Window, run_on_layer};
 use std::alloc::{AllocError, Global};
 use std::hash::RandomState;
+use std::marker::Model;
 use std::thread::Threads;
 
 /// Writes the ids of the features of a layer that share a point with a window: a CSV record `id`,
 /// and then one record for each such feature, in layer order.
 ///
 /// The text of the window is read first, then the layer, by several threads; `state` hashes its
-/// ids.
+/// ids. The window is prepared once for its matrices with all features.
 ///
 /// # Errors
 /// The first fault of the window or the layer, after which nothing is written, or a fault of the
@@ -41,38 +43,68 @@ pub fn run_any_window<R: Threads + Sync, L: Source, S: Sink>(
         S.written S.is_flushed S.has_failed sink.old sink.new result }
 {
     match read_window(reader.alloc, reader.format, wkt) {
-        Ok(window) => run_on_layer(reader, state, layer, &Meeting { window }, sink),
+        Ok(geometry) => match AnyWindow::new(reader.alloc, &geometry) {
+            Ok(window) => run_on_layer(reader, state, layer, &Meeting { window }, sink),
+            Err(AllocError) => Err(RunFault::Memory),
+        },
         Err(fault) => Err(fault),
     }
 }
 
 /// Reads the text of a window.
-fn read_window(alloc: Global, format: AnyFormat, wkt: &[u8]) -> Result<AnyWindow, RunFault>
+fn read_window(alloc: Global, format: AnyFormat, wkt: &[u8]) -> Result<AnyGeometry, RunFault>
     ensures ok { IfOk result
-        (λ window. ReadsAny format.scale format.rings wkt.now (Ok window.geometry)) }
+        (λ geometry. ReadsAny format.scale format.rings wkt.now (Ok geometry)) }
     ensures err { IfErr result (IsUnread (ReadsAny format.scale format.rings) wkt.now) }
 {
     match format.read(alloc, wkt)? {
-        Ok(geometry) => Ok(AnyWindow { geometry }),
+        Ok(geometry) => Ok(geometry),
         Err(TextFault::Geometry(fault)) => Err(RunFault::Geometry(Input::Window, fault)),
         Err(TextFault::Wkt(fault)) => Err(RunFault::Wkt(Input::Window, fault)),
     }
 }
 
-/// A window that is a geometry of any kind.
+/// A window that is a geometry of any kind, prepared for its matrices with those of the layer. In
+/// contracts its value is the geometry.
 #[derive(Drop)]
-struct AnyWindow {
-    geometry: AnyGeometry,
+struct AnyWindow<'a> {
+    geometry: &'a AnyGeometry,
+    prepared: PreparedGeometry<'a>,
+}
+
+impl<'a> Model for AnyWindow<'a> {
+    ghost use Rattle.std.specs.Prelude.{◌≡◌};
+    ghost use Rattle.any_geometry_core.specs.declared.geometry.AnyGeometry.{AnyGeometry};
+    ghost use Rattle.any_geometry_core.specs.AnyGeometries.{figure_of};
+
+    ghost Value = { AnyGeometry };
+
+    ghost view = { λ window. window.geometry.now };
+
+    ghost invariant = { λ window. window.prepared ≡ figure_of window.geometry.now };
+}
+
+impl<'a> AnyWindow<'a> {
+    /// Prepares a window.
+    ///
+    /// # Errors
+    /// If an allocation fails.
+    fn new(alloc: Global, geometry: &'a AnyGeometry) -> Result<AnyWindow<'a>, AllocError>
+        ensures { IfOk result (λ window. window ≡ geometry.now) }
+    {
+        let prepared = PreparedGeometry::new(alloc, geometry.geometry())?;
+        Ok(AnyWindow { geometry, prepared })
+    }
 }
 
 /// It meets the geometries that share a point with it.
-impl Window<AnyGeometry> for AnyWindow {
+impl<'a> Window<AnyGeometry> for AnyWindow<'a> {
     ghost use Rattle.any_geometry_core.specs.AnyGeometries.{figure_of};
     ghost use Rattle.any_run_core.specs.Intersections.{Intersect};
 
-    ghost is_met = { λ window g. Intersect (figure_of g) (figure_of window.geometry) };
+    ghost is_met = { λ window g. Intersect (figure_of g) (figure_of window) };
 
     fn meets(&self, alloc: Global, geometry: &AnyGeometry) -> Result<bool, AllocError> {
-        intersect(alloc, geometry, &self.geometry)
+        intersect(alloc, geometry, self.geometry, &self.prepared)
     }
 }

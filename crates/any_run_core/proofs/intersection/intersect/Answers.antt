@@ -1,4 +1,4 @@
-use Rattle.std.proofs.Common.{sym, subst₂, true, false}
+use Rattle.std.proofs.Common.{sym, subst₂}
 use Rattle.geom_core.specs.Cells.{Meets}
 use Rattle.plane_core.specs.PlaneMatrices.{IsPlaneMatrix}
 use Rattle.any_geometry_core.specs.AnyGeometries.{figure_of}

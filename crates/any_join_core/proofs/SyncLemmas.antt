@@ -1,0 +1,29 @@
+-- Layers with prepared geometries may be shared by threads.
+use denote.Ref.{NamedLft}
+use denote.Param.Send.{IsSync, sendable}
+use Rattle.std.proofs.Crossing.{crosses}
+use Rattle.rtree_core.proofs.node.Below.TheLaws.TheKnot as knot
+use Rattle.rtree_core.specs.contracts.tree.RTree as RTree
+use Rattle.edge_index_core.specs.contracts.indexed.IndexedOutline as IndexedOutline
+use Rattle.arrangement_core.specs.contracts.prepared.PreparedGeometry as PreparedGeometry
+use Rattle.any_join_core.specs.contracts.prepared.PreparedFeature as PreparedFeature
+use Rattle.any_join_core.specs.contracts.prepared.PreparedLayer as PreparedLayer
+use Rattle.any_join_core.specs.contracts.features.RelatedFeatures as RelatedFeatures
+
+tree_sync : IsSync RTree.the_row
+tree_sync = search (sendable, crosses, knot.crosses) depth 60 fits 20000
+
+indexed_sync : IsSync IndexedOutline.the_row
+indexed_sync = search (sendable, crosses, tree_sync) depth 60 fits 20000
+
+prepared_sync : (κ : NamedLft) → IsSync (PreparedGeometry.the_row κ)
+prepared_sync κ = search (sendable, crosses, indexed_sync) depth 60 fits 20000
+
+feature_sync : (κ : NamedLft) → IsSync (PreparedFeature.the_row κ)
+feature_sync κ = search (sendable, crosses, prepared_sync) depth 60 fits 20000
+
+layer_sync : (κ : NamedLft) → IsSync (PreparedLayer.the_row κ)
+layer_sync κ = search (sendable, crosses, knot.crosses, feature_sync) depth 60 fits 20000
+
+pub related_sync : (κ : NamedLft) → IsSync (RelatedFeatures.the_row κ)
+related_sync κ = search (sendable, crosses, layer_sync) depth 60 fits 20000
