@@ -2,7 +2,7 @@
 use Rattle.std.proofs.Common.{◌≡◌, ℕ, List, Option, Bool, true, false, Result, Ok, Err, IsTrue, sym, refl, subst, ◌∙◌}
 use Rattle.std.proofs.lemmas.Result.{IfErr-weaker}
 use Rattle.any_geometry_core.specs.declared.geometry.AnyGeometry.{AnyGeometry}
-use Rattle.file_core.specs.Formats.{Reading}
+use Rattle.format_core.specs.Formats.{Reading}
 use Rattle.join_core.specs.declared.fault.Input.{Input}
 use Rattle.join_core.specs.declared.fault.Input.TheVariants.{First, Second, Left, Right, Edits, Layer, Window}
 use Rattle.join_core.specs.declared.fault.RunFault.{RunFault}

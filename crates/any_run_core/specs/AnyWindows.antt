@@ -2,8 +2,8 @@
 use Rattle.std.specs.Prelude.{⊤, ℕ, List, Option, Result, Ok, Err}
 use Rattle.any_geometry_core.specs.declared.geometry.AnyGeometry.{AnyGeometry}
 use Rattle.any_geometry_core.specs.AnyGeometries.{figure_of}
-use Rattle.file_core.specs.Formats.{Reading}
-use Rattle.file_core.specs.declared.text_fault.TextFault.TheVariants as text
+use Rattle.format_core.specs.declared.text_fault.TextFault.TheVariants as text
+use Rattle.format_core.specs.Formats.{Reading}
 use Rattle.layer_core.specs.Layers.{Contents}
 use Rattle.wkt_any_core.specs.declared.fault.GeometryFault.{GeometryFault}
 use Rattle.join_core.specs.declared.fault.Input.TheVariants as input

@@ -3,7 +3,7 @@
 ghost use Rattle.std.specs.Prelude.{◌≡◌, ◌<◌, Ok, Err, false, IfOk, IfErr, IsErrOf};
 ghost use Rattle.any_geometry_core.specs.declared.geometry.AnyGeometry.{AnyGeometry};
 ghost use Rattle.any_relation_core.specs.AnyRelations.{rings_of};
-ghost use Rattle.file_core.specs.Formats.{ReadsAny};
+ghost use Rattle.format_core.specs.Formats.{ReadsAny};
 ghost use Rattle.layer_core.specs.Edits.{both};
 ghost use Rattle.draw_core.specs.Limits.{most_drawn};
 ghost use Rattle.join_core.specs.DrawRuns.{features_of};
@@ -19,7 +19,8 @@ ghost use Rattle.any_run_core.specs.AnyJoinings.{any_joining};
 use any_geometry_core::AnyGeometry;
 use any_join_core::join_any;
 use any_relation_core::AnyRelation;
-use file_core::{AnyFormat, LayerReader, Source};
+use file_core::{LayerReader, Source};
+use format_core::AnyFormat;
 use join_core::{
     JoinJob, JoinSources, Output, RunFault, Sink, Text, can_be_made, edited_layers, free_layers,
 };

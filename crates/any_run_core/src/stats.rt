@@ -1,7 +1,7 @@
 //! Counts of the features of a layer of any geometry.
 
 ghost use Rattle.std.specs.Prelude.{◌≡◌, ◌++◌, false, IfOk, IsTrue, OnOk};
-ghost use Rattle.file_core.specs.Formats.{ReadsAny};
+ghost use Rattle.format_core.specs.Formats.{ReadsAny};
 ghost use Rattle.join_core.specs.declared.fault.Input.{Input};
 ghost use Rattle.join_core.specs.Jobs.{OnlyAt};
 ghost use Rattle.join_core.specs.LayerRuns.{LayerGives, IsLayerRunFault};
@@ -10,7 +10,8 @@ ghost use Rattle.join_core.specs.StatsTexts.{count_line};
 ghost use Rattle.any_run_core.specs.AnyStats.{AreAnyCounts, any_stats_text, vertices_in};
 
 use any_geometry_core::AnyGeometry;
-use file_core::{AnyFormat, LayerReader, Source};
+use file_core::{LayerReader, Source};
+use format_core::AnyFormat;
 use itoa::Buffer;
 use join_core::{DEFAULT_WORKERS, LayerText, RunFault, Sink, Text, run_on_layer};
 use layer_core::{FeatureList, Stats};

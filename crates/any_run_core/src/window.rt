@@ -1,7 +1,7 @@
 //! The features of a layer of any geometry that share a point with a window.
 
 ghost use Rattle.std.specs.Prelude.{◌≡◌, Ok, false, IfOk, IfErr, IsTrue};
-ghost use Rattle.file_core.specs.Formats.{ReadsAny};
+ghost use Rattle.format_core.specs.Formats.{ReadsAny};
 ghost use Rattle.join_core.specs.declared.fault.Input.{Input};
 ghost use Rattle.join_core.specs.Jobs.{OnlyAt};
 ghost use Rattle.join_core.specs.Runs.{NoTextFault, RunEnds};
@@ -10,7 +10,8 @@ ghost use Rattle.any_run_core.specs.AnyWindows.{AnyWindowGives, IsAnyWindowFault
 use crate::intersection::intersect;
 use any_geometry_core::AnyGeometry;
 use arrangement_core::PreparedGeometry;
-use file_core::{AnyFormat, Format, LayerReader, Source, TextFault};
+use file_core::{LayerReader, Source};
+use format_core::{AnyFormat, Format, TextFault};
 use join_core::{Input, Meeting, RunFault, Sink, Window, run_on_layer};
 use std::alloc::{AllocError, Global};
 use std::hash::RandomState;

@@ -7,7 +7,7 @@ use Rattle.std.specs.Borrow.{Bor}
 use Rattle.wkt_core.specs.declared.scale.Scale.{Scale}
 use Rattle.layer_core.specs.Edits.{Layers}
 use Rattle.any_relation_core.specs.AnyRelations.{rings_of}
-use Rattle.file_core.specs.Formats.{ReadsAny, ReadsBox}
+use Rattle.format_core.specs.Formats.{ReadsAny, ReadsBox}
 use Rattle.any_run_core.specs.AnyJoinings.{any_joining}
 use Rattle.join_core.specs.declared.fault.Input.{Input}
 use Rattle.join_core.specs.declared.fault.Input.TheVariants.{Left, Right, Edits}

@@ -5,7 +5,7 @@ use Rattle.wkt_core.specs.declared.scale.Scale.{Scale}
 use Rattle.layer_core.specs.Edits.{EditContent, Layers}
 use Rattle.any_geometry_core.specs.declared.geometry.AnyGeometry.{AnyGeometry}
 use Rattle.any_relation_core.specs.AnyRelations.{rings_of}
-use Rattle.file_core.specs.Formats.{Reading, ReadsAny, ReadsBox}
+use Rattle.format_core.specs.Formats.{Reading, ReadsAny, ReadsBox}
 use Rattle.file_core.specs.declared.read_fault.ReadFault.{ReadFault}
 use Rattle.options_core.specs.declared.product.Product.{Product}
 use Rattle.options_core.specs.declared.product.Product.TheVariants.{Report, Picture}

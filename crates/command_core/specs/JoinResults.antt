@@ -2,7 +2,7 @@
 use Rattle.std.specs.Prelude.{ℕ, List, Option, Some, None, Result}
 use Rattle.std.specs.Borrow.{Bor}
 use Rattle.wkt_core.specs.declared.scale.Scale.{Scale}
-use Rattle.file_core.specs.Formats.{Reading, ReadsAny, ReadsBox}
+use Rattle.format_core.specs.Formats.{Reading, ReadsAny, ReadsBox}
 use Rattle.options_core.specs.declared.product.Product.{Product}
 use Rattle.any_relation_core.specs.AnyRelations.{rings_of}
 use Rattle.join_core.specs.declared.fault.Input.TheVariants.{Left, Right, Edits}

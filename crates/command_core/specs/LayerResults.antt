@@ -2,7 +2,7 @@
 use Rattle.std.specs.Prelude.{ℕ, List, Option, Result}
 use Rattle.wkt_core.specs.declared.scale.Scale.{Scale}
 use Rattle.any_geometry_core.specs.AnyGeometries.{box_of}
-use Rattle.file_core.specs.Formats.{ReadsAny, ReadsBox}
+use Rattle.format_core.specs.Formats.{ReadsAny, ReadsBox}
 use Rattle.join_core.specs.declared.fault.RunFault.{RunFault}
 use Rattle.join_core.specs.Bounds.{ListsCorners}
 use Rattle.join_core.specs.LayerRuns.{LayerGives, IsLayerRunFault}

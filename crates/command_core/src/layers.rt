@@ -7,7 +7,8 @@ ghost use Rattle.words_core.specs.declared.words.Command.TheVariants.{Bounds, St
 use crate::inputs::Inputs;
 use crate::opening::open_layer;
 use any_run_core::{run_any_stats, run_any_window};
-use file_core::{AnyFormat, LayerReader};
+use file_core::LayerReader;
+use format_core::AnyFormat;
 use join_core::{DEFAULT_WORKERS, RunFault, Sink, run_bounds, run_stats, run_window};
 use std::random::RandomSource;
 use std::thread::Threads;

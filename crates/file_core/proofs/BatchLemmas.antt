@@ -3,15 +3,15 @@ use Rattle.std.proofs.Common.{◌≡◌, ◌≢◌, ◌∙◌, ◌+◌, ◌<◌,
 use Rattle.std.proofs.lemmas.List.Elements.{All-nil}
 use Rattle.std.specs.declared.alloc.Global.{Global}
 use Rattle.std.specs.declared.vec.Vec.{Vec}
+use Rattle.format_core.specs.declared.text_fault.TextFault.{TextFault}
+use Rattle.format_core.specs.Formats.{Reading}
 use Rattle.file_core.specs.declared.layer_row.ReadRow.{ReadRow}
 use Rattle.file_core.specs.declared.read_fault.ReadFault.{ReadFault}
 use Rattle.file_core.specs.declared.read_fault.ReadFault.TheVariants.{Io, Memory}
 use Rattle.file_core.specs.declared.rows.Rows.{Rows as RowsOf}
-use Rattle.file_core.specs.declared.text_fault.TextFault.{TextFault}
 use Rattle.file_core.specs.declared.unread.Unread.{Unread}
 use Rattle.file_core.specs.declared.unread.Unread.TheVariants.{Rows}
 use Rattle.file_core.specs.Batches.{HasFault, HasId, IsBatch, SayInTurn, after_rows, all_rows, if_given, with_rows}
-use Rattle.file_core.specs.Formats.{Reading}
 use Rattle.file_core.specs.LayerFiles.{LayerRowGives, refused_or, with_row}
 use Rattle.file_core.specs.LayerRows.{RowContent, RowSays, Says, content_of, content_with}
 use Rattle.layer_core.specs.declared.fault.LayerFault.{LayerFault}

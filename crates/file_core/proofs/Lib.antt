@@ -3,6 +3,5 @@ pub mod CutLemmas
 pub mod FieldLemmas
 pub mod HeaderLemmas
 pub mod FileLemmas
-pub mod FormatLemmas
 pub mod BatchLemmas
 pub mod PartLemmas

@@ -7,13 +7,13 @@ use Rattle.csv.specs.Reading.{default_config, is_bom, records, strip_bom}
 use Rattle.csv.specs.Records.{field_at}
 use Rattle.csv.specs.declared.parser.State.{State}
 use Rattle.csv.specs.declared.parser.State.TheVariants as st
+use Rattle.format_core.specs.Formats.{Reading}
 use Rattle.file_core.specs.declared.layer_row.ReadRow.{ReadRow}
 use Rattle.file_core.specs.declared.parts.Parts.{Parts}
 use Rattle.file_core.specs.declared.rows.Rows.{Rows as RowsOf}
 use Rattle.file_core.specs.declared.unread.Unread.TheVariants.{Text, Rows}
 use Rattle.file_core.specs.Batches.{HasId, IsBatch}
 use Rattle.file_core.specs.Cuts.{EndsBetween, EndsWithFeed, IsClosed, IsPlain, state_after}
-use Rattle.file_core.specs.Formats.{Reading}
 use Rattle.file_core.specs.LayerFiles.{layer_columns}
 use Rattle.file_core.specs.Limits.{most_file_bytes}
 use Rattle.file_core.specs.Parts.{IsBoth, IsOnePart, IsParts, rows_of}

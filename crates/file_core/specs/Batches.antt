@@ -4,12 +4,12 @@ use Rattle.std.specs.Prelude.{All}
 use Rattle.std.specs.Prelude.{IsTrue, Result, Ok, Err}
 use Rattle.std.specs.declared.alloc.Global.{Global}
 use Rattle.std.specs.declared.vec.Vec.{Vec}
+use Rattle.format_core.specs.Formats.{Reading}
 use Rattle.file_core.specs.declared.batch.Batch.{Batch}
 use Rattle.file_core.specs.declared.layer_row.ReadRow.{ReadRow}
 use Rattle.file_core.specs.declared.read_fault.ReadFault.{ReadFault}
 use Rattle.file_core.specs.declared.read_fault.ReadFault.TheVariants.{Io, Memory}
 use Rattle.file_core.specs.declared.unread.Unread.{Unread}
-use Rattle.file_core.specs.Formats.{Reading}
 use Rattle.file_core.specs.LayerFiles.{with_row}
 use Rattle.file_core.specs.LayerRows.{RowSays, Says, content_of}
 use Rattle.layer_core.specs.Ids.{id_bytes}

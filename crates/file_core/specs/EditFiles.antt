@@ -7,12 +7,13 @@ use Rattle.std.specs.declared.vec.Vec.{Vec}
 use Rattle.std.specs.declared.alloc.Global.{Global}
 use Rattle.layer_core.specs.declared.edit.Edit.{Edit}
 use Rattle.layer_core.specs.declared.edit.Side.{Side}
+use Rattle.format_core.specs.declared.text_fault.TextFault.{TextFault}
+use Rattle.format_core.specs.Formats.{Reading}
 use Rattle.file_core.specs.declared.read_fault.ReadFault.{ReadFault}
 use Rattle.file_core.specs.declared.read_fault.ReadFault.TheVariants.{Row}
-use Rattle.file_core.specs.declared.text_fault.TextFault.{TextFault}
 use Rattle.layer_core.specs.Edits.{EditContent, content_of}
 use Rattle.file_core.specs.Fields.{AfterId, side_named}
-use Rattle.file_core.specs.Formats.{Reading, fault_of_text}
+use Rattle.file_core.specs.TextFaults.{fault_of_text}
 use Rattle.file_core.specs.Records.{Record}
 use Rattle.file_core.specs.Rows.{FileGives}
 

@@ -3,9 +3,9 @@ use Rattle.std.specs.Prelude.{◌≡◌, ℕ, List, [], ◌∷◌, codes, Option
 use Rattle.layer_core.specs.declared.fault.LayerFault.{LayerFault}
 use Rattle.layer_core.specs.declared.fault.LayerFault.TheVariants.{BadId, DoubleId, LayerFull}
 use Rattle.layer_core.specs.declared.fault.LayerFault.TheVariants.{NoSuchId, Memory}
+use Rattle.format_core.specs.Formats.{Reading}
 use Rattle.file_core.specs.declared.read_fault.ReadFault.{ReadFault}
 use Rattle.file_core.specs.declared.read_fault.ReadFault.TheVariants.{Memory as no_memory, Layer}
-use Rattle.file_core.specs.Formats.{Reading}
 use Rattle.file_core.specs.LayerRows.{RowContent, RowSays}
 use Rattle.layer_core.specs.Layers.{Contents, empty, inserted}
 use Rattle.layer_core.specs.LayerTrees.{LayerState}

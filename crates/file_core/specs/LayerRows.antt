@@ -1,12 +1,13 @@
 -- The content of a row of a layer's file: a feature's id and shape, or the row's own fault.
 use Rattle.std.specs.Prelude.{◌≡◌, ℕ, List, [], ◌∷◌, Result, Ok, Err}
 use Rattle.layer_core.specs.Ids.{id_bytes}
+use Rattle.format_core.specs.declared.text_fault.TextFault.{TextFault}
+use Rattle.format_core.specs.Formats.{Reading}
 use Rattle.file_core.specs.declared.layer_row.ReadRow.{ReadRow}
 use Rattle.file_core.specs.declared.read_fault.ReadFault.{ReadFault}
 use Rattle.file_core.specs.declared.read_fault.ReadFault.TheVariants.{Row}
-use Rattle.file_core.specs.declared.text_fault.TextFault.{TextFault}
 use Rattle.file_core.specs.Fields.{AfterId}
-use Rattle.file_core.specs.Formats.{Reading, fault_of_text}
+use Rattle.file_core.specs.TextFaults.{fault_of_text}
 use Rattle.file_core.specs.Records.{Record}
 
 -- the id and the shape of a row's feature

@@ -3,7 +3,6 @@ pub mod Cuts
 pub mod EditFiles
 pub mod FaultTexts
 pub mod Fields
-pub mod Formats
 pub mod LayerFiles
 pub mod LayerRows
 pub mod Limits
@@ -11,4 +10,5 @@ pub mod Parts
 pub mod Records
 pub mod Rows
 pub mod Sources
+pub mod TextFaults
 pub mod Unread

@@ -8,7 +8,6 @@ ghost use Rattle.file_core.specs.Rows.{IsReading, rows_left};
 ghost use Rattle.file_core.specs.Unread.{IsUnread};
 
 use crate::cuts::{cut, is_plain};
-use crate::format::Format;
 use crate::insertion::add_parts;
 use crate::layer_row::{ReadRow, read_row};
 use crate::parts::{Parts, read_four, read_two};
@@ -16,6 +15,7 @@ use crate::read_fault::ReadFault;
 use crate::row_reader::RowReader;
 use crate::rows::Rows;
 use crate::unread::Unread;
+use format_core::Format;
 use layer_core::{FeatureList, Geometry};
 use std::alloc::AllocError;
 use std::thread;

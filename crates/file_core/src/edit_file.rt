@@ -9,12 +9,12 @@ ghost use Rattle.file_core.specs.EditFiles.{InsertionGives, IsEditFile};
 ghost use Rattle.file_core.specs.Limits.{most_file_bytes};
 
 use crate::fields::{four_fields, id_in, side_in};
-use crate::format::Format;
 use crate::read_fault::ReadFault;
 use crate::row_reader::RowReader;
 use crate::rows::Rows;
 use crate::source::{Source, read_all};
 use csv::ByteRecord;
+use format_core::Format;
 use layer_core::{Edit, LayerFault, Side};
 use std::alloc::Global;
 

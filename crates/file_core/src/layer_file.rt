@@ -10,12 +10,12 @@ ghost use Rattle.layer_core.specs.Limits.{most_features};
 
 use crate::batch::{Batch, Crew, MIN_THREADED_BYTES, add_and_read, read_next};
 use crate::cuts::line_feeds;
-use crate::format::Format;
 use crate::insertion::add_parts;
 use crate::read_fault::ReadFault;
 use crate::row_reader::RowReader;
 use crate::source::{Source, read_all};
 use crate::unread::Unread;
+use format_core::Format;
 use layer_core::{FeatureList, Geometry, Layer, MAX_FEATURES};
 use std::alloc::Global;
 use std::hash::RandomState;

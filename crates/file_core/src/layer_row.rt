@@ -6,10 +6,10 @@ ghost use Rattle.file_core.specs.LayerRows.{RowSays, content_of};
 ghost use Rattle.file_core.specs.Batches.{HasId};
 
 use crate::fields::{id_in, two_fields};
-use crate::format::Format;
 use crate::read_fault::ReadFault;
 use crate::row_reader::RowReader;
 use csv::ByteRecord;
+use format_core::Format;
 use layer_core::{Id, LayerFault};
 
 /// A valid row: the id and the shape of its feature.

@@ -1,12 +1,10 @@
 //! CSV files of layers and of edits, and the sources that they are read from.
 #![tactic(auto)]
 
-mod any_format;
 mod batch;
 mod cuts;
 mod edit_file;
 mod fields;
-mod format;
 mod insertion;
 mod layer_file;
 mod layer_row;
@@ -15,13 +13,9 @@ mod read_fault;
 mod row_reader;
 mod rows;
 mod source;
-mod text_fault;
 mod unread;
 
-pub use any_format::AnyFormat;
 pub use edit_file::{edits_of_bytes, read_edits};
-pub use format::Format;
 pub use layer_file::LayerReader;
 pub use read_fault::ReadFault;
 pub use source::{Failed, FromRead, MAX_FILE_BYTES, Source, read_all};
-pub use text_fault::TextFault;

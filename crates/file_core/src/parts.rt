@@ -5,11 +5,11 @@ ghost use Rattle.file_core.specs.Parts.{IsBoth, IsOnePart, IsParts};
 
 use crate::batch::fill;
 use crate::cuts::{cut, ends_with_feed, is_plain, line_feeds};
-use crate::format::Format;
 use crate::layer_row::ReadRow;
 use crate::row_reader::RowReader;
 use crate::rows::Rows;
 use crate::source::MAX_FILE_BYTES;
+use format_core::Format;
 use std::alloc::Global;
 use std::thread;
 use std::thread::Threads;

@@ -1,6 +1,6 @@
 //! The faults of reading a file.
 
-use crate::text_fault::TextFault;
+use format_core::TextFault;
 use layer_core::LayerFault;
 use std::alloc::AllocError;
 use thiserror::Error;
@@ -39,7 +39,7 @@ pub enum ReadFault {
 impl ReadFault {
     ghost use Rattle.std.specs.Prelude.{◌≡◌, ◌≢◌, ◌≤◌, length};
     ghost use Rattle.file_core.specs.FaultTexts.{cause_text, row_of};
-    ghost use Rattle.file_core.specs.Formats.{fault_of_text};
+    ghost use Rattle.file_core.specs.TextFaults.{fault_of_text};
     ghost use Rattle.file_core.specs.LayerFiles.{fault_of_row};
 
     /// The fault of a row that the layer refuses. Lack of memory is no fault of the row.

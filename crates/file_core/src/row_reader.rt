@@ -1,10 +1,10 @@
 //! Reading the fields of a row that a row of a layer and one of edits share.
 
 ghost use Rattle.std.specs.Prelude.{◌≡◌, ◌≢◌, Ok, Err, IfOk, IfErr};
-ghost use Rattle.file_core.specs.Formats.{HasTextFault};
+ghost use Rattle.file_core.specs.TextFaults.{HasTextFault};
 
-use crate::format::Format;
 use crate::read_fault::ReadFault;
+use format_core::Format;
 use std::alloc::Global;
 
 /// A reader of rows: the allocator, and the format of their geometries.

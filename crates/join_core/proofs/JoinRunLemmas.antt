@@ -2,9 +2,9 @@
 use Rattle.std.proofs.Common.{◌≡◌, ℕ, List, Option, Some, None, Result, Ok, Err, IsSome, IsErrAnd, IsErrOf, IsSomeAnd, IfSome, IsTrue, Bool, true, false, IfErr, OnOk}
 use Rattle.std.proofs.Common.{◌↔◌, ◌≢◌, All, get_or, refl, sym, subst, ◌∙◌, map}
 use Rattle.std.specs.Prelude.{⊤}
-use Rattle.file_core.specs.Formats.{Reading}
 use Rattle.layer_core.specs.declared.edit.Edit.{Edit as EditType}
 use Rattle.layer_core.specs.declared.fault.LayerFault.{LayerFault}
+use Rattle.format_core.specs.Formats.{Reading}
 use Rattle.file_core.specs.declared.read_fault.ReadFault.{ReadFault}
 use Rattle.file_core.specs.declared.read_fault.ReadFault.TheVariants.{Io}
 use Rattle.layer_core.specs.Edits.{Layers, both, content_of, edits_give}

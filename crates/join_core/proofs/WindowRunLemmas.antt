@@ -5,7 +5,7 @@ use Rattle.geom_core.specs.declared.shape.Shape.{Shape}
 use Rattle.wkt_core.specs.declared.fault.WktFault.{WktFault}
 use Rattle.wkt_core.specs.declared.scale.Scale.{Scale}
 use Rattle.wkt_core.specs.Readings.{Reads}
-use Rattle.file_core.specs.Formats.{ReadsBox}
+use Rattle.format_core.specs.Formats.{ReadsBox}
 use Rattle.join_core.specs.declared.fault.Input.{Input}
 use Rattle.join_core.specs.declared.fault.Input.TheVariants.{Layer, Window}
 use Rattle.join_core.specs.declared.fault.RunFault.{RunFault}

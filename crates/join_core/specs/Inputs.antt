@@ -2,10 +2,10 @@
 use Rattle.std.specs.Prelude.{◌≢◌, ⊤, ℕ, List, Option, Result, Ok, Err, IfSome, IfOk, IfErr}
 use Rattle.layer_core.specs.declared.fault.LayerFault.{LayerFault}
 use Rattle.layer_core.specs.declared.fault.LayerFault.TheVariants as layer_faults
+use Rattle.format_core.specs.Formats.{Reading}
 use Rattle.file_core.specs.declared.read_fault.ReadFault.{ReadFault}
 use Rattle.file_core.specs.declared.read_fault.ReadFault.TheVariants as read_faults
 use Rattle.layer_core.specs.Layers.{Contents}
-use Rattle.file_core.specs.Formats.{Reading}
 use Rattle.file_core.specs.LayerFiles.{IsLayerFile, list_read}
 use Rattle.layer_core.specs.LayerTrees.{LayerState}
 use Rattle.join_core.specs.declared.fault.RunFault.{RunFault}

@@ -3,12 +3,12 @@ use Rattle.std.specs.Prelude.{◌≡◌, ◌≢◌, ◌<◌, ◌≤◌, ⊤, ℕ
 use Rattle.std.specs.Prelude.{Err, IfSome, length, take}
 use Rattle.layer_core.specs.declared.fault.LayerFault.{LayerFault}
 use Rattle.layer_core.specs.declared.fault.LayerFault.TheVariants.{Memory as no_memory}
+use Rattle.format_core.specs.Formats.{Reading}
 use Rattle.file_core.specs.declared.read_fault.ReadFault.{ReadFault}
 use Rattle.file_core.specs.declared.read_fault.ReadFault.TheVariants.{Io}
 use Rattle.layer_core.specs.Layers.{Contents}
 use Rattle.layer_core.specs.Edits.{EditContent, Layers, both, edits_give}
 use Rattle.file_core.specs.EditFiles.{IsEditFile}
-use Rattle.file_core.specs.Formats.{Reading}
 use Rattle.parallel_core.specs.Faults.{IsWant}
 use Rattle.join_core.specs.declared.fault.Input.TheVariants.{Left, Right, Edits}
 use Rattle.join_core.specs.declared.fault.RunFault.{RunFault}

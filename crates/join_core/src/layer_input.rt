@@ -3,7 +3,8 @@
 ghost use Rattle.std.specs.Prelude.{◌≡◌, ◌↔◌, false, IsTrue, IsErrOf};
 ghost use Rattle.join_core.specs.Inputs.{Builds, Reads, ReadsFeatures};
 
-use file_core::{Format, LayerReader, ReadFault, Source, read_all};
+use file_core::{LayerReader, ReadFault, Source, read_all};
+use format_core::Format;
 use layer_core::{FeatureList, Layer};
 use std::hash::RandomState;
 use std::thread::Threads;

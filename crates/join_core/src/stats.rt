@@ -1,7 +1,7 @@
 //! Counts of the features of a layer.
 
 ghost use Rattle.std.specs.Prelude.{◌≡◌, ◌+◌, ◌≤◌, ◌++◌, false, length, IsTrue};
-ghost use Rattle.file_core.specs.Formats.{ReadsBox};
+ghost use Rattle.format_core.specs.Formats.{ReadsBox};
 ghost use Rattle.join_core.specs.declared.fault.Input.{Input};
 ghost use Rattle.join_core.specs.Jobs.{OnlyAt};
 ghost use Rattle.join_core.specs.LayerRuns.{LayerGives, IsLayerRunFault};

@@ -1,5 +1,5 @@
-//! Tests of `layer_core` and `file_core` from outside: worked examples, refused allocations, and
-//! devices that fail.
+//! Tests of `layer_core`, `format_core` and `file_core` from outside: worked examples, refused
+//! allocations, and devices that fail.
 #![tactic(auto)]
 
 #[cfg(test)]

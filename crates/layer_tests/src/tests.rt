@@ -15,6 +15,7 @@ mod refused_memory;
 mod stats;
 
 use file_core::*;
+use format_core::Format;
 use geom_core::Shape;
 use layer_core::*;
 use std::alloc::{AllocError, AllocGlobal, Global};

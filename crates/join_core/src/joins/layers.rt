@@ -8,7 +8,8 @@ ghost use Rattle.join_core.specs.JoinRuns.{IsLayersFault, first_fault};
 
 use crate::fault::{Input, RunFault};
 use crate::layer_input::{build_layer, read_layer};
-use file_core::{Format, LayerReader, ReadFault, Source, read_all};
+use file_core::{LayerReader, ReadFault, Source, read_all};
+use format_core::Format;
 use layer_core::{Geometry, Layer};
 use std::hash::RandomState;
 use std::thread::Threads;

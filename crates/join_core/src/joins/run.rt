@@ -1,7 +1,7 @@
 //! Joins of two files of layers of boxes after a file of edits.
 
 ghost use Rattle.std.specs.Prelude.{◌≡◌, ◌<◌, Ok, Err, false, IfOk, IfErr, IsErrOf};
-ghost use Rattle.file_core.specs.Formats.{ReadsBox};
+ghost use Rattle.format_core.specs.Formats.{ReadsBox};
 ghost use Rattle.layer_core.specs.Edits.{both};
 ghost use Rattle.draw_core.specs.Limits.{most_drawn};
 ghost use Rattle.join_core.specs.DrawRuns.{features_of};

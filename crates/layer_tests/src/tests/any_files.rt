@@ -2,6 +2,7 @@
 
 use super::*;
 use any_geometry_core::AnyGeometry;
+use format_core::AnyFormat;
 use layer_core::Geometry;
 use plane_core::Rings;
 use wkt_any_core::GeometryFault;

@@ -1,5 +1,5 @@
 use Rattle.std.proofs.Common.{Ok, Err, IfOk, IfErr, subst}
-use Rattle.file_core.specs.Formats.{ReadsAny}
+use Rattle.format_core.specs.Formats.{ReadsAny}
 use Rattle.join_core.specs.Inputs.{BlamesInput}
 use Rattle.join_core.specs.JoinRuns.{files_of}
 use Rattle.join_core.specs.Products.{ProductGives, IsProductFault, IsLateProductFault}

@@ -1,4 +1,4 @@
-use Rattle.file_core.specs.Formats.{ReadsBox}
+use Rattle.format_core.specs.Formats.{ReadsBox}
 use Rattle.join_core.specs.JoinRuns.{files_of}
 use Rattle.join_core.specs.Products.{IsLateProductFault}
 use Rattle.join_core.proofs.JoinRunLemmas.{io_handed_on, io_before}

@@ -1,4 +1,4 @@
--- How the text of a geometry reads, and the fault of a row that has such a text.
+-- How the text of a geometry reads.
 use Rattle.std.specs.Prelude.{◌≡◌, ℕ, List, Result, Ok, Err, All}
 use Rattle.geom_core.specs.Cells.{IsIn}
 use Rattle.geom_core.specs.declared.shape.Shape.{Shape}
@@ -9,10 +9,8 @@ use Rattle.any_geometry_core.specs.AnyGeometries.{figure_of, rings_of, box_of}
 use Rattle.wkt_core.specs.declared.scale.Scale.{Scale}
 use Rattle.wkt_core.specs.Readings.{Reads}
 use Rattle.wkt_any_core.specs.Readings as any
-use Rattle.file_core.specs.declared.read_fault.ReadFault.{ReadFault}
-use Rattle.file_core.specs.declared.read_fault.ReadFault.TheVariants.{Wkt, Geometry}
-use Rattle.file_core.specs.declared.text_fault.TextFault.{TextFault}
-use Rattle.file_core.specs.declared.text_fault.TextFault.TheVariants as text
+use Rattle.format_core.specs.declared.text_fault.TextFault.{TextFault}
+use Rattle.format_core.specs.declared.text_fault.TextFault.TheVariants as text
 
 -- which geometry or fault a text reads as
 abbrev pub Reading : Type 0 → Type 1
@@ -36,13 +34,3 @@ abbrev pub ReadsAny : Scale → Rings → Reading AnyGeometry
 ReadsAny scale rings wkt (Ok g) = IsSpelled scale rings wkt g
 ReadsAny scale rings wkt (Err (text.Wkt fault)) = ⊥
 ReadsAny scale rings wkt (Err (text.Geometry fault)) = any.Reads scale rings wkt (Err fault)
-
--- the fault of the row with this number, whose geometry has this fault
-abbrev pub fault_of_text : ℕ → TextFault → ReadFault
-fault_of_text n (text.Wkt fault) = Wkt n fault
-fault_of_text n (text.Geometry fault) = Geometry n fault
-
--- the text has a fault, which is this fault of the row with this number
-abbrev pub HasTextFault : {G : Type 0} → Reading G → ℕ → List ℕ → ReadFault → Type 0
-HasTextFault reads n wkt fault =
-    (cause : TextFault) × reads wkt (Err cause) × (fault ≡ fault_of_text n cause)

@@ -9,7 +9,7 @@ use Rattle.any_geometry_core.specs.declared.geometry.AnyGeometry.{AnyGeometry}
 use Rattle.any_geometry_core.specs.AnyGeometries.{figure_of, rings_of, box_of}
 use Rattle.wkt_core.specs.declared.scale.Scale.{Scale}
 use Rattle.wkt_any_core.specs.Readings.{Reads}
-use Rattle.file_core.specs.Formats.{IsSpelled}
+use Rattle.format_core.specs.Formats.{IsSpelled}
 
 pub spelled : (scale : Scale) (rings : Rings) (wkt : List ℕ) (f : Figure) (g : AnyGeometry)
     → Reads scale rings wkt (Ok f) → figure_of g ≡ f → rings_of g ≡ rings

@@ -1,5 +1,5 @@
-use Rattle.file_core.proofs.FormatLemmas.{spelled}
-use Rattle.file_core.proofs.any_format.AnyFormatFormat.read.Goals as goal
+use Rattle.format_core.proofs.FormatLemmas.{spelled}
+use Rattle.format_core.proofs.any_format.AnyFormatFormat.read.Goals as goal
 
 pub returns-in-Ok : goal.returns-in-Ok
 returns-in-Ok c =

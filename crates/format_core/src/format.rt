@@ -8,7 +8,7 @@ use wkt_core::Scale;
 /// How the texts of geometries of one type read.
 pub trait Format: Copy + Send + Sync {
     ghost use Rattle.std.specs.Prelude.{ℕ, List, Result, IfOk};
-    ghost use Rattle.file_core.specs.declared.text_fault.TextFault.{TextFault};
+    ghost use Rattle.format_core.specs.declared.text_fault.TextFault.{TextFault};
 
     /// A geometry that a text spells.
     type Geometry: layer_core::Geometry + Send;
@@ -28,7 +28,7 @@ pub trait Format: Copy + Send + Sync {
 /// Boxes, with coordinates at a scale.
 impl Format for Scale {
     ghost use Rattle.std.specs.Prelude.{IfOk};
-    ghost use Rattle.file_core.specs.Formats.{ReadsBox};
+    ghost use Rattle.format_core.specs.Formats.{ReadsBox};
 
     type Geometry = Shape;
 

@@ -16,7 +16,7 @@ pub struct AnyFormat {
 
 impl Format for AnyFormat {
     ghost use Rattle.std.specs.Prelude.{IfOk};
-    ghost use Rattle.file_core.specs.Formats.{ReadsAny};
+    ghost use Rattle.format_core.specs.Formats.{ReadsAny};
 
     type Geometry = AnyGeometry;
 
