@@ -11,7 +11,7 @@ from edits import Texts, read
 FUNCTION = r"(?m)^(?:%s#\[.*\]\n)*^(%s)(?:pub(?:\(\w+\))? )?fn (\w+)\b(?:.*{}\n|(?:.*\n)+?%s{?}\n)"
 FREE = re.compile(FUNCTION % (("",) * 3))
 METHOD = re.compile(FUNCTION % ((" {4}",) * 3))
-IMPL = re.compile(r"(?m)^impl(?!.* for )(?:<.*>)? (\w+)(?:<.*>)? {\n(?:.*\n)+?}\n")
+IMPL = re.compile(r"(?m)^impl(?!.* for )(<.*?>)? (\w+)(<.*>)? {\n(?:.*\n)+?}\n")
 TYPE = re.compile(r"(?m)^(?:pub(?:\(\w+\))? )?(?:struct|enum) (\w+)")
 # A lemma with a proof: the indent, the statement, the name, and then the clauses of its proof with what is below them.
 LEMMA = re.compile(r"(?m)^( *)((?:pub )?(\S+) :(?: .*)?\n(?:\1 .*\n|\1unfolding .*\n)*)"
@@ -43,8 +43,11 @@ def functions(folder: str, texts: Texts) -> Iterator[tuple[list[str], str, str, 
         for found in FREE.finditer(text):
             yield [*module_of(file), found[2]], file, found[1], found[0]
         for block in IMPL.finditer(text):
+            # an impl at types that it names, as `impl Job<Boxes>`, is known by these and by where it stands
+            types = [] if block[1] else re.findall(r"\b[A-Z]\w*", block[3] or "")
+            owner = [*module_of(file), "+".join([block[2], *types])] if types else [*module_of_type[block[2]], block[2]]
             for found in METHOD.finditer(block[0]):
-                yield [*module_of_type[block[1]], block[1], found[2]], file, found[1], found[0]
+                yield [*owner, found[2]], file, found[1], found[0]
 
 
 def stub(function: str, indent: str) -> str:

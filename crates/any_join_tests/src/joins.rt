@@ -1,7 +1,7 @@
 //! Joins of small layers by one worker, by two and by sixteen, with answers worked out by hand.
 
 use crate::layers::{Row, Texts, are_rows, geometry, joined, relation};
-use any_join_core::related;
+use any_join_core::{PreparedPair, related};
 use options_core::Options;
 use plane_core::Rings;
 use std::random::RandomSource;
@@ -60,7 +60,7 @@ const NOTHING: Texts = Texts {
 };
 
 /// Whether joins by these numbers of workers give these rows.
-fn gives<R: RandomSource + AllocGlobal + Threads + Wait + Sync>(
+pub(crate) fn gives<R: RandomSource + AllocGlobal + Threads + Wait + Sync>(
     rt: &R,
     texts: Texts,
     relation: &str,
@@ -155,9 +155,13 @@ fn two_geometries(rt: HostRuntime) -> Result<(), Fail> {
     let first = geometry(alloc, "LINESTRING (0 0, 3 2)", rings).ok_or("a line")?;
     let second = geometry(alloc, "LINESTRING (0 1, 3 0)", rings).ok_or("a line")?;
     let crosses = relation("crosses", rings).ok_or("a relation")?;
-    let found = related(alloc, &crosses, &first, &second)?;
+    let unprepared = PreparedPair {
+        first: None,
+        second: None,
+    };
+    let found = related(alloc, &crosses, &first, &second, unprepared)?;
     assert!(rt; found.map(|matrix| matrix.text()) == Some(*b"0F1FF0102"));
     let touches = relation("touches", rings).ok_or("a relation")?;
-    assert!(rt; related(alloc, &touches, &first, &second)?.is_none());
+    assert!(rt; related(alloc, &touches, &first, &second, unprepared)?.is_none());
     Ok(())
 }

@@ -42,7 +42,7 @@ pub(crate) fn geometry(alloc: Global, text: &str, rings: Rings) -> Option<AnyGeo
 }
 
 /// The layer of the geometries of these texts, whose ids are their numbers.
-fn layer(
+pub(crate) fn layer(
     alloc: Global,
     state: RandomState,
     texts: &[&str],

@@ -9,4 +9,6 @@ mod joins;
 #[cfg(test)]
 mod layers;
 #[cfg(test)]
+mod prepared;
+#[cfg(test)]
 mod refused;
