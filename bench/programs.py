@@ -130,7 +130,7 @@ def postgis() -> Program | None:
 def postgis_words(task: Task) -> Words:
     copies = [f"\\copy {side}_rows (id, geom) from '{path}' csv header"
               for side, path in (("left", task.left), ("right", task.right))]
-    return ["psql", "-qX", "--csv", "-v", f"relation=ST_{task.relation.capitalize()}",
+    return ["psql", "-qX", "--csv", "-v", f"relation=ST_{task.relation.title().replace('_', '')}",
             "-v", f"workers={task.workers - 1}", "-f", HERE / "peers/tables.sql", "-c", copies[0], "-c", copies[1],
             "-f", HERE / "peers/postgis_join.sql"]
 

@@ -13,7 +13,8 @@ from plain_joins import Layer, field_of, has_proper_rings
 from matrix import AREAS, LINES, POINTS, Geometry, Path
 from pairs import LIMIT, Maker, is_kept, moved, spread, text_of
 
-NAMES = ("intersects", "touches", "crosses", "within", "contains", "overlaps", "equals")
+NAMES = ("intersects", "touches", "crosses", "within", "contains", "overlaps", "equals", "covers", "covered_by",
+         "contains_properly")
 # Entries of a matrix that are empty for disjoint geometries, so that a mask that asks for one of them may be joined by.
 SHARED = (0, 1, 3, 4)
 IDS = ("north field, upper", 'the "old" mill', "Südweg", "a", " ", "x y")
@@ -169,7 +170,8 @@ def join_of(number: int) -> Join:
     and each second edits."""
     source = random.Random(f"join {number}")
     rings = "even-odd" if number % 3 == 2 else "proper"
-    relation = NAMES[number % 8] if number % 8 < len(NAMES) else mask_of(source)
+    turn = number % (len(NAMES) + 1)
+    relation = NAMES[turn] if turn < len(NAMES) else mask_of(source)
     digits = source.choice((0, 0, 1, 6))
     features = Features(source, rings)
     layers = {"left": features.layer(), "right": features.layer()}

@@ -48,7 +48,7 @@ SOURCES = {
     "relation_core/Matrices": "OGC 06-103r4, 6.1.4, 6.1.6 and 6.1.10 for the parts, 6.1.15.2 for the matrix",
     "relation_core/Meetings": "Egenhofer and Franzosa 1991",
     "relation_core/Relations": "OGC 06-103r4, 6.1.15.3, and [DECISIONS.md](DECISIONS.md) beyond it",
-    "geom_core/Sets": "OGC 06-103r4, 6.1.15.3",
+    "geom_core/Sets": "OGC 06-103r4, 6.1.15.3, and [DECISIONS.md](DECISIONS.md) beyond it",
     "wkt_core/Drawing": "OGC 06-103r4, 6.1.7 and 6.1.11",
     "wkt_core/Spelling": "OGC 06-103r4, 6.1.4, 6.1.7 and 6.1.11",
     "split_core/Choices": "Guttman 1984, 3.2 and 3.5.2",

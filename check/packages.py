@@ -67,13 +67,16 @@ INSTALLED = {
                            "lib/klayout/salt/rjoin/pymacros/join_layers.lym", "lib/klayout/salt/rjoin/grain.xml",
                            "share/man/man1/rjoin-postgis.1.gz", "share/rjoin/recipes/from-ogr"),
 }
-FORMAT_OPTIONS = {"--scale", "--geometry", "--rings", "--help"}
+FORMAT_OPTIONS = {"--scale", "--round", "--geometry", "--rings", "--help"}
 JOIN_OPTIONS = {"--relation", "--edits", "--workers", "--batch", "--cut", *FORMAT_OPTIONS}
 OPTIONS = {
     "relate": FORMAT_OPTIONS, "join": JOIN_OPTIONS, "draw": JOIN_OPTIONS, "window": FORMAT_OPTIONS,
     "stats": FORMAT_OPTIONS, "bounds": FORMAT_OPTIONS,
 }
-RELATIONS = {"intersects", "touches", "crosses", "within", "contains", "overlaps", "equals"}
+RELATIONS = {
+    "intersects", "touches", "crosses", "within", "contains", "overlaps", "equals", "covers", "covered_by",
+    "contains_properly",
+}
 SCALES = {"0", "1", "2", "3", "4", "5", "6"}
 STUB = '#!/bin/sh\nprintf "%s\\n" "$GLIBC_TUNABLES" "$@"\nexit 7\n'
 
@@ -256,7 +259,7 @@ def completion_offers_what_the_help_lists(it: Tried) -> None:
         told = set(re.findall(r"--\w+", "\n".join(help_of(it.program, name).entries["Options"])))
         expect(completions(it, name, "--") == options == told, (name, completions(it, name, "--")))
         expect(completions(it, name, "--scale", "") == SCALES, (name, completions(it, name, "--scale", "")))
-    told = set(re.findall(r"^  ([a-z]+)  ", well(ran(it.program, "join", "--help")).stdout.decode(), re.M))
+    told = set(re.findall(r"^  ([a-z_]+)(?:  |$)", well(ran(it.program, "join", "--help")).stdout.decode(), re.M))
     for name in ("join", "draw"):
         expect(completions(it, name, "--relation", "") == RELATIONS == told - {"disjoint"}, name)
     expect(completions(it, "join", "par") == {"parcels.csv"}, completions(it, "join", "par"))

@@ -1,9 +1,9 @@
 #!/usr/bin/env python3
 """Joins of layers of any geometry, computed plainly and slowly: all pairs, with their matrices by fractions.
 
-    check/plain_joins.py join LEFT RIGHT --relation R [--edits F] [--scale K]
-    check/plain_joins.py window LAYER WKT [--scale K]
-    check/plain_joins.py bounds LAYER [--scale K]
+    check/plain_joins.py join LEFT RIGHT --relation R [--edits F] [--scale K] [--round]
+    check/plain_joins.py window LAYER WKT [--scale K] [--round]
+    check/plain_joins.py bounds LAYER [--scale K] [--round]
 
 write what rjoin has to write for these words with `--geometry any`. Rings are read by the even-odd rule, which agrees
 with the other rule wherever that one reads them. The files and words are valid.
@@ -11,9 +11,11 @@ with the other rule wherever that one reads them. The files and words are valid.
 import argparse
 import csv
 import io
+import math
 import re
 import sys
 from collections.abc import Callable, Iterator
+from dataclasses import dataclass
 from fractions import Fraction
 from itertools import combinations
 from pathlib import Path
@@ -31,17 +33,35 @@ LIST = re.compile(r"\(([^()]*)\)")
 Layer = dict[str, Geometry]
 
 
-def vertex_of(text: str, digits: int) -> Vertex:
-    """The vertex of two decimal numbers, in units of the last of some decimals."""
-    x, y = (Fraction(number) * 10 ** digits for number in text.split())
-    assert x.denominator == y.denominator == 1
-    return x.numerator, y.numerator
+@dataclass(frozen=True)
+class Scale:
+    """How decimal numbers become whole ones: in units of the last of some decimals, rounded or not."""
+
+    digits: int = 0
+    rounds: bool = False
+
+    def units(self, number: str) -> int:
+        """The number in units: the nearest whole one if it is rounded, half a unit away from zero."""
+        units = Fraction(number) * 10 ** self.digits
+        if not self.rounds:
+            assert units.denominator == 1
+            return units.numerator
+        nearest = math.floor(abs(units) + Fraction(1, 2))
+        return nearest if units >= 0 else -nearest
+
+    def vertex(self, text: str) -> Vertex:
+        """The vertex of two decimal numbers."""
+        x, y = map(self.units, text.split())
+        return x, y
 
 
-def geometry_of(text: str, digits: int = 0) -> Geometry:
+WHOLE = Scale()
+
+
+def geometry_of(text: str, scale: Scale = WHOLE) -> Geometry:
     """The geometry of a well-known text. Which polygon a ring belongs to doesn't matter to the even-odd rule."""
     kind = KINDS[text.partition("(")[0].strip().upper().removeprefix("MULTI")]
-    lists = [[vertex_of(point, digits) for point in found.split(",")] for found in LIST.findall(text)]
+    lists = [[scale.vertex(point) for point in found.split(",")] for found in LIST.findall(text)]
     if kind == POINTS:
         return Geometry(kind, tuple((vertex,) for vertices in lists for vertex in vertices))
     return Geometry(kind, tuple(stepped(vertices) for vertices in lists))
@@ -52,11 +72,11 @@ def rows_of(content: bytes) -> list[list[str]]:
     return list(csv.reader(io.StringIO(content.decode("utf-8-sig"), newline="")))[1:]
 
 
-def layer_of(content: bytes, digits: int = 0) -> Layer:
-    return {name: geometry_of(text, digits) for name, text in rows_of(content)}
+def layer_of(content: bytes, scale: Scale = WHOLE) -> Layer:
+    return {name: geometry_of(text, scale) for name, text in rows_of(content)}
 
 
-def edit(left: Layer, right: Layer, content: bytes, digits: int = 0) -> None:
+def edit(left: Layer, right: Layer, content: bytes, scale: Scale = WHOLE) -> None:
     """Makes the edits of a file in order."""
     for operation, side, name, text in rows_of(content):
         layer = {"left": left, "right": right}[side]
@@ -64,11 +84,12 @@ def edit(left: Layer, right: Layer, content: bytes, digits: int = 0) -> None:
             del layer[name]
         else:
             assert operation == "insert" and name not in layer
-            layer[name] = geometry_of(text, digits)
+            layer[name] = geometry_of(text, scale)
 
 
 def masks_of(relation: str, a: int, b: int) -> list[str]:
-    """The masks of OGC 06-103r4 for geometries of two dimensions; one of them fits where the relation holds."""
+    """The masks of OGC 06-103r4, and of JTS beyond it, for geometries of two dimensions; one of them fits where the
+    relation holds."""
     crosses = ["0********"] if a == 1 else []
     overlaps = ["1*T***T**" if a == 1 else "T*T***T**"]
     named = {
@@ -79,6 +100,9 @@ def masks_of(relation: str, a: int, b: int) -> list[str]:
         "contains": ["T*****FF*"],
         "overlaps": overlaps if a == b else [],
         "equals": ["T*F**FFF*"],
+        "covers": ["T*****FF*", "*T****FF*", "***T**FF*", "****T*FF*"],
+        "covered_by": ["T*F**F***", "*TF**F***", "**FT*F***", "**F*TF***"],
+        "contains_properly": ["T**FF*FF*"],
     }
     return named.get(relation, [relation.upper()])
 
@@ -149,6 +173,7 @@ def options_of(words: list[str]) -> argparse.Namespace:
         for option in ("--geometry", "--rings"):
             command.add_argument(option)
         command.add_argument("--scale", type=int, default=0)
+        command.add_argument("--round", action="store_true")
     commands.choices["window"].add_argument("wkt")
     commands.choices["join"].add_argument("--relation", required=True)
     for option in ("--edits", "--workers", "--batch", "--cut"):
@@ -159,13 +184,14 @@ def options_of(words: list[str]) -> argparse.Namespace:
 def answer(words: list[str], read: Callable[[str], bytes]) -> bytes:
     """What the program has to write for these words, over the files that lie at the paths."""
     options = options_of(words)
-    first, *others = (layer_of(read(path), options.scale) for path in options.layers)
+    scale = Scale(options.scale, options.round)
+    first, *others = (layer_of(read(path), scale) for path in options.layers)
     if options.command == "bounds":
         return bounds(first)
     if options.command == "window":
-        return window(first, geometry_of(options.wkt, options.scale))
+        return window(first, geometry_of(options.wkt, scale))
     if options.edits:
-        edit(first, others[0], read(options.edits), options.scale)
+        edit(first, others[0], read(options.edits), scale)
     return report(first, others[0], options.relation)
 
 

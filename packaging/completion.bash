@@ -9,7 +9,9 @@ _rjoin() {
     _init_completion || return
     local program=$1 command=${words[1]} offered=
     case $prev in
-    --relation) offered="intersects touches crosses within contains overlaps equals" ;;
+    --relation)
+        offered="intersects touches crosses within contains overlaps equals covers covered_by contains_properly"
+        ;;
     --scale) offered="0 1 2 3 4 5 6" ;;
     --geometry) offered="box any" ;;
     --rings) offered="proper even-odd" ;;

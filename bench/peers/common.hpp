@@ -51,7 +51,7 @@ inline Words words_of(int count, char** words) {
 
 using Masks = std::vector<std::string>;
 
-// The masks of OGC 06-103r4; the dimensions are those of the two shapes, 0 to 2.
+// The masks of OGC 06-103r4, and of JTS beyond it; the dimensions are those of the two shapes, 0 to 2.
 inline Masks masks_of(const std::string& relation, int a, int b) {
     if (relation == "intersects") return {"T********", "*T*******", "***T*****", "****T****"};
     if (relation == "touches") return a + b == 0 ? Masks{} : Masks{"FT*******", "F**T*****", "F***T****"};
@@ -61,6 +61,9 @@ inline Masks masks_of(const std::string& relation, int a, int b) {
     if (relation == "crosses") return a == 1 ? Masks{"0********"} : Masks{};
     if (relation == "overlaps" && a == b) return {a == 1 ? "1*T***T**" : "T*T***T**"};
     if (relation == "overlaps") return {};
+    if (relation == "covers") return {"T*****FF*", "*T****FF*", "***T**FF*", "****T*FF*"};
+    if (relation == "covered_by") return {"T*F**F***", "*TF**F***", "**FT*F***", "**F*TF***"};
+    if (relation == "contains_properly") return {"T**FF*FF*"};
     throw std::runtime_error("no such relation: " + relation);
 }
 

@@ -16,6 +16,8 @@ const std::map<std::string, Predicate> predicates = {
     {"intersects", GEOSPreparedIntersects_r}, {"touches", GEOSPreparedTouches_r},
     {"crosses", GEOSPreparedCrosses_r},       {"within", GEOSPreparedWithin_r},
     {"contains", GEOSPreparedContains_r},     {"overlaps", GEOSPreparedOverlaps_r},
+    {"covers", GEOSPreparedCovers_r},         {"covered_by", GEOSPreparedCoveredBy_r},
+    {"contains_properly", GEOSPreparedContainsProperly_r},
 };
 
 struct Layer {

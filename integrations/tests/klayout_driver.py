@@ -91,8 +91,12 @@ def holds(relation: str, one: pya.Box, other: pya.Box) -> bool:
     """Whether two boxes stand in a relation; of boxes with an area, but for `intersects`."""
     if relation == "equals":
         return bool(one == other)
-    if relation == "within":
+    if relation in ("within", "covered_by"):
         return bool(one.inside(other))
+    if relation == "covers":
+        return bool(other.inside(one))
+    if relation == "contains_properly":  # with a unit to spare on each side
+        return bool(other.enlarged(1, 1).inside(one))
     if relation == "intersects":
         return bool(one.touches(other))
     if relation == "touches":

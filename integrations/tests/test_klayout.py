@@ -23,7 +23,9 @@ Bounds = Tuple[float, ...]
 COMPARED = [("chip", "1/0", "2/0", relation)
             for relation in ("intersects", "touches", "overlaps", "within")] + [
     ("town", "1/0", "4/0", "overlaps"), ("town", "1/0", "1/0", "touches"),
-    ("town", "1/0", "1/0", "equals"), ("town", "3/0", "1/0", "intersects")]
+    ("town", "1/0", "1/0", "equals"), ("town", "3/0", "1/0", "intersects"),
+    ("town", "4/0", "1/0", "covers"), ("town", "1/0", "4/0", "covered_by"),
+    ("town", "4/0", "1/0", "contains_properly")]
 
 FAULTS = {
     "7/0 overlaps 2/0": "the layout has no layer '7/0'",

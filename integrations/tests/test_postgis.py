@@ -14,7 +14,7 @@ from typing import Any, Callable, Dict, Iterator, List, Tuple
 
 import pytest
 
-from town import JOINS, ROOT, TOWN, VERSION, Join, stand_in
+from town import COVERING, JOINS, ROOT, TOWN, VERSION, Join, stand_in
 
 sys.path.insert(0, str(ROOT / "bench"))
 import layers as made_layers  # noqa: E402
@@ -93,12 +93,13 @@ OWN = ("select l.id, r.id, ST_Relate(l.geom, r.geom) from {left} l join {right} 
        " on ST_{relation}(l.geom, r.geom) order by 1, 2")
 
 
-@pytest.mark.parametrize("join", [*JOINS, Join("parcels", "zones", "overlaps"),
+@pytest.mark.parametrize("join", [*JOINS, *COVERING, Join("parcels", "zones", "overlaps"),
                                   Join("stations", "zones", "within")], ids="-".join)
 def test_joins_of_the_town(server: Dict[str, str], join: Join) -> None:
     name = "pairs_" + "_".join(join)
     done(server, join.left, join.right, "--relation", join.relation, "--into", name)
-    own = psql(server, OWN.format(**join._asdict()))
+    own = psql(server, OWN.format(left=join.left, right=join.right,
+                                  relation=join.relation.replace("_", "")))
     assert psql(server, f"select * from {name} order by 1, 2") == own
     assert own or join.relation == "overlaps"
 

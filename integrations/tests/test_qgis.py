@@ -12,14 +12,15 @@ from typing import Any, Dict, Iterator, List, Tuple
 
 import pytest
 
-from town import JOINS, ROOT, TOWN
+from town import COVERING, JOINS, ROOT, TOWN
 
 sys.path.insert(0, str(ROOT / "bench"))
 import layers as made_layers  # noqa: E402
 
 PLUGINS = ROOT / "integrations/qgis"
 DRIVER = Path(__file__).with_name("qgis_driver.py")
-RELATIONS = ["intersects", "touches", "crosses", "within", "contains", "overlaps", "equals"]
+RELATIONS = ["intersects", "touches", "crosses", "within", "contains", "overlaps", "equals",
+             "covers", "covered_by", "contains_properly"]
 NATIVE = {name: number for number, name in enumerate(
     ["intersects", "contains", "equals", "touches", "overlaps", "within", "crosses"])}
 STOP, ENVELOPE, LEAVE_OUT = 0, 1, 2
@@ -137,6 +138,15 @@ def test_joins_of_the_town(runs: Any) -> None:
     answers = runs(requests)
     for place, join in enumerate(JOINS):
         assert pairs(answers[2 * place]) == pairs(answers[2 * place + 1]), join
+
+
+def test_points_that_parcels_cover(runs: Any) -> None:
+    """QGIS has no such relations: a parcel covers the stations that it meets, and contains
+    properly those that it contains."""
+    for join, native in zip(COVERING, ("intersects", "intersects", "contains")):
+        own, theirs = runs([ours(town(join.left), town(join.right), join.relation),
+                            natives(town(join.left), town(join.right), native)])
+        assert pairs(own) == pairs(theirs) and pairs(own), join
 
 
 MADE = {"points": ("Point", "Polygon"), "rectangles": ("Polygon", "Polygon"),

@@ -36,3 +36,8 @@ JOINS = (
     Join("parcels", "parcels", "within"),
     Join("parcels", "parcels", "overlaps"),
 )
+COVERING = (
+    Join("parcels", "stations", "covers"),
+    Join("stations", "parcels", "covered_by"),
+    Join("parcels", "stations", "contains_properly"),
+)

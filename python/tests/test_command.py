@@ -130,7 +130,7 @@ def test_faults_leave_nothing_and_are_told_in_a_line(files: Any, tmp_path: Path,
             (tmp_path / "slanted.gpkg", "touches", 1, "right: row 1 (feature 0): not a point"),
             (tmp_path / "none.gpkg", "touches", 1, "is not there"),
             (f"{tmp_path}/town.gpkg:none", "touches", 1, "none"),
-            (files[1], "covers", 2, "covers")):
+            (files[1], "disjoint", 2, "disjoint")):
         before = sorted(tmp_path.iterdir())
         assert ends([left, right, "--relation", relation, "-o", output]) == status
         lines = capsys.readouterr().err.splitlines()

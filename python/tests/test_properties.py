@@ -14,12 +14,13 @@ import rjoin
 
 geopandas = pytest.importorskip("geopandas")
 shapely_geometry = pytest.importorskip("shapely.geometry")
+shapely_prepared = pytest.importorskip("shapely.prepared")
 strtree = pytest.importorskip("shapely.strtree")
 
 SVG = "{http://www.w3.org/2000/svg}"
 ODD_IDS = ("NA", "nan", "None", "NULL", "N/A", "<NA>", "-", "1e5", "007", "7", "true", "-1.#IND")
 RELATIONS = ("touches", "crosses", "within", "contains", "overlaps", "equals", "intersects",
-             "T********", "****1****", "*T*******")
+             "covers", "covered_by", "contains_properly", "T********", "****1****", "*T*******")
 SIZES = (16_383, 16_384, 16_385, 65_535, 65_536, 65_537)
 SEEDS = range(24)
 
@@ -104,6 +105,8 @@ def shapelys(left: Layer, right: Layer, relation: str) -> List[Triple]:
 def holds(one: Any, other: Any, relation: str) -> bool:
     if "*" in relation:
         return bool(one.relate_pattern(other, relation))
+    if relation == "contains_properly":  # which Shapely 1.8 has of prepared geometries alone
+        return bool(shapely_prepared.prep(one).contains_properly(other))
     return bool(getattr(one, relation)(other))
 
 

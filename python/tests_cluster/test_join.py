@@ -8,7 +8,8 @@ import layers
 import pytest
 from conftest import Tools, ended, quoted, write_layer
 
-RELATIONS = ("intersects", "touches", "crosses", "within", "contains", "overlaps", "equals")
+RELATIONS = ("intersects", "touches", "crosses", "within", "contains", "overlaps", "equals",
+             "covers", "covered_by", "contains_properly")
 MASKS = ("T********", "FT*******", "****1****", "T*F**F***", "2FFF1FFF2")
 
 

@@ -18,7 +18,7 @@ one_found layer i f g is_f is_g = let same : Some f ≡ Some g = subst (λ (t : 
 nothing_found : IsSome {T = Matrix} None → ⊥
 nothing_found h = cc
 
-pub shape_is : (layer : Contents AnyGeometry) (i : ℕ) (f : Feature AnyGeometry) (b : Bor AnyGeometry) → with_number i layer ≡ Some f → ShapeIs (Some b) (with_number i layer) → b.now ≡ f.shape
+shape_is : (layer : Contents AnyGeometry) (i : ℕ) (f : Feature AnyGeometry) (b : Bor AnyGeometry) → with_number i layer ≡ Some f → ShapeIs (Some b) (with_number i layer) → b.now ≡ f.shape
 shape_is layer i f b held found = let same : Some b.now ≡ Some f.shape = subst (λ (t : Option (Feature AnyGeometry)). Some b.now ≡ option_map (λ f. f.shape) t) held found in cc
 
 module _ (relation : AnyRelation) (left right : Contents AnyGeometry) (i j : ℕ) where

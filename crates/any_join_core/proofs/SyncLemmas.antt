@@ -1,4 +1,5 @@
--- Layers with prepared geometries may be shared by threads.
+-- Layers with prepared geometries may be shared by threads. Proved type by type, since one search over them all runs out
+-- of steps. `knot` is the module of the cycle of types of a tree's nodes.
 use denote.Ref.{NamedLft}
 use denote.Param.Send.{IsSync, sendable}
 use Rattle.std.proofs.Crossing.{crosses}

@@ -25,8 +25,9 @@ use std::thread::Threads;
 /// with its matrix.
 ///
 /// Workers find the pairs whose boxes meet. Large geometries that occur in several of these are
-/// prepared, and then workers decide each pair by its two geometries. A relation for proper rings holds for no geometry that was read by the even-odd rule.
-/// All workers have ended when the call returns.
+/// prepared, and then workers decide each pair by its two geometries. A relation for proper rings
+/// holds for no geometry that was read by the even-odd rule. All workers have ended when the call
+/// returns.
 ///
 /// # Errors
 /// `Memory` if an allocation fails, and `NoThread` if a worker's thread can't be started.

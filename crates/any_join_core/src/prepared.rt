@@ -9,7 +9,7 @@ use layer_core::Layer;
 use std::alloc::{AllocError, Global};
 use std::marker::Model;
 
-/// The fewest vertices of a geometry that is prepared. The tree of a smaller one saves less time
+/// The fewest vertices of a geometry that is prepared. The index of a smaller one saves less time
 /// than it takes.
 const LARGE: usize = 64;
 

@@ -1,7 +1,7 @@
 //! Geometries that are boxes, and their matrix.
 
-use crate::layers::geometry;
 use agreement_core::{as_box, relate_boxes};
+use any_test_data::geometry_of;
 use plane_core::Rings;
 use std::alloc::Global;
 use std::test::Fail;
@@ -31,7 +31,7 @@ const OTHERS: &[&str] = &[
 
 /// The corners of the box that the geometry of a text is, if it is one.
 fn corners(alloc: Global, text: &str) -> Result<Option<(i64, i64, i64, i64)>, Fail> {
-    let geometry = geometry(alloc, text, Rings::Proper).ok_or("a geometry")?;
+    let geometry = geometry_of(alloc, text, Rings::Proper).ok_or("a geometry")?;
     let shape = as_box(geometry.geometry());
     Ok(shape.map(|s| (s.x1(), s.y1(), s.x2(), s.y2())))
 }
@@ -65,8 +65,8 @@ fn other_geometries(rt: HostRuntime) -> Result<(), Fail> {
 #[test]
 fn matrix_of_boxes(rt: HostRuntime) -> Result<(), Fail> {
     let (alloc, rings) = (rt.alloc(), Rings::Proper);
-    let first = geometry(alloc, "POLYGON ((0 0, 0 4, 4 4, 4 0, 0 0))", rings).ok_or("a ring")?;
-    let second = geometry(alloc, "LINESTRING (2 2, 6 2)", rings).ok_or("a line")?;
+    let first = geometry_of(alloc, "POLYGON ((0 0, 0 4, 4 4, 4 0, 0 0))", rings).ok_or("a ring")?;
+    let second = geometry_of(alloc, "LINESTRING (2 2, 6 2)", rings).ok_or("a line")?;
     let found = relate_boxes(first.geometry(), second.geometry()).ok_or("two boxes")?;
     assert!(rt; found.text() == *b"1020F1102");
     Ok(())

@@ -1,7 +1,8 @@
 //! Joins of small layers by one worker, by two and by sixteen, with answers worked out by hand.
 
-use crate::layers::{Row, Texts, are_rows, geometry, joined, relation};
+use crate::layers::{Row, Texts, are_rows, joined, relation};
 use any_join_core::{PreparedPair, related};
+use any_test_data::geometry_of;
 use options_core::Options;
 use plane_core::Rings;
 use std::random::RandomSource;
@@ -130,6 +131,32 @@ fn containing(rt: HostRuntime) -> Result<(), Fail> {
     Ok(())
 }
 
+/// The point on the slant is covered by both halves, and in the interior of neither.
+const COVERING: &[Row] = &[
+    (0, 0, *b"FF20F1FF2"),
+    (1, 0, *b"FF20F1FF2"),
+    (1, 1, *b"0F2FF1FF2"),
+];
+
+#[test]
+fn covering(rt: HostRuntime) -> Result<(), Fail> {
+    assert!(rt; gives(&rt, PARCELS, "covers", COVERING)?);
+    Ok(())
+}
+
+#[test]
+fn covered(rt: HostRuntime) -> Result<(), Fail> {
+    assert!(rt; gives(&rt, KINDS, "covered_by", &[(5, 5, *b"2FF1FF212")])?);
+    Ok(())
+}
+
+#[test]
+fn containing_properly(rt: HostRuntime) -> Result<(), Fail> {
+    let rows = &[(1, 1, *b"0F2FF1FF2")];
+    assert!(rt; gives(&rt, PARCELS, "contains_properly", rows)?);
+    Ok(())
+}
+
 #[test]
 fn overlapping(rt: HostRuntime) -> Result<(), Fail> {
     assert!(rt; gives(&rt, PARCELS, "overlaps", &[])?);
@@ -152,8 +179,8 @@ fn of_nothing(rt: HostRuntime) -> Result<(), Fail> {
 #[test]
 fn two_geometries(rt: HostRuntime) -> Result<(), Fail> {
     let (alloc, rings) = (rt.alloc(), Rings::Proper);
-    let first = geometry(alloc, "LINESTRING (0 0, 3 2)", rings).ok_or("a line")?;
-    let second = geometry(alloc, "LINESTRING (0 1, 3 0)", rings).ok_or("a line")?;
+    let first = geometry_of(alloc, "LINESTRING (0 0, 3 2)", rings).ok_or("a line")?;
+    let second = geometry_of(alloc, "LINESTRING (0 1, 3 0)", rings).ok_or("a line")?;
     let crosses = relation("crosses", rings).ok_or("a relation")?;
     let unprepared = PreparedPair {
         first: None,

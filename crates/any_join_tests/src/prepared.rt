@@ -1,8 +1,9 @@
 //! Joins of geometries that are prepared, since they are large and occur in several pairs.
 
 use crate::joins::gives;
-use crate::layers::{Row, Texts, geometry, layer};
+use crate::layers::{Row, Texts, layer};
 use any_join_core::{PreparedLayer, PreparedPair, Side, matrix_of};
+use any_test_data::geometry_of;
 use arrangement_core::PreparedGeometry;
 use plane_core::Rings;
 use std::hash::RandomState;
@@ -96,8 +97,8 @@ fn large_and_met_often(rt: HostRuntime) -> Result<(), Fail> {
 #[test]
 fn matrix_of_the_prepared(rt: HostRuntime) -> Result<(), Fail> {
     let alloc = rt.alloc();
-    let large = geometry(alloc, LARGE, Rings::Proper).ok_or("a square")?;
-    let small = geometry(alloc, SMALL[1], Rings::Proper).ok_or("a triangle")?;
+    let large = geometry_of(alloc, LARGE, Rings::Proper).ok_or("a square")?;
+    let small = geometry_of(alloc, SMALL[1], Rings::Proper).ok_or("a triangle")?;
     let (first, second) = (large.geometry(), small.geometry());
     let prepared_first = PreparedGeometry::new(alloc, first)?;
     let prepared_second = PreparedGeometry::new(alloc, second)?;

@@ -3,7 +3,7 @@
 use edge_index_core::IndexedOutline;
 use geom_core::Shape;
 
-/// The outlines of both, with trees over their edges, and the boxes of their vertices.
+/// The outlines of both, with indexes of their edges, and the boxes of their vertices.
 #[derive(Clone, Copy)]
 pub(crate) struct Pair<'a> {
     pub(crate) first: &'a IndexedOutline,

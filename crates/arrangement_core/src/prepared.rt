@@ -15,13 +15,13 @@ use relation_core::Matrix;
 use std::alloc::{AllocError, Global};
 use std::marker::Model;
 
-/// The greatest number of edges of a geometry apart from the other one that has no tree.
+/// The greatest number of edges of a geometry apart from the other one that has no index.
 const MANY: usize = 1024;
 
 /// The greatest number of ends of its polylines.
 const FEW: usize = 16;
 
-/// A geometry with its outline, a tree over its edges and its box, which are computed once for its
+/// A geometry with its outline, an index of its edges and its box, which are computed once for its
 /// matrices with any number of others. In contracts its value is the geometry.
 #[derive(Drop)]
 pub struct PreparedGeometry<'a> {
@@ -59,7 +59,7 @@ impl<'a> PreparedGeometry<'a> {
         })
     }
 
-    /// Prepares a geometry for one other, without a tree where the edges are few and the box of the
+    /// Prepares a geometry for one other, with no index where the edges are few and the box of the
     /// other doesn't meet its own: then few are looked for.
     fn for_one(
         alloc: Global,
@@ -79,7 +79,7 @@ impl<'a> PreparedGeometry<'a> {
     }
 }
 
-/// The outline of a geometry with a tree over its edges, or with none where they are few and the
+/// The outline of a geometry with an index of its edges, or with none where they are few and the
 /// other geometry's box doesn't meet its own.
 fn indexed(alloc: Global, geometry: &Geometry, is_apart: bool) -> Result<IndexedOutline, AllocError>
     ensures outline { IfOk result (IsOutlineOf geometry.now) }

@@ -1,6 +1,7 @@
 //! Pictures of geometries of any kind, written by hand.
 
-use crate::any_layers::{TextRow, any_picture_of};
+use crate::any_layers::any_picture_of;
+use any_test_data::TextRow;
 
 /// The part of a picture from the size of its frame to the end.
 fn drawing(text: &str) -> Option<&str> {

@@ -39,7 +39,7 @@ none_more f es e off = sum_by_push (λ x. cond {A = ℕ} (f x) 1 0) es e ∙ pla
     plain : (n : ℕ) (t : Bool) → t ≡ false → n + cond {A = ℕ} t 1 0 ≡ n
     plain n t h = rw h (omega arith)
 
-scan_clear : (es : List Edge) (e : Edge) (p : Point) (s : Scan) → LiesClear e p → IsScan es p s → IsScan (es ++ e ∷ []) p s
+pub scan_clear : (es : List Edge) (e : Edge) (p : Point) (s : Scan) → LiesClear e p → IsScan es p s → IsScan (es ++ e ∷ []) p s
 scan_clear es e p s clear h = record {
   on = none_on es e p s.is_on clear.on h.on;
   below = h.below ∙ ap is_odd (sym (none_more (λ x. is_below x p) es e clear.below));

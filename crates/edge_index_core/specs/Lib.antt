@@ -2,6 +2,8 @@ pub mod Around
 pub mod Beyond
 pub mod Bounds
 pub mod Entries
+pub mod Indexes
+pub mod Runs
 pub mod Scans
 pub mod Starts
 pub mod Trees

@@ -46,9 +46,6 @@ fn edges_at(alloc: Global, edges: &[Edge], indexes: &[u32]) -> Result<Vec<Edge>,
     Ok(found)
 }
 
-/// The greatest number of edges that are looked at one by one although they have a tree.
-const FEW: usize = 256;
-
 /// Some edges of a list, among them all whose bounding boxes meet a box, by a tree over the boxes.
 pub(crate) fn find_around(
     alloc: Global,
@@ -59,9 +56,6 @@ pub(crate) fn find_around(
     requires { HoldsEdges edges.now (entries_in tree.now) }
     ensures { IfOk result (λ v. AreAround bounds.now edges.now v.items) }
 {
-    if edges.len() <= FEW {
-        return scan_around(alloc, edges, bounds);
-    }
     let indexes = tree.window(alloc, bounds)?;
     edges_at(alloc, edges, &indexes)
 }

@@ -15,7 +15,7 @@ pub fn entries_of(alloc: Global, edges: &[Edge]) -> Result<Vec<Entry>, AllocErro
     ensures entries { IfOk result (λ v. AreEntriesOf edges.now v.items) }
     ensures distinct { IfOk result (λ v. (k : ℕ) → count_by (has_number k) v.items ≤ 1) }
 {
-    let mut entries = Vec::new(alloc);
+    let mut entries = Vec::with_capacity(alloc, edges.len())?;
     for (i, e) in edges.iter().enumerate() {
         let shape = bounds_of(e);
         let number = i as u32;

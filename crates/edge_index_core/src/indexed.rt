@@ -1,14 +1,17 @@
-//! The outline of a geometry, with a tree over the boxes of its edges if they are many.
+//! The outline of a geometry, with the boxes of runs of its edges, or a tree over the boxes of its
+//! edges if they are many.
 
 ghost use Rattle.std.specs.Prelude.{◌≡◌, ◌≤◌, length, IfOk, IfSome};
 ghost use Rattle.plane_core.specs.Places.{point_of};
 ghost use Rattle.plane_core.specs.Outlines.{outline_part, outline_above, IsScan};
-ghost use Rattle.rtree_core.specs.Trees.{entries_in};
 ghost use Rattle.edge_index_core.specs.Around.{AreAround};
-ghost use Rattle.edge_index_core.specs.Trees.{HoldsEdges, IsTreeOf};
+ghost use Rattle.edge_index_core.specs.Indexes.{IsIndexOf};
+ghost use Rattle.edge_index_core.specs.Runs.{AreRunBoxes};
+ghost use Rattle.edge_index_core.specs.Trees.{IsTreeOf};
 
 use crate::around::{find_around, scan_around};
 use crate::entries::entries_of;
+use crate::runs::{run_boxes, scan_runs};
 use crate::scan::scan_node;
 use crate::starts::Starts;
 use geom_core::Shape;
@@ -17,42 +20,60 @@ use rtree_core::{Node, RTree};
 use std::alloc::{AllocError, Global};
 use std::marker::Model;
 
-/// The greatest number of edges that are scanned without a tree.
-const FEW: usize = 16;
+/// The greatest number of edges that are looked at one by one.
+const MAX_SCANNED: usize = 16;
+
+/// The greatest number of edges that have no tree. The boxes of their runs take a sixteenth of a
+/// tree's memory and are made in less time, and so few are quickly looked at one by one.
+const MAX_IN_RUNS: usize = 256;
+
+/// How edges are found.
+#[derive(Drop)]
+pub(crate) enum EdgeIndex {
+    /// One by one.
+    None,
+    /// By the boxes of their runs.
+    Runs(Vec<Shape>),
+    /// By a tree over their boxes.
+    Tree(RTree),
+}
 
 /// An outline that finds its edges by their boxes. In contracts its value is the outline.
 #[derive(Drop)]
 pub struct IndexedOutline {
     outline: Outline,
-    tree: Option<RTree>,
+    index: EdgeIndex,
     starts: Starts,
 }
 
 impl Model for IndexedOutline {
-    ghost use Rattle.std.specs.Prelude.{IfSome, length};
+    ghost use Rattle.std.specs.Prelude.{length};
     ghost use Rattle.plane_core.specs.declared.outline.Outline.{Outline};
-    ghost use Rattle.rtree_core.specs.Trees.{entries_in};
     ghost use Rattle.edge_index_core.specs.Starts.{AreWithin};
-    ghost use Rattle.edge_index_core.specs.Trees.{HoldsEdges};
+    ghost use Rattle.edge_index_core.specs.Indexes.{IsIndexOf};
 
     ghost Value = { Outline };
 
     ghost view = { λ i. i.outline };
 
-    ghost invariant = { λ i. IfSome i.tree (λ t. HoldsEdges i.outline.edges.items (entries_in t))
+    ghost invariant = { λ i. IsIndexOf i.outline.edges.items i.index
         × AreWithin (length i.outline.edges.items) i.starts };
 }
 
-/// A tree over the boxes of edges, if they are many.
-fn tree_of(alloc: Global, edges: &[Edge]) -> Result<Option<RTree>, AllocError>
-    ensures { IfOk result (λ found. IfSome found (λ t. HoldsEdges edges.now (entries_in t))) }
+/// How edges are found, by their number.
+fn index_of(alloc: Global, edges: &[Edge]) -> Result<EdgeIndex, AllocError>
+    ensures { IfOk result (IsIndexOf edges.now) }
 {
-    if edges.len() <= FEW || edges.len() > u32::MAX as usize {
-        return Ok(None);
+    if edges.len() <= MAX_SCANNED || edges.len() > u32::MAX as usize {
+        return Ok(EdgeIndex::None);
+    }
+    if edges.len() <= MAX_IN_RUNS {
+        let boxes = run_boxes(alloc, edges)?;
+        return Ok(EdgeIndex::Runs(boxes));
     }
     let entries = entries_of(alloc, edges)?;
     let tree = RTree::pack(alloc, entries)?;
-    Ok(Some(tree))
+    Ok(EdgeIndex::Tree(tree))
 }
 
 /// The scan of the edges below the root of a tree at a point.
@@ -69,23 +90,23 @@ impl IndexedOutline {
     pub fn new(alloc: Global, outline: Outline) -> Result<IndexedOutline, AllocError>
         ensures { IfOk result (λ i. i ≡ outline) }
     {
-        let tree = tree_of(alloc, &outline.edges)?;
+        let index = index_of(alloc, &outline.edges)?;
         let starts = Starts::of(&outline.edges);
         Ok(IndexedOutline {
             outline,
-            tree,
+            index,
             starts,
         })
     }
 
-    /// Takes an outline without a tree, so that its edges are looked at one by one.
+    /// Takes an outline without an index, so that its edges are looked at one by one.
     pub fn plain(outline: Outline) -> IndexedOutline
         ensures { result ≡ outline }
     {
         let starts = Starts::of(&outline.edges);
         IndexedOutline {
             outline,
-            tree: None,
+            index: EdgeIndex::None,
             starts,
         }
     }
@@ -104,13 +125,23 @@ impl IndexedOutline {
         &self.outline.edges
     }
 
-    /// The root of the tree over the boxes of the edges, or `None` if they are few.
+    /// The boxes of the runs of the edges, if these are found by them.
+    pub fn run_boxes(&self) -> Option<&[Shape]>
+        ensures { IfSome result (λ boxes. AreRunBoxes self.now.edges.items boxes.now) }
+    {
+        match &self.index {
+            EdgeIndex::Runs(boxes) => Some(boxes.as_slice()),
+            _ => None,
+        }
+    }
+
+    /// The root of the tree over the boxes of the edges, or `None` if they aren't many.
     pub fn root(&self) -> Option<&Node>
         ensures { IfSome result (λ n. IsTreeOf self.now.edges.items n.now) }
     {
-        match &self.tree {
-            Some(tree) => tree.root(),
-            None => None,
+        match &self.index {
+            EdgeIndex::Tree(tree) => tree.root(),
+            _ => None,
         }
     }
 
@@ -126,9 +157,9 @@ impl IndexedOutline {
     pub fn edges_around(&self, alloc: Global, bounds: &Shape) -> Result<Vec<Edge>, AllocError>
         ensures { IfOk result (λ v. AreAround bounds.now self.now.edges.items v.items) }
     {
-        match &self.tree {
-            Some(tree) => find_around(alloc, tree, &self.outline.edges, bounds),
-            None => scan_around(alloc, &self.outline.edges, bounds),
+        match &self.index {
+            EdgeIndex::Tree(tree) => find_around(alloc, tree, &self.outline.edges, bounds),
+            _ => scan_around(alloc, &self.outline.edges, bounds),
         }
     }
 
@@ -137,9 +168,13 @@ impl IndexedOutline {
         ensures part { result.part ≡ outline_part self.now (point_of p.now) }
         ensures above { result.above ≡ outline_above self.now (point_of p.now) }
     {
-        match self.root() {
-            Some(root) => {
-                let scan = scan_of(root, &self.outline.edges, p);
+        if let Some(root) = self.root() {
+            let scan = scan_of(root, &self.outline.edges, p);
+            return self.outline.standing_by(p, scan);
+        }
+        match self.run_boxes() {
+            Some(boxes) => {
+                let scan = scan_runs(boxes, &self.outline.edges, p);
                 self.outline.standing_by(p, scan)
             }
             None => self.outline.standing_at(p),

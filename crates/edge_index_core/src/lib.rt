@@ -1,5 +1,5 @@
-//! The outline of a geometry, with a tree over the boxes of its edges, by which the edges near a
-//! point are found.
+//! The outline of a geometry, with the boxes of runs of its edges, or a tree over the boxes of its
+//! edges, by which the edges near a point are found.
 #![tactic(auto)]
 
 mod around;
@@ -7,6 +7,7 @@ mod beyond;
 mod bounds;
 mod entries;
 mod indexed;
+mod runs;
 mod scan;
 mod starts;
 
@@ -14,3 +15,4 @@ pub use beyond::is_beyond;
 pub use bounds::bounds_of;
 pub use entries::entries_of;
 pub use indexed::IndexedOutline;
+pub use runs::first_run;

@@ -1,10 +1,11 @@
 -- When intervals share a number, when one lies in another, and when their inner parts meet.
-use Rattle.std.proofs.Common.{◌≡◌, ◌↔◌, IsTrue, Bool, true, refl, subst, arith, inl, inr, ◌⊎◌, to_z, of_z, w64}
+use Rattle.std.proofs.Common.{◌≡◌, ◌↔◌, IsTrue, Bool, true, false, refl, subst, arith, inl, inr, ◌⊎◌, to_z, of_z, w64}
 use Rattle.std.specs.Prelude.{ℤ, pos, ◌+ℤ◌, ◌≤ℤ◌, ◌<ℤ◌, int_le}
 use Rattle.std.proofs.lemmas.Int.{ints, by_lt_z}
 use Rattle.geom_core.specs.declared.span.Span.{Span}
 use Rattle.geom_core.specs.declared.shape.Shape.{Shape}
 use Rattle.geom_core.specs.Cells.{line, IsWithin, IsInner, IsIn}
+use Rattle.geom_core.specs.Sets.{LiesInside}
 use Rattle.geom_core.specs.Joined.{same_ends}
 use Rattle.geom_core.proofs.HeldLemmas.{begins_within, within_begins, no_later_lo, no_later_hi, lo_no_later, hi_no_later}
 use Rattle.geom_core.proofs.SpanLemmas.{common_line, common_order, within_ends}
@@ -79,3 +80,42 @@ apart_inner a b u h k =
     (λ l. inr (grind (arith, ints), grind (arith, ints)))
 
 pub ruleset inner_meeting = (crossing_inner, same_inner, apart_inner)
+
+-- an interval is in the inner part of another if its ends are between those of the other, or both
+-- are the same single number
+pub between_inner : (a b : Span) (u : ℤ) → b.lo <ℤ a.lo → a.hi <ℤ b.hi → IsWithin a u → IsInner b u
+between_inner a b u h k within = inl (omega (arith, ints), omega (arith, ints))
+
+pub number_inner : (a b : Span) (u : ℤ) → a.lo ≡ a.hi → a.lo ≡ b.lo → a.hi ≡ b.hi → IsWithin a u → IsInner b u
+number_inner a b u e l h within = inr (omega (arith, ints), omega (arith, ints))
+
+-- and not if neither holds
+pub inner_ends : (a b : Span) → ((u : ℤ) → IsWithin a u → IsInner b u)
+    → ((b.lo <ℤ a.lo) × (a.hi <ℤ b.hi)) ⊎ ((a.lo ≡ a.hi) × (a.lo ≡ b.lo) × (a.hi ≡ b.hi))
+inner_ends a b f =
+    let low = f (line a.lo) (omega (arith, ints), omega (arith, ints)) in
+    let high = f (line a.hi) (omega (arith, ints), omega (arith, ints)) in
+    by_lt_z b.lo a.lo
+    (λ l. inl (l, grind (arith, ints)))
+    (λ l. inr (grind (arith, ints), grind (arith, ints), grind (arith, ints)))
+
+pub ruleset inside_inner = (between_inner, number_inner, inner_ends)
+
+-- each number of an interval is in the inner part of another
+abbrev IsInsideOf : Span → Span → Type 0
+IsInsideOf a b = (u : ℤ) → IsWithin a u → IsInner b u
+
+-- a shape in the interior of another is so along each axis
+axes_inside : (a b : Shape) → LiesInside a b → IsInsideOf a.x b.x × IsInsideOf a.y b.y
+axes_inside a b f = (
+  λ u h. (f u (line a.y.lo) (h, (omega (arith, ints), omega (arith, ints)))).0,
+  λ v h. (f (line a.x.lo) v ((omega (arith, ints), omega (arith, ints)), h)).1,
+)
+
+-- so the tests of both axes, one after the other, decide it
+module _ (a b : Shape) (across : Bool) (test : IsTrue across ↔ IsInsideOf a.x b.x) where
+  pub inside_along : (along : Bool) → across ≡ true → IsTrue along ↔ IsInsideOf a.y b.y → IsTrue along ↔ LiesInside a b
+  inside_along along e next = (λ t u v c. (test.0 e u c.0, next.0 t v c.1), λ f. next.1 (axes_inside a b f).1)
+
+  pub not_inside : across ≡ false → IsTrue across ↔ LiesInside a b
+  not_inside e = (λ t. absurd cc, λ f. test.1 (axes_inside a b f).0)

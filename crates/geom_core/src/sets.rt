@@ -42,12 +42,40 @@ impl Span {
     {
         self.interleaves(other) || self.is_same(other)
     }
+
+    /// Whether both ends are between those of the other.
+    #[inline(always)]
+    fn is_between(&self, other: &Span) -> bool
+        ensures { IsTrue result
+            ↔ ((other.now.lo <ℤ self.now.lo) × (self.now.hi <ℤ other.now.hi)) }
+    {
+        other.lo < self.lo && self.hi < other.hi
+    }
+
+    /// Whether both are the same single number.
+    #[inline(always)]
+    fn is_same_number(&self, other: &Span) -> bool
+        ensures { IsTrue result ↔ ((self.now.lo ≡ self.now.hi)
+            × (self.now.lo ≡ other.now.lo) × (self.now.hi ≡ other.now.hi)) }
+    {
+        self.lo == self.hi && self.is_same(other)
+    }
+
+    /// Whether each number of the interval is in the inner part of the other.
+    #[inline(always)]
+    #[tactic(auto, using(crate::proofs::SetLaws::inside_inner))]
+    fn is_inside(&self, other: &Span) -> bool
+        ensures { IsTrue result ↔ ((u : ℤ) → IsWithin self.now u → IsInner other.now u) }
+    {
+        self.is_between(other) || self.is_same_number(other)
+    }
 }
 
 impl Shape {
     ghost use Rattle.std.specs.Prelude.{◌↔◌, IsTrue};
     ghost use Rattle.geom_core.specs.Cells.{IsIn};
-    ghost use Rattle.geom_core.specs.Sets.{AreSameSet, AreTouching, InteriorsMeet, LiesWithin};
+    ghost use Rattle.geom_core.specs.Sets.{AreSameSet, AreTouching, InteriorsMeet, LiesInside};
+    ghost use Rattle.geom_core.specs.Sets.{LiesWithin};
 
     /// Whether the closed shapes share a point, and their interiors share none.
     #[inline(always)]
@@ -82,6 +110,15 @@ impl Shape {
         ensures { IsTrue result ↔ IsIn self.now other.now }
     {
         self.x().is_in(other.x()) && self.y().is_in(other.y())
+    }
+
+    /// Whether each point of the closed shape is in the interior of the other.
+    #[inline(always)]
+    pub fn is_inside(&self, other: &Shape) -> bool
+        ensures { IsTrue result ↔ LiesInside self.now other.now }
+    {
+        let across = self.x().is_inside(other.x());
+        across && self.y().is_inside(other.y())
     }
 
     /// Whether the interiors share a point.

@@ -22,6 +22,8 @@ mod related;
 #[cfg(test)]
 mod relation_scan;
 #[cfg(test)]
+mod roundings;
+#[cfg(test)]
 mod scales;
 #[cfg(test)]
 mod shapes;

@@ -26,6 +26,9 @@ const FOR_JOINS: &[Relation] = &[
     Relation::Contains,
     Relation::Overlaps,
     Relation::Equals,
+    Relation::Covers,
+    Relation::CoveredBy,
+    Relation::ContainsProperly,
 ];
 
 #[test]
@@ -56,6 +59,19 @@ const MASKS: &[(Relation, u8, u8, &[u8])] = &[
     (Relation::Overlaps, 1, 1, b"1*T***T**"),
     (Relation::Overlaps, 2, 2, b"T*T***T**"),
     (Relation::Overlaps, 0, 2, b""),
+    (
+        Relation::Covers,
+        2,
+        0,
+        b"T*****FF**T****FF****T**FF*****T*FF*",
+    ),
+    (
+        Relation::CoveredBy,
+        0,
+        2,
+        b"T*F**F****TF**F*****FT*F*****F*TF***",
+    ),
+    (Relation::ContainsProperly, 2, 1, b"T**FF*FF*"),
 ];
 
 #[test]
@@ -80,6 +96,9 @@ const NAMES: &[(&[u8], Relation)] = &[
     (b"conTains", Relation::Contains),
     (b"overlaps", Relation::Overlaps),
     (b"equalS", Relation::Equals),
+    (b"Covers", Relation::Covers),
+    (b"COVERED_BY", Relation::CoveredBy),
+    (b"contains_Properly", Relation::ContainsProperly),
 ];
 
 #[test]
@@ -91,6 +110,8 @@ fn each_name_and_each_letter(rt: HostRuntime) {
     assert!(rt; Relation::read(b"********0") == Ok(exteriors));
     assert!(rt; mask(&rt, b"012TF*tf0").text() == *b"012TF*TF0");
     assert!(rt; Relation::read(b"disjointT") == Err(MaskFault::Letter(0)));
+    assert!(rt; Relation::read(b"coveredby") == Err(MaskFault::Letter(0)));
+    assert!(rt; Relation::read(b"contains properly") == Err(MaskFault::Length));
     assert!(rt; Mask::default().text() == *b"*********");
 }
 

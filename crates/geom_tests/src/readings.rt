@@ -1,7 +1,10 @@
 //! Reading texts and printing their shapes.
 
 use std::alloc::{AllocError, Global};
-use wkt_core::{Scale, WktFault, migration_law, one_shape_law, print, read, widened_law};
+use wkt_core::{
+    Scale, WktFault, migration_law, nearest_law, one_shape_law, print, read, rounding_law,
+    widened_law,
+};
 
 /// The corners of the shape that a text spells at a scale.
 pub(crate) fn corners_at(text: &[u8], scale: Scale) -> Result<(i64, i64, i64, i64), WktFault> {
@@ -141,5 +144,7 @@ fn greatest_rectangle(rt: HostRuntime) -> Result<(), AllocError> {
     one_shape_law();
     widened_law();
     migration_law();
+    rounding_law();
+    nearest_law();
     Ok(())
 }

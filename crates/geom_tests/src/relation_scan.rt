@@ -1,4 +1,4 @@
-//! The eight named relations of all pairs of shapes with corners from 0 to 3, compared with a scan
+//! The eleven named relations of all pairs of shapes with corners from 0 to 3, compared with a scan
 //! over all cells.
 
 use crate::matrix_scan::{Corners, PLACES, all_corners, part_at, shape};
@@ -16,6 +16,8 @@ struct Common {
     first_leaves: bool,
     /// Some cell of the second is not in the first.
     second_leaves: bool,
+    /// Some cell of the second is not in the interior of the first.
+    second_leaves_interior: bool,
 }
 
 /// The parts as `part_at` numbers them.
@@ -29,10 +31,13 @@ fn scanned(a: &Corners, b: &Corners) -> Common {
         inner: None,
         first_leaves: false,
         second_leaves: false,
+        second_leaves_interior: false,
     };
     for cell in 0..PLACES * PLACES {
         let (u, v) = (cell / PLACES, cell % PLACES);
-        match (part_at(a, u, v), part_at(b, u, v)) {
+        let (first, second) = (part_at(a, u, v), part_at(b, u, v));
+        common.second_leaves_interior |= first != INTERIOR && second != EXTERIOR;
+        match (first, second) {
             (EXTERIOR, EXTERIOR) => {}
             (EXTERIOR, _) => common.second_leaves = true,
             (_, EXTERIOR) => common.first_leaves = true,
@@ -51,13 +56,14 @@ fn dim(c: &Corners) -> u32 {
     u32::from(c.x1 != c.x2) + u32::from(c.y1 != c.y2)
 }
 
-/// Each named relation, and whether it holds, by the standard's definitions for two sets.
-fn expected(a: &Corners, b: &Corners) -> [(Relation, bool); 8] {
+/// Each named relation, and whether it holds, by the definitions for two sets.
+fn expected(a: &Corners, b: &Corners) -> [(Relation, bool); 11] {
     let Common {
         meet,
         inner,
         first_leaves,
         second_leaves,
+        second_leaves_interior,
     } = scanned(a, b);
     let greater = dim(a).max(dim(b));
     let lower = inner.is_some_and(|d| d < greater);
@@ -72,6 +78,9 @@ fn expected(a: &Corners, b: &Corners) -> [(Relation, bool); 8] {
         (Relation::Contains, inner.is_some() && !second_leaves),
         (Relation::Overlaps, full && both_leave),
         (Relation::Equals, !first_leaves && !second_leaves),
+        (Relation::Covers, !second_leaves),
+        (Relation::CoveredBy, !first_leaves),
+        (Relation::ContainsProperly, !second_leaves_interior),
     ]
 }
 

@@ -171,6 +171,21 @@ fn join_scan_equals(rt: HostRuntime) -> Result<(), Fail> {
 }
 
 #[test]
+fn join_scan_covers(rt: HostRuntime) -> Result<(), Fail> {
+    see_relation(&rt, b"covers")
+}
+
+#[test]
+fn join_scan_covered_by(rt: HostRuntime) -> Result<(), Fail> {
+    see_relation(&rt, b"covered_by")
+}
+
+#[test]
+fn join_scan_contains_properly(rt: HostRuntime) -> Result<(), Fail> {
+    see_relation(&rt, b"contains_properly")
+}
+
+#[test]
 fn join_scan_mask_of_boundaries(rt: HostRuntime) -> Result<(), Fail> {
     see_relation(&rt, b"****T****")
 }

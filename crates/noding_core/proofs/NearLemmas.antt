@@ -1,25 +1,25 @@
 -- The edges near an edge, and what follows for those that aren't.
-use Rattle.std.proofs.Common.{arith, refl, zero, suc, ◌≡◌, ◌<◌, ◌+◌, inl, inr, true, false, ℕ, List, [], ◌∷◌, ◌++◌, length, get_or, take, sym, subst, ap, ◌∙◌, All}
-use Rattle.std.specs.Prelude.{ℤ, pos, ◌≤ℤ◌, int_le, Bool, ◌&&◌, ◌||◌, not}
+use Rattle.std.proofs.Common.{arith, refl, zero, suc, ◌≡◌, ◌<◌, ◌+◌, inl, inr, true, false, ℕ, List, [], ◌∷◌, ◌++◌, length, get_or, take, drop, append-nil, sym, subst, ap, ◌∙◌, All}
+use Rattle.std.specs.Prelude.{ℤ, ◌≤ℤ◌, int_le, Bool, ◌||◌}
 use Rattle.std.specs.Int.{int_min, int_max}
-use Rattle.std.specs.Ordering.{int_eq}
-use Rattle.std.specs.List.{flat_map, list_all, Contains}
+use Rattle.std.specs.List.{flat_map, Contains}
 use Rattle.std.proofs.lemmas.Int.{ints, clamps}
-use Rattle.std.proofs.lemmas.List.Elements.{All-append, All-more, All-contains, Contains-append_left, Contains-push}
+use Rattle.std.proofs.lemmas.List.Elements.{All-nil, All-append, All-more, All-contains, Contains-append_left, Contains-push}
 use Rattle.geom_core.specs.declared.shape.Shape.{Shape}
 use Rattle.geom_core.specs.Cells.{Meets, IsIn}
 use Rattle.geom_core.proofs.SpanLemmas.{common_line}
 use Rattle.plane_core.specs.declared.edge.Edge.{Edge}
 use Rattle.plane_core.specs.declared.vertex.Vertex.{Vertex}
-use Rattle.plane_core.specs.declared.outline.Outline.{Outline}
 use Rattle.plane_core.specs.Boxes.{does_reach, do_overlap, do_boxes_meet}
-use Rattle.plane_core.specs.Points.{Point, at, is_on, side, turn_of}
+use Rattle.plane_core.specs.Points.{Point, is_on}
 use Rattle.rtree_core.specs.declared.node.Entry.{Entry}
 use Rattle.rtree_core.specs.declared.node.Node.{Node as TreeNode}
 use Rattle.rtree_core.specs.Nodes.{entries_of}
 use Rattle.edge_index_core.specs.Bounds.{IsBoxOf}
+use Rattle.edge_index_core.specs.Runs.{run_len, HoldsEdge}
 use Rattle.edge_index_core.specs.Trees.{IsEntryIn, HoldsEdges}
 use Rattle.edge_index_core.proofs.EntryLemmas.{tree_holds}
+use Rattle.edge_index_core.proofs.RunLemmas.{run_off}
 use Rattle.edge_index_core.proofs.ScanLemmas.{nodes_more}
 use Rattle.noding_core.specs.Gathered.{Extends}
 use Rattle.noding_core.specs.Near.{IsFound, IsEntryFound}
@@ -27,7 +27,7 @@ use Rattle.noding_core.specs.Nodes.{IsAmong, IsNode, AreNodesOf}
 use Rattle.noding_core.specs.Nodes.IsNode.{FirstEnd, LastEnd, Meeting, Single}
 use Rattle.noding_core.proofs.NodeLemmas.{all_among}
 use Rattle.noding_core.proofs.OffPartLemmas.{first_on, last_on}
-use Rattle.noding_core.proofs.GatherLemmas.{boxes_meet}
+use Rattle.noding_core.proofs.GatherLemmas.{boxes_meet, extends-refl}
 use Rattle.noding_core.proofs.TestLemmas.{by_test, clash, true_le, first_holds, second_holds}
 
 -- what is found stays found
@@ -108,6 +108,37 @@ pub held_found : (e : Edge) (es ns : List Edge) (held : List Entry) → HoldsEdg
 held_found e es ns held h all k d lt =
     let x = tree_holds es h.entries held h.are h.same k lt d in
     subst (λ (n : ℕ). IsFound e ns (get_or es n d)) x.1.number_is (All-contains (IsEntryFound e es ns) held x.0 all x.2 d)
+
+-- an edge of a run is apart where the run's box is
+run_apart : (e : Edge) (s box : Shape) (ns fs : List Edge) → IsBoxOf e s → (Meets box s → ⊥) → All (HoldsEdge box) fs → All (IsFound e ns) fs
+run_apart e s box ns fs own apart held k d lt =
+    let h = held k d lt in
+    inr (boxes_apart e (get_or fs k d) s h.own own h.own_is (λ m. apart (m.0, m.1, h.within m.0 m.1 m.2, m.3)))
+
+-- the edges of a list up to its rest are found
+pub record IsFoundTo (e : Edge) (es rest ns : List Edge) : Type 0 where
+  pub done : List Edge
+  pub whole : es ≡ done ++ rest
+  pub found : All (IsFound e ns) done
+
+pub none_found : (e : Edge) (es ns : List Edge) → IsFoundTo e es es ns
+none_found e es ns = record { done = []; whole = refl; found = All-nil (IsFound e ns) }
+
+pub run_found : (e : Edge) (es rest after ns ms : List Edge) → after ≡ drop run_len rest → Extends ns ms → All (IsFound e ms) (take run_len rest)
+    → IsFoundTo e es rest ns → IsFoundTo e es after ms
+run_found e es rest after ns ms is kept run h = subst (λ (l : List Edge). IsFoundTo e es l ms) (sym is) (record {
+  done = h.done ++ take run_len rest;
+  whole = run_off es h.done rest h.whole;
+  found = All-append (IsFound e ms) h.done (take run_len rest) (all_found_kept e ns ms h.done kept h.found) run;
+})
+
+pub run_missed : (e : Edge) (es rest after ns : List Edge) (s box : Shape) → after ≡ drop run_len rest → IsBoxOf e s → (Meets box s → ⊥)
+    → All (HoldsEdge box) (take run_len rest) → IsFoundTo e es rest ns → IsFoundTo e es after ns
+run_missed e es rest after ns s box is own apart held h = run_found e es rest after ns ns is (extends-refl ns) (run_apart e s box ns (take run_len rest) own apart held) h
+
+pub runs_found : (e : Edge) (es rest ns : List Edge) → rest ≡ [] → IsFoundTo e es rest ns → All (IsFound e ns) es
+runs_found e es rest ns none h =
+    subst (All (IsFound e ns)) (sym (h.whole ∙ ap (λ (l : List Edge). h.done ++ l) none ∙ append-nil h.done)) h.found
 
 -- an edge that has a point of the first is near it
 pub contained : (xs : List Edge) (f : Edge) → Contains xs f → IsAmong f xs

@@ -5,11 +5,12 @@ ghost use Rattle.std.specs.List.{flat_map};
 ghost use Rattle.plane_core.specs.declared.edge.Edge.{Edge};
 ghost use Rattle.rtree_core.specs.Nodes.{entries_of, IsLawful};
 ghost use Rattle.edge_index_core.specs.Bounds.{IsBoxOf};
+ghost use Rattle.edge_index_core.specs.Runs.{AreRunBoxes};
 ghost use Rattle.edge_index_core.specs.Trees.{IsEntryIn};
 ghost use Rattle.noding_core.specs.Gathered.{Extends};
 ghost use Rattle.noding_core.specs.Near.{IsFound, IsEntryFound};
 
-use edge_index_core::{IndexedOutline, bounds_of};
+use edge_index_core::{IndexedOutline, bounds_of, first_run};
 use geom_core::Shape;
 use plane_core::Edge;
 use rtree_core::{Entry, Node as TreeNode};
@@ -106,6 +107,31 @@ fn push_few(near: &mut Vec<Edge>, e: &Edge, edges: &[Edge]) -> Result<(), AllocE
     Ok(())
 }
 
+/// Adds those of edges in runs. A run whose box doesn't meet the edge's is skipped.
+fn push_runs(
+    near: &mut Vec<Edge>,
+    e: &Edge,
+    edges: &[Edge],
+    boxes: &[Shape],
+) -> Result<(), AllocError>
+    requires { AreRunBoxes edges.now boxes.now }
+    ensures kept { OnOk result (Extends near.old.items near.new.items) }
+    ensures found { let near = near.new.items in OnOk result (All (IsFound e.now near) edges.now) }
+{
+    let bounds = bounds_of(e);
+    let mut rest = edges;
+    for shape in boxes {
+        let (run, after) = first_run(rest);
+        rest = after;
+        let meets = shape.meets(&bounds);
+        if !meets {
+            continue;
+        }
+        push_few(near, e, run)?;
+    }
+    Ok(())
+}
+
 /// Adds the edges of an outline whose boxes meet an edge's box.
 pub fn push_near(near: &mut Vec<Edge>, e: &Edge, outline: &IndexedOutline) -> Result<(), AllocError>
     ensures kept { OnOk result (Extends near.old.items near.new.items) }
@@ -113,12 +139,13 @@ pub fn push_near(near: &mut Vec<Edge>, e: &Edge, outline: &IndexedOutline) -> Re
         OnOk result (All (IsFound e.now near) outline.now.edges.items) }
 {
     let edges = outline.edges();
-    match outline.root() {
-        Some(root) => {
-            let bounds = bounds_of(e);
-            push_node(near, &bounds, edges, root)?;
-            Ok(())
-        }
+    if let Some(root) = outline.root() {
+        let bounds = bounds_of(e);
+        push_node(near, &bounds, edges, root)?;
+        return Ok(());
+    }
+    match outline.run_boxes() {
+        Some(boxes) => push_runs(near, e, edges, boxes),
         None => push_few(near, e, edges),
     }
 }

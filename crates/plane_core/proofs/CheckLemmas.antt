@@ -14,8 +14,8 @@ use Rattle.plane_core.specs.declared.outline.Kind.{Kind}
 use Rattle.plane_core.specs.declared.outline.Kind.TheVariants.{Points as Dots, Lines as Polylines, Areas as Rings}
 use Rattle.plane_core.specs.Limits.{IsCoordinate}
 use Rattle.plane_core.specs.Figures.{edges, last_or, HasLength, IsPath, IsClosed, IsRing, IsGeometry}
-use Rattle.plane_core.specs.Stored.{paths_of, stored_figure, AreCuts, IsStored}
-use Rattle.plane_core.specs.Checks.{are_cuts, is_same_vertex, has_length, is_path, is_closed, is_ring, is_filled, is_stored}
+use Rattle.plane_core.specs.Stored.{paths_of, stored_figure, AreCuts, AreCutsFor, IsStored}
+use Rattle.plane_core.specs.Checks.{are_cuts, are_cuts_for, is_same_vertex, has_length, is_path, is_closed, is_ring, is_filled, is_stored}
 
 -- tests and facts
 pub and_first : (a b : Bool) → (a && b) ≡ true → a ≡ true
@@ -61,6 +61,16 @@ cuts_fact start (end ∷ ends) n h = (le_fact start end (and_first _ _ h), cuts_
 cuts_test : (start : ℕ) (ends : List ℕ) (n : ℕ) → AreCuts start ends n → are_cuts start ends n ≡ true
 cuts_test start [] n h = same_test start n h
 cuts_test start (end ∷ ends) n h = and_both _ _ (le_test start end h.0) (cuts_test end ends n h.1)
+
+pub cuts_for_fact : (kind : Kind) (ends : List ℕ) (n : ℕ) → are_cuts_for kind ends n ≡ true → AreCutsFor kind ends n
+cuts_for_fact Dots ends n h = tt
+cuts_for_fact Polylines ends n h = cuts_fact 0 ends n h
+cuts_for_fact Rings ends n h = cuts_fact 0 ends n h
+
+cuts_for_test : (kind : Kind) (ends : List ℕ) (n : ℕ) → AreCutsFor kind ends n → are_cuts_for kind ends n ≡ true
+cuts_for_test Dots ends n h = refl
+cuts_for_test Polylines ends n h = cuts_test 0 ends n h
+cuts_for_test Rings ends n h = cuts_test 0 ends n h
 
 rest_cuts : (ends : List ℕ) (i end : ℕ) → i < length ends → end ≡ get_or ends i end → drop i ends ≡ end ∷ drop (i + 1) ends
 rest_cuts ends i end lt is = drop_more ends i end lt ∙ ap (λ (x : ℕ). x ∷ drop (i + 1) ends) (sym is)
@@ -200,12 +210,21 @@ filled_test Rings ends vs h = and_both _ _
 
 pub stored_fact : (kind : Kind) (ends : List ℕ) (vs : List Vertex) → is_stored kind ends vs ≡ true → IsStored kind ends vs
 stored_fact kind ends vs h = record {
-  cuts = cuts_fact 0 ends (length vs) (and_first _ _ h);
-  geometry = filled_fact kind ends vs (and_second (are_cuts 0 ends (length vs)) _ h);
+  cuts = cuts_for_fact kind ends (length vs) (and_first _ _ h);
+  geometry = filled_fact kind ends vs (and_second (are_cuts_for kind ends (length vs)) _ h);
 }
 
 pub stored_test : (kind : Kind) (ends : List ℕ) (vs : List Vertex) → IsStored kind ends vs → is_stored kind ends vs ≡ true
-stored_test kind ends vs h = and_both _ _ (cuts_test 0 ends (length vs) h.cuts) (filled_test kind ends vs h.geometry)
+stored_test kind ends vs h = and_both _ _ (cuts_for_test kind ends (length vs) h.cuts) (filled_test kind ends vs h.geometry)
+
+-- the same in other lists
+pub stored_as : (kind : Kind) (ends needed own : List ℕ) (vs held : List Vertex) → own ≡ needed → held ≡ vs
+    → ((ws : List Vertex) → IsStored kind ends ws → IsStored kind needed ws) → IsStored kind ends vs → IsStored kind own held
+stored_as kind ends needed own vs held is same needs h = rw (is, same) (needs vs h)
+
+pub figure_as : (kind : Kind) (ends needed own : List ℕ) (vs held : List Vertex) → own ≡ needed → held ≡ vs
+    → ((ws : List Vertex) → stored_figure kind needed ws ≡ stored_figure kind ends ws) → stored_figure kind own held ≡ stored_figure kind ends vs
+figure_as kind ends needed own vs held is same needs = rw (is, same) (needs vs)
 
 pub not_stored : (kind : Kind) (ends : List ℕ) (vs : List Vertex) → is_stored kind ends vs ≡ false → ¬ (IsStored kind ends vs)
 not_stored kind ends vs h s = clash (is_stored kind ends vs) (stored_test kind ends vs s) h

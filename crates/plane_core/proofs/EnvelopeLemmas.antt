@@ -12,7 +12,7 @@ use Rattle.plane_core.specs.declared.vertex.Vertex.{Vertex}
 use Rattle.plane_core.specs.declared.outline.Kind.{Kind}
 use Rattle.plane_core.specs.declared.outline.Kind.TheVariants.{Points as Dots, Lines as Polylines, Areas as RingKind}
 use Rattle.plane_core.specs.Figures.{Figure, edges, IsPath}
-use Rattle.plane_core.specs.Stored.{paths_of, stored_figure, AreCuts, IsStored}
+use Rattle.plane_core.specs.Stored.{paths_of, stored_figure, AreCuts, AreCutsFor, IsStored}
 use Rattle.plane_core.specs.Vertices.{paths_in, vertices_of, start_of, HoldsVertex}
 use Rattle.plane_core.proofs.StoredLemmas.{cuts_below}
 
@@ -114,13 +114,13 @@ joined_from start (end ∷ ends) vs h =
         ∙ ap (λ (ys : List Vertex). take (n - m) (drop m xs) ++ ys) (sym (drop-drop (n - m) m xs))
         ∙ take-append-drop (n - m) (drop m xs)
 
-pub all_vertices : (kind : Kind) (ends : List ℕ) (vs : List Vertex) → AreCuts 0 ends (length vs) → vertices_of (stored_figure kind ends vs) ≡ vs
+pub all_vertices : (kind : Kind) (ends : List ℕ) (vs : List Vertex) → AreCutsFor kind ends (length vs) → vertices_of (stored_figure kind ends vs) ≡ vs
 all_vertices Dots ends vs h = append-nil vs
 all_vertices Polylines ends vs h = joined_from 0 ends vs h
 all_vertices RingKind ends vs h = joined_from 0 ends vs h
 
 -- the stored form of a geometry
-pub vertices_are : (g : Figure) (kind : Kind) (ends : List ℕ) (vs ws : List Vertex) → g ≡ stored_figure kind ends vs → AreCuts 0 ends (length vs) → ws ≡ vs
+pub vertices_are : (g : Figure) (kind : Kind) (ends : List ℕ) (vs ws : List Vertex) → g ≡ stored_figure kind ends vs → AreCutsFor kind ends (length vs) → ws ≡ vs
     → ws ≡ vertices_of g
 vertices_are g kind ends vs ws is cuts same = same ∙ sym (all_vertices kind ends vs cuts) ∙ sym (ap vertices_of is)
 

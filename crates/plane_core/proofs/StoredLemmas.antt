@@ -7,7 +7,9 @@ use Rattle.plane_core.specs.declared.vertex.Vertex.{Vertex}
 use Rattle.plane_core.specs.declared.edge.Edge.{Edge}
 use Rattle.plane_core.specs.Figures.{edges, last_or}
 use Rattle.plane_core.specs.Paths.{IsEdgeAt}
-use Rattle.plane_core.specs.Stored.{paths_of, AreCuts}
+use Rattle.plane_core.specs.declared.outline.Kind.{Kind}
+use Rattle.plane_core.specs.declared.outline.Kind.TheVariants.{Points as Dots, Lines as Polylines, Areas as RingKind}
+use Rattle.plane_core.specs.Stored.{paths_of, AreCuts, AreCutsFor}
 
 edges_step : (path : List Vertex) (j : ℕ) (a b : Vertex) → suc j < length path → a ≡ get_or path j a → b ≡ get_or path (suc j) b
     → edges (take (suc (suc j)) path) ≡ edges (take (suc j) path) ++ record { a = a; b = b } ∷ []
@@ -44,6 +46,18 @@ pub edges_pushed : (old mid new es : List Edge) (path : List Vertex) (i : ℕ) (
 edges_pushed old mid new es path i a b one lt ea eb h k =
     k ∙ ap (λ (xs : List Edge). xs ++ record { a = a; b = b } ∷ []) h ∙ append_assoc old (edges (take i path)) (record { a = a; b = b } ∷ [])
     ∙ ap (λ (xs : List Edge). old ++ xs) (sym (edges_more path i a b one lt ea eb))
+
+-- the ends of the paths of a kind
+pub cuts_for : (kind : Kind) (ends : List ℕ) (n : ℕ) → AreCuts 0 ends n → AreCutsFor kind ends n
+cuts_for Dots ends n h = tt
+cuts_for Polylines ends n h = h
+cuts_for RingKind ends n h = h
+
+pub lines_cut : (kind : Kind) (ends : List ℕ) (n : ℕ) → kind ≡ Polylines → AreCutsFor kind ends n → AreCuts 0 ends n
+lines_cut kind ends n is h = subst (λ (k : Kind). AreCutsFor k ends n) is h
+
+pub rings_cut : (kind : Kind) (ends : List ℕ) (n : ℕ) → kind ≡ RingKind → AreCutsFor kind ends n → AreCuts 0 ends n
+rings_cut kind ends n is h = subst (λ (k : Kind). AreCutsFor k ends n) is h
 
 -- the start of the remaining paths
 pub cuts_below : (start : ℕ) (ends : List ℕ) (n : ℕ) → AreCuts start ends n → start ≤ n

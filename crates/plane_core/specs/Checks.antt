@@ -14,6 +14,11 @@ abbrev pub are_cuts : ℕ → List ℕ → ℕ → Bool
 are_cuts start [] n = start == n
 are_cuts start (end ∷ ends) n = nat_le start end && are_cuts end ends n
 
+abbrev pub are_cuts_for : Kind → List ℕ → ℕ → Bool
+are_cuts_for Dots ends n = true
+are_cuts_for Polylines ends n = are_cuts 0 ends n
+are_cuts_for Rings ends n = are_cuts 0 ends n
+
 abbrev pub is_same_vertex : Vertex → Vertex → Bool
 is_same_vertex v w = int_eq v.x w.x && int_eq v.y w.y
 
@@ -36,4 +41,4 @@ is_filled Polylines ends vs = nat_lt 0 (length ends) && list_all is_path (paths_
 is_filled Rings ends vs = nat_lt 0 (length ends) && list_all is_ring (paths_of 0 ends vs)
 
 abbrev pub is_stored : Kind → List ℕ → List Vertex → Bool
-is_stored kind ends vs = are_cuts 0 ends (length vs) && is_filled kind ends vs
+is_stored kind ends vs = are_cuts_for kind ends (length vs) && is_filled kind ends vs

@@ -23,6 +23,12 @@ abbrev pub AreCuts : ℕ → List ℕ → ℕ → Type 0
 AreCuts start [] n = start ≡ n
 AreCuts start (end ∷ ends) n = (start ≤ end) × AreCuts end ends n
 
+-- the ends cut this many vertices into paths; single points need no ends
+abbrev pub AreCutsFor : Kind → List ℕ → ℕ → Type 0
+AreCutsFor Dots ends n = Unit {0}
+AreCutsFor Polylines ends n = AreCuts 0 ends n
+AreCutsFor Rings ends n = AreCuts 0 ends n
+
 pub record IsStored (kind : Kind) (ends : List ℕ) (vs : List Vertex) : Type 0 where
-  pub cuts : AreCuts 0 ends (length vs)
+  pub cuts : AreCutsFor kind ends (length vs)
   pub geometry : IsGeometry (stored_figure kind ends vs)

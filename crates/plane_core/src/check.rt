@@ -1,9 +1,9 @@
 //! Whether vertices and the ends of paths form a geometry.
 
 ghost use Rattle.std.specs.Prelude.{◌≡◌, length, IsTrue};
-ghost use Rattle.plane_core.specs.Stored.{AreCuts, paths_of};
-ghost use Rattle.plane_core.specs.Checks.{are_cuts, is_same_vertex, has_length, is_path, is_closed};
-ghost use Rattle.plane_core.specs.Checks.{is_ring, is_filled, is_stored};
+ghost use Rattle.plane_core.specs.Stored.{AreCuts, AreCutsFor, paths_of};
+ghost use Rattle.plane_core.specs.Checks.{are_cuts, are_cuts_for, is_same_vertex, has_length};
+ghost use Rattle.plane_core.specs.Checks.{is_path, is_closed, is_ring, is_filled, is_stored};
 ghost use Rattle.std.specs.List.{list_all};
 
 use crate::edge::Edge;
@@ -24,6 +24,17 @@ fn are_cuts(ends: &[u32], n: usize) -> bool
         start = next;
     }
     start == n
+}
+
+/// The same of a kind whose geometries have paths; points need no ends.
+fn are_cuts_for(kind: Kind, ends: &[u32], n: usize) -> bool
+    ensures { result ≡ are_cuts_for kind ends.now n }
+{
+    match kind {
+        Kind::Points => true,
+        Kind::Lines => are_cuts(ends, n),
+        Kind::Areas => are_cuts(ends, n),
+    }
 }
 
 fn is_same_vertex(v: &Vertex, w: &Vertex) -> bool
@@ -107,7 +118,7 @@ fn are_rings(ends: &[u32], vertices: &[Vertex]) -> bool
 
 /// Whether there is at least one path, and each has the form that the kind requires.
 fn is_filled(kind: Kind, ends: &[u32], vertices: &[Vertex]) -> bool
-    requires { AreCuts 0 ends.now (length vertices.now) }
+    requires { AreCutsFor kind ends.now (length vertices.now) }
     ensures { result ≡ is_filled kind ends.now vertices.now }
 {
     let has_vertices = 0 < vertices.len();
@@ -130,7 +141,7 @@ fn is_filled(kind: Kind, ends: &[u32], vertices: &[Vertex]) -> bool
 pub(crate) fn is_stored(kind: Kind, ends: &[u32], vertices: &[Vertex]) -> bool
     ensures { result ≡ is_stored kind ends.now vertices.now }
 {
-    if are_cuts(ends, vertices.len()) {
+    if are_cuts_for(kind, ends, vertices.len()) {
         is_filled(kind, ends, vertices)
     } else {
         false

@@ -23,7 +23,8 @@ use std::alloc::{AllocError, Global};
 use std::marker::Model;
 
 /// Points, polylines, or the rings of polygons: the concatenated vertices of all paths, and the end
-/// of each path.
+/// of each path. Points have no ends. A layer holds very many geometries, so that neither list has
+/// room for more.
 #[derive(Drop)]
 pub struct Geometry {
     kind: Kind,
@@ -100,14 +101,19 @@ fn push_all_ends(
     Ok(())
 }
 
+/// The number of edges of paths, for which room is reserved: one fewer than vertices in each.
+fn edge_count(ends: &[u32], vertices: &[Vertex]) -> usize {
+    vertices.len().saturating_sub(ends.len())
+}
+
 /// The outline of polylines.
 fn lines_outline(alloc: Global, cuts: &[u32], vertices: &[Vertex]) -> Result<Outline, AllocError>
     requires { AreCuts 0 cuts.now (length vertices.now) }
     ensures { IfOk result (IsOutlineOf (stored_figure Kind.Lines cuts.now vertices.now)) }
 {
-    let mut edges = Vec::new(alloc);
+    let mut edges = Vec::with_capacity(alloc, edge_count(cuts, vertices))?;
     push_all_edges(&mut edges, cuts, vertices)?;
-    let mut ends = Vec::new(alloc);
+    let mut ends = Vec::with_capacity(alloc, cuts.len().saturating_mul(2))?;
     push_all_ends(&mut ends, cuts, vertices)?;
     Ok(Outline {
         kind: Kind::Lines,
@@ -121,13 +127,38 @@ fn areas_outline(alloc: Global, cuts: &[u32], vertices: &[Vertex]) -> Result<Out
     requires { AreCuts 0 cuts.now (length vertices.now) }
     ensures { IfOk result (IsOutlineOf (stored_figure Kind.Areas cuts.now vertices.now)) }
 {
-    let mut edges = Vec::new(alloc);
+    let mut edges = Vec::with_capacity(alloc, edge_count(cuts, vertices))?;
     push_all_edges(&mut edges, cuts, vertices)?;
     Ok(Outline {
         kind: Kind::Areas,
         edges,
         ends: Vec::new(alloc),
     })
+}
+
+/// The same list, without room for more.
+fn fitted<T>(mut items: Vec<T>) -> Vec<T>
+    ensures { result.items ≡ items.items }
+{
+    items.shrink_to_fit();
+    items
+}
+
+/// The ends of paths, if the kind has any.
+fn needed_ends(kind: Kind, mut ends: Vec<u32>) -> Vec<u32>
+    ensures stored { (vs : List Vertex) → IsStored kind ends.items vs
+        → IsStored kind result.items vs }
+    ensures figure { (vs : List Vertex)
+        → stored_figure kind result.items vs ≡ stored_figure kind ends.items vs }
+{
+    match kind {
+        Kind::Points => {
+            ends.clear();
+            ends
+        }
+        Kind::Lines => ends,
+        Kind::Areas => ends,
+    }
 }
 
 /// The outline of single points.
@@ -145,9 +176,9 @@ impl Geometry {
     /// The geometry of a kind from the concatenated vertices of its paths and the end of each path,
     /// or `None` if these form none.
     ///
-    /// For points, each vertex is a point. A polyline has at least two vertices, and consecutive
-    /// ones differ; a ring is a polyline whose last vertex equals its first. There must be at least
-    /// one path.
+    /// For points, each vertex is a point, and the ends don't matter. A polyline has at least two
+    /// vertices, and consecutive ones differ; a ring is a polyline whose last vertex equals its
+    /// first. There must be at least one path.
     pub fn new(kind: Kind, ends: Vec<u32>, vertices: Vec<Vertex>) -> Option<Geometry>
         ensures some { IsSome result ↔ IsStored kind ends.items vertices.items }
         ensures figure { IfSome result (λ g. g ≡ stored_figure kind ends.items vertices.items) }
@@ -155,8 +186,8 @@ impl Geometry {
         if is_stored(kind, &ends, &vertices) {
             Some(Geometry {
                 kind,
-                ends,
-                vertices,
+                ends: fitted(needed_ends(kind, ends)),
+                vertices: fitted(vertices),
             })
         } else {
             None

@@ -3,7 +3,7 @@
 ghost use Rattle.std.specs.Prelude.{◌≡◌, ◌<◌, List, length};
 ghost use Rattle.std.specs.List.{slice_index_or};
 ghost use Rattle.plane_core.specs.declared.vertex.Vertex.{Vertex};
-ghost use Rattle.plane_core.specs.Stored.{paths_of, stored_figure, AreCuts};
+ghost use Rattle.plane_core.specs.Stored.{paths_of, stored_figure, AreCuts, AreCutsFor};
 ghost use Rattle.plane_core.specs.Vertices.{paths_in, start_of};
 
 use crate::outline::Kind;
@@ -47,7 +47,7 @@ pub(crate) fn path_at<'a>(
     vertices: &'a [Vertex],
     i: usize,
 ) -> &'a [Vertex]
-    requires cuts { AreCuts 0 ends.now (length vertices.now) }
+    requires cuts { AreCutsFor kind ends.now (length vertices.now) }
     requires within { i < length (paths_in (stored_figure kind ends.now vertices.now)) }
     ensures { (none : List Vertex)
         → result.now ≡ slice_index_or (paths_in (stored_figure kind ends.now vertices.now)) i none }

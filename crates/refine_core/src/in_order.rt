@@ -67,9 +67,18 @@ pub(crate) fn join_rows<A: Drop>(
 ) -> Result<Vec<Refined<A>>, AllocError>
     ensures { IfOk result (λ all. all.items ≡ flat_map (λ row. row.items) rows.items) }
 {
-    let mut all = Vec::new(alloc);
+    let mut all = Vec::with_capacity(alloc, total_len(&rows))?;
     for mut row in rows {
         all.append(&mut row)?;
     }
     Ok(all)
+}
+
+/// The number of pairs in all rows, for which room is reserved.
+fn total_len<A>(rows: &[Vec<Refined<A>>]) -> usize {
+    let mut len = 0_usize;
+    for row in rows {
+        len = len.saturating_add(row.len());
+    }
+    len
 }

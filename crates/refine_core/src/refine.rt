@@ -12,7 +12,7 @@ use crate::condition::Condition;
 use crate::in_order::{gather, join_rows, rows_of};
 use crate::laws::refinement_law;
 use crate::refined::Refined;
-use crate::worker::{Share, refine_each, work};
+use crate::worker::{Job, Share, refine_each, work};
 use deliver_core::{Board, BoardSeat};
 use options_core::MAX_WORKERS;
 use std::alloc::{AllocError, Global};
@@ -73,7 +73,13 @@ where
     }
     let chunks = chunk_count(pairs.len());
     let (board, seats) = Board::new(alloc, chunks, workers.min(chunks))?;
-    let shares = run_workers(rt, alloc, condition, pairs, &board, seats)?;
+    let job = Job {
+        alloc,
+        condition,
+        pairs,
+        board: &board,
+    };
+    let shares = run_workers(rt, &job, seats)?;
     let (seats, parts) = gather(alloc, shares)?;
     board.close(seats);
     let rows = rows_of(alloc, chunks, parts)?;
@@ -83,24 +89,21 @@ where
 /// The results of the workers, one for each of these seats.
 fn run_workers<C: Condition + Sync, R: Threads + Sync>(
     rt: &R,
-    alloc: Global,
-    condition: &C,
-    pairs: &[(u32, u32)],
-    board: &Board,
+    job: &Job<'_, C>,
     seats: Vec<BoardSeat>,
 ) -> Result<Vec<Result<Share<C::Answer>, AllocError>>, AllocError>
 where
     C::Answer: Send + Drop,
-    requires near { All (IsPairIn (C.near condition.now)) pairs.now }
-    requires chunks { (number : ℕ) → number < board.now.tasks
-        → IsChunkNumber (length pairs.now) number }
-    requires seats { All (λ seat. seat ≡ fresh_seat board.now) seats.items }
+    requires near { All (IsPairIn (C.near job.now.condition.now)) job.now.pairs.now }
+    requires chunks { (number : ℕ) → number < job.now.board.now.tasks
+        → IsChunkNumber (length job.now.pairs.now) number }
+    requires seats { All (λ seat. seat ≡ fresh_seat job.now.board.now) seats.items }
     ensures len { IfOk result (λ shares. length shares.items ≡ length seats.items) }
-    ensures shares { let stands = C.stands condition.now in
-        let answers = C.answers condition.now in
-        let given = IsShare stands answers board.now pairs.now in
+    ensures shares { let stands = C.stands job.now.condition.now in
+        let answers = C.answers job.now.condition.now in
+        let given = IsShare stands answers job.now.board.now job.now.pairs.now in
         IfOk result (λ shares. All (λ share. IfOk share given) shares.items) }
 {
-    let share = |seat: BoardSeat| work(alloc, condition, pairs, board, seat);
+    let share = |seat: BoardSeat| work(job, seat);
     thread::map_vec(rt, seats, &share)
 }

@@ -26,27 +26,34 @@ pub(crate) struct Share<A> {
     pub(crate) parts: Vec<Part<A>>,
 }
 
+/// The inputs that the workers share: the pairs to refine by the condition, and the board from
+/// which the chunks of the pairs are drawn.
+#[derive(Drop)]
+pub(crate) struct Job<'a, C> {
+    pub(crate) alloc: Global,
+    pub(crate) condition: &'a C,
+    pub(crate) pairs: &'a [(u32, u32)],
+    pub(crate) board: &'a Board,
+}
+
 /// Draws chunks until none is left, and refines each.
 pub(crate) fn work<C: Condition>(
-    alloc: Global,
-    condition: &C,
-    pairs: &[(u32, u32)],
-    board: &Board,
+    job: &Job<'_, C>,
     mut seat: BoardSeat,
 ) -> Result<Share<C::Answer>, AllocError>
 where
     C::Answer: Drop,
-    requires near { All (IsPairIn (C.near condition.now)) pairs.now }
-    requires chunks { (number : ℕ) → number < board.now.tasks
-        → IsChunkNumber (length pairs.now) number }
-    requires seat { seat ≡ fresh_seat board.now }
-    ensures { let stands = C.stands condition.now in
-        let answers = C.answers condition.now in
-        IfOk result (IsShare stands answers board.now pairs.now) }
+    requires near { All (IsPairIn (C.near job.now.condition.now)) job.now.pairs.now }
+    requires chunks { (number : ℕ) → number < job.now.board.now.tasks
+        → IsChunkNumber (length job.now.pairs.now) number }
+    requires seat { seat ≡ fresh_seat job.now.board.now }
+    ensures { let stands = C.stands job.now.condition.now in
+        let answers = C.answers job.now.condition.now in
+        IfOk result (IsShare stands answers job.now.board.now job.now.pairs.now) }
 {
-    let mut parts = Vec::new(alloc);
-    while let Some(number) = board.claim(&mut seat) {
-        let refined = refine_each(alloc, condition, chunk(pairs, number))?;
+    let mut parts = Vec::new(job.alloc);
+    while let Some(number) = job.board.claim(&mut seat) {
+        let refined = refine_each(job.alloc, job.condition, chunk(job.pairs, number))?;
         parts.push(Part {
             chunk: number,
             refined,

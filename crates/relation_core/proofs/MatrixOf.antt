@@ -21,6 +21,7 @@ use Rattle.relation_core.specs.Relations.{FitsOne, Holds, masks}
 use Rattle.relation_core.specs.Relations.{HoldsOfSets}
 use Rattle.relation_core.proofs.PartLemmas.{matrix_holds}
 use Rattle.relation_core.proofs.RelationLaws.{fits_where_holds, disjoint_law, intersects_law, touches_law, within_law, contains_law, equals_law}
+use Rattle.relation_core.proofs.RelationLaws.{covers_law, covered_by_law, contains_properly_law}
 
 by_order : {P : Type 0} (x y : ℤ) → (x <ℤ y → P) → (x ≡ y → P) → (y <ℤ x → P) → P
 by_order x y below same above = by_lt_z x y below (λ h. by_lt_z y x above (λ k. same (omega (arith, ints))))
@@ -111,6 +112,9 @@ sets_law relations.Within a b = holds_by relations.Within a b _ (within_law a b)
 sets_law relations.Contains a b = holds_by relations.Contains a b _ (contains_law a b)
 sets_law relations.Overlaps a b = (λ h. h, λ h. h)
 sets_law relations.Equals a b = holds_by relations.Equals a b _ (equals_law a b)
+sets_law relations.Covers a b = holds_by relations.Covers a b _ (covers_law a b)
+sets_law relations.CoveredBy a b = holds_by relations.CoveredBy a b _ (covered_by_law a b)
+sets_law relations.ContainsProperly a b = holds_by relations.ContainsProperly a b _ (contains_properly_law a b)
 
 -- the meaning of a test of a relation of two shapes
 pub record Tells (r : Relation) (a b : Shape) (answer : Bool) : Type 0 where

@@ -20,7 +20,7 @@ use Rattle.geom_core.specs.Cells.{IsInterior}
 use Rattle.relation_core.specs.Matrices.{IsBoundary, IsExterior, IsExtent, IsMatrix}
 use Rattle.relation_core.specs.Masks.{FitsRow, row}
 use Rattle.relation_core.specs.Relations.{mask, masks, FitsOne, Holds}
-use Rattle.geom_core.specs.Sets.{InteriorsMeet, AreTouching, LiesWithin, AreSameSet}
+use Rattle.geom_core.specs.Sets.{InteriorsMeet, AreTouching, LiesInside, LiesWithin, AreSameSet}
 use Rattle.relation_core.proofs.OneMatrix.{Share, one_matrix, shared, none_shared, empty, not_empty}
 use Rattle.geom_core.proofs.SetLaws.{some_inner}
 
@@ -268,6 +268,124 @@ equals_law a b m h =
             interior = record { interior = r.ii.1 (inner_of_same a b w.0 w.1); boundary = tt; exterior = i.0 };
             boundary = record { interior = tt; boundary = tt; exterior = i.1 };
             exterior = record { interior = j.0; boundary = j.1; exterior = tt };
+          }),
+    )
+
+-- a shape has a cell, so one that lies in another meets it
+in_meets : (a b : Shape) → IsIn a b → Meets a b
+in_meets a b h =
+    let x = some_inner a.x in
+    let y = some_inner a.y in
+    let c = interior_covers a x.0 y.0 (x.1, y.1) in (x.0, y.0, c, h x.0 y.0 c)
+
+meets_swapped : (a b : Shape) → Meets a b → Meets b a
+meets_swapped a b (u, v, c, d) = (u, v, d, c)
+
+pub covered_by_law : (a b : Shape) (m : Matrix) → IsMatrix a b m → FitsOne (masks relations.CoveredBy (dim_of a) (dim_of b)) m ↔ IsIn a b
+covered_by_law a b m h =
+    let r = read a b m h in (
+      λ f. elim f [
+        | inl k ↦ r.first_in.0 (k.interior.exterior, k.boundary.exterior)
+        | inr f ↦ elim f [
+          | inl k ↦ r.first_in.0 (k.interior.exterior, k.boundary.exterior)
+          | inr f ↦ elim f [
+            | inl k ↦ r.first_in.0 (k.interior.exterior, k.boundary.exterior)
+            | inr f ↦ elim f [ inl k ↦ r.first_in.0 (k.interior.exterior, k.boundary.exterior) | inr x ↦ absurd x ]
+          ]
+        ]
+      ],
+      λ w. let out = r.first_in.1 w in
+          meet_somewhere a b _ (in_meets a b w)
+          (λ u v p q. inl (record {
+            interior = record { interior = r.ii.1 (u, v, p, q); boundary = tt; exterior = out.0 };
+            boundary = record { interior = tt; boundary = tt; exterior = out.1 };
+            exterior = nothing_asked _;
+          }))
+          (λ u v p q. inr (inl (record {
+            interior = record { interior = tt; boundary = r.ib.1 (u, v, p, q); exterior = out.0 };
+            boundary = record { interior = tt; boundary = tt; exterior = out.1 };
+            exterior = nothing_asked _;
+          })))
+          (λ u v p q. inr (inr (inl (record {
+            interior = record { interior = tt; boundary = tt; exterior = out.0 };
+            boundary = record { interior = r.bi.1 (u, v, p, q); boundary = tt; exterior = out.1 };
+            exterior = nothing_asked _;
+          }))))
+          (λ u v p q. inr (inr (inr (inl (record {
+            interior = record { interior = tt; boundary = tt; exterior = out.0 };
+            boundary = record { interior = tt; boundary = r.bb.1 (u, v, p, q); exterior = out.1 };
+            exterior = nothing_asked _;
+          }))))),
+    )
+
+pub covers_law : (a b : Shape) (m : Matrix) → IsMatrix a b m → FitsOne (masks relations.Covers (dim_of a) (dim_of b)) m ↔ IsIn b a
+covers_law a b m h =
+    let r = read a b m h in (
+      λ f. elim f [
+        | inl k ↦ r.second_in.0 (k.exterior.interior, k.exterior.boundary)
+        | inr f ↦ elim f [
+          | inl k ↦ r.second_in.0 (k.exterior.interior, k.exterior.boundary)
+          | inr f ↦ elim f [
+            | inl k ↦ r.second_in.0 (k.exterior.interior, k.exterior.boundary)
+            | inr f ↦ elim f [ inl k ↦ r.second_in.0 (k.exterior.interior, k.exterior.boundary) | inr x ↦ absurd x ]
+          ]
+        ]
+      ],
+      λ w. let out = r.second_in.1 w in
+          meet_somewhere a b _ (meets_swapped b a (in_meets b a w))
+          (λ u v p q. inl (record {
+            interior = record { interior = r.ii.1 (u, v, p, q); boundary = tt; exterior = tt };
+            boundary = nothing_asked _;
+            exterior = record { interior = out.0; boundary = out.1; exterior = tt };
+          }))
+          (λ u v p q. inr (inl (record {
+            interior = record { interior = tt; boundary = r.ib.1 (u, v, p, q); exterior = tt };
+            boundary = nothing_asked _;
+            exterior = record { interior = out.0; boundary = out.1; exterior = tt };
+          })))
+          (λ u v p q. inr (inr (inl (record {
+            interior = nothing_asked _;
+            boundary = record { interior = r.bi.1 (u, v, p, q); boundary = tt; exterior = tt };
+            exterior = record { interior = out.0; boundary = out.1; exterior = tt };
+          }))))
+          (λ u v p q. inr (inr (inr (inl (record {
+            interior = nothing_asked _;
+            boundary = record { interior = tt; boundary = r.bb.1 (u, v, p, q); exterior = tt };
+            exterior = record { interior = out.0; boundary = out.1; exterior = tt };
+          }))))),
+    )
+
+-- a shape lies in the interior of another if it lies in it and meets no cell of its boundary
+lies_inside : (a b : Shape) → IsIn b a → ¬ (Share (IsBoundary a) (IsInterior b)) → ¬ (Share (IsBoundary a) (IsBoundary b)) → LiesInside b a
+lies_inside a b h bi bb u v d = elim (interior_or_boundary a u v (h u v d)) [
+  | inl p ↦ p
+  | inr q ↦ elim (interior_or_boundary b u v d) [ inl j ↦ absurd (bi (u, v, q, j)) | inr k ↦ absurd (bb (u, v, q, k)) ]
+]
+
+-- the interior of a shape inside another shares a cell with that of the other
+inner_of_inside : (a b : Shape) → LiesInside b a → InteriorsMeet a b
+inner_of_inside a b h =
+    let x = some_inner b.x in
+    let y = some_inner b.y in
+    (x.0, y.0, h x.0 y.0 (interior_covers b x.0 y.0 (x.1, y.1)), (x.1, y.1))
+
+pub contains_properly_law : (a b : Shape) (m : Matrix) → IsMatrix a b m
+    → FitsOne (masks relations.ContainsProperly (dim_of a) (dim_of b)) m ↔ LiesInside b a
+contains_properly_law a b m h =
+    let r = read a b m h in (
+      λ f. elim f [
+        | inl k ↦ lies_inside a b (r.second_in.0 (k.exterior.interior, k.exterior.boundary)) (r.no_bi.0 k.boundary.interior) (r.no_bb.0 k.boundary.boundary)
+        | inr x ↦ absurd x
+      ],
+      λ w. let out = r.second_in.1 (λ u v d. interior_covers a u v (w u v d)) in
+          inl (record {
+            interior = record { interior = r.ii.1 (inner_of_inside a b w); boundary = tt; exterior = tt };
+            boundary = record {
+              interior = r.no_bi.1 (λ (u, v, p, q). p.1 (w u v (interior_covers b u v q)));
+              boundary = r.no_bb.1 (λ (u, v, p, q). p.1 (w u v q.0));
+              exterior = tt;
+            };
+            exterior = record { interior = out.0; boundary = out.1; exterior = tt };
           }),
     )
 

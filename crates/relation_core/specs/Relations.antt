@@ -15,8 +15,10 @@ use Rattle.relation_core.specs.declared.relation.Relation.{Relation}
 use Rattle.relation_core.specs.declared.relation.Relation.TheVariants.{Mask, Disjoint, Intersects}
 use Rattle.relation_core.specs.declared.relation.Relation.TheVariants.{Touches, Crosses, Within}
 use Rattle.relation_core.specs.declared.relation.Relation.TheVariants.{Contains, Overlaps, Equals}
-use Rattle.geom_core.specs.Cells.{Meets}
-use Rattle.geom_core.specs.Sets.{AreTouching, LiesWithin, AreSameSet}
+use Rattle.relation_core.specs.declared.relation.Relation.TheVariants.{Covers, CoveredBy}
+use Rattle.relation_core.specs.declared.relation.Relation.TheVariants.{ContainsProperly}
+use Rattle.geom_core.specs.Cells.{IsIn, Meets}
+use Rattle.geom_core.specs.Sets.{AreTouching, LiesInside, LiesWithin, AreSameSet}
 use Rattle.geom_core.specs.Shapes.{dim_of}
 use Rattle.relation_core.specs.Matrices.{IsMatrix}
 use Rattle.relation_core.specs.Masks.{Fits, SpellsMask, row}
@@ -32,6 +34,9 @@ Spells Within text = str_to_ascii_lowercase text ≡ codes "within"
 Spells Contains text = str_to_ascii_lowercase text ≡ codes "contains"
 Spells Overlaps text = str_to_ascii_lowercase text ≡ codes "overlaps"
 Spells Equals text = str_to_ascii_lowercase text ≡ codes "equals"
+Spells Covers text = str_to_ascii_lowercase text ≡ codes "covers"
+Spells CoveredBy text = str_to_ascii_lowercase text ≡ codes "covered_by"
+Spells ContainsProperly text = str_to_ascii_lowercase text ≡ codes "contains_properly"
 
 -- the text is no name and spells no mask
 abbrev pub SpellsNothing : List ℕ → Type 0
@@ -48,6 +53,9 @@ IsNamed Within = ⊤
 IsNamed Contains = ⊤
 IsNamed Overlaps = ⊤
 IsNamed Equals = ⊤
+IsNamed Covers = ⊤
+IsNamed CoveredBy = ⊤
+IsNamed ContainsProperly = ⊤
 
 -- the letters of the masks below
 abbrev any : PatternValue
@@ -67,6 +75,24 @@ one_dim = Exactly Line
 
 abbrev pub mask : Parts PatternValue → Parts PatternValue → Parts PatternValue → MaskType
 mask i b e = record { rows = record { interior = i; boundary = b; exterior = e } }
+
+-- nothing of the second is in the exterior of the first, and both share something
+abbrev pub covers_masks : List MaskType
+covers_masks =
+    mask (row T any any) (row any any any) (row F F any)
+    ∷ mask (row any T any) (row any any any) (row F F any)
+    ∷ mask (row any any any) (row T any any) (row F F any)
+    ∷ mask (row any any any) (row any T any) (row F F any)
+    ∷ []
+
+-- nothing of the first is in the exterior of the second, and both share something
+abbrev pub covered_by_masks : List MaskType
+covered_by_masks =
+    mask (row T any F) (row any any F) (row any any any)
+    ∷ mask (row any T F) (row any any F) (row any any any)
+    ∷ mask (row any any F) (row T any F) (row any any any)
+    ∷ mask (row any any F) (row any T F) (row any any any)
+    ∷ []
 
 -- the masks of a relation for the dimensions of two shapes
 abbrev pub masks : Relation → ℕ → ℕ → List MaskType
@@ -104,6 +130,9 @@ masks Overlaps da db =
     )
     else []
 masks Equals da db = mask (row T any F) (row any any F) (row F F any) ∷ []
+masks Covers da db = covers_masks
+masks CoveredBy da db = covered_by_masks
+masks ContainsProperly da db = mask (row T any any) (row F F any) (row F F any) ∷ []
 
 -- one of the masks fits
 abbrev pub FitsOne : List MaskType → Matrix → Type 0
@@ -136,3 +165,6 @@ HoldsOfSets Within a b = LiesWithin a b
 HoldsOfSets Contains a b = LiesWithin b a
 HoldsOfSets Overlaps a b = Holds Overlaps a b
 HoldsOfSets Equals a b = AreSameSet a b
+HoldsOfSets Covers a b = IsIn b a
+HoldsOfSets CoveredBy a b = IsIn a b
+HoldsOfSets ContainsProperly a b = LiesInside b a

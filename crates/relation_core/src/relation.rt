@@ -25,7 +25,8 @@ const ONE: PatternValue = PatternValue::Exactly(Extent::Line);
 /// The letter `*`.
 const ANY: PatternValue = PatternValue::Any;
 
-/// A relation of two shapes: a mask, or a named predicate (OGC 06-103r4, 6.1.15.3).
+/// A relation of two shapes: a mask, or a named predicate of OGC 06-103r4, 6.1.15.3, or of JTS
+/// (`IntersectionMatrix` and `RelatePredicate`; the last three).
 #[derive(Clone, Copy, Debug, PartialEq, Eq)]
 pub enum Relation {
     /// The mask fits.
@@ -48,6 +49,12 @@ pub enum Relation {
     Overlaps,
     /// Each shape lies in the other.
     Equals,
+    /// Each point of the second closed shape is a point of the first.
+    Covers,
+    /// Each point of the first closed shape is a point of the second.
+    CoveredBy,
+    /// Each point of the second closed shape is in the interior of the first.
+    ContainsProperly,
 }
 
 impl Relation {
@@ -56,7 +63,7 @@ impl Relation {
     ghost use Rattle.relation_core.specs.Relations.{FitsOne, Holds, Spells, SpellsNothing, masks};
     ghost use Rattle.relation_core.specs.Relations.{HoldsOfSets};
 
-    /// Reads one of the eight names, in any ASCII case, or otherwise a mask.
+    /// Reads one of the eleven names, in any ASCII case, or otherwise a mask.
     ///
     /// # Errors
     /// Those of [`Mask::read`]. No name has nine letters.
@@ -76,8 +83,8 @@ impl Relation {
         }
     }
 
-    /// The masks for shapes of these two dimensions (OGC 06-103r4, 6.1.15.3), of which at least one
-    /// must fit, in order. Without masks, the relation doesn't hold.
+    /// The masks for shapes of these two dimensions, of which at least one must fit, in order.
+    /// Without masks, the relation doesn't hold.
     pub fn masks(&self, first_dim: u8, second_dim: u8) -> ArrayVec<Mask, 4>
         requires first { first_dim ≤ 2 }
         requires second { second_dim ≤ 2 }
@@ -108,6 +115,11 @@ impl Relation {
             }
             Relation::Overlaps => list(&[mask(row(T, ANY, T), anything, row(T, ANY, ANY))]),
             Relation::Equals => list(&[mask(row(T, ANY, F), row(ANY, ANY, F), row(F, F, ANY))]),
+            Relation::Covers => covers_masks(),
+            Relation::CoveredBy => covered_by_masks(),
+            Relation::ContainsProperly => {
+                list(&[mask(row(T, ANY, ANY), row(F, F, ANY), row(F, F, ANY))])
+            }
         }
     }
 
@@ -138,13 +150,17 @@ impl Relation {
             Relation::Contains => b.is_within(a),
             Relation::Overlaps => overlaps(&relate(a, b), a.dim(), b.dim()),
             Relation::Equals => a.is_same_set(b),
+            Relation::Covers => b.is_in(a),
+            Relation::CoveredBy => a.is_in(b),
+            Relation::ContainsProperly => b.is_inside(a),
         }
     }
 }
 
 ghost use Rattle.std.specs.Prelude.{◌≡◌, ◌≤◌, ◌↔◌, length, IfSome, IfNone, IsTrue};
 ghost use Rattle.relation_core.specs.Masks.{row};
-ghost use Rattle.relation_core.specs.Relations.{FitsOne, IsNamed, Spells, mask, masks};
+ghost use Rattle.relation_core.specs.Relations.{FitsOne, IsNamed, Spells, covered_by_masks};
+ghost use Rattle.relation_core.specs.Relations.{covers_masks, mask, masks};
 
 /// The relation with this name, in any ASCII case.
 fn named(text: &[u8]) -> Option<Relation>
@@ -168,6 +184,12 @@ fn named(text: &[u8]) -> Option<Relation>
         Some(Relation::Overlaps)
     } else if text.eq_ignore_ascii_case(b"equals") {
         Some(Relation::Equals)
+    } else if text.eq_ignore_ascii_case(b"covers") {
+        Some(Relation::Covers)
+    } else if text.eq_ignore_ascii_case(b"covered_by") {
+        Some(Relation::CoveredBy)
+    } else if text.eq_ignore_ascii_case(b"contains_properly") {
+        Some(Relation::ContainsProperly)
     } else {
         None
     }
@@ -184,6 +206,32 @@ fn crosses_masks(first_dim: u8, second_dim: u8) -> ArrayVec<Mask, 4>
         Ordering::Equal if first_dim == 1 => list(&[mask(row(ZERO, ANY, ANY), anything, anything)]),
         Ordering::Equal => ArrayVec::new(),
     }
+}
+
+/// The masks of `Covers`: no point of the second is outside the first, and both share a point.
+fn covers_masks() -> ArrayVec<Mask, 4>
+    ensures { result.items ≡ covers_masks }
+{
+    let (anything, none_outside) = (row(ANY, ANY, ANY), row(F, F, ANY));
+    list(&[
+        mask(row(T, ANY, ANY), anything, none_outside),
+        mask(row(ANY, T, ANY), anything, none_outside),
+        mask(anything, row(T, ANY, ANY), none_outside),
+        mask(anything, row(ANY, T, ANY), none_outside),
+    ])
+}
+
+/// The masks of `CoveredBy`: no point of the first is outside the second, and both share a point.
+fn covered_by_masks() -> ArrayVec<Mask, 4>
+    ensures { result.items ≡ covered_by_masks }
+{
+    let (anything, none_outside) = (row(ANY, ANY, ANY), row(ANY, ANY, F));
+    list(&[
+        mask(row(T, ANY, F), none_outside, anything),
+        mask(row(ANY, T, F), none_outside, anything),
+        mask(none_outside, row(T, ANY, F), anything),
+        mask(none_outside, row(ANY, T, F), anything),
+    ])
 }
 
 /// Whether a mask of `Crosses` fits.

@@ -2,8 +2,6 @@
 #![tactic(auto)]
 
 #[cfg(test)]
-mod layers;
-#[cfg(test)]
 mod matching;
 #[cfg(test)]
 mod refused;

@@ -1,7 +1,8 @@
 //! A report with each allocation refused in turn.
 
-use crate::layers::layer_of;
 use crate::matching::report_of;
+use any_test_data::layer_of;
+use plane_core::Rings;
 use std::random::RandomSource;
 use std::thread::Threads;
 
@@ -10,8 +11,8 @@ const REPORT: &[u8] = b"left,right,matrix\na,b,0F1FF0102\n";
 
 /// The report of two crossing lines by one thread, or `None` without memory.
 fn report<R: AllocGlobal + RandomSource + Threads + Sync>(rt: &R) -> Option<Vec<u8>> {
-    let left = layer_of(rt, &[("a", "LINESTRING (0 0, 3 2)")])?;
-    let right = layer_of(rt, &[("b", "LINESTRING (0 1, 3 0)")])?;
+    let left = layer_of(rt, &[("a", "LINESTRING (0 0, 3 2)")], Rings::EvenOdd)?;
+    let right = layer_of(rt, &[("b", "LINESTRING (0 1, 3 0)")], Rings::EvenOdd)?;
     report_of(rt, &left, &right, &[(0, 0)], 1)
 }
 

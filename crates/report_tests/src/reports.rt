@@ -1,7 +1,8 @@
 //! Reports written by hand.
 
-use crate::layers::layer_of;
 use crate::matching::report_of;
+use any_test_data::layer_of;
+use plane_core::Rings;
 use std::random::RandomSource;
 use std::thread::Threads;
 
@@ -31,8 +32,8 @@ dots,slant,000FFF212\n";
 
 /// The report of the three pairs by at most `workers` threads, or `None` if something is refused.
 fn report<R: AllocGlobal + RandomSource + Threads + Sync>(rt: &R, workers: u32) -> Option<Vec<u8>> {
-    let left = layer_of(rt, &LEFT)?;
-    let right = layer_of(rt, &RIGHT)?;
+    let left = layer_of(rt, &LEFT, Rings::EvenOdd)?;
+    let right = layer_of(rt, &RIGHT, Rings::EvenOdd)?;
     report_of(rt, &left, &right, &PAIRS, workers)
 }
 
@@ -53,8 +54,8 @@ fn by_more_threads_than_pairs(rt: HostRuntime) {
 
 /// The report of layers without pairs.
 fn header<R: AllocGlobal + RandomSource + Threads + Sync>(rt: &R) -> Option<Vec<u8>> {
-    let left = layer_of(rt, &LEFT)?;
-    let right = layer_of(rt, &[])?;
+    let left = layer_of(rt, &LEFT, Rings::EvenOdd)?;
+    let right = layer_of(rt, &[], Rings::EvenOdd)?;
     report_of(rt, &left, &right, &[], 2)
 }
 

@@ -39,8 +39,108 @@ const PACKED_EIGHT_LEFT: Leaves = &[&[0, 1, 2, 3, 4], &[6, 7, 8]];
 
 const PACKED_SEVEN_LEFT: Leaves = &[&[0, 1, 2, 3, 4, 7, 8]];
 
+/// The name of a row, and the leaves of the packed tree of the first squares. The zigzag has a
+/// slice of two pages and one of one page; in each the lower points come first, ordered by number.
+/// In the backward row, entries of equal height are ordered by number, and leaves by position.
+const PACKINGS: &[(&str, Squares, u8, Leaves)] = &[
+    (
+        "packed_diagonal",
+        Squares::Diagonal,
+        20,
+        &[
+            &[19, 18, 17, 16, 15, 14],
+            &[13, 12, 11, 10, 9, 8, 7],
+            &[6, 5, 4, 3, 2, 1, 0],
+        ],
+    ),
+    (
+        "packed_zigzag",
+        Squares::Zigzag,
+        24,
+        &[
+            &[0, 2, 4, 6, 8, 10, 12, 14],
+            &[16, 18, 20, 22, 17, 19, 21, 23],
+            &[1, 3, 5, 7, 9, 11, 13, 15],
+        ],
+    ),
+    (
+        "packed_backward",
+        Squares::Backward,
+        16,
+        &[&[0, 1, 2, 3, 4, 5, 6, 7], &[8, 9, 10, 11, 12, 13, 14, 15]],
+    ),
+];
+
 /// The corners of a window, and the numbers that it meets.
 type Window = (i64, i64, i64, i64, &'static [u32]);
+
+/// Squares that are removed from a tree in turn, whether it held all of them, and the leaves, the
+/// height and the number of entries of the tree that is left.
+type Removal = (&'static [u8], bool, Leaves, u32, usize);
+
+/// The name of a row, the first squares of a tree, and removals from it, one after another.
+type Row = (&'static str, Squares, u8, &'static [Removal]);
+
+/// Removals from trees into which the squares were inserted in turn.
+const FROM_GROWN: &[Row] = &[
+    (
+        "removal_extra_1",
+        Squares::Row,
+        9,
+        &[
+            (&[1, 3], true, SEVEN_OF_NINE, 1, 7),
+            (&[1], false, SEVEN_OF_NINE, 1, 7),
+        ],
+    ),
+    (
+        "removal_extra_2",
+        Squares::Crowd,
+        12,
+        &[
+            (&[], true, TWELVE_POINTS, 2, 12),
+            (&[1, 3], true, TWELVE_WITHOUT_TWO, 2, 10),
+        ],
+    ),
+    (
+        "removal_extra_3",
+        Squares::Row,
+        9,
+        &[(&[1, 3, 0, 2, 4, 6, 8, 5, 7], true, &[], 0, 0)],
+    ),
+];
+
+/// Removals from packed trees, whose leaves keep the order of the entries that remain.
+const FROM_PACKED: &[Row] = &[
+    (
+        "packed_few",
+        Squares::Row,
+        9,
+        &[(&[], true, PACKED_NINE, 2, 9)],
+    ),
+    ("packed_few", Squares::Row, 0, &[(&[], true, &[], 0, 0)]),
+    (
+        "packed_removals",
+        Squares::Row,
+        9,
+        &[
+            (&[5], true, PACKED_EIGHT_LEFT, 2, 8),
+            (&[6], true, PACKED_SEVEN_LEFT, 1, 7),
+            (&[5], false, PACKED_SEVEN_LEFT, 1, 7),
+        ],
+    ),
+    (
+        "packed_removal_order",
+        Squares::Row,
+        20,
+        &[(&[0, 8], true, PACKED_EIGHTEEN_LEFT, 2, 18)],
+    ),
+    (
+        "packed_removal_of_the_last",
+        Squares::Row,
+        1,
+        &[(&[0], true, &[], 0, 0)],
+    ),
+];
 
 /// Numbers of entries, and the heights of trees packed from them.
 const HEIGHTS: &[(u32, u32)] = &[
@@ -61,7 +161,10 @@ const IN_TWENTY: &[Window] = &[(5, 0, 8, 0, &[5, 6, 7, 8]), (20, 0, 21, 5, &[])]
 
 /// Whether a tree has these leaves, this height and this number of entries.
 fn is_tree(tree: &RTree, leaves: Leaves, height: u32, len: usize) -> bool {
-    has_leaves(tree, leaves) && tree.height() == height && tree.len() == len
+    has_leaves(tree, leaves)
+        && tree.height() == height
+        && tree.len() == len
+        && tree.is_empty() == (len == 0)
 }
 
 /// Whether a tree finds exactly these numbers in a window.
@@ -72,7 +175,7 @@ fn finds(tree: &RTree, alloc: Global, window: &Shape, numbers: &[u32]) -> Result
 /// Whether nine points have their leaves, and then ten have theirs.
 fn grows_to_ten(alloc: Global) -> Result<bool, AllocError> {
     let mut tree = Squares::Crowd.grown(alloc, 9)?;
-    let is_of_nine = is_tree(&tree, NINE_POINTS, 2, 9) && !tree.is_empty();
+    let is_of_nine = is_tree(&tree, NINE_POINTS, 2, 9);
     tree.insert(Squares::Crowd.entry(9))?;
     Ok(is_of_nine && has_leaves(&tree, TEN_POINTS))
 }
@@ -121,56 +224,14 @@ fn finds_all(tree: &RTree, alloc: Global, windows: &[Window]) -> Result<bool, Al
 #[test]
 fn window_extra(rt: HostRuntime) -> Result<(), Fail> {
     let alloc = rt.alloc();
-    assert!(rt; Squares::Crowd.on_grown(alloc, 10, |tree| finds_all(tree, alloc, IN_CROWD))?);
+    assert!(rt; finds_all(&Squares::Crowd.grown(alloc, 10)?, alloc, IN_CROWD)?);
     Ok(())
-}
-
-/// Whether a tree holds nothing.
-fn is_empty(tree: &RTree) -> bool {
-    tree.is_empty() && tree.root().is_none() && tree.len() == 0 && tree.height() == 0
 }
 
 #[test]
 fn empty_tree(rt: HostRuntime) -> Result<(), Fail> {
     let tree = RTree::new(rt.alloc());
-    assert!(rt; is_empty(&tree) && finds(&tree, rt.alloc(), &square(0, 0, 1), &[])?);
-    Ok(())
-}
-
-/// Whether two points are removed from a row of nine, and the first of them can't be removed again.
-fn loses_two(tree: &mut RTree) -> Result<bool, AllocError> {
-    let removed = Squares::Row.removed(tree, &[1, 3])? && is_tree(tree, SEVEN_OF_NINE, 1, 7);
-    let again = Squares::Row.removed(tree, &[1])?;
-    Ok(removed && !again && has_leaves(tree, SEVEN_OF_NINE))
-}
-
-#[test]
-fn removal_extra_1(rt: HostRuntime) -> Result<(), Fail> {
-    assert!(rt; Squares::Row.on_grown(rt.alloc(), 9, loses_two)?);
-    Ok(())
-}
-
-/// Whether two points are removed from a crowd of twelve.
-fn crowd_loses_two(tree: &mut RTree) -> Result<bool, AllocError> {
-    let removed = has_leaves(tree, TWELVE_POINTS) && Squares::Crowd.removed(tree, &[1, 3])?;
-    Ok(removed && is_tree(tree, TWELVE_WITHOUT_TWO, 2, 10))
-}
-
-#[test]
-fn removal_extra_2(rt: HostRuntime) -> Result<(), Fail> {
-    assert!(rt; Squares::Crowd.on_grown(rt.alloc(), 12, crowd_loses_two)?);
-    Ok(())
-}
-
-/// Whether the points of a row with these numbers are removed, and nothing is left.
-fn loses_all(tree: &mut RTree, numbers: &[u8]) -> Result<bool, AllocError> {
-    Ok(Squares::Row.removed(tree, numbers)? && is_empty(tree))
-}
-
-#[test]
-fn removal_extra_3(rt: HostRuntime) -> Result<(), Fail> {
-    let numbers = [1, 3, 0, 2, 4, 6, 8, 5, 7];
-    assert!(rt; Squares::Row.on_grown(rt.alloc(), 9, |tree| loses_all(tree, &numbers))?);
+    assert!(rt; is_tree(&tree, &[], 0, 0) && finds(&tree, rt.alloc(), &square(0, 0, 1), &[])?);
     Ok(())
 }
 
@@ -182,45 +243,45 @@ fn is_twenty(tree: &RTree, alloc: Global) -> Result<bool, AllocError> {
 #[test]
 fn packed_twenty(rt: HostRuntime) -> Result<(), Fail> {
     let alloc = rt.alloc();
-    assert!(rt; Squares::Row.on_packed(alloc, 20, |tree| is_twenty(tree, alloc))?);
+    assert!(rt; is_twenty(&Squares::Row.packed(alloc, 20)?, alloc)?);
     Ok(())
+}
+
+/// Whether a tree is left as these removals say.
+fn follows(tree: &mut RTree, squares: Squares, removals: &[Removal]) -> Result<bool, AllocError> {
+    for (numbers, held, leaves, height, len) in removals {
+        if squares.removed(tree, numbers)? != *held || !is_tree(tree, leaves, *height, *len) {
+            return Ok(false);
+        }
+    }
+    Ok(true)
+}
+
+/// Whether a tree into which squares were inserted is left as a row says.
+fn grown_follows(alloc: Global, row: &Row) -> Result<bool, AllocError> {
+    let (_, squares, count, removals) = *row;
+    follows(&mut squares.grown(alloc, count)?, squares, removals)
 }
 
 #[test]
-fn packed_few(rt: HostRuntime) -> Result<(), Fail> {
-    assert!(rt; Squares::Row.on_packed(rt.alloc(), 9, |tree| Ok(has_leaves(tree, PACKED_NINE)))?);
-    assert!(rt; Squares::Row.on_packed(rt.alloc(), 0, |tree| Ok(is_empty(tree)))?);
+fn removals(rt: HostRuntime) -> Result<(), Fail> {
+    for row in FROM_GROWN {
+        assert!(rt; grown_follows(rt.alloc(), row)?, "{}", row.0);
+    }
     Ok(())
 }
 
-/// Whether two points are removed from nine packed ones, and the first can't be removed again.
-fn packed_loses_two(tree: &mut RTree) -> Result<bool, AllocError> {
-    let one = Squares::Row.removed(tree, &[5])? && has_leaves(tree, PACKED_EIGHT_LEFT);
-    let two = Squares::Row.removed(tree, &[6])? && is_tree(tree, PACKED_SEVEN_LEFT, 1, 7);
-    let again = Squares::Row.removed(tree, &[5])?;
-    Ok(one && two && !again && has_leaves(tree, PACKED_SEVEN_LEFT))
+/// Whether a packed tree of squares is left as a row says.
+fn packed_follows(alloc: Global, row: &Row) -> Result<bool, AllocError> {
+    let (_, squares, count, removals) = *row;
+    follows(&mut squares.packed(alloc, count)?, squares, removals)
 }
 
 #[test]
 fn packed_removals(rt: HostRuntime) -> Result<(), Fail> {
-    assert!(rt; Squares::Row.on_packed(rt.alloc(), 9, packed_loses_two)?);
-    Ok(())
-}
-
-/// Whether leaves keep the order of their remaining entries.
-fn keeps_order(tree: &mut RTree) -> Result<bool, AllocError> {
-    Ok(Squares::Row.removed(tree, &[0, 8])? && has_leaves(tree, PACKED_EIGHTEEN_LEFT))
-}
-
-#[test]
-fn packed_removal_order(rt: HostRuntime) -> Result<(), Fail> {
-    assert!(rt; Squares::Row.on_packed(rt.alloc(), 20, keeps_order)?);
-    Ok(())
-}
-
-#[test]
-fn packed_removal_of_the_last(rt: HostRuntime) -> Result<(), Fail> {
-    assert!(rt; Squares::Row.on_packed(rt.alloc(), 1, |tree| loses_all(tree, &[0]))?);
+    for row in FROM_PACKED {
+        assert!(rt; packed_follows(rt.alloc(), row)?, "{}", row.0);
+    }
     Ok(())
 }
 
@@ -240,34 +301,10 @@ fn packs_into(
 }
 
 #[test]
-fn packed_diagonal(rt: HostRuntime) -> Result<(), Fail> {
-    let leaves: [&[u32]; 3] = [
-        &[19, 18, 17, 16, 15, 14],
-        &[13, 12, 11, 10, 9, 8, 7],
-        &[6, 5, 4, 3, 2, 1, 0],
-    ];
-    assert!(rt; packs_into(rt.alloc(), Squares::Diagonal, 20, &leaves)?);
-    Ok(())
-}
-
-/// A slice of two pages and one of one page; in each the lower points come first, ordered by
-/// number.
-#[test]
-fn packed_zigzag(rt: HostRuntime) -> Result<(), Fail> {
-    let leaves: [&[u32]; 3] = [
-        &[0, 2, 4, 6, 8, 10, 12, 14],
-        &[16, 18, 20, 22, 17, 19, 21, 23],
-        &[1, 3, 5, 7, 9, 11, 13, 15],
-    ];
-    assert!(rt; packs_into(rt.alloc(), Squares::Zigzag, 24, &leaves)?);
-    Ok(())
-}
-
-/// Entries of equal height are ordered by number, and leaves of equal height by their positions.
-#[test]
-fn packed_backward(rt: HostRuntime) -> Result<(), Fail> {
-    let leaves: [&[u32]; 2] = [&[0, 1, 2, 3, 4, 5, 6, 7], &[8, 9, 10, 11, 12, 13, 14, 15]];
-    assert!(rt; packs_into(rt.alloc(), Squares::Backward, 16, &leaves)?);
+fn packed_leaves(rt: HostRuntime) -> Result<(), Fail> {
+    for (name, squares, count, leaves) in PACKINGS {
+        assert!(rt; packs_into(rt.alloc(), *squares, *count, leaves)?, "{name}");
+    }
     Ok(())
 }
 

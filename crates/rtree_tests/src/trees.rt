@@ -79,30 +79,6 @@ impl Squares {
         RTree::pack(alloc, self.listed(alloc, count)?)
     }
 
-    /// The result of `see` on the tree into which the first squares were inserted in turn.
-    pub(crate) fn on_grown<F: FnOnce(&mut RTree) -> Result<bool, AllocError>>(
-        self,
-        alloc: Global,
-        count: u8,
-        see: F,
-    ) -> Result<bool, AllocError>
-        requires { F.IsAlwaysCallable see }
-    {
-        see(&mut self.grown(alloc, count)?)
-    }
-
-    /// The result of `see` on the packed tree of the first squares.
-    pub(crate) fn on_packed<F: FnOnce(&mut RTree) -> Result<bool, AllocError>>(
-        self,
-        alloc: Global,
-        count: u8,
-        see: F,
-    ) -> Result<bool, AllocError>
-        requires { F.IsAlwaysCallable see }
-    {
-        see(&mut self.packed(alloc, count)?)
-    }
-
     /// Removes squares from a tree in turn, and returns whether it held all of them.
     pub(crate) fn removed(self, tree: &mut RTree, numbers: &[u8]) -> Result<bool, AllocError> {
         for number in numbers {

@@ -48,22 +48,40 @@ fn lists<R: Threads + Sync + RandomSource + AllocGlobal>(
     Some(Ended::new(ended, sink.into_inner()).is(outcome, text))
 }
 
-#[test]
-fn each_kind(rt: HostRuntime) {
-    assert!(rt; lists(&rt, 0, at_once(LEFT), Ok(()), CORNERS) == Some(true));
-    assert!(rt; lists(&rt, 0, at_once(LEFT).by(1), Ok(()), CORNERS) == Some(true));
-    let empty = "id,x1,y1,x2,y2\n";
-    assert!(rt; lists(&rt, 0, at_once("id,wkt\n"), Ok(()), empty) == Some(true));
-}
+/// The name of a row, a layer, and its corners.
+type Row = (&'static str, &'static str, &'static str);
 
-#[test]
-fn corners_of_any_order_and_sign(rt: HostRuntime) {
-    let layer = "id,wkt\np,POINT (-7 3)\ns,\"LINESTRING (5 9, 5 -9)\"\n\
+const LISTS: &[Row] = &[
+    ("each_kind", LEFT, CORNERS),
+    ("each_kind", "id,wkt\n", "id,x1,y1,x2,y2\n"),
+    (
+        "corners_of_any_order_and_sign",
+        "id,wkt\np,POINT (-7 3)\ns,\"LINESTRING (5 9, 5 -9)\"\n\
          r,\"POLYGON ((2 8, -1 8, -1 -6, 2 -6, 2 8))\"\n\
-         far,\"LINESTRING (-1000000000000 0, 1000000000000 0)\"\n";
-    let text = "id,x1,y1,x2,y2\np,-7,3,-7,3\ns,5,-9,5,9\nr,-1,-6,2,8\n\
-         far,-1000000000000,0,1000000000000,0\n";
-    assert!(rt; lists(&rt, 0, at_once(layer), Ok(()), text) == Some(true));
+         far,\"LINESTRING (-1000000000000 0, 1000000000000 0)\"\n",
+        "id,x1,y1,x2,y2\np,-7,3,-7,3\ns,5,-9,5,9\nr,-1,-6,2,8\n\
+         far,-1000000000000,0,1000000000000,0\n",
+    ),
+    (
+        "ids_as_fields_in_layer_order",
+        "id,wkt\nz,POINT (9 9)\n\"a, b\",POINT (0 0)\n\
+         \"say \"\"a\"\"\",POINT (5 0)\n\"two\nlines\",POINT (1 2)\nZürich,POINT (3 4)\n",
+        "id,x1,y1,x2,y2\nz,9,9,9,9\n\"a, b\",0,0,0,0\n\
+         \"say \"\"a\"\"\",5,0,5,0\n\"two\nlines\",1,2,1,2\nZürich,3,4,3,4\n",
+    ),
+];
+
+/// Each layer is read at once, and byte by byte.
+#[test]
+fn corners(rt: HostRuntime) {
+    for (name, layer, text) in LISTS {
+        let layer = at_once(layer);
+        assert!(rt; lists(&rt, 0, layer, Ok(()), text) == Some(true), "{name}");
+        assert!(rt;
+            lists(&rt, 0, layer.by(1), Ok(()), text) == Some(true),
+            "{name}"
+        );
+    }
 }
 
 #[test]
@@ -73,15 +91,6 @@ fn units_of_the_scale(rt: HostRuntime) {
     assert!(rt; lists(&rt, 2, at_once(layer), Ok(()), text) == Some(true));
     let fault = RunFault::Read(Input::Layer, ReadFault::Wkt(1, WktFault::Number));
     assert!(rt; lists(&rt, 1, at_once(layer), Err(fault), "") == Some(true));
-}
-
-#[test]
-fn ids_as_fields_in_layer_order(rt: HostRuntime) {
-    let layer = "id,wkt\nz,POINT (9 9)\n\"a, b\",POINT (0 0)\n\
-         \"say \"\"a\"\"\",POINT (5 0)\n\"two\nlines\",POINT (1 2)\nZürich,POINT (3 4)\n";
-    let text = "id,x1,y1,x2,y2\nz,9,9,9,9\n\"a, b\",0,0,0,0\n\
-         \"say \"\"a\"\"\",5,0,5,0\n\"two\nlines\",1,2,1,2\nZürich,3,4,3,4\n";
-    assert!(rt; lists(&rt, 0, at_once(layer), Ok(()), text) == Some(true));
 }
 
 /// The corners of the `count` points (0, 0), (1, 0) and so on.

@@ -2,9 +2,9 @@
 
 use crate::device::{has_front, make_device};
 use crate::example::{EDITED, REPORT, RIGHT};
-use crate::running::{Files, at_once, edited_example, ends, example, run};
+use crate::running::{Files, at_once, edited_example, ends, example, make_job, run};
 use file_core::ReadFault;
-use join_core::{Input, Options, RunFault};
+use join_core::{Input, Options, Product, RunFault};
 use relation_core::Relation;
 use std::random::RandomSource;
 use std::sync::Wait;
@@ -69,7 +69,8 @@ fn writes_front<R: Threads + Wait + Sync + RandomSource + AllocGlobal>(
 ) -> Option<bool> {
     let mut sink = make_device(rt.alloc(), room, step);
     let options = Options::new(4, 256, 2).ok()?;
-    let outcome = run(rt, &example(), Relation::Touches, &options, &mut sink)?;
+    let job = make_job(Relation::Touches, options, Product::Report)?;
+    let outcome = run(rt, &example(), &job, &mut sink)?;
     Some(has_front(
         outcome,
         sink.into_inner().taken.as_slice(),

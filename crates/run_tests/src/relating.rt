@@ -28,50 +28,59 @@ fn relates(
     Some(Ended::new(ended, sink.into_inner()).is(outcome, text))
 }
 
-/// Whether this is the line of the matrix of two geometries with integer coordinates.
-fn has_line(rt: &HostRuntime, a: &str, b: &str, line: &str) -> bool {
-    relates(rt, 0, (a, b), Ok(()), line) == Some(true)
-}
+/// The name of a row, two geometries with integer coordinates, and the line of their matrix.
+type Row = (&'static str, &'static str, &'static str, &'static str);
+
+const MATRICES: &[Row] = &[
+    ("relate_points", "POINT (4 4)", "POINT(4 4)", "0FFFFFFF2\n"),
+    ("relate_points", "POINT (4 4)", "POINT (5 4)", "FF0FFF0F2\n"),
+    ("relate_rectangles", SQUARE, OTHER, "212101212\n"),
+    (
+        "corner_rectangles",
+        SQUARE,
+        "POLYGON ((4 4, 8 4, 8 8, 4 8, 4 4))",
+        "FF2F01212\n",
+    ),
+    (
+        "ring_spellings",
+        SQUARE,
+        "polygon((4 4,4 0,0 0,0 4,4 4))",
+        "2FFF1FFF2\n",
+    ),
+    (
+        "segment_on_edge",
+        "LINESTRING (1 0, 3 0)",
+        SQUARE,
+        "F1FF0F212\n",
+    ),
+    (
+        "segment_inside",
+        "LINESTRING (0 2, 2 2)",
+        SQUARE,
+        "1FF00F212\n",
+    ),
+    (
+        "segments_meet",
+        "LINESTRING (-1 2, 5 2)",
+        "LINESTRING (2 -1, 2 5)",
+        "0F1FF0102\n",
+    ),
+    (
+        "segments_meet",
+        "LINESTRING (0 0, 4 0)",
+        "LINESTRING (2 0, 6 0)",
+        "1010F0102\n",
+    ),
+];
 
 #[test]
-fn relate_points(rt: HostRuntime) {
-    assert!(rt; has_line(&rt, "POINT (4 4)", "POINT(4 4)", "0FFFFFFF2\n"));
-    assert!(rt; has_line(&rt, "POINT (4 4)", "POINT (5 4)", "FF0FFF0F2\n"));
-}
-
-#[test]
-fn relate_rectangles(rt: HostRuntime) {
-    assert!(rt; has_line(&rt, SQUARE, OTHER, "212101212\n"));
-}
-
-#[test]
-fn corner_rectangles(rt: HostRuntime) {
-    let corner = "POLYGON ((4 4, 8 4, 8 8, 4 8, 4 4))";
-    assert!(rt; has_line(&rt, SQUARE, corner, "FF2F01212\n"));
-}
-
-#[test]
-fn ring_spellings(rt: HostRuntime) {
-    let ring = "polygon((4 4,4 0,0 0,0 4,4 4))";
-    assert!(rt; has_line(&rt, SQUARE, ring, "2FFF1FFF2\n"));
-}
-
-#[test]
-fn segment_on_edge(rt: HostRuntime) {
-    assert!(rt; has_line(&rt, "LINESTRING (1 0, 3 0)", SQUARE, "F1FF0F212\n"));
-}
-
-#[test]
-fn segment_inside(rt: HostRuntime) {
-    assert!(rt; has_line(&rt, "LINESTRING (0 2, 2 2)", SQUARE, "1FF00F212\n"));
-}
-
-#[test]
-fn segments_meet(rt: HostRuntime) {
-    let (a, b) = ("LINESTRING (-1 2, 5 2)", "LINESTRING (2 -1, 2 5)");
-    assert!(rt; has_line(&rt, a, b, "0F1FF0102\n"));
-    let (a, b) = ("LINESTRING (0 0, 4 0)", "LINESTRING (2 0, 6 0)");
-    assert!(rt; has_line(&rt, a, b, "1010F0102\n"));
+fn matrices(rt: HostRuntime) {
+    for (name, a, b, line) in MATRICES {
+        assert!(rt;
+            relates(&rt, 0, (a, b), Ok(()), line) == Some(true),
+            "{name}"
+        );
+    }
 }
 
 #[test]
@@ -83,19 +92,31 @@ fn scale_10(rt: HostRuntime) {
 }
 
 #[test]
-fn canonical_only(rt: HostRuntime) {
-    let fault = RunFault::Wkt(Input::First, WktFault::Text);
-    let texts = ("POINT (4 4", "POINT (5 4)");
-    assert!(rt; relates(&rt, 0, texts, Err(fault), "") == Some(true));
-}
-
-#[test]
-fn first_fault_is_answered(rt: HostRuntime) {
-    let number = RunFault::Wkt(Input::First, WktFault::Number);
-    assert!(rt; relates(&rt, 0, ("POINT (1.5 0)", ""), Err(number), "") == Some(true));
-    let form = RunFault::Wkt(Input::Second, WktFault::Form);
-    let texts = ("POINT (1 0)", "LINESTRING (0 0, 1 1)");
-    assert!(rt; relates(&rt, 0, texts, Err(form), "") == Some(true));
+fn texts_at_fault(rt: HostRuntime) {
+    let (text, form) = ("POINT (5 4)", "LINESTRING (0 0, 1 1)");
+    for (name, texts, input, fault) in [
+        (
+            "canonical_only",
+            ("POINT (4 4", text),
+            Input::First,
+            WktFault::Text,
+        ),
+        (
+            "first_fault_is_answered",
+            ("POINT (1.5 0)", ""),
+            Input::First,
+            WktFault::Number,
+        ),
+        (
+            "first_fault_is_answered",
+            ("POINT (1 0)", form),
+            Input::Second,
+            WktFault::Form,
+        ),
+    ] {
+        let outcome = Err(RunFault::Wkt(input, fault));
+        assert!(rt; relates(&rt, 0, texts, outcome, "") == Some(true), "{name}");
+    }
 }
 
 /// Whether a device of capacity `room` that takes at most `step` bytes per call receives the prefix
@@ -165,30 +186,30 @@ fn squares<W: Write>(sink: &mut ToWrite<W>) -> Option<Result<(), RunFault>>
     Some(run_relate(Scale::new(0)?, SQUARE.as_bytes(), OTHER.as_bytes(), sink))
 }
 
-/// The output of relating the two squares into a device of capacity four.
-fn to_full(rt: &HostRuntime) -> Option<Ended> {
-    let mut sink = make_device(rt.alloc(), 4, 100);
-    let outcome = squares(&mut sink)?;
-    Some(Ended::new(outcome, sink.into_inner().taken))
+/// Whether relating the two squares fails to write after four letters, as these were taken.
+fn is_cut(outcome: Result<(), RunFault>, taken: Vec<u8>) -> bool {
+    Ended::new(outcome, taken).is(Err(RunFault::Write), "2121")
 }
 
-/// The output of relating the two squares into a writer that takes four bytes in all.
-fn to_stuck(rt: &HostRuntime) -> Option<Ended> {
+/// Whether a device of capacity four cuts the line of the two squares.
+fn is_cut_by_full(rt: &HostRuntime) -> Option<bool> {
+    let mut sink = make_device(rt.alloc(), 4, 100);
+    let outcome = squares(&mut sink)?;
+    Some(is_cut(outcome, sink.into_inner().taken))
+}
+
+/// Whether a writer that takes four bytes in all cuts the line of the two squares.
+fn is_cut_by_stuck(rt: &HostRuntime) -> Option<bool> {
     let taken = Vec::new(rt.alloc());
     let mut sink = ToWrite::new(Stuck { taken });
     let outcome = squares(&mut sink)?;
-    Some(Ended::new(outcome, sink.into_inner().taken))
-}
-
-/// Whether a run failed to write after four letters.
-fn is_cut(ended: Option<Ended>) -> bool {
-    ended.is_some_and(|ended| ended.is(Err(RunFault::Write), "2121"))
+    Some(is_cut(outcome, sink.into_inner().taken))
 }
 
 #[test]
 fn broken_11(rt: HostRuntime) {
-    assert!(rt; is_cut(to_full(&rt)));
-    assert!(rt; is_cut(to_stuck(&rt)));
+    assert!(rt; is_cut_by_full(&rt) == Some(true));
+    assert!(rt; is_cut_by_stuck(&rt) == Some(true));
 }
 
 #[test]

@@ -86,24 +86,33 @@ pub fn edited_example() -> Files<'static> {
     }
 }
 
+/// A join of layers with integer coordinates, or `None` if the relation may hold between disjoint
+/// features.
+pub fn make_job(
+    relation: Relation,
+    options: Options,
+    product: Product,
+) -> Option<JoinJob<BoxCondition>> {
+    let condition = BoxCondition {
+        scale: Scale::new(0)?,
+        relation: JoinRelation::new(relation).ok()?,
+    };
+    Some(JoinJob {
+        condition,
+        options,
+        product,
+    })
+}
+
 /// The result of a join into this sink, or `None` if there are no keys for hashing.
 pub fn run<R: Threads + Wait + Sync + RandomSource + AllocGlobal, W: Write>(
     rt: &R,
     files: &Files<'_>,
-    relation: Relation,
-    options: &Options,
+    job: &JoinJob<BoxCondition>,
     sink: &mut ToWrite<W>,
 ) -> Option<Result<(), RunFault>>
     requires { failed_of sink.old ≡ false }
 {
-    let job = JoinJob {
-        condition: BoxCondition {
-            scale: Scale::new(0)?,
-            relation: JoinRelation::new(relation).ok()?,
-        },
-        options: *options,
-        product: Product::Report,
-    };
     let states = (RandomState::new(rt).ok()?, RandomState::new(rt).ok()?);
     let mut sources = JoinSources {
         left: FromRead::new(files.left),
@@ -142,8 +151,9 @@ pub fn join<R: Threads + Wait + Sync + RandomSource + AllocGlobal>(
     relation: Relation,
     options: &Options,
 ) -> Option<Ended> {
+    let job = make_job(relation, *options, Product::Report)?;
     let mut sink = ToWrite::new(Vec::with_capacity(rt.alloc(), ROOM).ok()?);
-    let outcome = run(rt, files, relation, options, &mut sink)?;
+    let outcome = run(rt, files, &job, &mut sink)?;
     Some(Ended::new(outcome, sink.into_inner()))
 }
 

@@ -91,27 +91,27 @@ one_figure rule keyword lists g h d e = one_by_paths g h (d.kind ∙ sym e.kind)
 -- ---- what is held
 
 -- the text of points has one list
-point_list : (b : Bool) (text : List ℕ) (lists : List (List RawPoint)) (rest : List ℕ) → TakesBodyBy b Point text lists rest
+point_list : (scale : Scale) (b : Bool) (text : List ℕ) (lists : List (List RawPoint)) (rest : List ℕ) → TakesBodyBy scale b Point text lists rest
     → (ps : List RawPoint) × (lists ≡ ps ∷ [])
-point_list b text [] rest h = absurd (no_list b h)
+point_list scale b text [] rest h = absurd (no_list b h)
   where
-    no_list : (b : Bool) → TakesBodyBy b Point text [] rest → ⊥
+    no_list : (b : Bool) → TakesBodyBy scale b Point text [] rest → ⊥
     no_list false h = h
     no_list true h = h
-point_list b text (ps ∷ []) rest h = (ps, refl)
-point_list false text ([] ∷ qs ∷ lists) rest h = absurd h
-point_list false text ((p ∷ []) ∷ qs ∷ lists) rest h = absurd h
-point_list false text ((p ∷ q ∷ ps) ∷ qs ∷ lists) rest h = absurd h
-point_list true text (ps ∷ qs ∷ lists) rest h = absurd h
+point_list scale b text (ps ∷ []) rest h = (ps, refl)
+point_list scale false text ([] ∷ qs ∷ lists) rest h = absurd h
+point_list scale false text ((p ∷ []) ∷ qs ∷ lists) rest h = absurd h
+point_list scale false text ((p ∷ q ∷ ps) ∷ qs ∷ lists) rest h = absurd h
+point_list scale true text (ps ∷ qs ∷ lists) rest h = absurd h
 
 skips_none : (rule : Rings) → skips_dots rule Point ≡ false
 skips_none Proper = refl
 skips_none EvenOdd = refl
 
-drawn_alone : (scale : Scale) (rule : Rings) (text : List ℕ) (heading : Heading) (lists : List (List RawPoint)) → heading.keyword ≡ Point → TakesText text heading lists
+drawn_alone : (scale : Scale) (rule : Rings) (text : List ℕ) (heading : Heading) (lists : List (List RawPoint)) → heading.keyword ≡ Point → TakesText scale text heading lists
     → (path : List Position) × (drawn (skips_dots rule heading.keyword) (positions scale lists) ≡ path ∷ [])
 drawn_alone scale rule text heading lists point (m, e, word, body, end) =
-    let (ps, one) = point_list heading.is_multi (skip m) lists e (subst (λ k. TakesBodyBy heading.is_multi k (skip m) lists e) point body) in (
+    let (ps, one) = point_list scale heading.is_multi (skip m) lists e (subst (λ k. TakesBodyBy scale heading.is_multi k (skip m) lists e) point body) in (
       without_repeats (map (position scale) ps),
       ap (λ k. drawn (skips_dots rule k) (positions scale lists)) point ∙ ap (λ b. drawn b (positions scale lists)) (skips_none rule)
           ∙ ap (λ ls. drawn false (positions scale ls)) one,
@@ -129,15 +129,15 @@ figure_of Polygon ends vs paths cuts whole alone = (refl, cuts)
 -- ---- of a text with a raw form
 
 module _ (scale : Scale) (rule : Rings) where
-  module _ (text : List ℕ) (heading : Heading) (lists : List (List RawPoint)) (raw : Raw text heading lists) where
-    draws_here : (h : Heading) (ys : List (List RawPoint)) (g : Figure) → Raw text h ys → Draws rule h.keyword (positions scale ys) g
+  module _ (text : List ℕ) (heading : Heading) (lists : List (List RawPoint)) (raw : Raw scale text heading lists) where
+    draws_here : (h : Heading) (ys : List (List RawPoint)) (g : Figure) → Raw scale text h ys → Draws rule h.keyword (positions scale ys) g
         → Draws rule heading.keyword (positions scale lists) g
     draws_here h ys g r d =
-        let same = one_raw_form text h heading ys lists r raw in
+        let same = one_raw_form scale text h heading ys lists r raw in
         subst (λ v. Draws rule v.keyword (positions scale lists) g) same.0 (subst (λ v. Draws rule h.keyword (positions scale v) g) same.1 d)
 
-    good_here : (h : Heading) (ys : List (List RawPoint)) → Raw text h ys → AllNumbersGood scale ys → AllNumbersGood scale lists
-    good_here h ys r g = subst (AllNumbersGood scale) (one_raw_form text h heading ys lists r raw).1 g
+    good_here : (h : Heading) (ys : List (List RawPoint)) → Raw scale text h ys → AllNumbersGood scale ys → AllNumbersGood scale lists
+    good_here h ys r g = subst (AllNumbersGood scale) (one_raw_form scale text h heading ys lists r raw).1 g
 
     shown_here : (g : Figure) → Shows scale rule text g → AllNumbersGood scale lists × Draws rule heading.keyword (positions scale lists) g
     shown_here g h = (good_here h.heading h.lists h.raw h.good, draws_here h.heading h.lists g h.raw h.draws)
@@ -186,16 +186,16 @@ module _ (scale : Scale) (rule : Rings) where
   pub geometry_reading : (text : List ℕ) (g : Figure) → Shows scale rule text g → TakesRings rule g → IsReading scale rule text (Ok g)
   geometry_reading text g shown proper = reading text (Ok g) (record { shown = shown; proper = proper })
 
-  pub text_reading : (text : List ℕ) → ((heading : Heading) (lists : List (List RawPoint)) → TakesText text heading lists → ⊥)
+  pub text_reading : (text : List ℕ) → ((heading : Heading) (lists : List (List RawPoint)) → TakesText scale text heading lists → ⊥)
       → IsReading scale rule text (Err Text)
-  text_reading text none = reading text (Err Text) (λ heading lists raw. none heading lists (raw_taken text heading lists raw))
+  text_reading text none = reading text (Err Text) (λ heading lists raw. none heading lists (raw_taken scale text heading lists raw))
 
   module _ (text : List ℕ) (raw : RawText) (r : IsRawText scale rule text raw) where
     pub number_reading : raw.paths.are_good ≡ false → IsReading scale rule text (Err Number)
     number_reading f = reading text (Err Number) (record {
       heading = r.heading;
       lists = r.lists;
-      raw = taken_raw text r.heading r.lists r.taken;
+      raw = taken_raw scale text r.heading r.lists r.taken;
       bad = λ good. r.read.bad f (good, tt);
     })
 
@@ -235,7 +235,7 @@ module _ (scale : Scale) (rule : Rings) where
       geometry_shown g (same, geometry, allowed) = record {
         heading = r.heading;
         lists = r.lists;
-        raw = taken_raw text r.heading r.lists r.taken;
+        raw = taken_raw scale text r.heading r.lists r.taken;
         good = good;
         draws = subst (Draws rule r.heading.keyword (positions scale r.lists)) (sym same)
             (drawn_as (subst IsGeometry same geometry) (subst (AreAllowed rule) same allowed));
@@ -245,7 +245,7 @@ module _ (scale : Scale) (rule : Rings) where
       form_reading none = reading text (Err Form) (record {
         heading = r.heading;
         lists = r.lists;
-        raw = taken_raw text r.heading r.lists r.taken;
+        raw = taken_raw scale text r.heading r.lists r.taken;
         good = good;
         formless = λ g d. let same = drawn_alike g d in none (subst IsGeometry same d.geometry) (subst (AreAllowed rule) same d.allowed);
       })

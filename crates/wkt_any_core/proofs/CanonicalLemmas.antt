@@ -128,9 +128,9 @@ same_keyword Polygon LineString e = absurd cc
 same_keyword Polygon Polygon e = refl
 
 -- a heading, a space and the text after it
-text_printed : (heading : Heading) (lists : List (List RawPoint)) (word body : List ℕ) → Words heading word → BodyBy heading.is_multi heading.keyword lists body
-    → Raw (word ++ 32 ∷ body) heading lists
-text_printed heading lists word body h b = record {
+text_printed : (scale : Scale) (heading : Heading) (lists : List (List RawPoint)) (word body : List ℕ) → Words heading word
+    → BodyBy scale heading.is_multi heading.keyword lists body → Raw scale (word ++ 32 ∷ body) heading lists
+text_printed scale heading lists word body h b = record {
   front = [];
   back = word ++ 32 ∷ body;
   first = tt;
@@ -157,28 +157,28 @@ module _ (scale : Scale) where
   raw_of : Vertex → RawPoint
   raw_of v = raw scale (position_of v)
 
-  vertex_printed : (v : Vertex) → PointText (raw_of v) (vertex_text scale v)
+  vertex_printed : (v : Vertex) → PointText scale (raw_of v) (vertex_text scale v)
   unfolding raw_of
   vertex_printed v = point_printed scale (position_of v) (v.x_in_range, v.y_in_range)
 
-  path_printed : (path : List Vertex) → IsFilled path → PointList (map raw_of path) (path_text scale path)
-  path_printed path some = items_enclosed PointText raw_of (vertex_text scale) (λ _. Unit {0}) (λ v h. vertex_printed v) path some (all_any path)
+  path_printed : (path : List Vertex) → IsFilled path → PointList scale (map raw_of path) (path_text scale path)
+  path_printed path some = items_enclosed (PointText scale) raw_of (vertex_text scale) (λ _. Unit {0}) (λ v h. vertex_printed v) path some (all_any path)
 
   paths_printed : (paths : List (List Vertex)) → 0 < length paths → AllByRecursion IsFilled paths
-      → InParentheses PointList (map (map raw_of) paths) (40 ∷ (separated (path_text scale) paths ++ 41 ∷ []))
-  paths_printed paths some h = items_enclosed PointList (map raw_of) (path_text scale) IsFilled path_printed paths some h
+      → InParentheses (PointList scale) (map (map raw_of) paths) (40 ∷ (separated (path_text scale) paths ++ 41 ∷ []))
+  paths_printed paths some h = items_enclosed (PointList scale) (map raw_of) (path_text scale) IsFilled path_printed paths some h
 
-  members_printed : (vs : List Vertex) → 0 < length vs → InParentheses Member (map raw_of vs) (40 ∷ (separated (point_text scale) vs ++ 41 ∷ []))
-  members_printed vs some = items_enclosed Member raw_of (point_text scale) (λ _. Unit {0}) (λ v h. inr (path_printed (v ∷ []) (omega arith))) vs some (all_any vs)
+  members_printed : (vs : List Vertex) → 0 < length vs → InParentheses (Member scale) (map raw_of vs) (40 ∷ (separated (point_text scale) vs ++ 41 ∷ []))
+  members_printed vs some = items_enclosed (Member scale) raw_of (point_text scale) (λ _. Unit {0}) (λ v h. inr (path_printed (v ∷ []) (omega arith))) vs some (all_any vs)
 
-  polygon_printed : (ring : List Vertex) → IsFilled ring → InParentheses PointList (map raw_of ring ∷ []) (polygon_text ring)
+  polygon_printed : (ring : List Vertex) → IsFilled ring → InParentheses (PointList scale) (map raw_of ring ∷ []) (polygon_text ring)
   polygon_printed ring some =
-      subst (λ (t : List ℕ). InParentheses PointList (map raw_of ring ∷ []) (40 ∷ (t ++ 41 ∷ []))) (append-nil (path_text scale ring))
+      subst (λ (t : List ℕ). InParentheses (PointList scale) (map raw_of ring ∷ []) (40 ∷ (t ++ 41 ∷ []))) (append-nil (path_text scale ring))
       (paths_printed (ring ∷ []) (omega arith) (some, tt))
 
   polygons_printed : (rings : List (List Vertex)) → 0 < length rings → AllByRecursion IsFilled rings
-      → InParentheses (InParentheses PointList) (map (λ ring. map raw_of ring ∷ []) rings) (40 ∷ (separated polygon_text rings ++ 41 ∷ []))
-  polygons_printed rings some h = items_enclosed (InParentheses PointList) (λ ring. map raw_of ring ∷ []) polygon_text IsFilled polygon_printed rings some h
+      → InParentheses (InParentheses (PointList scale)) (map (λ ring. map raw_of ring ∷ []) rings) (40 ∷ (separated polygon_text rings ++ 41 ∷ []))
+  polygons_printed rings some h = items_enclosed (InParentheses (PointList scale)) (λ ring. map raw_of ring ∷ []) polygon_text IsFilled polygon_printed rings some h
 
   rings_joined : (rings : List (List Vertex)) → map (map raw_of) rings ≡ joined (map (λ ring. map raw_of ring ∷ []) rings)
   rings_joined [] = refl
@@ -187,22 +187,22 @@ module _ (scale : Scale) where
   -- ---- texts of one part and of many
 
   abbrev HasRaw : Keyword → List ℕ → List (List RawPoint) → Type 0
-  HasRaw keyword text lists = (is_multi : Bool) × Raw text (record { is_multi = is_multi; keyword = keyword }) lists
+  HasRaw keyword text lists = (is_multi : Bool) × Raw scale text (record { is_multi = is_multi; keyword = keyword }) lists
 
   one_raw : (keyword : Keyword) (lists : List (List RawPoint)) (word body : List ℕ) → Words (record { is_multi = false; keyword = keyword }) word
-      → BodyBy false keyword lists body → HasRaw keyword (word ++ 32 ∷ (body ++ [])) lists
+      → BodyBy scale false keyword lists body → HasRaw keyword (word ++ 32 ∷ (body ++ [])) lists
   one_raw keyword lists word body h b = (
     false,
-    subst (λ (t : List ℕ). Raw (word ++ 32 ∷ t) (record { is_multi = false; keyword = keyword }) lists) (sym (append-nil body))
-        (text_printed (record { is_multi = false; keyword = keyword }) lists word body h b),
+    subst (λ (t : List ℕ). Raw scale (word ++ 32 ∷ t) (record { is_multi = false; keyword = keyword }) lists) (sym (append-nil body))
+        (text_printed scale (record { is_multi = false; keyword = keyword }) lists word body h b),
   )
 
   many_raw : (keyword : Keyword) (lists : List (List RawPoint)) (one word body : List ℕ) (n : ℕ) → Words (record { is_multi = true; keyword = keyword }) word
-      → BodyBy true keyword lists body → HasRaw keyword (if suc (suc n) == 1 then one else word ++ 32 ∷ body) lists
+      → BodyBy scale true keyword lists body → HasRaw keyword (if suc (suc n) == 1 then one else word ++ 32 ∷ body) lists
   many_raw keyword lists one word body n h b = (
     true,
-    subst (λ (t : Bool). Raw (if t then one else word ++ 32 ∷ body) (record { is_multi = true; keyword = keyword }) lists) (sym (not_one n))
-        (text_printed (record { is_multi = true; keyword = keyword }) lists word body h b),
+    subst (λ (t : Bool). Raw scale (if t then one else word ++ 32 ∷ body) (record { is_multi = true; keyword = keyword }) lists) (sym (not_one n))
+        (text_printed scale (record { is_multi = true; keyword = keyword }) lists word body h b),
   )
 
   points_raw : (vs : List Vertex) → 0 < length vs → HasRaw Point (points_text scale vs) (map raw_of vs ∷ [])

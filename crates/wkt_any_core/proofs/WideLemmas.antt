@@ -12,6 +12,7 @@ use Rattle.plane_core.specs.Points.{at, run, rise, side}
 use Rattle.plane_core.specs.Figures.{Figure, edges, HasLength, IsPath, IsRing, IsGeometry}
 use Rattle.plane_core.specs.Figures.Figure.{Areas}
 use Rattle.plane_core.proofs.Ring.{monomials}
+use Rattle.plane_core.proofs.StoredLemmas.{cuts_for}
 use Rattle.plane_core.proofs.FormLemmas.{Form, IsLine, Steep, Level, line_not_zero, by_zero}
 use Rattle.wkt_core.proofs.HeadingLemmas.{by_bool}
 use Rattle.plane_core.specs.declared.rings.Rings.{Rings}
@@ -221,7 +222,7 @@ module _ (kind : Kind) (rule : Rings) (ends : List ℕ) (vs : List Vertex) (cuts
     where
       by_made : (made : Option Figure) → (IsSome made ↔ IsStored kind ends vs)
           → IfNone made (IsGeometry (stored_figure kind ends vs) → AreAllowed rule (stored_figure kind ends vs) → ⊥)
-      by_made None stored = λ geometry allowed. absurd (no_none (stored.1 (record { cuts = cuts; geometry = geometry })))
+      by_made None stored = λ geometry allowed. absurd (no_none (stored.1 (record { cuts = cuts_for kind ends (length vs) cuts; geometry = geometry })))
         where
           no_none : false ≡ true → ⊥
           no_none e = cc

@@ -96,6 +96,6 @@ AddsPaths scale old lists new = (skips : Bool) (before : List (List RawPoint))
 pub record IsRawText (scale : Scale) (rule : Rings) (text : List ℕ) (raw : RawText) : Type 0 where
   pub heading : Heading
   pub lists : List (List RawPoint)
-  pub taken : TakesText text heading lists
+  pub taken : TakesText scale text heading lists
   pub keyword : raw.keyword ≡ heading.keyword
   pub read : IsRead scale (skips_dots rule heading.keyword) raw.paths lists []

@@ -11,7 +11,7 @@ use Rattle.wkt_any_core.specs.Spelling.{HasImproperRings}
 
 abbrev pub Reads : Scale → Rings → List ℕ → Result Figure GeometryFault → Type 0
 Reads scale rings text (Ok g) = Spells scale rings text g
-Reads scale rings text (Err Text) = HasNoRawForm text
+Reads scale rings text (Err Text) = HasNoRawForm scale text
 Reads scale rings text (Err Number) = HasBadNumber scale text
 Reads scale rings text (Err Form) = HasNoFigure scale rings text
 Reads scale rings text (Err RingFault) = HasImproperRings scale rings text

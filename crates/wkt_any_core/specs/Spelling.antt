@@ -15,7 +15,7 @@ use Rattle.wkt_any_core.specs.Drawing.{Draws}
 pub record Shows (scale : Scale) (rings : Rings) (text : List ℕ) (g : Figure) : Type 0 where
   pub heading : Heading
   pub lists : List (List RawPoint)
-  pub raw : Raw text heading lists
+  pub raw : Raw scale text heading lists
   pub good : AllNumbersGood scale lists
   pub draws : Draws rings heading.keyword (positions scale lists) g
 
@@ -26,21 +26,22 @@ pub record Spells (scale : Scale) (rings : Rings) (text : List ℕ) (g : Figure)
   pub proper : TakesRings rings g
 
 -- the text isn't well formed
-abbrev pub HasNoRawForm : List ℕ → Type 0
-HasNoRawForm text = (heading : Heading) (lists : List (List RawPoint)) → ¬ (Raw text heading lists)
+abbrev pub HasNoRawForm : Scale → List ℕ → Type 0
+HasNoRawForm scale text =
+    (heading : Heading) (lists : List (List RawPoint)) → ¬ (Raw scale text heading lists)
 
 -- some raw form of the text has a number that isn't whole or is out of range
 pub record HasBadNumber (scale : Scale) (text : List ℕ) : Type 0 where
   pub heading : Heading
   pub lists : List (List RawPoint)
-  pub raw : Raw text heading lists
+  pub raw : Raw scale text heading lists
   pub bad : ¬ (AllNumbersGood scale lists)
 
 -- the text is well formed with good numbers, but forms no geometry
 pub record HasNoFigure (scale : Scale) (rings : Rings) (text : List ℕ) : Type 0 where
   pub heading : Heading
   pub lists : List (List RawPoint)
-  pub raw : Raw text heading lists
+  pub raw : Raw scale text heading lists
   pub good : AllNumbersGood scale lists
   pub formless : (g : Figure) → ¬ (Draws rings heading.keyword (positions scale lists) g)
 

@@ -20,9 +20,10 @@ fn read_one<'a>(
     paths: &mut Paths,
 ) -> Result<Option<&'a [u8]>, AllocError>
     ensures some { IfOk result (λ read. IfSome read (λ rest. (lists : List (List RawPoint))
-        × TakesOne keyword text.now lists rest.now × AddsPaths scale paths.old lists paths.new)) }
+        × TakesOne scale keyword text.now lists rest.now
+        × AddsPaths scale paths.old lists paths.new)) }
     ensures none { IfOk result (λ read. IfNone read ((lists : List (List RawPoint))
-        (rest : List ℕ) → TakesOne keyword text.now lists rest → ⊥)) }
+        (rest : List ℕ) → TakesOne scale keyword text.now lists rest → ⊥)) }
 {
     match keyword {
         Keyword::Point => read_single(text, scale, paths),
@@ -39,9 +40,10 @@ fn read_many<'a>(
     paths: &mut Paths,
 ) -> Result<Option<&'a [u8]>, AllocError>
     ensures some { IfOk result (λ read. IfSome read (λ rest. (lists : List (List RawPoint))
-        × TakesMany keyword text.now lists rest.now × AddsPaths scale paths.old lists paths.new)) }
+        × TakesMany scale keyword text.now lists rest.now
+        × AddsPaths scale paths.old lists paths.new)) }
     ensures none { IfOk result (λ read. IfNone read ((lists : List (List RawPoint))
-        (rest : List ℕ) → TakesMany keyword text.now lists rest → ⊥)) }
+        (rest : List ℕ) → TakesMany scale keyword text.now lists rest → ⊥)) }
 {
     match keyword {
         Keyword::Point => read_members(text, scale, paths),
@@ -58,9 +60,10 @@ pub(crate) fn read_body<'a>(
     paths: &mut Paths,
 ) -> Result<Option<&'a [u8]>, AllocError>
     ensures some { IfOk result (λ read. IfSome read (λ rest. (lists : List (List RawPoint))
-        × TakesBody heading text.now lists rest.now × AddsPaths scale paths.old lists paths.new)) }
+        × TakesBody scale heading text.now lists rest.now
+        × AddsPaths scale paths.old lists paths.new)) }
     ensures none { IfOk result (λ read. IfNone read ((lists : List (List RawPoint))
-        (rest : List ℕ) → TakesBody heading text.now lists rest → ⊥)) }
+        (rest : List ℕ) → TakesBody scale heading text.now lists rest → ⊥)) }
 {
     if heading.is_multi {
         read_many(heading.keyword, text, scale, paths)

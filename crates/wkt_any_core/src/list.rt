@@ -18,9 +18,9 @@ fn read_bare_point<'a>(
     paths: &mut Paths,
 ) -> Result<Option<&'a [u8]>, AllocError>
     ensures some { IfOk result (λ read. IfSome read (λ rest. (p : RawPoint)
-        × TakesPoint text.now p rest.now × AddsPoint scale paths.old p paths.new)) }
+        × TakesPoint scale text.now p rest.now × AddsPoint scale paths.old p paths.new)) }
     ensures none { IfOk result (λ read. IfNone read
-        ((p : RawPoint) (rest : List ℕ) → TakesPoint text.now p rest → ⊥)) }
+        ((p : RawPoint) (rest : List ℕ) → TakesPoint scale text.now p rest → ⊥)) }
 {
     let Some((point, rest)) = read_point(text, scale) else {
         return Ok(None);
@@ -36,9 +36,9 @@ fn read_enclosed_point<'a>(
     paths: &mut Paths,
 ) -> Result<Option<&'a [u8]>, AllocError>
     ensures some { IfOk result (λ read. IfSome read (λ rest. (p : RawPoint)
-        × TakesPoints text.now (p ∷ []) rest.now × AddsPoint scale paths.old p paths.new)) }
+        × TakesPoints scale text.now (p ∷ []) rest.now × AddsPoint scale paths.old p paths.new)) }
     ensures none { IfOk result (λ read. IfNone read
-        ((p : RawPoint) (rest : List ℕ) → TakesPoints text.now (p ∷ []) rest → ⊥)) }
+        ((p : RawPoint) (rest : List ℕ) → TakesPoints scale text.now (p ∷ []) rest → ⊥)) }
 {
     let Some(rest) = skip_symbol(text, b'(') else {
         return Ok(None);
@@ -60,10 +60,10 @@ pub(crate) fn read_single<'a>(
     paths: &mut Paths,
 ) -> Result<Option<&'a [u8]>, AllocError>
     ensures some { IfOk result (λ read. IfSome read (λ rest. (p : RawPoint)
-        × TakesPoints text.now (p ∷ []) rest.now
+        × TakesPoints scale text.now (p ∷ []) rest.now
         × AddsPaths scale paths.old ((p ∷ []) ∷ []) paths.new)) }
     ensures none { IfOk result (λ read. IfNone read
-        ((p : RawPoint) (rest : List ℕ) → TakesPoints text.now (p ∷ []) rest → ⊥)) }
+        ((p : RawPoint) (rest : List ℕ) → TakesPoints scale text.now (p ∷ []) rest → ⊥)) }
 {
     let Some(rest) = read_enclosed_point(text, scale, paths)? else {
         return Ok(None);
@@ -80,9 +80,9 @@ fn read_member<'a>(
     paths: &mut Paths,
 ) -> Result<Option<&'a [u8]>, AllocError>
     ensures some { IfOk result (λ read. IfSome read (λ rest. (p : RawPoint)
-        × TakesMember text.now p rest.now × AddsPoint scale paths.old p paths.new)) }
+        × TakesMember scale text.now p rest.now × AddsPoint scale paths.old p paths.new)) }
     ensures none { IfOk result (λ read. IfNone read
-        ((p : RawPoint) (rest : List ℕ) → TakesMember text.now p rest → ⊥)) }
+        ((p : RawPoint) (rest : List ℕ) → TakesMember scale text.now p rest → ⊥)) }
 {
     match skip_symbol(text, b'(') {
         Some(_) => read_enclosed_point(text, scale, paths),
@@ -97,9 +97,10 @@ pub(crate) fn read_points<'a>(
     paths: &mut Paths,
 ) -> Result<Option<&'a [u8]>, AllocError>
     ensures some { IfOk result (λ read. IfSome read (λ rest. (ps : List RawPoint)
-        × TakesPoints text.now ps rest.now × AddsPaths scale paths.old (ps ∷ []) paths.new)) }
+        × TakesPoints scale text.now ps rest.now
+        × AddsPaths scale paths.old (ps ∷ []) paths.new)) }
     ensures none { IfOk result (λ read. IfNone read
-        ((ps : List RawPoint) (rest : List ℕ) → TakesPoints text.now ps rest → ⊥)) }
+        ((ps : List RawPoint) (rest : List ℕ) → TakesPoints scale text.now ps rest → ⊥)) }
 {
     let Some(mut rest) = skip_symbol(text, b'(') else {
         return Ok(None);
@@ -130,9 +131,10 @@ pub(crate) fn read_members<'a>(
     paths: &mut Paths,
 ) -> Result<Option<&'a [u8]>, AllocError>
     ensures some { IfOk result (λ read. IfSome read (λ rest. (ps : List RawPoint)
-        × TakesMembers text.now ps rest.now × AddsPaths scale paths.old (ps ∷ []) paths.new)) }
+        × TakesMembers scale text.now ps rest.now
+        × AddsPaths scale paths.old (ps ∷ []) paths.new)) }
     ensures none { IfOk result (λ read. IfNone read
-        ((ps : List RawPoint) (rest : List ℕ) → TakesMembers text.now ps rest → ⊥)) }
+        ((ps : List RawPoint) (rest : List ℕ) → TakesMembers scale text.now ps rest → ⊥)) }
 {
     let Some(mut rest) = skip_symbol(text, b'(') else {
         return Ok(None);
@@ -163,9 +165,10 @@ pub(crate) fn read_lists<'a>(
     paths: &mut Paths,
 ) -> Result<Option<&'a [u8]>, AllocError>
     ensures some { IfOk result (λ read. IfSome read (λ rest. (lists : List (List RawPoint))
-        × TakesLists text.now lists rest.now × AddsPaths scale paths.old lists paths.new)) }
+        × TakesLists scale text.now lists rest.now × AddsPaths scale paths.old lists paths.new)) }
     ensures none { IfOk result (λ read. IfNone read
-        ((lists : List (List RawPoint)) (rest : List ℕ) → TakesLists text.now lists rest → ⊥)) }
+        ((lists : List (List RawPoint)) (rest : List ℕ)
+        → TakesLists scale text.now lists rest → ⊥)) }
 {
     let Some(mut rest) = skip_symbol(text, b'(') else {
         return Ok(None);
@@ -193,11 +196,11 @@ pub(crate) fn read_polygons<'a>(
     paths: &mut Paths,
 ) -> Result<Option<&'a [u8]>, AllocError>
     ensures some { IfOk result (λ read. IfSome read (λ rest.
-        (polygons : List (List (List RawPoint))) × TakesPolygons text.now polygons rest.now
+        (polygons : List (List (List RawPoint))) × TakesPolygons scale text.now polygons rest.now
         × AddsPaths scale paths.old (joined polygons) paths.new)) }
     ensures none { IfOk result (λ read. IfNone read
         ((polygons : List (List (List RawPoint))) (rest : List ℕ)
-        → TakesPolygons text.now polygons rest → ⊥)) }
+        → TakesPolygons scale text.now polygons rest → ⊥)) }
 {
     let Some(mut rest) = skip_symbol(text, b'(') else {
         return Ok(None);

@@ -88,6 +88,11 @@ impl Paths {
     fn keep_path(&mut self) -> Result<(), AllocError>
         ensures { OnOk result (IsKept self.old self.new) }
     {
+        // Most geometries have one path, and take no room for more.
+        if self.ends.is_empty() {
+            self.vertices.reserve_exact(self.open.len())?;
+            self.ends.reserve_exact(1)?;
+        }
         self.vertices.extend_from_slice(&self.open)?;
         let Ok(end) = u32::try_from(self.vertices.len()) else {
             return Err(AllocError);

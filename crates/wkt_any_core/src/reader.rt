@@ -48,7 +48,7 @@ fn read_raw(
 ) -> Result<Option<RawText>, AllocError>
     ensures some { IfOk result (λ read. IfSome read (IsRawText scale rings text.now)) }
     ensures none { IfOk result (λ read. IfNone read ((heading : Heading)
-        (lists : List (List RawPoint)) → TakesText text.now heading lists → ⊥)) }
+        (lists : List (List RawPoint)) → TakesText scale text.now heading lists → ⊥)) }
 {
     let start = skip_blanks(text);
     let Some((heading, rest)) = Heading::read(start) else {
@@ -78,7 +78,7 @@ fn shown(
 ) -> Result<Geometry, GeometryFault>
     requires some { IfSome read (IsRawText scale rings text.now) }
     requires none { IfNone read ((heading : Heading) (lists : List (List RawPoint))
-        → TakesText text.now heading lists → ⊥) }
+        → TakesText scale text.now heading lists → ⊥) }
     ensures ok { IfOk result (Shows scale rings text.now) }
     ensures err { IfErr result (λ fault. IsReading scale rings text.now (Err fault)) }
 {
@@ -135,7 +135,7 @@ fn answer(
 /// # Errors
 /// - [`GeometryFault::Text`] if the bytes aren't a text of this grammar.
 /// - [`GeometryFault::Number`] if some number has a digit other than 0 after the decimals of the
-///   scale, or is more than [`geom_core::LIMIT`] units from 0.
+///   scale and isn't rounded, or is more than [`geom_core::LIMIT`] units from 0, once rounded.
 /// - [`GeometryFault::Form`] if a polyline doesn't have two distinct vertices, or a ring's last
 ///   point isn't its first, or its points lie on one line. With [`Rings::EvenOdd`] a ring may lie
 ///   on one line; a ring whose points are all equal is ignored, and some other ring must remain.

@@ -3,7 +3,7 @@
 use plane_core::Geometry;
 use std::alloc::{AllocError, Global};
 use wkt_any_core::{GeometryFault, Rings, read};
-use wkt_core::Scale;
+use wkt_core::{Rounding, Scale};
 
 /// The number of edges of a geometry, and the number of its points or ends of polylines.
 fn counts_of(alloc: Global, geometry: &Geometry) -> Result<(usize, usize), AllocError> {
@@ -51,6 +51,34 @@ const READ: &[(&str, (usize, usize))] = &[
         (18, 0),
     ),
 ];
+
+/// Texts at a rounding scale without decimals, and the counts of their geometries or their faults.
+const ROUNDED: &[(&str, Result<(usize, usize), GeometryFault>)] = &[
+    ("MULTIPOINT (.4 1e0, (1.5e1 -2.5))", Ok((0, 2))),
+    ("MULTIPOINT (.4 .4, 0 -0.4)", Ok((0, 1))),
+    ("LINESTRING (0 0, 0.4 0.4, 3 2)", Ok((1, 2))),
+    ("POLYGON ((0 0, 4.2 0, 0 3.9, 0.4 0.4))", Ok((3, 0))),
+    ("LINESTRING (0 0, 0.4 0.4)", Err(GeometryFault::Form)),
+    (
+        "POLYGON ((0 0, 4 0.4, 8 0.2, 0 0))",
+        Err(GeometryFault::Form),
+    ),
+    ("POINT (1e13 0)", Err(GeometryFault::Number)),
+    ("POINT (1e 0)", Err(GeometryFault::Text)),
+];
+
+#[test]
+fn rounded_texts_are_read(rt: HostRuntime) -> Result<(), AllocError> {
+    let scale = Scale::new(0).unwrap().with_rounding(Rounding::Nearest);
+    for &(text, wanted) in ROUNDED {
+        let counted = match read(rt.alloc(), text.as_bytes(), scale, Rings::Proper)? {
+            Ok(geometry) => Ok(counts_of(rt.alloc(), &geometry)?),
+            Err(fault) => Err(fault),
+        };
+        assert!(rt; counted == wanted, "{text}");
+    }
+    Ok(())
+}
 
 #[test]
 fn texts_are_read(rt: HostRuntime) -> Result<(), AllocError> {

@@ -28,15 +28,15 @@ forms_same keyword (ps ∷ qs ∷ lists) s t h k = absurd h
 module _ (scale : Scale) where
   -- ---- of a text with a raw form
 
-  module _ (text : List ℕ) (keyword : Keyword) (lists : List (List RawPoint)) (raw : Raw text keyword lists) where
-    forms_here : (l : Keyword) (ys : List (List RawPoint)) (s : Shape) → Raw text l ys → Forms l (positions scale ys) s
+  module _ (text : List ℕ) (keyword : Keyword) (lists : List (List RawPoint)) (raw : Raw scale text keyword lists) where
+    forms_here : (l : Keyword) (ys : List (List RawPoint)) (s : Shape) → Raw scale text l ys → Forms l (positions scale ys) s
         → Forms keyword (positions scale lists) s
     forms_here l ys s h f =
-        let same = one_raw_form text l keyword ys lists h raw in
+        let same = one_raw_form scale text l keyword ys lists h raw in
         subst (λ v. Forms v (positions scale lists) s) same.0 (subst (λ v. Forms l (positions scale v) s) same.1 f)
 
-    good_here : (l : Keyword) (ys : List (List RawPoint)) → Raw text l ys → AllNumbersGood scale ys → AllNumbersGood scale lists
-    good_here l ys h g = subst (AllNumbersGood scale) (one_raw_form text l keyword ys lists h raw).1 g
+    good_here : (l : Keyword) (ys : List (List RawPoint)) → Raw scale text l ys → AllNumbersGood scale ys → AllNumbersGood scale lists
+    good_here l ys h g = subst (AllNumbersGood scale) (one_raw_form scale text l keyword ys lists h raw).1 g
 
     pub spelled : (s : Shape) → Spells scale text s → AllNumbersGood scale lists × Forms keyword (positions scale lists) s
     spelled s h = (good_here h.keyword h.lists h.raw h.good, forms_here h.keyword h.lists s h.raw h.forms)
@@ -69,13 +69,13 @@ module _ (scale : Scale) where
   reading : (text : List ℕ) (answer : Result Shape WktFault) → Reads scale text answer → IsReading scale text answer
   reading text answer reads = record { reads = reads; only = λ other. one_reading text answer other reads }
 
-  pub text_reading : (text : List ℕ) → ((keyword : Keyword) (lists : List (List RawPoint)) → TakesText text keyword lists → ⊥)
+  pub text_reading : (text : List ℕ) → ((keyword : Keyword) (lists : List (List RawPoint)) → TakesText scale text keyword lists → ⊥)
       → IsReading scale text (Err Text)
-  text_reading text none = reading text (Err Text) (λ keyword lists raw. none keyword lists (raw_taken text keyword lists raw))
+  text_reading text none = reading text (Err Text) (λ keyword lists raw. none keyword lists (raw_taken scale text keyword lists raw))
 
-  module _ (text : List ℕ) (keyword : Keyword) (lists : List (List RawPoint)) (taken : TakesText text keyword lists) where
-    raw_form : Raw text keyword lists
-    raw_form = taken_raw text keyword lists taken
+  module _ (text : List ℕ) (keyword : Keyword) (lists : List (List RawPoint)) (taken : TakesText scale text keyword lists) where
+    raw_form : Raw scale text keyword lists
+    raw_form = taken_raw scale text keyword lists taken
 
     pub number_reading : (list_all (are_whole scale) lists ≡ true → list_all (are_in_range scale) lists ≡ true → ⊥) → IsReading scale text (Err Number)
     number_reading bad = reading text (Err Number) (record {
@@ -97,8 +97,8 @@ module _ (scale : Scale) where
 
   -- the result for the raw text is the result of reading the text
   pub answered : (text : List ℕ) (read : Option RawText) (answer : Result Shape WktFault)
-      → IfSome read (λ raw. (lists : List (List RawPoint)) × TakesText text raw.keyword lists × AreReadOf scale raw.lists lists)
-      → IfNone read ((keyword : Keyword) (lists : List (List RawPoint)) → TakesText text keyword lists → ⊥)
+      → IfSome read (λ raw. (lists : List (List RawPoint)) × TakesText scale text raw.keyword lists × AreReadOf scale raw.lists lists)
+      → IfNone read ((keyword : Keyword) (lists : List (List RawPoint)) → TakesText scale text keyword lists → ⊥)
       → IsAnswerOf read answer → IsReading scale text answer
   answered text None (Ok s) some none h = absurd h
   answered text None (Err Text) some none h = text_reading text none

@@ -1,8 +1,8 @@
 -- The canonical text of a shape spells it.
 use Rattle.std.proofs.Common.{◌≡◌, ℕ, suc, ◌+◌, ◌*◌, ◌/◌, ◌%◌, ◌<◌, ◌^◌, Bool, true, false, cond, eqb, ℤ, pos, negsuc, List}
-use Rattle.std.proofs.Common.{[], ◌∷◌, ◌++◌, map, drop, refl, sym, ◌∙◌, ap, ap₂, subst, ◌⊎◌, ⊎_elim, inl, inr, arith}
-use Rattle.std.specs.Prelude.{◌==◌, IsTrue, codes, int_lt, ◌<ℤ◌}
-use Rattle.std.specs.List.{AllByRecursion, list_all}
+use Rattle.std.proofs.Common.{[], ◌∷◌, ◌++◌, length, map, refl, sym, ◌∙◌, ap, ap₂, subst, ◌⊎◌, ⊎_elim, inl, inr, arith}
+use Rattle.std.specs.Prelude.{codes, int_lt, ◌<ℤ◌}
+use Rattle.std.specs.List.{AllByRecursion}
 use Rattle.std.proofs.Math.Nat.{mod-lt, div-add-mod, div-le_self}
 use Rattle.std.specs.Fmt.{decimal}
 use Rattle.std.specs.Str.Parse.{AllDigits, digits_value}
@@ -17,15 +17,18 @@ use Rattle.wkt_core.specs.declared.keyword.Keyword.{Keyword}
 use Rattle.wkt_core.specs.declared.keyword.Keyword.TheVariants.{Point, LineString, Polygon}
 use Rattle.wkt_core.specs.declared.position.Position.{Position}
 use Rattle.wkt_core.specs.declared.scale.Scale.{Scale}
-use Rattle.wkt_core.specs.Scales.{digits_of}
+use Rattle.wkt_core.specs.declared.scale.Rounding.{Rounding}
+use Rattle.wkt_core.specs.declared.scale.Rounding.TheVariants.{Exact, Nearest}
+use Rattle.wkt_core.specs.Scales.{digits_of, rounding_of}
 use Rattle.wkt_core.specs.Canonical.{decimals, fraction, amount, number, pair, listed, canonical}
-use Rattle.wkt_core.specs.Grammar.{Numeral, RawPoint, Blanks, Digits, Sign, Number, PointText, Listed, PointList, Body, Word, Raw}
+use Rattle.wkt_core.specs.Grammar.{Numeral, RawPoint, Blanks, Digits, Sign, IsTaken, Written, Number, PointText, Listed, PointList, Body, Word, Raw}
 use Rattle.wkt_core.specs.Drawing.{corner, corners, Draws}
 use Rattle.wkt_core.specs.DrawnBefore.{DrewBefore}
-use Rattle.wkt_core.specs.Spelling.{kept, value, IsGood, HasGoodNumbers, position, Spells}
+use Rattle.wkt_core.specs.Spelling.{kept, signed, is_whole_by, units_by, value, IsGood, HasGoodNumbers, position, Spells}
 use Rattle.wkt_core.proofs.DrawnLemmas.{drawn_still}
-use Rattle.wkt_core.proofs.FractionLemmas.{power_pos, decimals_kept, decimals_value, fraction_printed}
+use Rattle.wkt_core.proofs.FractionLemmas.{power_pos, decimals_digits, decimals_kept, decimals_value, fraction_printed}
 use Rattle.wkt_core.proofs.NumberLemmas.{digits_value_after-append}
+use Rattle.wkt_core.proofs.RoundedLemmas.{whole_units}
 
 -- ---- numbers
 
@@ -41,8 +44,17 @@ in_word_below n h = omega (arith, ints)
 
 -- ---- an amount of units
 
-amount_printed : (k n : ℕ) (negative : Bool) (s : List ℕ) → Sign negative s → n < 2 ^ 64
-    → Number (record { negative = negative; digits = decimal (n / 10 ^ k); decimals = decimals k (n % 10 ^ k) }) (s ++ amount k n)
+-- n units of 10^-k as they are printed
+abbrev printed : Bool → ℕ → ℕ → Numeral
+printed negative k n = record {
+  negative = negative;
+  digits = decimal (n / 10 ^ k);
+  decimals = decimals k (n % 10 ^ k);
+  lowers = false;
+  exponent = [];
+}
+
+amount_printed : (k n : ℕ) (negative : Bool) (s : List ℕ) → Sign negative s → n < 2 ^ 64 → Written (printed negative k n) (s ++ amount k n)
 amount_printed k n negative s h small =
     let whole = n / 10 ^ k in
     let d = decimal_is_IsNumeral whole (omega (arith, div-le_self n (10 ^ k))) in
@@ -53,12 +65,27 @@ amount_printed k n negative s h small =
       second = record {
         front = decimal whole;
         back = fraction k (n % 10 ^ k);
-        first = (d.0.0, digits_are (decimal whole) d.0.1, refl);
-        second = fraction_printed k (n % 10 ^ k) (mod-lt n (power_pos k));
+        first = (digits_are (decimal whole) d.0.1, refl);
+        second = record {
+          front = fraction k (n % 10 ^ k);
+          back = [];
+          first = fraction_printed k (n % 10 ^ k) (mod-lt n (power_pos k));
+          second = inl (refl, refl, refl);
+          joined = sym (append-nil (fraction k (n % 10 ^ k)));
+        };
         joined = refl;
       };
       joined = refl;
     }
+
+some_join : (ds es : List ℕ) → 0 < length ds → 0 < length (ds ++ es)
+some_join [] es some = absurd (omega arith)
+some_join (d ∷ ds) es some = omega arith
+
+amount_taken : (rounding : Rounding) (negative : Bool) (k n : ℕ) → n < 2 ^ 64 → IsTaken rounding (printed negative k n)
+amount_taken Exact negative k n small = ((decimal_is_IsNumeral (n / 10 ^ k) (omega (arith, div-le_self n (10 ^ k)))).0.0, refl)
+amount_taken Nearest negative k n small =
+    some_join (decimal (n / 10 ^ k)) _ (decimal_is_IsNumeral (n / 10 ^ k) (omega (arith, div-le_self n (10 ^ k)))).0.0
 
 amount_value : (k n : ℕ) → n < 2 ^ 64 → digits_value 10 (decimal (n / 10 ^ k) ++ kept k (decimals k (n % 10 ^ k))) ≡ n
 amount_value k n small =
@@ -70,39 +97,46 @@ amount_value k n small =
     ∙ ap (λ v. v * 10 ^ k + part) d.1
     ∙ omega (arith, div-add-mod n (10 ^ k))
 
+whole_printed : (rounding : Rounding) (negative : Bool) (k n : ℕ) → is_whole_by rounding k (printed negative k n) ≡ true
+whole_printed Exact negative k n = rw (decimals_kept k (n % 10 ^ k) (mod-lt n (power_pos k))) refl
+whole_printed Nearest negative k n = refl
+
+units_printed : (rounding : Rounding) (negative : Bool) (k n : ℕ) → n < 2 ^ 64 → units_by rounding k (printed negative k n) ≡ n
+units_printed Exact negative k n small = amount_value k n small
+units_printed Nearest negative k n small =
+    let d = decimal_is_IsNumeral (n / 10 ^ k) (omega (arith, div-le_self n (10 ^ k))) in
+    whole_units k (printed negative k n) (digits_are _ d.0.1) (decimals_digits k (n % 10 ^ k) (mod-lt n (power_pos k))) refl
+    (whole_printed Exact negative k n) ∙ amount_value k n small
+
 module _ (scale : Scale) where
   -- ---- numbers
 
   -- a number as it is printed
   numeral : ℤ → Numeral
-  numeral (pos n) = record {
-    negative = false;
-    digits = decimal (n / 10 ^ digits_of scale);
-    decimals = decimals (digits_of scale) (n % 10 ^ digits_of scale);
-  }
-  numeral (negsuc n) = record {
-    negative = true;
-    digits = decimal (suc n / 10 ^ digits_of scale);
-    decimals = decimals (digits_of scale) (suc n % 10 ^ digits_of scale);
-  }
+  numeral (pos n) = printed false (digits_of scale) n
+  numeral (negsuc n) = printed true (digits_of scale) (suc n)
 
-  number_printed : (z : ℤ) → IsCoordinate z → Number (numeral z) (number scale z)
+  number_printed : (z : ℤ) → IsCoordinate z → Number scale (numeral z) (number scale z)
   unfolding numeral
-  number_printed (pos n) h = amount_printed (digits_of scale) n false [] (inl refl) (in_word n h)
-  number_printed (negsuc n) h = amount_printed (digits_of scale) (suc n) true (codes "-") refl (in_word_below n h)
+  number_printed (pos n) h = (
+    amount_taken (rounding_of scale) false (digits_of scale) n (in_word n h),
+    amount_printed (digits_of scale) n false [] (inl refl) (in_word n h),
+  )
+  number_printed (negsuc n) h = (
+    amount_taken (rounding_of scale) true (digits_of scale) (suc n) (in_word_below n h),
+    amount_printed (digits_of scale) (suc n) true (codes "-") refl (in_word_below n h),
+  )
 
   value_printed : (z : ℤ) → IsCoordinate z → value scale (numeral z) ≡ z
   unfolding numeral
-  value_printed (pos n) h = ap pos (amount_value (digits_of scale) n (in_word n h))
-  value_printed (negsuc n) h = rw (amount_value (digits_of scale) (suc n) (in_word_below n h)) refl
-
-  all_kept : (n : ℕ) → IsTrue (list_all (λ d. d == 48) (drop (digits_of scale) (decimals (digits_of scale) (n % 10 ^ digits_of scale))))
-  all_kept n = rw (decimals_kept (digits_of scale) (n % 10 ^ digits_of scale) (mod-lt n (power_pos (digits_of scale)))) refl
+  value_printed (pos n) h = ap pos (units_printed (rounding_of scale) false (digits_of scale) n (in_word n h))
+  value_printed (negsuc n) h =
+      ap (signed true) (units_printed (rounding_of scale) true (digits_of scale) (suc n) (in_word_below n h))
 
   good_printed : (z : ℤ) → IsCoordinate z → IsGood scale (numeral z)
   unfolding numeral
-  good_printed (pos n) h = record { whole = all_kept n; in_range = rw (value_printed (pos n) h) h }
-  good_printed (negsuc n) h = record { whole = all_kept (suc n); in_range = rw (value_printed (negsuc n) h) h }
+  good_printed (pos n) h = record { whole = whole_printed (rounding_of scale) false (digits_of scale) n; in_range = rw (value_printed (pos n) h) h }
+  good_printed (negsuc n) h = record { whole = whole_printed (rounding_of scale) true (digits_of scale) (suc n); in_range = rw (value_printed (negsuc n) h) h }
 
   -- ---- points
 
@@ -112,7 +146,7 @@ module _ (scale : Scale) where
   pub raw : Position → RawPoint
   raw p = record { x = numeral p.x; y = numeral p.y }
 
-  pub point_printed : (p : Position) → InRange p → PointText (raw p) (pair scale p)
+  pub point_printed : (p : Position) → InRange p → PointText scale (raw p) (pair scale p)
   unfolding raw
   point_printed p h = record {
     front = number scale p.x;
@@ -136,7 +170,7 @@ module _ (scale : Scale) where
   AllInRange ps = AllByRecursion InRange ps
 
   points_printed : (p : Position) (ps : List Position) (w : List ℕ) → AllInRange (p ∷ ps) → Blanks w
-      → Listed PointText (map raw (p ∷ ps)) (w ++ (listed scale (p ∷ ps) ++ 41 ∷ []))
+      → Listed (PointText scale) (map raw (p ∷ ps)) (w ++ (listed scale (p ∷ ps) ++ 41 ∷ []))
   unfolding AllInRange
   points_printed p [] w h blank = record {
     front = w;
@@ -177,7 +211,7 @@ module _ (scale : Scale) where
     joined = refl;
   }
 
-  list_printed : (p : Position) (ps : List Position) → AllInRange (p ∷ ps) → PointList (map raw (p ∷ ps)) (40 ∷ (listed scale (p ∷ ps) ++ 41 ∷ []))
+  list_printed : (p : Position) (ps : List Position) → AllInRange (p ∷ ps) → PointList scale (map raw (p ∷ ps)) (40 ∷ (listed scale (p ∷ ps) ++ 41 ∷ []))
   list_printed p ps h = record {
     front = codes
         "(";
@@ -188,7 +222,7 @@ module _ (scale : Scale) where
   }
 
   ring_printed : (p : Position) (ps : List Position) → AllInRange (p ∷ ps)
-      → Body Polygon (map raw (p ∷ ps) ∷ []) (40 ∷ 40 ∷ (listed scale (p ∷ ps) ++ 41 ∷ 41 ∷ []))
+      → Body scale Polygon (map raw (p ∷ ps) ∷ []) (40 ∷ 40 ∷ (listed scale (p ∷ ps) ++ 41 ∷ 41 ∷ []))
   ring_printed p ps h =
       let list = 40 ∷ (listed scale (p ∷ ps) ++ 41 ∷ []) in
       record {
@@ -212,8 +246,8 @@ module _ (scale : Scale) where
       }
 
   -- a keyword, a space and the text after it
-  text_printed : (keyword : Keyword) (lists : List (List RawPoint)) (word body : List ℕ) → Word keyword word → Body keyword lists body
-      → Raw (word ++ 32 ∷ body) keyword lists
+  text_printed : (keyword : Keyword) (lists : List (List RawPoint)) (word body : List ℕ) → Word keyword word → Body scale keyword lists body
+      → Raw scale (word ++ 32 ∷ body) keyword lists
   text_printed keyword lists word body h b = record {
     front = [];
     back = word ++ 32 ∷ body;
@@ -246,7 +280,7 @@ module _ (scale : Scale) where
   good_points [] h = tt
   good_points (p ∷ ps) h = (good_point p h.0, good_points ps h.1)
 
-  spelled_by : (text : List ℕ) (keyword : Keyword) (ps : List Position) (s : Shape) → AllInRange ps → Raw text keyword (map raw ps ∷ [])
+  spelled_by : (text : List ℕ) (keyword : Keyword) (ps : List Position) (s : Shape) → AllInRange ps → Raw scale text keyword (map raw ps ∷ [])
       → DrewBefore keyword ps s → Spells scale text s
   spelled_by text keyword ps s h r f = record {
     keyword = keyword;

@@ -1,16 +1,14 @@
 -- Numbers that are whole and in range, and reading lists of them.
-use Rattle.std.proofs.Common.{◌≡◌, ℕ, ◌≤◌, Bool, true, false, List, [], ◌∷◌, ◌++◌, cond, Option, Some, None, refl, arith}
+use Rattle.std.proofs.Common.{◌≡◌, ℕ, ◌≤◌, Bool, true, false, List, [], ◌∷◌, cond, Option, Some, None, refl, arith}
 use Rattle.std.specs.Prelude.{ℤ, nat_le, is_some}
 use Rattle.std.specs.List.{list_all, AllByRecursion}
-use Rattle.std.specs.Str.Parse.{digits_value}
 use Rattle.std.proofs.lemmas.Bool.{false≢true}
 use Rattle.std.proofs.lemmas.Bool.Decides.{nat_tests}
 use Rattle.std.proofs.lemmas.Int.{ints}
 use Rattle.geom_core.specs.Shapes.{IsCoordinate, greatest_coordinate}
 use Rattle.wkt_core.specs.declared.scale.Scale.{Scale}
 use Rattle.wkt_core.specs.Grammar.{Numeral, RawPoint}
-use Rattle.wkt_core.specs.Scales.{digits_of}
-use Rattle.wkt_core.specs.Spelling.{kept, signed, value, HasGoodNumbers, AllNumbersGood}
+use Rattle.wkt_core.specs.Spelling.{signed, units, value, HasGoodNumbers, AllNumbersGood}
 use Rattle.wkt_core.specs.NumberSteps.{number_read}
 use Rattle.wkt_core.specs.PointSteps.{position_from, point_read}
 use Rattle.wkt_core.specs.ReadLists.{are_whole, are_in_range}
@@ -39,18 +37,15 @@ some_both (Some x) None h k = k
 some_both None y h k = h
 
 module _ (scale : Scale) where
-  abbrev total : Numeral → ℕ
-  total n = digits_value 10 (n.digits ++ kept (digits_of scale) n.decimals)
-
   value_in_range : (n : Numeral) → is_some (number_read scale n).value ≡ true → IsCoordinate (value scale n)
   value_in_range n h =
       let test = some_if _ _ h in
-      in_range n.negative (total n) (grind (arith, nat_tests))
+      in_range n.negative (units scale n) (grind (arith, nat_tests))
 
   in_range_value : (n : Numeral) → IsCoordinate (value scale n) → is_some (number_read scale n).value ≡ true
   in_range_value n h =
-      let small : total n ≤ greatest_coordinate = range_in n.negative (total n) h in
-      let test : nat_le (total n) greatest_coordinate ≡ true = grind (arith, nat_tests) in
+      let small : units scale n ≤ greatest_coordinate = range_in n.negative (units scale n) h in
+      let test : nat_le (units scale n) greatest_coordinate ≡ true = grind (arith, nat_tests) in
       rw test refl
 
   point_good : (p : RawPoint) → (point_read scale p).whole ≡ true → is_some (point_read scale p).position ≡ true → HasGoodNumbers scale p

@@ -1,5 +1,6 @@
 pub mod NumberLemmas
 pub mod FractionLemmas
+pub mod RoundedLemmas
 pub mod ItemLemmas
 pub mod FrontLemmas
 pub mod PointLemmas
@@ -20,4 +21,5 @@ pub mod GoodLemmas
 pub mod AnswerLemmas
 pub mod CanonicalLemmas
 pub mod PrintLemmas
+pub mod PlainLemmas
 pub mod MigrationLemmas

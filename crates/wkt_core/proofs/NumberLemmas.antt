@@ -10,7 +10,8 @@ use Rattle.std.proofs.lemmas.Bool.Decides.{nat_tests}
 use Rattle.wkt_core.specs.declared.number.ReadNumber.{ReadNumber}
 use Rattle.wkt_core.specs.declared.scale.Scale.{Scale}
 use Rattle.wkt_core.specs.Grammar.{IsDigit}
-use Rattle.wkt_core.specs.Scales.{digits_of}
+use Rattle.wkt_core.specs.declared.scale.Rounding.TheVariants.{Exact}
+use Rattle.wkt_core.specs.Scales.{digits_of, rounding_of}
 use Rattle.wkt_core.specs.Spelling.{kept}
 use Rattle.wkt_core.specs.NumberSteps.{digits_at, after_digits, sign_at, decimals_at, number_at, number_answer, IsCapped, ranged}
 
@@ -98,25 +99,26 @@ ranged_capped negative sum total (inr h) = grind (arith, nat_tests)
 
 -- ---- a number with its fraction
 
--- the result of reading the number, from those of its parts
-pub number_answered : (scale : Scale) (text unsigned rest behind : List ℕ) (negative whole : Bool) (part units : ℕ) (value : Option ℤ)
-    → negative ≡ (sign_at text).0 → unsigned ≡ (sign_at text).1 → 1 ≤ length unsigned → 48 ≤ get_or unsigned 0 0 → get_or unsigned 0 0 < 58
-    → IsCapped part (digits_value 10 (digits_at unsigned)) → rest ≡ after_digits unsigned
-    → ((total : ℕ) → IsCapped part total → IsCapped units (digits_value_after 10 total (kept (digits_of scale) (decimals_at rest).0)))
-    → whole ≡ list_all (λ d. d == 48) (drop (digits_of scale) (decimals_at rest).0) → behind ≡ (decimals_at rest).1 → value ≡ ranged negative units
-    → ◌≡◌ {A = Option (ReadNumber × List ℕ)} (Some (record { value = value; whole = whole }, behind)) (number_answer scale (number_at text))
-number_answered scale text [] rest behind negative whole part units value n u some low high p r k w b v = absurd (omega arith)
-number_answered scale text (d ∷ ds) rest behind negative whole part units value n u some low high p r k w b v =
-    let digit : is_ascii_digit d ≡ true = grind (arith, nat_tests) in
-    let front : digits_at (d ∷ ds) ≡ d ∷ digits_at ds = rw digit refl in
-    let after : rest ≡ after_digits ds = rw digit at r in
-    let decimals = kept (digits_of scale) (decimals_at (after_digits ds)).0 in
-    let capped : IsCapped units (digits_value_after 10 (digits_value 10 (d ∷ digits_at ds)) decimals) =
-    rw after at (k (digits_value 10 (d ∷ digits_at ds)) (rw front at p)) in
-    let joined : digits_value_after 10 (digits_value 10 (d ∷ digits_at ds)) decimals ≡ digits_value 10 ((d ∷ digits_at ds) ++ decimals) =
-    sym (digits_value_after-append 0 (d ∷ digits_at ds) decimals) in
-    let same_value : value ≡ ranged negative (digits_value 10 ((d ∷ digits_at ds) ++ decimals)) =
-    v ∙ ranged_capped negative units _ (rw joined at capped) in
-    let same_whole : whole ≡ list_all (λ d. d == 48) (drop (digits_of scale) (decimals_at (after_digits ds)).0) = rw after at w in
-    let same_behind : behind ≡ (decimals_at (after_digits ds)).1 = rw after at b in
-    rw (← u, ← n, digit) (λ i. Some (record { value = same_value i; whole = same_whole i }, same_behind i))
+module _ (scale : Scale) (exact : rounding_of scale ≡ Exact) where
+  -- the result of reading the number, from those of its parts
+  pub number_answered : (text unsigned rest behind : List ℕ) (negative whole : Bool) (part units : ℕ) (value : Option ℤ)
+      → negative ≡ (sign_at text).0 → unsigned ≡ (sign_at text).1 → 1 ≤ length unsigned → 48 ≤ get_or unsigned 0 0 → get_or unsigned 0 0 < 58
+      → IsCapped part (digits_value 10 (digits_at unsigned)) → rest ≡ after_digits unsigned
+      → ((total : ℕ) → IsCapped part total → IsCapped units (digits_value_after 10 total (kept (digits_of scale) (decimals_at rest).0)))
+      → whole ≡ list_all (λ d. d == 48) (drop (digits_of scale) (decimals_at rest).0) → behind ≡ (decimals_at rest).1 → value ≡ ranged negative units
+      → ◌≡◌ {A = Option (ReadNumber × List ℕ)} (Some (record { value = value; whole = whole }, behind)) (number_answer scale (number_at scale text))
+  number_answered text [] rest behind negative whole part units value n u some low high p r k w b v = absurd (omega arith)
+  number_answered text (d ∷ ds) rest behind negative whole part units value n u some low high p r k w b v =
+      let digit : is_ascii_digit d ≡ true = grind (arith, nat_tests) in
+      let front : digits_at (d ∷ ds) ≡ d ∷ digits_at ds = rw digit refl in
+      let after : rest ≡ after_digits ds = rw digit at r in
+      let decimals = kept (digits_of scale) (decimals_at (after_digits ds)).0 in
+      let capped : IsCapped units (digits_value_after 10 (digits_value 10 (d ∷ digits_at ds)) decimals) =
+      rw after at (k (digits_value 10 (d ∷ digits_at ds)) (rw front at p)) in
+      let joined : digits_value_after 10 (digits_value 10 (d ∷ digits_at ds)) decimals ≡ digits_value 10 ((d ∷ digits_at ds) ++ decimals) =
+      sym (digits_value_after-append 0 (d ∷ digits_at ds) decimals) in
+      let same_value : value ≡ ranged negative (digits_value 10 ((d ∷ digits_at ds) ++ decimals)) =
+      v ∙ ranged_capped negative units _ (rw joined at capped) in
+      let same_whole : whole ≡ list_all (λ d. d == 48) (drop (digits_of scale) (decimals_at (after_digits ds)).0) = rw after at w in
+      let same_behind : behind ≡ (decimals_at (after_digits ds)).1 = rw after at b in
+      rw (exact, ← u, ← n, digit) (λ i. Some (record { value = same_value i; whole = same_whole i }, same_behind i))

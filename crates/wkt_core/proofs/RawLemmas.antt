@@ -22,7 +22,7 @@ use Rattle.wkt_core.proofs.WalkLemmas.{walk_drawn, drawn_walk}
 
 module _ (scale : Scale) where
   -- the text of a point has one
-  alone : (keyword : Keyword) (ps : List RawPoint) (text rest : List ℕ) → TakesBody keyword text (ps ∷ []) rest → IsAlone keyword (map (position scale) ps)
+  alone : (keyword : Keyword) (ps : List RawPoint) (text rest : List ℕ) → TakesBody scale keyword text (ps ∷ []) rest → IsAlone keyword (map (position scale) ps)
   alone Point [] text rest h = absurd h
   alone Point (p ∷ []) text rest h = tt
   alone Point (p ∷ q ∷ ps) text rest h = absurd h
@@ -30,7 +30,7 @@ module _ (scale : Scale) where
   alone Polygon ps text rest h = tt
 
   pub read_forms : (keyword : Keyword) (read : ReadLists) (text : List ℕ) (lists : List (List RawPoint)) (s : Shape) → IsTrue read.alone
-      → IsDrawnBy keyword read.first.walk.turns.items read.first.walk.last s → TakesText text keyword lists → AreReadOf scale read lists
+      → IsDrawnBy keyword read.first.walk.turns.items read.first.walk.last s → TakesText scale text keyword lists → AreReadOf scale read lists
       → IsTrue (list_all (are_in_range scale) lists) → Forms keyword (positions scale lists) s
   read_forms keyword read text [] s a h (m, e, word, body, end) r range = absurd r.alone
   read_forms keyword read text (ps ∷ []) s a h (m, e, word, body, end) r range =
@@ -51,13 +51,13 @@ module _ (scale : Scale) where
 -- the shape that the walk along the only list forms, or none
 module _ (keyword : Keyword) (read : ReadLists) (walk : Walk) (r : Option Shape) (stands : IsTrue read.alone) (same : walk ≡ read.first.walk) where
   pub some_forms : IfSome r (λ s. IsDrawnBy keyword walk.turns.items walk.last s)
-      → IfSome r (λ s. (scale : Scale) (text : List ℕ) (lists : List (List RawPoint)) → TakesText text keyword lists → AreReadOf scale read lists
+      → IfSome r (λ s. (scale : Scale) (text : List ℕ) (lists : List (List RawPoint)) → TakesText scale text keyword lists → AreReadOf scale read lists
       → IsTrue (list_all (are_in_range scale) lists) → Forms keyword (positions scale lists) s)
   some_forms drawn = IfSome_then r drawn (λ s h scale text lists taken is range.
       read_forms scale keyword read text lists s stands (subst (λ w. IsDrawnBy keyword w.turns.items w.last s) same h) taken is range)
 
   pub none_forms : IfNone r ((s : Shape) → IsDrawnBy keyword walk.turns.items walk.last s → ⊥)
-      → IfNone r ((scale : Scale) (text : List ℕ) (lists : List (List RawPoint)) (s : Shape) → TakesText text keyword lists → AreReadOf scale read lists
+      → IfNone r ((scale : Scale) (text : List ℕ) (lists : List (List RawPoint)) (s : Shape) → TakesText scale text keyword lists → AreReadOf scale read lists
       → IsTrue (list_all (are_in_range scale) lists) → Forms keyword (positions scale lists) s → ⊥)
   none_forms drawn = none_weaker r drawn (λ none scale text lists s taken is range h.
       none s (subst (λ w. IsDrawnBy keyword w.turns.items w.last s) (sym same) (forms_read scale keyword read lists s is range h)))

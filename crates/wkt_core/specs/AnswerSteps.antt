@@ -19,14 +19,14 @@ HasGoodNumbers raw = IsTrue raw.lists.whole × IsTrue raw.lists.in_range
 -- whichever lists were read with this result, with numbers in range, their points form the shape
 abbrev pub Draws : RawText → Shape → Type 0
 Draws raw s = (scale : Scale) (text : List ℕ) (lists : List (List RawPoint))
-    → TakesText text raw.keyword lists → AreReadOf scale raw.lists lists
+    → TakesText scale text raw.keyword lists → AreReadOf scale raw.lists lists
     → IsTrue (list_all (are_in_range scale) lists)
     → Forms raw.keyword (positions scale lists) s
 
 -- the same, but they form no shape
 abbrev pub DrawsNone : RawText → Type 0
 DrawsNone raw = (scale : Scale) (text : List ℕ) (lists : List (List RawPoint)) (s : Shape)
-    → TakesText text raw.keyword lists → AreReadOf scale raw.lists lists
+    → TakesText scale text raw.keyword lists → AreReadOf scale raw.lists lists
     → IsTrue (list_all (are_in_range scale) lists)
     → Forms raw.keyword (positions scale lists) s → ⊥
 

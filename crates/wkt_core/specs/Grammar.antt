@@ -6,13 +6,19 @@ use Rattle.std.specs.List.{AllByRecursion}
 use Rattle.std.specs.Char.{is_ascii_digit, to_ascii_lowercase}
 use Rattle.wkt_core.specs.declared.keyword.Keyword.{Keyword}
 use Rattle.wkt_core.specs.declared.keyword.Keyword.TheVariants.{Point, LineString, Polygon}
+use Rattle.wkt_core.specs.declared.scale.Rounding.{Rounding}
+use Rattle.wkt_core.specs.declared.scale.Rounding.TheVariants.{Exact, Nearest}
+use Rattle.wkt_core.specs.declared.scale.Scale.{Scale}
+use Rattle.wkt_core.specs.Scales.{rounding_of}
 
--- a number as it is written: whether a minus sign precedes it, its digits before the dot, and those
--- after it, as bytes
+-- a number as it is written: whether a minus sign precedes it, its digits before the dot and those
+-- after it, whether a minus sign precedes its exponent, and the digits of this, as bytes
 pub record Numeral : Type 0 where
   pub negative : Bool
   pub digits : List ℕ
   pub decimals : List ℕ
+  pub lowers : Bool
+  pub exponent : List ℕ
 
 -- a point as it is written
 pub record RawPoint : Type 0 where
@@ -59,20 +65,44 @@ abbrev pub Sign : Bool → List ℕ → Type 0
 Sign true text = text ≡ codes "-"
 Sign false text = (text ≡ []) ⊎ (text ≡ codes "+")
 
+-- these digits, if there are any
+abbrev pub TheDigits : List ℕ → List ℕ → Type 0
+TheDigits digits text = Digits digits × (text ≡ digits)
+
 -- one digit or more
 abbrev pub SomeDigits : List ℕ → List ℕ → Type 0
-SomeDigits digits text = (0 < length digits) × Digits digits × (text ≡ digits)
+SomeDigits digits text = (0 < length digits) × TheDigits digits text
 
 -- a dot and any number of digits; if there are no digits, the dot may be missing
 abbrev pub Decimals : List ℕ → List ℕ → Type 0
 Decimals digits text =
     Digits digits × (((digits ≡ []) × (text ≡ [])) ⊎ (text ≡ codes "." ++ digits))
 
-abbrev pub Number : Numeral → List ℕ → Type 0
-Number n = Sign n.negative then SomeDigits n.digits then Decimals n.decimals
+-- the letter before an exponent
+abbrev pub Letter : List ℕ → Type 0
+Letter text = (text ≡ codes "e") ⊎ (text ≡ codes "E")
 
-abbrev pub PointText : RawPoint → List ℕ → Type 0
-PointText p = Number p.x then Gap then Number p.y
+-- the letter, a sign and the digits of an exponent; or nothing
+abbrev pub Exponent : Bool → List ℕ → List ℕ → Type 0
+Exponent lowers digits text =
+    ((lowers ≡ false) × (digits ≡ []) × (text ≡ []))
+    ⊎ (Letter then Sign lowers then SomeDigits digits) text
+
+-- a number has a digit before its dot and no exponent; one that is rounded has a digit anywhere
+abbrev pub IsTaken : Rounding → Numeral → Type 0
+IsTaken Exact n = (0 < length n.digits) × (n.exponent ≡ [])
+IsTaken Nearest n = 0 < length (n.digits ++ n.decimals)
+
+abbrev pub Written : Numeral → List ℕ → Type 0
+Written n =
+    Sign n.negative then TheDigits n.digits then Decimals n.decimals
+    then Exponent n.lowers n.exponent
+
+abbrev pub Number : Scale → Numeral → List ℕ → Type 0
+Number scale n text = IsTaken (rounding_of scale) n × Written n text
+
+abbrev pub PointText : Scale → RawPoint → List ℕ → Type 0
+PointText scale p = Number scale p.x then Gap then Number scale p.y
 
 -- one item or more, with commas between them and a closing parenthesis after them
 abbrev pub Listed : {X : Type 0} → (X → List ℕ → Type 0) → List X → List ℕ → Type 0
@@ -84,15 +114,15 @@ Listed Item (x ∷ y ∷ xs) text =
 abbrev pub InParentheses : {X : Type 0} → (X → List ℕ → Type 0) → List X → List ℕ → Type 0
 InParentheses Item xs = Exactly (codes "(") then Listed Item xs
 
-abbrev pub PointList : List RawPoint → List ℕ → Type 0
-PointList ps = InParentheses PointText ps
+abbrev pub PointList : Scale → List RawPoint → List ℕ → Type 0
+PointList scale ps = InParentheses (PointText scale) ps
 
 -- the text after a keyword: one point, a list, or a list of lists
-abbrev pub Body : Keyword → List (List RawPoint) → List ℕ → Type 0
-Body Point ((p ∷ []) ∷ []) = PointList (p ∷ [])
-Body LineString (ps ∷ []) = PointList ps
-Body Polygon lists = InParentheses PointList lists
-Body _ _ = λ _. ⊥
+abbrev pub Body : Scale → Keyword → List (List RawPoint) → List ℕ → Type 0
+Body scale Point ((p ∷ []) ∷ []) = PointList scale (p ∷ [])
+Body scale LineString (ps ∷ []) = PointList scale ps
+Body scale Polygon lists = InParentheses (PointList scale) lists
+Body _ _ _ = λ _. ⊥
 
 -- a keyword in lower case
 abbrev pub spelling : Keyword → List ℕ
@@ -104,7 +134,7 @@ spelling Polygon = codes "polygon"
 abbrev pub Word : Keyword → List ℕ → Type 0
 Word keyword text = map to_ascii_lowercase text ≡ spelling keyword
 
--- the text is a keyword with lists of points, by the grammar
-abbrev pub Raw : List ℕ → Keyword → List (List RawPoint) → Type 0
-Raw text keyword lists =
-    (Blanks then Word keyword then Blanks then Body keyword lists then Blanks) text
+-- the text is a keyword with lists of points, by the grammar of numbers at this scale
+abbrev pub Raw : Scale → List ℕ → Keyword → List (List RawPoint) → Type 0
+Raw scale text keyword lists =
+    (Blanks then Word keyword then Blanks then Body scale keyword lists then Blanks) text

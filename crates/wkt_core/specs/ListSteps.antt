@@ -2,6 +2,7 @@
 use Rattle.std.specs.Prelude.{◌≡◌, ℕ, List, [], ◌∷◌, Some}
 use Rattle.wkt_core.specs.declared.keyword.Keyword.{Keyword}
 use Rattle.wkt_core.specs.declared.keyword.Keyword.TheVariants.{Point, LineString, Polygon}
+use Rattle.wkt_core.specs.declared.scale.Scale.{Scale}
 use Rattle.wkt_core.specs.Grammar.{RawPoint, spelling}
 use Rattle.wkt_core.specs.TokenSteps.{skip, TakesLetters}
 use Rattle.wkt_core.specs.PointSteps.{point_at}
@@ -29,28 +30,28 @@ abbrev pub Enclosed : {X : Type 0} → Step X → List ℕ → List X → List �
 Enclosed Item text xs rest = (u : List ℕ) × (text ≡ 40 ∷ u) × Items Item xs u rest
 
 -- a point, a list of points and a list of lists at the start
-abbrev pub TakesPoint : List ℕ → RawPoint → List ℕ → Type 0
-TakesPoint text p rest = point_at text ≡ Some (p, rest)
+abbrev pub TakesPoint : Scale → List ℕ → RawPoint → List ℕ → Type 0
+TakesPoint scale text p rest = point_at scale text ≡ Some (p, rest)
 
-abbrev pub TakesPoints : List ℕ → List RawPoint → List ℕ → Type 0
-TakesPoints text ps rest = Enclosed TakesPoint text ps rest
+abbrev pub TakesPoints : Scale → List ℕ → List RawPoint → List ℕ → Type 0
+TakesPoints scale text ps rest = Enclosed (TakesPoint scale) text ps rest
 
-abbrev pub TakesLists : List ℕ → List (List RawPoint) → List ℕ → Type 0
-TakesLists text lists rest = Enclosed TakesPoints text lists rest
+abbrev pub TakesLists : Scale → List ℕ → List (List RawPoint) → List ℕ → Type 0
+TakesLists scale text lists rest = Enclosed (TakesPoints scale) text lists rest
 
 -- a keyword at the start
 abbrev pub TakesWord : List ℕ → Keyword → List ℕ → Type 0
 TakesWord text keyword rest = TakesLetters (spelling keyword) text rest
 
 -- the text after a keyword
-abbrev pub TakesBody : Keyword → List ℕ → List (List RawPoint) → List ℕ → Type 0
-TakesBody Point text ((p ∷ []) ∷ []) rest = TakesPoints text (p ∷ []) rest
-TakesBody LineString text (ps ∷ []) rest = TakesPoints text ps rest
-TakesBody Polygon text lists rest = TakesLists text lists rest
-TakesBody _ text _ rest = ⊥
+abbrev pub TakesBody : Scale → Keyword → List ℕ → List (List RawPoint) → List ℕ → Type 0
+TakesBody scale Point text ((p ∷ []) ∷ []) rest = TakesPoints scale text (p ∷ []) rest
+TakesBody scale LineString text (ps ∷ []) rest = TakesPoints scale text ps rest
+TakesBody scale Polygon text lists rest = TakesLists scale text lists rest
+TakesBody scale _ text _ rest = ⊥
 
 -- the whole text is a keyword with lists of points
-abbrev pub TakesText : List ℕ → Keyword → List (List RawPoint) → Type 0
-TakesText text keyword lists =
+abbrev pub TakesText : Scale → List ℕ → Keyword → List (List RawPoint) → Type 0
+TakesText scale text keyword lists =
     (m : List ℕ) × (e : List ℕ) × TakesWord (skip text) keyword m
-    × TakesBody keyword (skip m) lists e × (skip e ≡ [])
+    × TakesBody scale keyword (skip m) lists e × (skip e ≡ [])

@@ -13,11 +13,11 @@ abbrev pub ◌>>=◌ : {A B : Type 0} → Option A → (A → Option B) → Opti
 o >>= f = option_and_then f o
 
 -- two numbers with white space between them
-abbrev pub point_at : List ℕ → Option (RawPoint × List ℕ)
-point_at text =
-    number_at text >>= λ x.
+abbrev pub point_at : Scale → List ℕ → Option (RawPoint × List ℕ)
+point_at scale text =
+    number_at scale text >>= λ x.
     gap_at x.1 >>= λ rest.
-    number_at rest >>= λ y.
+    number_at scale rest >>= λ y.
     Some (record { x = x.0; y = y.0 }, y.1)
 
 -- the position with both coordinates

@@ -8,6 +8,6 @@ use Rattle.wkt_core.specs.Spelling.{Spells, HasNoRawForm, HasBadNumber, HasNoSha
 
 abbrev pub Reads : Scale → List ℕ → Result Shape WktFault → Type 0
 Reads scale text (Ok shape) = Spells scale text shape
-Reads scale text (Err Text) = HasNoRawForm text
+Reads scale text (Err Text) = HasNoRawForm scale text
 Reads scale text (Err Number) = HasBadNumber scale text
 Reads scale text (Err Form) = HasNoShape scale text

@@ -1,11 +1,14 @@
 -- The shapes of texts before coordinates had decimals, reached 10^12 and were read with points
 -- along a line or a side: numbers were integers of absolute value at most 10^9.
-use Rattle.std.specs.Prelude.{◌==◌, ◌≤ℤ◌, ℕ, ℤ, pos, neg_ℤ, List, [], ◌∷◌, IsTrue, map}
+use Rattle.std.specs.Prelude.{◌≡◌, ◌==◌, ◌≤ℤ◌, ℕ, ℤ, pos, neg_ℤ, List, [], ◌∷◌, IsTrue, map}
 use Rattle.std.specs.List.{AllByRecursion, list_all}
 use Rattle.std.specs.Str.Parse.{digits_value}
 use Rattle.geom_core.specs.declared.shape.Shape.{Shape}
 use Rattle.wkt_core.specs.declared.keyword.Keyword.{Keyword}
 use Rattle.wkt_core.specs.declared.position.Position.{Position}
+use Rattle.wkt_core.specs.declared.scale.Rounding.TheVariants.{Exact}
+use Rattle.wkt_core.specs.declared.scale.Scale.{Scale}
+use Rattle.wkt_core.specs.Scales.{rounding_of}
 use Rattle.wkt_core.specs.Grammar.{Numeral, RawPoint, Raw}
 use Rattle.wkt_core.specs.Spelling.{signed}
 use Rattle.wkt_core.specs.DrawnBefore.{DrewBefore}
@@ -29,10 +32,12 @@ HadGoodNumbers p = WasGood p.x × WasGood p.y
 abbrev pub position_before : RawPoint → Position
 position_before p = record { x = value_before p.x; y = value_before p.y }
 
--- a text of one list of points, with these numbers, that form the shape
+-- a text of one list of points, read without rounding, with these numbers, that form the shape
 pub record SpelledBefore (text : List ℕ) (s : Shape) : Type 0 where
   pub keyword : Keyword
   pub points : List RawPoint
-  pub raw : Raw text keyword (points ∷ [])
+  pub scale : Scale
+  pub exact : rounding_of scale ≡ Exact
+  pub raw : Raw scale text keyword (points ∷ [])
   pub good : AllByRecursion HadGoodNumbers points
   pub drew : DrewBefore keyword (map position_before points) s

@@ -1,6 +1,6 @@
 //! The laws of the texts.
 
-ghost use Rattle.std.specs.Prelude.{◌≡◌, List, ℕ};
+ghost use Rattle.std.specs.Prelude.{◌≡◌, ◌<◌, ◌≤◌, ◌+◌, ◌*◌, List, ℕ};
 ghost use Rattle.geom_core.specs.declared.shape.Shape.{Shape};
 ghost use Rattle.wkt_core.specs.declared.keyword.Keyword.{Keyword};
 ghost use Rattle.wkt_core.specs.declared.position.Position.{Position};
@@ -8,14 +8,16 @@ ghost use Rattle.wkt_core.specs.declared.scale.Scale.{Scale};
 ghost use Rattle.wkt_core.specs.Grammar.{RawPoint, Raw};
 ghost use Rattle.wkt_core.specs.Drawing.{Draws};
 ghost use Rattle.wkt_core.specs.DrawnBefore.{DrewBefore};
-ghost use Rattle.wkt_core.specs.Scales.{digits_of};
+ghost use Rattle.wkt_core.specs.declared.scale.Rounding.TheVariants.{Exact};
+ghost use Rattle.wkt_core.specs.Scales.{digits_of, rounding_of};
 ghost use Rattle.wkt_core.specs.SpelledBefore.{SpelledBefore};
-ghost use Rattle.wkt_core.specs.Spelling.{Spells};
+ghost use Rattle.wkt_core.specs.Spelling.{Spells, nearest};
 
-/// A text has at most one raw form, and spells at most one shape at a given scale.
+/// A text has at most one raw form and spells at most one shape, at a given scale.
 pub fn one_shape_law()
-    ensures one_raw_form { (text : List ℕ) (k l : Keyword) (xs ys : List (List RawPoint))
-        → Raw text k xs → Raw text l ys → (k ≡ l) × (xs ≡ ys) }
+    ensures one_raw_form { (scale : Scale) (text : List ℕ) (k l : Keyword)
+        (xs ys : List (List RawPoint)) → Raw scale text k xs → Raw scale text l ys
+        → (k ≡ l) × (xs ≡ ys) }
     ensures one_shape { (scale : Scale) (text : List ℕ) (s t : Shape)
         → Spells scale text s → Spells scale text t → s ≡ t }
 {}
@@ -33,4 +35,20 @@ pub fn widened_law()
 pub fn migration_law()
     ensures spelled_still { (scale : Scale) (text : List ℕ) (s : Shape)
         → digits_of scale ≡ 0 → SpelledBefore text s → Spells scale text s }
+{}
+
+/// A text that spells a shape at a scale without rounding spells it with rounding, too.
+#[tactic(auto, using(crate::proofs::PlainLemmas::spelled_alike))]
+pub fn rounding_law()
+    ensures spelled_alike { (exact scale : Scale) (text : List ℕ) (s : Shape)
+        → rounding_of exact ≡ Exact → digits_of scale ≡ digits_of exact
+        → Spells exact text s → Spells scale text s }
+{}
+
+/// The whole number that is read in place of a / b is at most half off, and half a one is rounded
+/// up.
+#[tactic(auto, using(crate::proofs::RoundedLemmas::nearest_by))]
+pub fn nearest_law()
+    ensures above { (a b : ℕ) → 0 < b → 2 * (nearest a b * b) ≤ 2 * a + b }
+    ensures below { (a b : ℕ) → 0 < b → 2 * a < 2 * (nearest a b * b) + b }
 {}

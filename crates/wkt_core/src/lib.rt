@@ -23,6 +23,15 @@
 //! | `POINT (1.250 -0.10)` | the point (125, -10) | `POINT (1.25 -0.1)` |
 //! | `POINT (-0.05 3)` | the point (-5, 300) | `POINT (-0.05 3)` |
 //! | `POINT (1.255 0)`, `POINT (10000000000.01 0)` | [`WktFault::Number`] | |
+//!
+//! At scale 2 with [`Rounding::Nearest`]:
+//!
+//! | Text | Read as | Printed as |
+//! |---|---|---|
+//! | `POINT (1.255 -0.005)` | the point (126, -1) | `POINT (1.26 -0.01)` |
+//! | `POINT (.5 1.5e-1)`, `POINT (5e-1 15E-2)` | the point (50, 15) | `POINT (0.5 0.15)` |
+//! | `POINT (10000000000.005 0)` | [`WktFault::Number`] | |
+//! | `POINT (. 0)`, `POINT (1e 0)`, `POINT (1e1.5 0)` | [`WktFault::Text`] | |
 #![tactic(auto)]
 
 mod fault;
@@ -36,15 +45,16 @@ mod printer;
 mod raw;
 mod read_list;
 mod reader;
+mod rounded;
 mod scale;
 mod token;
 mod walk;
 
 pub use fault::WktFault;
 pub use keyword::Keyword;
-pub use laws::{migration_law, one_shape_law, widened_law};
+pub use laws::{migration_law, nearest_law, one_shape_law, rounding_law, widened_law};
 pub use position::{Position, ReadPoint, read_point};
 pub use printer::{print, push_point};
 pub use reader::read;
-pub use scale::Scale;
+pub use scale::{Rounding, Scale};
 pub use token::{Next, read_next, skip_blanks, skip_symbol, skip_word};

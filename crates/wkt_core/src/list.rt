@@ -15,9 +15,10 @@ use crate::token::{Next, read_next, skip_blanks, skip_symbol};
 pub(crate) fn read_points<'a>(text: &'a [u8], scale: Scale, list: &mut ReadList) -> Option<&'a [u8]>
     requires { IsReadOf scale list.old [] }
     ensures some { IfSome result (λ rest.
-        (ps : List RawPoint) × TakesPoints text.now ps rest.now × IsReadOf scale list.new ps) }
+        (ps : List RawPoint) × TakesPoints scale text.now ps rest.now
+        × IsReadOf scale list.new ps) }
     ensures none { IfNone result
-        ((ps : List RawPoint) (rest : List ℕ) → TakesPoints text.now ps rest → ⊥) }
+        ((ps : List RawPoint) (rest : List ℕ) → TakesPoints scale text.now ps rest → ⊥) }
 {
     let mut rest = skip_symbol(text, b'(')?;
     loop {
@@ -41,9 +42,9 @@ pub(crate) fn read_one_point<'a>(
 ) -> Option<&'a [u8]>
     requires { IsReadOf scale list.old [] }
     ensures some { IfSome result (λ rest. (p : RawPoint)
-        × TakesPoints text.now (p ∷ []) rest.now × IsReadOf scale list.new (p ∷ [])) }
+        × TakesPoints scale text.now (p ∷ []) rest.now × IsReadOf scale list.new (p ∷ [])) }
     ensures none { IfNone result
-        ((p : RawPoint) (rest : List ℕ) → TakesPoints text.now (p ∷ []) rest → ⊥) }
+        ((p : RawPoint) (rest : List ℕ) → TakesPoints scale text.now (p ∷ []) rest → ⊥) }
 {
     let rest = skip_symbol(text, b'(')?;
     let (point, after) = read_point(skip_blanks(rest), scale)?;
@@ -61,9 +62,10 @@ pub(crate) fn read_lists<'a>(
 ) -> Option<&'a [u8]>
     requires { IsReadOf scale lists.old.first [] }
     ensures some { IfSome result (λ rest. (found : List (List RawPoint))
-        × TakesLists text.now found rest.now × AreReadOf scale lists.new found) }
+        × TakesLists scale text.now found rest.now × AreReadOf scale lists.new found) }
     ensures none { IfNone result
-        ((found : List (List RawPoint)) (rest : List ℕ) → TakesLists text.now found rest → ⊥) }
+        ((found : List (List RawPoint)) (rest : List ℕ)
+        → TakesLists scale text.now found rest → ⊥) }
 {
     let rest = skip_symbol(text, b'(')?;
     let first = skip_blanks(rest);

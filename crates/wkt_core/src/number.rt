@@ -5,17 +5,19 @@ ghost use Rattle.std.specs.Char.{digit_value};
 ghost use Rattle.std.specs.List.{list_all};
 ghost use Rattle.std.specs.Str.Parse.{digits_value, digits_value_after};
 ghost use Rattle.wkt_core.specs.Grammar.{IsDigit};
-ghost use Rattle.wkt_core.specs.Scales.{digits_of};
+ghost use Rattle.wkt_core.specs.declared.scale.Rounding.TheVariants.{Exact};
+ghost use Rattle.wkt_core.specs.Scales.{digits_of, rounding_of};
 ghost use Rattle.wkt_core.specs.Spelling.{kept};
 ghost use Rattle.wkt_core.specs.TokenSteps.{answer_view};
 ghost use Rattle.wkt_core.specs.NumberSteps.{digits_at, after_digits, sign_at, decimals_at};
 ghost use Rattle.wkt_core.specs.NumberSteps.{number_at, number_answer, ranged, IsCapped};
 
-use crate::scale::Scale;
+use crate::rounded::read_rounded;
+use crate::scale::{Rounding, Scale};
 use geom_core::LIMIT;
 
 /// The greatest absolute value of a coordinate.
-const LARGEST: u64 = LIMIT as u64;
+pub(crate) const LARGEST: u64 = LIMIT as u64;
 
 /// The number of digits that are read with one length check and no overflow check; their value
 /// fits.
@@ -32,7 +34,7 @@ pub(crate) struct ReadNumber {
 
 /// Whether the text starts with a minus sign, and the text after the sign.
 #[inline(always)]
-fn sign(text: &[u8]) -> (bool, &[u8])
+pub(crate) fn sign(text: &[u8]) -> (bool, &[u8])
     ensures negative { result.0 ≡ (sign_at text.now).0 }
     ensures rest { result.1.now ≡ (sign_at text.now).1 }
 {
@@ -48,7 +50,7 @@ fn sign(text: &[u8]) -> (bool, &[u8])
 /// The number with one more digit. All numbers greater than `LARGEST` are represented by one of
 /// them.
 #[inline(always)]
-fn with_digit(number: u64, digit: u8) -> u64
+pub(crate) fn with_digit(number: u64, digit: u8) -> u64
     requires { IsDigit digit }
     ensures { (total : ℕ)
         → IsCapped number total → IsCapped result (total * 10 + digit_value digit) }
@@ -171,7 +173,7 @@ fn units(whole_part: u64, scale: Scale, text: &[u8]) -> (u64, bool, &[u8])
 
 /// The number with this sign, if it is in range.
 #[inline(always)]
-fn signed_number(negative: bool, magnitude: u64) -> Option<i64>
+pub(crate) fn signed_number(negative: bool, magnitude: u64) -> Option<i64>
     ensures { result ≡ ranged negative magnitude }
 {
     if magnitude > LARGEST {
@@ -181,11 +183,12 @@ fn signed_number(negative: bool, magnitude: u64) -> Option<i64>
     Some(if negative { -number } else { number })
 }
 
-/// Reads the number at the start of a text, and returns it with the text after it, or `None` if
-/// there is no number.
+/// Reads the number at the start of a text without rounding, and returns it with the text after it,
+/// or `None` if there is no number.
 #[inline(always)]
-pub(crate) fn read_number(text: &[u8], scale: Scale) -> Option<(ReadNumber, &[u8])>
-    ensures { answer_view result ≡ number_answer scale (number_at text.now) }
+fn read_exact(text: &[u8], scale: Scale) -> Option<(ReadNumber, &[u8])>
+    requires { rounding_of scale ≡ Exact }
+    ensures { answer_view result ≡ number_answer scale (number_at scale text.now) }
 {
     let (negative, unsigned) = sign(text);
     match unsigned {
@@ -196,5 +199,17 @@ pub(crate) fn read_number(text: &[u8], scale: Scale) -> Option<(ReadNumber, &[u8
             Some((ReadNumber { value, whole }, rest))
         }
         _ => None,
+    }
+}
+
+/// Reads the number at the start of a text, and returns it with the text after it, or `None` if
+/// there is no number.
+#[inline(always)]
+pub(crate) fn read_number(text: &[u8], scale: Scale) -> Option<(ReadNumber, &[u8])>
+    ensures { answer_view result ≡ number_answer scale (number_at scale text.now) }
+{
+    match scale.rounding() {
+        Rounding::Exact => read_exact(text, scale),
+        Rounding::Nearest => read_rounded(text, scale),
     }
 }

@@ -61,7 +61,7 @@ fn point(x: ReadNumber, y: ReadNumber) -> ReadPoint
 /// there is no point.
 #[inline(always)]
 pub fn read_point(text: &[u8], scale: Scale) -> Option<(ReadPoint, &[u8])>
-    ensures { answer_view result ≡ point_answer scale (point_at text.now) }
+    ensures { answer_view result ≡ point_answer scale (point_at scale text.now) }
 {
     let (x, rest) = read_number(text, scale)?;
     let rest = skip_gap(rest)?;

@@ -36,9 +36,9 @@ impl RawText {
     ) -> Option<&'a [u8]>
         requires { IsReadOf scale lists.old.first [] }
         ensures some { IfSome result (λ rest. (found : List (List RawPoint))
-            × TakesBody keyword text.now found rest.now × AreReadOf scale lists.new found) }
+            × TakesBody scale keyword text.now found rest.now × AreReadOf scale lists.new found) }
         ensures none { IfNone result ((found : List (List RawPoint)) (rest : List ℕ)
-            → TakesBody keyword text.now found rest → ⊥) }
+            → TakesBody scale keyword text.now found rest → ⊥) }
     {
         match keyword {
             Keyword::Point => {
@@ -58,9 +58,9 @@ impl RawText {
     /// The keyword of the text and the positions of its lists, if the text is in the grammar.
     pub(crate) fn read(text: &[u8], scale: Scale) -> Option<RawText>
         ensures some { IfSome result (λ raw. (lists : List (List RawPoint))
-            × TakesText text.now raw.keyword lists × AreReadOf scale raw.lists lists) }
+            × TakesText scale text.now raw.keyword lists × AreReadOf scale raw.lists lists) }
         ensures none { IfNone result ((keyword : Keyword) (lists : List (List RawPoint))
-            → TakesText text.now keyword lists → ⊥) }
+            → TakesText scale text.now keyword lists → ⊥) }
     {
         let start = skip_blanks(text);
         let (keyword, rest) = Keyword::read(start)?;
@@ -103,12 +103,12 @@ impl RawText {
     pub(crate) fn shape(&self) -> Option<Shape>
         ensures some { IfSome result (λ s.
             (scale : Scale) (text : List ℕ) (lists : List (List RawPoint))
-            → TakesText text self.now.keyword lists → AreReadOf scale self.now.lists lists
+            → TakesText scale text self.now.keyword lists → AreReadOf scale self.now.lists lists
             → IsTrue (list_all (are_in_range scale) lists)
             → Forms self.now.keyword (positions scale lists) s) }
         ensures none { IfNone result
             ((scale : Scale) (text : List ℕ) (lists : List (List RawPoint)) (s : Shape)
-            → TakesText text self.now.keyword lists → AreReadOf scale self.now.lists lists
+            → TakesText scale text self.now.keyword lists → AreReadOf scale self.now.lists lists
             → IsTrue (list_all (are_in_range scale) lists)
             → Forms self.now.keyword (positions scale lists) s → ⊥) }
     {

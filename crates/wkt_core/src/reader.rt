@@ -21,10 +21,13 @@ use geom_core::Shape;
 /// 7.2), with the keyword in any ASCII case. White space (space, tab, carriage return, line feed)
 /// may be between any two tokens and at both ends, and must be between the two numbers of a point.
 /// A number has an optional sign, one digit or more, and an optional dot with any number of digits
-/// after it.
+/// after it. Where the scale has [`crate::Rounding::Nearest`], the digits may stand after the dot
+/// alone, and an exponent may follow: `e` or `E`, an optional sign, and one digit or more.
 ///
 /// The number is read in units of the scale, from its digits and the decimals of the scale: at
-/// scale 2, `1.250` is 125 units and `-0.1` is -10.
+/// scale 2, `1.250` is 125 units and `-0.1` is -10. With `Nearest` it is read as the nearest whole
+/// number of units, and half a unit is rounded away from zero, as PostgreSQL rounds a `numeric`: at
+/// scale 2, `1.255` is 126 units and `-1.255` is -126.
 ///
 /// A list may have any number of points and takes no memory. A point equal to the one before it
 /// is ignored.
@@ -32,8 +35,8 @@ use geom_core::Shape;
 /// # Errors
 /// - [`WktFault::Text`] if the bytes aren't a text of this grammar, in which a list may have any
 ///   number of points or lists of points.
-/// - [`WktFault::Number`] if some number has a digit other than 0 after the decimals of the scale,
-///   or is more than [`geom_core::LIMIT`] units from 0.
+/// - [`WktFault::Number`] if some number has a digit other than 0 after the decimals of the scale
+///   and isn't rounded, or is more than [`geom_core::LIMIT`] units from 0, once rounded.
 /// - [`WktFault::Form`] if a `LINESTRING` doesn't have two or more distinct points that go straight
 ///   along an axis, or if a `POLYGON` isn't a single closed ring that goes once around a rectangle
 ///   of positive width and height: through its four corners and any points within its sides, in
@@ -50,9 +53,9 @@ pub fn read(text: &[u8], scale: Scale) -> Result<Shape, WktFault>
 #[inline(always)]
 fn reading(text: &[u8], scale: Scale, read: Option<RawText>) -> Result<Shape, WktFault>
     requires some { IfSome read (λ raw. (lists : List (List RawPoint))
-        × TakesText text.now raw.keyword lists × AreReadOf scale raw.lists lists) }
+        × TakesText scale text.now raw.keyword lists × AreReadOf scale raw.lists lists) }
     requires none { IfNone read ((keyword : Keyword) (lists : List (List RawPoint))
-        → TakesText text.now keyword lists → ⊥) }
+        → TakesText scale text.now keyword lists → ⊥) }
     ensures { IsReading scale text.now result }
 {
     answer(read)

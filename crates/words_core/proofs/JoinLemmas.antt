@@ -77,7 +77,7 @@ scale_refused rows f Then h =
 pub scale_passed : (rows : List Row) (scale : Scale) (f : WordFault) (Then : Type 0)
     → IsScaleIn rows scale → digits_of scale ≤ most_digits → Then → NeedsScale rows f Then
 scale_passed rows scale f Then is few h =
-    needs_some (codes "scale") (number_at (codes "scale") rows) (digits_of scale) f _ is
+    needs_some (codes "scale") (number_at (codes "scale") rows) (digits_of scale) f _ is.digits
     (inr (few, h))
 
 -- ---- joins

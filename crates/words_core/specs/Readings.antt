@@ -22,7 +22,9 @@ use Rattle.relation_core.specs.declared.mask.MaskFault.{MaskFault}
 use Rattle.relation_core.specs.declared.mask.MaskFault.TheVariants as mask
 use Rattle.relation_core.specs.declared.relation.Relation.{Relation}
 use Rattle.wkt_core.specs.ScaleLimits.{most_digits}
-use Rattle.wkt_core.specs.Scales.{digits_of}
+use Rattle.wkt_core.specs.Scales.{digits_of, rounding_of}
+use Rattle.wkt_core.specs.declared.scale.Rounding.{Rounding}
+use Rattle.wkt_core.specs.declared.scale.Rounding.TheVariants.{Exact, Nearest}
 use Rattle.wkt_core.specs.declared.scale.Scale.{Scale}
 use Rattle.options_core.specs.Options.{workers_of, batch_of, cut_of, AreWorkers, IsBatch, IsCut}
 use Rattle.options_core.specs.declared.options.Options.{Options}
@@ -71,8 +73,14 @@ share_input left right edits = (is_dash left && is_dash right)
 
 -- ---- commands
 
-abbrev pub IsScaleIn : List Row → Scale → Type 0
-IsScaleIn rows scale = number_at (codes "scale") rows ≡ Some (digits_of scale)
+-- numbers are rounded where `--round` is given
+abbrev pub IsRoundingIn : List Row → Rounding → Type 0
+IsRoundingIn rows Nearest = first_of (codes "round") rows ≡ Some (codes "true")
+IsRoundingIn rows Exact = first_of (codes "round") rows ≢ Some (codes "true")
+
+pub record IsScaleIn (rows : List Row) (scale : Scale) : Type 0 where
+  pub digits : number_at (codes "scale") rows ≡ Some (digits_of scale)
+  pub rounding : IsRoundingIn rows (rounding_of scale)
 
 -- the word of `--rings`, if one is given, names this rule; proper rings need no word
 abbrev pub NamesRings : Option Text → Rings → Type 0
@@ -217,7 +225,8 @@ IsNoRelation word (mask.Letter place) = HasBadLetter word place
 abbrev pub hint_names : List Text
 hint_names =
     codes "intersects" ∷ codes "touches" ∷ codes "crosses" ∷ codes "within" ∷ codes "contains"
-    ∷ codes "overlaps" ∷ codes "equals" ∷ []
+    ∷ codes "overlaps" ∷ codes "equals" ∷ codes "covers" ∷ codes "covered_by"
+    ∷ codes "contains_properly" ∷ []
 
 abbrev pub is_near : Text → Text → Bool
 is_near word name =
@@ -226,16 +235,17 @@ is_near word name =
 unfoldable pub hint_of : Text → Option Text
 hint_of word = find (is_near word) hint_names
 
--- the line of the fault, followed by the line of the name
-abbrev pub hint_text : MaskFault → Text → Text
-hint_text reason name = codes "rjoin: --relation: " ++ (mask_text reason ++ (codes "\n"
+-- the line of an unknown relation, followed by the line of the name
+abbrev pub hint_text : Text → Text
+hint_text name = codes "rjoin: --relation: " ++ (mask_text mask.Length ++ (codes "\n"
     ++ (codes "did you mean " ++ (name ++ codes "?\n"))))
 
--- the word spells no relation
+-- the word spells no relation; near a name it is an unknown relation with a hint, even if it has
+-- nine letters, and else it has the fault of a mask
 abbrev pub IsRelationFault : Text → WordFault → Type 0
 IsRelationFault word (fault.Relation reason) = IsNoRelation word reason × (hint_of word ≡ None)
-IsRelationFault word (fault.Usage shown help) = (reason : MaskFault) × IsNoRelation word reason
-    × MatchOption (hint_of word) ⊥ (λ name. Says (hint_text reason name) (fault.Usage shown help))
+IsRelationFault word (fault.Usage shown help) = SpellsNothing word
+    × MatchOption (hint_of word) ⊥ (λ name. Says (hint_text name) (fault.Usage shown help))
 IsRelationFault word _ = ⊥
 
 -- the relation holds for some two disjoint geometries of the kind that the words name

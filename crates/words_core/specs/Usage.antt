@@ -3,6 +3,7 @@ use Rattle.std.specs.Prelude.{◌≡◌, List, [], ◌∷◌, ◌++◌, Some, co
 use Rattle.clap.specs.Words.{App, Rule, Shape, Text, app_of, new_rule, rule_of}
 use Rattle.clap.specs.declared.builder.command.Command.TheViews.{out-Command as fields_of}
 use Rattle.clap.specs.Simple.{new_shape, on_top}
+use Rattle.clap.specs.declared.builder.action.ArgAction.TheVariants.{SetTrue}
 use Rattle.clap.specs.declared.builder.arg.Arg.{Arg}
 use Rattle.clap.specs.declared.builder.command.Command.{Command}
 use Rattle.clap.specs.declared.builder.value_parser.ValueParser.TheVariants.{Signed}
@@ -43,9 +44,16 @@ geometry_rule = record (new_rule (codes "geometry")) {
 abbrev pub rings_rule : Rule
 rings_rule = record (new_rule (codes "rings")) { long = Some (codes "rings") }
 
+-- `--round`, which takes no value
+abbrev pub round_rule : Rule
+round_rule = record (new_rule (codes "round")) {
+  long = Some (codes "round");
+  action = Some SetTrue;
+}
+
 -- the rules of how geometries are written, which all commands have
 abbrev pub format_rules : List Rule
-format_rules = scale_rule ∷ geometry_rule ∷ rings_rule ∷ []
+format_rules = scale_rule ∷ round_rule ∷ geometry_rule ∷ rings_rule ∷ []
 
 -- ---- commands
 

@@ -11,7 +11,8 @@ Geometries are points, segments along an axis and rectangles, as well-known text
 With --geometry any they are points, polylines and polygons of any direction, and MULTI forms.
 
 A coordinate has no decimals, or up to K with --scale K; counted in units of the last decimal, its
-absolute value is at most 1000000000000.
+absolute value is at most 1000000000000. With --round it may have any number of decimals, and an
+exponent as in 1.5e-7; it is read as the nearest one of K decimals, a half away from zero.
 
 The path - stands for standard input, for at most one file of a command.
 
@@ -60,6 +61,10 @@ Relations of a left feature to a right one:
   overlaps    equal dimensions, which the intersection of their interiors has too, and each also
               has points outside the other
   equals      they are the same set of points
+  covers      each point of the right one is a point of the left one
+  covered_by  each point of the left one is a point of the right one
+  contains_properly
+              each point of the right one is in the interior of the left one
   disjoint    they share no point: refused, like each mask that disjoint features may fit
 A mask of nine letters may replace the name, with one for each letter of the matrix: T asks for
 0, 1 or 2, and F, 0, 1 and 2 for that letter; * allows any.

@@ -7,7 +7,7 @@ use std::alloc::{AllocError, Global};
 use strsim::levenshtein;
 
 /// The names of the relations that a join may use.
-const NAMES: [&str; 7] = [
+const NAMES: [&str; 10] = [
     "intersects",
     "touches",
     "crosses",
@@ -15,6 +15,9 @@ const NAMES: [&str; 7] = [
     "contains",
     "overlaps",
     "equals",
+    "covers",
+    "covered_by",
+    "contains_properly",
 ];
 
 /// The greatest edit distance at which a name is suggested for a word.

@@ -8,12 +8,12 @@ ghost use Rattle.words_core.specs.Usage.{bounds_about, draw_about, edits_rule, j
 ghost use Rattle.words_core.specs.Usage.{geometry_rule, join_rules, layer_only_rules, numeric_rule};
 ghost use Rattle.words_core.specs.Usage.{positional_rule, program_about, program_shape};
 ghost use Rattle.words_core.specs.Usage.{program_usage, relate_about, relate_rules};
-ghost use Rattle.words_core.specs.Usage.{relation_rule, rings_rule, stats_about};
+ghost use Rattle.words_core.specs.Usage.{relation_rule, rings_rule, round_rule, stats_about};
 ghost use Rattle.words_core.specs.Usage.{subcommand_shape};
 ghost use Rattle.words_core.specs.Usage.{subcommand_shapes, window_about, window_rules};
 
 use crate::help;
-use clap::{Arg, Command, value_parser};
+use clap::{Arg, ArgAction, Command, value_parser};
 use std::alloc::{AllocError, Global};
 
 /// A command, or an error if an allocation fails.
@@ -35,6 +35,7 @@ enum Argument {
     },
     Relation,
     Edits,
+    Round,
     Geometry,
     Rings,
 }
@@ -48,7 +49,7 @@ struct Subcommand {
     arguments: &'static [Argument],
 }
 
-const RELATE_ARGUMENTS: [Argument; 5] = [
+const RELATE_ARGUMENTS: [Argument; 6] = [
     Argument::Positional {
         name: "A",
         help: "First geometry, as well-known text",
@@ -58,12 +59,13 @@ const RELATE_ARGUMENTS: [Argument; 5] = [
         help: "Second geometry, as well-known text",
     },
     SCALE,
+    Argument::Round,
     Argument::Geometry,
     Argument::Rings,
 ];
 
 /// The arguments of `join` and of `draw`.
-const JOIN_ARGUMENTS: [Argument; 10] = [
+const JOIN_ARGUMENTS: [Argument; 11] = [
     Argument::Positional {
         name: "LEFT",
         help: "CSV file of the left layer",
@@ -90,23 +92,31 @@ const JOIN_ARGUMENTS: [Argument; 10] = [
         default: "2",
     },
     SCALE,
+    Argument::Round,
     Argument::Geometry,
     Argument::Rings,
 ];
 
-const WINDOW_ARGUMENTS: [Argument; 5] = [
+const WINDOW_ARGUMENTS: [Argument; 6] = [
     LAYER,
     Argument::Positional {
         name: "WKT",
         help: "Geometry of the window, as well-known text",
     },
     SCALE,
+    Argument::Round,
     Argument::Geometry,
     Argument::Rings,
 ];
 
 /// The arguments of `stats` and of `bounds`.
-const LAYER_ARGUMENTS: [Argument; 4] = [LAYER, SCALE, Argument::Geometry, Argument::Rings];
+const LAYER_ARGUMENTS: [Argument; 5] = [
+    LAYER,
+    SCALE,
+    Argument::Round,
+    Argument::Geometry,
+    Argument::Rings,
+];
 
 const LAYER: Argument = Argument::Positional {
     name: "LAYER",
@@ -259,6 +269,7 @@ fn declared_argument<'a>(alloc: Global, argument: Argument) -> Arg<'a>
         } => numeric(alloc, name, help, default),
         Argument::Relation => relation(alloc),
         Argument::Edits => edits(alloc),
+        Argument::Round => round(alloc),
         Argument::Geometry => geometry(alloc),
         Argument::Rings => rings(alloc),
     }
@@ -304,6 +315,15 @@ fn edits<'a>(alloc: Global) -> Arg<'a>
     Arg::new(alloc, "edits")
         .long("edits")
         .help("CSV file of edits, which are applied before the join")
+}
+
+fn round<'a>(alloc: Global) -> Arg<'a>
+    ensures { IsArgument round_rule result }
+{
+    Arg::new(alloc, "round")
+        .long("round")
+        .help("Read each number as the nearest one of these decimals")
+        .action(ArgAction::SetTrue)
 }
 
 fn geometry<'a>(alloc: Global) -> Arg<'a>

@@ -7,7 +7,7 @@ use relation_core::{AllowsDisjoint, JoinRelation, Mask, Relation};
 use std::alloc::Global;
 use std::test::Fail;
 use wkt_any_core::Rings;
-use wkt_core::Scale;
+use wkt_core::{Rounding, Scale};
 use words_core::{
     Command, Condition, Geometries, JoinRequest, LayerRequest, WordFault, read_words,
 };
@@ -67,6 +67,29 @@ fn layers(rt: HostRuntime) -> Result<(), Fail> {
         let bounds = Command::Bounds(layer);
         assert!(rt;
             is_read_as(alloc, "rjoin|bounds|l.csv", last, bounds)?,
+            "{last}"
+        );
+    }
+    Ok(())
+}
+
+/// Words after the path of a layer, and whether they ask for rounding.
+const ROUNDINGS: &[(&str, Rounding)] = &[
+    ("--scale|0", Rounding::Exact),
+    ("--round", Rounding::Nearest),
+    ("--round|--scale|0", Rounding::Nearest),
+];
+
+#[test]
+fn roundings(rt: HostRuntime) -> Result<(), Fail> {
+    let Some(scale) = Scale::new(0) else {
+        panic!(rt; "no scale");
+    };
+    for &(last, rounding) in ROUNDINGS {
+        let layer = layer(scale.with_rounding(rounding), Geometries::Box);
+        let stats = Command::Stats(layer);
+        assert!(rt;
+            is_read_as(rt.alloc(), "rjoin|stats|l.csv", last, stats)?,
             "{last}"
         );
     }

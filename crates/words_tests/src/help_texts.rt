@@ -28,7 +28,8 @@ Geometries are points, segments along an axis and rectangles, as well-known text
 With --geometry any they are points, polylines and polygons of any direction, and MULTI forms.
 
 A coordinate has no decimals, or up to K with --scale K; counted in units of the last decimal, its
-absolute value is at most 1000000000000.
+absolute value is at most 1000000000000. With --round it may have any number of decimals, and an
+exponent as in 1.5e-7; it is read as the nearest one of K decimals, a half away from zero.
 
 The path - stands for standard input, for at most one file of a command.
 
@@ -51,6 +52,7 @@ Arguments:
 
 Options:
       --scale <scale>        Decimals that a coordinate may have, 0 to 6 [default: 0]
+      --round                Read each number as the nearest one of these decimals
       --geometry <geometry>  Kind of the geometries, box or any [default: box]
       --rings <rings>        Rings that --geometry any accepts, proper (the default) or even-odd
   -h, --help                 Print help
@@ -88,6 +90,7 @@ Options:
       --batch <batch>        Pairs per batch, 1 to 4096 [default: 256]
       --cut <cut>            Rounds of cutting the trees into tasks, 0 to 8 [default: 2]
       --scale <scale>        Decimals that a coordinate may have, 0 to 6 [default: 0]
+      --round                Read each number as the nearest one of these decimals
       --geometry <geometry>  Kind of the geometries, box or any [default: box]
       --rings <rings>        Rings that --geometry any accepts, proper (the default) or even-odd
   -h, --help                 Print help
@@ -112,6 +115,10 @@ Relations of a left feature to a right one:
   overlaps    equal dimensions, which the intersection of their interiors has too, and each also
               has points outside the other
   equals      they are the same set of points
+  covers      each point of the right one is a point of the left one
+  covered_by  each point of the left one is a point of the right one
+  contains_properly
+              each point of the right one is in the interior of the left one
   disjoint    they share no point: refused, like each mask that disjoint features may fit
 A mask of nine letters may replace the name, with one for each letter of the matrix: T asks for
 0, 1 or 2, and F, 0, 1 and 2 for that letter; * allows any.
@@ -141,6 +148,7 @@ Options:
       --batch <batch>        Pairs per batch, 1 to 4096 [default: 256]
       --cut <cut>            Rounds of cutting the trees into tasks, 0 to 8 [default: 2]
       --scale <scale>        Decimals that a coordinate may have, 0 to 6 [default: 0]
+      --round                Read each number as the nearest one of these decimals
       --geometry <geometry>  Kind of the geometries, box or any [default: box]
       --rings <rings>        Rings that --geometry any accepts, proper (the default) or even-odd
   -h, --help                 Print help
@@ -171,6 +179,7 @@ Arguments:
 
 Options:
       --scale <scale>        Decimals that a coordinate may have, 0 to 6 [default: 0]
+      --round                Read each number as the nearest one of these decimals
       --geometry <geometry>  Kind of the geometries, box or any [default: box]
       --rings <rings>        Rings that --geometry any accepts, proper (the default) or even-odd
   -h, --help                 Print help
@@ -201,6 +210,7 @@ Arguments:
 
 Options:
       --scale <scale>        Decimals that a coordinate may have, 0 to 6 [default: 0]
+      --round                Read each number as the nearest one of these decimals
       --geometry <geometry>  Kind of the geometries, box or any [default: box]
       --rings <rings>        Rings that --geometry any accepts, proper (the default) or even-odd
   -h, --help                 Print help
@@ -231,6 +241,7 @@ Arguments:
 
 Options:
       --scale <scale>        Decimals that a coordinate may have, 0 to 6 [default: 0]
+      --round                Read each number as the nearest one of these decimals
       --geometry <geometry>  Kind of the geometries, box or any [default: box]
       --rings <rings>        Rings that --geometry any accepts, proper (the default) or even-odd
   -h, --help                 Print help

@@ -66,12 +66,30 @@ const OPTION_FAULTS: &[(&str, &str)] = &[
     ),
     (
         "--relation|kontainss",
-        "rjoin: --relation: bad letter at place 0\ndid you mean contains?\n",
+        "rjoin: --relation: not a name or a mask of nine letters\n\
+        did you mean contains?\n",
     ),
     (
         "--relation|intersect",
-        "rjoin: --relation: bad letter at place 0\ndid you mean intersects?\n",
+        "rjoin: --relation: not a name or a mask of nine letters\n\
+        did you mean intersects?\n",
     ),
+    (
+        "--relation|coveredby",
+        "rjoin: --relation: not a name or a mask of nine letters\n\
+        did you mean covered_by?\n",
+    ),
+    (
+        "--relation|cover",
+        "rjoin: --relation: not a name or a mask of nine letters\n\
+        did you mean covers?\n",
+    ),
+    (
+        "--relation|containsproperly",
+        "rjoin: --relation: not a name or a mask of nine letters\n\
+        did you mean contains_properly?\n",
+    ),
+    ("--relation|intersxxs", "--relation: bad letter at place 0"),
     (
         "--workers|17|--relation|T*F**F**3",
         "--relation: bad letter at place 8",

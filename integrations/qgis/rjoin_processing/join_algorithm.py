@@ -52,7 +52,9 @@ from .layers import (
     write_layer,
 )
 
-RELATIONS = ["intersects", "touches", "crosses", "within", "contains", "overlaps", "equals"]
+# QGIS stores the number of a relation, so a new one comes last.
+RELATIONS = ["intersects", "touches", "crosses", "within", "contains", "overlaps", "equals",
+             "covers", "covered_by", "contains_properly"]
 REPORT = ["left", "right", "matrix"]
 ONE_FOR_EACH_PAIR = 0
 PAIRS_ALONE = 1

@@ -61,7 +61,8 @@ def sjoin(left: "geopandas.GeoDataFrame", right: "geopandas.GeoDataFrame",
     as `"left"`, a left row without a partner is kept, with missing values. Rows come in the order
     of the left frame and then of the right one. As there, a warning tells of two reference systems.
 
-    predicate: intersects, touches, crosses, within, contains, overlaps, equals, or a DE-9IM mask.
+    predicate: intersects, touches, crosses, within, contains, overlaps, equals, covers, covered_by,
+    contains_properly, or a DE-9IM mask.
     workers: the program's threads, 1 to 16; 4 by default.
     matrix: adds the column `matrix` with the nine letters of each pair.
     incomplete: what a left join does where right features are left out, any of which may be the

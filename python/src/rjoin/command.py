@@ -61,8 +61,8 @@ def parser() -> argparse.ArgumentParser:
     known.add_argument("left", metavar="LEFT")
     known.add_argument("right", metavar="RIGHT")
     known.add_argument("--relation", metavar="R", required=True,
-                       help="intersects, touches, crosses, within, contains, overlaps, equals, or "
-                            "a mask of nine letters")
+                       help="intersects, touches, crosses, within, contains, overlaps, equals, "
+                            "covers, covered_by, contains_properly, or a mask of nine letters")
     known.add_argument("-o", "--output", metavar="OUT", required=True, type=Path)
     known.add_argument("--overwrite", action="store_true", help="replace OUT if it is there")
     known.add_argument("--geometry", action="store_true", help="add the left feature's geometry")

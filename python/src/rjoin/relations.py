@@ -5,13 +5,11 @@ import re
 
 from rjoin.errors import ArgumentError
 
-NAMES = ("intersects", "touches", "crosses", "within", "contains", "overlaps", "equals")
+NAMES = ("intersects", "touches", "crosses", "within", "contains", "overlaps", "equals", "covers",
+         "covered_by", "contains_properly")
 MASK = re.compile(r"[TF*012]{9}")
 REFUSED = {
     "disjoint": "nearly all pairs are disjoint; take the features without a pair of intersects",
-    "covers": "rjoin has no such relation; contains asks that the interiors share a point too",
-    "covered_by": "rjoin has no such relation; within asks that the interiors share a point too",
-    "contains_properly": "rjoin has no such relation; the mask T**FF*FF* asks for it",
 }
 
 

@@ -1,10 +1,11 @@
-//! Reading how geometries are written: the scale, their kind and the rule for rings.
+//! Reading how geometries are written: scale and rounding, their kind, and the rule for rings.
 
 ghost use Rattle.std.specs.Prelude.{◌≢◌, ◌≤◌, IfOk, IfErr, IfSome, IfNone};
 ghost use Rattle.wkt_core.specs.ScaleLimits.{most_digits};
 ghost use Rattle.wkt_core.specs.Scales.{digits_of};
 ghost use Rattle.words_core.specs.Readings.{AreGeometriesIn, HasGeometryFault, HasScaleFault};
-ghost use Rattle.words_core.specs.Readings.{IsNoRingRule, IsScaleIn, NamesNoKind, NamesRings};
+ghost use Rattle.words_core.specs.Readings.{IsNoRingRule, IsRoundingIn, IsScaleIn, NamesNoKind};
+ghost use Rattle.words_core.specs.Readings.{NamesRings};
 ghost use Rattle.words_core.specs.Readings.{found_in, text_in};
 
 use super::arguments::{missing, number, optional};
@@ -13,7 +14,17 @@ use crate::words::WordFault;
 use clap::ArgMatches;
 use std::alloc::Global;
 use wkt_any_core::Rings;
-use wkt_core::Scale;
+use wkt_core::{Rounding, Scale};
+
+/// Whether numbers are rounded.
+fn read_rounding(given: &ArgMatches<'_>) -> Rounding
+    ensures { IsRoundingIn (found_in given.now) result }
+{
+    match optional(given, "round") {
+        Some("true") => Rounding::Nearest,
+        _ => Rounding::Exact,
+    }
+}
 
 pub fn read_scale(alloc: Global, given: &ArgMatches<'_>) -> Result<Scale, WordFault>
     ensures ok { IfOk result (IsScaleIn (found_in given.now)) }
@@ -21,7 +32,7 @@ pub fn read_scale(alloc: Global, given: &ArgMatches<'_>) -> Result<Scale, WordFa
     ensures err { IfErr result (λ f. f ≢ WordFault.Memory → HasScaleFault (found_in given.now) f) }
 {
     match Scale::new(number(alloc, given, "scale")?) {
-        Some(scale) => Ok(scale),
+        Some(scale) => Ok(scale.with_rounding(read_rounding(given))),
         None => Err(WordFault::Scale),
     }
 }

@@ -12,7 +12,8 @@ import pya
 from . import program
 from .boxes import NotABox, box_of, box_of_polygon, envelope_of, has_area
 
-RELATIONS = ("intersects", "touches", "crosses", "within", "contains", "overlaps", "equals")
+RELATIONS = ("intersects", "touches", "crosses", "within", "contains", "overlaps", "equals",
+             "covers", "covered_by", "contains_properly")
 ERROR, ENVELOPE, SKIP = OTHERS = ("error", "envelope", "skip")
 REPORT = ["left", "right", "matrix"]
 EXACT, INEXACT = "exact: true", "exact: false"

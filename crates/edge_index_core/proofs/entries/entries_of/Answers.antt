@@ -6,7 +6,7 @@ use Rattle.edge_index_core.proofs.EntryLemmas.{none_first, one_more, all_entries
 use Rattle.edge_index_core.proofs.entries.entries_of.Goals as goal
 
 pub loop-i-init : goal.loop-i-init
-loop-i-init c = none_first c.args.edges.now c.new-entries.result.items c.new-entries.ensures.items
+loop-i-init c = none_first c.args.edges.now _ c.in_ok-entries.ensures.items
 
 pub loop-i-preserved : goal.loop-i-preserved
 loop-i-preserved c = rw c.in_ok-push.ensures.items

@@ -8,6 +8,6 @@ push_node-requires-clause-lawful c = c.in-Some.ensures.lawful
 pub push_node-requires-clause-entries : goal.push_node-requires-clause-entries
 push_node-requires-clause-entries c = rw c.edges-edges.ensures (all_in _ _ c.in-Some.ensures.holds)
 
-pub returns-in_ok-push_node-in-Some-clause-found : goal.returns-in_ok-push_node-in-Some-clause-found
-returns-in_ok-push_node-in-Some-clause-found c =
-    held_found c.args.e.now _ _ _ c.in-Some.ensures.holds (rw c.edges-edges.ensures at c.in_ok-push_node-in-Some.ensures.found c.args.e.now c.bounds_of-bounds.ensures)
+pub returns-in-Some-clause-found : goal.returns-in-Some-clause-found
+returns-in-Some-clause-found c =
+    held_found c.args.e.now _ _ _ c.in-Some.ensures.holds (rw c.edges-edges.ensures at c.in_ok-push_node.ensures.found c.args.e.now c.bounds_of-bounds.ensures)

@@ -10,7 +10,7 @@ loop-number-preserved g c =
     let old = c.loop-number.parts.items in
     let new = c.push.new.self.items in
     let grown = c.in_ok-push.ensures.items in
-    let told = IsPart (g.C.Condition.stands c.args.condition.now) (g.C.Condition.answers c.args.condition.now) c.args.pairs.now in
+    let told = IsPart (g.C.Condition.stands c.args.job.now.condition.now) (g.C.Condition.answers c.args.job.now.condition.now) c.args.job.now.pairs.now in
     record {
       seat = search rules;
       numbers = numbers_pushed old new c.in-Some.number c.in_ok-refined.refined grown c.loop-number.seat.drawn c.claim.new.seat.drawn before.numbers drawn.drawn;

@@ -9,7 +9,7 @@ returns-in-Point-clause-some c =
     rw c.in-Point.is (ok_some c.read_members.result c.read_members.ensures.some (λ rest (ps, taken, adds). (ps ∷ [], taken, adds)))
 
 pub returns-in-Point-clause-none : goal.returns-in-Point-clause-none
-returns-in-Point-clause-none c = rw c.in-Point.is (ok_none c.read_members.result c.read_members.ensures.none (no_members c.args.text.now))
+returns-in-Point-clause-none c = rw c.in-Point.is (ok_none c.read_members.result c.read_members.ensures.none (no_members c.args.scale c.args.text.now))
 
 pub returns-in-LineString-clause-some : goal.returns-in-LineString-clause-some
 returns-in-LineString-clause-some c = rw c.in-LineString.is c.read_lists.ensures.some

@@ -8,14 +8,14 @@ returns-in-Point-clause-some c =
     rw c.in-Point.is (ok_some c.read_single.result c.read_single.ensures.some (λ rest (p, taken, adds). ((p ∷ []) ∷ [], taken, adds)))
 
 pub returns-in-Point-clause-none : goal.returns-in-Point-clause-none
-returns-in-Point-clause-none c = rw c.in-Point.is (ok_none c.read_single.result c.read_single.ensures.none (no_single c.args.text.now))
+returns-in-Point-clause-none c = rw c.in-Point.is (ok_none c.read_single.result c.read_single.ensures.none (no_single c.args.scale c.args.text.now))
 
 pub returns-in-LineString-clause-some : goal.returns-in-LineString-clause-some
 returns-in-LineString-clause-some c =
     rw c.in-LineString.is (ok_some c.read_points.result c.read_points.ensures.some (λ rest (ps, taken, adds). (ps ∷ [], taken, adds)))
 
 pub returns-in-LineString-clause-none : goal.returns-in-LineString-clause-none
-returns-in-LineString-clause-none c = rw c.in-LineString.is (ok_none c.read_points.result c.read_points.ensures.none (no_line c.args.text.now))
+returns-in-LineString-clause-none c = rw c.in-LineString.is (ok_none c.read_points.result c.read_points.ensures.none (no_line c.args.scale c.args.text.now))
 
 pub returns-in-Polygon-clause-some : goal.returns-in-Polygon-clause-some
 returns-in-Polygon-clause-some c = rw c.in-Polygon.is c.read_lists.ensures.some

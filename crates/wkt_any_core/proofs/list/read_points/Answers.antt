@@ -10,36 +10,36 @@ use Rattle.wkt_any_core.proofs.PathLemmas.{points_none, points_more, points_ende
 use Rattle.wkt_any_core.proofs.list.read_points.Goals as goal
 
 pub loop-after-init : goal.loop-after-init
-loop-after-init c = so_far_none TakesPoint (λ xs. AddsPoints c.args.scale c.args.paths.now xs c.args.paths.now) _ (points_none c.args.scale c.args.paths.now)
+loop-after-init c = so_far_none (TakesPoint c.args.scale) (λ xs. AddsPoints c.args.scale c.args.paths.now xs c.args.paths.now) _ (points_none c.args.scale c.args.paths.now)
 
 pub returns-in_default-2-clause-none : goal.returns-in_default-2-clause-none
 returns-in_default-2-clause-none c =
     let none = rw (c.in_default-2.is, c.skip_blanks-start.ensures) at c.in_ok-after.ensures.none in
-    so_far_no_item TakesPoint (λ xs. AddsPoints c.args.scale c.args.paths.now xs c.loop-after.paths) points_exact _ _ _ (symbol_begins 40 _ _ (sym c.in-Some.ensures)) c.loop-after.invariant none
+    so_far_no_item (TakesPoint c.args.scale) (λ xs. AddsPoints c.args.scale c.args.paths.now xs c.loop-after.paths) (points_exact c.args.scale) _ _ _ (symbol_begins 40 _ _ (sym c.in-Some.ensures)) c.loop-after.invariant none
 
 pub returns-in_default-read_next-clause-none : goal.returns-in_default-read_next-clause-none
 returns-in_default-read_next-clause-none c =
     let (x, taken, adds) = rw (c.in-Some-2.is, c.skip_blanks-start.ensures) at c.in_ok-after.ensures.some in
-    so_far_no_end TakesPoint (λ xs. AddsPoints c.args.scale c.args.paths.now xs c.loop-after.paths) points_exact _ _ _ (symbol_begins 40 _ _ (sym c.in-Some.ensures)) c.loop-after.invariant x _ taken
+    so_far_no_end (TakesPoint c.args.scale) (λ xs. AddsPoints c.args.scale c.args.paths.now xs c.loop-after.paths) (points_exact c.args.scale) _ _ _ (symbol_begins 40 _ _ (sym c.in-Some.ensures)) c.loop-after.invariant x _ taken
     c.in_default-read_next.ensures
 
 pub loop-after-smaller : goal.loop-after-smaller
 loop-after-smaller c =
     let (x, taken, adds) = rw (c.in-Some-2.is, c.skip_blanks-start.ensures) at c.in_ok-after.ensures.some in
     let next : skip c.in-Some-2.after.now ≡ 44 ∷ c.in-Item.behind.now = rw c.in-Item.is at c.in-Some-read_next.ensures in
-    behind_item TakesPoint points_exact _ x _ _ taken next
+    behind_item (TakesPoint c.args.scale) (points_exact c.args.scale) _ x _ _ taken next
 
 pub loop-after-preserved : goal.loop-after-preserved
 loop-after-preserved c =
     let (x, taken, adds) = rw (c.in-Some-2.is, c.skip_blanks-start.ensures) at c.in_ok-after.ensures.some in
     let next : skip c.in-Some-2.after.now ≡ 44 ∷ c.in-Item.behind.now = rw c.in-Item.is at c.in-Some-read_next.ensures in
-    so_far_more TakesPoint (λ xs. AddsPoints c.args.scale c.args.paths.now xs c.loop-after.paths) (λ xs. AddsPoints c.args.scale c.args.paths.now xs c.read_bare_point.new.paths) x _ _ _ _ taken
+    so_far_more (TakesPoint c.args.scale) (λ xs. AddsPoints c.args.scale c.args.paths.now xs c.loop-after.paths) (λ xs. AddsPoints c.args.scale c.args.paths.now xs c.read_bare_point.new.paths) x _ _ _ _ taken
     (λ done held. points_more c.args.scale _ _ _ done x held adds) c.loop-after.invariant next
 
 pub returns-in-End-clause-some : goal.returns-in-End-clause-some
 returns-in-End-clause-some c =
     let (x, taken, adds) = rw (c.in-Some-2.is, c.skip_blanks-start.ensures) at c.in_ok-after.ensures.some in
     let next : skip c.in-Some-2.after.now ≡ 41 ∷ c.in-End.behind.now = rw c.in-End.is at c.in-Some-read_next.ensures in
-    let (xs, enclosed, held) = so_far_ended TakesPoint (λ xs. AddsPoints c.args.scale c.args.paths.now xs c.loop-after.paths) (λ xs. AddsPoints c.args.scale c.args.paths.now xs c.read_bare_point.new.paths) x _ _ _ _ taken
+    let (xs, enclosed, held) = so_far_ended (TakesPoint c.args.scale) (λ xs. AddsPoints c.args.scale c.args.paths.now xs c.loop-after.paths) (λ xs. AddsPoints c.args.scale c.args.paths.now xs c.read_bare_point.new.paths) x _ _ _ _ taken
     (λ done held. points_more c.args.scale _ _ _ done x held adds) c.loop-after.invariant _ (symbol_begins 40 _ _ (sym c.in-Some.ensures)) next in
     (xs, enclosed, points_ended c.args.scale _ _ _ xs held (c.in_ok-end_path-in-End.ensures c.args.scale))

@@ -7,7 +7,7 @@ pub returns-in_default-2-clause-none : goal.returns-in_default-2-clause-none
 returns-in_default-2-clause-none c = λ heading lists h.
     let word = rw c.skip_blanks-start.ensures at c.in-Some.ensures.some in
     let body = rw (c.in_default-2.is, c.skip_blanks-body.ensures) at c.in_ok-rest.ensures.none in
-    let (same, (e, b, p)) = read_on c.args.text.now c.in-Some.heading c.in-Some.rest.now word heading lists h in
+    let (same, (e, b, p)) = read_on c.args.scale c.args.text.now c.in-Some.heading c.in-Some.rest.now word heading lists h in
     body lists e b
 
 nothing : (text : List ℕ) → length text < 1 → text ≡ []
@@ -31,7 +31,7 @@ pub returns-in_default-end-clause-none : goal.returns-in_default-end-clause-none
 returns-in_default-end-clause-none c = λ heading lists h.
     let word = rw c.skip_blanks-start.ensures at c.in-Some.ensures.some in
     let (found, body, adds) = rw (c.in-Some-2.is, c.skip_blanks-body.ensures) at c.in_ok-rest.ensures.some in
-    let (same, (e, b, p)) = read_on c.args.text.now c.in-Some.heading c.in-Some.rest.now word heading lists h in
-    let end = (body_same c.in-Some.heading (skip c.in-Some.rest.now) found lists c.in-Some-2.rest.now e body b).1 in
+    let (same, (e, b, p)) = read_on c.args.scale c.args.text.now c.in-Some.heading c.in-Some.rest.now word heading lists h in
+    let end = (body_same c.args.scale c.in-Some.heading (skip c.in-Some.rest.now) found lists c.in-Some-2.rest.now e body b).1 in
     let empty = c.skip_blanks-end.ensures ∙ ap skip end ∙ p in
     omega (arith, c.in_default-end.len_at_least, ap length empty)

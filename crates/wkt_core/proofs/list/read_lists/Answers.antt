@@ -8,7 +8,7 @@ use Rattle.wkt_core.proofs.list.read_lists.Goals as goal
 
 pub returns-in_err-after-clause-none : goal.returns-in_err-after-clause-none
 returns-in_err-after-clause-none c =
-    if_none _ (no_item_follows TakesPoints lists_exact c.in_ok-rest.rest.now c.in_ok-rest.rest.now [] refl _
+    if_none _ (no_item_follows (TakesPoints c.args.scale) (lists_exact c.args.scale) c.in_ok-rest.rest.now c.in_ok-rest.rest.now [] refl _
     (symbol_begins 40 _ _ (sym c.in_ok-rest.ensures)) (rw c.skip_blanks-first.ensures at c.in_err-after.ensures.none))
 
 pub loop-next-init : goal.loop-next-init
@@ -45,7 +45,7 @@ pub loop-next-smaller : goal.loop-next-smaller
 loop-next-smaller c =
     let next : skip c.loop-next.after.now ≡ 44 ∷ c.in-Item.behind.now = rw c.in-Item.is at c.in_ok-next.ensures in
     let (ps, taken, firsts) = c.in_ok-rest-in-Item.ensures.some in
-    let shorter = lists_exact.shorter _ ps _ taken in
+    let shorter = (lists_exact c.args.scale).shorter _ ps _ taken in
     let skipped = length-skip c.in-Item.behind.now in
     let before = length-skip c.loop-next.after.now in
     omega (arith, shorter, ap length next, ap length c.skip_blanks-start.ensures)

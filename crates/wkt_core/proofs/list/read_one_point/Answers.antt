@@ -8,7 +8,7 @@ use Rattle.wkt_core.proofs.list.read_one_point.Goals as goal
 pub returns-clause-some : goal.returns-clause-some
 returns-clause-some c =
     let read : Some (c.in_ok-point.point, c.in_ok-point.after.now)
-    ≡ point_answer c.args.scale (point_at (skip c.in_ok-rest.rest.now)) = search rules in
+    ≡ point_answer c.args.scale (point_at c.args.scale (skip c.in_ok-rest.rest.now)) = search rules in
     let (p, taken, value) = point_taken c.args.scale (skip c.in_ok-rest.rest.now) _ _ read in (
       p,
       (

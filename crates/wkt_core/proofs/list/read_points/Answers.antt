@@ -24,13 +24,13 @@ loop-point-smaller c =
     let read = rw c.skip_blanks-start.ensures at c.in_ok-point.ensures in
     let next = rw c.in-Item.is at c.in_ok-next.ensures in
     let (p, taken, value) = point_taken c.args.scale (skip c.loop-point.rest.now) _ _ read in
-    behind_item TakesPoint points_exact _ p _ _ taken next
+    behind_item (TakesPoint c.args.scale) (points_exact c.args.scale) _ p _ _ taken next
 
 pub returns-in_err-point-clause-none : goal.returns-in_err-point-clause-none
 returns-in_err-point-clause-none c =
     let read = rw c.skip_blanks-start.ensures at c.in_err-point.ensures in
     let (done, begun, firsts) = c.loop-point.invariant in
-    if_none _ (no_item_follows TakesPoint points_exact _ _ done begun _ (symbol_begins 40 _ _ (sym c.in_ok-rest.ensures))
+    if_none _ (no_item_follows (TakesPoint c.args.scale) (points_exact c.args.scale) _ _ done begun _ (symbol_begins 40 _ _ (sym c.in_ok-rest.ensures))
     (no_point_taken c.args.scale (skip c.loop-point.rest.now) read))
 
 pub returns-in_err-next-clause-none : goal.returns-in_err-next-clause-none
@@ -38,7 +38,7 @@ returns-in_err-next-clause-none c =
     let read = rw c.skip_blanks-start.ensures at c.in_ok-point.ensures in
     let (p, taken, value) = point_taken c.args.scale (skip c.loop-point.rest.now) _ _ read in
     let (done, begun, firsts) = c.loop-point.invariant in
-    if_none _ (no_end_follows TakesPoint points_exact _ _ done begun _ (symbol_begins 40 _ _ (sym c.in_ok-rest.ensures)) p _ taken
+    if_none _ (no_end_follows (TakesPoint c.args.scale) (points_exact c.args.scale) _ _ done begun _ (symbol_begins 40 _ _ (sym c.in_ok-rest.ensures)) p _ taken
     c.in_err-next.ensures)
 
 pub loop-point-init : goal.loop-point-init

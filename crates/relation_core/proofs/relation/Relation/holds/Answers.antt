@@ -56,3 +56,21 @@ returns-in-Equals-clause-masks c = rw c.in-Equals.is (masks_told relations.Equal
 
 pub returns-in-Equals-clause-sets : goal.returns-in-Equals-clause-sets
 returns-in-Equals-clause-sets c = rw c.in-Equals.is (sets_told relations.Equals c.args.a.now c.args.b.now _ (search by_sets))
+
+pub returns-in-Covers-clause-masks : goal.returns-in-Covers-clause-masks
+returns-in-Covers-clause-masks c = rw c.in-Covers.is (masks_told relations.Covers c.args.a.now c.args.b.now _ (search by_sets))
+
+pub returns-in-Covers-clause-sets : goal.returns-in-Covers-clause-sets
+returns-in-Covers-clause-sets c = rw c.in-Covers.is (sets_told relations.Covers c.args.a.now c.args.b.now _ (search by_sets))
+
+pub returns-in-CoveredBy-clause-masks : goal.returns-in-CoveredBy-clause-masks
+returns-in-CoveredBy-clause-masks c = rw c.in-CoveredBy.is (masks_told relations.CoveredBy c.args.a.now c.args.b.now _ (search by_sets))
+
+pub returns-in-CoveredBy-clause-sets : goal.returns-in-CoveredBy-clause-sets
+returns-in-CoveredBy-clause-sets c = rw c.in-CoveredBy.is (sets_told relations.CoveredBy c.args.a.now c.args.b.now _ (search by_sets))
+
+pub returns-in-ContainsProperly-clause-masks : goal.returns-in-ContainsProperly-clause-masks
+returns-in-ContainsProperly-clause-masks c = rw c.in-ContainsProperly.is (masks_told relations.ContainsProperly c.args.a.now c.args.b.now _ (search by_sets))
+
+pub returns-in-ContainsProperly-clause-sets : goal.returns-in-ContainsProperly-clause-sets
+returns-in-ContainsProperly-clause-sets c = rw c.in-ContainsProperly.is (sets_told relations.ContainsProperly c.args.a.now c.args.b.now _ (search by_sets))

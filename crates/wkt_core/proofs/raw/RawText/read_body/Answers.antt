@@ -7,14 +7,14 @@ use Rattle.wkt_core.proofs.raw.RawText.read_body.Goals as goal
 
 pub returns-in_err-rest-in-Point-clause-none : goal.returns-in_err-rest-in-Point-clause-none
 returns-in_err-rest-in-Point-clause-none c =
-    let none : (lists : List (List RawPoint)) (rest : List ℕ) → TakesBody c.args.keyword c.args.text.now lists rest → ⊥ =
-    rw c.in-Point.is (no_single c.args.text.now c.in_err-rest-in-Point.ensures.none) in
+    let none : (lists : List (List RawPoint)) (rest : List ℕ) → TakesBody c.args.scale c.args.keyword c.args.text.now lists rest → ⊥ =
+    rw c.in-Point.is (no_single c.args.scale c.args.text.now c.in_err-rest-in-Point.ensures.none) in
     if_none _ none
 
 pub returns-in_err-rest-in-LineString-clause-none : goal.returns-in_err-rest-in-LineString-clause-none
 returns-in_err-rest-in-LineString-clause-none c =
-    let none : (lists : List (List RawPoint)) (rest : List ℕ) → TakesBody c.args.keyword c.args.text.now lists rest → ⊥ =
-    rw c.in-LineString.is (no_line c.args.text.now c.in_err-rest-in-LineString.ensures.none) in
+    let none : (lists : List (List RawPoint)) (rest : List ℕ) → TakesBody c.args.scale c.args.keyword c.args.text.now lists rest → ⊥ =
+    rw c.in-LineString.is (no_line c.args.scale c.args.text.now c.in_err-rest-in-LineString.ensures.none) in
     if_none _ none
 
 pub returns-in_ok-rest-in-Point-clause-some : goal.returns-in_ok-rest-in-Point-clause-some

@@ -1,0 +1,4 @@
+pub mod AxisLemmas
+pub mod CellLemmas
+pub mod GapLemmas
+pub mod SquareLemmas

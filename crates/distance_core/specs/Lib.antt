@@ -1,0 +1,6 @@
+pub mod Distances
+pub mod Gaps
+pub mod Limits
+pub mod Roots
+pub mod ShapePoints
+pub mod Units

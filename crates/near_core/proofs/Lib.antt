@@ -1,0 +1,6 @@
+pub mod DecisionLemmas
+pub mod GrowthLemmas
+pub mod JoinLemmas
+pub mod LayerLemmas
+pub mod NearLemmas
+pub mod TouchLemmas

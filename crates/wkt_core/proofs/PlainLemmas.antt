@@ -1,0 +1,181 @@
+-- A text that is read without rounding is read alike with it.
+use Rattle.std.proofs.Common.{◌≡◌, true, ℕ, List, [], ◌∷◌, map, refl, sym, ap, ap₂, ◌∙◌, subst, arith}
+use Rattle.std.specs.List.{AllByRecursion}
+use Rattle.std.proofs.lemmas.List.{length-append}
+use Rattle.geom_core.specs.declared.shape.Shape.{Shape}
+use Rattle.geom_core.specs.Shapes.{IsCoordinate}
+use Rattle.wkt_core.specs.declared.keyword.Keyword.{Keyword}
+use Rattle.wkt_core.specs.declared.keyword.Keyword.TheVariants.{Point, LineString, Polygon}
+use Rattle.wkt_core.specs.declared.position.Position.{Position}
+use Rattle.wkt_core.specs.declared.scale.Rounding.{Rounding}
+use Rattle.wkt_core.specs.declared.scale.Rounding.TheVariants.{Exact, Nearest}
+use Rattle.wkt_core.specs.declared.scale.Scale.{Scale}
+use Rattle.wkt_core.specs.Scales.{digits_of, rounding_of}
+use Rattle.wkt_core.specs.Grammar.{Numeral, RawPoint, Digits, IsTaken, Number, PointText, PointList, Listed, InParentheses, Body, Raw, ◌then◌}
+use Rattle.wkt_core.specs.Spelling.{is_whole_by, units_by, signed, value, IsGood, HasGoodNumbers, AllNumbersGood, position, positions, Forms, Spells}
+use Rattle.wkt_core.proofs.RoundedLemmas.{whole_units}
+
+-- ---- lists
+
+-- a text of two parts, with other kinds of them
+pub then_still : {A B C D : List ℕ → Type 0} {text : List ℕ} → ((s : List ℕ) → A s → C s) → ((s : List ℕ) → B s → D s)
+    → (A then B) text → (C then D) text
+then_still f g h = record {
+  front = h.front;
+  back = h.back;
+  first = f h.front h.first;
+  second = g h.back h.second;
+  joined = h.joined;
+}
+
+pub listed_still : {X : Type 0} (A B : X → List ℕ → Type 0) → ((x : X) (s : List ℕ) → A x s → B x s)
+    → (xs : List X) (s : List ℕ) → Listed A xs s → Listed B xs s
+listed_still A B still [] s h = h
+listed_still A B still (x ∷ []) s h = then_still (λ s h. h) (λ t. then_still (still x) (λ s h. h)) h
+listed_still A B still (x ∷ y ∷ xs) s h =
+    then_still (λ s h. h) (λ t. then_still (still x) (λ u. then_still (λ s h. h) (λ v. then_still (λ s h. h) (listed_still A B still (y ∷ xs))))) h
+
+pub enclosed_still : {X : Type 0} (A B : X → List ℕ → Type 0) → ((x : X) (s : List ℕ) → A x s → B x s)
+    → (xs : List X) (s : List ℕ) → InParentheses A xs s → InParentheses B xs s
+enclosed_still A B still xs s h = then_still (λ s h. h) (listed_still A B still xs) h
+
+listed_all : {X : Type 0} (A : X → List ℕ → Type 0) (P : X → Type 0) → ((x : X) (s : List ℕ) → A x s → P x)
+    → (xs : List X) (s : List ℕ) → Listed A xs s → AllByRecursion P xs
+listed_all A P means [] s h = tt
+listed_all A P means (x ∷ []) s h = (means x h.second.front h.second.first, tt)
+listed_all A P means (x ∷ y ∷ xs) s h =
+    let rest = h.second.second.second in
+    (means x h.second.front h.second.first, listed_all A P means (y ∷ xs) rest.back rest.second)
+
+pub enclosed_all : {X : Type 0} (A : X → List ℕ → Type 0) (P : X → Type 0) → ((x : X) (s : List ℕ) → A x s → P x)
+    → (xs : List X) (s : List ℕ) → InParentheses A xs s → AllByRecursion P xs
+enclosed_all A P means xs s h = listed_all A P means xs h.back h.second
+
+-- ---- numbers
+
+-- digits before a dot, digits after it, and no exponent
+pub record IsPlain (n : Numeral) : Type 0 where
+  pub digits : Digits n.digits
+  pub decimals : Digits n.decimals
+  pub none : n.exponent ≡ []
+
+abbrev pub ArePlain : RawPoint → Type 0
+ArePlain p = IsPlain p.x × IsPlain p.y
+
+taken_still : (rounding : Rounding) (n : Numeral) → IsTaken Exact n → IsTaken rounding n
+taken_still Exact n h = h
+taken_still Nearest n h = omega (arith, h.0, length-append n.digits n.decimals)
+
+pub units_still : (rounding : Rounding) (k : ℕ) (n : Numeral) → IsPlain n → is_whole_by Exact k n ≡ true → units_by rounding k n ≡ units_by Exact k n
+units_still Exact k n plain whole = refl
+units_still Nearest k n plain whole = whole_units k n plain.digits plain.decimals plain.none whole
+
+pub whole_still : (rounding : Rounding) (k : ℕ) (n : Numeral) → is_whole_by Exact k n ≡ true → is_whole_by rounding k n ≡ true
+whole_still Exact k n whole = whole
+whole_still Nearest k n whole = refl
+
+module _ (exact scale : Scale) (is : rounding_of exact ≡ Exact) where
+  taken_exact : (n : Numeral) → IsTaken (rounding_of exact) n → IsTaken Exact n
+  taken_exact n h = subst (λ r. IsTaken r n) is h
+
+  number_still : (n : Numeral) (s : List ℕ) → Number exact n s → Number scale n s
+  number_still n s h = (taken_still (rounding_of scale) n (taken_exact n h.0), h.1)
+
+  number_plain : (n : Numeral) (s : List ℕ) → Number exact n s → IsPlain n
+  number_plain n s h = record {
+    digits = h.1.second.first.0;
+    decimals = h.1.second.second.first.0;
+    none = (taken_exact n h.0).1;
+  }
+
+  pub point_still : (p : RawPoint) (s : List ℕ) → PointText exact p s → PointText scale p s
+  point_still p s h = then_still (number_still p.x) (λ t. then_still (λ s h. h) (number_still p.y)) h
+
+  pub point_plain : (p : RawPoint) (s : List ℕ) → PointText exact p s → ArePlain p
+  point_plain p s h = (number_plain p.x h.front h.first, number_plain p.y h.second.back h.second.second)
+
+  -- ---- texts
+
+  pub list_still : (ps : List RawPoint) (s : List ℕ) → PointList exact ps s → PointList scale ps s
+  list_still = enclosed_still (PointText exact) (PointText scale) point_still
+
+  pub list_plain : (ps : List RawPoint) (s : List ℕ) → PointList exact ps s → AllByRecursion ArePlain ps
+  list_plain = enclosed_all (PointText exact) ArePlain point_plain
+
+  body_still : (keyword : Keyword) (lists : List (List RawPoint)) (s : List ℕ) → Body exact keyword lists s → Body scale keyword lists s
+  body_still Point [] s h = h
+  body_still Point ([] ∷ lists) s h = h
+  body_still Point ((p ∷ []) ∷ []) s h = list_still (p ∷ []) s h
+  body_still Point ((p ∷ []) ∷ q ∷ lists) s h = h
+  body_still Point ((p ∷ q ∷ ps) ∷ lists) s h = h
+  body_still LineString [] s h = h
+  body_still LineString (ps ∷ []) s h = list_still ps s h
+  body_still LineString (ps ∷ qs ∷ lists) s h = h
+  body_still Polygon lists s h = enclosed_still (PointList exact) (PointList scale) list_still lists s h
+
+  body_plain : (keyword : Keyword) (lists : List (List RawPoint)) (s : List ℕ) → Body exact keyword lists s → AllByRecursion (AllByRecursion ArePlain) lists
+  body_plain Point [] s h = absurd h
+  body_plain Point ([] ∷ lists) s h = absurd h
+  body_plain Point ((p ∷ []) ∷ []) s h = (list_plain (p ∷ []) s h, tt)
+  body_plain Point ((p ∷ []) ∷ q ∷ lists) s h = absurd h
+  body_plain Point ((p ∷ q ∷ ps) ∷ lists) s h = absurd h
+  body_plain LineString [] s h = absurd h
+  body_plain LineString (ps ∷ []) s h = (list_plain ps s h, tt)
+  body_plain LineString (ps ∷ qs ∷ lists) s h = absurd h
+  body_plain Polygon lists s h = enclosed_all (PointList exact) (AllByRecursion ArePlain) list_plain lists s h
+
+  pub raw_still : (text : List ℕ) (keyword : Keyword) (lists : List (List RawPoint)) → Raw exact text keyword lists → Raw scale text keyword lists
+  raw_still text keyword lists h =
+      then_still (λ s h. h) (λ t. then_still (λ s h. h) (λ u. then_still (λ s h. h) (λ v. then_still (body_still keyword lists) (λ s h. h)))) h
+
+  pub raw_plain : (text : List ℕ) (keyword : Keyword) (lists : List (List RawPoint)) → Raw exact text keyword lists
+      → AllByRecursion (AllByRecursion ArePlain) lists
+  raw_plain text keyword lists h = let body = h.second.second.second in body_plain keyword lists body.front body.first
+
+  -- ---- values
+
+  module _ (digits : digits_of scale ≡ digits_of exact) where
+    whole_exact : (n : Numeral) → IsGood exact n → is_whole_by Exact (digits_of scale) n ≡ true
+    whole_exact n good = rw digits (subst (λ r. is_whole_by r (digits_of exact) n ≡ true) is good.whole)
+
+    value_alike : (n : Numeral) → IsPlain n → IsGood exact n → value scale n ≡ value exact n
+    value_alike n plain good =
+        ap (signed n.negative) (units_still (rounding_of scale) (digits_of scale) n plain (whole_exact n good)
+        ∙ ap (λ k. units_by Exact k n) digits ∙ ap (λ r. units_by r (digits_of exact) n) (sym is))
+
+    good_alike : (n : Numeral) → IsPlain n → IsGood exact n → IsGood scale n
+    good_alike n plain good = record {
+      whole = whole_still (rounding_of scale) (digits_of scale) n (whole_exact n good);
+      in_range = subst IsCoordinate (sym (value_alike n plain good)) good.in_range;
+    }
+
+    points_alike : (ps : List RawPoint) → AllByRecursion ArePlain ps → AllByRecursion (HasGoodNumbers exact) ps
+        → AllByRecursion (HasGoodNumbers scale) ps × (map (position scale) ps ≡ map (position exact) ps)
+    points_alike [] plain good = (tt, refl)
+    points_alike (p ∷ ps) plain good =
+        let rest = points_alike ps plain.1 good.1 in
+        let x = value_alike p.x plain.0.0 good.0.0 in
+        let y = value_alike p.y plain.0.1 good.0.1 in (
+          ((good_alike p.x plain.0.0 good.0.0, good_alike p.y plain.0.1 good.0.1), rest.0),
+          ap₂ (λ (q : Position) (qs : List Position). q ∷ qs) (λ i. record { x = x i; y = y i }) rest.1,
+        )
+
+    pub lists_alike : (lists : List (List RawPoint)) → AllByRecursion (AllByRecursion ArePlain) lists → AllNumbersGood exact lists
+        → AllNumbersGood scale lists × (positions scale lists ≡ positions exact lists)
+    lists_alike [] plain good = (tt, refl)
+    lists_alike (ps ∷ lists) plain good =
+        let first = points_alike ps plain.0 good.0 in
+        let rest = lists_alike lists plain.1 good.1 in
+        ((first.0, rest.0), ap₂ (λ (qs : List Position) (others : List (List Position)). qs ∷ others) first.1 rest.1)
+
+pub spelled_alike : (exact scale : Scale) (text : List ℕ) (s : Shape) → rounding_of exact ≡ Exact → digits_of scale ≡ digits_of exact
+    → Spells exact text s → Spells scale text s
+spelled_alike exact scale text s is digits h =
+    let alike = lists_alike exact scale is digits h.lists (raw_plain exact scale is text h.keyword h.lists h.raw) h.good in
+    record {
+      keyword = h.keyword;
+      lists = h.lists;
+      raw = raw_still exact scale is text h.keyword h.lists h.raw;
+      good = alike.0;
+      forms = subst (λ ps. Forms h.keyword ps s) (sym alike.1) h.forms;
+    }
