@@ -68,20 +68,20 @@ def read_texts(found: Equations) -> Iterator[str]:
             yield place + cause
 
 
-def told_by_code() -> set[str]:
+def lines_of_code() -> set[str]:
     found = definitions()
     lines = texts(found, "run_text") + texts(found, "word_fault_line")
     return {INPUT.sub("INPUT: ", line) for line in lines if line}
 
 
-def told_by_page() -> set[str]:
+def lines_of_page() -> set[str]:
     page = Path(ROOT, "docs/FAULTS.md").read_text(encoding="utf-8")
     lines = (LINE.match(line) for line in page.splitlines())
     return {INPUT.sub("INPUT: ", line.group(1)) for line in lines if line}
 
 
 def main() -> int:
-    code, page = told_by_code(), told_by_page()
+    code, page = lines_of_code(), lines_of_page()
     for line in sorted(code - page):
         print(f"not on the page: {line}")
     for line in sorted(page - code):

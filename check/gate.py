@@ -152,12 +152,12 @@ def stop_what_is_left() -> list[str]:
     """Ends what a part has left running, whose parent is this process once its own has ended. Returns the names."""
     names: list[str] = []
     for number in (signal.SIGTERM, signal.SIGKILL):
-        deadline, told = time.monotonic() + GRACE_SECONDS, set[int]()
+        deadline, warned = time.monotonic() + GRACE_SECONDS, set[int]()
         while (left := reap(children())) and time.monotonic() < deadline:
-            for process in left - told:
+            for process in left - warned:
                 names += [name_of(process)] if number == signal.SIGTERM else []
                 os.kill(process, number)
-            told |= left
+            warned |= left
             time.sleep(0.1)
     return names
 
@@ -267,7 +267,7 @@ def run_lane(parts: list[Part], deadline: float, results: Connection, printing: 
 
 
 def start_lane(parts: list[Part], deadline: float, printing: Lock) -> Connection:
-    """Starts a process for a lane, by which its parts' children and times are told from those of the other lane.
+    """Starts a process for a lane, by which its parts' children and times are kept apart from those of the other.
     Returns where the results come from."""
     receiver, sender = FORK.Pipe(duplex=False)
     FORK.Process(target=run_lane, args=(parts, deadline, sender, printing)).start()

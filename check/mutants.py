@@ -277,7 +277,7 @@ def owner_of(named: str, function: str, functions: set[str]) -> tuple[str, str]:
     answer = re.fullmatch(r"Rattle\.(\w+)\.proofs\.(.+)\.Answers\.([^.]+)", named)
     goal = answer[3] if answer else named
     path = [answer[1], *answer[2].split(".")] if answer else function.split("::")
-    # of functions that call one another, goals are told together, each after the name of its function; the goal of a
+    # the goals of functions that call one another come together, each after the name of its function; the goal of a
     # call's requires is named after what is called
     first, _, rest = goal.partition("-")
     beside = "::".join([*path[:-1], first])
@@ -294,8 +294,8 @@ def owner_of(named: str, function: str, functions: set[str]) -> tuple[str, str]:
 def refusals(said: str, hole: str) -> dict[str, set[str]] | None:
     """Returns the goals that were refused, by the function that owes them, or None where no function was judged. What
     rests on this hole is none."""
-    told = [line.removeprefix("fn ").partition(": ") for line in said.splitlines() if line.startswith("fn ")]
-    functions = {function for function, _, _ in told}
+    reported = [line.removeprefix("fn ").partition(": ") for line in said.splitlines() if line.startswith("fn ")]
+    functions = {function for function, _, _ in reported}
     goals: dict[str, set[str]] = {}
     noted: set[str] = set()
     for line in said.splitlines():
@@ -310,7 +310,7 @@ def refusals(said: str, hole: str) -> dict[str, set[str]] | None:
             owner, goal = owner_of(it, function, functions)
             goals.setdefault(owner, set()).add(goal)
         noted = set()
-    return goals if told else None
+    return goals if reported else None
 
 
 def is_at(goal: str, clause: str) -> bool:
@@ -364,7 +364,7 @@ def is_proved(function: str, verdicts: dict[str, str], hole: str) -> bool:
 def unchanged(crate: str, of: Uses, groups: list[Group]) -> list[Answer]:
     """Checks a crate's groups with nothing changed, and returns for each function and copy whether it was proved, and a
     line that tells."""
-    told = []
+    reported = []
     with kept_of(crate, groups) as kept:
         for group in groups:
             said = check(crate, of, group, kept)
@@ -375,15 +375,15 @@ def unchanged(crate: str, of: Uses, groups: list[Group]) -> list[Answer]:
                 is_well = bool(found) and all(is_proved(it, verdicts, hole_of(crate)) for it in found)
                 why = "; ".join(verdicts[it] for it in found) or said.strip()[:300]
                 answer = "is proved" if is_well else f"NOT PROVED: {why}"
-                told.append(Answer(is_well, f"{crate}/{function}: unchanged, {answer}"))
-    return told
+                reported.append(Answer(is_well, f"{crate}/{function}: unchanged, {answer}"))
+    return reported
 
 
 def tried(crate: str, of: Uses, groups: list[Group]) -> list[Answer]:
     """Tries a crate's groups in turn, each over what `rt check` and the checks before it proved. A mutant that was not
     refused is tried again by itself, since the goals of a function may wait for another that it calls."""
     folder = f"{ROOT}/crates/{crate}"
-    told: list[Answer] = []
+    reported: list[Answer] = []
     with kept_of(crate, groups) as kept:
         for group in groups:
             answers, others = judged(crate, group, check(crate, of, group, kept))
@@ -391,10 +391,11 @@ def tried(crate: str, of: Uses, groups: list[Group]) -> list[Answer]:
                 if not answers[at].is_well and len(group.mutants) > 1:
                     alone = Group().put(folder, mutant).stub_others(folder)
                     (answers[at],), _ = judged(crate, alone, check(crate, of, alone, kept))
-            told += answers
+            reported += answers
             if others and not group.is_alone():
-                told.append(Answer(False, f"{crate}: refused too, with no mutant for it: {', '.join(sorted(others))}"))
-    return told
+                names = ", ".join(sorted(others))
+                reported.append(Answer(False, f"{crate}: refused too, with no mutant for it: {names}"))
+    return reported
 
 
 def mutants_of(crate: str, names: list[str]) -> list[Mutant]:

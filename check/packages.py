@@ -44,7 +44,7 @@ _rjoin "$program"
 printf '%s\\n' "${COMPREPLY[@]}"
 """
 LINK = re.compile(r"\]\((?!https?:|#)([^)#]+)")
-# What is told of the sources, and is only there.
+# Papers that exist in the sources alone, to which the packages may refer.
 OUTSIDE = {"LICENSE", "CONTRIBUTING.md", "../CONTRIBUTING.md", "../LICENSE"}
 PAPERS = {
     "rjoin": {
@@ -96,8 +96,8 @@ def words_of(text: str) -> str:
 def version_is_that_of_the_changelog(it: Tried) -> None:
     found = RELEASE.search((ROOT / "CHANGELOG.md").read_text(encoding="utf-8"))
     assert found
-    told = output_of(it.program, "--version")
-    expect(told == f"rjoin {found[1]}", f"the program tells {told!r}, and the newest of CHANGELOG.md is {found[1]}")
+    shown = output_of(it.program, "--version")
+    expect(shown == f"rjoin {found[1]}", f"the program says {shown!r}, and the newest of CHANGELOG.md is {found[1]}")
 
 
 def second_build_has_the_same_bytes(it: Tried) -> None:
@@ -234,8 +234,8 @@ def manual_has_all_of_the_help(it: Tried) -> None:
     text = words_of(shown.stdout.decode())
     whole = [str(it.launcher)]
     for words in [whole, *(whole + [name] for name in commands(help_of(it.program)))]:
-        told = COMMANDS.sub("", well(ran(*words, "--help")).stdout.decode())
-        for line in told.splitlines():
+        shown = COMMANDS.sub("", well(ran(*words, "--help")).stdout.decode())
+        for line in shown.splitlines():
             is_there = words_of(line.removeprefix("Usage: ")).casefold() in text.casefold()
             expect(is_there or line in TITLES, line)
 
@@ -256,12 +256,12 @@ def completion_offers_what_the_help_lists(it: Tried) -> None:
     expect(completions(it, "") == {*OPTIONS, "help"} == completions(it, "help", "") | {"help"}, completions(it, ""))
     expect(completions(it, "--") == {"--help", "--version"}, completions(it, "--"))
     for name, options in OPTIONS.items():
-        told = set(re.findall(r"--\w+", "\n".join(help_of(it.program, name).entries["Options"])))
-        expect(completions(it, name, "--") == options == told, (name, completions(it, name, "--")))
+        shown = set(re.findall(r"--\w+", "\n".join(help_of(it.program, name).entries["Options"])))
+        expect(completions(it, name, "--") == options == shown, (name, completions(it, name, "--")))
         expect(completions(it, name, "--scale", "") == SCALES, (name, completions(it, name, "--scale", "")))
-    told = set(re.findall(r"^  ([a-z_]+)(?:  |$)", well(ran(it.program, "join", "--help")).stdout.decode(), re.M))
+    shown = set(re.findall(r"^  ([a-z_]+)(?:  |$)", well(ran(it.program, "join", "--help")).stdout.decode(), re.M))
     for name in ("join", "draw"):
-        expect(completions(it, name, "--relation", "") == RELATIONS == told - {"disjoint"}, name)
+        expect(completions(it, name, "--relation", "") == RELATIONS == shown - {"disjoint"}, name)
     expect(completions(it, "join", "par") == {"parcels.csv"}, completions(it, "join", "par"))
     expect(completions(it, "join", "--edits", "road") == {"roads.csv"}, completions(it, "join", "--edits", "road"))
     expect(completions(it, "join", "--workers", "") == set(), completions(it, "join", "--workers", ""))

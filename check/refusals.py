@@ -122,8 +122,8 @@ def ran_refused(shim: str, words: list[str], kind: str, way: str, at: int) -> En
         ended = ran(words, env, tells)
     finally:
         os.close(tells)
-    with os.fdopen(heard, "rb") as told:
-        ended.is_refused = bool(told.read())
+    with os.fdopen(heard, "rb") as reported:
+        ended.is_refused = bool(reported.read())
     return ended
 
 
@@ -149,11 +149,12 @@ def judged(kind: str, way: str, plain: Ended, ended: Ended) -> str | None:
         return None  # a note that standard error hasn't taken
     if ended.status not in (1, plain.status) or ended.status == 0:
         return "another answer with status 0, or a wrong status"
-    is_told = bool(re.fullmatch(line, ended.errors))
+    is_reported = bool(re.fullmatch(line, ended.errors))
     if kind != "write":
-        return None if is_told and not ended.output else "not its line, or part of a report"
-    is_told = is_told or (plain.errors != b"" and plain.errors.startswith(ended.errors))
-    return None if is_told and plain.output.startswith(ended.output) else "not its line, or no beginning of the report"
+        return None if is_reported and not ended.output else "not its line, or part of a report"
+    is_reported = is_reported or (plain.errors != b"" and plain.errors.startswith(ended.errors))
+    is_beginning = plain.output.startswith(ended.output)
+    return None if is_reported and is_beginning else "not its line, or no beginning of the report"
 
 
 def swept(it: Sweep) -> Tally:
@@ -527,25 +528,25 @@ def counted(shim: str, program: str, calls: Calls) -> Tally:
     return tally
 
 
-def told_as_thread(shim: str, words: list[str]) -> Tally:
-    """Refuses memory once, the first time and on, and counts a run for each time that is told as a missing thread."""
+def reported_as_thread(shim: str, words: list[str]) -> Tally:
+    """Refuses memory once, at each time in turn, and counts the runs that report it as a missing thread."""
     tally = Tally()
     for at in count(1):
         ended = ran_refused(shim, words, "memory", "once", at)
         if re.fullmatch(NO_THREAD, ended.errors):
-            tally.add(f"memory {at} of {words[1:]}", ended, "told as a thread")
+            tally.add(f"memory {at} of {words[1:]}", ended, "reported as a thread")
         if not ended.is_refused:
             break
     return tally
 
 
 def named_memory(shim: str, program: str) -> Tally:
-    """Sees that refused memory is told as memory. To start a thread the program takes memory once, so as many refusals
-    as there are workers may be told as a thread's. More may be where threads ran in another order from one run to the
-    next, so the least of several sweeps counts."""
+    """Sees that refused memory is reported as memory. To start a thread the program takes memory once, so as many
+    refusals as there are workers may be reported as a thread's. There may be more if threads ran in another order from
+    one run to the next, so the least of several sweeps counts."""
     workers, words = 3, [program, *commands()["join"], "--workers", "3"]
     for _ in range(SWEEPS):
-        tally = told_as_thread(shim, words)
+        tally = reported_as_thread(shim, words)
         if tally.runs <= workers:
             return Tally(tally.runs)
     return tally

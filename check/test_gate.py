@@ -145,17 +145,17 @@ class Gate(unittest.TestCase):
 
     def test_a_gate_that_is_stopped_prints_and_leaves_nothing_running(self) -> None:
         with tempfile.TemporaryDirectory() as room:
-            lanes = [shell(name, f"echo told {name}; echo $$ >{room}/{name}; exec sleep 600", lane)
+            lanes = [shell(name, f"echo reported {name}; echo $$ >{room}/{name}; exec sleep 600", lane)
                      for name, lane in (("heavy", HEAVY), ("light", LIGHT))]
             with subprocess.Popen(words_of(*lanes), stdout=subprocess.PIPE, text=True) as running:
                 numbers = [Path(room, name) for name in ("heavy", "light")]
                 while not all(path.exists() and path.read_text(encoding="ascii") for path in numbers):
                     time.sleep(0.05)
                 running.send_signal(signal.SIGTERM)
-                told, _ = running.communicate(timeout=30)
+                reported, _ = running.communicate(timeout=30)
             left = [path for path in numbers if Path("/proc", path.read_text(encoding="ascii").strip()).exists()]
         self.assertEqual((running.returncode, left), (143, []))
-        self.assertLessEqual({"told heavy", "told light"}, set(told.splitlines()))
+        self.assertLessEqual({"reported heavy", "reported light"}, set(reported.splitlines()))
 
     def test_parts_read_nothing(self) -> None:
         self.last(0, "1 passed, 0 failed, 0 skipped", shell("reads", "test -z \"$(cat)\""))

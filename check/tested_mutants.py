@@ -148,14 +148,14 @@ def tried(mutant: Mutant) -> tuple[bool, str]:
 
 def unchanged(wanted: list[Mutant]) -> list[tuple[bool, str]]:
     """How the tests that mutants name end with nothing changed."""
-    told = []
+    reported = []
     for crate in sorted({it.tests for it in wanted}):
         tests = sorted({it.test for it in wanted if it.tests == crate})
         found = verdicts(crate, tests)
         for test in tests:
             verdict = found.get(test, f"NOT RUN {found.get('', '')}")
-            told.append((verdict == "ok", f"{crate} {test}: unchanged, {verdict}"))
-    return told
+            reported.append((verdict == "ok", f"{crate} {test}: unchanged, {verdict}"))
+    return reported
 
 
 def try_tests() -> int:

@@ -46,8 +46,8 @@ class Help:
 
 def help_of(program: Path, *words: str) -> Help:
     """What the program prints for the words and --help."""
-    told = ("rjoin", *words, "--help")  # usage lines begin with the name that the program is called by
-    ran = subprocess.run(told, executable=program, capture_output=True, text=True, check=True)
+    words_of_help = ("rjoin", *words, "--help")  # usage lines begin with the name that the program is called by
+    ran = subprocess.run(words_of_help, executable=program, capture_output=True, text=True, check=True)
     about, usage, *rest = (paragraph.split("\n") for paragraph in ran.stdout.strip("\n").split("\n\n"))
     lists = {"Commands:", "Arguments:", "Options:"}
     entries = {lines[0].rstrip(":"): lines[1:] for lines in rest if lines[0] in lists}
