@@ -41,6 +41,14 @@ def random_rectangles(size: int, random: Random) -> Iterator[str]:
         yield rectangle(x, y, x + 1 + random.below(20), y + 1 + random.below(20))
 
 
+def random_small_rectangles(size: int, random: Random) -> Iterator[str]:
+    """Rectangles that cover a sixteenth of the square."""
+    side = 10 * isqrt(size)
+    for _ in range(size):
+        x, y = random.below(side), random.below(side)
+        yield rectangle(x, y, x + 1 + random.below(4), y + 1 + random.below(4))
+
+
 def random_mixture(size: int, random: Random) -> Iterator[str]:
     """Points, segments along either axis and rectangles on a coarse grid, where ends and sides often coincide."""
     side = 4 * isqrt(size)
@@ -119,8 +127,13 @@ class Kind:
     left: Callable[[int, Random], Iterator[str]]
     right: Callable[[int, Random], Iterator[str]]
     relation: str
-    # What `--geometry` says of the layers.
+    # What `--geometry` says of the layers; or `near` for boxes within a distance.
     geometry: str = "box"
+
+    @property
+    def distance(self) -> int | None:
+        """The distance within which the features of a pair lie, where that is what they are joined by."""
+        return int(self.relation.split()[1]) if self.geometry == "near" else None
 
 
 KINDS = {
@@ -129,6 +142,8 @@ KINDS = {
     "mixture": Kind(random_mixture, random_mixture, "touches"),
     "cadastre": Kind(parcels, blocks, "touches"),
     "chip": Kind(chip_bars, chip_wires, "intersects"),
+    "close": Kind(random_small_rectangles, random_small_rectangles, "within 5", "near"),
+    "wide": Kind(random_small_rectangles, random_small_rectangles, "within 22", "near"),
     "parcels": Kind(irregular.parcels, irregular.shifted_parcels, "intersects", "any"),
     "neighbours": Kind(irregular.parcels, irregular.parcels, "touches", "any"),
     "roads": Kind(irregular.roads, irregular.parcels, "crosses", "any"),

@@ -9,8 +9,8 @@ from xml.sax.saxutils import escape
 
 from programs import Program, Run
 
-COLOURS = ("#1b6ca8", "#8aa29e", "#c98b3c", "#7b5ea7", "#5b8c5a")
-TITLES = {"box": "Points, segments and rectangles", "any": "Any geometry"}
+COLOURS = ("#1b6ca8", "#8aa29e", "#c98b3c", "#7b5ea7", "#5b8c5a", "#a8553f")
+TITLES = {"box": "Points, segments and rectangles", "near": "Boxes within a distance", "any": "Any geometry"}
 WIDTH = 760
 LABEL = 130
 BAR = 15
@@ -41,7 +41,7 @@ def write(options: Namespace, everyone: list[Program], rows: list[Row], wrong: l
 
 def page(options: Namespace, everyone: list[Program], rows: list[Row], wrong: list[str]) -> str:
     versions = ", ".join(f"{program.name} {program.version.removeprefix('rjoin ')}" for program in everyone)
-    answer = "Every program gave the same pairs with the same DE-9IM letters." if not wrong else "\n".join(wrong)
+    answer = "Every program gave the same pairs with the same DE-9IM letters or distances." if not wrong else "\n".join(wrong)
     groups = "\n\n".join(group(options, title, [row for row in rows if row.geometry == geometry])
                          for geometry, title in TITLES.items() if any(row.geometry == geometry for row in rows))
     return f"""# Bench
@@ -72,6 +72,8 @@ def page(options: Namespace, everyone: list[Program], rows: list[Row], wrong: li
 | mixture | points, segments and rectangles on a coarse grid, so that ends and sides coincide | the same |
 | cadastre | square parcels side by side | blocks of two by two parcels |
 | chip | horizontal bars, eight a cell | vertical wires, eight a cell, every second one without a width |
+| close | random rectangles that cover a sixteenth of the square, with about two others within the distance | the same |
+| wide | such rectangles, with about twenty others within the distance | the same |
 | parcels | irregular parcels of 14 vertices on average, which share their sides | other such parcels, half a row away |
 | neighbours | such parcels | the same parcels |
 | roads | polylines of 2 to 33 vertices | such parcels |
@@ -82,7 +84,7 @@ The generator has a fixed seed (`bench/layers.py`, and `bench/irregular.py` for 
 
 ## What the peers do
 
-GEOS (C interface): an STRtree of the right layer, prepared geometries, the named predicate, and the letters of the pairs that hold. GEOS plain: the letters of all pairs whose boxes meet, fitted to the masks. Boost.Geometry: a packed R-tree of boxes and `relation`, fitted to the masks. These read the CSV files themselves and join by as many threads as rjoin. PostGIS: `\\copy` into unlogged tables, a GiST index each, `ANALYZE`, the join with `ST_Relate`; all of that is in its seconds. All of them take geometries of any form, and rjoin reads the first five kinds as points, axis-parallel segments and rectangles, which has a part in the difference. GEOS and Boost.Geometry round the points where lines cross, so their letters may differ from the exact ones.
+GEOS (C interface): an STRtree of the right layer, prepared geometries, the named predicate, and the letters of the pairs that hold. GEOS plain: the letters of all pairs whose boxes meet, fitted to the masks. GEOS distance: the tree is asked by the left envelope, grown by the distance, and the prepared left geometry gives the distance. Boost.Geometry: a packed R-tree of boxes and `relation`, fitted to the masks. These read the CSV files themselves and join by as many threads as rjoin. PostGIS: `\\copy` into unlogged tables, a GiST index each, `ANALYZE`, the join with `ST_Relate`, or `ST_DWithin` with `ST_Distance`; all of that is in its seconds. All of them take geometries of any form, and rjoin reads the first seven kinds as points, axis-parallel segments and rectangles, which has a part in the difference. GEOS and Boost.Geometry round the points where lines cross, so their letters may differ from the exact ones.
 """  # noqa: E501
 
 

@@ -14,14 +14,15 @@ Words = list[str | Path]
 
 @dataclass(frozen=True)
 class Task:
-    """Two layers, the relation that they are joined by, what `--geometry` says of them, and how many threads may
-    work."""
+    """Two layers, the relation or the distance that they are joined by, what `--geometry` says of them, and how many
+    threads may work."""
 
     left: Path
     right: Path
     relation: str
     geometry: str
     workers: int
+    distance: int | None = None
 
 
 @dataclass(frozen=True)
@@ -65,17 +66,20 @@ def rjoin(path: str | Path) -> Program:
     program = built if Path(path) == HERE.parent / "rjoin" else path
 
     def words(task: Task) -> Words:
+        if task.distance is not None:
+            return [program, "near", task.left, task.right, "--distance", str(task.distance),
+                    "--workers", str(task.workers)]
         geometry = ["--geometry", task.geometry] if task.geometry != "box" else []
         return [program, "join", task.left, task.right, "--relation", task.relation, *geometry,
                 "--workers", str(task.workers)]
 
-    return Program("rjoin", version, words, ("box", "any"))
+    return Program("rjoin", version, words, ("box", "near", "any"))
 
 
 def built(source: Path, *libraries: str) -> Path | None:
     """A C++ peer, built where it isn't there or is older than its source; None where that fails."""
     program = BUILT / source.stem
-    sources = [source, HERE / "peers/common.hpp"]
+    sources = [source, *HERE.glob("peers/*.hpp")]
     if program.exists() and all(program.stat().st_mtime > file.stat().st_mtime for file in sources):
         return program
     print(f"building {source.name}", flush=True)
@@ -91,22 +95,27 @@ def header_version(header: str, macro: str) -> str | None:
 
 
 def cplusplus_words(program: Path, way: list[str], task: Task) -> Words:
-    return [program, task.left, task.right, task.relation, str(task.workers), *way]
+    asked = task.relation if task.distance is None else str(task.distance)
+    return [program, task.left, task.right, asked, str(task.workers), *way]
 
 
-def geos_by(name: str, way: list[str], *geometries: str) -> Program | None:
-    """The join on GEOS by one of its two ways."""
+def geos_by(source: str, name: str, way: list[str], *geometries: str) -> Program | None:
+    """A program on GEOS, by one of its ways."""
     version = header_version("geos_c.h", "GEOS_VERSION")
-    program = built(HERE / "peers/geos_join.cpp", "-lgeos_c") if version else None
+    program = built(HERE / f"peers/{source}.cpp", "-lgeos_c") if version else None
     return Program(name, version, partial(cplusplus_words, program, way), geometries) if version and program else None
 
 
 def geos() -> Program | None:
-    return geos_by("GEOS", [], "box", "any")
+    return geos_by("geos_join", "GEOS", [], "box", "any")
 
 
 def geos_plain() -> Program | None:
-    return geos_by("GEOS plain", ["plain"], "any")
+    return geos_by("geos_join", "GEOS plain", ["plain"], "any")
+
+
+def geos_near() -> Program | None:
+    return geos_by("geos_near", "GEOS distance", [], "near")
 
 
 def boost() -> Program | None:
@@ -124,17 +133,20 @@ def postgis() -> Program | None:
     asked: Words = ["psql", "-qAtX", "-c", "set client_min_messages = error; create extension if not exists postgis",
                     "-c", "select postgis_lib_version()"]
     version = output_of(asked)
-    return Program("PostGIS", version, postgis_words) if version else None
+    return Program("PostGIS", version, postgis_words, ("box", "near")) if version else None
 
 
 def postgis_words(task: Task) -> Words:
     copies = [f"\\copy {side}_rows (id, geom) from '{path}' csv header"
               for side, path in (("left", task.left), ("right", task.right))]
-    return ["psql", "-qX", "--csv", "-v", f"relation=ST_{task.relation.title().replace('_', '')}",
-            "-v", f"workers={task.workers - 1}", "-f", HERE / "peers/tables.sql", "-c", copies[0], "-c", copies[1],
-            "-f", HERE / "peers/postgis_join.sql"]
+    if task.distance is None:
+        asked, query = f"relation=ST_{task.relation.title().replace('_', '')}", "postgis_join.sql"
+    else:
+        asked, query = f"distance={task.distance}", "postgis_near.sql"
+    return ["psql", "-qX", "--csv", "-v", asked, "-v", f"workers={task.workers - 1}", "-f", HERE / "peers/tables.sql",
+            "-c", copies[0], "-c", copies[1], "-f", HERE / "peers/indexes.sql", "-f", HERE / "peers" / query]
 
 
 PEERS: dict[str, Callable[[], Program | None]] = {
-    "geos": geos, "geos-plain": geos_plain, "boost": boost, "postgis": postgis,
+    "geos": geos, "geos-plain": geos_plain, "geos-near": geos_near, "boost": boost, "postgis": postgis,
 }

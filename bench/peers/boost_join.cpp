@@ -92,7 +92,8 @@ int main(int count, char** argument) {
     const Layer right = read_layer(words.right);
     const Tree tree = tree_of(right);
     const Stretch join{left, right, tree, table_of(words.relation)};
-    report(left.shapes.size(), words.workers, [&](std::size_t first, std::size_t last, std::string& text) {
+    report("left,right,matrix", left.shapes.size(), words.workers,
+           [&](std::size_t first, std::size_t last, std::string& text) {
         for (std::size_t at = first; at < last; ++at) join_one(join, at, text);
     });
     std::fflush(stdout);

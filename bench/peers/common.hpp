@@ -90,7 +90,7 @@ inline Table table_of(const std::string& relation) {
 
 // Runs `join(first, last, text)` on one stretch of the left layer for each worker, and writes the texts in order.
 template <class Join>
-void report(std::size_t size, unsigned workers, Join join) {
+void report(const char* header, std::size_t size, unsigned workers, Join join) {
     std::vector<std::string> texts(workers);
     std::vector<std::thread> threads;
     for (unsigned worker = 0; worker < workers; ++worker) {
@@ -99,10 +99,10 @@ void report(std::size_t size, unsigned workers, Join join) {
         });
     }
     for (auto& thread : threads) thread.join();
-    std::puts("left,right,matrix");
+    std::puts(header);
     for (const auto& text : texts) std::fwrite(text.data(), 1, text.size(), stdout);
 }
 
-inline void push_pair(std::string& text, const Row& left, const Row& right, const char* matrix) {
-    text.append(left.id).append(1, ',').append(right.id).append(1, ',').append(matrix).append(1, '\n');
+inline void push_pair(std::string& text, const Row& left, const Row& right, const char* answer) {
+    text.append(left.id).append(1, ',').append(right.id).append(1, ',').append(answer).append(1, '\n');
 }

@@ -2,10 +2,8 @@
 // predicate, and the matrix of the pairs for which it holds; or, as `plain`, the matrix of each pair whose boxes meet,
 // which the masks of the relation are fitted to.
 #include "common.hpp"
+#include "geos_layers.hpp"
 
-#include <algorithm>
-#include <cstdarg>
-#include <geos_c.h>
 #include <map>
 
 namespace {
@@ -20,36 +18,6 @@ const std::map<std::string, Predicate> predicates = {
     {"contains_properly", GEOSPreparedContainsProperly_r},
 };
 
-struct Layer {
-    std::vector<Row> rows;
-    std::vector<GEOSGeometry*> shapes;
-};
-
-Layer read_layer(GEOSContextHandle_t context, const char* path) {
-    Layer layer{read_rows(path), {}};
-    GEOSWKTReader* reader = GEOSWKTReader_create_r(context);
-    for (const Row& row : layer.rows) {
-        layer.shapes.push_back(GEOSWKTReader_read_r(context, reader, row.wkt.c_str()));
-        if (!layer.shapes.back()) throw std::runtime_error("not read: " + row.wkt);
-    }
-    GEOSWKTReader_destroy_r(context, reader);
-    return layer;
-}
-
-void note(void* item, void* found) {
-    static_cast<std::vector<std::size_t>*>(found)->push_back(reinterpret_cast<std::size_t>(item));
-}
-
-// The tree is built at its first query, which has to come before the threads.
-GEOSSTRtree* tree_of(GEOSContextHandle_t context, const Layer& layer) {
-    GEOSSTRtree* tree = GEOSSTRtree_create_r(context, 10);
-    for (std::size_t at = 0; at < layer.shapes.size(); ++at)
-        GEOSSTRtree_insert_r(context, tree, layer.shapes[at], reinterpret_cast<void*>(at));
-    std::vector<std::size_t> found;
-    if (!layer.shapes.empty()) GEOSSTRtree_query_r(context, tree, layer.shapes[0], note, &found);
-    return tree;
-}
-
 struct Stretch {
     const Layer& left;
     const Layer& right;
@@ -58,14 +26,6 @@ struct Stretch {
     const Table masks;
     bool is_plain;
 };
-
-// The features of the right layer whose boxes meet that of a feature of the left one, in order.
-std::vector<std::size_t> found_by(GEOSContextHandle_t context, const Stretch& join, std::size_t at) {
-    std::vector<std::size_t> found;
-    GEOSSTRtree_query_r(context, join.tree, join.left.shapes[at], note, &found);
-    std::sort(found.begin(), found.end());
-    return found;
-}
 
 std::string matrix_of(GEOSContextHandle_t context, const GEOSGeometry* left, const GEOSGeometry* right) {
     char* letters = GEOSRelate_r(context, left, right);
@@ -77,7 +37,7 @@ std::string matrix_of(GEOSContextHandle_t context, const GEOSGeometry* left, con
 
 void join_plain(GEOSContextHandle_t context, const Stretch& join, std::size_t at, std::string& text) {
     const GEOSGeometry* left = join.left.shapes[at];
-    for (const std::size_t other : found_by(context, join, at)) {
+    for (const std::size_t other : found_in(context, join.tree, left)) {
         const GEOSGeometry* right = join.right.shapes[other];
         const int a = GEOSGeom_getDimensions_r(context, left), b = GEOSGeom_getDimensions_r(context, right);
         const std::string matrix = matrix_of(context, left, right);
@@ -89,7 +49,7 @@ void join_plain(GEOSContextHandle_t context, const Stretch& join, std::size_t at
 void join_prepared(GEOSContextHandle_t context, const Stretch& join, std::size_t at, std::string& text) {
     const GEOSGeometry* left = join.left.shapes[at];
     const GEOSPreparedGeometry* prepared = GEOSPrepare_r(context, left);
-    for (const std::size_t other : found_by(context, join, at)) {
+    for (const std::size_t other : found_in(context, join.tree, left)) {
         const GEOSGeometry* right = join.right.shapes[other];
         if (join.holds(context, prepared, right) != 1) continue;
         push_pair(text, join.left.rows[at], join.right.rows[other], matrix_of(context, left, right).c_str());
@@ -106,7 +66,8 @@ int main(int count, char** argument) {
     const Layer right = read_layer(context, words.right);
     const Stretch join{left, right, tree_of(context, right), predicates.at(words.relation), table_of(words.relation),
                        words.is_plain};
-    report(left.shapes.size(), words.workers, [&](std::size_t first, std::size_t last, std::string& text) {
+    report("left,right,matrix", left.shapes.size(), words.workers,
+           [&](std::size_t first, std::size_t last, std::string& text) {
         GEOSContextHandle_t own = GEOS_init_r();
         for (std::size_t at = first; at < last; ++at)
             join.is_plain ? join_plain(own, join, at, text) : join_prepared(own, join, at, text);
