@@ -4,7 +4,7 @@ use Rattle.std.proofs.Common.{refl, sym, subst, ◌∙◌}
 use Rattle.std.specs.Prelude.{⊤}
 use Rattle.report_core.specs.Written.{AppendsPrefix}
 use Rattle.wkt_core.specs.declared.fault.WktFault.{WktFault}
-use Rattle.wkt_core.specs.declared.scale.Scale.{Scale}
+use Rattle.number_core.specs.declared.scale.Scale.{Scale}
 use Rattle.plane_core.specs.declared.rings.Rings.{Rings}
 use Rattle.join_core.specs.declared.fault.Input.{Input}
 use Rattle.join_core.specs.declared.fault.RunFault.{RunFault}

@@ -4,7 +4,7 @@ use Rattle.std.proofs.Common.{refl, sym, subst, ◌∙◌}
 use Rattle.std.specs.Prelude.{⊤}
 use Rattle.std.proofs.lemmas.Result.{IfErr-weaker}
 use Rattle.std.specs.Borrow.{Bor}
-use Rattle.wkt_core.specs.declared.scale.Scale.{Scale}
+use Rattle.number_core.specs.declared.scale.Scale.{Scale}
 use Rattle.layer_core.specs.Edits.{Layers}
 use Rattle.any_relation_core.specs.AnyRelations.{rings_of}
 use Rattle.format_core.specs.Formats.{ReadsAny, ReadsBox}

@@ -1,7 +1,7 @@
 -- The possible faults of a command, by the known content at its paths and of its files.
 use Rattle.std.proofs.Common.{◌≡◌, ℕ, List, Option, Some, None, Result, Ok, sym, ap, subst, ◌∙◌, refl}
 use Rattle.std.specs.Borrow.{Bor}
-use Rattle.wkt_core.specs.declared.scale.Scale.{Scale}
+use Rattle.number_core.specs.declared.scale.Scale.{Scale}
 use Rattle.layer_core.specs.Edits.{EditContent, Layers}
 use Rattle.any_geometry_core.specs.declared.geometry.AnyGeometry.{AnyGeometry}
 use Rattle.any_relation_core.specs.AnyRelations.{rings_of}

@@ -2,7 +2,7 @@
 use Rattle.std.specs.Prelude.{◌≡◌, ◌≢◌, ⊤, ℕ, List, [], ◌∷◌, ◌++◌, Option, Some, Bool, false}
 use Rattle.std.specs.Prelude.{Result, Ok, Err, IfSome, IfErr}
 use Rattle.relation_core.specs.Matrices.{letters_of}
-use Rattle.wkt_core.specs.declared.scale.Scale.{Scale}
+use Rattle.number_core.specs.declared.scale.Scale.{Scale}
 use Rattle.relate_any_core.specs.TextMatrices.{HasTextFault, IsRelated}
 use Rattle.relate_any_core.specs.declared.improper.Improper.{Improper}
 use Rattle.relate_any_core.specs.declared.texts.Related.{Related}

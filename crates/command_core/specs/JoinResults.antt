@@ -1,7 +1,7 @@
 -- The results and the faults of the join of a request, by the bytes of its files.
 use Rattle.std.specs.Prelude.{ℕ, List, Option, Some, None, Result}
 use Rattle.std.specs.Borrow.{Bor}
-use Rattle.wkt_core.specs.declared.scale.Scale.{Scale}
+use Rattle.number_core.specs.declared.scale.Scale.{Scale}
 use Rattle.format_core.specs.Formats.{Reading, ReadsAny, ReadsBox}
 use Rattle.options_core.specs.declared.product.Product.{Product}
 use Rattle.any_relation_core.specs.AnyRelations.{rings_of}

@@ -1,6 +1,6 @@
 -- The results and the faults of a command over one layer, by the kind of geometries.
 use Rattle.std.specs.Prelude.{ℕ, List, Option, Result}
-use Rattle.wkt_core.specs.declared.scale.Scale.{Scale}
+use Rattle.number_core.specs.declared.scale.Scale.{Scale}
 use Rattle.any_geometry_core.specs.AnyGeometries.{box_of}
 use Rattle.format_core.specs.Formats.{ReadsAny, ReadsBox}
 use Rattle.join_core.specs.declared.fault.RunFault.{RunFault}

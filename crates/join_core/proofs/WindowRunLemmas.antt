@@ -3,7 +3,7 @@ use Rattle.std.proofs.Common.{◌≡◌, ℕ, List, Option, Bool, true, false, R
 use Rattle.std.proofs.lemmas.Result.{IfErr-weaker}
 use Rattle.geom_core.specs.declared.shape.Shape.{Shape}
 use Rattle.wkt_core.specs.declared.fault.WktFault.{WktFault}
-use Rattle.wkt_core.specs.declared.scale.Scale.{Scale}
+use Rattle.number_core.specs.declared.scale.Scale.{Scale}
 use Rattle.wkt_core.specs.Readings.{Reads}
 use Rattle.format_core.specs.Formats.{ReadsBox}
 use Rattle.join_core.specs.declared.fault.Input.{Input}

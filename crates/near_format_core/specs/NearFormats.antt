@@ -1,6 +1,6 @@
 -- How the text of a box reads for a join by distance.
 use Rattle.std.specs.Prelude.{◌≡◌, ℕ, List, Result, Ok, Err}
-use Rattle.wkt_core.specs.declared.scale.Scale.{Scale}
+use Rattle.number_core.specs.declared.scale.Scale.{Scale}
 use Rattle.format_core.specs.declared.text_fault.TextFault.{TextFault}
 use Rattle.format_core.specs.Formats.{ReadsBox}
 use Rattle.distance_core.specs.declared.distance.Distance.{Distance}

@@ -1,7 +1,7 @@
 -- Which of two texts is at fault.
 use Rattle.std.proofs.Common.{◌≡◌, ℕ, List, Result, Ok, Err, subst, ◌↔◌}
 use Rattle.plane_core.specs.Figures.{Figure}
-use Rattle.wkt_core.specs.declared.scale.Scale.{Scale}
+use Rattle.number_core.specs.declared.scale.Scale.{Scale}
 use Rattle.wkt_any_core.specs.declared.fault.GeometryFault.{GeometryFault}
 use Rattle.plane_core.specs.declared.rings.Rings.{Rings}
 use Rattle.wkt_any_core.specs.Readings.{Reads}

@@ -3,7 +3,7 @@ use Rattle.std.specs.Prelude.{ℕ, List, Ok, Err, IsTrue, ◌↔◌}
 use Rattle.plane_core.specs.Figures.{Figure}
 use Rattle.plane_core.specs.PlaneMatrices.{IsPlaneMatrix}
 use Rattle.plane_core.specs.ProperRings.{HasProperRings}
-use Rattle.wkt_core.specs.declared.scale.Scale.{Scale}
+use Rattle.number_core.specs.declared.scale.Scale.{Scale}
 use Rattle.plane_core.specs.declared.rings.Rings.{Rings}
 use Rattle.plane_core.specs.declared.rings.Rings.TheVariants.{Proper, EvenOdd}
 use Rattle.wkt_any_core.specs.Readings.{Reads}

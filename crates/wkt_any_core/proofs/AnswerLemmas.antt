@@ -15,7 +15,7 @@ use Rattle.plane_core.specs.Vertices.{paths_in}
 use Rattle.wkt_core.specs.declared.keyword.Keyword.{Keyword}
 use Rattle.wkt_core.specs.declared.keyword.Keyword.TheVariants.{Point, LineString, Polygon}
 use Rattle.wkt_core.specs.declared.position.Position.{Position}
-use Rattle.wkt_core.specs.declared.scale.Scale.{Scale}
+use Rattle.number_core.specs.declared.scale.Scale.{Scale}
 use Rattle.wkt_core.specs.Grammar.{RawPoint}
 use Rattle.wkt_core.specs.Spelling.{AllNumbersGood, position, positions}
 use Rattle.wkt_core.specs.TokenSteps.{skip}

@@ -12,12 +12,12 @@ use Rattle.plane_core.specs.Vertices.{paths_in}
 use Rattle.wkt_core.specs.declared.keyword.Keyword.{Keyword}
 use Rattle.wkt_core.specs.declared.keyword.Keyword.TheVariants.{Point, LineString, Polygon}
 use Rattle.wkt_core.specs.declared.position.Position.{Position}
-use Rattle.wkt_core.specs.declared.scale.Scale.{Scale}
+use Rattle.number_core.specs.declared.scale.Scale.{Scale}
 use Rattle.wkt_core.specs.Drawing.{is_same, without_repeats, without_repeats_of}
 use Rattle.wkt_core.specs.Grammar.{RawPoint, Blanks, PointText, PointList, Listed, InParentheses}
 use Rattle.wkt_core.specs.Spelling.{HasGoodNumbers, AllNumbersGood, position, positions}
 use Rattle.wkt_core.proofs.CanonicalLemmas.{raw, point_printed, position_printed, good_point}
-use Rattle.wkt_core.proofs.HeadingLemmas.{by_bool}
+use Rattle.number_core.proofs.NumberLemmas.{by_bool}
 use Rattle.wkt_any_core.specs.declared.heading.Heading.{Heading}
 use Rattle.wkt_any_core.specs.Canonical.{separated, vertex_text, path_text, point_text, part_text, points_text, lines_text, areas_text, canonical}
 use Rattle.wkt_any_core.specs.Drawing.{position_of, positions_of, kind_for, is_kept, skips_dots, drawn, Draws}

@@ -2,11 +2,11 @@
 use Rattle.std.proofs.Common.{◌≡◌, ℕ, false, List, [], ◌∷◌, ◌++◌, inl, inr, get_or, Option, Some, None, Result, Ok, Err, refl, sym, ◌∙◌, ap}
 use Rattle.std.specs.Prelude.{IfOk, IfSome, IfNone}
 use Rattle.std.proofs.lemmas.Option.{none-some}
-use Rattle.wkt_core.specs.declared.scale.Rounding.{Rounding}
-use Rattle.wkt_core.specs.declared.scale.Rounding.TheVariants.{Exact, Nearest}
-use Rattle.wkt_core.specs.declared.scale.Scale.{Scale}
-use Rattle.wkt_core.specs.Scales.{rounding_of}
-use Rattle.wkt_core.specs.NumberSteps.{is_taken}
+use Rattle.number_core.specs.declared.scale.Rounding.{Rounding}
+use Rattle.number_core.specs.declared.scale.Rounding.TheVariants.{Exact, Nearest}
+use Rattle.number_core.specs.declared.scale.Scale.{Scale}
+use Rattle.number_core.specs.Scales.{rounding_of}
+use Rattle.number_core.specs.NumberSteps.{is_taken}
 use Rattle.wkt_core.specs.Grammar.{RawPoint, PointList, InParentheses}
 use Rattle.wkt_core.specs.PointSteps.{point_at}
 use Rattle.wkt_core.specs.TokenSteps.{symbol_at}

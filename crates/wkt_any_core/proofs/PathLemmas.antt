@@ -7,11 +7,11 @@ use Rattle.std.proofs.lemmas.List.Elements.{filter-append}
 use Rattle.std.proofs.lemmas.List.Concat.{flat_map-append}
 use Rattle.plane_core.specs.declared.vertex.Vertex.{Vertex}
 use Rattle.wkt_core.specs.declared.position.Position.{Position}
-use Rattle.wkt_core.specs.declared.scale.Scale.{Scale}
+use Rattle.number_core.specs.declared.scale.Scale.{Scale}
 use Rattle.wkt_core.specs.Drawing.{without_repeats}
 use Rattle.wkt_core.specs.Grammar.{RawPoint}
 use Rattle.wkt_core.specs.Spelling.{HasGoodNumbers, AllNumbersGood, position, positions}
-use Rattle.wkt_core.proofs.HeadingLemmas.{by_bool}
+use Rattle.number_core.proofs.NumberLemmas.{by_bool}
 use Rattle.wkt_any_core.specs.declared.paths.Paths.{Paths}
 use Rattle.wkt_any_core.specs.Drawing.{position_of, drawn, is_kept, is_dot}
 use Rattle.wkt_any_core.specs.Grammar.{joined}

@@ -8,7 +8,7 @@ use Rattle.plane_core.specs.declared.vertex.Vertex.{Vertex}
 use Rattle.plane_core.specs.Figures.{Figure, dim_of}
 use Rattle.plane_core.specs.Figures.Figure.{Points, Lines, Areas}
 use Rattle.plane_core.specs.Vertices.{paths_in}
-use Rattle.wkt_core.specs.declared.scale.Scale.{Scale}
+use Rattle.number_core.specs.declared.scale.Scale.{Scale}
 use Rattle.wkt_any_core.specs.Canonical.{separated, separator, points_text, lines_text, areas_text, canonical}
 
 module _ {X : Type 0} (spell : X → List ℕ) where

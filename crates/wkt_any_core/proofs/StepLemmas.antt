@@ -4,7 +4,7 @@ use Rattle.std.specs.Prelude.{slice_get, if◌then◌else◌}
 use Rattle.plane_core.specs.declared.vertex.Vertex.{Vertex}
 use Rattle.wkt_core.specs.declared.position.Position.{Position}
 use Rattle.wkt_core.specs.Drawing.{is_same, without_repeats, without_repeats_of}
-use Rattle.wkt_core.proofs.HeadingLemmas.{by_bool}
+use Rattle.number_core.proofs.NumberLemmas.{by_bool}
 use Rattle.wkt_any_core.specs.Drawing.{position_of}
 use Rattle.wkt_any_core.specs.Held.{stays_at, stepped}
 

@@ -14,7 +14,7 @@ use Rattle.plane_core.specs.Figures.Figure.{Areas}
 use Rattle.plane_core.proofs.Ring.{monomials}
 use Rattle.plane_core.proofs.StoredLemmas.{cuts_for}
 use Rattle.plane_core.proofs.FormLemmas.{Form, IsLine, Steep, Level, line_not_zero, by_zero}
-use Rattle.wkt_core.proofs.HeadingLemmas.{by_bool}
+use Rattle.number_core.proofs.NumberLemmas.{by_bool}
 use Rattle.plane_core.specs.declared.rings.Rings.{Rings}
 use Rattle.plane_core.specs.declared.rings.Rings.TheVariants.{Proper, EvenOdd}
 use Rattle.wkt_any_core.specs.Drawing.{IsFlat, AreAllowed}

@@ -5,7 +5,7 @@ use Rattle.std.specs.List.{flat_map}
 use Rattle.plane_core.specs.declared.vertex.Vertex.{Vertex}
 use Rattle.plane_core.specs.Figures.{Figure}
 use Rattle.plane_core.specs.Figures.Figure.{Points, Lines, Areas}
-use Rattle.wkt_core.specs.declared.scale.Scale.{Scale}
+use Rattle.number_core.specs.declared.scale.Scale.{Scale}
 use Rattle.wkt_core.specs.Canonical.{pair}
 use Rattle.wkt_any_core.specs.Drawing.{position_of}
 

@@ -5,8 +5,9 @@ use Rattle.std.specs.List.{flat_map}
 use Rattle.std.specs.Char.{to_ascii_lowercase}
 use Rattle.wkt_core.specs.declared.keyword.Keyword.{Keyword}
 use Rattle.wkt_core.specs.declared.keyword.Keyword.TheVariants.{Point, LineString, Polygon}
-use Rattle.wkt_core.specs.declared.scale.Scale.{Scale}
-use Rattle.wkt_core.specs.Grammar.{RawPoint, Blanks, PointText, PointList, InParentheses, ◌then◌}
+use Rattle.number_core.specs.declared.scale.Scale.{Scale}
+use Rattle.number_core.specs.Numbers.{◌then◌}
+use Rattle.wkt_core.specs.Grammar.{RawPoint, Blanks, PointText, PointList, InParentheses}
 use Rattle.wkt_core.specs.Grammar.{Body as OneBody, spelling as word}
 use Rattle.wkt_any_core.specs.declared.heading.Heading.{Heading}
 

@@ -1,7 +1,7 @@
 -- The result of reading the text of any geometry at a scale: a geometry, or its first fault.
 use Rattle.std.specs.Prelude.{◌≡◌, ℕ, List, Result, Ok, Err}
 use Rattle.plane_core.specs.Figures.{Figure}
-use Rattle.wkt_core.specs.declared.scale.Scale.{Scale}
+use Rattle.number_core.specs.declared.scale.Scale.{Scale}
 use Rattle.wkt_any_core.specs.declared.fault.GeometryFault.{GeometryFault}
 use Rattle.wkt_any_core.specs.declared.fault.GeometryFault.TheVariants.{Text, Number, Form}
 use Rattle.wkt_any_core.specs.declared.fault.GeometryFault.TheVariants.{Rings as RingFault}

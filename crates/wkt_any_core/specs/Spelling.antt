@@ -2,7 +2,7 @@
 use Rattle.std.specs.Prelude.{◌≡◌, ℕ, List}
 use Rattle.plane_core.specs.Figures.{Figure}
 use Rattle.plane_core.specs.ProperRings.{HasProperRings, TakesRings}
-use Rattle.wkt_core.specs.declared.scale.Scale.{Scale}
+use Rattle.number_core.specs.declared.scale.Scale.{Scale}
 use Rattle.wkt_core.specs.Grammar.{RawPoint}
 use Rattle.wkt_core.specs.Spelling.{AllNumbersGood, positions}
 use Rattle.wkt_any_core.specs.declared.heading.Heading.{Heading}

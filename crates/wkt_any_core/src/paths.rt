@@ -1,7 +1,7 @@
 //! The vertices of all paths of a text, collected as they are read.
 
 ghost use Rattle.std.specs.Prelude.{◌≡◌};
-ghost use Rattle.wkt_core.specs.declared.scale.Scale.{Scale};
+ghost use Rattle.number_core.specs.declared.scale.Scale.{Scale};
 ghost use Rattle.wkt_core.specs.Grammar.{RawPoint};
 ghost use Rattle.wkt_core.specs.PointSteps.{point_read};
 ghost use Rattle.wkt_any_core.specs.Held.{IsVertexOf};
@@ -38,7 +38,7 @@ fn vertex_of(point: &ReadPoint) -> Option<Vertex>
 
 impl Paths {
     ghost use Rattle.std.specs.Prelude.{◌≡◌, ◌++◌, ◌∷◌, [], Bool, List, OnOk};
-    ghost use Rattle.wkt_core.specs.declared.scale.Scale.{Scale};
+    ghost use Rattle.number_core.specs.declared.scale.Scale.{Scale};
     ghost use Rattle.wkt_core.specs.Grammar.{RawPoint};
     ghost use Rattle.wkt_core.specs.PointSteps.{point_read};
     ghost use Rattle.wkt_any_core.specs.Held.{IsRead, AddsPoint, IsStepped, IsKept, IsTaken};

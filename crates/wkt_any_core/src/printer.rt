@@ -4,7 +4,7 @@ ghost use Rattle.std.specs.Prelude.{◌≡◌, ◌++◌, List, ℕ, IfOk, OnOk, 
 ghost use Rattle.std.specs.String.{string_bytes};
 ghost use Rattle.plane_core.specs.declared.rings.Rings.{Rings};
 ghost use Rattle.plane_core.specs.Vertices.{paths_in};
-ghost use Rattle.wkt_core.specs.declared.scale.Scale.{Scale};
+ghost use Rattle.number_core.specs.declared.scale.Scale.{Scale};
 ghost use Rattle.wkt_any_core.specs.Canonical.{separated, separator, vertex_text, path_text};
 ghost use Rattle.wkt_any_core.specs.Canonical.{point_text, points_text, lines_text, areas_text};
 ghost use Rattle.wkt_any_core.specs.Canonical.{part_text, canonical};

@@ -6,7 +6,7 @@ use Rattle.wkt_core.specs.declared.fault.WktFault.{WktFault}
 use Rattle.wkt_core.specs.declared.fault.WktFault.TheVariants.{Text, Number, Form}
 use Rattle.wkt_core.specs.declared.keyword.Keyword.{Keyword}
 use Rattle.wkt_core.specs.declared.position.Position.{Position}
-use Rattle.wkt_core.specs.declared.scale.Scale.{Scale}
+use Rattle.number_core.specs.declared.scale.Scale.{Scale}
 use Rattle.wkt_core.specs.Grammar.{RawPoint, Raw}
 use Rattle.wkt_core.specs.Spelling.{AllNumbersGood, positions, Forms, Spells}
 use Rattle.wkt_core.specs.Readings.{Reads}

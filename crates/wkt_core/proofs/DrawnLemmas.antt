@@ -11,7 +11,8 @@ use Rattle.wkt_core.specs.declared.position.Position.{Position}
 use Rattle.wkt_core.specs.Drawing.{Heads, IsLine, IsRing, IsRectangle, Draws, last_of, without_repeats_of, is_same}
 use Rattle.wkt_core.specs.DrawnBefore.{IsSegment, DrewBefore}
 use Rattle.wkt_core.specs.Walks.{Way, way_of, DrawnBy, IsDrawnBy}
-use Rattle.wkt_core.proofs.HeadingLemmas.{by_bool, same_true, differ_false, heads_differ, heads_parallel, heading_of}
+use Rattle.number_core.proofs.NumberLemmas.{by_bool}
+use Rattle.wkt_core.proofs.HeadingLemmas.{same_true, differ_false, heads_differ, heads_parallel, heading_of}
 use Rattle.wkt_core.proofs.RunLemmas.{trail, along, run_heads, pass, passed_all}
 use Rattle.wkt_core.proofs.WayLemmas.{Ends, way_trail}
 use Rattle.wkt_core.proofs.FormLemmas.{spanned_segment, rectangle_corners, from_next}

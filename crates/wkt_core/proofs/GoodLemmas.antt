@@ -1,30 +1,16 @@
--- Numbers that are whole and in range, and reading lists of them.
-use Rattle.std.proofs.Common.{◌≡◌, ℕ, ◌≤◌, Bool, true, false, List, [], ◌∷◌, cond, Option, Some, None, refl, arith}
-use Rattle.std.specs.Prelude.{ℤ, nat_le, is_some}
+-- Reading lists of points whose numbers are whole and in range.
+use Rattle.std.proofs.Common.{◌≡◌, true, List, [], ◌∷◌, Option, Some, None, refl}
+use Rattle.std.specs.Prelude.{ℤ, is_some}
 use Rattle.std.specs.List.{list_all, AllByRecursion}
 use Rattle.std.proofs.lemmas.Bool.{false≢true}
-use Rattle.std.proofs.lemmas.Bool.Decides.{nat_tests}
-use Rattle.std.proofs.lemmas.Int.{ints}
-use Rattle.geom_core.specs.Shapes.{IsCoordinate, greatest_coordinate}
-use Rattle.wkt_core.specs.declared.scale.Scale.{Scale}
-use Rattle.wkt_core.specs.Grammar.{Numeral, RawPoint}
-use Rattle.wkt_core.specs.Spelling.{signed, units, value, HasGoodNumbers, AllNumbersGood}
-use Rattle.wkt_core.specs.NumberSteps.{number_read}
+use Rattle.number_core.specs.declared.scale.Scale.{Scale}
+use Rattle.number_core.specs.NumberSteps.{number_read}
+use Rattle.number_core.proofs.GoodLemmas.{value_in_range, in_range_value}
+use Rattle.wkt_core.specs.Grammar.{RawPoint}
+use Rattle.wkt_core.specs.Spelling.{HasGoodNumbers, AllNumbersGood}
 use Rattle.wkt_core.specs.PointSteps.{position_from, point_read}
 use Rattle.wkt_core.specs.ReadLists.{are_whole, are_in_range}
 use Rattle.wkt_core.proofs.HeadingLemmas.{both_parts}
-
-in_range : (negative : Bool) (n : ℕ) → n ≤ greatest_coordinate → IsCoordinate (signed negative n)
-in_range true n h = (omega (arith, ints), omega (arith, ints))
-in_range false n h = (omega (arith, ints), omega (arith, ints))
-
-range_in : (negative : Bool) (n : ℕ) → IsCoordinate (signed negative n) → n ≤ greatest_coordinate
-range_in true n h = omega (arith, ints)
-range_in false n h = omega (arith, ints)
-
-some_if : (b : Bool) (z : ℤ) → is_some (cond b (Some z) None) ≡ true → b ≡ true
-some_if true z h = refl
-some_if false z h = h
 
 both_some : (x y : Option ℤ) → is_some (position_from x y) ≡ true → (is_some x ≡ true) × (is_some y ≡ true)
 both_some (Some x) (Some y) h = (refl, refl)
@@ -37,23 +23,12 @@ some_both (Some x) None h k = k
 some_both None y h k = h
 
 module _ (scale : Scale) where
-  value_in_range : (n : Numeral) → is_some (number_read scale n).value ≡ true → IsCoordinate (value scale n)
-  value_in_range n h =
-      let test = some_if _ _ h in
-      in_range n.negative (units scale n) (grind (arith, nat_tests))
-
-  in_range_value : (n : Numeral) → IsCoordinate (value scale n) → is_some (number_read scale n).value ≡ true
-  in_range_value n h =
-      let small : units scale n ≤ greatest_coordinate = range_in n.negative (units scale n) h in
-      let test : nat_le (units scale n) greatest_coordinate ≡ true = grind (arith, nat_tests) in
-      rw test refl
-
   point_good : (p : RawPoint) → (point_read scale p).whole ≡ true → is_some (point_read scale p).position ≡ true → HasGoodNumbers scale p
   point_good p w r =
       let whole = both_parts _ _ w in
       let range = both_some (number_read scale p.x).value (number_read scale p.y).value r in (
-        record { whole = whole.0; in_range = value_in_range p.x range.0 },
-        record { whole = whole.1; in_range = value_in_range p.y range.1 },
+        record { whole = whole.0; in_range = value_in_range scale p.x range.0 },
+        record { whole = whole.1; in_range = value_in_range scale p.y range.1 },
       )
 
   points_good : (ps : List RawPoint) → are_whole scale ps ≡ true → are_in_range scale ps ≡ true → AllByRecursion (HasGoodNumbers scale) ps
@@ -70,8 +45,8 @@ module _ (scale : Scale) where
   points_in_range : (ps : List RawPoint) → AllByRecursion (HasGoodNumbers scale) ps → are_in_range scale ps ≡ true
   points_in_range [] h = refl
   points_in_range (p ∷ ps) h =
-      let x = in_range_value p.x h.0.0.in_range in
-      let y = in_range_value p.y h.0.1.in_range in
+      let x = in_range_value scale p.x h.0.0.in_range in
+      let y = in_range_value scale p.y h.0.1.in_range in
       rw (some_both (number_read scale p.x).value (number_read scale p.y).value x y) (points_in_range ps h.1)
 
   pub lists_good : (lists : List (List RawPoint)) → list_all (are_whole scale) lists ≡ true → list_all (are_in_range scale) lists ≡ true

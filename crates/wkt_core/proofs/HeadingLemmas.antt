@@ -6,6 +6,7 @@ use Rattle.std.proofs.lemmas.Bool.{false≢true}
 use Rattle.std.proofs.lemmas.Bool.Decides.{Decides-int_eq}
 use Rattle.std.proofs.lemmas.Cmp.{int_eq_equiv}
 use Rattle.std.proofs.lemmas.Int.{ints, by_lt_z}
+use Rattle.number_core.proofs.NumberLemmas.{by_bool}
 use Rattle.wkt_core.specs.declared.position.Position.{Position}
 use Rattle.wkt_core.specs.Drawing.{Heading, East, North, West, South, Heads, is_same}
 use Rattle.wkt_core.specs.Walks.{is_inside, is_straight}
@@ -14,10 +15,6 @@ pub same_position : (p q : Position) → p.x ≡ q.x → p.y ≡ q.y → p ≡ q
 same_position p q e f = λ i. record { x = e i; y = f i }
 
 -- ---- tests
-
-pub by_bool : {P : Type 0} (b : Bool) → (b ≡ true → P) → (b ≡ false → P) → P
-by_bool true f g = f refl
-by_bool false f g = g refl
 
 pub both_parts : (a b : Bool) → (a && b) ≡ true → (a ≡ true) × (b ≡ true)
 both_parts true b h = (refl, h)

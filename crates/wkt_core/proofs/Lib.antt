@@ -1,6 +1,3 @@
-pub mod NumberLemmas
-pub mod FractionLemmas
-pub mod RoundedLemmas
 pub mod ItemLemmas
 pub mod FrontLemmas
 pub mod PointLemmas

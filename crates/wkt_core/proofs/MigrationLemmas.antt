@@ -7,16 +7,19 @@ use Rattle.std.proofs.lemmas.Int.{ints}
 use Rattle.std.proofs.lemmas.List.{append-nil}
 use Rattle.geom_core.specs.declared.shape.Shape.{Shape}
 use Rattle.geom_core.specs.Shapes.{IsCoordinate}
-use Rattle.wkt_core.specs.declared.scale.Rounding.TheVariants.{Exact}
-use Rattle.wkt_core.specs.declared.scale.Scale.{Scale}
-use Rattle.wkt_core.specs.Grammar.{Numeral, RawPoint}
-use Rattle.wkt_core.specs.Scales.{digits_of, rounding_of}
+use Rattle.number_core.specs.declared.scale.Rounding.TheVariants.{Exact}
+use Rattle.number_core.specs.declared.scale.Scale.{Scale}
+use Rattle.number_core.specs.Numbers.{Numeral}
+use Rattle.wkt_core.specs.Grammar.{RawPoint}
+use Rattle.number_core.specs.Scales.{digits_of, rounding_of}
 use Rattle.wkt_core.specs.Drawing.{Draws}
-use Rattle.wkt_core.specs.Spelling.{kept, is_whole_by, units_by, signed, value, IsGood, HasGoodNumbers, position, Spells}
+use Rattle.number_core.specs.Values.{kept, is_whole_by, units_by, signed, value, IsGood}
+use Rattle.wkt_core.specs.Spelling.{HasGoodNumbers, position, Spells}
 use Rattle.wkt_core.specs.SpelledBefore.{value_before, WasGood, HadGoodNumbers, position_before, SpelledBefore}
 use Rattle.wkt_core.proofs.DrawnLemmas.{drawn_still}
-use Rattle.wkt_core.proofs.NumberLemmas.{kept-none}
-use Rattle.wkt_core.proofs.PlainLemmas.{IsPlain, ArePlain, units_still, whole_still, raw_still, raw_plain}
+use Rattle.number_core.proofs.NumberLemmas.{kept-none}
+use Rattle.number_core.proofs.PlainLemmas.{IsPlain, units_still, whole_still}
+use Rattle.wkt_core.proofs.PlainLemmas.{ArePlain, raw_still, raw_plain}
 
 module _ (scale : Scale) (none : digits_of scale ≡ 0) where
   whole_before : (n : Numeral) → WasGood n → is_whole_by Exact (digits_of scale) n ≡ true

@@ -1,19 +1,17 @@
 -- A text that is read without rounding is read alike with it.
-use Rattle.std.proofs.Common.{◌≡◌, true, ℕ, List, [], ◌∷◌, map, refl, sym, ap, ap₂, ◌∙◌, subst, arith}
+use Rattle.std.proofs.Common.{◌≡◌, ℕ, List, [], ◌∷◌, map, refl, sym, ap₂, subst}
 use Rattle.std.specs.List.{AllByRecursion}
-use Rattle.std.proofs.lemmas.List.{length-append}
 use Rattle.geom_core.specs.declared.shape.Shape.{Shape}
-use Rattle.geom_core.specs.Shapes.{IsCoordinate}
+use Rattle.number_core.specs.declared.scale.Rounding.TheVariants.{Exact}
+use Rattle.number_core.specs.declared.scale.Scale.{Scale}
+use Rattle.number_core.specs.Scales.{digits_of, rounding_of}
+use Rattle.number_core.specs.Numbers.{◌then◌}
+use Rattle.number_core.proofs.PlainLemmas.{IsPlain, number_still, number_plain, value_alike, good_alike}
 use Rattle.wkt_core.specs.declared.keyword.Keyword.{Keyword}
 use Rattle.wkt_core.specs.declared.keyword.Keyword.TheVariants.{Point, LineString, Polygon}
 use Rattle.wkt_core.specs.declared.position.Position.{Position}
-use Rattle.wkt_core.specs.declared.scale.Rounding.{Rounding}
-use Rattle.wkt_core.specs.declared.scale.Rounding.TheVariants.{Exact, Nearest}
-use Rattle.wkt_core.specs.declared.scale.Scale.{Scale}
-use Rattle.wkt_core.specs.Scales.{digits_of, rounding_of}
-use Rattle.wkt_core.specs.Grammar.{Numeral, RawPoint, Digits, IsTaken, Number, PointText, PointList, Listed, InParentheses, Body, Raw, ◌then◌}
-use Rattle.wkt_core.specs.Spelling.{is_whole_by, units_by, signed, value, IsGood, HasGoodNumbers, AllNumbersGood, position, positions, Forms, Spells}
-use Rattle.wkt_core.proofs.RoundedLemmas.{whole_units}
+use Rattle.wkt_core.specs.Grammar.{RawPoint, PointText, PointList, Listed, InParentheses, Body, Raw}
+use Rattle.wkt_core.specs.Spelling.{HasGoodNumbers, AllNumbersGood, position, positions, Forms, Spells}
 
 -- ---- lists
 
@@ -51,48 +49,17 @@ pub enclosed_all : {X : Type 0} (A : X → List ℕ → Type 0) (P : X → Type 
     → (xs : List X) (s : List ℕ) → InParentheses A xs s → AllByRecursion P xs
 enclosed_all A P means xs s h = listed_all A P means xs h.back h.second
 
--- ---- numbers
-
--- digits before a dot, digits after it, and no exponent
-pub record IsPlain (n : Numeral) : Type 0 where
-  pub digits : Digits n.digits
-  pub decimals : Digits n.decimals
-  pub none : n.exponent ≡ []
+-- ---- points
 
 abbrev pub ArePlain : RawPoint → Type 0
 ArePlain p = IsPlain p.x × IsPlain p.y
 
-taken_still : (rounding : Rounding) (n : Numeral) → IsTaken Exact n → IsTaken rounding n
-taken_still Exact n h = h
-taken_still Nearest n h = omega (arith, h.0, length-append n.digits n.decimals)
-
-pub units_still : (rounding : Rounding) (k : ℕ) (n : Numeral) → IsPlain n → is_whole_by Exact k n ≡ true → units_by rounding k n ≡ units_by Exact k n
-units_still Exact k n plain whole = refl
-units_still Nearest k n plain whole = whole_units k n plain.digits plain.decimals plain.none whole
-
-pub whole_still : (rounding : Rounding) (k : ℕ) (n : Numeral) → is_whole_by Exact k n ≡ true → is_whole_by rounding k n ≡ true
-whole_still Exact k n whole = whole
-whole_still Nearest k n whole = refl
-
 module _ (exact scale : Scale) (is : rounding_of exact ≡ Exact) where
-  taken_exact : (n : Numeral) → IsTaken (rounding_of exact) n → IsTaken Exact n
-  taken_exact n h = subst (λ r. IsTaken r n) is h
-
-  number_still : (n : Numeral) (s : List ℕ) → Number exact n s → Number scale n s
-  number_still n s h = (taken_still (rounding_of scale) n (taken_exact n h.0), h.1)
-
-  number_plain : (n : Numeral) (s : List ℕ) → Number exact n s → IsPlain n
-  number_plain n s h = record {
-    digits = h.1.second.first.0;
-    decimals = h.1.second.second.first.0;
-    none = (taken_exact n h.0).1;
-  }
-
   pub point_still : (p : RawPoint) (s : List ℕ) → PointText exact p s → PointText scale p s
-  point_still p s h = then_still (number_still p.x) (λ t. then_still (λ s h. h) (number_still p.y)) h
+  point_still p s h = then_still (number_still exact scale is p.x) (λ t. then_still (λ s h. h) (number_still exact scale is p.y)) h
 
   pub point_plain : (p : RawPoint) (s : List ℕ) → PointText exact p s → ArePlain p
-  point_plain p s h = (number_plain p.x h.front h.first, number_plain p.y h.second.back h.second.second)
+  point_plain p s h = (number_plain exact scale is p.x h.front h.first, number_plain exact scale is p.y h.second.back h.second.second)
 
   -- ---- texts
 
@@ -135,28 +102,14 @@ module _ (exact scale : Scale) (is : rounding_of exact ≡ Exact) where
   -- ---- values
 
   module _ (digits : digits_of scale ≡ digits_of exact) where
-    whole_exact : (n : Numeral) → IsGood exact n → is_whole_by Exact (digits_of scale) n ≡ true
-    whole_exact n good = rw digits (subst (λ r. is_whole_by r (digits_of exact) n ≡ true) is good.whole)
-
-    value_alike : (n : Numeral) → IsPlain n → IsGood exact n → value scale n ≡ value exact n
-    value_alike n plain good =
-        ap (signed n.negative) (units_still (rounding_of scale) (digits_of scale) n plain (whole_exact n good)
-        ∙ ap (λ k. units_by Exact k n) digits ∙ ap (λ r. units_by r (digits_of exact) n) (sym is))
-
-    good_alike : (n : Numeral) → IsPlain n → IsGood exact n → IsGood scale n
-    good_alike n plain good = record {
-      whole = whole_still (rounding_of scale) (digits_of scale) n (whole_exact n good);
-      in_range = subst IsCoordinate (sym (value_alike n plain good)) good.in_range;
-    }
-
     points_alike : (ps : List RawPoint) → AllByRecursion ArePlain ps → AllByRecursion (HasGoodNumbers exact) ps
         → AllByRecursion (HasGoodNumbers scale) ps × (map (position scale) ps ≡ map (position exact) ps)
     points_alike [] plain good = (tt, refl)
     points_alike (p ∷ ps) plain good =
         let rest = points_alike ps plain.1 good.1 in
-        let x = value_alike p.x plain.0.0 good.0.0 in
-        let y = value_alike p.y plain.0.1 good.0.1 in (
-          ((good_alike p.x plain.0.0 good.0.0, good_alike p.y plain.0.1 good.0.1), rest.0),
+        let x = value_alike exact scale is digits p.x plain.0.0 good.0.0 in
+        let y = value_alike exact scale is digits p.y plain.0.1 good.0.1 in (
+          ((good_alike exact scale is digits p.x plain.0.0 good.0.0, good_alike exact scale is digits p.y plain.0.1 good.0.1), rest.0),
           ap₂ (λ (q : Position) (qs : List Position). q ∷ qs) (λ i. record { x = x i; y = y i }) rest.1,
         )
 

@@ -5,7 +5,7 @@ use Rattle.std.proofs.lemmas.Option.{none-some, some_pair_parts}
 use Rattle.wkt_core.specs.declared.position.ReadPoint.{ReadPoint}
 use Rattle.wkt_core.specs.declared.read_list.ReadList.{ReadList}
 use Rattle.wkt_core.specs.declared.read_list.ReadLists.{ReadLists}
-use Rattle.wkt_core.specs.declared.scale.Scale.{Scale}
+use Rattle.number_core.specs.declared.scale.Scale.{Scale}
 use Rattle.wkt_core.specs.Grammar.{RawPoint, PointText, PointList, InParentheses}
 use Rattle.wkt_core.specs.TokenSteps.{skip}
 use Rattle.wkt_core.specs.PointSteps.{point_at, point_read, point_answer}

@@ -5,7 +5,7 @@ use Rattle.std.specs.List.{flat_map}
 use Rattle.std.proofs.lemmas.List.{append_assoc, append-nil, take_all, take_more}
 use Rattle.std.proofs.lemmas.Grind.{flat_map-append}
 use Rattle.wkt_core.specs.declared.position.Position.{Position}
-use Rattle.wkt_core.specs.declared.scale.Scale.{Scale}
+use Rattle.number_core.specs.declared.scale.Scale.{Scale}
 use Rattle.wkt_core.specs.Canonical.{pair, listed}
 
 -- the value used for an index past the end

@@ -7,11 +7,12 @@ use Rattle.std.proofs.lemmas.List.{map-append}
 use Rattle.std.proofs.lemmas.List.Folds.{list_all-append}
 use Rattle.wkt_core.specs.declared.position.Position.{Position}
 use Rattle.wkt_core.specs.declared.read_list.ReadList.{ReadList}
-use Rattle.wkt_core.specs.declared.scale.Scale.{Scale}
+use Rattle.number_core.specs.declared.scale.Scale.{Scale}
 use Rattle.wkt_core.specs.declared.position.ReadPoint.{ReadPoint}
 use Rattle.wkt_core.specs.Grammar.{RawPoint}
-use Rattle.wkt_core.specs.Spelling.{position, value}
-use Rattle.wkt_core.specs.NumberSteps.{number_read}
+use Rattle.number_core.specs.Values.{value}
+use Rattle.wkt_core.specs.Spelling.{position}
+use Rattle.number_core.specs.NumberSteps.{number_read}
 use Rattle.wkt_core.specs.PointSteps.{position_from, point_read}
 use Rattle.wkt_core.specs.ReadLists.{are_in_range, are_whole, IsReadOf}
 use Rattle.wkt_core.specs.Walks.{way_of, IsKeptOf}

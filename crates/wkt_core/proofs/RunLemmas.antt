@@ -3,7 +3,8 @@ use Rattle.std.proofs.Common.{◌≡◌, true, cond, List, [], ◌∷◌, ◌++�
 use Rattle.wkt_core.specs.declared.position.Position.{Position}
 use Rattle.wkt_core.specs.Drawing.{Heading, Heads, Runs}
 use Rattle.wkt_core.specs.Walks.{is_straight}
-use Rattle.wkt_core.proofs.HeadingLemmas.{by_bool, heads_on, straight_on, heads_between, turn_false}
+use Rattle.number_core.proofs.NumberLemmas.{by_bool}
+use Rattle.wkt_core.proofs.HeadingLemmas.{heads_on, straight_on, heads_between, turn_false}
 
 -- the turns after p, on a path from p to q and on, with its end
 abbrev pub bends : Position → Position → List Position → List Position

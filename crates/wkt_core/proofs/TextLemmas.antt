@@ -6,7 +6,7 @@ use Rattle.std.proofs.lemmas.List.{append-nil, length-map, get_or-map, get_or_ap
 use Rattle.std.proofs.lemmas.List.Prefix.{front_rest}
 use Rattle.wkt_core.specs.declared.keyword.Keyword.{Keyword}
 use Rattle.wkt_core.specs.declared.keyword.Keyword.TheVariants.{Point, LineString, Polygon}
-use Rattle.wkt_core.specs.declared.scale.Scale.{Scale}
+use Rattle.number_core.specs.declared.scale.Scale.{Scale}
 use Rattle.wkt_core.specs.Grammar.{RawPoint, is_blank, PointText, PointList, Body, Word, Raw, spelling}
 use Rattle.wkt_core.specs.TokenSteps.{skip, TakesLetters}
 use Rattle.wkt_core.specs.ListSteps.{TakesWord, TakesPoint, TakesPoints, TakesBody, TakesText}

@@ -11,7 +11,7 @@ use Rattle.wkt_core.specs.declared.position.Position.{Position}
 use Rattle.wkt_core.specs.declared.walk.Walk.{Walk}
 use Rattle.wkt_core.specs.Drawing.{is_same}
 use Rattle.wkt_core.specs.Walks.{Way, goes_on, stepped, way_of, IsKeptOf, DrawnBy, IsDrawnBy}
-use Rattle.wkt_core.proofs.HeadingLemmas.{by_bool}
+use Rattle.number_core.proofs.NumberLemmas.{by_bool}
 use Rattle.wkt_core.proofs.WayLemmas.{way_more}
 
 -- the walk after one step, by the points that it kept before

@@ -5,7 +5,7 @@ use Rattle.std.proofs.lemmas.List.{append_assoc, length-append}
 use Rattle.wkt_core.specs.declared.position.Position.{Position}
 use Rattle.wkt_core.specs.Drawing.{is_same, without_repeats_of}
 use Rattle.wkt_core.specs.Walks.{Way, goes_on, goes_on_from, is_straight, stepped, way_on}
-use Rattle.wkt_core.proofs.HeadingLemmas.{by_bool}
+use Rattle.number_core.proofs.NumberLemmas.{by_bool}
 use Rattle.wkt_core.proofs.RunLemmas.{bends, trail}
 
 -- the position of a walk, and its turns up to there

@@ -5,7 +5,7 @@ use Rattle.geom_core.specs.declared.shape.Shape.{Shape}
 use Rattle.wkt_core.specs.declared.fault.WktFault.{WktFault}
 use Rattle.wkt_core.specs.declared.fault.WktFault.TheVariants.{Text, Number, Form}
 use Rattle.wkt_core.specs.declared.raw.RawText.{RawText}
-use Rattle.wkt_core.specs.declared.scale.Scale.{Scale}
+use Rattle.number_core.specs.declared.scale.Scale.{Scale}
 use Rattle.wkt_core.specs.Grammar.{RawPoint}
 use Rattle.wkt_core.specs.ListSteps.{TakesText}
 use Rattle.wkt_core.specs.ReadLists.{AreReadOf, are_in_range}

@@ -1,5 +1,3 @@
-pub mod ScaleLimits
-pub mod Scales
 pub mod Grammar
 pub mod Drawing
 pub mod DrawnBefore
@@ -9,7 +7,6 @@ pub mod SpelledBefore
 pub mod Readings
 pub mod FaultTexts
 pub mod TokenSteps
-pub mod NumberSteps
 pub mod PointSteps
 pub mod ListSteps
 pub mod Walks

@@ -1,12 +1,12 @@
 -- The reader of a point: what it reads at the start of a text, and what remains.
 use Rattle.std.specs.Prelude.{◌&&◌, ℕ, ℤ, List, Option, Some, None, option_and_then}
-use Rattle.wkt_core.specs.declared.number.ReadNumber.{ReadNumber}
+use Rattle.number_core.specs.declared.number.ReadNumber.{ReadNumber}
 use Rattle.wkt_core.specs.declared.position.Position.{Position}
 use Rattle.wkt_core.specs.declared.position.ReadPoint.{ReadPoint}
-use Rattle.wkt_core.specs.declared.scale.Scale.{Scale}
+use Rattle.number_core.specs.declared.scale.Scale.{Scale}
 use Rattle.wkt_core.specs.Grammar.{RawPoint}
 use Rattle.wkt_core.specs.TokenSteps.{gap_at}
-use Rattle.wkt_core.specs.NumberSteps.{number_at, number_read}
+use Rattle.number_core.specs.NumberSteps.{number_at, number_read}
 
 infixl 10 ◌>>=◌
 abbrev pub ◌>>=◌ : {A B : Type 0} → Option A → (A → Option B) → Option B

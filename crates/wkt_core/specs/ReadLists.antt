@@ -3,7 +3,7 @@ use Rattle.std.specs.Prelude.{◌≡◌, Bool, false, List, [], ◌∷◌, IsTru
 use Rattle.std.specs.List.{list_all}
 use Rattle.wkt_core.specs.declared.read_list.ReadList.{ReadList}
 use Rattle.wkt_core.specs.declared.read_list.ReadLists.{ReadLists}
-use Rattle.wkt_core.specs.declared.scale.Scale.{Scale}
+use Rattle.number_core.specs.declared.scale.Scale.{Scale}
 use Rattle.wkt_core.specs.Grammar.{RawPoint}
 use Rattle.wkt_core.specs.Spelling.{position}
 use Rattle.wkt_core.specs.PointSteps.{point_read}

@@ -3,7 +3,7 @@ use Rattle.std.specs.Prelude.{ℕ, List, Result, Ok, Err}
 use Rattle.geom_core.specs.declared.shape.Shape.{Shape}
 use Rattle.wkt_core.specs.declared.fault.WktFault.{WktFault}
 use Rattle.wkt_core.specs.declared.fault.WktFault.TheVariants.{Text, Number, Form}
-use Rattle.wkt_core.specs.declared.scale.Scale.{Scale}
+use Rattle.number_core.specs.declared.scale.Scale.{Scale}
 use Rattle.wkt_core.specs.Spelling.{Spells, HasNoRawForm, HasBadNumber, HasNoShape}
 
 abbrev pub Reads : Scale → List ℕ → Result Shape WktFault → Type 0

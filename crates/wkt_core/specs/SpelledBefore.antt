@@ -6,11 +6,12 @@ use Rattle.std.specs.Str.Parse.{digits_value}
 use Rattle.geom_core.specs.declared.shape.Shape.{Shape}
 use Rattle.wkt_core.specs.declared.keyword.Keyword.{Keyword}
 use Rattle.wkt_core.specs.declared.position.Position.{Position}
-use Rattle.wkt_core.specs.declared.scale.Rounding.TheVariants.{Exact}
-use Rattle.wkt_core.specs.declared.scale.Scale.{Scale}
-use Rattle.wkt_core.specs.Scales.{rounding_of}
-use Rattle.wkt_core.specs.Grammar.{Numeral, RawPoint, Raw}
-use Rattle.wkt_core.specs.Spelling.{signed}
+use Rattle.number_core.specs.declared.scale.Rounding.TheVariants.{Exact}
+use Rattle.number_core.specs.declared.scale.Scale.{Scale}
+use Rattle.number_core.specs.Scales.{rounding_of}
+use Rattle.number_core.specs.Numbers.{Numeral}
+use Rattle.wkt_core.specs.Grammar.{RawPoint, Raw}
+use Rattle.number_core.specs.Values.{signed}
 use Rattle.wkt_core.specs.DrawnBefore.{DrewBefore}
 
 abbrev pub greatest_before : ℕ

@@ -39,7 +39,3 @@ StandsNext text None = (rest : List ℕ) → ¬ (text ≡ 44 ∷ rest) × ¬ (te
 abbrev pub rest_view : Option (Bor (List ℕ)) → Option (List ℕ)
 rest_view None = None
 rest_view (Some r) = Some r.now
-
-abbrev pub answer_view : {A : Type 0} → Option (A × Bor (List ℕ)) → Option (A × List ℕ)
-answer_view None = None
-answer_view (Some p) = Some (p.0, p.1.now)

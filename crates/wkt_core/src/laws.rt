@@ -1,17 +1,17 @@
 //! The laws of the texts.
 
-ghost use Rattle.std.specs.Prelude.{◌≡◌, ◌<◌, ◌≤◌, ◌+◌, ◌*◌, List, ℕ};
+ghost use Rattle.std.specs.Prelude.{◌≡◌, List, ℕ};
 ghost use Rattle.geom_core.specs.declared.shape.Shape.{Shape};
 ghost use Rattle.wkt_core.specs.declared.keyword.Keyword.{Keyword};
 ghost use Rattle.wkt_core.specs.declared.position.Position.{Position};
-ghost use Rattle.wkt_core.specs.declared.scale.Scale.{Scale};
+ghost use Rattle.number_core.specs.declared.scale.Scale.{Scale};
 ghost use Rattle.wkt_core.specs.Grammar.{RawPoint, Raw};
 ghost use Rattle.wkt_core.specs.Drawing.{Draws};
 ghost use Rattle.wkt_core.specs.DrawnBefore.{DrewBefore};
-ghost use Rattle.wkt_core.specs.declared.scale.Rounding.TheVariants.{Exact};
-ghost use Rattle.wkt_core.specs.Scales.{digits_of, rounding_of};
+ghost use Rattle.number_core.specs.declared.scale.Rounding.TheVariants.{Exact};
+ghost use Rattle.number_core.specs.Scales.{digits_of, rounding_of};
 ghost use Rattle.wkt_core.specs.SpelledBefore.{SpelledBefore};
-ghost use Rattle.wkt_core.specs.Spelling.{Spells, nearest};
+ghost use Rattle.wkt_core.specs.Spelling.{Spells};
 
 /// A text has at most one raw form and spells at most one shape, at a given scale.
 pub fn one_shape_law()
@@ -43,12 +43,4 @@ pub fn rounding_law()
     ensures spelled_alike { (exact scale : Scale) (text : List ℕ) (s : Shape)
         → rounding_of exact ≡ Exact → digits_of scale ≡ digits_of exact
         → Spells exact text s → Spells scale text s }
-{}
-
-/// The whole number that is read in place of a / b is at most half off, and half a one is rounded
-/// up.
-#[tactic(auto, using(crate::proofs::RoundedLemmas::nearest_by))]
-pub fn nearest_law()
-    ensures above { (a b : ℕ) → 0 < b → 2 * (nearest a b * b) ≤ 2 * a + b }
-    ensures below { (a b : ℕ) → 0 < b → 2 * a < 2 * (nearest a b * b) + b }
 {}

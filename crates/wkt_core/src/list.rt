@@ -7,8 +7,8 @@ ghost use Rattle.wkt_core.specs.ReadLists.{IsReadOf, AreReadOf};
 
 use crate::position::read_point;
 use crate::read_list::{ReadList, ReadLists};
-use crate::scale::Scale;
 use crate::token::{Next, read_next, skip_blanks, skip_symbol};
+use number_core::Scale;
 
 /// Reads the list of points at the start of a text into an empty one, and returns the text after
 /// it.

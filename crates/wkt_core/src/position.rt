@@ -1,12 +1,11 @@
 //! Reading the points of a text.
 
 ghost use Rattle.std.specs.Prelude.{◌≡◌};
-ghost use Rattle.wkt_core.specs.TokenSteps.{answer_view};
+ghost use Rattle.number_core.specs.NumberSteps.{answer_view};
 ghost use Rattle.wkt_core.specs.PointSteps.{point_at, point_answer, position_from, point_from};
 
-use crate::number::{ReadNumber, read_number};
-use crate::scale::Scale;
 use crate::token::skip_gap;
+use number_core::{ReadNumber, Scale, read_number};
 
 /// A point of the plane.
 #[derive(Clone, Copy, Debug, Default, PartialEq, Eq)]

@@ -1,68 +1,19 @@
 //! Printing a shape.
 
-ghost use Rattle.std.specs.Prelude.{◌≡◌, ◌++◌, ◌<◌, ◌^◌, [], ◌∷◌, codes, IfOk, OnOk};
+ghost use Rattle.std.specs.Prelude.{◌≡◌, ◌++◌, [], ◌∷◌, codes, IfOk, OnOk};
 ghost use Rattle.std.specs.String.{string_bytes};
 ghost use Rattle.geom_core.specs.declared.shape.Shape.{Shape};
-ghost use Rattle.wkt_core.specs.Canonical.{decimals, fraction, number, pair, listed, canonical};
+ghost use Rattle.wkt_core.specs.Canonical.{pair, listed, canonical};
 ghost use Rattle.wkt_core.specs.Drawing.{corner};
-ghost use Rattle.wkt_core.specs.Scales.{digits_of};
 ghost use Rattle.wkt_core.specs.Spelling.{Spells};
 
 use crate::position::Position;
-use crate::scale::Scale;
 use geom_core::Shape;
-use itoa::Buffer;
+use number_core::{Scale, push_number};
 use std::alloc::{AllocError, Global};
 
 /// The greatest length in bytes of a text, a rectangle with ten numbers of at most fourteen bytes.
 const LONGEST: usize = 165;
-
-/// Adds the digits of a fraction in units of the scale, up to the last that isn't 0.
-fn push_decimals(text: &mut String, units: u64, scale: Scale) -> Result<(), AllocError>
-    requires { units < 10 ^ digits_of scale }
-    ensures { OnOk result (string_bytes text.new
-        ≡ string_bytes text.old ++ decimals (digits_of scale) units) }
-{
-    let mut digits = Buffer::new();
-    let mut place = scale.units_in_one();
-    let mut rest = units;
-    while rest > 0 {
-        place /= 10;
-        let digit = digits.format(rest / place);
-        text.push_str(digit)?;
-        rest %= place;
-    }
-    Ok(())
-}
-
-/// Adds a fraction in units of the scale, with its dot, if it isn't 0.
-fn push_fraction(text: &mut String, units: u64, scale: Scale) -> Result<(), AllocError>
-    requires { units < 10 ^ digits_of scale }
-    ensures { OnOk result (string_bytes text.new
-        ≡ string_bytes text.old ++ fraction (digits_of scale) units) }
-{
-    if units == 0 {
-        return Ok(());
-    }
-    text.push_str(".")?;
-    push_decimals(text, units, scale)
-}
-
-/// Adds a number of units of the scale.
-#[tactic(auto, using(crate::proofs::FractionLemmas::power_pos))]
-fn push_number(text: &mut String, units: i64, scale: Scale) -> Result<(), AllocError>
-    ensures { OnOk result (string_bytes text.new
-        ≡ string_bytes text.old ++ number scale units) }
-{
-    if units < 0 {
-        text.push_str("-")?;
-    }
-    let mut digits = Buffer::new();
-    let one = scale.units_in_one();
-    let magnitude = units.unsigned_abs();
-    text.push_str(digits.format(magnitude / one))?;
-    push_fraction(text, magnitude % one, scale)
-}
 
 /// Adds the two numbers of a point to a text, in units of a scale, with a space between them.
 ///

@@ -4,9 +4,9 @@ use crate::form::shape_of;
 use crate::keyword::Keyword;
 use crate::list::{read_lists, read_one_point, read_points};
 use crate::read_list::ReadLists;
-use crate::scale::Scale;
 use crate::token::skip_blanks;
 use geom_core::Shape;
+use number_core::Scale;
 
 /// The keyword of a text of the grammar, and the positions read from its lists.
 #[derive(Drop)]
@@ -20,7 +20,7 @@ impl RawText {
     ghost use Rattle.std.specs.List.{list_all};
     ghost use Rattle.geom_core.specs.declared.shape.Shape.{Shape};
     ghost use Rattle.wkt_core.specs.declared.keyword.Keyword.{Keyword};
-    ghost use Rattle.wkt_core.specs.declared.scale.Scale.{Scale};
+    ghost use Rattle.number_core.specs.declared.scale.Scale.{Scale};
     ghost use Rattle.wkt_core.specs.Grammar.{RawPoint};
     ghost use Rattle.wkt_core.specs.Spelling.{Forms, positions};
     ghost use Rattle.wkt_core.specs.ListSteps.{TakesBody, TakesText};

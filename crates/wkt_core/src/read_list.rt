@@ -14,7 +14,7 @@ pub(crate) struct ReadList {
 
 impl ReadList {
     ghost use Rattle.std.specs.Prelude.{[], ◌∷◌, ◌++◌, ◌≡◌, List};
-    ghost use Rattle.wkt_core.specs.declared.scale.Scale.{Scale};
+    ghost use Rattle.number_core.specs.declared.scale.Scale.{Scale};
     ghost use Rattle.wkt_core.specs.Grammar.{RawPoint};
     ghost use Rattle.wkt_core.specs.PointSteps.{point_read};
     ghost use Rattle.wkt_core.specs.ReadLists.{IsReadOf};
@@ -59,7 +59,7 @@ pub(crate) struct ReadLists {
 
 impl ReadLists {
     ghost use Rattle.std.specs.Prelude.{◌≡◌, [], ◌∷◌, ◌++◌, List, false, IsTrue, IfSome, IfNone};
-    ghost use Rattle.wkt_core.specs.declared.scale.Scale.{Scale};
+    ghost use Rattle.number_core.specs.declared.scale.Scale.{Scale};
     ghost use Rattle.wkt_core.specs.Grammar.{RawPoint};
     ghost use Rattle.wkt_core.specs.ReadLists.{IsReadOf, AreReadOf};
 

@@ -12,8 +12,8 @@ ghost use Rattle.wkt_core.specs.declared.keyword.Keyword.{Keyword};
 
 use crate::fault::WktFault;
 use crate::raw::RawText;
-use crate::scale::Scale;
 use geom_core::Shape;
+use number_core::Scale;
 
 /// The shape that the text spells.
 ///

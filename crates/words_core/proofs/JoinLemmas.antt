@@ -9,9 +9,9 @@ use Rattle.options_core.specs.declared.options.OptionFault.{OptionFault}
 use Rattle.options_core.specs.declared.options.OptionFault.TheVariants as range
 use Rattle.relation_core.specs.Relations.{Spells}
 use Rattle.relation_core.specs.declared.relation.Relation.{Relation}
-use Rattle.wkt_core.specs.ScaleLimits.{most_digits}
-use Rattle.wkt_core.specs.Scales.{digits_of}
-use Rattle.wkt_core.specs.declared.scale.Scale.{Scale}
+use Rattle.number_core.specs.ScaleLimits.{most_digits}
+use Rattle.number_core.specs.Scales.{digits_of}
+use Rattle.number_core.specs.declared.scale.Scale.{Scale}
 use Rattle.words_core.specs.Readings.{missing_text, number_at, share_input, shared_text, AllowsDisjointIn, AreOptionsIn, ForbidsDisjointIn, HasFormatFault, HasJoinFault, HasScaleFault, IsScaleIn}
 use Rattle.words_core.specs.Readings.{IsRangeFault, IsRelationFault, NeedsNoDisjoint, NeedsOneInput, NeedsOptions, NeedsRelation, NeedsScale, Says}
 use Rattle.words_core.specs.declared.words.WordFault.{WordFault}

@@ -21,11 +21,11 @@ use Rattle.relation_core.specs.Relations.{Spells, SpellsNothing}
 use Rattle.relation_core.specs.declared.mask.MaskFault.{MaskFault}
 use Rattle.relation_core.specs.declared.mask.MaskFault.TheVariants as mask
 use Rattle.relation_core.specs.declared.relation.Relation.{Relation}
-use Rattle.wkt_core.specs.ScaleLimits.{most_digits}
-use Rattle.wkt_core.specs.Scales.{digits_of, rounding_of}
-use Rattle.wkt_core.specs.declared.scale.Rounding.{Rounding}
-use Rattle.wkt_core.specs.declared.scale.Rounding.TheVariants.{Exact, Nearest}
-use Rattle.wkt_core.specs.declared.scale.Scale.{Scale}
+use Rattle.number_core.specs.ScaleLimits.{most_digits}
+use Rattle.number_core.specs.Scales.{digits_of, rounding_of}
+use Rattle.number_core.specs.declared.scale.Rounding.{Rounding}
+use Rattle.number_core.specs.declared.scale.Rounding.TheVariants.{Exact, Nearest}
+use Rattle.number_core.specs.declared.scale.Scale.{Scale}
 use Rattle.options_core.specs.Options.{workers_of, batch_of, cut_of, AreWorkers, IsBatch, IsCut}
 use Rattle.options_core.specs.declared.options.Options.{Options}
 use Rattle.options_core.specs.declared.options.OptionFault.TheVariants as range

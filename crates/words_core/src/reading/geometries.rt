@@ -1,8 +1,8 @@
 //! Reading how geometries are written: scale and rounding, their kind, and the rule for rings.
 
 ghost use Rattle.std.specs.Prelude.{◌≢◌, ◌≤◌, IfOk, IfErr, IfSome, IfNone};
-ghost use Rattle.wkt_core.specs.ScaleLimits.{most_digits};
-ghost use Rattle.wkt_core.specs.Scales.{digits_of};
+ghost use Rattle.number_core.specs.ScaleLimits.{most_digits};
+ghost use Rattle.number_core.specs.Scales.{digits_of};
 ghost use Rattle.words_core.specs.Readings.{AreGeometriesIn, HasGeometryFault, HasScaleFault};
 ghost use Rattle.words_core.specs.Readings.{IsNoRingRule, IsRoundingIn, IsScaleIn, NamesNoKind};
 ghost use Rattle.words_core.specs.Readings.{NamesRings};

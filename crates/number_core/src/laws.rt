@@ -1,0 +1,35 @@
+//! The laws of numbers.
+
+ghost use Rattle.std.specs.Prelude.{◌≡◌, ◌<◌, ◌≤◌, ◌+◌, ◌*◌, ◌++◌, List, ℕ, ℤ, Some};
+ghost use Rattle.geom_core.specs.Shapes.{IsCoordinate};
+ghost use Rattle.number_core.specs.declared.scale.Scale.{Scale};
+ghost use Rattle.number_core.specs.Numbers.{Numeral, Number, Ends};
+ghost use Rattle.number_core.specs.NumberSteps.{number_at};
+ghost use Rattle.number_core.specs.CanonicalNumbers.{number};
+ghost use Rattle.number_core.specs.Values.{nearest, SpellsNumber};
+
+/// What is read at the start of a text is a number of the grammar, and each number of the grammar
+/// is read where a text goes on so that the number ends.
+#[tactic(auto, using(crate::proofs::FrontLemmas::numbers_read))]
+pub fn number_law()
+    ensures grammatical { (scale : Scale) (text : List ℕ) (n : Numeral) (rest : List ℕ)
+        → number_at scale text ≡ Some (n, rest)
+        → (front : List ℕ) × Number scale n front × (text ≡ front ++ rest) }
+    ensures read { (scale : Scale) (n : Numeral) (front rest : List ℕ)
+        → Number scale n front → Ends rest → number_at scale (front ++ rest) ≡ Some (n, rest) }
+{}
+
+/// The text that is printed for a coordinate spells it, with rounding and without.
+#[tactic(auto, using(crate::proofs::PrintedLemmas::number_spelled))]
+pub fn printed_law()
+    ensures spells { (scale : Scale) (units : ℤ)
+        → IsCoordinate units → SpellsNumber scale (number scale units) units }
+{}
+
+/// The whole number that is read in place of a / b is at most half off, and half a one is rounded
+/// up.
+#[tactic(auto, using(crate::proofs::RoundedLemmas::nearest_by))]
+pub fn nearest_law()
+    ensures above { (a b : ℕ) → 0 < b → 2 * (nearest a b * b) ≤ 2 * a + b }
+    ensures below { (a b : ℕ) → 0 < b → 2 * a < 2 * (nearest a b * b) + b }
+{}

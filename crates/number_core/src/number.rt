@@ -1,0 +1,215 @@
+//! Reading one number of a text.
+
+ghost use Rattle.std.specs.Prelude.{◌≡◌, ◌==◌, ◌+◌, ◌*◌, ℕ, suc, ◌∷◌, drop};
+ghost use Rattle.std.specs.Char.{digit_value};
+ghost use Rattle.std.specs.List.{list_all};
+ghost use Rattle.std.specs.Str.Parse.{digits_value, digits_value_after};
+ghost use Rattle.number_core.specs.Numbers.{IsDigit};
+ghost use Rattle.number_core.specs.declared.scale.Rounding.TheVariants.{Exact};
+ghost use Rattle.number_core.specs.Scales.{digits_of, rounding_of};
+ghost use Rattle.number_core.specs.Values.{kept};
+ghost use Rattle.number_core.specs.NumberSteps.{answer_view};
+ghost use Rattle.number_core.specs.NumberSteps.{digits_at, after_digits, sign_at, decimals_at};
+ghost use Rattle.number_core.specs.NumberSteps.{number_at, number_answer, ranged, IsCapped};
+
+use crate::rounded::read_rounded;
+use crate::scale::{Rounding, Scale};
+use geom_core::LIMIT;
+
+/// The greatest absolute value of a coordinate.
+pub(crate) const LARGEST: u64 = LIMIT as u64;
+
+/// The number of digits that are read with one length check and no overflow check; their value
+/// fits.
+const FEW: usize = 6;
+
+/// A number that was read.
+#[derive(Drop)]
+pub struct ReadNumber {
+    /// The number in whole units of the scale, if it is in range.
+    pub value: Option<i64>,
+    /// Whether all digits after the decimals of the scale are 0, or the number was rounded to them.
+    pub whole: bool,
+}
+
+/// Whether the text starts with a minus sign, and the text after the sign.
+#[inline(always)]
+pub(crate) fn sign(text: &[u8]) -> (bool, &[u8])
+    ensures negative { result.0 ≡ (sign_at text.now).0 }
+    ensures rest { result.1.now ≡ (sign_at text.now).1 }
+{
+    match text {
+        // The text mostly starts with a digit, and both signs sort below the digits.
+        [first, ..] if *first >= b'0' => (false, text),
+        [b'+', rest @ ..] => (false, rest),
+        [b'-', rest @ ..] => (true, rest),
+        _ => (false, text),
+    }
+}
+
+/// The number with one more digit. All numbers greater than `LARGEST` are represented by one of
+/// them.
+#[inline(always)]
+pub(crate) fn with_digit(number: u64, digit: u8) -> u64
+    requires { IsDigit digit }
+    ensures { (total : ℕ)
+        → IsCapped number total → IsCapped result (total * 10 + digit_value digit) }
+{
+    if number <= LARGEST {
+        number * 10 + u64::from(digit - b'0')
+    } else {
+        number
+    }
+}
+
+/// The number with all the digits at the start of the text appended, and the text after them.
+#[inline(always)]
+fn with_digits(number: u64, text: &[u8]) -> (u64, &[u8])
+    ensures value { (total : ℕ) → IsCapped number total
+        → IsCapped result.0 (digits_value_after 10 total (digits_at text.now)) }
+    ensures rest { result.1.now ≡ after_digits text.now }
+{
+    let mut sum = number;
+    let mut rest = text;
+    while let [digit @ b'0'..=b'9', after @ ..] = rest {
+        sum = with_digit(sum, *digit);
+        rest = after;
+    }
+    (sum, rest)
+}
+
+/// The number of the digits at the start of the text, and the text after them. If it is greater
+/// than `LARGEST`, the result is some number greater than `LARGEST`, however many digits there are.
+#[inline(always)]
+fn magnitude(text: &[u8]) -> (u64, &[u8])
+    ensures value { IsCapped result.0 (digits_value 10 (digits_at text.now)) }
+    ensures rest { result.1.now ≡ after_digits text.now }
+{
+    if text.len() < FEW {
+        return with_digits(0, text);
+    }
+    let mut sum = 0;
+    for i in 0..FEW {
+        if !text[i].is_ascii_digit() {
+            return (sum, &text[i..]);
+        }
+        sum = sum * 10 + u64::from(text[i] - b'0');
+    }
+    with_digits(sum, &text[FEW..])
+}
+
+/// The digit at the start of the text, or a 0 if there is none, and the text after it.
+#[inline(always)]
+#[tactic(auto, using(crate::proofs::NumberLemmas::no_digit))]
+fn next_decimal(text: &[u8]) -> (u8, &[u8])
+    ensures digit { IsDigit result.0 }
+    ensures kept { (k : ℕ)
+        → kept (suc k) (digits_at text.now) ≡ result.0 ∷ kept k (digits_at result.1.now) }
+    ensures digits { digits_at result.1.now ≡ drop 1 (digits_at text.now) }
+    ensures rest { after_digits result.1.now ≡ after_digits text.now }
+{
+    match text {
+        [digit @ b'0'..=b'9', rest @ ..] => (*digit, rest),
+        _ => (b'0', text),
+    }
+}
+
+/// The number with `count` more digits, those at the start of the text and a 0 for each missing
+/// one, and the text after them.
+#[inline(always)]
+fn with_decimals(number: u64, count: u8, text: &[u8]) -> (u64, &[u8])
+    ensures value { (total : ℕ) → IsCapped number total
+        → IsCapped result.0 (digits_value_after 10 total (kept count (digits_at text.now))) }
+    ensures digits { digits_at result.1.now ≡ drop count (digits_at text.now) }
+    ensures rest { after_digits result.1.now ≡ after_digits text.now }
+{
+    let mut sum = number;
+    let mut rest = text;
+    for _ in 0..count {
+        let (digit, after) = next_decimal(rest);
+        sum = with_digit(sum, digit);
+        rest = after;
+    }
+    (sum, rest)
+}
+
+/// Whether all digits at the start of the text are 0, and the text after the digits.
+#[inline(always)]
+fn zeros(text: &[u8]) -> (bool, &[u8])
+    ensures zeros { result.0 ≡ list_all (λ d. d == 48) (digits_at text.now) }
+    ensures rest { result.1.now ≡ after_digits text.now }
+{
+    let mut all = true;
+    let mut rest = text;
+    while let [digit @ b'0'..=b'9', after @ ..] = rest {
+        all = all && *digit == b'0';
+        rest = after;
+    }
+    (all, rest)
+}
+
+/// The units of the scale for a whole part and the decimals at the start of the text, whether all
+/// digits after the decimals of the scale are 0, and the text after the decimals.
+#[inline(always)]
+fn units(whole_part: u64, scale: Scale, text: &[u8]) -> (u64, bool, &[u8])
+    ensures value { (total : ℕ) → IsCapped whole_part total → IsCapped result.0
+        (digits_value_after 10 total (kept (digits_of scale) (decimals_at text.now).0)) }
+    ensures zeros { result.1
+        ≡ list_all (λ d. d == 48) (drop (digits_of scale) (decimals_at text.now).0) }
+    ensures rest { result.2.now ≡ (decimals_at text.now).1 }
+{
+    match text {
+        [b'.', decimals @ ..] => {
+            let (units, further) = with_decimals(whole_part, scale.digits(), decimals);
+            let (whole, rest) = zeros(further);
+            (units, whole, rest)
+        }
+        _ => {
+            let (units, _) = with_decimals(whole_part, scale.digits(), b"");
+            (units, true, text)
+        }
+    }
+}
+
+/// The number with this sign, if it is in range.
+#[inline(always)]
+pub(crate) fn signed_number(negative: bool, magnitude: u64) -> Option<i64>
+    ensures { result ≡ ranged negative magnitude }
+{
+    if magnitude > LARGEST {
+        return None;
+    }
+    let number = magnitude as i64;
+    Some(if negative { -number } else { number })
+}
+
+/// Reads the number at the start of a text without rounding, and returns it with the text after it,
+/// or `None` if there is no number.
+#[inline(always)]
+fn read_exact(text: &[u8], scale: Scale) -> Option<(ReadNumber, &[u8])>
+    requires { rounding_of scale ≡ Exact }
+    ensures { answer_view result ≡ number_answer scale (number_at scale text.now) }
+{
+    let (negative, unsigned) = sign(text);
+    match unsigned {
+        [b'0'..=b'9', ..] => {
+            let (whole_part, rest) = magnitude(unsigned);
+            let (units, whole, rest) = units(whole_part, scale, rest);
+            let value = signed_number(negative, units);
+            Some((ReadNumber { value, whole }, rest))
+        }
+        _ => None,
+    }
+}
+
+/// Reads the number at the start of a text, and returns it with the text after it, or `None` if
+/// there is no number.
+#[inline(always)]
+pub fn read_number(text: &[u8], scale: Scale) -> Option<(ReadNumber, &[u8])>
+    ensures { answer_view result ≡ number_answer scale (number_at scale text.now) }
+{
+    match scale.rounding() {
+        Rounding::Exact => read_exact(text, scale),
+        Rounding::Nearest => read_rounded(text, scale),
+    }
+}
