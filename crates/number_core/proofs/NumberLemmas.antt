@@ -1,19 +1,18 @@
 -- The value of digits, one digit on.
 use Rattle.std.proofs.Common.{◌≡◌, Bool, true, false, cond, ℕ, suc, ◌+◌, ◌-◌, ◌*◌, ◌<◌, ◌≤◌, List, [], ◌∷◌}
-use Rattle.std.proofs.Common.{◌++◌, length, get_or, take, drop, drop-drop, refl, sym, ap, ◌∙◌, inl, inr, arith}
+use Rattle.std.proofs.Common.{◌++◌, length, get_or, take, drop, drop-drop, refl, sym, ap, ◌∙◌, inl, inr, subst, arith}
 use Rattle.std.proofs.Math.Seq.{take-nil, take-length}
-use Rattle.std.specs.Prelude.{◌==◌, ℤ, Option, Some}
+use Rattle.std.specs.Prelude.{◌==◌, ℤ, Option, if◌then◌else◌}
 use Rattle.std.specs.Char.{digit_value, is_ascii_digit}
 use Rattle.std.specs.List.{list_all}
 use Rattle.std.specs.Str.Parse.{digits_value, digits_value_after}
 use Rattle.std.proofs.lemmas.Bool.Decides.{nat_tests}
-use Rattle.number_core.specs.declared.number.ReadNumber.{ReadNumber}
+use Rattle.number_core.specs.declared.number.Plain.{Plain}
 use Rattle.number_core.specs.declared.scale.Scale.{Scale}
 use Rattle.number_core.specs.Numbers.{IsDigit}
-use Rattle.number_core.specs.declared.scale.Rounding.TheVariants.{Exact}
-use Rattle.number_core.specs.Scales.{digits_of, rounding_of}
+use Rattle.number_core.specs.Scales.{digits_of}
 use Rattle.number_core.specs.Values.{kept}
-use Rattle.number_core.specs.NumberSteps.{digits_at, after_digits, sign_at, decimals_at, number_at, number_answer, IsCapped, ranged}
+use Rattle.number_core.specs.NumberSteps.{digits_at, after_digits, sign_at, decimals_at, has_digit, rounds_up, IsCapped, IsPlainOf, ranged}
 
 -- ---- tests
 
@@ -105,28 +104,30 @@ pub ranged_capped : (negative : Bool) (sum total : ℕ) → IsCapped sum total �
 ranged_capped negative sum total (inl e) = ap (ranged negative) e
 ranged_capped negative sum total (inr h) = grind (arith, nat_tests)
 
--- ---- a number with its fraction
+pub rounded_value : (negative up : Bool) (number next : ℕ) (value : Option ℤ) → value ≡ ranged negative next
+    → ((total : ℕ) → IsCapped number total → IsCapped next (total + (if up then 1 else 0)))
+    → (total : ℕ) → IsCapped number total → value ≡ ranged negative (total + (if up then 1 else 0))
+rounded_value negative up number next value v step total h = v ∙ ranged_capped negative next _ (step total h)
 
-module _ (scale : Scale) (exact : rounding_of scale ≡ Exact) where
-  -- the result of reading the number, from those of its parts
-  pub number_answered : (text unsigned rest behind : List ℕ) (negative whole : Bool) (part units : ℕ) (value : Option ℤ)
-      → negative ≡ (sign_at text).0 → unsigned ≡ (sign_at text).1 → 1 ≤ length unsigned → 48 ≤ get_or unsigned 0 0 → get_or unsigned 0 0 < 58
-      → IsCapped part (digits_value 10 (digits_at unsigned)) → rest ≡ after_digits unsigned
-      → ((total : ℕ) → IsCapped part total → IsCapped units (digits_value_after 10 total (kept (digits_of scale) (decimals_at rest).0)))
-      → whole ≡ list_all (λ d. d == 48) (drop (digits_of scale) (decimals_at rest).0) → behind ≡ (decimals_at rest).1 → value ≡ ranged negative units
-      → ◌≡◌ {A = Option (ReadNumber × List ℕ)} (Some (record { value = value; whole = whole }, behind)) (number_answer scale (number_at scale text))
-  number_answered text [] rest behind negative whole part units value n u some low high p r k w b v = absurd (omega arith)
-  number_answered text (d ∷ ds) rest behind negative whole part units value n u some low high p r k w b v =
-      let digit : is_ascii_digit d ≡ true = grind (arith, nat_tests) in
-      let front : digits_at (d ∷ ds) ≡ d ∷ digits_at ds = rw digit refl in
-      let after : rest ≡ after_digits ds = rw digit at r in
-      let decimals = kept (digits_of scale) (decimals_at (after_digits ds)).0 in
-      let capped : IsCapped units (digits_value_after 10 (digits_value 10 (d ∷ digits_at ds)) decimals) =
-      rw after at (k (digits_value 10 (d ∷ digits_at ds)) (rw front at p)) in
-      let joined : digits_value_after 10 (digits_value 10 (d ∷ digits_at ds)) decimals ≡ digits_value 10 ((d ∷ digits_at ds) ++ decimals) =
-      sym (digits_value_after-append 0 (d ∷ digits_at ds) decimals) in
-      let same_value : value ≡ ranged negative (digits_value 10 ((d ∷ digits_at ds) ++ decimals)) =
-      v ∙ ranged_capped negative units _ (rw joined at capped) in
-      let same_whole : whole ≡ list_all (λ d. d == 48) (drop (digits_of scale) (decimals_at (after_digits ds)).0) = rw after at w in
-      let same_behind : behind ≡ (decimals_at (after_digits ds)).1 = rw after at b in
-      rw (exact, ← u, ← n, digit) (λ i. Some (record { value = same_value i; whole = same_whole i }, same_behind i))
+-- ---- a number up to its exponent
+
+pub plain_read : (scale : Scale) (text unsigned rest behind : List ℕ) (plain : Plain) (negative : Bool) (part : ℕ)
+    → negative ≡ (sign_at text).0 → unsigned ≡ (sign_at text).1 → 1 ≤ length unsigned → 48 ≤ get_or unsigned 0 0 → get_or unsigned 0 0 < 58
+    → IsCapped part (digits_value 10 (digits_at unsigned)) → rest ≡ after_digits unsigned → plain.negative ≡ negative
+    → ((total : ℕ) → IsCapped part total → IsCapped plain.units (digits_value_after 10 total (kept (digits_of scale) (decimals_at rest).0)))
+    → plain.whole ≡ list_all (λ d. d == 48) (drop (digits_of scale) (decimals_at rest).0) → plain.up ≡ rounds_up (digits_of scale) (decimals_at rest).0
+    → behind ≡ (decimals_at rest).1 → IsPlainOf scale text plain behind
+plain_read scale text unsigned rest behind plain negative part n u some low high p r same k w up b =
+    let after : rest ≡ after_digits (sign_at text).1 = r ∙ ap after_digits u in
+    let ds = digits_at (sign_at text).1 in
+    let es = kept (digits_of scale) (decimals_at (after_digits (sign_at text).1)).0 in
+    let capped : IsCapped plain.units (digits_value_after 10 (digits_value 10 ds) es) = rw (after, u) at (k (digits_value 10 (digits_at unsigned)) p) in
+    let front = (digit_taken unsigned some low high).0 in
+    record {
+      negative = same ∙ n;
+      some = ap has_digit (ap digits_at (sym u) ∙ front);
+      units = subst (IsCapped plain.units) (sym (digits_value_after-append 0 ds es)) capped;
+      whole = rw after at w;
+      up = rw after at up;
+      after = rw after at b;
+    }

@@ -1,6 +1,6 @@
 -- The whole number of units nearest to a number, by the digits before its last unit.
 use Rattle.std.proofs.Common.{◌≡◌, true, false, ℕ, zero, suc, ◌+◌, ◌-◌, ◌*◌, ◌/◌, ◌^◌, ◌<◌, ◌≤◌, List, [], ◌∷◌, ◌++◌, length, get_or, take, drop, refl, sym, ap, ap₂, ◌∙◌, inl, inr, subst, ◌⊎◌, ⊎_elim, min, arith}
-use Rattle.std.specs.Prelude.{◌==◌, nat_le, if◌then◌else◌}
+use Rattle.std.specs.Prelude.{◌==◌, nat_le, Option, Some, if◌then◌else◌}
 use Rattle.std.specs.Char.{digit_value}
 use Rattle.std.specs.List.{list_all}
 use Rattle.std.specs.Str.Parse.{digits_value, digits_value_after}
@@ -13,10 +13,16 @@ use Rattle.std.proofs.lemmas.Nat.{pow-add}
 use Rattle.std.proofs.lemmas.Str.{digit_value_digit}
 use Rattle.geom_core.specs.Shapes.{greatest_coordinate}
 use Rattle.number_core.specs.Numbers.{IsDigit, Digits, Numeral}
+use Rattle.number_core.specs.declared.number.Plain.{Plain}
+use Rattle.number_core.specs.declared.number.ReadNumber.{ReadNumber}
+use Rattle.number_core.specs.declared.scale.Scale.{Scale}
+use Rattle.number_core.specs.Scales.{digits_of, rounding_of}
 use Rattle.number_core.specs.declared.scale.Rounding.TheVariants.{Exact, Nearest}
-use Rattle.number_core.specs.Values.{kept, nearest, is_whole_by, units_by}
-use Rattle.number_core.specs.NumberSteps.{cut, IsCapped, IsSaturated}
+use Rattle.number_core.specs.Values.{kept, nearest, is_whole_by, is_whole, units_by, units}
+use Rattle.number_core.specs.NumberSteps.{digits_at, after_digits, sign_at, decimals_at, exponent_at, has_letter, has_digit, number_at, number_answer}
+use Rattle.number_core.specs.NumberSteps.{rounds_up, cut, ranged, IsCapped, IsSaturated, IsPlainOf}
 use Rattle.number_core.proofs.FractionLemmas.{power_pos}
+use Rattle.number_core.proofs.FrontLemmas.{are_digits, are_decimals}
 use Rattle.number_core.proofs.NumberLemmas.{by_bool}
 use Rattle.number_core.proofs.NumberLemmas.{kept-none, kept-absent, kept-more}
 
@@ -263,21 +269,10 @@ before_more ds i sum next step h =
     let e : suc i ≡ i + 1 = omega arith in
     subst (IsCapped next) (sym (digits_more 0 i ds) ∙ ap (λ n. digits_value 10 (kept n ds)) e) (step (digits_value 10 (kept i ds)) h)
 
-pub round_up : (ds : List ℕ) (place sum : ℕ) → IsCapped sum (digits_value 10 (kept place ds)) → sum ≤ greatest_coordinate → 53 ≤ get_or ds place 48
-    → IsCapped (sum + 1) (cut place ds)
-round_up ds place sum (inl e) small h =
-    let t : nat_le 53 (get_or ds place 48) ≡ true = grind (arith, nat_tests) in
-    rw t (inl (ap (λ n. n + 1) e))
-round_up ds place sum (inr far) small h = absurd (omega (arith, far.0, small))
-
-pub round_down : (ds : List ℕ) (place sum : ℕ) → IsCapped sum (digits_value 10 (kept place ds)) → get_or ds place 48 < 53 → IsCapped sum (cut place ds)
-round_down ds place sum capped h =
-    let f : nat_le 53 (get_or ds place 48) ≡ false = grind (arith, nat_tests) in
-    rw f (subst (IsCapped sum) (omega arith) capped)
-
-pub stay_far : (ds : List ℕ) (place sum : ℕ) → IsCapped sum (digits_value 10 (kept place ds)) → greatest_coordinate < sum → IsCapped sum (cut place ds)
-stay_far ds place sum (inl e) far = inr (far, omega (arith, e, far))
-stay_far ds place sum (inr both) far = inr (far, omega (arith, both.1))
+pub cut_rounded : (ds : List ℕ) (place sum next digit : ℕ) → digit ≡ get_or ds place 48 → IsCapped sum (digits_value 10 (kept place ds))
+    → ((total : ℕ) → IsCapped sum total → IsCapped next (total + (if nat_le 53 digit then 1 else 0))) → IsCapped next (cut place ds)
+cut_rounded ds place sum next digit d h step =
+    subst (λ g. IsCapped next (digits_value 10 (kept place ds) + (if nat_le 53 g then 1 else 0))) d (step (digits_value 10 (kept place ds)) h)
 
 -- ---- the digits of an exponent
 
@@ -330,3 +325,41 @@ whole_units k n hd he none whole =
     let at : cut (length ds + k) (ds ++ es) ≡ digits_value 10 (ds ++ kept k es) = rw (zero_next, kept_join ds es k) (omega arith) in
     rw (raise, lower)
     (nearest_cut (ds ++ es) (length ds + k) (k + 0) (length es + 0) (digits_join ds es hd he) (omega (arith, length-append ds es)) ∙ at)
+
+-- ---- a number without an exponent
+
+plain_units : (ds es : List ℕ) (k : ℕ) → Digits ds → Digits es
+    → nearest (digits_value 10 (ds ++ es) * 10 ^ (k + 0)) (10 ^ (length es + 0)) ≡ digits_value 10 (ds ++ kept k es) + (if rounds_up k es then 1 else 0)
+plain_units ds es k hd he =
+    nearest_cut (ds ++ es) (length ds + k) (k + 0) (length es + 0) (digits_join ds es hd he) (omega (arith, length-append ds es))
+    ∙ ap₂ (λ xs d. digits_value 10 xs + (if nat_le 53 d then 1 else 0)) (kept_join ds es k) (digit_join ds es k)
+
+no_letter : (text : List ℕ) → has_letter text ≡ false → exponent_at text ≡ (false, [], text)
+no_letter [] h = refl
+no_letter (b ∷ text) h = rw h refl
+
+digit_before : (ds es : List ℕ) → has_digit ds ≡ true → has_digit (ds ++ es) ≡ true
+digit_before [] es h = absurd (false≢true h)
+digit_before (d ∷ ds) es h = refl
+
+-- a number with a digit before its dot and no exponent is read as it is cut off, and rounded up by
+-- the digit after that
+pub plain_rounded : (scale : Scale) (text rest : List ℕ) (plain : Plain) (read : ReadNumber) → rounding_of scale ≡ Nearest → IsPlainOf scale text plain rest
+    → has_letter rest ≡ false
+    → ((total : ℕ) → IsCapped plain.units total → read.value ≡ ranged plain.negative (total + (if plain.up then 1 else 0))) → read.whole ≡ true
+    → ◌≡◌ {A = Option (ReadNumber × List ℕ)} (Some (read, rest)) (number_answer scale (number_at scale text))
+plain_rounded scale text rest plain read rounds h none v whole =
+    let unsigned = (sign_at text).1 in
+    let ds = digits_at unsigned in
+    let es = (decimals_at (after_digits unsigned)).0 in
+    let k = digits_of scale in
+    let n : Numeral = record { negative = (sign_at text).0; digits = ds; decimals = es; lowers = false; exponent = [] } in
+    let ends : exponent_at (decimals_at (after_digits unsigned)).1 ≡ (false, [], (decimals_at (after_digits unsigned)).1) = no_letter _ (rw h.after at none) in
+    let taken : number_at scale text ≡ Some (n, (decimals_at (after_digits unsigned)).1) = rw (rounds, digit_before ds es h.some, ends) refl in
+    let total = digits_value 10 (ds ++ kept k es) in
+    let worth : units scale n ≡ total + (if rounds_up k es then 1 else 0) =
+    ap (λ r. units_by r k n) rounds ∙ plain_units ds es k (are_digits unsigned) (are_decimals (after_digits unsigned)) in
+    let same_value : read.value ≡ ranged (sign_at text).0 (units scale n) =
+    v total h.units ∙ ap₂ (λ b up. ranged b (total + (if up then 1 else 0))) h.negative h.up ∙ ap (ranged (sign_at text).0) (sym worth) in
+    let same_whole : read.whole ≡ is_whole scale n = whole ∙ sym (ap (λ r. is_whole_by r k n) rounds) in
+    (λ i. Some (record { value = same_value i; whole = same_whole i }, h.after i)) ∙ sym (ap (number_answer scale) taken)

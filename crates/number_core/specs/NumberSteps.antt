@@ -1,16 +1,18 @@
 -- The steps of the reader over a number: what they read at the start of a text, and what remains.
 use Rattle.std.specs.Prelude.{◌≡◌, ◌==◌, ◌<◌, ◌≤◌, ◌+◌, ◌-◌, ◌^◌, ◌⊎◌, ◌||◌, ℕ, nat_le, ℤ, Bool}
-use Rattle.std.specs.Prelude.{true, false, get_or}
+use Rattle.std.specs.Prelude.{true, false, IsTrue, get_or, drop}
 use Rattle.std.specs.Prelude.{List, [], ◌∷◌, ◌++◌, Option, Some, None, if◌then◌else◌}
 use Rattle.std.specs.Borrow.{Bor}
 use Rattle.std.specs.Char.{is_ascii_digit}
+use Rattle.std.specs.List.{list_all}
 use Rattle.std.specs.Str.Parse.{digits_value}
 use Rattle.geom_core.specs.Shapes.{greatest_coordinate}
+use Rattle.number_core.specs.declared.number.Plain.{Plain}
 use Rattle.number_core.specs.declared.number.ReadNumber.{ReadNumber}
 use Rattle.number_core.specs.declared.scale.Rounding.{Rounding}
 use Rattle.number_core.specs.declared.scale.Rounding.TheVariants.{Exact, Nearest}
 use Rattle.number_core.specs.declared.scale.Scale.{Scale}
-use Rattle.number_core.specs.Scales.{rounding_of}
+use Rattle.number_core.specs.Scales.{digits_of, rounding_of}
 use Rattle.number_core.specs.Numbers.{Numeral}
 use Rattle.number_core.specs.Values.{kept, is_whole, signed, units}
 
@@ -39,6 +41,11 @@ decimals_at (b ∷ text) = if b == 46 then (digits_at text, after_digits text) e
 abbrev pub exponent_with : List ℕ → Bool → List ℕ → List ℕ → Bool × List ℕ × List ℕ
 exponent_with text lowers [] rest = (false, [], text)
 exponent_with text lowers (d ∷ ds) rest = (lowers, d ∷ ds, rest)
+
+-- whether an "e" (101) or "E" (69) is at the start
+abbrev pub has_letter : List ℕ → Bool
+has_letter [] = false
+has_letter (b ∷ text) = b == 101 || b == 69
 
 -- whether a minus sign precedes the exponent after an "e" (101) or "E" (69), the digits of the
 -- exponent, and the text after them
@@ -88,6 +95,7 @@ abbrev pub unsigned_at : Rounding → Bool → List ℕ → Option (Numeral × L
 unsigned_at rounding negative text =
     unsigned_by rounding negative (digits_at text) (decimals_at (after_digits text))
 
+-- the number at the start, as it is written, and the text after it
 abbrev pub number_at : Scale → List ℕ → Option (Numeral × List ℕ)
 number_at scale text = unsigned_at (rounding_of scale) (sign_at text).0 (sign_at text).1
 
@@ -101,10 +109,27 @@ abbrev pub IsSaturated : ℕ → ℕ → Type 0
 IsSaturated sum total =
     (sum ≡ total) ⊎ ((sum ≡ 2 ^ 64 - 1) × (2 ^ 64 - 1 ≤ total))
 
--- the number of the digits before a place, and one more if a 5 (53) or a greater digit is there
+-- whether a 5 (53) or a greater digit is at a place, so that a number cut off there is rounded up
+abbrev pub rounds_up : ℕ → List ℕ → Bool
+rounds_up place ds = nat_le 53 (get_or ds place 48)
+
+-- the number of the digits before a place, and one more if it is rounded up
 abbrev pub cut : ℕ → List ℕ → ℕ
 cut place ds =
-    digits_value 10 (kept place ds) + (if nat_le 53 (get_or ds place 48) then 1 else 0)
+    digits_value 10 (kept place ds) + (if rounds_up place ds then 1 else 0)
+
+-- a number at the start of a text that has a digit before its dot, cut off after the decimals of a
+-- scale, and the text at which its exponent would begin
+pub record IsPlainOf (scale : Scale) (text : List ℕ) (plain : Plain) (rest : List ℕ) : Type 0
+  where
+    pub negative : plain.negative ≡ (sign_at text).0
+    pub some : IsTrue (has_digit (digits_at (sign_at text).1))
+    pub units : IsCapped plain.units (digits_value 10 (digits_at (sign_at text).1
+        ++ kept (digits_of scale) (decimals_at (after_digits (sign_at text).1)).0))
+    pub whole : plain.whole ≡ list_all (λ d. d == 48)
+        (drop (digits_of scale) (decimals_at (after_digits (sign_at text).1)).0)
+    pub up : plain.up ≡ rounds_up (digits_of scale) (decimals_at (after_digits (sign_at text).1)).0
+    pub after : rest ≡ (decimals_at (after_digits (sign_at text).1)).1
 
 -- the number with this sign and absolute value, if it is in range
 abbrev pub ranged : Bool → ℕ → Option ℤ
@@ -117,6 +142,7 @@ number_read scale n = record {
   whole = is_whole scale n;
 }
 
+-- the same with the text after it, if there is a number
 abbrev pub number_answer : Scale → Option (Numeral × List ℕ) → Option (ReadNumber × List ℕ)
 number_answer scale None = None
 number_answer scale (Some p) = Some (number_read scale p.0, p.1)

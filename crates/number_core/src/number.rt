@@ -1,16 +1,17 @@
 //! Reading one number of a text.
 
-ghost use Rattle.std.specs.Prelude.{◌≡◌, ◌==◌, ◌+◌, ◌*◌, ℕ, suc, ◌∷◌, drop};
+ghost use Rattle.std.specs.Prelude.{◌≡◌, ◌==◌, ◌+◌, ◌*◌, ℕ, suc, ◌∷◌, drop, false, IfSome, IfNone};
+ghost use Rattle.std.specs.Prelude.{if◌then◌else◌};
 ghost use Rattle.std.specs.Char.{digit_value};
 ghost use Rattle.std.specs.List.{list_all};
 ghost use Rattle.std.specs.Str.Parse.{digits_value, digits_value_after};
 ghost use Rattle.number_core.specs.Numbers.{IsDigit};
-ghost use Rattle.number_core.specs.declared.scale.Rounding.TheVariants.{Exact};
-ghost use Rattle.number_core.specs.Scales.{digits_of, rounding_of};
+ghost use Rattle.number_core.specs.Scales.{digits_of};
 ghost use Rattle.number_core.specs.Values.{kept};
-ghost use Rattle.number_core.specs.NumberSteps.{answer_view};
 ghost use Rattle.number_core.specs.NumberSteps.{digits_at, after_digits, sign_at, decimals_at};
-ghost use Rattle.number_core.specs.NumberSteps.{number_at, number_answer, ranged, IsCapped};
+ghost use Rattle.number_core.specs.NumberSteps.{has_letter, has_digit, rounds_up, ranged};
+ghost use Rattle.number_core.specs.NumberSteps.{number_at, number_answer, answer_view};
+ghost use Rattle.number_core.specs.NumberSteps.{IsCapped, IsPlainOf};
 
 use crate::rounded::read_rounded;
 use crate::scale::{Rounding, Scale};
@@ -30,6 +31,62 @@ pub struct ReadNumber {
     pub value: Option<i64>,
     /// Whether all digits after the decimals of the scale are 0, or the number was rounded to them.
     pub whole: bool,
+}
+
+/// A number that has a digit before its dot, cut off after the decimals of a scale.
+#[derive(Clone, Copy)]
+pub(crate) struct Plain {
+    negative: bool,
+    /// Its whole units without the sign, or some number greater than `LARGEST` if there are more.
+    units: u64,
+    /// Whether all digits after the decimals of the scale are 0.
+    whole: bool,
+    /// Whether the first of them is 5 or more.
+    up: bool,
+}
+
+impl Plain {
+    ghost use Rattle.std.specs.Prelude.{◌≡◌, ◌+◌, ℕ, true, if◌then◌else◌};
+    ghost use Rattle.number_core.specs.NumberSteps.{ranged, IsCapped};
+
+    /// The number as it is read without rounding.
+    #[inline(always)]
+    fn exact(&self) -> ReadNumber
+        ensures value { result.value ≡ ranged self.now.negative self.now.units }
+        ensures whole { result.whole ≡ self.now.whole }
+    {
+        ReadNumber {
+            value: signed_number(self.negative, self.units),
+            whole: self.whole,
+        }
+    }
+
+    /// The number rounded to the nearest unit.
+    #[inline(always)]
+    fn rounded(&self) -> ReadNumber
+        ensures value { (total : ℕ) → IsCapped self.now.units total
+            → result.value ≡ ranged self.now.negative (total + (if self.now.up then 1 else 0)) }
+        ensures whole { result.whole ≡ true }
+    {
+        let units = rounded_up(self.units, self.up);
+        ReadNumber {
+            value: signed_number(self.negative, units),
+            whole: true,
+        }
+    }
+}
+
+/// The number with one added if `up`.
+#[inline(always)]
+pub(crate) fn rounded_up(number: u64, up: bool) -> u64
+    ensures { (total : ℕ) → IsCapped number total
+        → IsCapped result (total + (if up then 1 else 0)) }
+{
+    if up && number <= LARGEST {
+        number + 1
+    } else {
+        number
+    }
 }
 
 /// Whether the text starts with a minus sign, and the text after the sign.
@@ -148,25 +205,52 @@ fn zeros(text: &[u8]) -> (bool, &[u8])
     (all, rest)
 }
 
-/// The units of the scale for a whole part and the decimals at the start of the text, whether all
-/// digits after the decimals of the scale are 0, and the text after the decimals.
+/// Whether the digit at the start of the text is 5 or more.
 #[inline(always)]
-fn units(whole_part: u64, scale: Scale, text: &[u8]) -> (u64, bool, &[u8])
-    ensures value { (total : ℕ) → IsCapped whole_part total → IsCapped result.0
+fn starts_upper_half(text: &[u8]) -> bool
+    ensures { result ≡ rounds_up 0 (digits_at text.now) }
+{
+    matches!(text, [b'5'..=b'9', ..])
+}
+
+/// The number with the decimals at the start of the text appended and cut off after those of the
+/// scale, and the text after all of them.
+#[inline(always)]
+fn cut_off(negative: bool, whole_part: u64, scale: Scale, text: &[u8]) -> (Plain, &[u8])
+    ensures negative { result.0.negative ≡ negative }
+    ensures units { (total : ℕ) → IsCapped whole_part total → IsCapped result.0.units
         (digits_value_after 10 total (kept (digits_of scale) (decimals_at text.now).0)) }
-    ensures zeros { result.1
+    ensures zeros { result.0.whole
         ≡ list_all (λ d. d == 48) (drop (digits_of scale) (decimals_at text.now).0) }
-    ensures rest { result.2.now ≡ (decimals_at text.now).1 }
+    ensures up { result.0.up ≡ rounds_up (digits_of scale) (decimals_at text.now).0 }
+    ensures rest { result.1.now ≡ (decimals_at text.now).1 }
 {
     match text {
         [b'.', decimals @ ..] => {
             let (units, further) = with_decimals(whole_part, scale.digits(), decimals);
+            let up = starts_upper_half(further);
             let (whole, rest) = zeros(further);
-            (units, whole, rest)
+            (
+                Plain {
+                    negative,
+                    units,
+                    whole,
+                    up,
+                },
+                rest,
+            )
         }
         _ => {
             let (units, _) = with_decimals(whole_part, scale.digits(), b"");
-            (units, true, text)
+            (
+                Plain {
+                    negative,
+                    units,
+                    whole: true,
+                    up: false,
+                },
+                text,
+            )
         }
     }
 }
@@ -183,23 +267,29 @@ pub(crate) fn signed_number(negative: bool, magnitude: u64) -> Option<i64>
     Some(if negative { -number } else { number })
 }
 
-/// Reads the number at the start of a text without rounding, and returns it with the text after it,
-/// or `None` if there is no number.
+/// Reads the number at the start of a text up to its exponent, if it has a digit before its dot,
+/// and returns it with the text after it.
 #[inline(always)]
-fn read_exact(text: &[u8], scale: Scale) -> Option<(ReadNumber, &[u8])>
-    requires { rounding_of scale ≡ Exact }
-    ensures { answer_view result ≡ number_answer scale (number_at scale text.now) }
+fn read_plain(text: &[u8], scale: Scale) -> Option<(Plain, &[u8])>
+    ensures some { IfSome result (λ r. IsPlainOf scale text.now r.0 r.1.now) }
+    ensures none { IfNone result (has_digit (digits_at (sign_at text.now).1) ≡ false) }
 {
     let (negative, unsigned) = sign(text);
     match unsigned {
         [b'0'..=b'9', ..] => {
             let (whole_part, rest) = magnitude(unsigned);
-            let (units, whole, rest) = units(whole_part, scale, rest);
-            let value = signed_number(negative, units);
-            Some((ReadNumber { value, whole }, rest))
+            Some(cut_off(negative, whole_part, scale, rest))
         }
         _ => None,
     }
+}
+
+/// Whether the text starts with the letter of an exponent.
+#[inline(always)]
+fn has_letter(text: &[u8]) -> bool
+    ensures { result ≡ has_letter text.now }
+{
+    matches!(text, [b'e' | b'E', ..])
 }
 
 /// Reads the number at the start of a text, and returns it with the text after it, or `None` if
@@ -208,8 +298,15 @@ fn read_exact(text: &[u8], scale: Scale) -> Option<(ReadNumber, &[u8])>
 pub fn read_number(text: &[u8], scale: Scale) -> Option<(ReadNumber, &[u8])>
     ensures { answer_view result ≡ number_answer scale (number_at scale text.now) }
 {
+    let plain = read_plain(text, scale);
     match scale.rounding() {
-        Rounding::Exact => read_exact(text, scale),
-        Rounding::Nearest => read_rounded(text, scale),
+        Rounding::Exact => match plain {
+            Some((number, rest)) => Some((number.exact(), rest)),
+            None => None,
+        },
+        Rounding::Nearest => match plain {
+            Some((number, rest)) if !has_letter(rest) => Some((number.rounded(), rest)),
+            _ => read_rounded(text, scale),
+        },
     }
 }

@@ -12,7 +12,7 @@ ghost use Rattle.number_core.specs.NumberSteps.{digits_at, after_digits, decimal
 ghost use Rattle.number_core.specs.NumberSteps.{number_at, number_answer, cut, has_digit};
 ghost use Rattle.number_core.specs.NumberSteps.{IsCapped, IsSaturated};
 
-use crate::number::{LARGEST, ReadNumber, sign, signed_number, with_digit};
+use crate::number::{ReadNumber, rounded_up, sign, signed_number, with_digit};
 use crate::scale::Scale;
 
 /// A whole number other than 0 that is followed by this many zeros is out of range.
@@ -120,11 +120,8 @@ fn rounded_at(digits: &[u8], decimals: &[u8], place: usize) -> u64
     ensures { IsCapped result (cut place (digits.now ++ decimals.now)) }
 {
     let sum = digits_before(digits, decimals, place);
-    if sum <= LARGEST && digit_at(digits, decimals, place) >= b'5' {
-        sum + 1
-    } else {
-        sum
-    }
+    let up = digit_at(digits, decimals, place) >= b'5';
+    rounded_up(sum, up)
 }
 
 /// The units of the scale nearest to the number with these digits before and after the dot, which
@@ -154,6 +151,7 @@ fn nearest_units(digits: &[u8], decimals: &[u8], scale: Scale, lowers: bool, amo
 
 /// Reads the number at the start of a text, rounded to the nearest unit, and returns it with the
 /// text after it, or `None` if there is no number.
+#[cold]
 #[inline(never)]
 pub(crate) fn read_rounded(text: &[u8], scale: Scale) -> Option<(ReadNumber, &[u8])>
     requires { rounding_of scale ≡ Nearest }
