@@ -41,7 +41,8 @@ fn push_fraction(text: &mut String, units: u64, scale: Scale) -> Result<(), Allo
 }
 
 /// Adds a number of units of the scale to a text, as a decimal number without superfluous zeros,
-/// and with a dot only if its fraction isn't 0: at scale 2, 125 units are `1.25` and -5 are `-0.05`.
+/// and with a dot only if its fraction isn't 0: at scale 2, 125 units are `1.25` and -5 are
+/// `-0.05`.
 ///
 /// # Errors
 /// If an allocation fails; the text may then end with a part of the number.
