@@ -123,11 +123,11 @@ def test_a_field_with_the_name_of_the_key_is_kept(town: Any, tmp_path: Path, mor
 
 def test_faults_leave_nothing_and_are_told_in_a_line(files: Any, tmp_path: Path,
                                                      capsys: Any) -> None:
-    slanted = geopandas.GeoDataFrame(geometry=[shapely_geometry.LineString([(0, 0), (9, 7)])])
-    slanted.to_file(tmp_path / "slanted.gpkg", driver="GPKG")
+    short = geopandas.GeoDataFrame(geometry=[shapely_geometry.LineString([(9, 7), (9, 7)])])
+    short.to_file(tmp_path / "short.gpkg", driver="GPKG")
     left, output = files[0], tmp_path / "out.csv"
     for right, relation, status, told in (
-            (tmp_path / "slanted.gpkg", "touches", 1, "right: row 1 (feature 0): not a point"),
+            (tmp_path / "short.gpkg", "touches", 1, "right: row 1 (feature 0): a line without"),
             (tmp_path / "none.gpkg", "touches", 1, "is not there"),
             (f"{tmp_path}/town.gpkg:none", "touches", 1, "none"),
             (files[1], "disjoint", 2, "disjoint")):
@@ -142,8 +142,9 @@ def test_faults_leave_nothing_and_are_told_in_a_line(files: Any, tmp_path: Path,
 
 
 def test_what_is_left_out_is_listed(files: Any, tmp_path: Path, capsys: Any) -> None:
-    mixed = geopandas.GeoDataFrame(geometry=[
-        shapely_geometry.LineString([(0, 0), (9, 7)]), shapely_geometry.Point(5, 5)])
+    point, line = shapely_geometry.Point(5, 5), shapely_geometry.LineString([(0, 0), (9, 7)])
+    mixed = geopandas.GeoDataFrame(
+        geometry=[shapely_geometry.GeometryCollection([point, line]), point])
     mixed.to_file(tmp_path / "mixed.geojson", driver="GeoJSON")
     for other, what, count in (("skip", "left out", 1), ("envelope", "envelope", 2)):
         output, notices = tmp_path / f"{other}.csv", tmp_path / f"{other}-notices.csv"

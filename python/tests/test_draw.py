@@ -41,7 +41,7 @@ def test_pictures_of_files_and_of_frames_are_the_same(town: Any) -> None:
 def test_what_is_left_out_of_a_picture_is_told() -> None:
     pytest.importorskip("shapely")
     with pytest.warns(rjoin.LeftOutWarning):
-        layer = ["POINT (1 1)", "LINESTRING (0 0, 1 1)"]
+        layer = ["POINT (1 1)", "GEOMETRYCOLLECTION (POINT (0 0), LINESTRING (0 0, 1 1))"]
         picture = rjoin.draw(layer, ["POINT (1 1)"], other="skip")
     assert [notice.row for notice in picture.left_out] == [2]
     assert titles(picture.svg, "left") == ["0"]

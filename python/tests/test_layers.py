@@ -32,6 +32,8 @@ OTHERS = (
     "POLYGON ((0 0, 9 0, 9 9, 0 9, 0 0), (1 1, 2 1, 2 2, 1 2, 1 1))",
     "MULTIPOINT (1 1, 2 2)", "MULTIPOLYGON (((0 0, 1 0, 1 1, 0 1, 0 0)), ((4 4, 6 4, 6 6, 4 4)))",
 )
+NO_LENGTH = "LINESTRING (1 1, 1 1)"
+COLLECTION = "GEOMETRYCOLLECTION (POINT (8 8), POLYGON ((8 8, 12 8, 12 12, 8 8)))"
 EMPTY = ("POINT EMPTY", "LINESTRING EMPTY", "POLYGON EMPTY", "MULTIPOLYGON EMPTY",
          "GEOMETRYCOLLECTION EMPTY", "GEOMETRYCOLLECTION (POINT EMPTY, LINESTRING EMPTY)")
 AREA = "POLYGON ((-9 -9, 19 -9, 19 19, -9 19, -9 -9))"
@@ -52,21 +54,29 @@ def test_boxes_are_found_in_each_of_their_forms() -> None:
 
 
 @pytest.mark.parametrize("text", OTHERS)
-def test_a_geometry_that_is_no_box_is_refused_with_its_feature(text: str) -> None:
-    with pytest.raises(rjoin.InputError, match="not a point, axis-parallel") as caught:
-        rjoin.pairs([AREA], series(["POINT (1 2)", text]))
-    fault = caught.value
-    assert (fault.side, fault.row, fault.feature) == ("right", 2, "b")
+@pytest.mark.filterwarnings("ignore::rjoin.ImproperRingsWarning")
+def test_a_geometry_that_is_no_box_is_given_as_it_is(text: str) -> None:
+    layers = series(["POINT (1 2)", text]), ["POINT (1 2)", text]
+    for layer in layers[:2 if text != NO_LENGTH else 0]:
+        pairs = rjoin.pairs([AREA], layer, "covers", ids="position")
+        assert pairs["right"].tolist() == [0, 1] and "exact" not in pairs.columns
+        if wkt.loads(text).is_valid:
+            assert pairs["matrix"][1] == wkt.loads(AREA).relate(wkt.loads(text))
+    for layer in layers[:2 if text == NO_LENGTH else 0]:
+        with pytest.raises(rjoin.InputError, match="a line without length") as caught:
+            rjoin.pairs([AREA], layer)
+        assert (caught.value.side, caught.value.row) == ("right", 2)
 
 
 def test_what_is_left_out_is_listed_and_told() -> None:
-    layer = series([*OTHERS, BOXES[0], None, *EMPTY])
-    with pytest.warns(rjoin.LeftOutWarning, match="20 features are left out.*row 1") as caught:
+    unread = (COLLECTION, NO_LENGTH)
+    layer = series([*unread, BOXES[0], None, *EMPTY])
+    with pytest.warns(rjoin.LeftOutWarning, match="9 features are left out.*row 1") as caught:
         pairs = rjoin.pairs(layer, [AREA], other="skip", missing="skip")
     assert caught[0].filename == __file__
-    assert pairs["left"].tolist() == [layer.index[len(OTHERS)]]
+    assert pairs["left"].tolist() == [layer.index[len(unread)]]
     left_out = pairs.attrs["left_out"]
-    rows = [row for row in range(1, len(layer) + 1) if row != len(OTHERS) + 1]
+    rows = [row for row in range(1, len(layer) + 1) if row != len(unread) + 1]
     assert [notice.row for notice in left_out] == rows
     assert [notice.feature for notice in left_out] == [layer.index[row - 1] for row in rows]
     assert {notice.side for notice in left_out} == {"left"}
@@ -74,11 +84,11 @@ def test_what_is_left_out_is_listed_and_told() -> None:
 
 
 def test_a_left_join_without_all_right_features_is_refused_or_marked() -> None:
-    """Of two squares, the second meets only a triangle, which is left out."""
+    """Of two squares, the second meets only a collection, which is left out."""
     squares = geopandas.GeoDataFrame(geometry=series([
         "POLYGON ((0 0, 2 0, 2 2, 0 2, 0 0))", "POLYGON ((9 9, 11 9, 11 11, 9 11, 9 9))"]))
     others = geopandas.GeoDataFrame(geometry=series([
-        "POINT (1 1)", "POLYGON ((8 8, 12 8, 12 12, 8 8))", None]))
+        "POINT (1 1)", COLLECTION, None]))
     rules: Tuple[Dict[str, Any], ...] = (
         {"right": others, "other": "skip", "missing": "skip"},
         {"right": others.iloc[:2], "other": "skip"}, {"right": others.iloc[::2], "missing": "skip"},
@@ -184,8 +194,10 @@ def test_texts_are_read_alike_whatever_happens_to_others(tmp_path: Path, rules: 
 
 def test_the_first_fault_of_texts_is_told(tmp_path: Path) -> None:
     for rows, told in (
-            (["POINT Z (1 2 3)", "LINESTRING (0 0, 1 1)", "POINT"], "row 2 .*axis-parallel"),
-            (["POINT Z (1 2 3)", "POINT", "LINESTRING (0 0, 1 1)"], "row 2 .*geometry text")):
+            (["POINT Z (1 2 3)", NO_LENGTH, "POINT"], "row 3 .*geometry text"),
+            (["POINT (1 2)", NO_LENGTH, "POINT"], "row 2 .*without length"),
+            (["POINT Z (1 2 3)", COLLECTION, "POINT"], "row 2 .*several of one kind"),
+            (["POINT Z (1 2 3)", "POINT", NO_LENGTH], "row 2 .*geometry text")):
         path = tmp_path / "layer.csv"
         path.write_text("id,wkt\n" + "".join(f'{n},"{row}"\n' for n, row in enumerate(rows)))
         for layer in (rows, path):
@@ -198,7 +210,7 @@ def test_the_first_fault_of_texts_is_told(tmp_path: Path) -> None:
 
 
 def test_features_that_are_left_out_are_in_no_row_of_a_left_join() -> None:
-    layer = geopandas.GeoDataFrame(geometry=series([OTHERS[0], "POINT (50 50)", None]))
+    layer = geopandas.GeoDataFrame(geometry=series([COLLECTION, "POINT (50 50)", None]))
     areas = geopandas.GeoDataFrame(geometry=series([AREA]))
     with pytest.warns(rjoin.LeftOutWarning):
         joined = rjoin.sjoin(layer, areas, how="left", other="skip", missing="skip")

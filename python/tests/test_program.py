@@ -196,19 +196,19 @@ def test_the_environment_is_handed_on(monkeypatch: Any, real: str, tmp_path: Pat
 def test_faults_have_side_row_and_feature(tmp_path: Path) -> None:
     pytest.importorskip("pandas")
     wrong = tmp_path / "wrong.csv"
-    wrong.write_text('id,wkt\na,POINT (1 2)\n"b, c","LINESTRING (0 0, 1 1)"\n')
+    wrong.write_text('id,wkt\na,POINT (1 2)\n"b, c","LINESTRING (1 1, 1 1)"\n')
     with pytest.raises(rjoin.InputError) as caught:
         rjoin.pairs(TOWN / "parcels.csv", wrong)
     fault = pickle.loads(pickle.dumps(caught.value))
     assert (fault.side, fault.row, fault.feature) == ("right", 2, "b, c")
-    assert str(fault) == ("right: row 2 (feature 'b, c'): not a point, axis-parallel segment or "
-                          "rectangle")
+    assert str(fault) == ("right: row 2 (feature 'b, c'): a line without length, or a ring that "
+                          "is not closed or is flat")
     wrong.write_text("id,wkt\na,POINT (1 2)\na,POINT (1 2)\n")
     with pytest.raises(rjoin.InputError, match="layer: row 2 .*id is already there"):
         rjoin.stats(wrong)
     with pytest.raises(rjoin.InputError, match="window: not a geometry text"):
         rjoin.window(TOWN / "parcels.csv", "POINT 1 2")
-    for place in ("POINT (0.1234567 2)", "LINESTRING (0 0, 1 1)"):
+    for place in ("POINT (0.1234567 2)", "LINESTRING (1 1, 1 1)"):
         with pytest.raises(rjoin.InputError, match="^window: [^(]*$") as caught:
             rjoin.window(TOWN / "parcels.csv", place)
         assert (caught.value.row, caught.value.feature) == (None, None)

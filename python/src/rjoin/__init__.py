@@ -1,16 +1,16 @@
-"""Exact spatial joins of points, axis-parallel segments and rectangles, by the program rjoin.
+"""Exact spatial joins of points, lines and polygons, by the proved program rjoin.
 
 `sjoin` joins GeoPandas frames, `pairs` layers of any kind, `window` and `stats` look at one layer,
 `relate` at two geometries, and `draw` shows two layers. rjoin.calls says what they have in common.
 """
 from rjoin.calls import Stats, draw, pairs, relate, sjoin, stats, window
-from rjoin.errors import ArgumentError, EnvelopeWarning, InputError, LeftOutWarning, Notice
-from rjoin.errors import RjoinError, StaleProgramWarning
+from rjoin.errors import ArgumentError, EnvelopeWarning, ImproperRingsWarning, InputError
+from rjoin.errors import LeftOutWarning, Notice, RjoinError, StaleProgramWarning
 from rjoin.found import VERSION as __version__
 from rjoin.picture import Picture
 
 __all__ = [
-    "ArgumentError", "EnvelopeWarning", "InputError", "LeftOutWarning", "Notice", "Picture",
-    "RjoinError", "StaleProgramWarning", "Stats", "__version__", "draw", "pairs", "relate", "sjoin",
-    "stats", "window",
+    "ArgumentError", "EnvelopeWarning", "ImproperRingsWarning", "InputError", "LeftOutWarning",
+    "Notice", "Picture", "RjoinError", "StaleProgramWarning", "Stats", "__version__", "draw",
+    "pairs", "relate", "sjoin", "stats", "window",
 ]

@@ -3,19 +3,23 @@
 A layer is a GeoDataFrame, a GeoSeries, a series or sequence of Shapely geometries or of well-known
 text, or the path of a file: CSV with the header id,wkt, or FILE or FILE:LAYER for all that GDAL
 reads. Features are told by their index labels, in sequences by their places from 0, and in CSV
-files by their ids.
+files by their ids. Geometries are points, lines and polygons, and several of one kind.
 
 What all calls have in common:
 
 scale: how many decimals coordinates may have, 0 to 6; by default as many as they need. A coordinate
 with more is an InputError: nothing is rounded.
-other: what happens to geometries that are no point, axis-parallel segment or rectangle: `"error"`
-raises an InputError, `"envelope"` takes their envelopes, `"skip"` leaves them out. With
-`"envelope"` frames have a last column `exact`, which is False where a row rests on an envelope.
+decimals: the number of decimals that coordinates are rounded to, 0 to 6, a half away from zero;
+`"auto"` takes 6, or as many as the program's range allows. The result has the number as `decimals`.
+rings: `"even-odd"` reads polygons whose rings cross, overlap or are flat by the even-odd rule, and
+an ImproperRingsWarning names the first one; `"proper"` refuses them.
+other: what happens to geometries of other types: `"error"` raises an InputError, `"skip"` leaves
+them out. With `"envelope"` all that are no point, axis-parallel segment or rectangle are replaced
+by their envelopes, and frames have a last column `exact`, which is False where a row rests on one.
 missing: what happens where a geometry is empty or not there: `"error"` or `"skip"`.
 What was left out is in no result; a LeftOutWarning tells of it, and `left_out` names each feature
 as a Notice. An EnvelopeWarning tells of envelopes, and `enveloped` names the features that they
-replace. Both are tuples, in `attrs` of frames and series, and fields of Stats and Picture.
+replace. These and `decimals` are in `attrs` of frames and series, and fields of Stats and Picture.
 
 Raises InputError for a fault of an input, ArgumentError for a wrong argument, and RjoinError for
 all else, such as a missing program.
@@ -23,7 +27,7 @@ all else, such as a missing program.
 from __future__ import annotations
 
 from numbers import Integral
-from typing import TYPE_CHECKING, Any, NamedTuple, Optional, Tuple
+from typing import TYPE_CHECKING, Any, NamedTuple, Optional, Tuple, Union
 
 from rjoin import program, relations
 from rjoin.errors import ArgumentError, Notice
@@ -33,26 +37,41 @@ if TYPE_CHECKING:
     import geopandas
     import pandas
 
+    from rjoin.joining import Reading
+
 MOST_DECIMALS = 6
 MOST_WORKERS = 16
+RINGS = ("even-odd", "proper")
+
+
+Decimals = Union[int, str, None]
 
 
 class Stats(NamedTuple):
-    """How many features a layer has, of each form, and the height of its R-tree."""
+    """How many features a layer has, of each dimension, and the height of its R-tree.
+
+    segments and rectangles are lines and areas if these are all boxes, and else None; vertices, of
+    which a ring has its first one twice, are None if all are boxes.
+    """
 
     features: int
     points: int
-    segments: int
-    rectangles: int
+    segments: Optional[int]
+    rectangles: Optional[int]
     height: int
     left_out: Tuple[Notice, ...] = ()
     enveloped: Tuple[Notice, ...] = ()
+    lines: int = 0
+    areas: int = 0
+    vertices: Optional[int] = None
+    decimals: Optional[int] = None
 
 
 def sjoin(left: "geopandas.GeoDataFrame", right: "geopandas.GeoDataFrame",
           predicate: str = "intersects", how: str = "inner", *, scale: Optional[int] = None,
-          workers: Optional[int] = None, lsuffix: str = "left", rsuffix: str = "right",
-          matrix: bool = False, other: str = "error", missing: str = "error",
+          decimals: Decimals = None, rings: str = "even-odd", workers: Optional[int] = None,
+          lsuffix: str = "left", rsuffix: str = "right", matrix: bool = False,
+          other: str = "error", missing: str = "error",
           incomplete: str = "error") -> "geopandas.GeoDataFrame":
     """The left rows beside the fields of each right row that they stand in the relation to.
 
@@ -72,10 +91,10 @@ def sjoin(left: "geopandas.GeoDataFrame", right: "geopandas.GeoDataFrame",
     from rjoin import frames, joining
     from rjoin.sources import Rules
 
-    check_arguments(predicate, scale, workers)
+    reading = reading_of(predicate, scale, decimals, rings, workers)
     suffixes = frames.Suffixes(lsuffix, rsuffix)
     frames.check(left, right, how, suffixes, incomplete)
-    job = joining.job_of((("left", left), ("right", right)), scale, Rules(other, missing))
+    job = joining.job_of((("left", left), ("right", right)), reading, Rules(other, missing))
     if how == "left" and incomplete == "error":
         job.refuse_incomplete()
     job.warn_of_crs(depth=1, unknown=True)
@@ -98,8 +117,8 @@ def sjoin(left: "geopandas.GeoDataFrame", right: "geopandas.GeoDataFrame",
 
 
 def pairs(left: Any, right: Any, relation: str = "intersects", *, scale: Optional[int] = None,
-          workers: Optional[int] = None, ids: str = "label", other: str = "error",
-          missing: str = "error") -> "pandas.DataFrame":
+          decimals: Decimals = None, rings: str = "even-odd", workers: Optional[int] = None,
+          ids: str = "label", other: str = "error", missing: str = "error") -> "pandas.DataFrame":
     """The pairs that stand in a relation, as a frame with the columns left, right and matrix.
 
     relation and workers are as for `sjoin`; matrix has the nine letters of DE-9IM. Pairs come in
@@ -109,8 +128,8 @@ def pairs(left: Any, right: Any, relation: str = "intersects", *, scale: Optiona
     from rjoin import joining
     from rjoin.sources import Rules
 
-    check_arguments(relation, scale, workers, ids)
-    job = joining.job_of((("left", left), ("right", right)), scale, Rules(other, missing))
+    reading = reading_of(relation, scale, decimals, rings, workers, ids)
+    job = joining.job_of((("left", left), ("right", right)), reading, Rules(other, missing))
     job.warn_of_crs(depth=1)
     found = joining.joined(job, relation, workers, matrix=True)
     exact = None
@@ -122,20 +141,21 @@ def pairs(left: Any, right: Any, relation: str = "intersects", *, scale: Optiona
     return result
 
 
-def window(layer: Any, geometry: Any, *, scale: Optional[int] = None, ids: str = "label",
-           other: str = "error", missing: str = "error") -> "pandas.Series":
+def window(layer: Any, geometry: Any, *, scale: Optional[int] = None, decimals: Decimals = None,
+           rings: str = "even-odd", ids: str = "label", other: str = "error",
+           missing: str = "error") -> "pandas.Series":
     """The features of a layer that share a point with a geometry, as a series with the name id.
 
-    geometry: a point, axis-parallel segment or rectangle, by Shapely or as well-known text.
+    geometry: by Shapely or as well-known text; `other` doesn't apply to it.
     ids: as for `pairs`; `frame.iloc[window(frame, geometry, ids="position")]` has the rows.
     With envelopes, `attrs["exact"]` is a list of which features meet the geometry by themselves.
     """
     from rjoin import joining
     from rjoin.sources import Rules
 
-    check_arguments("intersects", scale, None, ids)
-    place = joining.single(geometry, "window")
-    job = joining.job_of((("layer", layer),), scale, Rules(other, missing), place)
+    reading = reading_of("intersects", scale, decimals, rings, None, ids)
+    place = joining.single(geometry, "window", reading)
+    job = joining.job_of((("layer", layer),), reading, Rules(other, missing), [place])
     found = joining.met(job, place).to_frame()
     exact = None
     if other == "envelope":
@@ -148,30 +168,35 @@ def window(layer: Any, geometry: Any, *, scale: Optional[int] = None, ids: str =
     return result
 
 
-def stats(layer: Any, *, scale: Optional[int] = None, other: str = "error",
-          missing: str = "error") -> Stats:
+def stats(layer: Any, *, scale: Optional[int] = None, decimals: Decimals = None,
+          rings: str = "even-odd", other: str = "error", missing: str = "error") -> Stats:
     """The counts of a layer."""
     from rjoin import joining
     from rjoin.sources import Rules
 
-    check_arguments("intersects", scale, None)
-    job = joining.job_of((("layer", layer),), scale, Rules(other, missing))
+    reading = reading_of("intersects", scale, decimals, rings)
+    job = joining.job_of((("layer", layer),), reading, Rules(other, missing))
     counts = joining.counted(job)
-    job.finish({}, depth=1)
-    return Stats(**counts, left_out=job.left_out, enveloped=job.enveloped)
+    attributes = job.finish({}, depth=1)
+    return Stats(**counts, **attributes)
 
 
-def relate(first: Any, second: Any, *, scale: Optional[int] = None) -> str:
+def relate(first: Any, second: Any, *, scale: Optional[int] = None, decimals: Decimals = None,
+           rings: str = "even-odd") -> str:
     """The nine letters of DE-9IM of two geometries, by Shapely or as well-known text."""
     from rjoin import joining
 
-    check_arguments("intersects", scale, None)
-    geometries = joining.single(first, "first"), joining.single(second, "second")
-    return joining.related(*geometries, scale)
+    reading = reading_of("intersects", scale, decimals, rings)
+    job = joining.Job((), reading, [joining.single(first, "first", reading),
+                                    joining.single(second, "second", reading)])
+    letters = joining.related(job)
+    job.finish({}, depth=1)
+    return letters
 
 
 def draw(left: Any, right: Any, relation: str = "intersects", *, scale: Optional[int] = None,
-         other: str = "error", missing: str = "error") -> Picture:
+         decimals: Decimals = None, rings: str = "even-odd", other: str = "error",
+         missing: str = "error") -> Picture:
     """A picture of two layers in which the features that occur in a pair are highlighted.
 
     Both layers together have at most 100,000 features.
@@ -179,27 +204,38 @@ def draw(left: Any, right: Any, relation: str = "intersects", *, scale: Optional
     from rjoin import joining
     from rjoin.sources import Rules
 
-    check_arguments(relation, scale, None)
-    job = joining.job_of((("left", left), ("right", right)), scale, Rules(other, missing))
+    reading = reading_of(relation, scale, decimals, rings)
+    job = joining.job_of((("left", left), ("right", right)), reading, Rules(other, missing))
     job.warn_of_crs(depth=1)
     svg = joining.drawn(job, relation)
-    job.finish({}, depth=1)
-    return Picture(svg, job.left_out, job.enveloped)
+    return Picture(svg, **job.finish({}, depth=1))
 
 
-def check_arguments(relation: str, scale: Optional[int], workers: Optional[int],
-                    ids: str = "label") -> None:
-    """Refuses wrong arguments, and a missing program, before a layer is looked at."""
+def reading_of(relation: str, scale: Optional[int], decimals: Decimals, rings: str,
+               workers: Optional[int] = None, ids: str = "label") -> "Reading":
+    """How numbers and rings are read.
+
+    Wrong arguments, and a missing program, are refused before a layer is looked at.
+    """
     relations.check(relation)
     check_number("scale", scale, 0, MOST_DECIMALS)
     check_number("workers", workers, 1, MOST_WORKERS)
+    if decimals != "auto":
+        check_number("decimals", decimals, 0, MOST_DECIMALS, "'auto' or None")
+    if scale is not None and decimals is not None:
+        raise ArgumentError("scale and decimals exclude each other: scale rounds nothing")
+    if rings not in RINGS:
+        raise ArgumentError(f"rings must be 'even-odd' or 'proper', not {rings!r}")
     if ids not in ("label", "position"):
         raise ArgumentError(f"ids must be 'label' or 'position', not {ids!r}")
     program.find()
+    from rjoin.joining import Reading
+
+    return Reading(scale, decimals, rings)
 
 
-def check_number(name: str, value: Any, least: int, most: int) -> None:
+def check_number(name: str, value: Any, least: int, most: int, others: str = "None") -> None:
     """Refuses what is neither None nor a whole number of a range."""
     whole = isinstance(value, Integral) and not isinstance(value, bool)
     if value is not None and not (whole and least <= value <= most):
-        raise ArgumentError(f"{name} must be {least} to {most} or None, not {value!r}")
+        raise ArgumentError(f"{name} must be {least} to {most} or {others}, not {value!r}")

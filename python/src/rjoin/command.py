@@ -11,7 +11,7 @@ from contextlib import contextmanager
 from itertools import count
 from pathlib import Path
 from typing import Any, Dict, Iterable, Iterator, List, Mapping, NamedTuple, Optional, Sequence
-from typing import TextIO, Tuple
+from typing import TextIO, Tuple, Union
 
 from rjoin import signals
 from rjoin.errors import ArgumentError, EnvelopeWarning, LeftOutWarning, Notice, RjoinError
@@ -75,11 +75,18 @@ def parser() -> argparse.ArgumentParser:
                                 "a CSV file with the header id,wkt, and else the row from 0")
     known.add_argument("--scale", metavar="K", type=int,
                        help="decimals of a coordinate, 0 to 6; by default as many as are needed")
+    known.add_argument("--decimals", metavar="K", type=decimals,
+                       help="round coordinates to K decimals, 0 to 6, a half away from zero; with "
+                            "auto, to 6 or as many as the range allows")
+    known.add_argument("--rings", choices=("even-odd", "proper"), default="even-odd",
+                       help="treatment of polygons whose rings cross, overlap or are flat: read "
+                            "them by the even-odd rule, or refuse them")
     known.add_argument("--workers", metavar="N", type=int, help="threads, 1 to 16")
     known.add_argument("--other", choices=("error", "envelope", "skip"), default="error",
-                       help="treatment of geometries that are no point, axis-parallel segment "
-                            "or rectangle; with envelopes the field exact of OUT is true for pairs "
-                            "that rest on none")
+                       help="treatment of geometries that are no points, lines or polygons; "
+                            "envelope replaces all that are no point, axis-parallel segment or "
+                            "rectangle, and the field exact of OUT is true for pairs that rest on "
+                            "no envelope")
     known.add_argument("--missing", choices=("error", "skip"), default="error",
                        help="treatment of features whose geometry is empty or missing")
     known.add_argument("--notices", metavar="FILE", type=Path,
@@ -88,13 +95,22 @@ def parser() -> argparse.ArgumentParser:
     return known
 
 
+def decimals(text: str) -> Union[int, str]:
+    """The value of --decimals."""
+    return text if text == "auto" else int(text)
+
+
 class Notices(NamedTuple):
-    """What the options --other and --missing did to features, and how many pairs are inexact."""
+    """What the options --other and --missing did to features, and how many pairs are inexact.
+
+    decimals: those that --decimals auto rounded to.
+    """
 
     left_out: Tuple[Notice, ...]
     enveloped: Tuple[Notice, ...]
     inexact: int
     pairs: int
+    decimals: Optional[int]
 
     def rows(self) -> Iterator[Tuple[Any, ...]]:
         for name, notices in (("left out", self.left_out), ("envelope", self.enveloped)):
@@ -107,14 +123,16 @@ def run(arguments: argparse.Namespace) -> Notices:
     from rjoin import calls
 
     check_outputs(arguments)
-    calls.check_arguments(arguments.relation, arguments.scale, arguments.workers)
-    left = layer(arguments.left, "left", arguments.left_id)
-    right = layer(arguments.right, "right", arguments.right_id)
-    pairs = calls.pairs(left, right, arguments.relation, scale=arguments.scale,
-                        workers=arguments.workers, ids="position", other=arguments.other,
-                        missing=arguments.missing)
+    reading = calls.reading_of(arguments.relation, arguments.scale, arguments.decimals,
+                               arguments.rings, arguments.workers)
+    left = layer(arguments.left, "left", arguments.left_id, reading.rounds)
+    right = layer(arguments.right, "right", arguments.right_id, reading.rounds)
+    pairs = calls.pairs(left, right, arguments.relation, scale=reading.scale,
+                        decimals=reading.decimals, rings=reading.rings, workers=arguments.workers,
+                        ids="position", other=arguments.other, missing=arguments.missing)
     inexact = int((~pairs["exact"]).sum()) if "exact" in pairs.columns else 0
-    notices = Notices(pairs.attrs["left_out"], pairs.attrs["enveloped"], inexact, len(pairs))
+    found = pairs.attrs["decimals"] if reading.decimals == "auto" else None
+    notices = Notices(pairs.attrs["left_out"], pairs.attrs["enveloped"], inexact, len(pairs), found)
     if arguments.notices:
         write_notices(notices, arguments.notices, arguments.overwrite)
     write(table(left, right, pairs, arguments), arguments.output, arguments.overwrite)
@@ -146,11 +164,11 @@ def is_csv(path: Path) -> bool:
     return path.suffix.lower() == ".csv"
 
 
-def layer(text: str, side: str, field: Optional[str]) -> Any:
+def layer(text: str, side: str, field: Optional[str], rounds: bool) -> Any:
     """The layer, its index what identifies the features."""
     from rjoin import files
 
-    frame = files.read(text, side)
+    frame = files.read(text, side, rounds)
     if field is None and files.is_plain(files.place_of(text)):
         field = "id"
     if field is None:
@@ -271,6 +289,8 @@ def tell(notices: Notices, warned: List[str], file: TextIO) -> None:
     """Says what differs from a plain join; of many features, only the first."""
     for text in warned:
         print(f"rjoin: warning: {text.splitlines()[0]}", file=file)
+    if notices.decimals is not None:
+        print(f"rjoin: coordinates are rounded to {notices.decimals} decimals", file=file)
     for name, some in (("left out", notices.left_out), ("replaced by envelope", notices.enveloped)):
         for notice in some[:SHOWN]:
             print(f"rjoin: {name}: {notice.side}: row {notice.row} (feature {notice.feature!r}): "

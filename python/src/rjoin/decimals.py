@@ -1,4 +1,5 @@
-"""How many decimals coordinates need, and coordinates as whole numbers of units of the last one.
+"""How many decimals coordinates need, and coordinates as whole numbers of units of the last one,
+exactly or rounded.
 
 The program counts in units of 10^-K. A double v is written exactly by K decimals where v is the
 double nearest to some n / 10^K with a whole n. As n has at most 13 digits, n / 10^K is then the
@@ -8,6 +9,7 @@ in ISO C, 5.2.4.2.2).
 from __future__ import annotations
 
 import re
+from decimal import ROUND_HALF_UP, Decimal
 
 import numpy as np
 from numpy.typing import NDArray
@@ -43,22 +45,71 @@ def fewest(corners: Numbers) -> int:
         rest = rest[~is_exact(numbers[rest], decimals)]
         if not rest.size:
             return decimals
-    number = float(numbers[rest[0]])
-    raise Unwritable(int(rest[0]) // corners.shape[1],
-                     f"coordinate {number!r} has more than {MOST} decimals")
+    number = repr(float(numbers[rest[0]]))
+    raise Unwritable(int(rest[0]) // corners.shape[1], too_fine(number))
+
+
+def count_of(number: str) -> int:
+    """The decimals of a number, which may have an exponent; zeros at the end don't count."""
+    _, digits, exponent = Decimal(number).as_tuple()
+    kept = "".join(map(str, digits)).rstrip("0")
+    return max(0, -int(exponent) - len(digits) + len(kept)) if kept else 0
+
+
+def too_fine(number: str) -> str:
+    """The fault of a number with more decimals than the program reads exactly."""
+    return (f"coordinate {number} has {count_of(number)} decimals, and {MOST} are the most: "
+            f"decimals={MOST} rounds it")
 
 
 def units(corners: Numbers, decimals: int) -> Units:
     """The numbers of a matrix in units of the last decimal, or Unwritable with the first row."""
     power = 10.0 ** decimals
-    wrong = np.flatnonzero((np.abs(corners) > LIMIT / power).any(axis=1))
-    if wrong.size:
-        raise Unwritable(int(wrong[0]), f"a coordinate is above {LIMIT} units of 10^-{decimals}")
+    refuse_great(np.abs(corners) > LIMIT / power, decimals)
     wrong = np.flatnonzero(~is_exact(corners, decimals).all(axis=1))
     if wrong.size:
         raise Unwritable(int(wrong[0]), f"a coordinate has more than {decimals} decimals")
     whole: Units = np.rint(corners * power).astype(np.int64)
     return whole
+
+
+def refuse_great(great: NDArray[np.bool_], decimals: int) -> None:
+    """Raises Unwritable with the first row that has a number out of the program's range."""
+    wrong = np.flatnonzero(great.any(axis=1))
+    if wrong.size:
+        raise Unwritable(int(wrong[0]), f"a coordinate is above {LIMIT} units of 10^-{decimals}")
+
+
+def rounded(numbers: Numbers, decimals: int) -> Units:
+    """The numbers of a matrix in units, each the nearest one, half a unit away from zero.
+
+    A number counts as the shortest decimal that reads as it, as the program's --round reads that
+    decimal. Half an ulp lies between both, and another between their products with the power of
+    ten; where half a unit is as near as that, the decimal itself is rounded.
+    """
+    power = 10.0 ** decimals
+    great = np.abs(numbers)
+    refuse_great(great > (LIMIT + 1) / power, decimals)
+    scaled = great * power
+    whole: Units = np.floor(scaled + 0.5).astype(np.int64)
+    unclear = np.abs(scaled - np.floor(scaled) - 0.5) <= scaled * 2.0 ** -50
+    if unclear.any():
+        values, places = np.unique(great[unclear], return_inverse=True)
+        whole[unclear] = np.array([rounded_text(repr(value), decimals)
+                                   for value in values.tolist()], np.int64)[places]
+    refuse_great(whole > LIMIT, decimals)
+    return np.where(numbers < 0, -whole, whole)
+
+
+def rounded_text(number: str, decimals: int) -> int:
+    """The number of a decimal text in units, the nearest one, half a unit away from zero."""
+    return int(Decimal(number).scaleb(decimals).to_integral_value(ROUND_HALF_UP))
+
+
+def most_in_range(greatest: float) -> int:
+    """The most decimals, up to MOST, with which numbers up to a greatest one are in range."""
+    return next((decimals for decimals in range(MOST, 0, -1)
+                 if greatest <= LIMIT / 10.0 ** decimals), 0)
 
 
 def fewest_of_text(text: str) -> int:

@@ -1,4 +1,4 @@
-"""The exceptions and the warning of this package."""
+"""The exceptions and the warnings of this package."""
 from __future__ import annotations
 
 from typing import Hashable, NamedTuple, Optional
@@ -53,6 +53,10 @@ class LeftOutWarning(UserWarning):
 
 class EnvelopeWarning(UserWarning):
     """Features were replaced by their envelopes, as `other="envelope"` asked."""
+
+
+class ImproperRingsWarning(UserWarning):
+    """Rings of polygons cross, overlap or are flat, and were read by the even-odd rule."""
 
 
 class StaleProgramWarning(UserWarning):

@@ -86,8 +86,11 @@ def long_fields() -> Iterator[None]:
         csv.field_size_limit(before)
 
 
-def read(text: "str | os.PathLike[str]", side: str) -> Any:
-    """The layer as a GeoDataFrame; ids of a file of the program's own form are the column `id`."""
+def read(text: "str | os.PathLike[str]", side: str, rounds: bool = False) -> Any:
+    """The layer as a GeoDataFrame; ids of a file of the program's own form are the column `id`.
+
+    In such a file a number with too many decimals is a fault, unless numbers will be rounded.
+    """
     import geopandas
 
     place = place_of(text)
@@ -95,7 +98,7 @@ def read(text: "str | os.PathLike[str]", side: str) -> Any:
         raise InputError(side, f"{place.path} is not there")
     try:
         if is_plain(place):
-            return read_plain(place, side)
+            return read_plain(place, side, rounds)
         named = {} if place.layer is None else {"layer": place.layer}
         frame = geopandas.read_file(place.path, **named)
     except InputError:
@@ -107,12 +110,12 @@ def read(text: "str | os.PathLike[str]", side: str) -> Any:
     return frame
 
 
-def read_plain(place: Place, side: str) -> Any:
+def read_plain(place: Place, side: str, rounds: bool) -> Any:
     """The file of the program's own form as a GeoDataFrame with the column `id`."""
     import geopandas
 
     rows = table_of(place, side)
-    geometries, reason = texts.geometries_of(rows["wkt"].to_numpy(object))
+    geometries, reason = texts.geometries_of(rows["wkt"].to_numpy(object), rounds)
     if reason:
         place_of_fault = len(geometries)
         raise InputError(side, reason, place_of_fault + 1, rows["id"][place_of_fault])

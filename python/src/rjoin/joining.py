@@ -8,42 +8,86 @@ import warnings
 from contextlib import contextmanager
 from itertools import chain
 from pathlib import Path
-from typing import Any, Callable, Dict, Iterator, List, Optional, Sequence, Tuple, TypeVar, Union
+from typing import Any, Callable, Dict, Iterator, List, NamedTuple, Optional, Sequence, Tuple
+from typing import TypeVar, Union
 from xml.sax.saxutils import escape
 
 import numpy as np
 import pandas
 
-from rjoin import program, signals
-from rjoin.errors import EnvelopeWarning, InputError, LeftOutWarning, Notice, RjoinError
+from rjoin import decimals, program, signals
+from rjoin.errors import EnvelopeWarning, ImproperRingsWarning, InputError, LeftOutWarning
+from rjoin.errors import Notice, RjoinError
 from rjoin.frames import NOBODY
-from rjoin.sources import Flags, GeometrySource, Rows, Rules, Scale, Source, TextSource
+from rjoin.sources import NO_BOX, Flags, GeometrySource, Rows, Rules, Scale, Source, TextSource
 from rjoin.sources import single_source, source_of
 from rjoin.texts import NO_TEXT
 
 TITLE = re.compile(r"<title>(\d+)</title>")
 RIGHT_HALF = '<g class="right">'
 LETTERS = re.compile(rb"([F012]{9})\n")
-COUNTS = re.compile(b"".join(rb"%s (?P<%s>\d+)\n" % (name, name) for name in (
-    b"features", b"points", b"segments", b"rectangles", b"height")))
+BOX_COUNTS = ("features", "points", "segments", "rectangles", "height")
+ANY_COUNTS = ("features", "points", "lines", "areas", "vertices", "height")
+# The faults of rings that the even-odd rule reads; a line without length has one of them too.
+NOT_PROPER = ("rings cross or overlap",
+              "a line without length, or a ring that is not closed or is flat")
+BY_EVEN_ODD = re.compile(r"rjoin: (first|second): even-odd rule for improper rings")
+# A word of a command line has fewer bytes on Linux (MAX_ARG_STRLEN).
+MOST_WORD = 131_072
 
 Single = Union[GeometrySource, TextSource]
 Answer = TypeVar("Answer")
 
 
+class Reading(NamedTuple):
+    """How the numbers and the rings of all inputs are read.
+
+    scale: the decimals that numbers may have; decimals: those that they are rounded to, or `auto`;
+    None for both is as many as all need. rings: `proper` or `even-odd`.
+    """
+
+    scale: Optional[int]
+    decimals: Union[int, str, None]
+    rings: str
+
+    @property
+    def rounds(self) -> bool:
+        return self.decimals is not None
+
+
 class Job:
-    """The layers of a run, and the scale of all its coordinates."""
+    """The layers of a run and geometries beside them, and how the program is to read them.
 
-    def __init__(self, sources: Sequence[Source], decimals: Optional[int],
-                 geometry: Optional[Single] = None) -> None:
+    widened: texts have shown themselves to be more than boxes. overlooked: the faults of rings
+    because of which the even-odd rule is taken.
+    """
+
+    def __init__(self, sources: Sequence[Source], reading: Reading,
+                 geometries: Sequence[Single] = ()) -> None:
         self.sources = list(sources)
-        self.decimals = decimals
-        self.geometry = geometry
-        self.scale = self.needed_scale()
+        self.reading = reading
+        self.geometries = geometries
+        self.overlooked: List[str] = []
+        self.settle()
 
-    def needed_scale(self) -> Scale:
-        alone = [] if self.geometry is None else [self.geometry]
-        return scale_of([*self.sources, *alone], self.decimals)
+    def settle(self) -> None:
+        """Finds the scale that all inputs have in common."""
+        sources = [*self.sources, *self.geometries]
+        self.scale = scale_of(sources, self.reading)
+        for source in self.sources:
+            source.leave_out_dots(self.scale)
+        self.widened = any([source.needs_any(self.scale) for source in self.sources])
+        with faults_without_rows():
+            for geometry in self.geometries:
+                self.widened |= geometry.needs_any(self.scale)
+
+    @property
+    def words(self) -> List[str]:
+        """The options of the program for its inputs."""
+        if not self.widened:
+            return [*self.scale.words]
+        rings = "even-odd" if self.overlooked else "proper"
+        return [*self.scale.words, "--geometry", "any", "--rings", rings]
 
     @property
     def left_out(self) -> Tuple[Notice, ...]:
@@ -54,31 +98,57 @@ class Job:
         return tuple(chain.from_iterable(source.enveloped for source in self.sources))
 
     def answer(self, ask: Callable[[Path, List[Path]], Answer]) -> Answer:
-        """What is asked of the program in a folder, with the paths of the layers.
+        """What is asked of the program in a folder, with the paths of the layers."""
+        def in_folder() -> Answer:
+            with temporary_folder() as folder:
+                paths = [source.write(folder, self.scale) for source in self.sources]
+                return ask(folder, paths)
+        return self.tried(in_folder)
 
-        Faults name the features. A text that the program doesn't read may still be a geometry, such
-        as POINT Z: it is read by Shapely, and the program is asked again.
+    def tried(self, run: Callable[[], Answer]) -> Answer:
+        """The answer of a run, which is tried again where the program is to read more.
+
+        Faults name the features.
         """
         while True:
             try:
-                with temporary_folder() as folder:
-                    paths = [source.write(folder, self.scale) for source in self.sources]
-                    return ask(folder, paths)
+                return run()
             except program.InputFault as fault:
-                if not self.reread(fault):
-                    raise named(fault, self.sources) from fault
+                if not (self.widen(fault) or self.reread(fault) or self.overlook(fault)):
+                    raise self.named(fault) from fault
+
+    def widen(self, fault: program.InputFault) -> bool:
+        """Whether the program is now to read any geometry, where it was to read boxes."""
+        if self.widened or fault.reason not in (NO_BOX, NO_TEXT):
+            return False
+        self.widened = True
+        return True
 
     def reread(self, fault: program.InputFault) -> bool:
-        """Whether the fault's layer has texts that were now read by Shapely."""
+        """Whether the fault's layer has texts that were now read by Shapely, such as POINT Z."""
         if fault.reason != NO_TEXT:
             return False
         for place, source in enumerate(self.sources):
             other = source.reread() if source.side == fault.side else None
             if other is not None:
                 self.sources[place] = other
-                self.scale = self.needed_scale()
+                self.settle()
                 return True
         return False
+
+    def overlook(self, fault: program.InputFault) -> bool:
+        """Whether rings are now read by the even-odd rule, since some are not proper."""
+        if self.overlooked or self.reading.rings == "proper" or fault.reason not in NOT_PROPER:
+            return False
+        self.overlooked.append(str(self.named(fault)))
+        return True
+
+    def named(self, fault: program.InputFault) -> InputError:
+        """The program's fault of an input as an InputError, which names the feature."""
+        source = next((source for source in self.sources if source.side == fault.side), None)
+        if source is None or fault.row is None:
+            return InputError(fault.side, fault.reason, fault.row)
+        return source.error(fault.row, fault.reason)
 
     def positions(self, found: Any) -> List[Rows]:
         """The rows, counted from 0, of the ids in the first columns of a report."""
@@ -137,13 +207,16 @@ class Job:
         return exact
 
     def finish(self, attributes: Dict[Any, Any], depth: int,
-               exact: Optional[Flags] = None) -> None:
+               exact: Optional[Flags] = None) -> Dict[Any, Any]:
         """Puts the notices into the attributes of a result, and warns of what they say.
 
         exact: which rows of the result rest on no envelope. The warnings are those of the line
         `depth` calls above the caller of this one.
         """
         attributes.update(left_out=self.left_out, enveloped=self.enveloped)
+        if self.reading.rounds:
+            attributes["decimals"] = self.scale.decimals
+        self.warn_of_rings(depth + 1)
         if self.left_out:
             first = self.left_out[0]
             warnings.warn(
@@ -155,30 +228,46 @@ class Job:
             if exact is not None:
                 text += f"; {(~exact).sum()} of {exact.size} rows of the result rest on one"
             warnings.warn(text, EnvelopeWarning, stacklevel=depth + 2)
+        return attributes
+
+    def warn_of_rings(self, depth: int) -> None:
+        """Warns of rings that were read by the even-odd rule, as `finish` does."""
+        if self.overlooked:
+            warnings.warn(f"{'; '.join(self.overlooked)}: rings that are not proper are read by "
+                          "the even-odd rule", ImproperRingsWarning, stacklevel=depth + 2)
 
 
-def job_of(layers: Sequence[Tuple[str, Any]], scale: Optional[int], rules: Rules,
-           geometry: Optional[Single] = None) -> Job:
-    """The job of layers by their sides, beside a geometry with coordinates of the same scale."""
-    sources = [source_of(layer, side, rules.checked()) for side, layer in layers]
-    return Job(sources, scale, geometry)
+def job_of(layers: Sequence[Tuple[str, Any]], reading: Reading, rules: Rules,
+           geometries: Sequence[Single] = ()) -> Job:
+    """The job of layers by their sides, beside geometries with coordinates of the same scale."""
+    rules = rules.checked()._replace(rounds=reading.rounds)
+    return Job([source_of(layer, side, rules) for side, layer in layers], reading, geometries)
 
 
-def single(geometry: Any, side: str) -> Single:
-    """A geometry that stands alone, by Shapely or as a text, if 6 decimals write it."""
+def single(geometry: Any, side: str, reading: Reading) -> Single:
+    """A geometry that stands alone, by Shapely or as a text, if its numbers can be read."""
     with faults_without_rows():
-        source = single_source(geometry, side)
-        source.needed_decimals()
+        source = single_source(geometry, side, reading.rounds)
+        if not reading.rounds:
+            source.needed_decimals()
         return source
 
 
-def scale_of(sources: Sequence[Source], scale: Optional[int]) -> Scale:
+def scale_of(sources: Sequence[Source], reading: Reading) -> Scale:
     """The scale that is given or that the inputs need.
 
     Where all coordinates are numbers and not texts, the program is given whole numbers of units.
     """
-    needed = max(source.needed_decimals() for source in sources) if scale is None else scale
-    return Scale(needed, dots=not all(source.may_count_units for source in sources))
+    if isinstance(reading.decimals, str):
+        number = decimals.most_in_range(max(source.greatest() for source in sources))
+    elif reading.decimals is not None:
+        number = reading.decimals
+    elif reading.scale is not None:
+        number = reading.scale
+    else:
+        number = max(source.needed_decimals() for source in sources)
+    dots = not all(source.may_count_units for source in sources)
+    return Scale(number, dots, reading.rounds)
 
 
 @contextmanager
@@ -196,14 +285,6 @@ def temporary_folder() -> Iterator[Path]:
                     folder.cleanup()
     except OSError as fault:
         raise RjoinError(f"temporary files: {fault.strerror or fault}") from fault
-
-
-def named(fault: program.InputFault, sources: Sequence[Source]) -> InputError:
-    """The program's fault of an input as an InputError, which names the feature."""
-    source = next((source for source in sources if source.side == fault.side), None)
-    if source is None or fault.row is None:
-        return InputError(fault.side, fault.reason, fault.row)
-    return source.error(fault.row, fault.reason)
 
 
 @contextmanager
@@ -224,8 +305,8 @@ def joined(job: Job, relation: str, workers: Optional[int], matrix: bool) -> Any
     def ask(folder: Path, paths: List[Path]) -> Any:
         report = folder / "report.csv"
         with open(report, "wb") as output:
-            program.run(["join", *paths, "--relation", relation,
-                         "--scale", job.scale.option, *options(workers)], output)
+            program.run(["join", *paths, "--relation", relation, *job.words,
+                         *options(workers)], output)
         return read_report(report, job.sources, matrix)
     return job.answer(ask)
 
@@ -257,44 +338,75 @@ def read_table(answer: Any, columns: Dict[str, str], wanted: Sequence[str]) -> A
 
 def met(job: Job, geometry: Single) -> Any:
     """The ids of the features of the only layer that meet a geometry."""
-    def ask(_: Path, paths: List[Path]) -> Any:
+    def ask(folder: Path, paths: List[Path]) -> Any:
         with faults_without_rows():
             text = geometry.text(job.scale)
-        answer = program.run(["window", "--scale", job.scale.option, "--", *paths, text])
-        return read_table(io.BytesIO(answer), {"id": kind_of(job.sources[0])}, ["id"])["id"]
+            if len(text.encode()) >= MOST_WORD:
+                return met_by_join(job, paths[0], geometry.write(folder, job.scale))
+        answer = program.run(["window", *job.words, "--", *paths, text])
+        return ids_of(answer.output, "id", job.sources[0])
     return job.answer(ask)
 
 
-def related(first: Single, second: Single, decimals: Optional[int]) -> str:
-    """The letters of two geometries."""
-    with faults_without_rows():
-        scale = scale_of((first, second), decimals)
-        texts = [first.text(scale), second.text(scale)]
+def met_by_join(job: Job, layer: Path, window: Path) -> Any:
+    """The same for a geometry that is too long for a word of a command line, from its file."""
+    sides = {"left": "layer", "right": "window"}
     try:
-        answer = program.run(["relate", "--scale", scale.option, "--", *texts])
+        answer = program.run(["join", layer, window, "--relation", "intersects", *job.words])
     except program.InputFault as fault:
-        raise named(fault, ()) from fault
-    letters = LETTERS.fullmatch(answer)
+        row = fault.row if fault.side == "left" else None
+        raise program.InputFault(sides[fault.side], row, fault.reason) from fault
+    return ids_of(answer.output, "left", job.sources[0])
+
+
+def ids_of(answer: bytes, column: str, source: Source) -> Any:
+    """A column of ids of an answer, by the name `id`."""
+    return read_table(io.BytesIO(answer), {column: kind_of(source)}, [column])[column].rename("id")
+
+
+def related(job: Job) -> str:
+    """The letters of the two geometries of a job without layers."""
+    def ask() -> program.Answer:
+        return program.run(["relate", *job.words, "--", *(word_of(geometry, job.scale)
+                                                          for geometry in job.geometries)])
+    answer = job.tried(ask)
+    letters = LETTERS.fullmatch(answer.output)
     if not letters:
         raise program.wrong_answer()
+    job.overlooked = BY_EVEN_ODD.findall(answer.notes)
     return letters[1].decode()
 
 
-def counted(job: Job) -> Dict[str, int]:
+def word_of(geometry: Single, scale: Scale) -> str:
+    """The text of a geometry, if it is short enough for a word of a command line."""
+    with faults_without_rows():
+        text = geometry.text(scale)
+        size = len(text.encode())
+        if size >= MOST_WORD:
+            raise InputError(geometry.side, f"its text has {size} bytes, and {MOST_WORD - 1} are "
+                             "the most: take layers of one feature")
+    return text
+
+
+def counted(job: Job) -> Dict[str, Any]:
     """The counts of the only layer by their names."""
-    answer = job.answer(lambda _, paths: program.run(
-        ["stats", *paths, "--scale", job.scale.option]))
-    counts = COUNTS.fullmatch(answer)
+    answer = job.answer(lambda _, paths: program.run(["stats", *paths, *job.words]))
+    names = ANY_COUNTS if job.widened else BOX_COUNTS
+    counts = re.fullmatch("".join(rf"{name} (\d+)\n" for name in names),
+                          answer.output.decode(errors="replace"))
     if not counts:
         raise program.wrong_answer()
-    return {name: int(count) for name, count in counts.groupdict().items()}
+    found: Dict[str, Any] = dict(zip(names, map(int, counts.groups())))
+    if job.widened:
+        return {"segments": None, "rectangles": None, **found}
+    return {**found, "lines": found["segments"], "areas": found["rectangles"]}
 
 
 def drawn(job: Job, relation: str) -> str:
     """The picture, in which features have their labels as titles."""
     answer = job.answer(lambda _, paths: program.run(
-        ["draw", *paths, "--relation", relation, "--scale", job.scale.option]))
-    left, border, right = answer.decode(errors="replace").partition(RIGHT_HALF)
+        ["draw", *paths, "--relation", relation, *job.words]))
+    left, border, right = answer.output.decode(errors="replace").partition(RIGHT_HALF)
     if not border or not left.startswith("<svg ") or not right.endswith("</svg>\n"):
         raise program.wrong_answer()
     halves = [titled(half, source) for half, source in zip((left, right), job.sources)]

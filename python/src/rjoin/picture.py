@@ -4,7 +4,7 @@ from __future__ import annotations
 import os
 from dataclasses import dataclass
 from pathlib import Path
-from typing import Tuple
+from typing import Optional, Tuple
 
 from rjoin.errors import Notice
 
@@ -20,6 +20,7 @@ class Picture:
     svg: str
     left_out: Tuple[Notice, ...] = ()
     enveloped: Tuple[Notice, ...] = ()
+    decimals: Optional[int] = None
 
     def _repr_svg_(self) -> str:
         return self.svg

@@ -5,7 +5,7 @@ import os
 import re
 import subprocess
 import warnings
-from typing import IO, Optional, Sequence, Set, Tuple, Union
+from typing import IO, NamedTuple, Optional, Sequence, Set, Tuple, Union
 
 from rjoin import found, signals
 from rjoin.errors import ArgumentError, RjoinError, StaleProgramWarning
@@ -26,6 +26,13 @@ class InputFault(Exception):
         self.side = side
         self.row = row
         self.reason = reason
+
+
+class Answer(NamedTuple):
+    """What the program wrote on standard output and, of a success, on standard error."""
+
+    output: bytes
+    notes: str
 
 
 FAULT = re.compile(
@@ -51,7 +58,7 @@ def find() -> str:
     return path
 
 
-def run(words: Sequence[Word], output: Union[int, IO[bytes]] = subprocess.PIPE) -> bytes:
+def run(words: Sequence[Word], output: Union[int, IO[bytes]] = subprocess.PIPE) -> Answer:
     """Runs the program with some words, and gives what it wrote unless that went to `output`.
 
     A fault of an input is raised as an InputFault, invalid arguments as an ArgumentError, and all
@@ -64,7 +71,7 @@ def run(words: Sequence[Word], output: Union[int, IO[bytes]] = subprocess.PIPE) 
         raise RjoinError(f"{program} cannot be run: {fault.strerror}") from fault
     if status != 0:
         raise error_of(program, status, errors.decode(errors="replace"))
-    return answer or b""
+    return Answer(answer or b"", errors.decode(errors="replace"))
 
 
 def ended(words: Sequence[Word], output: Union[int, IO[bytes]]) -> Tuple[int, bytes, bytes]:

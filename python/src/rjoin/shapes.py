@@ -1,7 +1,7 @@
 """Which geometries are points, axis-parallel segments or rectangles, and the corners of all.
 
 Geometries are taken as well-known binary (OGC 06-103r4, 8.2) and examined by columns: those of a
-kind that have equally many points together.
+kind that have equally many points together. rjoin.outlines reads all points of the others.
 """
 from __future__ import annotations
 
@@ -23,21 +23,38 @@ CHUNK = 1 << 16
 
 
 class Status(enum.IntEnum):
-    """What a geometry is to the program."""
+    """What a geometry is to the program: a box, or what it reads by `--geometry any`, or nothing.
+
+    OTHER is of another type, such as a collection of several parts.
+    """
 
     BOX = 0
-    OTHER = 1
-    EMPTY = 2
-    MISSING = 3
-    NOT_FINITE = 4
+    ANY = 1
+    OTHER = 2
+    EMPTY = 3
+    MISSING = 4
+    NOT_FINITE = 5
 
 
 class Kind(enum.IntEnum):
-    """The types of well-known binary without parts; those above have parts."""
+    """The types of well-known binary; those above POLYGON have parts."""
 
     POINT = 1
     LINE = 2
     POLYGON = 3
+    MULTIPOINT = 4
+    MULTILINE = 5
+    MULTIPOLYGON = 6
+
+
+class Binary(NamedTuple):
+    """Geometries as well-known binary, one behind the other, and the place of each one's header.
+
+    A collection with one part has its header at this part. More bytes follow the last geometry.
+    """
+
+    data: Bytes
+    head: Places
 
 
 class Boxes(NamedTuple):
@@ -50,14 +67,17 @@ class Boxes(NamedTuple):
 
     corners: Numbers
     status: Bytes
+    binary: Binary
 
 
 class Bodies(NamedTuple):
     """Where the points of each geometry lie among the bytes; of a polygon, of its outer ring.
 
-    plain: it has one part and no hole; whole: these points have the envelope of the geometry.
+    head: the place of the header; plain: it has one part and no hole; whole: these points have the
+    envelope of the geometry.
     """
 
+    head: Places
     kind: Places
     points: Places
     start: Places
@@ -74,20 +94,22 @@ def boxes_of(geometries: Objects, all_envelopes: bool = False) -> Boxes:
     texts = binary_of(geometries)
     lengths = np.fromiter(map(len, texts), np.int64, len(texts))
     data = np.frombuffer(b"".join([*texts, bytes(32)]), np.uint8)
+    del texts
     bodies = bodies_of(data, np.cumsum(lengths) - lengths)
-    boxes = read_boxes(data, bodies, (lengths > 0) & bodies.whole & (bodies.points > 0))
-    boxes.status[bodies.points == 0] = Status.EMPTY
-    boxes.status[lengths == 0] = Status.MISSING
-    compound = np.flatnonzero(~bodies.whole & (boxes.status == Status.OTHER))
+    corners, status = read_boxes(data, bodies, (lengths > 0) & bodies.whole & (bodies.points > 0))
+    status[bodies.points == 0] = Status.EMPTY
+    status[lengths == 0] = Status.MISSING
+    compound = np.flatnonzero(~bodies.whole & (status == Status.ANY))
     without = np.array([geometry.is_empty for geometry in geometries[compound]], np.bool_)
-    boxes.status[compound[without]] = Status.EMPTY
+    status[compound[without]] = Status.EMPTY
+    status[(status == Status.ANY) & (bodies.kind > Kind.MULTIPOLYGON)] = Status.OTHER
     if all_envelopes:
         compound = compound[~without]
         bounds = [geometry.bounds or (np.nan,) * 4 for geometry in geometries[compound]]
-        boxes.corners[compound] = np.reshape(np.array(bounds, np.float64), (-1, 4))
-        finite = np.isfinite(boxes.corners[compound]).all(axis=1)
-        boxes.status[compound[~finite]] = Status.NOT_FINITE
-    return boxes
+        corners[compound] = np.reshape(np.array(bounds, np.float64), (-1, 4))
+        finite = np.isfinite(corners[compound]).all(axis=1)
+        status[compound[~finite]] = Status.NOT_FINITE
+    return Boxes(corners, status, Binary(data, bodies.head))
 
 
 def binary_of(geometries: Objects) -> List[bytes]:
@@ -131,13 +153,13 @@ def bodies_of(data: Bytes, start: Places) -> Bodies:
     ringed = polygon & (items > 0)
     count = np.where(ringed, words_at(data, start + 9), np.where(point, 1, items))
     begin = start + 9 + 4 * ringed - 4 * point
-    return Bodies(kind, count, begin, ~compound & ~(polygon & (items > 1)), ~compound)
+    return Bodies(start, kind, count, begin, ~compound & ~(polygon & (items > 1)), ~compound)
 
 
-def read_boxes(data: Bytes, bodies: Bodies, chosen: Flags) -> Boxes:
-    """The boxes of the chosen geometries; the others are OTHER, without corners."""
+def read_boxes(data: Bytes, bodies: Bodies, chosen: Flags) -> Tuple[Numbers, Bytes]:
+    """The corners and the status of the chosen geometries; the others are ANY, without corners."""
     corners = np.full((chosen.size, 4), np.nan)
-    status = np.full(chosen.size, Status.OTHER, np.uint8)
+    status = np.full(chosen.size, Status.ANY, np.uint8)
     for kind, count, rows in groups(bodies, chosen):
         points = points_at(data, bodies.start[rows], count)
         least, greatest = points.min(axis=1), points.max(axis=1)
@@ -147,7 +169,7 @@ def read_boxes(data: Bytes, bodies: Bodies, chosen: Flags) -> Boxes:
         status[rows[~(np.isfinite(least) & np.isfinite(greatest)).all(axis=1)]] = Status.NOT_FINITE
         if kind == Kind.POINT:
             status[rows[np.isnan(least).all(axis=1)]] = Status.EMPTY
-    return Boxes(corners, status)
+    return corners, status
 
 
 def groups(bodies: Bodies, chosen: Flags) -> Iterator[Tuple[int, int, Places]]:

@@ -4,9 +4,8 @@ Numbers are padded with zeros, which the program allows; ids are the rows' numbe
 """
 from __future__ import annotations
 
-import csv
 from functools import lru_cache
-from typing import IO, List, NamedTuple, Sequence, Tuple, Union
+from typing import IO, Any, List, NamedTuple, Sequence, Tuple, Union
 
 import numpy as np
 from numpy.lib.stride_tricks import sliding_window_view
@@ -52,9 +51,12 @@ RECTANGLE: Tuple[Part, ...] = (
 FORMS = (POINT, SEGMENT, RECTANGLE)
 
 
-def columns_of(units: Units, decimals: int) -> Columns:
-    """Columns that are wide enough; with decimals, numbers are written with a dot before them."""
-    last_id = np.array([max(len(units) - 1, 0)])
+def columns_of(units: Units, decimals: int, count: int) -> Columns:
+    """Columns that are wide enough for some features, of which each row has x and y in turn.
+
+    With decimals, numbers are written with a dot before them.
+    """
+    last_id = np.array([max(count - 1, 0)])
     return Columns(column_of(last_id, 0), column_of(units[:, 0::2], decimals),
                    column_of(units[:, 1::2], decimals))
 
@@ -65,9 +67,9 @@ def column_of(numbers: Units, decimals: int) -> Column:
     return Column(digits, least < 0, decimals)
 
 
-def forms_of(units: Units) -> Units:
-    """The place in FORMS of each box."""
-    wide, high = units[:, 0] != units[:, 2], units[:, 1] != units[:, 3]
+def forms_of(corners: NDArray[Any]) -> Units:
+    """The place in FORMS of each box, by its corners."""
+    wide, high = corners[:, 0] != corners[:, 2], corners[:, 1] != corners[:, 3]
     forms: Units = wide.astype(np.int64) + high
     return forms
 
@@ -86,25 +88,23 @@ def column_at(part: int, columns: Columns) -> Column:
     return columns.x if part in (X1, X2) else columns.y
 
 
-def size_of(units: Units, columns: Columns) -> int:
-    """The bytes of the layer's file."""
-    counts = np.bincount(forms_of(units), minlength=len(FORMS))
+def size_of(forms: Units, columns: Columns) -> int:
+    """The bytes of the lines of boxes of these forms."""
+    counts = np.bincount(forms, minlength=len(FORMS))
     widths = [width_of(form, columns) for form in FORMS]
-    return len(HEADER) + int(np.dot(counts, widths))
+    return int(np.dot(counts, widths))
 
 
-def write(file: IO[bytes], units: Units, columns: Columns) -> None:
-    """Writes the header and a line for each box."""
-    file.write(HEADER)
+def write(file: IO[bytes], units: Units, forms: Units, columns: Columns) -> None:
+    """Writes a line for each box."""
     for first in range(0, len(units), CHUNK):
         part = units[first:first + CHUNK]
         ids = np.arange(first, first + len(part), dtype=np.int64)
-        file.write(lines(ids, part, columns).tobytes())
+        file.write(lines(ids, part, forms[first:first + CHUNK], columns).tobytes())
 
 
-def lines(ids: Units, units: Units, columns: Columns) -> Bytes:
+def lines(ids: Units, units: Units, forms: Units, columns: Columns) -> Bytes:
     """The bytes of the lines of some boxes, one behind the other."""
-    forms = forms_of(units)
     widths = np.array([width_of(form, columns) for form in FORMS])[forms]
     ends = np.cumsum(widths)
     text = np.empty(ends[-1], np.uint8)
@@ -115,13 +115,6 @@ def lines(ids: Units, units: Units, columns: Columns) -> Bytes:
             width = width_of(form, columns)
             places = sliding_window_view(text, width, writeable=True)
             places[ends[rows] - width] = filled(form, [field[rows] for field in numbers])
-    return text
-
-
-def geometry_text(units: Units, columns: Columns) -> str:
-    """The well-known text of the only row."""
-    line = lines(np.zeros(1, np.int64), units, columns).tobytes().decode()
-    _, text = next(csv.reader([line]))
     return text
 
 

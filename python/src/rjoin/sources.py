@@ -2,28 +2,32 @@
 from __future__ import annotations
 
 import csv
+import io
 import os
 from abc import ABC, abstractmethod
 from importlib.util import find_spec
 from itertools import repeat
 from pathlib import Path
-from typing import Any, NamedTuple, Optional, Sequence, Tuple
+from typing import Any, NamedTuple, Optional, Sequence, Tuple, Union
 
 import numpy as np
 import pandas
 from numpy.typing import NDArray
 
 from rjoin import decimals, files, sheet, texts
+from rjoin.bodies import AnyBody, BoxBody, shapes_of
 from rjoin.errors import ArgumentError, InputError, Notice
-from rjoin.shapes import Boxes, Objects, Status, boxes_of
+from rjoin.shapes import Objects, Status, boxes_of
 
 Rows = NDArray[np.int64]
 Units = NDArray[np.int64]
 Flags = NDArray[np.bool_]
 
 NO_BOX = "not a point, axis-parallel segment or rectangle"
+DOT = "a line or polygon that is only a point"
 REASONS = {
-    Status.OTHER: NO_BOX,
+    Status.ANY: NO_BOX,
+    Status.OTHER: "not a point, line or polygon, nor several of one kind",
     Status.EMPTY: "the geometry is empty",
     Status.MISSING: "there is no geometry",
     Status.NOT_FINITE: "a coordinate is not finite",
@@ -31,14 +35,17 @@ REASONS = {
 
 
 class Rules(NamedTuple):
-    """What happens to geometries that the program cannot read.
+    """What happens to geometries and numbers that the program cannot read.
 
-    other: those that are no box raise an `error`, are replaced by their `envelope`, or are left out
-    (`skip`). missing: those that are empty or not there raise an `error` or are left out (`skip`).
+    other: geometries of other types raise an `error` or are left out (`skip`); with `envelope`, all
+    that are no boxes are replaced by their envelopes. missing: those that are empty or not there
+    raise an `error` or are left out (`skip`). rounds: numbers will be rounded, so that none has
+    too many decimals.
     """
 
     other: str = "error"
     missing: str = "error"
+    rounds: bool = False
 
     def checked(self) -> "Rules":
         if self.other not in ("error", "envelope", "skip"):
@@ -47,12 +54,21 @@ class Rules(NamedTuple):
             raise ArgumentError(f"missing must be 'error' or 'skip', not {self.missing!r}")
         return self
 
+    @property
+    def refuse_all(self) -> bool:
+        """Whether the program, which refuses all that it doesn't read, may read texts itself."""
+        return self.other == self.missing == "error"
+
 
 class Scale(NamedTuple):
-    """How coordinates are written: in units of 10^-decimals, and with a dot or as whole numbers."""
+    """How coordinates are written: in units of 10^-decimals, and with a dot or as whole numbers.
+
+    rounds: as the nearest unit; else all of them are whole numbers of units.
+    """
 
     decimals: int
     dots: bool
+    rounds: bool
 
     @property
     def dots_before(self) -> int:
@@ -60,9 +76,10 @@ class Scale(NamedTuple):
         return self.decimals if self.dots else 0
 
     @property
-    def option(self) -> str:
-        """The value of the program's option --scale."""
-        return str(self.dots_before)
+    def words(self) -> Tuple[str, ...]:
+        """The options of the program: where all numbers are whole, they have been rounded."""
+        rounded = ("--round",) if self.rounds and self.dots else ()
+        return ("--scale", str(self.dots_before), *rounded)
 
 
 class Source(ABC):
@@ -84,6 +101,17 @@ class Source(ABC):
     @abstractmethod
     def needed_decimals(self) -> int:
         """The fewest decimals that write all coordinates; InputError where 6 don't."""
+
+    @abstractmethod
+    def greatest(self) -> float:
+        """A number that no coordinate exceeds by its absolute value; 0 where all are small."""
+
+    def needs_any(self, scale: Scale) -> bool:
+        """Whether it is known to have more than boxes."""
+        return False
+
+    def leave_out_dots(self, scale: Scale) -> None:
+        """Leaves out lines and polygons that are only a point, if others are to be left out."""
 
     @abstractmethod
     def write(self, folder: Path, scale: Scale) -> Path:
@@ -118,20 +146,30 @@ class GeometrySource(Source):
     def __init__(self, side: str, geometries: Objects, index: pandas.Index, rules: Rules) -> None:
         super().__init__(side)
         self.index = index
+        self.rules = rules
         boxes = boxes_of(geometries, all_envelopes=rules.other == "envelope")
-        kept = self.kept(boxes, rules)
+        shapes = None if rules.other == "envelope" else shapes_of(boxes)
+        kept = self.kept(boxes.status, rules)
         self.rows: Rows = np.flatnonzero(kept)
-        self.corners = boxes.corners if kept.all() else boxes.corners[kept]
+        self.body: Union[BoxBody, AnyBody]
+        if shapes is not None:
+            self.body = AnyBody(shapes)
+        elif kept.all():
+            self.body = BoxBody(boxes.corners, self.is_envelope)
+        else:
+            self.body = BoxBody(boxes.corners, self.is_envelope).chosen(kept)
+        self.counted: Optional[Tuple[Scale, Units]] = None
 
-    def kept(self, boxes: Boxes, rules: Rules) -> Flags:
+    def kept(self, status: NDArray[np.uint8], rules: Rules) -> Flags:
         """The rows that the program is given; the others and the envelopes are noticed."""
-        status = boxes.status
         absent = (status == Status.EMPTY) | (status == Status.MISSING)
         kept = status == Status.BOX
         enveloped = np.zeros_like(kept)
         skipped = absent if rules.missing == "skip" else np.zeros_like(kept)
         if rules.other == "envelope":
-            enveloped = status == Status.OTHER
+            enveloped = (status == Status.ANY) | (status == Status.OTHER)
+        else:
+            kept = kept | (status == Status.ANY)
         if rules.other == "skip":
             skipped = skipped | (~kept & ~absent)
         wrong = np.flatnonzero(~kept & ~enveloped & ~skipped)
@@ -161,32 +199,58 @@ class GeometrySource(Source):
 
     def needed_decimals(self) -> int:
         try:
-            return decimals.fewest(self.corners)
+            return decimals.fewest(self.body.numbers)
         except decimals.Unwritable as number:
-            raise self.error(number.row + 1, number.reason) from number
+            raise self.error(self.body.owner(number.row) + 1, number.reason) from number
+
+    def greatest(self) -> float:
+        return float(np.abs(self.body.numbers).max(initial=0.0))
 
     def units(self, scale: Scale) -> Units:
-        try:
-            return decimals.units(self.corners, scale.decimals)
-        except decimals.Unwritable as number:
-            raise self.error(number.row + 1, number.reason) from number
+        """The numbers in units, which the last scale's calls have in common."""
+        if self.counted is None or self.counted[0] != scale:
+            count = decimals.rounded if scale.rounds else decimals.units
+            try:
+                self.counted = scale, count(self.body.numbers, scale.decimals)
+            except decimals.Unwritable as number:
+                raise self.error(self.body.owner(number.row) + 1, number.reason) from number
+        return self.counted[1]
+
+    def leave_out_dots(self, scale: Scale) -> None:
+        if self.rules.other != "skip":
+            return
+        dots = self.body.dots(self.units(scale))
+        if dots.any():
+            more = [Notice(self.side, row + 1, self.index[row], DOT)
+                    for row in self.rows[dots].tolist()]
+            self.left_out = tuple(sorted([*self.left_out, *more], key=lambda notice: notice.row))
+            self.rows, self.body, self.counted = self.rows[~dots], self.body.chosen(~dots), None
+
+    def needs_any(self, scale: Scale) -> bool:
+        if isinstance(self.body, AnyBody):
+            return True
+        return scale.rounds and self.body.is_flattened(self.units(scale))
 
     def text(self, scale: Scale) -> str:
         """The text of the only geometry."""
+        file = io.BytesIO()
         units = self.units(scale)
-        return sheet.geometry_text(units, sheet.columns_of(units, scale.dots_before))
+        self.body.write(file, units, sheet.columns_of(units, scale.dots_before, len(self.body)))
+        _, _, text = file.getvalue().decode().partition(",")
+        return text.strip('"\n')
 
     def write(self, folder: Path, scale: Scale) -> Path:
         units = self.units(scale)
-        columns = sheet.columns_of(units, scale.dots_before)
-        size = sheet.size_of(units, columns)
+        columns = sheet.columns_of(units, scale.dots_before, len(self.body))
+        size = len(sheet.HEADER) + self.body.size(units, columns)
         if size > sheet.MOST_BYTES:
-            raise InputError(self.side, f"{len(units)} features with coordinates of this length "
-                             f"take {size} bytes, and the program reads {sheet.MOST_BYTES}: take "
-                             "fewer decimals or join the layer in parts")
+            raise InputError(self.side, f"{len(self.body)} features with coordinates of this "
+                             f"length take {size} bytes, and the program reads "
+                             f"{sheet.MOST_BYTES}: take fewer decimals or join the layer in parts")
         path = folder / f"{self.side}.csv"
         with open(path, "wb") as file:
-            sheet.write(file, units, columns)
+            file.write(sheet.HEADER)
+            self.body.write(file, units, columns)
         return path
 
     def positions(self, ids: Any) -> Rows:
@@ -200,10 +264,11 @@ class GeometrySource(Source):
 class TextSource(Source):
     """Geometries as well-known text, which the program reads itself, with labels."""
 
-    def __init__(self, side: str, values: Objects, index: pandas.Index) -> None:
+    def __init__(self, side: str, values: Objects, index: pandas.Index, rules: Rules) -> None:
         super().__init__(side)
         self.values = values
         self.index = index
+        self.rules = rules
         missing = pandas.isna(values)
         if missing.any():
             raise self.error(int(missing.argmax()) + 1, REASONS[Status.MISSING])
@@ -217,10 +282,13 @@ class TextSource(Source):
     def reread(self) -> Optional[Source]:
         if not has_shapely():
             return None
-        return geometry_source(self.values, self.index, self.side, Rules())
+        return geometry_source(self.values, self.index, self.side, self.rules)
 
     def needed_decimals(self) -> int:
         return decimals_of_texts(self, self.values.tolist())
+
+    def greatest(self) -> float:
+        return texts.greatest(self.values.tolist())
 
     def write(self, folder: Path, scale: Scale) -> Path:
         path = folder / f"{self.side}.csv"
@@ -246,9 +314,9 @@ class TextSource(Source):
 
 def decimals_of_texts(source: Source, values: Sequence[str]) -> int:
     """The fewest decimals for all numbers of some texts, or the fault of the first row."""
-    needed, row = texts.fewest_decimals(values)
-    if row:
-        raise source.error(row, texts.TOO_FINE)
+    needed, fault = texts.fewest_decimals(values)
+    if fault:
+        raise source.error(*fault)
     return needed
 
 
@@ -257,12 +325,16 @@ class FileSource(Source):
 
     has_ids = True
 
-    def __init__(self, side: str, place: files.Place) -> None:
+    def __init__(self, side: str, place: files.Place, rules: Rules) -> None:
         super().__init__(side)
         self.place = place
+        self.rules = rules
 
     def needed_decimals(self) -> int:
         return decimals_of_texts(self, files.texts_of(self.place))
+
+    def greatest(self) -> float:
+        return texts.greatest(files.texts_of(self.place))
 
     def write(self, folder: Path, scale: Scale) -> Path:
         row = files.first_with_nul(self.place)
@@ -271,7 +343,7 @@ class FileSource(Source):
         return self.place.path.absolute()
 
     def reread(self) -> Optional[Source]:
-        return plain_file_source(self.place, self.side, Rules()) if has_shapely() else None
+        return plain_file_source(self.place, self.side, self.rules) if has_shapely() else None
 
     def positions(self, ids: Any) -> Rows:
         rows = pandas.Index(files.ids_of(self.place))
@@ -316,8 +388,10 @@ def values_of(layer: Any, side: str) -> Objects:
 def file_source(path: "str | os.PathLike[str]", side: str, rules: Rules) -> Source:
     place = files.place_of(path)
     if place.layer is not None or not files.is_plain(place):
-        return source_of(files.read(path, side), side, rules)
-    return FileSource(side, place) if rules == Rules() else plain_file_source(place, side, rules)
+        return source_of(files.read(path, side, rules.rounds), side, rules)
+    if rules.refuse_all:
+        return FileSource(side, place, rules)
+    return plain_file_source(place, side, rules)
 
 
 def plain_file_source(place: files.Place, side: str, rules: Rules) -> GeometrySource:
@@ -326,11 +400,12 @@ def plain_file_source(place: files.Place, side: str, rules: Rules) -> GeometrySo
     return geometry_source(table["wkt"].to_numpy(object), pandas.Index(table["id"]), side, rules)
 
 
-def single_source(geometry: Any, side: str) -> "GeometrySource | TextSource":
+def single_source(geometry: Any, side: str, rounds: bool) -> "GeometrySource | TextSource":
     """The input for one geometry, by Shapely or as a text."""
-    source = values_source(np.fromiter([geometry], object), pandas.RangeIndex(1), side, Rules())
+    rules = Rules(rounds=rounds)
+    source = values_source(np.fromiter([geometry], object), pandas.RangeIndex(1), side, rules)
     if isinstance(source, TextSource) and not texts.is_plain(geometry) and has_shapely():
-        return geometry_source(source.values, source.index, side, Rules())
+        return geometry_source(source.values, source.index, side, rules)
     return source
 
 
@@ -353,8 +428,8 @@ def values_source(values: Objects, index: pandas.Index, side: str,
         row = int(alike.argmin())
         raise InputError(side, f"a value of type {type(values[row]).__name__} among "
                          f"{'texts' if kind is str else 'geometries'}", row + 1, index[row])
-    if kind is str and rules == Rules():
-        return TextSource(side, values, index)
+    if kind is str and rules.refuse_all:
+        return TextSource(side, values, index, rules)
     if kind is str:
         return geometry_source(values, index, side, rules)
     return GeometrySource(side, values, index, rules)
@@ -363,7 +438,7 @@ def values_source(values: Objects, index: pandas.Index, side: str,
 def geometry_source(values: Objects, index: pandas.Index, side: str,
                     rules: Rules) -> GeometrySource:
     """The input for texts that are read by Shapely; the fault of the first row goes first."""
-    geometries, reason = texts.geometries_of(values)
+    geometries, reason = texts.geometries_of(values, rules.rounds)
     source = GeometrySource(side, geometries, index[:len(geometries)], rules)
     if reason:
         raise InputError(side, reason, len(geometries) + 1, index[len(geometries)])

@@ -6,8 +6,7 @@ NaN. Here a text is one geometry, in decimal numbers.
 from __future__ import annotations
 
 import re
-from decimal import Decimal
-from typing import Any, List, Optional, Sequence, Tuple
+from typing import Any, Iterable, List, Optional, Sequence, Tuple
 
 import numpy as np
 import pandas
@@ -16,7 +15,6 @@ from rjoin import decimals
 from rjoin.shapes import Objects
 
 NO_TEXT = "not a geometry text"
-TOO_FINE = f"a coordinate has more than {decimals.MOST} decimals"
 
 NUMBER = r"[-+]?[0-9]+(?:\.[0-9]*)?"
 POSITION = rf"\s*{NUMBER}\s+{NUMBER}\s*"
@@ -34,6 +32,9 @@ FIRST_TWO = re.compile(rf"[(,]\s*({FREE})\s+({FREE})", re.ASCII | re.IGNORECASE)
 EMPTY = re.compile(rf"\s*{KIND}\s+EMPTY\s*", re.ASCII | re.IGNORECASE)
 FINE = re.compile(r"\.[0-9]{%d,}[1-9]" % decimals.MOST)
 EXPONENT = re.compile(r"[0-9.]E", re.IGNORECASE)
+# Numbers of a million and more, and all that have an exponent.
+GREAT = re.compile(r"(?<![0-9.])(?:[0-9]{7,}\.?[0-9]*(?:E[-+]?[0-9]+)?|"
+                   r"(?:[0-9]+\.?[0-9]*|\.[0-9]+)E[-+]?[0-9]+)", re.ASCII | re.IGNORECASE)
 
 
 def first_unwritable(texts: Sequence[str]) -> int:
@@ -69,54 +70,64 @@ def is_whole(text: str) -> bool:
     return ends == 1
 
 
-def fewest_decimals(texts: Sequence[str]) -> Tuple[int, int]:
-    """The fewest decimals for all numbers of some texts; the row of the first with too many, or 0.
+def fewest_decimals(texts: Sequence[str]) -> Tuple[int, Optional[Tuple[int, str]]]:
+    """The fewest decimals for all numbers of some texts; the first row with too many, and why.
 
-    Of a text that only Shapely reads, heights and exponents matter once it is read.
+    Rows count from 1. Of a text that only Shapely reads, heights and exponents matter once it is
+    read.
     """
     needed = decimals.fewest_of_text("\n".join(texts))
     if needed <= decimals.MOST:
-        return needed, 0
-    row = next((row for row, text in enumerate(texts, start=1) if is_too_fine(text)), 0)
-    if row:
-        return needed, row
-    return max(decimals.fewest_of_text(text) for text in [*texts, ""] if not FINE.search(text)), 0
+        return needed, None
+    for row, text in enumerate(texts, start=1):
+        reason = too_fine(text)
+        if reason:
+            return needed, (row, reason)
+    few = [decimals.fewest_of_text(text) for text in texts if not FINE.search(text)]
+    return max(few, default=0), None
 
 
-def is_too_fine(text: str) -> bool:
-    """Whether a coordinate has too many decimals; heights and measures don't matter."""
+def too_fine(text: str) -> Optional[str]:
+    """The fault of the first coordinate with too many decimals; heights and measures are none."""
     if not FINE.search(text) and not EXPONENT.search(text):
-        return False
-    return any(decimals_of(number) > decimals.MOST
-               for pair in FIRST_TWO.findall(text) for number in pair)
+        return None
+    numbers = (number for pair in FIRST_TWO.findall(text) for number in pair)
+    return next((decimals.too_fine(number) for number in numbers
+                 if decimals.count_of(number) > decimals.MOST), None)
 
 
-def decimals_of(number: str) -> int:
-    """The decimals of a number, which may have an exponent."""
-    _, digits, exponent = Decimal(number).as_tuple()
-    kept = "".join(map(str, digits)).rstrip("0")
-    return -int(exponent) - len(digits) + len(kept) if kept else 0
+def greatest(texts: Iterable[str]) -> float:
+    """A number that no coordinate of some texts exceeds by its absolute value.
+
+    It is 0 where all are below a million; a height may count as a coordinate.
+    """
+    great = (number for text in texts for number in GREAT.findall(text))
+    return max(map(float, great), default=0.0)
 
 
-def geometries_of(texts: Objects) -> Tuple[Objects, Optional[str]]:
-    """The geometries of texts, None where there is none, up to the first fault, and its reason."""
+def geometries_of(texts: Objects, rounds: bool = False) -> Tuple[Objects, Optional[str]]:
+    """The geometries of texts, None where there is none, up to the first fault, and its reason.
+
+    Too many decimals are none where they will be rounded.
+    """
     geometries: List[Any] = []
     for text in texts:
         try:
-            geometries.append(None if pandas.isna(text) else geometry_of(text))
+            geometries.append(None if pandas.isna(text) else geometry_of(text, rounds))
         except ValueError as fault:
             return np.fromiter(geometries, object), str(fault)
     return np.fromiter(geometries, object), None
 
 
-def geometry_of(text: str) -> Any:
+def geometry_of(text: str, rounds: bool) -> Any:
     """The geometry of a text; a ValueError says why it is none."""
     from shapely import wkt
 
     if not is_whole(text):
         raise ValueError(NO_TEXT)
-    if is_too_fine(text):
-        raise ValueError(TOO_FINE)
+    reason = None if rounds else too_fine(text)
+    if reason:
+        raise ValueError(reason)
     try:
         return wkt.loads(text)
     except Exception as fault:
