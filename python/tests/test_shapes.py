@@ -295,7 +295,7 @@ def test_rings_that_are_not_proper_are_read_by_the_even_odd_rule_or_refused() ->
         rjoin.pairs(layer.iloc[:1], points)
         rjoin.relate(layer["a"], TEXTS[5])
     for first, second, sides in ((BOW_TIE, TEXTS[4], "^first: "),
-                                 (FLAT, BOW_TIE, "^first; second:"),
+                                 (FLAT, BOW_TIE, "^first: .*; second: "),
                                  (TEXTS[4], wkt.loads(BOW_TIE), "^second: ")):
         with pytest.warns(rjoin.ImproperRingsWarning, match=sides) as caught:
             rjoin.relate(first, second)

@@ -98,12 +98,19 @@ class Job:
         return tuple(chain.from_iterable(source.enveloped for source in self.sources))
 
     def answer(self, ask: Callable[[Path, List[Path]], Answer]) -> Answer:
-        """What is asked of the program in a folder, with the paths of the layers."""
-        def in_folder() -> Answer:
-            with temporary_folder() as folder:
-                paths = [source.write(folder, self.scale) for source in self.sources]
-                return ask(folder, paths)
-        return self.tried(in_folder)
+        """What is asked of the program in a folder, with the paths of the layers.
+
+        A layer is written again only if it has changed.
+        """
+        written: Dict[Tuple[Source, Scale], Path] = {}
+        with temporary_folder() as folder:
+            def run() -> Answer:
+                layers = [(source, self.scale) for source in self.sources]
+                for source, scale in layers:
+                    if (source, scale) not in written:
+                        written[source, scale] = source.write(folder, scale)
+                return ask(folder, [written[layer] for layer in layers])
+            return self.tried(run)
 
     def tried(self, run: Callable[[], Answer]) -> Answer:
         """The answer of a run, which is tried again where the program is to read more.
@@ -233,8 +240,8 @@ class Job:
     def warn_of_rings(self, depth: int) -> None:
         """Warns of rings that were read by the even-odd rule, as `finish` does."""
         if self.overlooked:
-            warnings.warn(f"{'; '.join(self.overlooked)}: rings that are not proper are read by "
-                          "the even-odd rule", ImproperRingsWarning, stacklevel=depth + 2)
+            warnings.warn(f"{'; '.join(self.overlooked)}; the even-odd rule is taken for all "
+                          "rings that are not proper", ImproperRingsWarning, stacklevel=depth + 2)
 
 
 def job_of(layers: Sequence[Tuple[str, Any]], reading: Reading, rules: Rules,
@@ -373,7 +380,8 @@ def related(job: Job) -> str:
     letters = LETTERS.fullmatch(answer.output)
     if not letters:
         raise program.wrong_answer()
-    job.overlooked = BY_EVEN_ODD.findall(answer.notes)
+    job.overlooked = [f"{side}: rings cross, overlap or are flat"
+                      for side in BY_EVEN_ODD.findall(answer.notes)]
     return letters[1].decode()
 
 
