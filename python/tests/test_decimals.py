@@ -120,6 +120,19 @@ def test_boxes_that_are_flat_once_rounded_stay_areas() -> None:
             assert met.tolist() == [0, 2] and rjoin.stats(given, other="skip").features == 3
 
 
+def test_a_left_join_needs_features_that_are_a_point_once_rounded() -> None:
+    left, right = (geopandas.GeoDataFrame(geometry=geopandas.GeoSeries.from_wkt(texts))
+                   for texts in (["POINT (0 0)", "POINT (5 5)"],
+                                 ["LINESTRING (0 0, 0.3 0.3)", "POINT (5 5)"]))
+    with pytest.raises(rjoin.InputError, match="right: row 1 .*incomplete='mark'"):
+        rjoin.sjoin(left, right, how="left", decimals=0, other="skip")
+    with pytest.warns(rjoin.LeftOutWarning, match="1 features .*right, row 1"):
+        marked = rjoin.sjoin(left, right, how="left", decimals=0, other="skip", incomplete="mark")
+    assert marked["known"].tolist() == [False, True] and marked.attrs["decimals"] == 0
+    whole = rjoin.sjoin(left, right, how="left", decimals=1, other="skip")
+    assert whole["index_right"].tolist() == [0, 1]
+
+
 def test_envelopes_are_rounded_as_boxes_are() -> None:
     layer = geopandas.GeoSeries.from_wkt(["LINESTRING (0.26 0.25, 3 0.31)", "POINT (0.04 0.06)"])
     with pytest.warns(rjoin.EnvelopeWarning):

@@ -265,11 +265,16 @@ def test_texts_that_cannot_be_written_name_their_row() -> None:
 
 
 def test_numbers_that_are_not_finite_are_refused() -> None:
-    from shapely.geometry import LineString
+    from shapely.geometry import LineString, MultiLineString, Point
 
-    layer = geopandas.GeoSeries([LineString([(0, 0), (math.inf, 0)])])
-    with pytest.raises(rjoin.InputError, match="finite"):
-        rjoin.stats(layer, other="envelope")
+    for line in (LineString([(0, 0), (math.inf, 0)]), LineString([(0, 0), (1, 2), (3, -math.inf)]),
+                 MultiLineString([[(0, 0), (1, 2)], [(0, 0), (1, math.inf)]])):
+        layer = geopandas.GeoSeries([Point(1, 1), line])
+        for other in ("error", "envelope"):
+            with pytest.raises(rjoin.InputError, match="row 2 .*finite"):
+                rjoin.stats(layer, other=other)
+        with pytest.warns(rjoin.LeftOutWarning, match="row 2 .*finite"):
+            assert rjoin.stats(layer, other="skip").features == 1
 
 
 def decimals_of(number: float) -> int:
