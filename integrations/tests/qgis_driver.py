@@ -1,10 +1,10 @@
 """Runs Processing algorithms inside one QGIS without a display; the tests call it by QGIS's Python.
 
 Each line of standard input is a JSON list of runs, each with `algorithm`, `parameters` and perhaps
-`cancel_at`, a progress at which to cancel, and `program`, the value of RJOIN. Standard output gets
-a line for it, a list of the same length: `results`, the text of an `error`, `progress`, `log`, and
-in `rows` the attributes and the well-known text of each feature of every output layer, and in
-`systems` its reference system.
+`cancel_at`, a progress at which to cancel, `program`, the value of RJOIN, and `invalid`, the number
+of the filtering of invalid features. Standard output gets a line for it, a list of the same
+length: `results`, the text of an `error`, `progress`, `log`, and in `rows` the attributes and the
+well-known text of each feature of every output layer, and in `systems` its reference system.
 """
 from __future__ import annotations
 
@@ -17,6 +17,7 @@ from qgis.core import (
     NULL,
     QgsApplication,
     QgsFeature,
+    QgsFeatureRequest,
     QgsProcessingContext,
     QgsProcessingException,
     QgsProcessingFeedback,
@@ -72,6 +73,8 @@ def run(request: Dict[str, Any]) -> Dict[str, Any]:
     import processing
 
     context, feedback = QgsProcessingContext(), Recorder(request.get("cancel_at"))
+    context.setInvalidGeometryCheck(QgsFeatureRequest.InvalidGeometryCheck(
+        request.get("invalid", 0)))
     answer: Dict[str, Any] = {"error": None, "results": {}, "rows": {}}
     program = os.environ["RJOIN"]
     try:

@@ -1,4 +1,4 @@
-"""The plugin's reading of well-known binary and of decimals, which needs no QGIS."""
+"""The QGIS plugin's reading of well-known binary and of decimals, which needs no QGIS."""
 from __future__ import annotations
 
 import importlib
@@ -106,5 +106,78 @@ def test_limit_depends_on_decimals() -> None:
     decimals.check_limit([1e6], 6)
     with pytest.raises(decimals.CoordinateError):
         decimals.check_limit([1e6 + 0.5], 6)
-    assert list(decimals.in_units([0.29, -1.005], 2)) == [29, -100]
+    assert decimals.most_decimals([1.0, -5.5e6]) == 5 and decimals.most_decimals([]) == 6
     assert list(decimals.rounded_places([0.29, -1.005], 2)) == [1]
+
+
+@pytest.mark.parametrize("number, decimals, units", [
+    (0.29, 2, 29), (-1.005, 2, -101), (0.125, 2, 13), (2.5, 0, 3), (-2.5, 0, -3),
+    (0.1 + 0.2, 6, 300000), (1.5e-7, 6, 0), (5e-7, 6, 1),
+])
+def test_rounding_is_half_a_unit_away_from_zero(number: float, decimals: int, units: int) -> None:
+    assert module("decimals").in_units(number, decimals) == units
+
+
+@pytest.mark.parametrize("number, text", [
+    (0.1 + 0.2, "0.30000000000000004"), (-3.0, "-3"), (1.5e-07, "1.5e-07"),
+    (500000.25, "500000.25"),
+])
+def test_texts_of_numbers(number: float, text: str) -> None:
+    assert module("decimals").text(number) == text
+
+
+TRIANGLE: Ring = [(0, 0), (4, 1), (0, 4.5), (0, 0)]
+
+
+def wkt_of(wkb: bytes) -> str:
+    form, coordinates = module("shapes").shape_of(wkb)
+    return str(form.wkt(map(module("decimals").text, coordinates)))
+
+
+@pytest.mark.parametrize("wkb, text", [
+    (struct.pack("<BI2d", 1, 1, 1.5, -2), "MULTIPOINT((1.5 -2))"),
+    (line((3, 0), (1, 1), (1, 1)), "MULTILINESTRING((3 0,1 1,1 1))"),
+    (polygon(TRIANGLE, SQUARE), "MULTIPOLYGON(((0 0,4 1,0 4.5,0 0),(0 0,4 0,4 4,0 4,0 0)))"),
+    (polygon(TRIANGLE, []), "MULTIPOLYGON(((0 0,4 1,0 4.5,0 0)))"),
+    (multi(4, struct.pack(">BI2d", 0, 1, 1, 2), struct.pack("<BI3d", 1, 1001, 3, 4, 9)),
+     "MULTIPOINT((1 2),(3 4))"),
+    (multi(4, struct.pack("<BI2d", 1, 1, float("nan"), float("nan")),
+           struct.pack("<BI2d", 1, 1, 3, 4)), "MULTIPOINT((3 4))"),
+    (multi(5, line((0, 0), (1, 1)), line(), line((2, 2), (3, 4))),
+     "MULTILINESTRING((0 0,1 1),(2 2,3 4))"),
+    (multi(6, polygon(TRIANGLE), polygon(SQUARE)),
+     "MULTIPOLYGON(((0 0,4 1,0 4.5,0 0)),((0 0,4 0,4 4,0 4,0 0)))"),
+    (multi(7, multi(5, line((0, 0), (1, 1)))), "MULTILINESTRING((0 0,1 1))"),
+])
+def test_shapes(wkb: bytes, text: str) -> None:
+    assert wkt_of(wkb) == text
+
+
+@pytest.mark.parametrize("wkb, reason", [
+    (line(), "empty"), (polygon(), "empty"), (polygon([]), "empty"), (multi(4), "empty"),
+    (multi(7), "empty"),
+    (struct.pack("<BI2d", 1, 1, float("inf"), 0), "finite"),
+    (line((1, 1), (1, 1)), "a line without a length"),
+    (multi(5, line((0, 0), (1, 1)), line((1, 1), (1, 1))), "a line without a length"),
+    (polygon(TRIANGLE[:-1]), "a ring that isn't closed"),
+    (polygon([(1, 1), (1, 1), (1, 1), (1, 1)]), "a polygon that is a point"),
+    (multi(7, line((0, 0), (1, 1)), polygon(TRIANGLE)), "a collection of several geometries"),
+    (struct.pack("<BII6d", 1, 8, 3, 0, 0, 1, 1, 2, 0), "a curve or surface"),
+])
+def test_what_is_not_read(wkb: bytes, reason: str) -> None:
+    shapes = module("shapes")
+    with pytest.raises(shapes.NotRead, match=reason):
+        shapes.shape_of(wkb)
+
+
+def test_rounding_may_leave_a_point() -> None:
+    """A line and a polygon do at 2 decimals, and not at 3; 0.0049 and 0.005 stay apart."""
+    shapes = module("shapes")
+    short = line((0.011, 0), (0.012, 0.001))
+    tiny = polygon([(0, 0), (0.001, 0), (0, 0.001), (0, 0)])
+    for wkb, reason in ((short, "no length once rounded to 2"),
+                        (tiny, "a point once rounded to 2")):
+        shapes.shape_of(wkb, 3)
+        with pytest.raises(shapes.NotRead, match=reason):
+            shapes.shape_of(wkb, 2)
+    shapes.shape_of(line((0.0049, 0), (0.005, 0.001)), 2)

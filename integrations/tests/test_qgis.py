@@ -18,6 +18,7 @@ sys.path.insert(0, str(ROOT / "bench"))
 import layers as made_layers  # noqa: E402
 
 PLUGINS = ROOT / "integrations/qgis"
+VILLAGE = ROOT / "data/village"
 DRIVER = Path(__file__).with_name("qgis_driver.py")
 RELATIONS = ["intersects", "touches", "crosses", "within", "contains", "overlaps", "equals",
              "covers", "covered_by", "contains_properly"]
@@ -207,39 +208,49 @@ OTHERS = {
     "triangle": "POLYGON ((0 0, 9 0, 0 9, 0 0))",
     "parts": "MULTIPOLYGON (((20 0, 22 0, 22 2, 20 2, 20 0)), ((0 5, 2 5, 2 9, 0 9, 0 5)))",
     "holed": "POLYGON ((0 0, 9 0, 9 9, 0 9, 0 0), (1 1, 2 1, 2 2, 1 2, 1 1))",
+    "curve": "CURVEPOLYGON ((0 0, 9 9, 9 0, 0 0))",
+    "dot": "POLYGON ((1 1, 1 1, 1 1, 1 1))",
     "none": "",
 }
+READ = {"box", "part", "triangle", "parts", "holed"}
 
 
 def test_other_geometries(runs: Any, tmp_path: Path) -> None:
     others = layer(tmp_path / "others.csv", OTHERS)
     parcels = town("parcels")
-    bounds = str(tmp_path / "bounds.gpkg")
-    stop, envelopes, bounded, natives_own, left_out = runs([
+    stop, envelopes, left_out = runs([
         ours(others, parcels, "intersects"),
         ours(others, parcels, "intersects", OTHERS=ENVELOPE, INPUT_LEFT_OUT="memory:"),
-        {"algorithm": "native:boundingboxes",
-         "parameters": {"INPUT": others, "OUTPUT": bounds}},
-        natives(bounds, parcels, "intersects"),
         ours(others, parcels, "intersects", OTHERS=LEAVE_OUT, INPUT_LEFT_OUT="memory:",
              DISCARD_NONMATCHING=False)])
-    assert "others, feature 3: not a point" in stop["error"]
-    assert "not a rectangle" in stop["error"]
-    assert bounded["error"] is None
-    assert pairs(envelopes) == pairs(natives_own)
+    assert "others, feature 6: not points, lines or polygons that rjoin reads" in stop["error"]
+    assert "but a curve or surface" in stop["error"]
     assert [row["id"] for row in envelopes["rows"]["INPUT_LEFT_OUT"]] == ["none"]
-    assert "others: features replaced by their envelopes: 3" in envelopes["log"]
+    assert "others: features replaced by their envelopes: 2" in envelopes["log"]
     exact = [(row["id"], row["exact"]) for row in envelopes["rows"]["OUTPUT"]]
-    assert all(flag == (id in ("box", "part")) for id, flag in exact)
+    assert all(flag == (id in READ) for id, flag in exact)
     assert {flag for _, flag in exact} == {True, False}
     inexact = f"{[flag for _, flag in exact].count(False)} of {len(exact)}"
     assert f"Pairs that rest on an envelope, where the field exact is false: {inexact}" in (
         envelopes["log"])
     gone = {row["id"]: row["reason"] for row in left_out["rows"]["INPUT_LEFT_OUT"]}
-    assert gone == {"triangle": "not a rectangle", "parts": "a geometry of several parts",
-                    "holed": "a polygon with a hole", "none": "no geometry"}
-    kept = {row["id"] for row in left_out["rows"]["OUTPUT"]}
-    assert kept == {"box", "part"}
+    assert gone == {"curve": "a curve or surface", "dot": "a polygon that is a point",
+                    "none": "no geometry"}
+    assert {row["id"] for row in left_out["rows"]["OUTPUT"]} == READ
+
+
+def test_envelopes(runs: Any, tmp_path: Path) -> None:
+    """Beside QGIS's own bounding boxes of curves."""
+    curves = layer(tmp_path / "curves.csv", {
+        "one": OTHERS["curve"],
+        "two": "CURVEPOLYGON ((20 16, 28 20, 24 24, 20 16))"})
+    bounds = str(tmp_path / "bounds.gpkg")
+    bounded, envelopes, own = runs([
+        {"algorithm": "native:boundingboxes", "parameters": {"INPUT": curves, "OUTPUT": bounds}},
+        ours(curves, town("parcels"), "intersects", OTHERS=ENVELOPE),
+        natives(bounds, town("parcels"), "intersects")])
+    assert bounded["error"] is None
+    assert pairs(envelopes) == pairs(own) and pairs(own)
 
 
 FAR = "POLYGON ((900 900, 901 900, 901 901, 900 901, 900 900))"
@@ -257,30 +268,30 @@ def test_each_row_by_an_envelope_says_so(runs: Any, tmp_path: Path) -> None:
         ours(others, parcels, "touches", **envelopes),
         ours(others, parcels, "intersects", **envelopes)])
     pairs_of = table["rows"]["OUTPUT"]
-    assert pairs_of and all(row["exact"] == (row["right"] in ("box", "part")) for row in pairs_of)
+    assert pairs_of and all(row["exact"] == (row["right"] in READ) for row in pairs_of)
     found = {row["id"]: row["exact"] for row in window["rows"]["OUTPUT"]}
-    assert found == {"box": True, "part": True, "triangle": False, "parts": False, "holed": False}
-    assert any("where the field exact is false: 3 of 5" in line for line in window["log"])
+    assert found == {**dict.fromkeys(READ, True), "curve": False, "dot": False}
+    assert any("where the field exact is false: 2 of 7" in line for line in window["log"])
     for answer in (touching, meeting):
         assert answer["error"] is None, answer
         rows = [row for row in answer["rows"]["OUTPUT"] if row["matrix"] is None]
         assert {row["id"]: row["exact"] for row in rows}["far"]
         for row in rows:
-            assert row["exact"] == (answer is meeting or row["id"] in ("box", "part", "far"))
+            assert row["exact"] == (answer is meeting or row["id"] in {*READ, "far"})
 
 
 def test_a_base_feature_has_no_partner_only_where_that_is_known(runs: Any, tmp_path: Path) -> None:
     others = layer(tmp_path / "others.csv", OTHERS)
-    far = layer(tmp_path / "far.csv", {"a": "POINT (1 1)", "b": "POINT (8 8)"})
+    far = layer(tmp_path / "far.csv", {"a": "POINT (1 8)", "b": "POINT (30 30)"})
     rules = {"OTHERS": LEAVE_OUT, "DISCARD_NONMATCHING": False}
     stop, marked, whole, discarded, table = runs([
         ours(far, others, "within", **rules), ours(far, others, "within", INCOMPLETE=MARK, **rules),
         ours(far, town("zones"), "within", INCOMPLETE=MARK, **rules),
         ours(far, others, "within", OTHERS=LEAVE_OUT),
         ours(far, others, "within", METHOD=1, **rules)])
-    assert "others: features left out: 4, each of which may be the partner" in stop["error"]
+    assert "others: features left out: 3, each of which may be the partner" in stop["error"]
     assert sorted({(row["id"], row["id_2"], row["known"]) for row in marked["rows"]["OUTPUT"]},
-                  key=str) == [("a", "box", True), ("a", "part", True), ("b", None, False)]
+                  key=str) == [("a", "holed", True), ("a", "parts", True), ("b", None, False)]
     assert all(row["known"] for row in whole["rows"]["OUTPUT"])
     assert len(pairs(discarded)) == len(table["rows"]["OUTPUT"]) == 2
     assert "known" not in discarded["rows"]["OUTPUT"][0]
@@ -289,8 +300,73 @@ def test_a_base_feature_has_no_partner_only_where_that_is_known(runs: Any, tmp_p
 def test_left_out_is_told_without_an_output(runs: Any, tmp_path: Path) -> None:
     others = layer(tmp_path / "others.csv", OTHERS)
     (answer,) = runs([ours(others, town("parcels"), "intersects", OTHERS=LEAVE_OUT)])
-    assert any("features left out: 4, namely feature 3 (not a rectangle)" in line
+    assert any("features left out: 3, namely feature 6 (a curve or surface)" in line
                for line in answer["log"])
+
+
+def village(name: str, geometry: str) -> str:
+    return f"{VILLAGE / name}.csv|geometrytype={geometry}"
+
+
+PARCELS, ROADS = village("parcels", "Polygon"), village("roads", "LineString")
+SLANTED = ((PARCELS, ROADS, "crosses"), (ROADS, PARCELS, "intersects"),
+           (PARCELS, PARCELS, "touches"), (village("roads", "Polygon"), ROADS, "intersects"),
+           (village("stops", "Point"), PARCELS, "within"),
+           (village("water", "Polygon"), PARCELS, "touches"),
+           (village("water", "Polygon"), village("stops", "Point"), "contains"),
+           (PARCELS, PARCELS, "equals"), (ROADS, ROADS, "touches"))
+
+
+def compared(answer: Dict[str, Any]) -> List[Any]:
+    """All fields and the geometry of each joined feature, but for the matrix."""
+    assert answer["error"] is None, answer["error"]
+    return sorted(sorted((name, str(value)) for name, value in row.items() if name != "matrix")
+                  for row in answer["rows"]["OUTPUT"])
+
+
+def test_slanted_lines_and_polygons(runs: Any) -> None:
+    """The village, whose coordinates are whole: the same features with the same fields."""
+    answers = runs([request for left, right, relation in SLANTED for request in (
+        ours(left, right, relation), natives(left, right, relation))])
+    for place, join in enumerate(SLANTED):
+        own, native = (compared(answer) for answer in answers[2 * place:2 * place + 2])
+        assert own == native and own, join
+
+
+MADE_OF_ANY = (("parcels", "intersects"), ("neighbours", "touches"), ("roads", "crosses"),
+               ("zones", "within"), ("parcels", "overlaps"))
+
+
+def test_made_layers_of_any_geometry(runs: Any, tmp_path: Path) -> None:
+    """A cadastre of parcels of many corners, cut in two ways, its roads, and points in areas."""
+    requests = []
+    for kind, relation in MADE_OF_ANY:
+        left, right = map(str, made_layers.write_pair(tmp_path, kind, 400))
+        requests += [ours(left, right, relation), natives(left, right, relation)]
+    answers = runs(requests)
+    for own, native in zip(answers[::2], answers[1::2]):
+        assert pairs(own) == pairs(native) and pairs(own)
+    assert answers[2]["results"]["PAIRS"] == made_layers.expected("neighbours", "touches", 400)
+
+
+BOW = "POLYGON ((0 0, 4 4, 4 0, 0 4, 0 0))"
+
+
+def test_invalid_polygons(runs: Any, tmp_path: Path) -> None:
+    """Of a bow-tie the even-odd rule takes two triangles, with a common corner at (2, 2)."""
+    bow = layer(tmp_path / "bow.csv", {"bow": BOW, "box": "POLYGON ((0 0, 1 0, 1 1, 0 1, 0 0))"})
+    points = layer(tmp_path / "points.csv", {
+        "left": "POINT (1 2)", "right": "POINT (3 2)", "above": "POINT (2 3)",
+        "below": "POINT (2 1)", "middle": "POINT (2 2)"})
+    read, touching, skipped, stopped = runs([
+        {**ours(points, bow, relation, JOIN_LEFT_OUT="memory:"), "invalid": invalid}
+        for relation, invalid in (("within", 0), ("touches", 0), ("within", 1), ("within", 2))])
+    assert pairs(read) == [("left", "bow"), ("right", "bow")]
+    assert pairs(touching) == [("middle", "bow")]
+    assert pairs(skipped) == []
+    assert [(row["id"], row["reason"]) for row in skipped["rows"]["JOIN_LEFT_OUT"]] == [
+        ("bow", "an invalid polygon")]
+    assert "bow, feature 1: an invalid polygon. Fix it, or change" in stopped["error"]
 
 
 def test_decimals(runs: Any, tmp_path: Path) -> None:
@@ -303,9 +379,31 @@ def test_decimals(runs: Any, tmp_path: Path) -> None:
         ours(fine, zone, "touches", DECIMALS=2), ours(far, zone, "touches")])
     assert pairs(exact) == [("a", "z")] and "Decimals of the coordinates: 2" in exact["log"]
     assert "fine, feature 2: coordinate 0.2500001 isn't written exactly" in inexact["error"]
+    assert "give the parameter Decimals (DECIMALS) to round to" in inexact["error"]
     assert pairs(rounded) == [("a", "z"), ("f", "z")]
     assert "fine: features with coordinates rounded to 2 decimals: 1" in rounded["log"]
     assert "far, feature 2: coordinate 2000000.0 is out of range" in out_of_range["error"]
+
+
+def test_decimals_of_any_geometry(runs: Any, tmp_path: Path) -> None:
+    """Halves of a unit go away from zero, of points and of lines alike."""
+    lines = layer(tmp_path / "lines.csv", {
+        "east": "LINESTRING (0.125 -1, 0.125 1)", "west": "LINESTRING (-0.125 -1, -0.125 1)",
+        "slanted": "LINESTRING (-1.005 -2.000000001, 1.005 2)",
+        "short": "LINESTRING (9 9, 9.001 9)",
+        "tiny": "LINESTRING (9 9, 9.001 9.001)"})
+    points = layer(tmp_path / "points.csv", {
+        "east": "POINT (0.13 0.5)", "west": "POINT (-0.13 0.5)", "middle": "POINT (0 0)",
+        "end": "POINT (1.01 2)", "far": "POINT (9 9)"})
+    inexact, stopped, rounded = runs([
+        ours(points, lines, "intersects"), ours(points, lines, "intersects", DECIMALS=2),
+        ours(points, lines, "intersects", DECIMALS=2, OTHERS=LEAVE_OUT, JOIN_LEFT_OUT="memory:")])
+    assert "lines, feature 3: coordinate -2.000000001 isn't written exactly" in inexact["error"]
+    assert "lines, feature 5: not points, lines or polygons that rjoin reads, but a line that has" \
+        " no length once rounded to 2 decimals" in stopped["error"]
+    assert pairs(rounded) == [("east", "east"), ("end", "slanted"), ("far", "short"),
+                              ("middle", "slanted"), ("west", "west")]
+    assert "lines: features with coordinates rounded to 2 decimals: 4" in rounded["log"]
 
 
 def test_reference_systems_must_agree(runs: Any, tmp_path: Path) -> None:
@@ -351,14 +449,32 @@ def test_window(runs: Any, window: str) -> None:
         assert one["results"]["COUNT"] == len(one["rows"]["OUTPUT"])
 
 
+def test_window_over_any_geometry(runs: Any) -> None:
+    """Beside QGIS's own extraction; the last window has more decimals than rjoin reads."""
+    windows = ("0,400,-100,300", "157.25,158,39,39.5", "300.0000000001,700,300,500")
+    answers = runs([request for window in windows for request in (
+        {"algorithm": "rjoin:featuresinwindow", "parameters": {
+            "INPUT": PARCELS, "WINDOW": window, "OUTPUT": "memory:"}},
+        {"algorithm": "native:extractbyextent", "parameters": {
+            "INPUT": PARCELS, "EXTENT": window, "CLIP": False, "OUTPUT": "memory:"}})])
+    for one, other in zip(answers[::2], answers[1::2]):
+        assert one["error"] is None and one["rows"]["OUTPUT"] == other["rows"]["OUTPUT"]
+        assert one["rows"]["OUTPUT"]
+    told = [any("The window is rounded to 6 decimals" in line for line in answer["log"])
+            for answer in answers[::2]]
+    assert told == [False, False, True]
+
+
 def test_statistics(runs: Any, tmp_path: Path) -> None:
     others = layer(tmp_path / "others.csv", OTHERS)
     answers = runs([{"algorithm": "rjoin:layerstatistics", "parameters": {
         "INPUT": source, "OTHERS": LEAVE_OUT}}
         for source in (town("parcels"), town("roads"), town("stations"), others)])
-    counted = [tuple(answer["results"][name] for name in (
+    counted = [tuple(answer["results"].get(name) for name in (
         "FEATURES", "POINTS", "SEGMENTS", "RECTANGLES", "LEFT_OUT_COUNT")) for answer in answers]
-    assert counted == [(57, 0, 0, 57, 0), (16, 0, 16, 0, 0), (16, 16, 0, 0, 0), (2, 0, 0, 2, 4)]
+    assert counted == [(57, 0, 0, 57, 0), (16, 0, 16, 0, 0), (16, 16, 0, 0, 0),
+                       (5, 0, None, None, 3)]
+    assert [answers[3]["results"][name] for name in ("LINES", "AREAS", "VERTICES")] == [0, 5, 34]
 
 
 def test_progress_and_cancel(runs: Any, tmp_path: Path) -> None:

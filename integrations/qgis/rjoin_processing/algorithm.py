@@ -16,6 +16,7 @@ from qgis.core import (
     QgsProcessingContext,
     QgsProcessingException,
     QgsProcessingFeatureSource,
+    QgsProcessingFeatureSourceDefinition,
     QgsProcessingFeedback,
     QgsProcessingMultiStepFeedback,
     QgsProcessingParameterDefinition,
@@ -28,7 +29,7 @@ from qgis.PyQt.QtCore import QVariant
 
 from . import decimals as units
 from . import found, program
-from .layers import BoxLayer, LeftOut
+from .layers import Invalid, Layer, LeftOut, Others, Rules
 
 OTHERS = "OTHERS"
 DECIMALS = "DECIMALS"
@@ -36,18 +37,23 @@ WORKERS = "WORKERS"
 MOST_WORKERS = 16
 
 COMMON_HELP = """
-<p>rjoin reads points, segments parallel to an axis, and rectangles with sides parallel to the \
-axes. Points may stand along a side; a geometry of several parts counts where it has one part; \
-heights and measures are ignored.</p>
+<p>rjoin reads points, lines and polygons, single or of several parts. Heights and measures are \
+ignored.</p>
 <h3>Other geometries</h3>
-<p>Stop with an error that names the feature; or take their envelopes (bounding boxes), where \
-the field <i>exact</i> says which rows rest on none; or leave them out. What is left out goes to \
-an output of its own with the reason; so do features without a geometry, unless they stop the \
-run.</p>
+<p>Curves, collections of several geometries, lines without a length and rings that aren't closed \
+stop the run with an error that names the feature; or their envelopes (bounding boxes) stand in \
+for them, and the field <i>exact</i> says which rows rest on none; or they are left out. The \
+features left out go to an output of their own with the reason. So do features without a \
+geometry, unless they stop the run.</p>
+<h3>Invalid polygons</h3>
+<p>By the setting <i>Invalid features filtering</i> of the input, or else of Processing: invalid \
+polygons stop the run; or are left out; or, without filtering, are read by the even-odd rule: a \
+point is inside if a ray from it crosses the rings an odd number of times.</p>
 <h3>Decimals</h3>
 <p>rjoin computes with decimal numbers. Unless the number of decimals is given, it is the \
 fewest, 0 to 6, that write every coordinate exactly; where 6 don't, the run stops at that feature. \
-If it is given, coordinates are rounded to it, and the log says how many features changed.</p>
+If it is given, rjoin rounds coordinates to it, half a unit away from zero, and the log says how \
+many features changed.</p>
 """
 
 
@@ -64,13 +70,13 @@ class RjoinAlgorithm(QgsProcessingAlgorithm):
         return ""
 
     def add_common_parameters(self) -> None:
-        """Adds what to do with other geometries, and the number of decimals."""
+        """Adds the treatment of other geometries, and the number of decimals."""
         self.addParameter(QgsProcessingParameterEnum(
-            OTHERS, "Geometries that aren't points, axis-parallel segments or rectangles",
+            OTHERS, "Curves, collections and other geometries that rjoin doesn't read",
             ["Stop with an error", "Take their envelopes", "Leave them out and list them"],
             defaultValue=0))
         self.addParameter(QgsProcessingParameterNumber(
-            DECIMALS, "Decimals of the coordinates (found from the data unless given)",
+            DECIMALS, "Decimals to round coordinates to (all that the data has unless given)",
             QgsProcessingParameterNumber.Integer, None, True, 0, units.MOST_DECIMALS))
 
     def add_workers(self) -> None:
@@ -100,6 +106,13 @@ class RjoinAlgorithm(QgsProcessingAlgorithm):
             return None
         return int(self.parameterAsInt(parameters, DECIMALS, context))
 
+    def rules_of(self, parameters: Dict[str, Any], name: str, context: QgsProcessingContext
+                 ) -> Rules:
+        """How the geometries of an input are read."""
+        return Rules(Others(self.parameterAsEnum(parameters, OTHERS, context)),
+                     _invalid_of(parameters.get(name), context),
+                     self.given_decimals(parameters, context))
+
     def sink_of(self, parameters: Dict[str, Any], name: str, context: QgsProcessingContext,
                 fields: QgsFields, system: QgsCoordinateReferenceSystem, kind: int) -> "Output":
         """A sink with a reference system and a type of geometries.
@@ -113,13 +126,21 @@ class RjoinAlgorithm(QgsProcessingAlgorithm):
         return Output(name, sink, identifier)
 
     def write_left_out(self, parameters: Dict[str, Any], name: str, context: QgsProcessingContext,
-                       source: QgsProcessingFeatureSource, layer: BoxLayer) -> Dict[str, Any]:
+                       source: QgsProcessingFeatureSource, layer: Layer) -> Dict[str, Any]:
         """Writes the features that were left out, with their fields and the reason."""
         fields = with_fields(source.fields(), [QgsField("reason", QVariant.String)])
         output = self.sink_of(parameters, name, context, fields, source.sourceCrs(),
                               source.wkbType())
         output.add(map(_with_reason, layer.left_out))
         return output.result()
+
+
+def _invalid_of(given: Any, context: QgsProcessingContext) -> Invalid:
+    """The filtering of invalid features of an input: its own, else that of Processing."""
+    overrides = QgsProcessingFeatureSourceDefinition.FlagOverrideDefaultGeometryCheck
+    if isinstance(given, QgsProcessingFeatureSourceDefinition) and given.flags & overrides:
+        return Invalid(int(given.geometryCheck))
+    return Invalid(int(context.invalidGeometryCheck()))
 
 
 def _with_reason(gone: LeftOut) -> QgsFeature:

@@ -7,7 +7,7 @@ from typing import Any, List, NamedTuple
 from qgis.core import QgsField
 from qgis.PyQt.QtCore import QVariant
 
-from .layers import BoxLayer
+from .layers import Layer
 
 
 class Partner(NamedTuple):
@@ -31,8 +31,8 @@ class JoinFields:
     were left out; it says which rows aren't such a feature.
     """
 
-    left: BoxLayer
-    right: BoxLayer
+    left: Layer
+    right: Layer
     relation: str
     has_exact: bool
     has_known: bool

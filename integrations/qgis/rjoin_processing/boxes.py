@@ -2,17 +2,16 @@
 
 A box is a point, a segment parallel to an axis, or a rectangle with sides parallel to the axes,
 as rjoin reads them: points may stand along a side, and a point may be repeated, but a line or ring
-never goes back. WKB is that of OGC 06-103r4, section 8.2, with the type numbers of ISO 13249-3 or
-of the older "2.5D" extension for heights and measures, which are dropped.
+never goes back.
 """
 from __future__ import annotations
 
 import struct
 from enum import IntEnum
 from math import isfinite
-from typing import List, NamedTuple, Tuple
+from typing import List, NamedTuple
 
-Point = Tuple[float, float]
+from .wkb import Kind, Point, Reader
 
 
 class Box(NamedTuple):
@@ -28,20 +27,7 @@ class NotABox(ValueError):
     """The geometry isn't a box; the text says what it is instead."""
 
 
-class Kind(IntEnum):
-    """The types of geometry in WKB that can be a box."""
-
-    POINT = 1
-    LINE = 2
-    POLYGON = 3
-    MULTI_POINT = 4
-    MULTI_LINE = 5
-    MULTI_POLYGON = 6
-    COLLECTION = 7
-
-
 COLLECTIONS = (Kind.MULTI_POINT, Kind.MULTI_LINE, Kind.MULTI_POLYGON, Kind.COLLECTION)
-HEIGHT_FLAG = 0x80000000
 
 # Nearly every box is a point, a line of two points or a ring of five, little-endian and with two
 # dimensions. These are read without a walk.
@@ -69,7 +55,7 @@ def box_of(wkb: bytes) -> Box:
         x1, y1, x2, y2 = LINE_BODY.unpack(wkb)
         if (x1 == x2) != (y1 == y2):
             return _box_between(x1, y1, x2, y2)
-    return _read(_Reader(wkb))
+    return _read(Reader(wkb))
 
 
 def _box_between(x1: float, y1: float, x2: float, y2: float) -> Box:
@@ -80,39 +66,7 @@ def _box_between(x1: float, y1: float, x2: float, y2: float) -> Box:
     return Box(west, south, east, north)
 
 
-class _Reader:
-    """A place in a WKB text, from which numbers are read."""
-
-    def __init__(self, wkb: bytes) -> None:
-        self.wkb = wkb
-        self.place = 0
-        self.order = "<"
-        self.dimensions = 2
-
-    def kind(self) -> int:
-        """Reads the head of a geometry."""
-        self.order = "<" if self.wkb[self.place] == 1 else ">"
-        self.place += 1
-        code = self.count()
-        old_height = bool(code & HEIGHT_FLAG)
-        family, kind = divmod(code & ~HEIGHT_FLAG, 1000)
-        self.dimensions = 2 + (2 if family == 3 else 1 if family or old_height else 0)
-        return kind
-
-    def count(self) -> int:
-        (number,) = struct.unpack_from(self.order + "I", self.wkb, self.place)
-        self.place += 4
-        return int(number)
-
-    def points(self, count: int) -> List[Point]:
-        """Reads points, without height and measure."""
-        length = count * self.dimensions
-        numbers = struct.unpack_from(f"{self.order}{length}d", self.wkb, self.place)
-        self.place += 8 * length
-        return list(zip(numbers[:: self.dimensions], numbers[1:: self.dimensions]))
-
-
-def _read(reader: _Reader) -> Box:
+def _read(reader: Reader) -> Box:
     kind = reader.kind()
     if kind == Kind.POINT:
         return _point(reader.points(1))
@@ -125,7 +79,7 @@ def _read(reader: _Reader) -> Box:
     raise NotABox("a curve or surface")
 
 
-def _only_part(reader: _Reader) -> Box:
+def _only_part(reader: Reader) -> Box:
     parts = reader.count()
     if parts == 0:
         raise NotABox("an empty geometry")
@@ -152,7 +106,7 @@ def _line(points: List[Point]) -> Box:
     return _box_between(*points[0], *points[-1])
 
 
-def _polygon(reader: _Reader) -> Box:
+def _polygon(reader: Reader) -> Box:
     rings = reader.count()
     if rings == 0:
         raise NotABox("an empty geometry")

@@ -1,13 +1,14 @@
-"""Coordinates as whole numbers of units of 10^-k, k being the number of decimals.
+"""Coordinates as decimal numbers.
 
 rjoin compares decimal numbers, and a layer in QGIS has binary ones (IEEE 754 double). A coordinate
 is written exactly with k decimals where some decimal number of k decimals is read back as that
-coordinate. Division of two whole numbers is correctly rounded, so `n / 10**k == value` tells just
-that.
+coordinate. Division of two whole numbers is correctly rounded, so `n / 10**k == value` tests just
+that. The text of a coordinate is the shortest decimal number that is read back as it; rjoin rounds
+it to the decimals of the run (`--round`), which changes nothing where these write it exactly.
 """
 from __future__ import annotations
 
-from array import array
+from decimal import ROUND_HALF_UP, Decimal
 from typing import Iterator, Sequence
 
 MOST_DECIMALS = 6
@@ -52,10 +53,11 @@ def _check_range(place: int, value: float, limit: int) -> None:
                                      "is lower the more decimals there are")
 
 
-def in_units(coordinates: Sequence[float], decimals: int) -> "array[int]":
-    """The coordinates in units of 10^-decimals, rounded where they have more decimals."""
-    power = 10**decimals
-    return array("q", (round(value * power) for value in coordinates))
+def most_decimals(coordinates: Sequence[float]) -> int:
+    """The most decimals at which all coordinates are in rjoin's range."""
+    reach = max((abs(value) for value in coordinates), default=0.0)
+    return max((decimals for decimals in range(MOST_DECIMALS + 1)
+                if reach <= LIMIT // 10**decimals), default=0)
 
 
 def rounded_places(coordinates: Sequence[float], decimals: int) -> Iterator[int]:
@@ -64,3 +66,22 @@ def rounded_places(coordinates: Sequence[float], decimals: int) -> Iterator[int]
     for place, value in enumerate(coordinates):
         if round(value * power) / power != value:
             yield place
+
+
+def text(value: float) -> str:
+    """The shortest decimal number that is read back as the coordinate, perhaps with an exponent."""
+    written = repr(value)
+    return written[:-2] if written.endswith(".0") else written
+
+
+def in_units(value: float, decimals: int) -> int:
+    """The coordinate in units of the last decimal, half a unit away from zero, as rjoin rounds."""
+    return int(Decimal(repr(value)).scaleb(decimals).to_integral_value(ROUND_HALF_UP))
+
+
+def are_equal(one: float, other: float, decimals: int) -> bool:
+    """Whether two coordinates are equal once they are rounded."""
+    if one == other:
+        return True
+    may_be = abs(one - other) * 10**decimals < 2
+    return may_be and in_units(one, decimals) == in_units(other, decimals)

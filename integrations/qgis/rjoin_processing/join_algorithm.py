@@ -43,10 +43,11 @@ from .algorithm import (
 from .answers import JoinFields, Partner
 from .layers import (
     CHECK_EVERY,
-    BoxLayer,
+    Layer,
     Others,
     attributes_of,
     common_decimals,
+    format_words,
     read_layer,
     tell,
     write_layer,
@@ -79,8 +80,8 @@ class JoinByRelation(RjoinAlgorithm):
 in a spatial relation to it, as rjoin does, whose answer is proved: each pair once, and no other. \
 The output has the nine letters of each pair's DE-9IM matrix (OGC 06-103r4) in the field \
 <i>matrix</i>.</p>
-<p>Both layers must have the same reference system, since a rectangle isn't one after \
-reprojection; reproject the join layer first where they differ.</p>
+<p>Both layers must have the same reference system, since reprojected coordinates have to be \
+rounded; reproject the join layer first where they differ.</p>
 <h3>Own mask</h3>
 <p>Nine of the letters T, F, *, 0, 1, 2, in place of a named relation. A mask that features \
 without a common point may fit is refused.</p>
@@ -160,8 +161,8 @@ class _Join:
         check_program(self.steps.feedback)
         self.system = _common_system(self.left, self.right, self.steps.feedback)
         program.check_relation(self.relation)
-        left = self._read(self.left, "INPUT_LEFT_OUT")
-        right = self._read(self.right, "JOIN_LEFT_OUT")
+        left = self._read(self.left, "INPUT")
+        right = self._read(self.right, "JOIN")
         self._check_complete(right)
         partners = self._join(folder, left, right)
         results = self._write(left, right, partners)
@@ -172,14 +173,15 @@ class _Join:
         results["PAIRS"] = sum(map(len, partners.values()))
         return results
 
-    def _read(self, source: QgsProcessingFeatureSource, left_out: str) -> BoxLayer:
+    def _read(self, source: QgsProcessingFeatureSource, name: str) -> Layer:
         feedback = self.steps.begin(f"Reading {source.sourceName()}")
-        layer = read_layer(source, self.others, feedback)
+        rules = self.algorithm.rules_of(self.parameters, name, self.context)
+        layer = read_layer(source, rules, feedback)
         self.steps.check_cancelled()
-        tell(layer, bool(self.parameters.get(left_out)), feedback)
+        tell(layer, bool(self.parameters.get(f"{name}_LEFT_OUT")), feedback)
         return layer
 
-    def _check_complete(self, right: BoxLayer) -> None:
+    def _check_complete(self, right: Layer) -> None:
         """Stops where a base feature would be said to have no partner and it isn't known."""
         if right.left_out and self.keeps_lonely and self.incomplete == INCOMPLETE_STOPS:
             raise QgsProcessingException(
@@ -187,7 +189,7 @@ class _Join:
                 "partner of a base feature without one. Discard base features without a partner, "
                 "or keep them, marked in the field known.")
 
-    def _join(self, folder: Path, left: BoxLayer, right: BoxLayer) -> Dict[int, List[Partner]]:
+    def _join(self, folder: Path, left: Layer, right: Layer) -> Dict[int, List[Partner]]:
         feedback = self.steps.begin(f"Joining by {self.relation}")
         given = self.algorithm.given_decimals(self.parameters, self.context)
         decimals = common_decimals([left, right], given, feedback)
@@ -198,10 +200,11 @@ class _Join:
         workers = self.algorithm.parameterAsInt(self.parameters, WORKERS, self.context)
         report = folder / "report.csv"
         program.run(["join", *map(str, paths), f"--relation={self.relation}",
-                     "--workers", str(workers)], report, feedback.isCanceled)
+                     *format_words([left, right], decimals), "--workers", str(workers)],
+                    report, feedback.isCanceled)
         return _partners(report)
 
-    def _write(self, left: BoxLayer, right: BoxLayer, partners: Dict[int, List[Partner]]
+    def _write(self, left: Layer, right: Layer, partners: Dict[int, List[Partner]]
                ) -> Dict[str, Any]:
         feedback = self.steps.begin("Writing the output")
         added = JoinFields(left, right, self.relation, self.others == Others.ENVELOPE,
@@ -258,7 +261,7 @@ def _common_system(left: QgsProcessingFeatureSource, right: QgsProcessingFeature
     if one.isValid() and other.isValid() and one != other:
         raise QgsProcessingException(
             f"The layers have the reference systems {one.authid()} and {other.authid()}. "
-            "Reproject the join layer first: rectangles need not be any after it.")
+            "Reproject the join layer first, and give the number of decimals to round to.")
     system = one if one.isValid() else other
     if one.isValid() != other.isValid():
         feedback.pushWarning("One layer has no reference system; that of the other is taken: "
@@ -311,7 +314,7 @@ def _id_field(fields: QgsFields, name: str, title: str) -> QgsField:
     return field
 
 
-def _ids(layer: BoxLayer, fields: QgsFields, name: str) -> List[Any]:
+def _ids(layer: Layer, fields: QgsFields, name: str) -> List[Any]:
     if not name:
         return [feature.id() for feature in layer.features]
     (place,) = _places(fields, [name])

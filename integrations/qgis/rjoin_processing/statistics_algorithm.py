@@ -13,14 +13,17 @@ from qgis.core import (
 )
 
 from . import program
-from .algorithm import COMMON_HELP, OTHERS, RjoinAlgorithm, Steps, check_program, faults_shown
-from .layers import Others, common_decimals, read_layer, tell, write_layer
+from .algorithm import COMMON_HELP, RjoinAlgorithm, Steps, check_program, faults_shown
+from .layers import common_decimals, format_words, read_layer, tell, write_layer
 
 COUNTS = {
     "features": "Number of features",
     "points": "Number of points",
     "segments": "Number of segments",
     "rectangles": "Number of rectangles",
+    "lines": "Number of lines",
+    "areas": "Number of polygons",
+    "vertices": "Number of vertices",
     "height": "Height of the layer's R-tree",
 }
 
@@ -35,12 +38,13 @@ class LayerStatistics(RjoinAlgorithm):
         return "Layer statistics"
 
     def tags(self) -> List[str]:
-        return ["count", "statistics", "check", "points", "segments", "rectangles"]
+        return ["count", "statistics", "check", "points", "lines", "polygons", "rectangles"]
 
     def shortHelpString(self) -> str:  # noqa: N802 - the name is QGIS's
-        return """<p>Counts the points, axis-parallel segments and rectangles of a layer, and \
-tells the height of its R-tree and the decimals of its coordinates. With <i>Leave them out and \
-list them</i> it tells which features rjoin can't read, and why.</p>""" + COMMON_HELP
+        return """<p>Counts the points, axis-parallel segments and rectangles of a layer that has \
+no other geometries, else the points, lines, polygons and vertices, and reports the height of the \
+layer's R-tree and the decimals of its coordinates. With <i>Leave them out and list them</i> it \
+lists the features that rjoin can't read, and why.</p>""" + COMMON_HELP
 
     def initAlgorithm(self, _configuration: Any = None) -> None:  # noqa: N802
         self.addParameter(QgsProcessingParameterFeatureSource(
@@ -63,15 +67,15 @@ list them</i> it tells which features rjoin can't read, and why.</p>""" + COMMON
         check_program(steps.feedback)
         source = self.source_of(parameters, "INPUT", context)
         feedback = steps.begin(f"Reading {source.sourceName()}")
-        layer = read_layer(source, Others(self.parameterAsEnum(parameters, OTHERS, context)),
-                           feedback)
+        layer = read_layer(source, self.rules_of(parameters, "INPUT", context), feedback)
         steps.check_cancelled()
         tell(layer, bool(parameters.get("LEFT_OUT")), feedback)
         feedback = steps.begin("Counting")
         decimals = common_decimals([layer], self.given_decimals(parameters, context), feedback)
         path, answer = folder / "layer.csv", folder / "statistics"
         write_layer(path, layer, decimals)
-        program.run(["stats", str(path)], answer, feedback.isCanceled)
+        program.run(["stats", str(path), *format_words([layer], decimals)], answer,
+                    feedback.isCanceled)
         results: Dict[str, Any] = {"DECIMALS_FOUND": decimals,
                                    "LEFT_OUT_COUNT": len(layer.left_out)}
         for line in answer.read_text(encoding="ascii").splitlines():

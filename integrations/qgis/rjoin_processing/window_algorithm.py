@@ -2,7 +2,7 @@
 from __future__ import annotations
 
 from pathlib import Path
-from typing import Any, Dict, Iterator, List, NamedTuple, Set
+from typing import Any, Dict, Iterator, List, Set
 
 from qgis.core import (
     QgsFeature,
@@ -22,7 +22,6 @@ from . import decimals as units
 from . import program
 from .algorithm import (
     COMMON_HELP,
-    OTHERS,
     RjoinAlgorithm,
     Steps,
     check_program,
@@ -30,16 +29,17 @@ from .algorithm import (
     with_fields,
 )
 from .answers import exact_field
-from .layers import BoxLayer, Others, common_decimals, read_layer, tell, write_layer, wkt
-
-
-class Window(NamedTuple):
-    """A closed rectangle in units of the last decimal."""
-
-    west: int
-    south: int
-    east: int
-    north: int
+from .boxes import Box
+from .layers import (
+    Layer,
+    Others,
+    common_decimals,
+    format_words,
+    read_layer,
+    tell,
+    wkt,
+    write_layer,
+)
 
 
 class FeaturesInWindow(RjoinAlgorithm):
@@ -58,8 +58,9 @@ class FeaturesInWindow(RjoinAlgorithm):
         return """<p>Extracts the features that share a point with a rectangle, its sides \
 included, as rjoin does, whose answer is proved.</p>
 <p>The window is in the reference system of the layer. A window that was drawn on the map has \
-more decimals than the layer has: it is then narrowed to the layer's decimals, which leaves the \
-same features in it.</p>""" + COMMON_HELP
+more decimals than the layer has. For points, axis-parallel segments and rectangles alone it is \
+narrowed to the layer's decimals, which leaves the same features in it; else it is rounded to as \
+many decimals as rjoin can read, and the log says so.</p>""" + COMMON_HELP
 
     def initAlgorithm(self, _configuration: Any = None) -> None:  # noqa: N802
         self.addParameter(QgsProcessingParameterFeatureSource(
@@ -82,15 +83,14 @@ same features in it.</p>""" + COMMON_HELP
         source = self.source_of(parameters, "INPUT", context)
         extent = self._extent(parameters, context, source)
         feedback = steps.begin(f"Reading {source.sourceName()}")
-        others = Others(self.parameterAsEnum(parameters, OTHERS, context))
-        layer = read_layer(source, others, feedback)
+        rules = self.rules_of(parameters, "INPUT", context)
+        layer = read_layer(source, rules, feedback)
         steps.check_cancelled()
         tell(layer, bool(parameters.get("LEFT_OUT")), feedback)
         feedback = steps.begin("Searching the window")
-        decimals = common_decimals([layer], self.given_decimals(parameters, context), feedback)
-        found = _search(folder, layer, extent, decimals, feedback)
+        found = _search(folder, layer, extent, feedback)
         feedback = steps.begin("Writing the output")
-        envelopes = others == Others.ENVELOPE
+        envelopes = rules.others == Others.ENVELOPE
         if envelopes:
             feedback.pushInfo("Features that rest on an envelope, where the field exact is false: "
                               f"{len(found & layer.envelopes)} of {len(found)}")
@@ -115,33 +115,56 @@ same features in it.</p>""" + COMMON_HELP
         return extent
 
 
-def _search(folder: Path, layer: BoxLayer, extent: QgsRectangle, decimals: int,
-            feedback: QgsProcessingFeedback) -> Set[int]:
+def _search(folder: Path, layer: Layer, extent: QgsRectangle, feedback: QgsProcessingFeedback
+            ) -> Set[int]:
     """The numbers of the features that meet the window."""
-    window = _narrowed(extent, decimals)
+    bounds = Box(extent.xMinimum(), extent.yMinimum(), extent.xMaximum(), extent.yMaximum())
+    decimals = common_decimals([layer], layer.rules.decimals, feedback)
+    try:
+        units.check_limit(bounds, decimals)
+    except units.CoordinateError as fault:
+        raise QgsProcessingException(f"Window: coordinate {fault}") from fault
+    if layer.has_shapes:
+        decimals = _window_decimals(layer, bounds, decimals, feedback)
+    else:
+        bounds = _narrowed(bounds, decimals)
     path, answer = folder / "layer.csv", folder / "window.csv"
     write_layer(path, layer, decimals)
     feedback.setProgress(50)
-    program.run(["window", str(path), wkt(*window)], answer, feedback.isCanceled)
+    program.run(["window", str(path), wkt(bounds, decimals), *format_words([layer], decimals)],
+                answer, feedback.isCanceled)
     with open(answer, encoding="ascii") as file:
         next(file)
         return set(map(int, file))
 
 
-def _narrowed(extent: QgsRectangle, decimals: int) -> Window:
-    """The largest window of whole units within the extent.
+def _window_decimals(layer: Layer, bounds: Box, least: int, feedback: QgsProcessingFeedback) -> int:
+    """The decimals for a window over any geometries, which are those of the layer if these are
+    rounded, else the fewest that write the window exactly, else the most there may be."""
+    decimals = least
+    if layer.rules.decimals is None:
+        most = min(units.most_decimals(bounds), units.most_decimals(layer.coordinates))
+        while decimals < most and _is_rounded(bounds, decimals):
+            decimals += 1
+    if _is_rounded(bounds, decimals):
+        feedback.pushWarning(f"The window is rounded to {decimals} decimals")
+    return decimals
 
-    A box of whole units meets the extent exactly where it meets this window, unless no whole unit
+
+def _is_rounded(bounds: Box, decimals: int) -> bool:
+    return next(units.rounded_places(bounds, decimals), None) is not None
+
+
+def _narrowed(bounds: Box, decimals: int) -> Box:
+    """The largest window of whole units within the bounds.
+
+    A box of whole units meets the bounds exactly where it meets this window, unless no whole unit
     lies within.
     """
-    bounds = extent.xMinimum(), extent.yMinimum(), extent.xMaximum(), extent.yMaximum()
-    try:
-        units.check_limit(bounds, decimals)
-    except units.CoordinateError as fault:
-        raise QgsProcessingException(f"Window: coordinate {fault}") from fault
     west, south, east, north = bounds
-    window = Window(_up(west, decimals), _up(south, decimals),
-                    _down(east, decimals), _down(north, decimals))
+    power = 10**decimals
+    window = Box(_up(west, decimals) / power, _up(south, decimals) / power,
+                 _down(east, decimals) / power, _down(north, decimals) / power)
     if window.west > window.east or window.south > window.north:
         raise QgsProcessingException("The window is narrower than a unit of the last decimal "
                                      f"(decimals: {decimals}); give more decimals")
@@ -160,7 +183,7 @@ def _down(value: float, decimals: int) -> int:
     return -_up(-value, decimals)
 
 
-def _chosen(layer: BoxLayer, numbers: Set[int], has_exact: bool) -> Iterator[QgsFeature]:
+def _chosen(layer: Layer, numbers: Set[int], has_exact: bool) -> Iterator[QgsFeature]:
     """The features with these numbers, perhaps with a field that says which are no envelope."""
     for number, feature in enumerate(layer.features):
         if number in numbers:
