@@ -3,10 +3,11 @@
     klayout -b -r integrations/klayout/join.py -rd file=chip.gds -rd left=1/0 -rd right=2/0 \\
         -rd relation=overlaps -rd output=pairs.lyrdb
 
-`-rd others=envelope` takes the bounding boxes of shapes that aren't boxes, `others=skip` lists
-them in a category of their own; without it the first one ends the run. `-rd merged=1` merges the
-shapes of each layer first. `-rd cell=NAME` takes another cell than the top cell. It prints the
-number of items of each category, and of pairs that rest on a bounding box.
+`-rd others=envelope` takes the bounding boxes of shapes that rjoin doesn't read, `others=skip`
+lists them in a category of their own; without it the first one ends the run. Texts are listed in
+any case. `-rd merged=1` merges the shapes of each layer first. `-rd cell=NAME` takes another cell
+than the top cell. It prints the number of items of each category, and of pairs that rest on a
+bounding box.
 """
 from __future__ import annotations
 

@@ -16,15 +16,23 @@ HOLLOW, FINE_DOTS = 1, 5
 LAYER_COLOUR, LEFT_COLOUR, RIGHT_COLOUR = 0xA8B8C8, 0x1F5FA0, 0xE07000
 
 
-def boxes(database: pya.ReportDatabase, category: str) -> Iterator[Tuple[int, pya.DBox]]:
-    """The bounds of each item's left and right shape, with the colour of its side."""
+def figure(value: pya.RdbItemValue) -> pya.DBox | pya.DEdge | pya.DPolygon | pya.DPath | None:
+    """The figure that a value is, if it is one."""
+    for is_one, of in ((value.is_box(), value.box), (value.is_edge(), value.edge),
+                       (value.is_polygon(), value.polygon), (value.is_path(), value.path)):
+        if is_one:
+            return of()
+    return None
+
+
+def figures(database: pya.ReportDatabase, category: str) -> Iterator[Tuple[int, object]]:
+    """Each item's left and right shape, with the colour of its side."""
     for item in database.each_item():
         path = database.category_by_id(item.category_id()).path()
         if category and category not in path:
             continue
-        values = [value for value in item.each_value() if value.is_box() or value.is_edge()]
-        for value, colour in zip(values, (LEFT_COLOUR, RIGHT_COLOUR)):
-            yield colour, value.box() if value.is_box() else value.edge().bbox()
+        shown = [found for found in map(figure, item.each_value()) if found is not None]
+        yield from zip((LEFT_COLOUR, RIGHT_COLOUR), shown)
 
 
 def paint_layers(view: pya.LayoutView) -> None:
@@ -48,9 +56,9 @@ def draw(file: str, pairs: str, category: str, output: str) -> None:
     database = pya.ReportDatabase("pairs")
     database.load(pairs)
     markers = []
-    for colour, box in boxes(database, category):
+    for colour, shape in figures(database, category):
         marker = pya.Marker(view)
-        marker.set(box)
+        marker.set(shape)
         marker.color = colour
         marker.line_width = 2
         marker.dither_pattern = FINE_DOTS if colour == LEFT_COLOUR else HOLLOW

@@ -1,13 +1,15 @@
-"""Joins layers inside one KLayout in batch mode, and asks KLayout itself of each pair of boxes.
+"""Joins layers inside one KLayout in batch mode, and asks KLayout itself of each pair of shapes.
 
 `folder` (-rd) has the file `requests`, a JSON list with `layout`, `left`, `right`, `relation`,
 perhaps `others`, `merged` and `asked`. It gets a report database for each and the file `answers`:
-`error`, `database`, and in `asked` the pairs of boxes that stand in the relation by KLayout's own
-methods.
+`error`, `database`, and in `asked` the pairs of shapes that stand in the relation by KLayout's own
+methods, of regions for the layout `angled`, of boxes for the others.
 """
 from __future__ import annotations
 
 import json
+import math
+import random
 import sys
 from pathlib import Path
 from typing import Any, Dict, List, Tuple
@@ -39,7 +41,7 @@ def chip() -> pya.Layout:
 
 
 def others() -> pya.Layout:
-    """A box, and shapes that aren't boxes, edges or points."""
+    """A box, shapes that are no boxes, a text, and a shape that isn't read."""
     layout = pya.Layout()
     top, cell = layout.create_cell("TOP"), layout.create_cell("CELL")
     top.shapes(layout.layer(1, 0)).insert(pya.Box(0, 0, 100, 100))
@@ -57,6 +59,71 @@ def others() -> pya.Layout:
     cell.shapes(layout.layer(2, 0)).insert(pya.Box(0, 0, 10, 10))
     turned = pya.DCplxTrans(1, 45, False, 0.02, 0.02)
     top.insert(pya.DCellInstArray(cell.cell_index(), turned))
+    extended = top.shapes(layout.layer(3, 0))
+    extended.insert(pya.Path([start, pya.Point(80, 70)], 0, 10, 10))
+    extended.insert(pya.Box(20, 20, 30, 30))
+    return layout
+
+
+def star(source: random.Random) -> pya.Polygon:
+    """A polygon about a centre, whose coordinates are multiples of 100."""
+    count, x, y = source.randint(3, 8), source.randrange(5000), source.randrange(5000)
+    points = []
+    for corner in range(count):
+        turn, length = math.tau * corner / count, source.randint(200, 900)
+        points.append(pya.Point(100 * round((x + length * math.cos(turn)) / 100),
+                                100 * round((y + length * math.sin(turn)) / 100)))
+    return pya.Polygon(points)
+
+
+def bent_path(source: random.Random) -> pya.Path:
+    """A path with a width that goes on in steps of 45 degrees; it may cross itself."""
+    x, y = 100 * source.randrange(50), 100 * source.randrange(50)
+    points = [pya.Point(x, y)]
+    for _ in range(source.randint(1, 4)):
+        across, up = source.choice(((1, 0), (0, 1), (-1, 0), (0, -1), (1, 1), (-1, 1)))
+        length = 100 * source.randint(3, 9)
+        points.append(points[-1] + pya.Vector(across * length, up * length))
+    return pya.Path(points, 200)
+
+
+def angled() -> pya.Layout:
+    """Polygons and paths in any direction, through a cell that is turned and mirrored."""
+    layout, source = pya.Layout(), random.Random(8)
+    top, cell = layout.create_cell("TOP"), layout.create_cell("CELL")
+    for number in (1, 2):
+        index = layout.layer(number, 0)
+        for place in (top, cell):
+            for _ in range(12):
+                place.shapes(index).insert(star(source))
+                place.shapes(index).insert(bent_path(source))
+        top.shapes(index).insert(pya.Box(0, 0, 2000, 1500).moved(900 * number, 700 * number))
+    inner = [pya.Point(1000, 800), pya.Point(1100, 800), pya.Point(1000, 900)]
+    top.shapes(layout.layer(2, 0)).insert(pya.Polygon(inner))
+    for turn, mirrors in ((1, False), (2, True)):
+        top.insert(pya.CellInstArray(cell.cell_index(), pya.Trans(turn, mirrors, 5000, 100)))
+    return layout
+
+
+def folded() -> pya.Layout:
+    """A frame that is one ring with a cut line to its hole, and a path that crosses itself; and
+    boxes in the hole, on the cut line and where the path crosses itself."""
+    layout = pya.Layout()
+    top = layout.create_cell("TOP")
+    frame = pya.Polygon(pya.Box(0, 0, 1000, 1000))
+    frame.insert_hole(pya.Box(400, 400, 600, 600))
+    shapes, boxes_of = top.shapes(layout.layer(1, 0)), top.shapes(layout.layer(2, 0))
+    ring = frame.resolved_holes()
+    shapes.insert(ring)
+    corners = ((0, 2000), (1000, 2000), (1000, 3000), (500, 3000), (500, 1500))
+    shapes.insert(pya.Path([pya.Point(x, y) for x, y in corners], 100))
+    boxes_of.insert(pya.Box(450, 450, 550, 550))
+    boxes_of.insert(pya.Box(480, 1980, 520, 2020))
+    holes = {(400, 400), (400, 600), (600, 400), (600, 600)}
+    for edge in ring.each_edge():  # from the rim to the hole
+        if ((edge.p1.x, edge.p1.y) in holes) < ((edge.p2.x, edge.p2.y) in holes):
+            middle = edge.p1 + (edge.p2 - edge.p1) * 0.5
+            boxes_of.insert(pya.Box(middle, middle).enlarged(20, 20))
     return layout
 
 
@@ -104,6 +171,38 @@ def holds(relation: str, one: pya.Box, other: pya.Box) -> bool:
     return bool(one.overlaps(other) and not one.inside(other) and not other.inside(one))
 
 
+def regions_hold(relation: str, one: pya.Region, other: pya.Region) -> bool:
+    """Whether two areas stand in a relation."""
+    meet, share = (not answer.is_empty() for answer in (
+        one.interacting(other), one.overlapping(other)))
+    is_inside, has_inside = (not answer.is_empty() for answer in (
+        one.inside(other), other.inside(one)))
+    return {"intersects": meet, "touches": meet and not share, "within": is_inside,
+            "covers": has_inside, "overlaps": share and not is_inside and not has_inside}[relation]
+
+
+def areas(layout: pya.Layout, name: str) -> List[pya.Polygon]:
+    """The flattened shapes of a layer."""
+    found = []
+    shapes = layout.top_cell().begin_shapes_rec(layer_index(layout, name))
+    while not shapes.at_end():
+        found.append(shapes.shape().polygon.transformed(shapes.trans()))
+        shapes.next()
+    return found
+
+
+def text_of(area: pya.Polygon, dbu: float) -> str:
+    return str((area.bbox() if area.is_box() else area).to_dtype(dbu))
+
+
+def asked_of_regions(layout: pya.Layout, request: Dict[str, Any]) -> List[Tuple[str, str]]:
+    """The pairs of areas by KLayout's own answers."""
+    right = [(area, pya.Region(area)) for area in areas(layout, request["right"])]
+    return [(text_of(one, layout.dbu), text_of(other, layout.dbu))
+            for one in areas(layout, request["left"]) for other, region in right
+            if regions_hold(request["relation"], pya.Region(one), region)]
+
+
 def boxes(layout: pya.Layout, name: str) -> List[pya.Box]:
     """The bounds of the flattened shapes of a layer."""
     found = []
@@ -130,13 +229,15 @@ def answer(layout: pya.Layout, request: Dict[str, Any], path: Path) -> Dict[str,
         join_layers(layout, layout.top_cell(), words).save(str(path))
     except (JoinError, ProgramError) as fault:
         return {"error": str(fault)}
+    ask = asked_of_regions if request["layout"] == "angled" else asked
     return {"error": None, "database": str(path),
-            "asked": asked(layout, request) if request.get("asked") else []}
+            "asked": ask(layout, request) if request.get("asked") else []}
 
 
 def main(folder: Path) -> None:
     """Works the requests off."""
-    layouts = {"chip": chip(), "others": others(), "town": town(), "metal": metal()}
+    layouts = {"chip": chip(), "others": others(), "town": town(), "metal": metal(),
+               "angled": angled(), "folded": folded()}
     requests = json.loads((folder / "requests").read_text(encoding="utf-8"))
     answers = [answer(layouts[request["layout"]], request, folder / f"{number}.lyrdb")
                for number, request in enumerate(requests)]

@@ -17,7 +17,7 @@ CHOICES = {
 
 
 class JoinDialog(pya.QDialog):
-    """Asks for two layers, a relation, what to do with other shapes, and whether to merge."""
+    """Asks for two layers, a relation, the treatment of other shapes, and whether to merge."""
 
     def __init__(self, parent: pya.QWidget, layers: Sequence[str]) -> None:
         super().__init__(parent)
@@ -28,7 +28,7 @@ class JoinDialog(pya.QDialog):
         self.right.currentIndex = min(1, len(layers) - 1)
         self.relation = self._choice("Relation, or a mask of nine letters", RELATIONS)
         self.relation.editable = True
-        self.others = self._choice("Shapes that aren't boxes", list(CHOICES))
+        self.others = self._choice("Shapes that rjoin doesn't read", list(CHOICES))
         self.merged = pya.QCheckBox("Merge the shapes of each layer first", self)
         self.merged.toolTip = "Else each shape counts as it is drawn: of metal that is cut up, " \
             "each piece by itself"

@@ -10,7 +10,16 @@ from typing import Dict, Iterator, List, NamedTuple, Optional, Set
 import pya
 
 from . import program
-from .boxes import NotABox, box_of, box_of_polygon, envelope_of, has_area
+from .shapes import (
+    Figure,
+    Geometry,
+    NotRead,
+    envelope_of,
+    geometry_of,
+    geometry_of_merged,
+    has_area,
+    merged_areas,
+)
 
 RELATIONS = ("intersects", "touches", "crosses", "within", "contains", "overlaps", "equals",
              "covers", "covered_by", "contains_properly")
@@ -27,8 +36,8 @@ class Request(NamedTuple):
     """What is to be joined.
 
     A layer is named as KLayout names it: `1/0`, `METAL`, `METAL (1/0)`. The relation is a name
-    or a mask of nine letters. `others` says what to do with shapes that aren't boxes. `merged` has
-    the shapes of each layer merged first, so that it doesn't matter how an area is drawn.
+    or a mask of nine letters. `others` is the treatment of shapes that rjoin doesn't read. `merged`
+    has the shapes of each layer merged first, so that it doesn't matter how an area is drawn.
     """
 
     left: str
@@ -44,7 +53,7 @@ class Request(NamedTuple):
 class Placed(NamedTuple):
     """A shape as it lies in the top cell, and where it comes from, unless it is a merged one."""
 
-    box: pya.Box
+    geometry: Geometry
     cell: str
     trans: Optional[pya.ICplxTrans]
 
@@ -69,7 +78,7 @@ class Pair(NamedTuple):
 
 
 @dataclass
-class BoxLayer:
+class Layer:
     """The flattened shapes of a layer; the number of one is its place in `shapes`.
 
     `envelopes` has the numbers of those whose bounding box stands in for them.
@@ -79,6 +88,9 @@ class BoxLayer:
     shapes: List[Placed] = field(default_factory=list)
     left_out: List[LeftOut] = field(default_factory=list)
     envelopes: Set[int] = field(default_factory=set)
+
+    def has_boxes_alone(self) -> bool:
+        return all(placed.geometry.is_box() for placed in self.shapes)
 
 
 def join_layers(layout: pya.Layout, cell: pya.Cell, request: Request) -> pya.ReportDatabase:
@@ -97,16 +109,18 @@ def join_layers(layout: pya.Layout, cell: pya.Cell, request: Request) -> pya.Rep
         for path, layer in zip(paths, (left, right)):
             write_layer(path, layer)
         report = folder / "report.csv"
-        program.run(["join", *map(str, paths), f"--relation={request.relation}"], report)
+        words = ["join", *map(str, paths), f"--relation={request.relation}"]
+        if not (left.has_boxes_alone() and right.has_boxes_alone()):
+            words += ["--geometry", "any", "--rings", "even-odd"]
+        program.run(words, report)
         return _Report(layout, cell, request, left, right).of(_pairs(report))
 
 
 def read_layer(layout: pya.Layout, cell: pya.Cell, name: str, others: str, merged: bool
-               ) -> BoxLayer:
+               ) -> Layer:
     """The shapes of a layer below a cell, through all instances and arrays of them."""
-    layer = BoxLayer(name)
+    layer = Layer(name)
     areas = pya.Region()
-    areas.min_coherence = True  # what meets at a corner alone stays apart
     iterator = cell.begin_shapes_rec(layer_index(layout, name))
     while not iterator.at_end():
         shape, trans = iterator.shape(), iterator.trans()
@@ -115,33 +129,33 @@ def read_layer(layout: pya.Layout, cell: pya.Cell, name: str, others: str, merge
         else:
             _add(layer, shape, iterator.cell().name, trans, others)
         iterator.next()
-    for polygon in areas.merged().each():
-        _add_merged(layer, polygon, cell.name, others)
+    for polygon in merged_areas(areas):
+        _add_merged(layer, polygon, cell.name)
     return layer
 
 
-def _add(layer: BoxLayer, shape: pya.Shape, cell: str, trans: pya.ICplxTrans, others: str) -> None:
+def _add(layer: Layer, shape: pya.Shape, cell: str, trans: pya.ICplxTrans, others: str) -> None:
+    if shape.is_text():
+        point = Geometry(envelope_of(shape, trans))
+        layer.left_out.append(LeftOut(Placed(point, cell, trans), "a text"))
+        return
     try:
-        layer.shapes.append(Placed(box_of(shape, trans), cell, trans))
-    except NotABox as reason:
-        placed = Placed(envelope_of(shape, trans), cell, trans)
+        layer.shapes.append(Placed(geometry_of(shape, trans), cell, trans))
+    except NotRead as reason:
+        placed = Placed(Geometry(envelope_of(shape, trans)), cell, trans)
         _add_other(layer, placed, f"{reason}: {shape}", str(reason), others)
 
 
-def _add_merged(layer: BoxLayer, polygon: pya.Polygon, cell: str, others: str) -> None:
-    try:
-        layer.shapes.append(Placed(box_of_polygon(polygon, pya.ICplxTrans()), cell, None))
-    except NotABox as reason:
-        placed = Placed(polygon.bbox(), cell, None)
-        _add_other(layer, placed, f"{reason}, once merged: {polygon}", str(reason), others)
+def _add_merged(layer: Layer, polygon: pya.Polygon, cell: str) -> None:
+    layer.shapes.append(Placed(geometry_of_merged(polygon), cell, None))
 
 
-def _add_other(layer: BoxLayer, placed: Placed, told: str, reason: str, others: str) -> None:
+def _add_other(layer: Layer, placed: Placed, told: str, reason: str, others: str) -> None:
     """Takes the bounding box of a shape, or leaves it out, or ends the run."""
     if others == ERROR:
-        raise JoinError(f"layer {layer.name}, cell {placed.cell}: not a box, edge or point, but "
-                        f"{told}. Choose to take bounding boxes, or to leave such shapes out.")
-    if others == ENVELOPE and not placed.box.empty():
+        raise JoinError(f"layer {layer.name}, cell {placed.cell}: not a shape that rjoin reads, "
+                        f"but {told}. Choose to take bounding boxes, or to leave such shapes out.")
+    if others == ENVELOPE and not placed.geometry.bbox().empty():
         layer.envelopes.add(len(layer.shapes))
         layer.shapes.append(placed)
     else:
@@ -167,22 +181,12 @@ def layer_names(layout: pya.Layout) -> List[str]:
     return [str(info) for info in sorted(infos, key=lambda i: (i.layer, i.datatype, i.name))]
 
 
-def write_layer(path: Path, layer: BoxLayer) -> None:
-    """Writes the boxes in database units, with their numbers as ids."""
+def write_layer(path: Path, layer: Layer) -> None:
+    """Writes the geometries in database units, with their numbers as ids."""
     with open(path, "w", encoding="ascii", newline="\n") as file:
         file.write("id,wkt\n")
         for number, placed in enumerate(layer.shapes):
-            file.write(f'{number},"{wkt(placed.box)}"\n')
-
-
-def wkt(box: pya.Box) -> str:
-    """The well-known text of a box."""
-    x1, y1, x2, y2 = box.left, box.bottom, box.right, box.top
-    if x1 != x2 and y1 != y2:
-        return f"POLYGON(({x1} {y1},{x2} {y1},{x2} {y2},{x1} {y2},{x1} {y1}))"
-    if x1 != x2 or y1 != y2:
-        return f"LINESTRING({x1} {y1},{x2} {y2})"
-    return f"POINT({x1} {y1})"
+            file.write(f'{number},"{placed.geometry.wkt()}"\n')
 
 
 def _pairs(report: Path) -> Iterator[Pair]:
@@ -197,8 +201,8 @@ def _pairs(report: Path) -> Iterator[Pair]:
 class _Report:
     """Makes the report database of a join."""
 
-    def __init__(self, layout: pya.Layout, cell: pya.Cell, request: Request, left: BoxLayer,
-                 right: BoxLayer) -> None:
+    def __init__(self, layout: pya.Layout, cell: pya.Cell, request: Request, left: Layer,
+                 right: Layer) -> None:
         self.dbu = layout.dbu
         self.left = left
         self.right = right
@@ -241,8 +245,8 @@ class _Report:
             self.letters[pair.matrix] = category
         item = self.database.create_item(self.cell_id, category)
         left, right = self.left.shapes[pair.left], self.right.shapes[pair.right]
-        item.add_value(self._marker(left.box))
-        item.add_value(self._marker(right.box))
+        item.add_value(self._marker(left.geometry.figure))
+        item.add_value(self._marker(right.geometry.figure))
         item.add_value(f"left: {left.origin()}")
         item.add_value(f"right: {right.origin()}")
         if self.request.others == ENVELOPE:
@@ -251,7 +255,7 @@ class _Report:
             self.counts[exact] += 1
             item.add_value(exact)
 
-    def _add_left_out(self, layer: BoxLayer) -> None:
+    def _add_left_out(self, layer: Layer) -> None:
         if not layer.left_out:
             return
         parent = self.database.create_category(f"left out of layer {layer.name}")
@@ -261,12 +265,14 @@ class _Report:
                 category = self.database.create_category(parent, gone.reason)
                 reasons[gone.reason] = category.rdb_id()
             item = self.database.create_item(self.cell_id, reasons[gone.reason])
-            item.add_value(self._marker(gone.placed.box))
+            item.add_value(self._marker(gone.placed.geometry.figure))
             item.add_value(gone.placed.origin())
 
-    def _marker(self, box: pya.Box) -> object:
+    def _marker(self, figure: Figure) -> object:
         """What the marker browser draws: a line for a segment, in micrometres."""
-        scaled = box.to_dtype(self.dbu)
-        if (box.width() == 0) != (box.height() == 0):
+        scaled = figure.to_dtype(self.dbu)
+        if isinstance(figure, pya.Box) and (figure.width() == 0) != (figure.height() == 0):
             return pya.DEdge(scaled.p1, scaled.p2)
-        return scaled
+        if isinstance(figure, pya.Path) and figure.num_points() == 2:
+            return pya.DEdge(*scaled.each_point())
+        return pya.RdbItemValue(scaled)

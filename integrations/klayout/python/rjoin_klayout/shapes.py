@@ -1,0 +1,150 @@
+"""The geometry of a shape of a layout, in database units of the top cell, as rjoin reads it."""
+from __future__ import annotations
+
+from typing import Iterator, List, NamedTuple, Tuple, Union
+
+import pya
+
+TRIANGLE = 3
+Figure = Union[pya.Box, pya.Path, pya.Polygon]
+
+
+class NotRead(ValueError):
+    """rjoin doesn't read the shape; the text says why."""
+
+
+class Geometry(NamedTuple):
+    """The figure that is shown for a shape, and the areas of one that is no box.
+
+    A box may be a point or a segment along an axis. A path has no width: it is any other line. The
+    areas of a polygon are itself, unless KLayout makes others of it.
+    """
+
+    figure: Figure
+    areas: Tuple[pya.Polygon, ...] = ()
+
+    def is_box(self) -> bool:
+        return isinstance(self.figure, pya.Box)
+
+    def bbox(self) -> pya.Box:
+        return self.figure if self.is_box() else self.figure.bbox()
+
+    def wkt(self) -> str:
+        """The well-known text, in database units."""
+        if self.is_box():
+            return _box_text(self.figure)
+        if isinstance(self.figure, pya.Path):
+            return f"LINESTRING{_list(self.figure.each_point())}"
+        return f"MULTIPOLYGON({','.join(map(_area_text, self.areas))})"
+
+
+def geometry_of(shape: pya.Shape, trans: pya.ICplxTrans) -> Geometry:
+    """The geometry of a shape below a transformation; raises NotRead where rjoin reads none."""
+    if shape.is_box() and trans.is_ortho():
+        return Geometry(shape.box.transformed(trans))
+    if shape.is_path() and shape.path_width == 0:
+        return _path(shape.path, trans)
+    if is_area(shape):
+        return _polygon(shape.polygon.transformed(trans))
+    if shape.is_edge():
+        return _line([shape.edge.p1, shape.edge.p2], trans)
+    if shape.is_point():
+        point = trans.trans(shape.point)
+        return Geometry(pya.Box(point, point))
+    raise NotRead("another kind of shape")
+
+
+def _polygon(polygon: pya.Polygon) -> Geometry:
+    whole = polygon.dup()
+    whole.compress(False)
+    if whole.is_box():
+        return Geometry(whole.bbox())
+    areas = areas_of(polygon)
+    if not areas:
+        raise NotRead("a polygon without an area")
+    return Geometry(polygon, tuple(areas))
+
+
+def geometry_of_merged(polygon: pya.Polygon) -> Geometry:
+    """The geometry of a merged area."""
+    return Geometry(polygon.bbox()) if polygon.is_box() else Geometry(polygon, (polygon,))
+
+
+def areas_of(polygon: pya.Polygon) -> List[pya.Polygon]:
+    """The polygon alone, unless KLayout makes others of it: where it overlaps itself, and where
+    cut lines lead to its holes."""
+    if polygon.num_points() == TRIANGLE:
+        return [polygon] if polygon.area() > 0 else []
+    merged = merged_areas(pya.Region(polygon))
+    is_same = len(merged) == 1 and (
+        merged[0].area() == polygon.area() and merged[0].holes() == polygon.holes())
+    return [polygon] if is_same else merged
+
+
+def merged_areas(region: pya.Region) -> List[pya.Polygon]:
+    """The merged areas of a region; those that meet at a corner alone stay apart."""
+    region.min_coherence = True
+    return list(region.merged().each())
+
+
+def envelope_of(shape: pya.Shape, trans: pya.ICplxTrans) -> pya.Box:
+    """The bounding box of a shape below a transformation."""
+    if is_area(shape):
+        polygon = shape.polygon.transformed(trans)
+        if polygon.num_points() > 0:
+            return polygon.bbox()
+    return shape.bbox().transformed(trans)
+
+
+def is_area(shape: pya.Shape) -> bool:
+    """Whether the shape is of a kind that covers an area."""
+    return bool(shape.is_box() or shape.is_polygon() or shape.is_simple_polygon()
+                or shape.is_path())
+
+
+def has_area(shape: pya.Shape) -> bool:
+    """Whether the shape covers an area, so that it can be merged with others."""
+    return is_area(shape) and bool(shape.polygon.area() > 0)
+
+
+def _path(path: pya.Path, trans: pya.ICplxTrans) -> Geometry:
+    if path.bgn_ext != 0 or path.end_ext != 0:
+        raise NotRead("a path without a width, with extended ends")
+    return _line(list(path.each_point()), trans)
+
+
+def _line(points: List[pya.Point], trans: pya.ICplxTrans) -> Geometry:
+    """The segment or point that a walk along the points is, where it is along an axis and never
+    goes back, else the line."""
+    ends = [trans.trans(point) for point in points]
+    box = pya.Box(ends[0], ends[-1])
+    steps = [after - before for before, after in zip(ends, ends[1:])]
+    length = sum(abs(step.x) + abs(step.y) for step in steps)
+    if length == box.width() + box.height() and 0 in (box.width(), box.height()):
+        return Geometry(box)
+    return Geometry(pya.Path(ends, 0))
+
+
+def _box_text(box: pya.Box) -> str:
+    x1, y1, x2, y2 = box.left, box.bottom, box.right, box.top
+    if x1 != x2 and y1 != y2:
+        return f"POLYGON(({x1} {y1},{x2} {y1},{x2} {y2},{x1} {y2},{x1} {y1}))"
+    if x1 != x2 or y1 != y2:
+        return f"LINESTRING({x1} {y1},{x2} {y2})"
+    return f"POINT({x1} {y1})"
+
+
+def _area_text(polygon: pya.Polygon) -> str:
+    rings = [polygon.each_point_hull(),
+             *(polygon.each_point_hole(hole) for hole in range(polygon.holes()))]
+    return f"({','.join(map(_ring, rings))})"
+
+
+def _ring(points: Iterator[pya.Point]) -> str:
+    """A ring, whose last point is its first."""
+    corners = list(points)
+    return _list(iter([*corners, corners[0]]))
+
+
+def _list(points: Iterator[pya.Point]) -> str:
+    return f"({','.join(f'{point.x} {point.y}' for point in points)})"
