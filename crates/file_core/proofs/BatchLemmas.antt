@@ -1,53 +1,43 @@
--- Rows that are the contents of records in order: adding more of them, and their effect on a layer.
-use Rattle.std.proofs.Common.{◌≡◌, ◌≢◌, ◌∙◌, ◌+◌, ◌<◌, ℕ, Bool, true, false, List, [], ◌∷◌, ◌++◌, All, length, Option, Some, None, Result, Ok, Err, refl, sym, subst, ap, inl, inr, arith, append_assoc}
+-- Rows that are the contents of records in order: adding more of them, and their result.
+use Rattle.std.proofs.Common.{◌≡◌, ◌≢◌, ◌∙◌, ◌+◌, ◌<◌, ◌≤◌, ℕ, Bool, true, false, List, [], ◌∷◌, ◌++◌, All, length, Result, Ok, Err, refl, sym, subst, ap, inl, inr, arith, append_assoc}
 use Rattle.std.proofs.lemmas.List.Elements.{All-nil}
 use Rattle.std.specs.declared.alloc.Global.{Global}
 use Rattle.std.specs.declared.vec.Vec.{Vec}
-use Rattle.format_core.specs.declared.text_fault.TextFault.{TextFault}
 use Rattle.format_core.specs.Formats.{Reading}
 use Rattle.file_core.specs.declared.layer_row.ReadRow.{ReadRow}
 use Rattle.file_core.specs.declared.read_fault.ReadFault.{ReadFault}
 use Rattle.file_core.specs.declared.read_fault.ReadFault.TheVariants.{Io, Memory}
 use Rattle.file_core.specs.declared.rows.Rows.{Rows as RowsOf}
 use Rattle.file_core.specs.declared.unread.Unread.{Unread}
-use Rattle.file_core.specs.declared.unread.Unread.TheVariants.{Rows}
-use Rattle.file_core.specs.Batches.{HasFault, HasId, IsBatch, SayInTurn, after_rows, all_rows, if_given, with_rows}
-use Rattle.file_core.specs.LayerFiles.{LayerRowGives, refused_or, with_row}
-use Rattle.file_core.specs.LayerRows.{RowContent, RowSays, Says, content_of, content_with}
-use Rattle.layer_core.specs.declared.fault.LayerFault.{LayerFault}
-use Rattle.layer_core.specs.Layers.{Contents, inserted}
-use Rattle.layer_core.specs.Refusals.{insert_refusal}
+use Rattle.file_core.specs.declared.unread.Unread.TheVariants.{Rows, Text}
+use Rattle.file_core.specs.Batches.{HasFault, HasId, IsBatch, SayInTurn, after_rows, all_rows, if_loaded, with_rows}
+use Rattle.file_core.specs.LayerRows.{RowContent, RowSays, Says, content_of}
+use Rattle.file_core.specs.SkippedRows.{Loaded, LoadsRow, loaded_with, rows_in}
+use Rattle.file_core.proofs.LoadedLemmas.{loaded_with-next}
 use Rattle.file_core.specs.Records.{Record}
-use Rattle.file_core.specs.Rows.{RowsGive, rows_left}
-use Rattle.file_core.specs.Unread.{count_unread, records_unread}
+use Rattle.file_core.specs.Rows.{RowsGive, most_rows, rows_left}
+use Rattle.file_core.specs.Unread.{IsUnread, count_unread, records_unread}
 
--- ---- the layer with some rows
+-- ---- what was loaded of some rows
 module _ {G : Type 0} where
-  -- a row that is inserted uses a number
-  with_row-next : (n : ℕ) (layer : Contents G) (row : RowContent G) (next : Contents G) → with_row n layer (Ok row) ≡ Ok next → next.next ≡ layer.next + 1
-  with_row-next n layer row next given = by (insert_refusal layer row.id) given
+  pub with_rows-append : (loaded : Loaded G) (a b : List (ReadRow G)) → with_rows loaded (a ++ b) ≡ if_loaded (with_rows loaded a) (λ l. with_rows l b)
+  with_rows-append loaded [] b = refl
+  with_rows-append loaded (row ∷ a) b = by (loaded_with (rows_in loaded + 1) loaded (Ok (content_of row))) (λ l. with_rows-append l a b)
     where
-      by : (fault : Option LayerFault) → refused_or n fault (inserted layer row.id row.shape) ≡ Ok next → next.next ≡ layer.next + 1
-      by (Some fault) is = let none = is in cc
-      by None is = let same : inserted layer row.id row.shape ≡ next = cc in sym (ap (λ l. l.next) same)
-
-  pub with_rows-append : (layer : Contents G) (a b : List (ReadRow G)) → with_rows layer (a ++ b) ≡ if_given (with_rows layer a) (λ l. with_rows l b)
-  with_rows-append layer [] b = refl
-  with_rows-append layer (row ∷ a) b = by (with_row (layer.next + 1) layer (Ok (content_of row))) (λ l. with_rows-append l a b)
-    where
-      by : (w : Result (Contents G) ReadFault) → ((l : Contents G) → with_rows l (a ++ b) ≡ if_given (with_rows l a) (λ l. with_rows l b))
-          → if_given w (λ l. with_rows l (a ++ b)) ≡ if_given (if_given w (λ l. with_rows l a)) (λ l. with_rows l b)
+      by : (w : Result (Loaded G) ReadFault) → ((l : Loaded G) → with_rows l (a ++ b) ≡ if_loaded (with_rows l a) (λ l. with_rows l b))
+          → if_loaded w (λ l. with_rows l (a ++ b)) ≡ if_loaded (if_loaded w (λ l. with_rows l a)) (λ l. with_rows l b)
       by (Ok l) more = more l
       by (Err fault) more = refl
 
-  pub with_rows-next : (layer : Contents G) (rows : List (ReadRow G)) (next : Contents G) → with_rows layer rows ≡ Ok next → next.next ≡ layer.next + length rows
-  with_rows-next layer [] next given = let same : layer ≡ next = cc in omega (arith, ap (λ l. l.next) same)
-  with_rows-next layer (row ∷ rows) next given =
-      by (with_row (layer.next + 1) layer (Ok (content_of row))) refl given (λ l more. with_rows-next l rows next more)
+  pub with_rows-next : (loaded : Loaded G) (rows : List (ReadRow G)) (next : Loaded G) → with_rows loaded rows ≡ Ok next
+      → rows_in next ≡ rows_in loaded + length rows
+  with_rows-next loaded [] next given = let same : loaded ≡ next = cc in omega (arith, ap rows_in same)
+  with_rows-next loaded (row ∷ rows) next given =
+      by (loaded_with (rows_in loaded + 1) loaded (Ok (content_of row))) refl given (λ l more. with_rows-next l rows next more)
     where
-      by : (w : Result (Contents G) ReadFault) → with_row (layer.next + 1) layer (Ok (content_of row)) ≡ w → if_given w (λ l. with_rows l rows) ≡ Ok next
-          → ((l : Contents G) → with_rows l rows ≡ Ok next → next.next ≡ l.next + length rows) → next.next ≡ layer.next + length (row ∷ rows)
-      by (Ok l) is given more = omega (arith, more l given, with_row-next (layer.next + 1) layer (content_of row) l is)
+      by : (w : Result (Loaded G) ReadFault) → loaded_with (rows_in loaded + 1) loaded (Ok (content_of row)) ≡ w → if_loaded w (λ l. with_rows l rows) ≡ Ok next
+          → ((l : Loaded G) → with_rows l rows ≡ Ok next → rows_in next ≡ rows_in l + length rows) → rows_in next ≡ rows_in loaded + length (row ∷ rows)
+      by (Ok l) is given more = omega (arith, more l given, loaded_with-next (rows_in loaded + 1) loaded (content_of row) l is)
       by (Err fault) is given more = let none = given in cc
 
   pub all_rows_append : (a b : List (Vec (ReadRow G) Global)) → all_rows (a ++ b) ≡ all_rows a ++ all_rows b
@@ -63,11 +53,7 @@ module _ {G : Type 0} (reads : Reading G) where
   says-any n (id ∷ []) content says m = let none = says in cc
   says-any n (id ∷ wkt ∷ other ∷ others) content says m = let none = says in cc
   says-any n (id ∷ wkt ∷ []) content (inl (bad, is)) m = let none = is in cc
-  says-any n (id ∷ wkt ∷ []) content (inr (good, (shape, read, is))) m = inr (good, (shape, read, by shape is))
-    where
-      by : (shape : Result G TextFault) → Ok content ≡ content_with n id shape → Ok content ≡ content_with m id shape
-      by (Ok s) is = is
-      by (Err fault) is = let none = is in cc
+  says-any n (id ∷ wkt ∷ []) content (inr (good, says)) m = inr (good, says)
 
   -- one more row
   pub say-push : (records : List Record) (rows : List (ReadRow G)) (first : Record) (row : ReadRow G) (left : List Record)
@@ -95,53 +81,53 @@ module _ {G : Type 0} (reads : Reading G) where
   say-length [] (r ∷ rows) left say = absurd say
   say-length (first ∷ records) (r ∷ rows) left say = omega (arith, say-length records rows left say.1)
 
-  -- ---- what a layer is given
+  -- ---- what the rows give
 
-  -- a layer that accepts these rows, and then the remaining ones
-  pub say-give : (n m : ℕ) (records : List Record) (rows : List (ReadRow G)) (left : List Record) (layer next : Contents G) (answer : Result (Contents G) ReadFault)
-      → SayInTurn reads records rows left → n ≡ layer.next + 1 → n + length rows ≡ m → with_rows layer rows ≡ Ok next
-      → RowsGive (LayerRowGives reads) m next left answer → RowsGive (LayerRowGives reads) n layer records answer
-  say-give n m records [] left layer next answer say at sum given gives =
+  -- these rows are accepted, and then the remaining ones
+  pub say-give : (n m : ℕ) (records : List Record) (rows : List (ReadRow G)) (left : List Record) (loaded next : Loaded G) (answer : Result (Loaded G) ReadFault)
+      → SayInTurn reads records rows left → n ≡ rows_in loaded + 1 → n + length rows ≡ m → with_rows loaded rows ≡ Ok next
+      → RowsGive (LoadsRow reads) m next left answer → RowsGive (LoadsRow reads) n loaded records answer
+  say-give n m records [] left loaded next answer say at sum given gives =
       let same : m ≡ n = omega arith in
-      let layers : next ≡ layer = cc in
-      rw (say, ← same, ← layers) gives
-  say-give n m [] (r ∷ rows) left layer next answer say at sum given gives = absurd say
-  say-give n m (first ∷ records) (r ∷ rows) left layer next answer say at sum given gives =
-      by (with_row n layer (Ok (content_of r))) refl (ap (λ k. if_given (with_row k layer (Ok (content_of r))) (λ l. with_rows l rows)) at ∙ given)
+      let equal : next ≡ loaded = cc in
+      rw (say, ← same, ← equal) gives
+  say-give n m [] (r ∷ rows) left loaded next answer say at sum given gives = absurd say
+  say-give n m (first ∷ records) (r ∷ rows) left loaded next answer say at sum given gives =
+      by (loaded_with n loaded (Ok (content_of r))) refl (ap (λ k. if_loaded (loaded_with k loaded (Ok (content_of r))) (λ l. with_rows l rows)) at ∙ given)
       (λ l is more. say-give (n + 1) m records rows left l next answer say.1
-      (omega (arith, with_row-next n layer (content_of r) l is)) (omega arith) more gives)
+      (omega (arith, loaded_with-next n loaded (content_of r) l is)) (omega arith) more gives)
     where
-      by : (w : Result (Contents G) ReadFault) → with_row n layer (Ok (content_of r)) ≡ w
-          → if_given (with_row n layer (Ok (content_of r))) (λ l. with_rows l rows) ≡ Ok next
-          → ((l : Contents G) → with_row n layer (Ok (content_of r)) ≡ Ok l → with_rows l rows ≡ Ok next
-          → RowsGive (LayerRowGives reads) (n + 1) l records answer)
-          → RowsGive (LayerRowGives reads) n layer (first ∷ records) answer
+      by : (w : Result (Loaded G) ReadFault) → loaded_with n loaded (Ok (content_of r)) ≡ w
+          → if_loaded (loaded_with n loaded (Ok (content_of r))) (λ l. with_rows l rows) ≡ Ok next
+          → ((l : Loaded G) → loaded_with n loaded (Ok (content_of r)) ≡ Ok l → with_rows l rows ≡ Ok next
+          → RowsGive (LoadsRow reads) (n + 1) l records answer)
+          → RowsGive (LoadsRow reads) n loaded (first ∷ records) answer
       by (Ok l) is given later = (Ok l, (Ok (content_of r), say.0 n, sym is), later l is (rw is at given))
       by (Err f) is given later = let none = rw is at given in cc
 
-  -- a layer that refuses one of these rows
-  pub say-refuse : (n : ℕ) (records : List Record) (rows : List (ReadRow G)) (left : List Record) (layer : Contents G) (fault : ReadFault)
-      → SayInTurn reads records rows left → n ≡ layer.next + 1 → with_rows layer rows ≡ Err fault
-      → RowsGive (LayerRowGives reads) n layer records (Err fault)
-  say-refuse n records [] left layer fault say at given = let none = given in cc
-  say-refuse n [] (r ∷ rows) left layer fault say at given = absurd say
-  say-refuse n (first ∷ records) (r ∷ rows) left layer fault say at given =
-      by (with_row n layer (Ok (content_of r))) refl (ap (λ k. if_given (with_row k layer (Ok (content_of r))) (λ l. with_rows l rows)) at ∙ given)
-      (λ l is more. say-refuse (n + 1) records rows left l fault say.1 (omega (arith, with_row-next n layer (content_of r) l is)) more)
+  -- one of these rows is refused
+  pub say-refuse : (n : ℕ) (records : List Record) (rows : List (ReadRow G)) (left : List Record) (loaded : Loaded G) (fault : ReadFault)
+      → SayInTurn reads records rows left → n ≡ rows_in loaded + 1 → with_rows loaded rows ≡ Err fault
+      → RowsGive (LoadsRow reads) n loaded records (Err fault)
+  say-refuse n records [] left loaded fault say at given = let none = given in cc
+  say-refuse n [] (r ∷ rows) left loaded fault say at given = absurd say
+  say-refuse n (first ∷ records) (r ∷ rows) left loaded fault say at given =
+      by (loaded_with n loaded (Ok (content_of r))) refl (ap (λ k. if_loaded (loaded_with k loaded (Ok (content_of r))) (λ l. with_rows l rows)) at ∙ given)
+      (λ l is more. say-refuse (n + 1) records rows left l fault say.1 (omega (arith, loaded_with-next n loaded (content_of r) l is)) more)
     where
-      by : (w : Result (Contents G) ReadFault) → with_row n layer (Ok (content_of r)) ≡ w
-          → if_given (with_row n layer (Ok (content_of r))) (λ l. with_rows l rows) ≡ Err fault
-          → ((l : Contents G) → with_row n layer (Ok (content_of r)) ≡ Ok l → with_rows l rows ≡ Err fault
-          → RowsGive (LayerRowGives reads) (n + 1) l records (Err fault))
-          → RowsGive (LayerRowGives reads) n layer (first ∷ records) (Err fault)
+      by : (w : Result (Loaded G) ReadFault) → loaded_with n loaded (Ok (content_of r)) ≡ w
+          → if_loaded (loaded_with n loaded (Ok (content_of r))) (λ l. with_rows l rows) ≡ Err fault
+          → ((l : Loaded G) → loaded_with n loaded (Ok (content_of r)) ≡ Ok l → with_rows l rows ≡ Err fault
+          → RowsGive (LoadsRow reads) (n + 1) l records (Err fault))
+          → RowsGive (LoadsRow reads) n loaded (first ∷ records) (Err fault)
       by (Ok l) is given later = (Ok l, (Ok (content_of r), say.0 n, sym is), later l is (rw is at given))
       by (Err f) is given later = (Err f, (Ok (content_of r), say.0 n, sym is), sym (rw is at given))
 
   -- a row that has a fault by itself
-  pub fault-gives : (n : ℕ) (records : List Record) (layer : Contents G) (fault : ReadFault) → HasFault reads n records fault
-      → RowsGive (LayerRowGives reads) n layer records (Err fault)
-  fault-gives n [] layer fault has = absurd has
-  fault-gives n (first ∷ records) layer fault has = (Err fault, (Err fault, has, refl), refl)
+  pub fault-gives : (n : ℕ) (records : List Record) (loaded : Loaded G) (fault : ReadFault) → HasFault reads n records fault
+      → RowsGive (LoadsRow reads) n loaded records (Err fault)
+  fault-gives n [] loaded fault has = absurd has
+  fault-gives n (first ∷ records) loaded fault has = (Err fault, (Err fault, has, refl), refl)
 
 -- ---- what ends a batch
 module _ {G : Type 0} (reads : Reading G) (old new : Unread) (read : List (ReadRow G)) (left : List Record)
@@ -175,17 +161,27 @@ batch-begun reads old first new read more rows count batch = record {
   no_io = batch.no_io;
 }
 
+unread-few : (unread : Unread) → IsUnread unread → count_unread unread + length (records_unread unread) ≤ most_rows
+unread-few (Text text count) is = is.1
+unread-few (Rows rows) is = is.few
+
+-- the rows that are read can be numbered
+pub batch-few : {G : Type 0} (reads : Reading G) (old new : Unread) (read : List (ReadRow G)) (more : Result Bool ReadFault) → IsUnread old
+    → IsBatch reads old read more new → count_unread old + length read ≤ most_rows
+batch-few reads old new read more is batch =
+    omega (arith, unread-few old is, say-length reads (records_unread old) read batch.left batch.rows)
+
 -- how many rounds are still to come, at most
 abbrev pub most_rounds : Unread → Result Bool ReadFault → ℕ
 most_rounds unread (Ok true) = length (records_unread unread) + 1
 most_rounds unread (Ok false) = 0
 most_rounds unread (Err fault) = 0
 
--- the effect on a layer of a batch and of what follows it
+-- the result of a batch and of what follows it
 module _ {G : Type 0} (reads : Reading G) where
-  -- the rows that are left give a layer this
-  abbrev pub Gives : Unread → Contents G → Result (Contents G) ReadFault → Type 0
-  Gives unread layer answer = RowsGive (LayerRowGives reads) (count_unread unread + 1) layer (records_unread unread) answer
+  -- the rows that are left give this after those before them
+  abbrev pub Gives : Unread → Loaded G → Result (Loaded G) ReadFault → Type 0
+  Gives unread loaded answer = RowsGive (LoadsRow reads) (count_unread unread + 1) loaded (records_unread unread) answer
 
   module _ (old new : Unread) (read : List (ReadRow G)) where
     pub batch-smaller : (more : Result Bool ReadFault) → IsBatch reads old read more new → most_rounds new more < length (records_unread old) + 1
@@ -194,44 +190,44 @@ module _ {G : Type 0} (reads : Reading G) where
     batch-smaller (Ok false) batch = omega arith
     batch-smaller (Err fault) batch = omega arith
 
-    module _ (layer : Contents G) (at : count_unread old ≡ layer.next) where
+    module _ (loaded : Loaded G) (at : count_unread old ≡ rows_in loaded) where
       pub batch-refuses : (more : Result Bool ReadFault) (fault : ReadFault) → IsBatch reads old read more new
-          → with_rows layer read ≡ Err fault → Gives old layer (Err fault)
+          → with_rows loaded read ≡ Err fault → Gives old loaded (Err fault)
       batch-refuses more fault batch given =
-          say-refuse reads (count_unread old + 1) (records_unread old) read batch.left layer fault batch.rows (omega arith) given
+          say-refuse reads (count_unread old + 1) (records_unread old) read batch.left loaded fault batch.rows (omega arith) given
 
-      module _ (next : Contents G) where
-        pub batch-goes-on : (answer : Result (Contents G) ReadFault) → IsBatch reads old read (Ok true) new → with_rows layer read ≡ Ok next
-            → Gives new next answer → Gives old layer answer
+      module _ (next : Loaded G) where
+        pub batch-goes-on : (answer : Result (Loaded G) ReadFault) → IsBatch reads old read (Ok true) new → with_rows loaded read ≡ Ok next
+            → Gives new next answer → Gives old loaded answer
         batch-goes-on answer batch given gives =
-            say-give reads (count_unread old + 1) (count_unread new + 1) (records_unread old) read batch.left layer next answer batch.rows
+            say-give reads (count_unread old + 1) (count_unread new + 1) (records_unread old) read batch.left loaded next answer batch.rows
             (omega arith) batch.behind.2 given (rw batch.behind.1 gives)
 
-        batch-ends : IsBatch reads old read (Ok false) new → with_rows layer read ≡ Ok next → Gives old layer (Ok next)
+        batch-ends : IsBatch reads old read (Ok false) new → with_rows loaded read ≡ Ok next → Gives old loaded (Ok next)
         batch-ends batch given =
-            say-give reads (count_unread old + 1) (count_unread old + 1 + length read) (records_unread old) read batch.left layer next (Ok next)
+            say-give reads (count_unread old + 1) (count_unread old + 1 + length read) (records_unread old) read batch.left loaded next (Ok next)
             batch.rows (omega arith) refl given (rw batch.behind refl)
 
-        batch-fails : (fault : ReadFault) → IsBatch reads old read (Err fault) new → fault ≢ Memory → with_rows layer read ≡ Ok next
-            → Gives old layer (Err fault)
+        batch-fails : (fault : ReadFault) → IsBatch reads old read (Err fault) new → fault ≢ Memory → with_rows loaded read ≡ Ok next
+            → Gives old loaded (Err fault)
         batch-fails fault batch known given =
-            say-give reads (count_unread old + 1) (count_unread old + 1 + length read) (records_unread old) read batch.left layer next (Err fault)
+            say-give reads (count_unread old + 1) (count_unread old + 1 + length read) (records_unread old) read batch.left loaded next (Err fault)
             batch.rows (omega arith) refl given
             (fault-gives reads (count_unread old + 1 + length read) batch.left next fault (batch.behind known))
 
-        -- the layer has as many features more as rows were read
-        pub batch-counted : IsBatch reads old read (Ok true) new → with_rows layer read ≡ Ok next → count_unread new ≡ next.next
-        batch-counted batch given = omega (arith, with_rows-next layer read next given, batch.behind.2)
+        -- as many rows more were loaded as were read
+        pub batch-counted : IsBatch reads old read (Ok true) new → with_rows loaded read ≡ Ok next → count_unread new ≡ rows_in next
+        batch-counted batch given = omega (arith, with_rows-next loaded read next given, batch.behind.2)
 
       -- the last batch
-      pub batch-last : (more : Result Bool ReadFault) (answer : Result (Contents G) ReadFault) → IsBatch reads old read more new → more ≢ Ok true
-          → answer ≢ Err Memory → answer ≡ if_given (with_rows layer read) (after_rows more) → Gives old layer answer
-      batch-last more answer batch last known is = by (with_rows layer read) refl more batch last is
+      pub batch-last : (more : Result Bool ReadFault) (answer : Result (Loaded G) ReadFault) → IsBatch reads old read more new → more ≢ Ok true
+          → answer ≢ Err Memory → answer ≡ if_loaded (with_rows loaded read) (after_rows more) → Gives old loaded answer
+      batch-last more answer batch last known is = by (with_rows loaded read) refl more batch last is
         where
-          by : (given : Result (Contents G) ReadFault) → with_rows layer read ≡ given → (more : Result Bool ReadFault) → IsBatch reads old read more new
-              → more ≢ Ok true → answer ≡ if_given given (after_rows more) → Gives old layer answer
-          by (Err fault) w more batch last is = subst (Gives old layer) (sym is) (batch-refuses more fault batch w)
+          by : (given : Result (Loaded G) ReadFault) → with_rows loaded read ≡ given → (more : Result Bool ReadFault) → IsBatch reads old read more new
+              → more ≢ Ok true → answer ≡ if_loaded given (after_rows more) → Gives old loaded answer
+          by (Err fault) w more batch last is = subst (Gives old loaded) (sym is) (batch-refuses more fault batch w)
           by (Ok next) w (Ok true) batch last is = absurd (last refl)
-          by (Ok next) w (Ok false) batch last is = subst (Gives old layer) (sym is) (batch-ends next batch w)
+          by (Ok next) w (Ok false) batch last is = subst (Gives old loaded) (sym is) (batch-ends next batch w)
           by (Ok next) w (Err fault) batch last is =
-              subst (Gives old layer) (sym is) (batch-fails next fault batch (λ e. known (is ∙ ap Err e)) w)
+              subst (Gives old loaded) (sym is) (batch-fails next fault batch (λ e. known (is ∙ ap Err e)) w)

@@ -3,5 +3,6 @@ pub mod CutLemmas
 pub mod FieldLemmas
 pub mod HeaderLemmas
 pub mod FileLemmas
+pub mod LoadedLemmas
 pub mod BatchLemmas
 pub mod PartLemmas

@@ -1,5 +1,5 @@
 -- Rows that are read together, and the layer with all of them.
-use Rattle.std.specs.Prelude.{◌≡◌, ◌≢◌, ◌+◌, ◌<◌, ◌++◌, ℕ, Bool, true, false, List, [], ◌∷◌, length}
+use Rattle.std.specs.Prelude.{◌≡◌, ◌≢◌, ◌+◌, ◌<◌, ◌≤◌, ◌++◌, ℕ, Bool, true, false, List, [], ◌∷◌, length}
 use Rattle.std.specs.Prelude.{All}
 use Rattle.std.specs.Prelude.{IsTrue, Result, Ok, Err}
 use Rattle.std.specs.declared.alloc.Global.{Global}
@@ -7,51 +7,57 @@ use Rattle.std.specs.declared.vec.Vec.{Vec}
 use Rattle.format_core.specs.Formats.{Reading}
 use Rattle.file_core.specs.declared.batch.Batch.{Batch}
 use Rattle.file_core.specs.declared.layer_row.ReadRow.{ReadRow}
+use Rattle.file_core.specs.declared.loading.Loading.{Loading}
 use Rattle.file_core.specs.declared.read_fault.ReadFault.{ReadFault}
 use Rattle.file_core.specs.declared.read_fault.ReadFault.TheVariants.{Io, Memory}
 use Rattle.file_core.specs.declared.unread.Unread.{Unread}
-use Rattle.file_core.specs.LayerFiles.{with_row}
 use Rattle.file_core.specs.LayerRows.{RowSays, Says, content_of}
 use Rattle.layer_core.specs.Ids.{id_bytes}
 use Rattle.layer_core.specs.Layers.{Contents}
 use Rattle.file_core.specs.Records.{Record}
 use Rattle.layer_core.specs.Refusals.{is_id}
+use Rattle.file_core.specs.Rows.{most_rows}
+use Rattle.file_core.specs.SkippedRows.{Loaded, loaded_or, loaded_with, rows_in}
 use Rattle.file_core.specs.Unread.{IsUnread, count_unread, records_unread}
 
 -- the length of the row's id is that of an id
 abbrev pub HasId : {G : Type 0} → ReadRow G → Type 0
 HasId row = IsTrue (is_id (id_bytes row.id))
 
--- the consequence for a layer, or the fault
-abbrev pub if_given : {G : Type 0} → Result (Contents G) ReadFault
-    → (Contents G → Result (Contents G) ReadFault) → Result (Contents G) ReadFault
-if_given (Ok layer) next = next layer
-if_given (Err fault) next = Err fault
+-- the consequence of what was loaded, or the fault
+abbrev pub if_loaded : {G : Type 0} → Result (Loaded G) ReadFault
+    → (Loaded G → Result (Loaded G) ReadFault) → Result (Loaded G) ReadFault
+if_loaded (Ok loaded) next = next loaded
+if_loaded (Err fault) next = Err fault
 
--- the layer with these rows inserted in order, or the fault of the first row that it refuses; each
--- row before it has inserted a feature
-abbrev pub with_rows : {G : Type 0} → Contents G → List (ReadRow G)
-    → Result (Contents G) ReadFault
-with_rows layer [] = Ok layer
-with_rows layer (row ∷ rows) =
-    if_given (with_row (layer.next + 1) layer (Ok (content_of row))) (λ l. with_rows l rows)
+-- after these rows in order, or the fault of the first that has one; each row before them was
+-- inserted or skipped
+abbrev pub with_rows : {G : Type 0} → Loaded G → List (ReadRow G) → Result (Loaded G) ReadFault
+with_rows loaded [] = Ok loaded
+with_rows loaded (row ∷ rows) =
+    if_loaded (loaded_with (rows_in loaded + 1) loaded (Ok (content_of row)))
+    (λ l. with_rows l rows)
 
--- a layer with the rows read, or the fault of the row after them
-abbrev pub after_rows : {G : Type 0} → Result Bool ReadFault → Contents G
-    → Result (Contents G) ReadFault
-after_rows (Ok more) layer = Ok layer
-after_rows (Err fault) layer = Err fault
+-- these rows, too, can be numbered
+abbrev pub CanNumber : {G : Type 0} → Loaded G → List (ReadRow G) → Type 0
+CanNumber loaded rows = rows_in loaded + length rows ≤ most_rows
+
+-- what was loaded of the rows read, or the fault of the row after them
+abbrev pub after_rows : {G : Type 0} → Result Bool ReadFault → Loaded G
+    → Result (Loaded G) ReadFault
+after_rows (Ok more) loaded = Ok loaded
+after_rows (Err fault) loaded = Err fault
 
 -- the rows of all parts
 abbrev pub all_rows : {G : Type 0} → List (Vec (ReadRow G) Global) → List (ReadRow G)
 all_rows [] = []
 all_rows (rows ∷ parts) = rows.items ++ all_rows parts
 
--- the result is the layer with these rows or the fault, unless memory ran out
-abbrev pub AnswersRows : {G : Type 0} → Contents G → List (ReadRow G)
-    → Result (Contents G) ReadFault → Type 0
-AnswersRows layer rows answer =
-    (answer ≢ Err Memory → with_rows layer rows ≡ answer) × (answer ≢ Err Io)
+-- the result is that of these rows or the fault, unless memory ran out
+abbrev pub AnswersRows : {G : Type 0} → Loaded G → List (ReadRow G)
+    → Result (Loading (Contents G)) ReadFault → Type 0
+AnswersRows loaded rows answer =
+    (answer ≢ Err Memory → with_rows loaded rows ≡ loaded_or answer) × (answer ≢ Err Io)
 
 -- the first of these records have the contents of these rows in order, and the others remain
 abbrev pub SayInTurn : {G : Type 0} → Reading G → List Record → List (ReadRow G) → List Record

@@ -3,6 +3,7 @@ use Rattle.std.specs.Prelude.{◌≡◌, ℕ, List, [], ◌∷◌, codes, Option
 use Rattle.layer_core.specs.declared.fault.LayerFault.{LayerFault}
 use Rattle.layer_core.specs.declared.fault.LayerFault.TheVariants.{BadId, DoubleId, LayerFull}
 use Rattle.layer_core.specs.declared.fault.LayerFault.TheVariants.{NoSuchId, Memory}
+use Rattle.format_core.specs.declared.text_fault.TextFault.{TextFault}
 use Rattle.format_core.specs.Formats.{Reading}
 use Rattle.file_core.specs.declared.read_fault.ReadFault.{ReadFault}
 use Rattle.file_core.specs.declared.read_fault.ReadFault.TheVariants.{Memory as no_memory, Layer}
@@ -12,6 +13,7 @@ use Rattle.layer_core.specs.LayerTrees.{LayerState}
 use Rattle.file_core.specs.Records.{Record}
 use Rattle.layer_core.specs.Refusals.{insert_refusal}
 use Rattle.file_core.specs.Rows.{FileGives}
+use Rattle.file_core.specs.TextFaults.{fault_of_text}
 
 abbrev pub layer_columns : List (List ℕ)
 layer_columns = codes "id" ∷ codes "wkt" ∷ []
@@ -28,11 +30,16 @@ fault_of_row n DoubleId = Layer n DoubleId
 fault_of_row n LayerFull = Layer n LayerFull
 fault_of_row n NoSuchId = Layer n NoSuchId
 
--- the layer with the feature of the row with this number, or the row's fault
+-- the layer with this feature of the row with this number, or the row's fault
+abbrev pub with_shape : {G : Type 0} → ℕ → Contents G → List ℕ → Result G TextFault
+    → Result (Contents G) ReadFault
+with_shape n layer id (Ok shape) =
+    refused_or n (insert_refusal layer id) (inserted layer id shape)
+with_shape n layer id (Err fault) = Err (fault_of_text n fault)
+
 abbrev pub with_row : {G : Type 0} → ℕ → Contents G → Result (RowContent G) ReadFault
     → Result (Contents G) ReadFault
-with_row n layer (Ok row) =
-    refused_or n (insert_refusal layer row.id) (inserted layer row.id row.shape)
+with_row n layer (Ok row) = with_shape n layer row.id row.shape
 with_row n layer (Err fault) = Err fault
 
 -- the result of adding the row with this number to a layer, given how geometries read

@@ -1,4 +1,4 @@
--- The content of a row of a layer's file: a feature's id and shape, or the row's own fault.
+-- The content of a row of a layer's file: an id and a shape, or the row's own fault.
 use Rattle.std.specs.Prelude.{◌≡◌, ℕ, List, [], ◌∷◌, Result, Ok, Err}
 use Rattle.layer_core.specs.Ids.{id_bytes}
 use Rattle.format_core.specs.declared.text_fault.TextFault.{TextFault}
@@ -7,29 +7,23 @@ use Rattle.file_core.specs.declared.layer_row.ReadRow.{ReadRow}
 use Rattle.file_core.specs.declared.read_fault.ReadFault.{ReadFault}
 use Rattle.file_core.specs.declared.read_fault.ReadFault.TheVariants.{Row}
 use Rattle.file_core.specs.Fields.{AfterId}
-use Rattle.file_core.specs.TextFaults.{fault_of_text}
 use Rattle.file_core.specs.Records.{Record}
 
--- the id and the shape of a row's feature
+-- the id of a row, and its shape or the fault of the shape's text
 pub record RowContent (G : Type 0) : Type 0 where
   pub id : List ℕ
-  pub shape : G
+  pub shape : Result G TextFault
 
 abbrev pub content_of : {G : Type 0} → ReadRow G → RowContent G
 content_of row = record { id = id_bytes row.id; shape = row.shape }
-
--- the content of the row with this number, given the result of reading its geometry
-abbrev pub content_with : {G : Type 0} → ℕ → List ℕ → Result G TextFault
-    → Result (RowContent G) ReadFault
-content_with n id (Ok shape) = Ok (record { id = id; shape = shape })
-content_with n id (Err fault) = Err (fault_of_text n fault)
 
 -- the content of the row with this number, given how its geometry reads
 abbrev pub RowSays : {G : Type 0} → Reading G → ℕ → Record → Result (RowContent G) ReadFault
     → Type 0
 RowSays {G} reads n (id ∷ wkt ∷ []) content =
     AfterId n id content
-    ((shape : Result G TextFault) × reads wkt shape × (content ≡ content_with n id shape))
+    ((shape : Result G TextFault) × reads wkt shape
+    × (content ≡ Ok (record { id = id; shape = shape })))
 RowSays reads n _ content = content ≡ Err (Row n)
 
 -- the content of the row, whatever its number

@@ -9,6 +9,7 @@ pub mod Limits
 pub mod Parts
 pub mod Records
 pub mod Rows
+pub mod SkippedRows
 pub mod Sources
 pub mod TextFaults
 pub mod Unread

@@ -1,15 +1,17 @@
 //! Batches of rows, which are read ahead of their insertion.
 
 ghost use Rattle.std.specs.Prelude.{◌≡◌, ◌<◌, ◌≤◌, [], false, All, IfOk, IfSome, Ok};
-ghost use Rattle.file_core.specs.Batches.{HasId, AnswersRows, IsBatch, IsNext, all_rows};
+ghost use Rattle.file_core.specs.Batches.{AnswersRows, CanNumber, HasId, IsBatch, IsNext, all_rows};
 ghost use Rattle.file_core.specs.Cuts.{IsClosed};
 ghost use Rattle.file_core.specs.Parts.{IsParts};
 ghost use Rattle.file_core.specs.Rows.{IsReading, rows_left};
+ghost use Rattle.file_core.specs.SkippedRows.{loaded_of};
 ghost use Rattle.file_core.specs.Unread.{IsUnread};
 
 use crate::cuts::{cut, is_plain};
 use crate::insertion::add_parts;
 use crate::layer_row::{ReadRow, read_row};
+use crate::loading::Loading;
 use crate::parts::{Parts, read_four, read_two};
 use crate::read_fault::ReadFault;
 use crate::row_reader::RowReader;
@@ -180,26 +182,28 @@ fn read_round<F: Format, R: Threads + Sync>(
     }
 }
 
-/// Inserts the given rows, and reads the next batch even if a row is refused: side by side if there
+/// Adds the given rows, and reads the next batch even if a row is refused: side by side if there
 /// are several threads.
 pub(crate) fn add_and_read<'a, F: Format, R: Threads + Sync>(
     reader: RowReader<F>,
     crew: &Crew<'_, R>,
-    loading: FeatureList<F::Geometry>,
+    loading: Loading<FeatureList<F::Geometry>>,
     read: Vec<Vec<ReadRow<F::Geometry>>>,
     unread: Unread<'a>,
 ) -> (
-    Result<FeatureList<F::Geometry>, ReadFault>,
+    Result<Loading<FeatureList<F::Geometry>>, ReadFault>,
     (Unread<'a>, Batch<F::Geometry>),
 )
     requires ids { All HasId (all_rows read.items) }
+    requires few { CanNumber (loaded_of loading) (all_rows read.items) }
     requires reading { IsUnread unread }
-    ensures added { AnswersRows loading (all_rows read.items) result.0 }
+    ensures added { AnswersRows (loaded_of loading) (all_rows read.items) result.0 }
     ensures read { IsNext (F.reads reader.format) unread.entry result.1 }
 {
-    let add = move || -> Result<FeatureList<F::Geometry>, ReadFault>
-        requires { All HasId (all_rows read.items) }
-        ensures { AnswersRows loading (all_rows read.items) result }
+    let add = move || -> Result<Loading<FeatureList<F::Geometry>>, ReadFault>
+        requires ids { All HasId (all_rows read.items) }
+        requires few { CanNumber (loaded_of loading) (all_rows read.items) }
+        ensures { AnswersRows (loaded_of loading) (all_rows read.items) result }
     { with_parts(loading, read) };
     let read_on = move || -> (Unread, Batch<F::Geometry>)
         requires { IsUnread unread }
@@ -212,13 +216,14 @@ pub(crate) fn add_and_read<'a, F: Format, R: Threads + Sync>(
     }
 }
 
-/// The features, with the rows of these parts inserted.
+/// The rows before, with the rows of these parts added.
 fn with_parts<G: Geometry>(
-    mut loading: FeatureList<G>,
+    mut loading: Loading<FeatureList<G>>,
     read: Vec<Vec<ReadRow<G>>>,
-) -> Result<FeatureList<G>, ReadFault>
-    requires { All HasId (all_rows read.items) }
-    ensures { AnswersRows loading (all_rows read.items) result }
+) -> Result<Loading<FeatureList<G>>, ReadFault>
+    requires ids { All HasId (all_rows read.items) }
+    requires few { CanNumber (loaded_of loading) (all_rows read.items) }
+    ensures { AnswersRows (loaded_of loading) (all_rows read.items) result }
 {
     add_parts(&mut loading, read)?;
     Ok(loading)

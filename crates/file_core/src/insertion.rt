@@ -1,42 +1,104 @@
-//! Inserting the rows of a layer's file.
+//! Adding the rows of a layer's file to those before them.
 
-ghost use Rattle.std.specs.Prelude.{◌≡◌, ◌≢◌, ◌+◌, Ok, Err, All, OnOk, IfErr};
-ghost use Rattle.file_core.specs.Batches.{HasId, all_rows, with_rows};
-ghost use Rattle.file_core.specs.LayerFiles.{with_row};
+ghost use Rattle.std.specs.Prelude.{◌≡◌, ◌≢◌, ◌+◌, ◌≤◌, Ok, Err, All, OnOk, IfErr, IsTrue};
+ghost use Rattle.layer_core.specs.Ids.{id_bytes};
+ghost use Rattle.layer_core.specs.Refusals.{is_id};
+ghost use Rattle.file_core.specs.Batches.{CanNumber, HasId, all_rows, with_rows};
 ghost use Rattle.file_core.specs.LayerRows.{content_of};
+ghost use Rattle.file_core.specs.Rows.{most_rows};
+ghost use Rattle.file_core.specs.SkippedRows.{loaded_of, loaded_with, rows_in, with_reading};
+ghost use Rattle.file_core.specs.SkippedRows.{with_unreadable};
 
 use crate::layer_row::ReadRow;
+use crate::loading::{Loading, next_row};
 use crate::read_fault::ReadFault;
-use layer_core::{FeatureList, Geometry};
+use crate::skipped::{SkippedRow, Unreadable};
+use format_core::TextFault;
+use layer_core::{FeatureList, Geometry, Id};
 
-/// Inserts the feature of a row. Each row before it has inserted one.
-pub(crate) fn add_row<G: Geometry>(
-    loading: &mut FeatureList<G>,
-    row: ReadRow<G>,
+/// Adds the next row, whose geometry was read: inserts its feature.
+fn insert<G: Geometry>(
+    loading: &mut Loading<FeatureList<G>>,
+    id: Id,
+    shape: G,
 ) -> Result<(), ReadFault>
-    requires { HasId row }
-    ensures ok { OnOk result
-        (with_row (loading.old.next + 1) loading.old (Ok (content_of row)) ≡ Ok loading.new) }
-    ensures err { IfErr result (λ fault. fault ≢ ReadFault.Memory
-        → with_row (loading.old.next + 1) loading.old (Ok (content_of row)) ≡ Err fault) }
+    requires id { IsTrue (is_id (id_bytes id)) }
+    requires few { rows_in (loaded_of loading.old) + 1 ≤ most_rows }
+    ensures ok { let loaded = loaded_of loading.old in OnOk result
+        (with_reading (rows_in loaded + 1) loaded (id_bytes id) (Ok shape)
+        ≡ Ok (loaded_of loading.new)) }
+    ensures err { let loaded = loaded_of loading.old in
+        IfErr result (λ fault. fault ≢ ReadFault.Memory
+        → with_reading (rows_in loaded + 1) loaded (id_bytes id) (Ok shape) ≡ Err fault) }
     ensures no_io { result ≢ Err ReadFault.Io }
 {
-    let ReadRow { id, shape } = row;
-    match loading.add(id, shape) {
+    match loading.features.add(id, shape) {
         Ok(()) => Ok(()),
-        Err(fault) => Err(ReadFault::of_row(loading.inserted() + 1, fault)),
+        Err(fault) => Err(ReadFault::of_row(next_row(loading), fault)),
     }
 }
 
-/// Inserts the features of the rows in turn, up to the first that is refused.
+/// Adds the next row, whose geometry can't be read: skips it, or refuses it.
+#[tactic(auto, using(crate::proofs::LoadedLemmas::skipped_push))]
+fn skip_or_refuse<G: Geometry>(
+    loading: &mut Loading<FeatureList<G>>,
+    id: Id,
+    fault: TextFault,
+) -> Result<(), ReadFault>
+    requires { rows_in (loaded_of loading.old) + 1 ≤ most_rows }
+    ensures ok { let loaded = loaded_of loading.old in OnOk result
+        (with_unreadable loaded.unreadable (rows_in loaded + 1) loaded (id_bytes id) fault
+        ≡ Ok (loaded_of loading.new)) }
+    ensures err { let loaded = loaded_of loading.old in
+        IfErr result (λ f. f ≢ ReadFault.Memory
+        → with_unreadable loaded.unreadable (rows_in loaded + 1) loaded (id_bytes id) fault
+        ≡ Err f) }
+    ensures no_io { result ≢ Err ReadFault.Io }
+{
+    let row = next_row(loading);
+    match loading.unreadable {
+        Unreadable::Refuse => Err(ReadFault::of_text(row, fault)),
+        Unreadable::Skip => {
+            loading.skipped.reserve(1)?;
+            loading.skipped.push_reserved(SkippedRow { row, id, fault });
+            Ok(())
+        }
+    }
+}
+
+/// Inserts the feature of the next row, or skips the row.
+pub(crate) fn add_row<G: Geometry>(
+    loading: &mut Loading<FeatureList<G>>,
+    row: ReadRow<G>,
+) -> Result<(), ReadFault>
+    requires id { HasId row }
+    requires few { rows_in (loaded_of loading.old) + 1 ≤ most_rows }
+    ensures ok { let loaded = loaded_of loading.old in OnOk result
+        (loaded_with (rows_in loaded + 1) loaded (Ok (content_of row))
+        ≡ Ok (loaded_of loading.new)) }
+    ensures err { let loaded = loaded_of loading.old in
+        IfErr result (λ fault. fault ≢ ReadFault.Memory
+        → loaded_with (rows_in loaded + 1) loaded (Ok (content_of row)) ≡ Err fault) }
+    ensures no_io { result ≢ Err ReadFault.Io }
+{
+    let ReadRow { id, shape } = row;
+    match shape {
+        Ok(shape) => insert(loading, id, shape),
+        Err(fault) => skip_or_refuse(loading, id, fault),
+    }
+}
+
+/// Adds the rows in turn, up to the first that is refused.
 pub(crate) fn add_rows<G: Geometry>(
-    loading: &mut FeatureList<G>,
+    loading: &mut Loading<FeatureList<G>>,
     rows: Vec<ReadRow<G>>,
 ) -> Result<(), ReadFault>
-    requires { All HasId rows.items }
-    ensures ok { OnOk result (with_rows loading.old rows.items ≡ Ok loading.new) }
+    requires ids { All HasId rows.items }
+    requires few { CanNumber (loaded_of loading.old) rows.items }
+    ensures ok { OnOk result
+        (with_rows (loaded_of loading.old) rows.items ≡ Ok (loaded_of loading.new)) }
     ensures err { IfErr result (λ fault. fault ≢ ReadFault.Memory
-        → with_rows loading.old rows.items ≡ Err fault) }
+        → with_rows (loaded_of loading.old) rows.items ≡ Err fault) }
     ensures no_io { result ≢ Err ReadFault.Io }
 {
     for row in rows {
@@ -45,15 +107,17 @@ pub(crate) fn add_rows<G: Geometry>(
     Ok(())
 }
 
-/// Inserts the features of the rows of the parts in turn, up to the first that is refused.
+/// Adds the rows of the parts in turn, up to the first that is refused.
 pub(crate) fn add_parts<G: Geometry>(
-    loading: &mut FeatureList<G>,
+    loading: &mut Loading<FeatureList<G>>,
     parts: Vec<Vec<ReadRow<G>>>,
 ) -> Result<(), ReadFault>
-    requires { All HasId (all_rows parts.items) }
-    ensures ok { OnOk result (with_rows loading.old (all_rows parts.items) ≡ Ok loading.new) }
+    requires ids { All HasId (all_rows parts.items) }
+    requires few { CanNumber (loaded_of loading.old) (all_rows parts.items) }
+    ensures ok { OnOk result
+        (with_rows (loaded_of loading.old) (all_rows parts.items) ≡ Ok (loaded_of loading.new)) }
     ensures err { IfErr result (λ fault. fault ≢ ReadFault.Memory
-        → with_rows loading.old (all_rows parts.items) ≡ Err fault) }
+        → with_rows (loaded_of loading.old) (all_rows parts.items) ≡ Err fault) }
     ensures no_io { result ≢ Err ReadFault.Io }
 {
     for rows in parts {

@@ -2,17 +2,20 @@
 
 ghost use Rattle.std.specs.Prelude.{◌≡◌, ◌≢◌, ◌≤◌, ◌↔◌, false, Ok, Err, All, IsErrOf, IsTrue};
 ghost use Rattle.std.specs.Prelude.{IfOk, IfErr, IfSome};
-ghost use Rattle.file_core.specs.Batches.{HasId, IsBatch, after_rows, all_rows, if_given};
-ghost use Rattle.file_core.specs.Batches.{with_rows};
+ghost use Rattle.file_core.specs.Batches.{CanNumber, HasId, IsBatch, after_rows, all_rows};
+ghost use Rattle.file_core.specs.Batches.{if_loaded, with_rows};
 ghost use Rattle.file_core.specs.LayerFiles.{IsLayerFile, list_read};
+ghost use Rattle.file_core.specs.SkippedRows.{LoadsFile, loaded_of, loaded_or, skipping_or};
 ghost use Rattle.file_core.specs.Unread.{IsUnread};
 ghost use Rattle.layer_core.specs.Limits.{most_features};
 
 use crate::batch::{Batch, Crew, MIN_THREADED_BYTES, add_and_read, read_next};
 use crate::cuts::line_feeds;
 use crate::insertion::add_parts;
+use crate::loading::{Loading, begin};
 use crate::read_fault::ReadFault;
 use crate::row_reader::RowReader;
+use crate::skipped::{Unreadable, WithSkipped};
 use crate::source::{Source, read_all};
 use crate::unread::Unread;
 use format_core::Format;
@@ -59,15 +62,7 @@ impl<F: Format, R: Threads + Sync> LayerReader<'_, F, R> {
             → IsLayerFile (F.reads self.now.format) bytes.now result }
         ensures no_io { result ≢ Err ReadFault.Io }
     {
-        let reader = RowReader {
-            alloc: self.alloc,
-            format: self.format,
-        };
-        let crew = Crew {
-            rt: self.rt,
-            threads: self.threads_for(bytes),
-        };
-        load(reader, &crew, state, bytes)
+        Ok(self.load(Unreadable::Refuse, state, bytes)?.features)
     }
 
     /// The layer of a CSV file, read as by [`LayerReader::features_of_bytes`]. At most `threads`
@@ -110,6 +105,80 @@ impl<F: Format, R: Threads + Sync> LayerReader<'_, F, R> {
         self.layer_of_bytes(state, bytes)
     }
 
+    /// The features of a layer's CSV file without the rows whose geometry can't be read, and these
+    /// rows, in file order. They aren't in the layer: they don't count towards its greatest number
+    /// of features, and a later row may have the id of one.
+    ///
+    /// # Errors
+    /// Those of [`LayerReader::features_of_bytes`], except that of a geometry's text.
+    pub fn features_skipping(
+        &self,
+        state: RandomState,
+        bytes: &[u8],
+    ) -> Result<WithSkipped<FeatureList<F::Geometry>>, ReadFault>
+        ensures file { result ≢ Err ReadFault.Memory
+            → LoadsFile (F.reads self.now.format) Unreadable.Skip bytes.now
+            (skipping_or (λ features. features) result) }
+        ensures no_io { result ≢ Err ReadFault.Io }
+    {
+        let Loading {
+            features,
+            skipped,
+            ..
+        } = self.load(Unreadable::Skip, state, bytes)?;
+        Ok(WithSkipped {
+            read: features,
+            skipped,
+        })
+    }
+
+    /// The layer of a CSV file without the rows whose geometry can't be read, and these rows, as by
+    /// [`LayerReader::features_skipping`]. At most `threads` threads pack its tree.
+    ///
+    /// # Errors
+    /// Those of [`LayerReader::features_skipping`].
+    pub fn layer_skipping(
+        &self,
+        state: RandomState,
+        bytes: Vec<u8>,
+    ) -> Result<WithSkipped<Layer<F::Geometry>>, ReadFault>
+        ensures file { result ≢ Err ReadFault.Memory
+            → LoadsFile (F.reads self.now.format) Unreadable.Skip bytes.items
+            (skipping_or (λ layer. layer.list) result) }
+        ensures no_io { result ≢ Err ReadFault.Io }
+    {
+        let WithSkipped { read, skipped } = self.features_skipping(state, bytes.as_slice())?;
+        let threads = self.threads_for(bytes.as_slice());
+        // The file's memory is freed before the tree is packed.
+        drop(bytes);
+        Ok(WithSkipped {
+            read: read.finish_by_threads(self.alloc, threads, self.rt)?,
+            skipped,
+        })
+    }
+
+    /// The rows of a file, of which those that can't be read are refused or skipped.
+    fn load(
+        &self,
+        unreadable: Unreadable,
+        state: RandomState,
+        bytes: &[u8],
+    ) -> Result<Loading<FeatureList<F::Geometry>>, ReadFault>
+        ensures file { result ≢ Err ReadFault.Memory
+            → LoadsFile (F.reads self.now.format) unreadable bytes.now (loaded_or result) }
+        ensures no_io { result ≢ Err ReadFault.Io }
+    {
+        let reader = RowReader {
+            alloc: self.alloc,
+            format: self.format,
+        };
+        let crew = Crew {
+            rt: self.rt,
+            threads: self.threads_for(bytes),
+        };
+        load(reader, &crew, unreadable, state, bytes)
+    }
+
     /// The number of threads for a file of these bytes: 1 if they are few.
     fn threads_for(&self, bytes: &[u8]) -> u32 {
         if bytes.len() >= MIN_THREADED_BYTES {
@@ -120,19 +189,20 @@ impl<F: Format, R: Threads + Sync> LayerReader<'_, F, R> {
     }
 }
 
-/// The features of a file, read and inserted batch by batch.
+/// The rows of a file, read and added batch by batch.
 fn load<F: Format, R: Threads + Sync>(
     reader: RowReader<F>,
     crew: &Crew<'_, R>,
+    unreadable: Unreadable,
     state: RandomState,
     bytes: &[u8],
-) -> Result<FeatureList<F::Geometry>, ReadFault>
+) -> Result<Loading<FeatureList<F::Geometry>>, ReadFault>
     ensures file { result ≢ Err ReadFault.Memory
-        → IsLayerFile (F.reads reader.format) bytes.now result }
+        → LoadsFile (F.reads reader.format) unreadable bytes.now (loaded_or result) }
     ensures no_io { result ≢ Err ReadFault.Io }
 {
     let unread = Unread::open(reader.alloc, bytes)?;
-    let loading = FeatureList::new(reader.alloc, state, likely_rows(bytes))?;
+    let loading = begin(reader.alloc, state, unreadable, likely_rows(bytes))?;
     let (unread, batch) = read_next(reader, crew, unread);
     let mut round = Round {
         loading,
@@ -146,26 +216,29 @@ fn load<F: Format, R: Threads + Sync>(
     add_last(loading, batch)
 }
 
-/// The state of reading a file: the features inserted, the batch after them, and the unread rest.
+/// The state of reading a file: the rows added, the batch after them, and the unread rest.
 #[derive(Drop)]
 struct Round<'a, G: Geometry> {
-    loading: FeatureList<G>,
+    loading: Loading<FeatureList<G>>,
     batch: Batch<G>,
     unread: Unread<'a>,
 }
 
-/// Inserts the features of a batch, and reads the next one.
+/// Adds the rows of a batch, and reads the next one.
 fn next_round<'a, F: Format, R: Threads + Sync>(
     reader: RowReader<F>,
     crew: &Crew<'_, R>,
     round: Round<'a, F::Geometry>,
 ) -> Result<Round<'a, F::Geometry>, ReadFault>
     requires ids { All HasId (all_rows round.batch.rows.items) }
+    requires few { CanNumber (loaded_of round.loading) (all_rows round.batch.rows.items) }
     requires reading { IsUnread round.unread }
     ensures ok { IfOk result (λ next.
-        with_rows round.entry.loading (all_rows round.entry.batch.rows.items) ≡ Ok next.loading) }
+        with_rows (loaded_of round.entry.loading) (all_rows round.entry.batch.rows.items)
+        ≡ Ok (loaded_of next.loading)) }
     ensures err { IfErr result (λ fault. fault ≢ ReadFault.Memory
-        → with_rows round.entry.loading (all_rows round.entry.batch.rows.items) ≡ Err fault) }
+        → with_rows (loaded_of round.entry.loading) (all_rows round.entry.batch.rows.items)
+        ≡ Err fault) }
     ensures no_io { result ≢ Err ReadFault.Io }
     ensures read { IfOk result (λ next. IsBatch (F.reads reader.format) round.entry.unread
         (all_rows next.batch.rows.items) next.batch.more next.unread) }
@@ -183,15 +256,17 @@ fn next_round<'a, F: Format, R: Threads + Sync>(
     })
 }
 
-/// Inserts the features of the last batch, and returns the fault of the row after it, if any.
+/// Adds the rows of the last batch, and returns the fault of the row after it, if any.
 fn add_last<G: Geometry>(
-    mut loading: FeatureList<G>,
+    mut loading: Loading<FeatureList<G>>,
     batch: Batch<G>,
-) -> Result<FeatureList<G>, ReadFault>
+) -> Result<Loading<FeatureList<G>>, ReadFault>
     requires ids { All HasId (all_rows batch.rows.items) }
+    requires few { CanNumber (loaded_of loading) (all_rows batch.rows.items) }
     requires no_io { batch.more ≢ Err ReadFault.Io }
-    ensures rows { result ≢ Err ReadFault.Memory → result
-        ≡ if_given (with_rows loading (all_rows batch.rows.items)) (after_rows batch.more) }
+    ensures rows { result ≢ Err ReadFault.Memory → loaded_or result
+        ≡ if_loaded (with_rows (loaded_of loading) (all_rows batch.rows.items))
+        (after_rows batch.more) }
     ensures no_io { result ≢ Err ReadFault.Io }
 {
     add_parts(&mut loading, batch.rows)?;

@@ -9,18 +9,17 @@ use crate::fields::{id_in, two_fields};
 use crate::read_fault::ReadFault;
 use crate::row_reader::RowReader;
 use csv::ByteRecord;
-use format_core::Format;
+use format_core::{Format, TextFault};
 use layer_core::{Id, LayerFault};
 
-/// A valid row: the id and the shape of its feature.
+/// A row with a valid id, and its shape or the fault of the shape's text.
 #[derive(Drop)]
 pub(crate) struct ReadRow<G> {
     pub(crate) id: Id,
-    pub(crate) shape: G,
+    pub(crate) shape: Result<G, TextFault>,
 }
 
-/// Reads the row with this number. The fault is that of the number of fields, else that of the id,
-/// else that of the geometry.
+/// Reads the row with this number. The fault is that of the number of fields, else that of the id.
 pub(crate) fn read_row<F: Format>(
     reader: RowReader<F>,
     number: u32,
@@ -35,7 +34,7 @@ pub(crate) fn read_row<F: Format>(
 {
     let (id, wkt) = two_fields(row).ok_or(ReadFault::Row(number))?;
     let id = id_in(id).ok_or(ReadFault::Layer(number, LayerFault::BadId))?;
-    let shape = reader.geometry(number, wkt)?;
+    let shape = reader.format.read(reader.alloc, wkt)?;
     let id = Id::from_str(reader.alloc, id)?;
     Ok(ReadRow { id, shape })
 }

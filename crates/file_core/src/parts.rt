@@ -37,7 +37,7 @@ impl<G: Drop> Parts<G> {
 
 /// The rows of a text that begins and ends between two records, each half read in a thread of its
 /// own. The result may be `None` for any text; it is `None` if the text isn't seen to be one, or if
-/// a row has a fault.
+/// a row has another fault than that of its geometry.
 #[tactic(auto, using(crate::proofs::PartLemmas::parts_both))]
 pub(crate) fn read_two<F: Format, R: Threads + Sync>(
     reader: RowReader<F>,

@@ -1,23 +1,35 @@
-use Rattle.std.proofs.Common.{◌≡◌, ◌≢◌, ◌≤◌, ◌∙◌, suc, Bool, true, Result, Ok, Err, ap, subst, sym}
+use Rattle.std.proofs.Common.{◌≡◌, ◌≢◌, ◌≤◌, ◌∙◌, ◌+◌, suc, Bool, true, Result, Ok, Err, ap, subst, sym, arith}
 use Rattle.std.proofs.lemmas.Result.{err_from_is_err_and}
 use Rattle.file_core.specs.declared.read_fault.ReadFault.{ReadFault}
 use Rattle.file_core.specs.Batches.{all_rows}
-use Rattle.file_core.specs.Unread.{records_unread}
-use Rattle.file_core.proofs.BatchLemmas.{most_rounds, batch-counted, batch-goes-on, batch-last, batch-refuses, batch-smaller}
+use Rattle.file_core.specs.Rows.{RowsGive}
+use Rattle.file_core.specs.SkippedRows.{Loaded, LoadsRow, loaded_of, loaded_or, rows_in}
+use Rattle.file_core.specs.Unread.{count_unread, records_unread}
+use Rattle.file_core.proofs.BatchLemmas.{most_rounds, batch-counted, batch-few, batch-goes-on, batch-last, batch-refuses, batch-smaller}
+use Rattle.file_core.proofs.LoadedLemmas.{loaded_or-err}
 use Rattle.file_core.proofs.layer_file.load.Goals as goal
 use Rattle.file_core.proofs.layer_file.load.Goals.{in_default, in_default-2}
 
 pub loop-round-init : goal.loop-round-init
 loop-round-init g c =
-    let opened = c.in_ok-unread.ensures.ok in (
+    let reads = g.F.Format.reads c.args.reader.format in
+    let opened = c.in_ok-unread.ensures.ok in
+    let begins = c.in_ok-loading.ensures in
+    let count = opened.none_read ∙ sym (ap rows_in begins) in
+    let few = batch-few reads c.in_ok-unread.unread _ _ _ opened.reading c.read_next-unread.ensures in (
       c.in_ok-unread.unread,
       c.read_next-unread.ensures,
-      opened.none_read ∙ sym (ap (λ l. l.next) c.in_ok-loading.ensures),
-      λ answer gives. (Ok (records_unread c.in_ok-unread.unread), opened.rows, rw (opened.none_read, c.in_ok-loading.ensures) at gives),
+      count,
+      omega (arith, few, count),
+      λ answer gives.
+          let rows = records_unread c.in_ok-unread.unread in
+          let P : Loaded _ → Type 0 = λ l. RowsGive (LoadsRow reads) (count_unread c.in_ok-unread.unread + 1) l rows answer in
+          (Ok rows, opened.rows, rw opened.none_read at (subst P begins gives)),
     )
 
 pub loop-round-preserved : goal.loop-round-preserved
 loop-round-preserved g c =
+    let reads = g.F.Format.reads c.args.reader.format in
     let inv = c.loop-round.invariant in
     let is = c.in-Ok-true.is in
     let test = c.in-Ok-true.field-0-is in
@@ -25,13 +37,16 @@ loop-round-preserved g c =
     let batch = rw more at inv.1 in
     let rows = all_rows c.loop-round.round.batch.rows.items in
     let next = c.in_ok-round.round in
-    let given = c.in_ok-round.ensures.ok in (
+    let given = c.in_ok-round.ensures.ok in
+    let count = batch-counted reads inv.0 c.loop-round.round.unread rows (loaded_of c.loop-round.round.loading) inv.2 (loaded_of next.loading) batch given in
+    let few = batch-few reads c.loop-round.round.unread _ _ _ batch.behind.0 c.in_ok-round.ensures.read in (
       c.loop-round.round.unread,
       c.in_ok-round.ensures.read,
-      batch-counted (g.F.Format.reads c.args.reader.format) inv.0 c.loop-round.round.unread rows c.loop-round.round.loading inv.2 next.loading batch given,
+      count,
+      omega (arith, few, count),
       λ answer gives.
-          inv.3 answer
-          (batch-goes-on (g.F.Format.reads c.args.reader.format) inv.0 c.loop-round.round.unread rows c.loop-round.round.loading inv.2 next.loading answer batch given gives),
+          inv.4 answer
+          (batch-goes-on reads inv.0 c.loop-round.round.unread rows (loaded_of c.loop-round.round.loading) inv.2 (loaded_of next.loading) answer batch given gives),
     )
 
 pub loop-round-smaller : goal.loop-round-smaller
@@ -51,8 +66,9 @@ returns-in_err-round-clause-file g c =
     let p = err_from_is_err_and c.from_residual-in_err-round.result c.from_residual-in_err-round.ensures.1 in
     rw (p.1, p.2)
     (λ known.
-    inv.3 (Err fault)
-    (batch-refuses (g.F.Format.reads c.args.reader.format) inv.0 c.loop-round.round.unread (all_rows c.loop-round.round.batch.rows.items) c.loop-round.round.loading inv.2
+    inv.4 (Err fault)
+    (batch-refuses (g.F.Format.reads c.args.reader.format) inv.0 c.loop-round.round.unread (all_rows c.loop-round.round.batch.rows.items)
+    (loaded_of c.loop-round.round.loading) inv.2
     c.loop-round.round.batch.more fault inv.1 (c.in_err-round.ensures.err (λ e. known (ap Err e)))))
 
 pub returns-clause-file : goal.returns-clause-file
@@ -63,6 +79,8 @@ returns-clause-file g c known =
       | in_default w ↦ λ more. let is = w.in_default.is in let test = w.in_default.field-0-test in cc
       | in_default-2 w ↦ λ more. let is = w.in_default.is in absurd cc
     ] in
-    inv.3 c.add_last.result
-    (batch-last (g.F.Format.reads c.args.reader.format) inv.0 c.loop-round.round.unread (all_rows c.loop-round.round.batch.rows.items) c.loop-round.round.loading inv.2
-    c.loop-round.round.batch.more c.add_last.result inv.1 last known (c.add_last.ensures.rows known))
+    inv.4 (loaded_or c.add_last.result)
+    (batch-last (g.F.Format.reads c.args.reader.format) inv.0 c.loop-round.round.unread (all_rows c.loop-round.round.batch.rows.items)
+    (loaded_of c.loop-round.round.loading) inv.2
+    c.loop-round.round.batch.more (loaded_or c.add_last.result) inv.1 last
+    (λ e. known (loaded_or-err c.add_last.result _ e)) (c.add_last.ensures.rows known))
