@@ -14,13 +14,12 @@ use Rattle.std.proofs.lemmas.Grind.{div_ceil_times}
 use Rattle.std.proofs.lemmas.Nat.{mod_below}
 use Rattle.std.proofs.lemmas.List.{take_all, take-take, drop-take, take-append-drop, take_more, flat_map_more}
 use Rattle.std.proofs.lemmas.List.Concat.{flat_map-append}
-use Rattle.relation_core.specs.declared.matrix.Matrix.{Matrix}
 use Rattle.layer_core.specs.Layers.{Contents}
 use Rattle.csv.specs.Writing.{row_text, default_writer}
 use Rattle.report_core.specs.declared.columns.Columns.{Columns}
 use Rattle.report_core.specs.Columns.{AreColumnsFor}
 use Rattle.report_core.specs.ReportRows.{AreRows, AddsRows, IsRowOf, header_line, text_or_none}
-use Rattle.report_core.specs.Reports.{IsReport}
+use Rattle.report_core.specs.Reports.{IsReportBy}
 use Rattle.report_core.specs.Written.{joined}
 use Rattle.report_core.proofs.ReportLemmas.{report_pushed}
 
@@ -144,15 +143,15 @@ chunks_added R items old mid new header line parts grown is rows all = record {
 }
 
 -- the header alone, and then the records of all chunks, are the report
-pub report_of_chunks : {G A : Type 0} (pair_of : A → ℕ × ℕ) (is_matrix : G → G → Matrix → Type 0) (left right : Contents G) (matches : List A)
+pub report_of_chunks : {G A : Type 0} (pair_of : A → ℕ × ℕ) (name : List ℕ) (is_field : G → G → List ℕ → Type 0) (left right : Contents G) (matches : List A)
     (old mid new : List (Vec ℕ Global)) (header : Vec ℕ Global)
-    (parts : List (Result (Vec ℕ Global) AllocError)) → old ≡ [] → mid ≡ old ++ header ∷ [] → header.items ≡ header_line
-    → (All IsOk parts → AreRows (IsRowOf pair_of is_matrix left right) matches (flat_map text_or_none parts)) → All IsOk parts
+    (parts : List (Result (Vec ℕ Global) AllocError)) → old ≡ [] → mid ≡ old ++ header ∷ [] → header.items ≡ header_line name
+    → (All IsOk parts → AreRows (IsRowOf pair_of is_field left right) matches (flat_map text_or_none parts)) → All IsOk parts
     → joined new ≡ joined mid ++ flat_map text_or_none parts
-    → IsReport is_matrix left right (map pair_of matches) (joined new)
-report_of_chunks pair_of is_matrix left right matches old mid new header parts none grown is rows ok all =
-    report_pushed pair_of is_matrix left right matches old new none
-    (chunks_added (IsRowOf pair_of is_matrix left right) matches old mid new header header_line parts grown is (rows ok) all)
+    → IsReportBy name is_field left right (map pair_of matches) (joined new)
+report_of_chunks pair_of name is_field left right matches old mid new header parts none grown is rows ok all =
+    report_pushed pair_of name is_field left right matches old new none
+    (chunks_added (IsRowOf pair_of is_field left right) matches old mid new header (header_line name) parts grown is (rows ok) all)
 
 -- the value that is used for texts past the last one
 pub no_text : Result (Vec ℕ Global) AllocError

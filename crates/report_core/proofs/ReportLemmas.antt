@@ -1,5 +1,5 @@
 -- The rows of a report.
-use Rattle.std.proofs.Common.{◌≡◌, ℕ, List, [], ◌∷◌, ◌++◌, Bool, false, ◌||◌, Option, Some, None, IsSome, IsSomeAnd, sym}
+use Rattle.std.proofs.Common.{◌≡◌, ℕ, List, [], ◌∷◌, ◌++◌, Bool, false, ◌||◌, Option, Some, None, IsSome, IsSomeAnd, Result, Ok, Err, OnOk, sym}
 use Rattle.std.proofs.Common.{codes, ap, subst, ◌∙◌, refl, ◌+◌, ◌<◌, length, get_or, map, take, append_assoc, All}
 use Rattle.std.specs.Borrow.{Bor}
 use Rattle.std.specs.Option.{option_map}
@@ -13,9 +13,10 @@ use Rattle.layer_core.specs.Layers.{Feature, Contents, ShapeIs, with_number}
 use Rattle.csv.specs.Machine.{line_feed}
 use Rattle.csv.specs.Writing.{comma, field_text, fields_text, is_blank, row_text, needs_byte, needs_quotes, default_writer}
 use Rattle.report_core.specs.Columns.{id_in, field_for}
-use Rattle.report_core.specs.CsvTexts.{leading_field}
-use Rattle.report_core.specs.ReportRows.{AreRows, AddsRows, IsRowOf, header_line, line_of}
-use Rattle.report_core.specs.Reports.{HasLetters, IsRow, IsReport}
+use Rattle.report_core.specs.CsvTexts.{csv_text, leading_field}
+use Rattle.report_core.specs.LastFields.{AddsField}
+use Rattle.report_core.specs.ReportRows.{AreRows, AddsRows, IsRowOf, header_line}
+use Rattle.report_core.specs.Reports.{AreLettersBy, HasLetters, IsRow, IsReportBy, header}
 use Rattle.report_core.specs.Written.{joined}
 use Rattle.std.specs.Global.{Global}
 use Rattle.std.specs.declared.vec.Vec.{Vec}
@@ -47,13 +48,16 @@ appended : (a b c end : List ℕ)
     → (a ++ comma ∷ (b ++ comma ∷ (c ++ []))) ++ end ≡ (a ++ comma ∷ []) ++ ((b ++ comma ∷ []) ++ (c ++ end))
 appended a b c end = simp append_assoc refl
 
--- the record of a pair is its line
-row_line : (first second : List ℕ) (m : Matrix)
-    → row_text default_writer (first ∷ second ∷ letters_of m ∷ []) ≡ line_of (leading_field first) (leading_field second) (letters_of m)
+-- the line of three fields: the first two with their commas, and the third as it is written
+abbrev pub line_of : List ℕ → List ℕ → List ℕ → List ℕ
+line_of first second third = first ++ (second ++ (third ++ line_feed ∷ []))
+
+-- the record of three fields is their line
+row_line : (first second third : List ℕ)
+    → row_text default_writer (first ∷ second ∷ third ∷ []) ≡ line_of (leading_field first) (leading_field second) (field_text default_writer third)
 unfolding fields_text is_blank
-row_line first second m =
-    appended (field_text default_writer first) (field_text default_writer second) (field_text default_writer (letters_of m)) (line_feed ∷ [])
-    ∙ ap (λ c. line_of (leading_field first) (leading_field second) c) (letters_field m)
+row_line first second third =
+    appended (field_text default_writer first) (field_text default_writer second) (field_text default_writer third) (line_feed ∷ [])
 
 -- the feature whose shape was found
 pub record HasShape {G : Type 0} (o : Option (Feature G)) (shape : G) : Type 0 where
@@ -85,6 +89,21 @@ box_letters left right pair s t letters f g are = record {
     related = subst (λ (a : Shape). IsMatrix a g.feature.shape are.matrix) f.its_shape (subst (λ (b : Shape). IsMatrix s b are.matrix) g.its_shape are.is);
   };
   written = are.written;
+}
+
+-- the letters of a matrix are a field, which needs no quotes
+pub letters_added : {G T E : Type 0} (is_matrix : G → G → Matrix → Type 0) (left right : Contents G) (pair : ℕ × ℕ) (letters old new : List ℕ)
+    (out : Result T E) → HasLetters is_matrix left right pair letters → OnOk out (new ≡ old ++ letters)
+    → OnOk out (AddsField (AreLettersBy is_matrix) left right pair old new)
+letters_added is_matrix left right pair letters old new (Err e) has grown = tt
+letters_added is_matrix left right pair letters old new (Ok x) has grown = record {
+  first = has.has_matrix.first;
+  second = has.has_matrix.second;
+  field = letters_of has.matrix;
+  first_held = has.has_matrix.first_held;
+  second_held = has.has_matrix.second_held;
+  correct = (has.matrix, has.has_matrix.related, refl);
+  added = grown ∙ ap (λ t. old ++ t) (has.written ∙ sym (letters_field has.matrix));
 }
 
 -- the consequence of a result for the field in it
@@ -135,49 +154,56 @@ row_added {A} R old mid new items i item row within at so_far is_row grown = rec
   added = grown ∙ ap (λ t. t ++ row_text default_writer row) so_far.added ∙ append_assoc old so_far.text (row_text default_writer row);
 }
 
-module _ {G A : Type 0} (pair_of : A → ℕ × ℕ) (is_matrix : G → G → Matrix → Type 0) (left right : Contents G) where
-  -- the row of a pair whose letters are known
-  row_of : (pair : ℕ × ℕ) (letters : List ℕ) → HasLetters is_matrix left right pair letters → List (List ℕ)
-  row_of pair letters has = has.has_matrix.first.id ∷ has.has_matrix.second.id ∷ letters_of has.matrix ∷ []
+-- the parts of a record that were added in turn
+line_added : (old a b new first second third : List ℕ) → a ≡ old ++ (first ++ second) → b ≡ a ++ third → new ≡ b ++ line_feed ∷ []
+    → new ≡ old ++ line_of first second third
+line_added old a b new first second third p q r =
+    r ∙ ap (λ x. x ++ line_feed ∷ []) (q ∙ ap (λ x. x ++ third) p) ∙ simp append_assoc refl
 
-  is_row_of : (pair : ℕ × ℕ) (letters : List ℕ) (has : HasLetters is_matrix left right pair letters)
-      → IsRow is_matrix left right pair (row_of pair letters has)
+module _ {G A : Type 0} (pair_of : A → ℕ × ℕ) (is_field : G → G → List ℕ → Type 0) (left right : Contents G) where
+  -- the row of a pair whose last field was added
+  row_of : (pair : ℕ × ℕ) (old new : List ℕ) → AddsField is_field left right pair old new → List (List ℕ)
+  row_of pair old new adds = adds.first.id ∷ adds.second.id ∷ adds.field ∷ []
+
+  is_row_of : (pair : ℕ × ℕ) (old new : List ℕ) (adds : AddsField is_field left right pair old new)
+      → IsRow is_field left right pair (row_of pair old new adds)
   unfolding row_of
-  is_row_of pair letters has = record {
-    first = has.has_matrix.first;
-    second = has.has_matrix.second;
-    matrix = has.matrix;
-    first_held = has.has_matrix.first_held;
-    second_held = has.has_matrix.second_held;
-    related = has.has_matrix.related;
+  is_row_of pair old new adds = record {
+    first = adds.first;
+    second = adds.second;
+    field = adds.field;
+    first_held = adds.first_held;
+    second_held = adds.second_held;
+    correct = adds.correct;
     fields = refl;
   }
 
-  -- the line of the fields and the letters is its record
-  line_is : (pair : ℕ × ℕ) (letters x y : List ℕ) (has : HasLetters is_matrix left right pair letters)
+  -- the line of the fields is its record
+  line_is : (pair : ℕ × ℕ) (old new x y : List ℕ) (adds : AddsField is_field left right pair old new)
       → x ≡ field_for (id_in left pair.0) → y ≡ field_for (id_in right pair.1)
-      → line_of x y letters ≡ row_text default_writer (row_of pair letters has)
+      → line_of x y (field_text default_writer adds.field) ≡ row_text default_writer (row_of pair old new adds)
   unfolding row_of
-  line_is pair letters x y has first second =
-      let f = has.has_matrix.first in
-      let g = has.has_matrix.second in
-      ap (λ l. line_of x y l) has.written
-      ∙ ap (λ a. line_of a y (letters_of has.matrix)) (first ∙ ap (λ o. field_for (option_map (λ f. f.id) o)) has.has_matrix.first_held)
-      ∙ ap (λ b. line_of (leading_field f.id) b (letters_of has.matrix)) (second ∙ ap (λ o. field_for (option_map (λ f. f.id) o)) has.has_matrix.second_held)
-      ∙ sym (row_line f.id g.id has.matrix)
+  line_is pair old new x y adds first second =
+      let f = adds.first in
+      let g = adds.second in
+      let third = field_text default_writer adds.field in
+      ap (λ a. line_of a y third) (first ∙ ap (λ o. field_for (option_map (λ f. f.id) o)) adds.first_held)
+      ∙ ap (λ b. line_of (leading_field f.id) b third) (second ∙ ap (λ o. field_for (option_map (λ f. f.id) o)) adds.second_held)
+      ∙ sym (row_line f.id g.id adds.field)
 
-  -- the record of one match more is added
-  pub match_added : (old mid new : List ℕ) (matches : List A) (i : ℕ) (a : A) (pair : ℕ × ℕ) (x y letters : List ℕ)
+  -- the record of one match more is added, part by part
+  pub match_added : (old mid ids fields new : List ℕ) (matches : List A) (i : ℕ) (a : A) (pair : ℕ × ℕ) (x y : List ℕ)
       → i < length matches → a ≡ get_or matches i a → pair ≡ pair_of a
-      → AddsRows (IsRowOf pair_of is_matrix left right) (take i matches) old mid
+      → AddsRows (IsRowOf pair_of is_field left right) (take i matches) old mid
       → x ≡ field_for (id_in left pair.0) → y ≡ field_for (id_in right pair.1)
-      → HasLetters is_matrix left right (pair_of a) letters → new ≡ mid ++ line_of x y letters
-      → AddsRows (IsRowOf pair_of is_matrix left right) (take (i + 1) matches) old new
-  match_added old mid new matches i a pair x y letters within at same so_far first second has grown =
-      row_added (IsRowOf pair_of is_matrix left right) old mid new matches i a
-      (row_of (pair_of a) letters has) within at so_far
-      (is_row_of (pair_of a) letters has)
-      (grown ∙ ap (λ t. mid ++ t) (line_is (pair_of a) letters x y has
+      → ids ≡ mid ++ (x ++ y) → AddsField is_field left right (pair_of a) ids fields → new ≡ fields ++ line_feed ∷ []
+      → AddsRows (IsRowOf pair_of is_field left right) (take (i + 1) matches) old new
+  match_added old mid ids fields new matches i a pair x y within at same so_far first second begun adds ended =
+      row_added (IsRowOf pair_of is_field left right) old mid new matches i a
+      (row_of (pair_of a) ids fields adds) within at so_far
+      (is_row_of (pair_of a) ids fields adds)
+      (line_added mid ids fields new x y (field_text default_writer adds.field) begun adds.added ended
+      ∙ ap (λ t. mid ++ t) (line_is (pair_of a) ids fields x y adds
       (subst (λ (p : ℕ × ℕ). x ≡ field_for (id_in left p.0)) same first)
       (subst (λ (p : ℕ × ℕ). y ≡ field_for (id_in right p.1)) same second)))
 
@@ -187,16 +213,17 @@ pub rows_alone : {A : Type 0} (R : A → List (List ℕ) → Type 0) (old text :
 rows_alone R old text items none adds =
     subst (AreRows R items) (sym (adds.added ∙ ap (λ t. t ++ adds.text) none)) adds.are_rows
 
--- the parts of a record that were added in turn
-pub line_added : (old a b c new first second third : List ℕ) → a ≡ old ++ first → b ≡ a ++ second → c ≡ b ++ third → new ≡ c ++ line_feed ∷ []
-    → new ≡ old ++ line_of first second third
-line_added old a b c new first second third p q r s =
-    s ∙ ap (λ x. x ++ line_feed ∷ []) (r ∙ ap (λ x. x ++ third) (q ∙ ap (λ x. x ++ second) p)) ∙ simp append_assoc refl
-
 -- the header, added to nothing
-pub header_made : (old new : List ℕ) → old ≡ [] → new ≡ old ++ codes "left,right,matrix\n" → new ≡ header_line
+pub header_made : (name old a b new : List ℕ) → old ≡ [] → a ≡ old ++ codes "left,right," → b ≡ a ++ field_text default_writer name
+    → new ≡ b ++ line_feed ∷ [] → new ≡ header_line name
 unfolding fields_text is_blank
-header_made old new none grown = grown ∙ ap (λ t. t ++ codes "left,right,matrix\n") none
+header_made name old a b new none begun named ended =
+    ended ∙ ap (λ t. t ++ line_feed ∷ []) (named ∙ ap (λ t. t ++ field_text default_writer name) (begun ∙ ap (λ t. t ++ codes "left,right,") none))
+    ∙ simp append_assoc refl
+
+-- the text of a first record, and then that of others
+headed : (first rest : List ℕ) → (first ++ []) ++ rest ≡ first ++ rest
+headed first rest = ap (λ t. t ++ rest) (append-nil first)
 
 -- the rows of matches are those of their pairs
 rows_of_pairs : {A : Type 0} (pair_of : A → ℕ × ℕ) (R : ℕ × ℕ → List (List ℕ) → Type 0) (matches : List A)
@@ -206,28 +233,28 @@ rows_of_pairs pair_of R [] (row ∷ rows) all = absurd all
 rows_of_pairs pair_of R (a ∷ matches) [] all = absurd all
 rows_of_pairs pair_of R (a ∷ matches) (row ∷ rows) all = (all.0, rows_of_pairs pair_of R matches rows all.1)
 
-module _ {G A : Type 0} (pair_of : A → ℕ × ℕ) (is_matrix : G → G → Matrix → Type 0) (left right : Contents G) (matches : List A) where
+module _ {G A : Type 0} (pair_of : A → ℕ × ℕ) (name : List ℕ) (is_field : G → G → List ℕ → Type 0) (left right : Contents G) (matches : List A) where
   -- the header, and the records that were added to it
-  pub report_written : (old new text : List ℕ) → old ≡ header_line
-      → AddsRows (IsRowOf pair_of is_matrix left right) matches old new → text ≡ new
-      → IsReport is_matrix left right (map pair_of matches) text
-  unfolding fields_text is_blank
+  pub report_written : (old new text : List ℕ) → old ≡ header_line name
+      → AddsRows (IsRowOf pair_of is_field left right) matches old new → text ≡ new
+      → IsReportBy name is_field left right (map pair_of matches) text
   report_written old new text same adds is = record {
     rows = adds.are_rows.rows;
-    are_rows = rows_of_pairs pair_of (IsRow is_matrix left right) matches adds.are_rows.rows adds.are_rows.are_rows;
-    written = is ∙ adds.added ∙ ap (λ t. t ++ adds.text) same ∙ ap (λ t. header_line ++ t) adds.are_rows.written;
+    are_rows = rows_of_pairs pair_of (IsRow is_field left right) matches adds.are_rows.rows adds.are_rows.are_rows;
+    written = is ∙ adds.added ∙ ap (λ t. t ++ adds.text) same ∙ ap (λ t. header_line name ++ t) adds.are_rows.written
+        ∙ headed (row_text default_writer (header name)) (csv_text adds.are_rows.rows);
   }
 
   -- a report that was added to no text
   pub report_pushed : (old new : List (Vec ℕ Global)) → old ≡ []
-      → AddsRows (IsRowOf pair_of is_matrix left right) matches (joined old ++ header_line) (joined new)
-      → IsReport is_matrix left right (map pair_of matches) (joined new)
+      → AddsRows (IsRowOf pair_of is_field left right) matches (joined old ++ header_line name) (joined new)
+      → IsReportBy name is_field left right (map pair_of matches) (joined new)
   report_pushed old new none adds =
-      report_written (joined old ++ header_line) (joined new) (joined new) (ap (λ ts. joined ts ++ header_line) none) adds refl
+      report_written (joined old ++ header_line name) (joined new) (joined new) (ap (λ ts. joined ts ++ header_line name) none) adds refl
 
 -- a report that is the only text
-pub report_alone : {G : Type 0} (is_matrix : G → G → Matrix → Type 0) (old new : List (Vec ℕ Global)) (text : Vec ℕ Global) (left right : Contents G)
+pub report_alone : {G : Type 0} (name : List ℕ) (is_field : G → G → List ℕ → Type 0) (old new : List (Vec ℕ Global)) (text : Vec ℕ Global) (left right : Contents G)
     (pairs : List (ℕ × ℕ)) → old ≡ [] → new ≡ old ++ text ∷ []
-    → IsReport is_matrix left right pairs text.items → IsReport is_matrix left right pairs (joined new)
-report_alone is_matrix old new text left right pairs none grown is =
-    subst (IsReport is_matrix left right pairs) (sym (ap joined (grown ∙ ap (λ ts. ts ++ text ∷ []) none) ∙ append-nil text.items)) is
+    → IsReportBy name is_field left right pairs text.items → IsReportBy name is_field left right pairs (joined new)
+report_alone name is_field old new text left right pairs none grown is =
+    subst (IsReportBy name is_field left right pairs) (sym (ap joined (grown ∙ ap (λ ts. ts ++ text ∷ []) none) ∙ append-nil text.items)) is

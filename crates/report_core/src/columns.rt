@@ -1,5 +1,4 @@
-//! The columns of a report: the ids of two layers' features as CSV fields, found by number, and the
-//! letters of matrices.
+//! The columns of a report: the ids of two layers' features as CSV fields, found by number.
 
 ghost use Rattle.std.specs.Prelude.{◌≡◌, ◌≤◌, ◌<◌, ◌+◌, ◌++◌, ◌^◌, ℕ, List, Option, All, length};
 ghost use Rattle.std.specs.Prelude.{IfOk, OnOk, IsSomeAnd};
@@ -8,13 +7,13 @@ ghost use Rattle.report_core.specs.Columns.{id_in, field_for, IsColumn, AreColum
 use crate::csv_fields::push_leading_field;
 use layer_core::{Geometry, Layer};
 use refine_core::AsPair;
-use relation_core::Letters;
 use std::alloc::{AllocError, Global};
 use std::thread;
 use std::thread::Threads;
 
-/// The number of bytes of a matrix's letters and the end of a record.
-const LETTERS_AND_END: usize = 10;
+/// An estimate of the number of bytes of the last field and the end of a record, that of the letters
+/// of a matrix and a line feed.
+const LAST_AND_END: usize = 10;
 
 /// The ids of a layer's features, as CSV fields with their commas, by number.
 ///
@@ -29,12 +28,11 @@ pub(crate) struct Column {
     text: Vec<u8>,
 }
 
-/// The columns of a report: the ids of a left and a right layer, and the letters of matrices.
+/// The columns of a report: the ids of a left and a right layer.
 #[derive(Drop)]
 pub(crate) struct Columns {
     pub(crate) left: Column,
     pub(crate) right: Column,
-    pub(crate) letters: Letters,
 }
 
 impl Column {
@@ -81,14 +79,14 @@ impl Columns {
     pub(crate) fn likely_record(&self) -> usize {
         let left = self.left.likely_field();
         let right = self.right.likely_field();
-        LETTERS_AND_END.saturating_add(left).saturating_add(right)
+        LAST_AND_END.saturating_add(left).saturating_add(right)
     }
 
     /// An estimate of the number of bytes of a pair's record.
     pub(crate) fn room_of(&self, pair: (u32, u32)) -> usize {
         let left = self.left.at(pair.0).map_or(0, room_of_field);
         let right = self.right.at(pair.1).map_or(0, room_of_field);
-        LETTERS_AND_END.saturating_add(left).saturating_add(right)
+        LAST_AND_END.saturating_add(left).saturating_add(right)
     }
 
     /// The columns of two layers, up to the greatest numbers that occur in the matches.
@@ -105,7 +103,6 @@ impl Columns {
         Ok(Columns {
             left: Column::new(alloc, left, left_bound)?,
             right: Column::new(alloc, right, right_bound)?,
-            letters: Letters::new(),
         })
     }
 
@@ -133,7 +130,6 @@ impl Columns {
         Ok(Columns {
             left: left_column?,
             right: right_column?,
-            letters: Letters::new(),
         })
     }
 }

@@ -21,7 +21,7 @@ pub(crate) fn push_leading_field(
 }
 
 /// Adds a field, in quotes if it needs them.
-fn push_field(alloc: Global, text: &mut Vec<u8>, field: &[u8]) -> Result<(), AllocError>
+pub(crate) fn push_field(alloc: Global, text: &mut Vec<u8>, field: &[u8]) -> Result<(), AllocError>
     ensures { OnOk result
         (text.new.items ≡ text.old.items ++ field_text default_writer field.now) }
 {

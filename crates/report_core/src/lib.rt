@@ -3,14 +3,17 @@
 
 mod columns;
 mod csv_fields;
+mod last_field;
 mod matches;
+mod matrix_field;
 mod report;
 mod short_text;
 mod sink;
 mod to_write;
 
+pub use last_field::LastField;
 pub use matches::Match;
-pub use report::report_texts;
+pub use report::{ReportForm, report_by, report_texts};
 pub use short_text::{ROOM, ShortText};
 pub use sink::{Sink, WriteFailed, write_text, write_texts};
 pub use to_write::ToWrite;

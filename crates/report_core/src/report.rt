@@ -1,23 +1,40 @@
 //! The report of a join, as CSV.
 
 ghost use Rattle.std.specs.Prelude.{◌≡◌, ◌+◌, ◌<◌, ◌≤◌, ◌++◌, All, IfOk, IsOk, OnOk, length, map};
-ghost use Rattle.std.specs.Int.{div_ceil};
 ghost use Rattle.std.specs.List.{flat_map};
 ghost use Rattle.report_core.specs.Columns.{AreColumnsFor};
-ghost use Rattle.report_core.specs.ReportRows.{AddsRows, AreRows, IsRowOf, header_line, line_of};
+ghost use Rattle.report_core.specs.ReportRows.{AddsRows, AreRows, IsRowOf, header_line};
 ghost use Rattle.report_core.specs.ReportRows.{text_or_none};
-ghost use Rattle.report_core.specs.Reports.{IsReport};
+ghost use Rattle.report_core.specs.Reports.{IsReport, IsReportBy};
 ghost use Rattle.report_core.specs.Written.{joined};
 
 use crate::columns::Columns;
+use crate::csv_fields::push_field;
+use crate::last_field::LastField;
 use crate::matches::Match;
+use crate::matrix_field::MatrixField;
 use layer_core::{Geometry, Layer};
+use refine_core::AsPair;
 use std::alloc::{AllocError, Global};
 use std::thread;
 use std::thread::Threads;
 
 /// The number of matches whose room is reserved before their records are written.
 const BLOCK: usize = 32;
+
+/// How a report is made: its last field, and the greatest number of threads that write it.
+#[derive(Drop)]
+pub struct ReportForm<'a, F> {
+    pub field: &'a F,
+    pub workers: u32,
+}
+
+/// The fields of a report's records: the ids, and the last field.
+#[derive(Drop)]
+struct Fields<'a, F> {
+    ids: &'a Columns,
+    last: &'a F,
+}
 
 /// The report of these matches, as texts to be concatenated: a CSV record `left,right,matrix`, then
 /// one record for each match, with the ids of its features and the letters of their matrix. At most
@@ -41,36 +58,69 @@ where
         (λ texts. IsReport M.is_matrix left.now.list right.now.list pairs (joined texts.items)) }
     ensures few { IfOk result (λ texts. length texts.items ≤ workers + 1) }
 {
-    if workers > 1 {
-        chunked_report(rt, left, right, matches, workers)
+    let field = MatrixField::new();
+    let form = ReportForm {
+        field: &field,
+        workers,
+    };
+    report_by(rt, &form, left, right, matches)
+}
+
+/// The report of these matches, as texts to be concatenated: a CSV record `left,right` with the
+/// name of the last column, then one record for each match, with the ids of its features and the
+/// last field. At most as many threads write it as the form says, each to a text of its own.
+///
+/// # Errors
+/// If an allocation fails.
+pub fn report_by<R, F, G, M>(
+    rt: &R,
+    form: &ReportForm<'_, F>,
+    left: &Layer<G>,
+    right: &Layer<G>,
+    matches: &[M],
+) -> Result<Vec<Vec<u8>>, AllocError>
+where
+    R: AllocGlobal + Threads + Sync,
+    F: LastField<G, M> + Sync,
+    G: Geometry + Sync,
+    M: AsPair + Sync,
+    requires { All (F.is_match left.now.list right.now.list) matches.now }
+    ensures report { let field = form.now.field.now in
+        let is = IsReportBy (F.name_of field) (F.is_field field) left.now.list right.now.list in
+        IfOk result (λ texts. is (map M.pair_of matches.now) (joined texts.items)) }
+    ensures few { IfOk result (λ texts. length texts.items ≤ form.now.workers + 1) }
+{
+    if form.workers > 1 {
+        chunked_report(rt, form, left, right, matches)
     } else {
-        whole_report(rt.alloc(), left, right, matches)
+        whole_report(rt.alloc(), form.field, left, right, matches)
     }
 }
 
 /// The report as a text for the header, and one for each chunk of the matches, each written by a
 /// thread of its own.
-fn chunked_report<R, G, M>(
+fn chunked_report<R, F, G, M>(
     rt: &R,
+    form: &ReportForm<'_, F>,
     left: &Layer<G>,
     right: &Layer<G>,
     matches: &[M],
-    workers: u32,
 ) -> Result<Vec<Vec<u8>>, AllocError>
 where
     R: AllocGlobal + Threads + Sync,
+    F: LastField<G, M> + Sync,
     G: Geometry + Sync,
-    M: Match<G> + Sync,
-    requires held { All (M.is_match left.now.list right.now.list) matches.now }
-    requires workers { 0 < workers }
-    ensures report { let pairs = map M.pair_of matches.now in IfOk result
-        (λ texts. IsReport M.is_matrix left.now.list right.now.list pairs (joined texts.items)) }
-    ensures few { IfOk result (λ texts. length texts.items ≤ workers + 1) }
+    M: AsPair + Sync,
+    requires held { All (F.is_match left.now.list right.now.list) matches.now }
+    requires workers { 0 < form.now.workers }
+    ensures report { let field = form.now.field.now in
+        let is = IsReportBy (F.name_of field) (F.is_field field) left.now.list right.now.list in
+        IfOk result (λ texts. is (map M.pair_of matches.now) (joined texts.items)) }
+    ensures few { IfOk result (λ texts. length texts.items ≤ form.now.workers + 1) }
 {
-    let size = matches.len().div_ceil(workers as usize).max(1);
-    let chunks = chunk_rows(rt, left, right, matches, size)?;
+    let chunks = chunk_rows(rt, form, left, right, matches)?;
     let mut texts = Vec::new(rt.alloc());
-    let header = header_text(rt.alloc())?;
+    let header = header_text(rt.alloc(), form.field.name())?;
     texts.push(header)?;
     push_all(&mut texts, chunks)?;
     Ok(texts)
@@ -78,129 +128,147 @@ where
 
 /// The report as a single text.
 #[tactic(auto, using(crate::proofs::ReportLemmas::report_alone))]
-fn whole_report<G: Geometry, M: Match<G>>(
+fn whole_report<F: LastField<G, M>, G: Geometry, M: AsPair>(
     alloc: Global,
+    field: &F,
     left: &Layer<G>,
     right: &Layer<G>,
     matches: &[M],
 ) -> Result<Vec<Vec<u8>>, AllocError>
-    requires { All (M.is_match left.now.list right.now.list) matches.now }
-    ensures report { let pairs = map M.pair_of matches.now in IfOk result
-        (λ texts. IsReport M.is_matrix left.now.list right.now.list pairs (joined texts.items)) }
+    requires { All (F.is_match left.now.list right.now.list) matches.now }
+    ensures report { let is = IsReportBy (F.name_of field.now) (F.is_field field.now) in
+        let pairs = map M.pair_of matches.now in IfOk result
+        (λ texts. is left.now.list right.now.list pairs (joined texts.items)) }
     ensures single { IfOk result (λ texts. length texts.items ≡ 1) }
 {
     let mut texts = Vec::new(alloc);
-    texts.push(whole_text(alloc, left, right, matches)?)?;
+    texts.push(whole_text(alloc, field, left, right, matches)?)?;
     Ok(texts)
 }
 
 /// The report as one text.
-fn whole_text<G: Geometry, M: Match<G>>(
+fn whole_text<F: LastField<G, M>, G: Geometry, M: AsPair>(
     alloc: Global,
+    field: &F,
     left: &Layer<G>,
     right: &Layer<G>,
     matches: &[M],
 ) -> Result<Vec<u8>, AllocError>
-    requires { All (M.is_match left.now.list right.now.list) matches.now }
-    ensures { let pairs = map M.pair_of matches.now in IfOk result
-        (λ text. IsReport M.is_matrix left.now.list right.now.list pairs text.items) }
+    requires { All (F.is_match left.now.list right.now.list) matches.now }
+    ensures { let is = IsReportBy (F.name_of field.now) (F.is_field field.now) in
+        let pairs = map M.pair_of matches.now in
+        IfOk result (λ text. is left.now.list right.now.list pairs text.items) }
 {
-    let columns = Columns::new(alloc, left, right, matches)?;
-    let mut text = header_text(alloc)?;
-    push_rows(&mut text, left, right, &columns, matches)?;
+    let ids = Columns::new(alloc, left, right, matches)?;
+    let mut text = header_text(alloc, field.name())?;
+    let fields = Fields {
+        ids: &ids,
+        last: field,
+    };
+    push_rows(&mut text, left, right, &fields, matches)?;
     Ok(text)
 }
 
-/// The header.
-fn header_text(alloc: Global) -> Result<Vec<u8>, AllocError>
-    ensures { IfOk result (λ text. text.items ≡ header_line) }
+/// The header, with this name of the last column.
+fn header_text(alloc: Global, name: &str) -> Result<Vec<u8>, AllocError>
+    ensures { IfOk result (λ text. text.items ≡ header_line name.now) }
 {
     let mut text = Vec::new(alloc);
-    text.extend_from_slice(b"left,right,matrix\n")?;
+    text.extend_from_slice(b"left,right,")?;
+    push_field(alloc, &mut text, name.as_bytes())?;
+    text.push(b'\n')?;
     Ok(text)
 }
 
-/// The records of each chunk of `size` matches; the last chunk may be shorter.
-fn chunk_rows<R, G, M>(
+/// The records of each chunk of the matches, at most as many chunks as workers.
+fn chunk_rows<R, F, G, M>(
     rt: &R,
+    form: &ReportForm<'_, F>,
     left: &Layer<G>,
     right: &Layer<G>,
     matches: &[M],
-    size: usize,
 ) -> Result<Vec<Result<Vec<u8>, AllocError>>, AllocError>
 where
     R: AllocGlobal + Threads + Sync,
+    F: LastField<G, M> + Sync,
     G: Geometry + Sync,
-    M: Match<G> + Sync,
-    requires held { All (M.is_match left.now.list right.now.list) matches.now }
-    requires size { 0 < size }
-    ensures rows { let row = IsRowOf M.pair_of M.is_matrix left.now.list right.now.list in
+    M: AsPair + Sync,
+    requires held { All (F.is_match left.now.list right.now.list) matches.now }
+    requires workers { 0 < form.now.workers }
+    ensures rows { let is_field = F.is_field form.now.field.now in
+        let row = IsRowOf M.pair_of is_field left.now.list right.now.list in
         IfOk result (λ chunks. All IsOk chunks.items
         → AreRows row matches.now (flat_map text_or_none chunks.items)) }
-    ensures count { IfOk result
-        (λ chunks. length chunks.items ≡ div_ceil (length matches.now) size) }
+    ensures few { IfOk result (λ chunks. length chunks.items ≤ form.now.workers) }
 {
     let alloc = rt.alloc();
-    let columns = &Columns::side_by_side(rt, left, right, matches)?;
-    let rows = move |_start: usize, chunk: &[M]| rows_text(alloc, left, right, columns, chunk);
+    let size = matches.len().div_ceil(form.workers as usize).max(1);
+    let ids = &Columns::side_by_side(rt, left, right, matches)?;
+    let last = form.field;
+    let rows = move |_start: usize, chunk: &[M]| {
+        rows_text(alloc, left, right, &Fields { ids, last }, chunk)
+    };
     thread::map_chunks(rt, alloc, matches, size, &rows)
 }
 
 /// The records of these matches.
-fn rows_text<G: Geometry, M: Match<G>>(
+fn rows_text<F: LastField<G, M>, G: Geometry, M: AsPair>(
     alloc: Global,
     left: &Layer<G>,
     right: &Layer<G>,
-    columns: &Columns,
+    fields: &Fields<'_, F>,
     matches: &[M],
 ) -> Result<Vec<u8>, AllocError>
-    requires held { All (M.is_match left.now.list right.now.list) matches.now }
-    requires columns { AreColumnsFor M.pair_of left.now.list right.now.list matches.now
-        columns.now }
-    ensures { let row = IsRowOf M.pair_of M.is_matrix left.now.list right.now.list in
+    requires held { All (F.is_match left.now.list right.now.list) matches.now }
+    requires ids { AreColumnsFor M.pair_of left.now.list right.now.list matches.now
+        fields.now.ids.now }
+    ensures { let is_field = F.is_field fields.now.last.now in
+        let row = IsRowOf M.pair_of is_field left.now.list right.now.list in
         IfOk result (λ text. AreRows row matches.now text.items) }
 {
     let mut text = Vec::new(alloc);
-    push_rows(&mut text, left, right, columns, matches)?;
+    push_rows(&mut text, left, right, fields, matches)?;
     Ok(text)
 }
 
 /// Adds the records of these matches.
-fn push_rows<G: Geometry, M: Match<G>>(
+fn push_rows<F: LastField<G, M>, G: Geometry, M: AsPair>(
     text: &mut Vec<u8>,
     left: &Layer<G>,
     right: &Layer<G>,
-    columns: &Columns,
+    fields: &Fields<'_, F>,
     matches: &[M],
 ) -> Result<(), AllocError>
-    requires held { All (M.is_match left.now.list right.now.list) matches.now }
-    requires columns { AreColumnsFor M.pair_of left.now.list right.now.list matches.now
-        columns.now }
-    ensures { let row = IsRowOf M.pair_of M.is_matrix left.now.list right.now.list in
+    requires held { All (F.is_match left.now.list right.now.list) matches.now }
+    requires ids { AreColumnsFor M.pair_of left.now.list right.now.list matches.now
+        fields.now.ids.now }
+    ensures { let is_field = F.is_field fields.now.last.now in
+        let row = IsRowOf M.pair_of is_field left.now.list right.now.list in
         OnOk result (AddsRows row matches.now text.old.items text.new.items) }
 {
-    text.reserve(matches.len().saturating_mul(columns.likely_record()))?;
+    text.reserve(matches.len().saturating_mul(fields.ids.likely_record()))?;
     for place in 0..matches.len() {
-        make_room(text, right, columns, matches, place)?;
+        make_room(text, right, fields, matches, place)?;
         let found = &matches[place];
         let pair = found.as_pair();
-        // These are read first, so that the processor fetches ids and shapes at the same time.
-        let left_field = columns.left.at(pair.0);
+        // These are read first, so that the processor fetches both ids at the same time.
+        let left_field = fields.ids.left.at(pair.0);
         let left_id = left_field.unwrap();
-        let right_field = columns.right.at(pair.1);
+        let right_field = fields.ids.right.at(pair.1);
         let right_id = right_field.unwrap();
-        let letters = found.letters(&columns.letters, left, right);
-        push_row(text, left_id, right_id, &letters)?;
+        push_ids(text, left_id, right_id)?;
+        fields.last.push_field(text, found, left, right)?;
+        text.push(b'\n')?;
     }
     Ok(())
 }
 
 /// Reserves room for the records of a block of matches, if one begins at `place`. The lookups for
 /// it are spread over memory, so the processor fetches the data of many records at the same time.
-fn make_room<G: Geometry, M: Match<G>>(
+fn make_room<F: LastField<G, M>, G: Geometry, M: AsPair>(
     text: &mut Vec<u8>,
     right: &Layer<G>,
-    columns: &Columns,
+    fields: &Fields<'_, F>,
     matches: &[M],
     place: usize,
 ) -> Result<(), AllocError>
@@ -212,38 +280,29 @@ fn make_room<G: Geometry, M: Match<G>>(
     }
     let mut room: usize = 0;
     for found in matches[place..].iter().take(BLOCK) {
-        room = room.saturating_add(room_of_record(right, columns, found));
+        room = room.saturating_add(room_of_record(right, fields, found));
     }
     text.reserve(room)
 }
 
 /// An estimate of the number of bytes of a match's record.
-fn room_of_record<G: Geometry, M: Match<G>>(
+fn room_of_record<F: LastField<G, M>, G: Geometry, M: AsPair>(
     right: &Layer<G>,
-    columns: &Columns,
+    fields: &Fields<'_, F>,
     found: &M,
 ) -> usize {
-    if !found.fetch(right) {
+    if !fields.last.fetch(found, right) {
         return 0;
     }
-    columns.room_of(found.as_pair())
+    fields.ids.room_of(found.as_pair())
 }
 
-/// Adds the record of two ids, given as CSV fields with their commas, and the letters of a matrix.
-fn push_row(
-    text: &mut Vec<u8>,
-    left: &[u8],
-    right: &[u8],
-    letters: &[u8; 9],
-) -> Result<(), AllocError>
-    ensures { OnOk result
-        (text.new.items ≡ text.old.items ++ line_of left.now right.now letters.now) }
+/// Adds two ids, given as CSV fields with their commas.
+fn push_ids(text: &mut Vec<u8>, left: &[u8], right: &[u8]) -> Result<(), AllocError>
+    ensures { OnOk result (text.new.items ≡ text.old.items ++ (left.now ++ right.now)) }
 {
     text.extend_from_slice(left)?;
-    text.extend_from_slice(right)?;
-    text.extend_from_slice(letters)?;
-    text.push(b'\n')?;
-    Ok(())
+    text.extend_from_slice(right)
 }
 
 /// Adds these texts, or returns the error if an allocation failed for one of them.

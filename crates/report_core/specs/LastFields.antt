@@ -1,0 +1,16 @@
+-- The last field of a report's record, as it is written.
+use Rattle.std.specs.Prelude.{◌≡◌, ℕ, List, ◌++◌, Some}
+use Rattle.layer_core.specs.Layers.{Feature, Contents, with_number}
+use Rattle.csv.specs.Writing.{default_writer, field_text}
+
+-- the layers hold features with these numbers, and a field for their geometries was added, in
+-- quotes if it needs them
+pub record AddsField {G : Type 0} (is_field : G → G → List ℕ → Type 0) (left right : Contents G)
+    (pair : ℕ × ℕ) (old new : List ℕ) : Type 0 where
+  pub first : Feature G
+  pub second : Feature G
+  pub field : List ℕ
+  pub first_held : with_number pair.0 left ≡ Some first
+  pub second_held : with_number pair.1 right ≡ Some second
+  pub correct : is_field first.shape second.shape field
+  pub added : new ≡ old ++ field_text default_writer field

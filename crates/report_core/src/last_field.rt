@@ -1,0 +1,45 @@
+//! The last field of the records of a report: what it says of a pair of features.
+
+use layer_core::{Geometry, Layer};
+use refine_core::AsPair;
+use std::alloc::AllocError;
+
+/// The last field of a report's records, for matches `M` of features of two layers of `G`.
+pub trait LastField<G: Geometry, M: AsPair> {
+    ghost use Rattle.std.specs.Prelude.{◌≡◌, ℕ, List, OnOk};
+    ghost use Rattle.layer_core.specs.Layers.{Contents};
+    ghost use Rattle.report_core.specs.LastFields.{AddsField};
+
+    /// The name of the column, in the header.
+    ghost name_of: { Self → List ℕ };
+
+    /// The match is a pair of features of these two layers.
+    ghost is_match: { Contents G → Contents G → M → Type 0 };
+
+    /// The fields that two geometries may have.
+    ghost is_field: { Self → G → G → List ℕ → Type 0 };
+
+    /// The name of the column, in the header.
+    fn name(&self) -> &'static str
+        ensures { result.now ≡ name_of self.now };
+
+    /// Adds the field of a match of these two layers, in quotes if it needs them.
+    ///
+    /// # Errors
+    /// If an allocation fails.
+    fn push_field(
+        &self,
+        text: &mut Vec<u8>,
+        found: &M,
+        left: &Layer<G>,
+        right: &Layer<G>,
+    ) -> Result<(), AllocError>
+        requires { is_match left.now.list right.now.list found.now }
+        ensures { let pair = M.pair_of found.now in
+            let adds = AddsField (is_field self.now) left.now.list right.now.list pair in
+            OnOk result (adds text.old.items text.new.items) };
+
+    /// Reads what [`LastField::push_field`] reads of the right layer, so that the processor fetches
+    /// it. It is false if there is nothing to be fetched.
+    fn fetch(&self, found: &M, right: &Layer<G>) -> bool;
+}
