@@ -14,11 +14,10 @@ use Rattle.join_core.specs.declared.fault.Input.TheVariants.{First, Second, Left
 use Rattle.join_core.specs.declared.fault.RunFault.{RunFault}
 use Rattle.join_core.specs.declared.fault.RunFault.TheVariants.{NoFile, Read, Wkt, Geometry, Edit, Join, TooManyToDraw, Write, Memory, NoKeys}
 use Rattle.join_core.specs.Inputs.{LayerFile, BlamesBytes, BlamesInput}
-use Rattle.join_core.specs.JoinRuns.{JoinFiles, EditFile, LayersGive, edits_fault, edit_refused, edited, JoinGives, no_layers, IsLateFault}
+use Rattle.join_core.specs.JoinRuns.{JoinFiles, EditFile, LayersGive, edits_fault, edit_refused, edited, ReportGives, no_layers, IsLateFault}
 use Rattle.join_core.specs.JoinRuns.{IsJoinFault, AreEdited, IsEditsFault, unread, ended, EndsAt}
 use Rattle.join_core.specs.SourceStates.{FailedAt}
 use Rattle.filter_core.specs.Joins.{IsJoinList, StandIn}
-use Rattle.join_core.specs.Joinings.{Joining}
 use Rattle.report_core.specs.Reports.{IsHeld}
 use Rattle.report_core.specs.Written.{joined}
 use Rattle.filter_core.proofs.NumberLemmas.{contains_at}
@@ -112,16 +111,17 @@ none_blamed Write late blame = blame
 none_blamed Memory late blame = blame
 none_blamed NoKeys late blame = blame
 
--- without layers there is no report
-pub no_report : {G T : Type 0} (joining : Joining G) (files : JoinFiles G) (out : Result T RunFault) (e : RunFault) → IsErrAnd out (λ x. x ≡ e)
-    → (BlamesInput e → LayersGive files (Err e)) → IfErr out (λ x. BlamesInput x → JoinGives joining files (Err x))
-no_report joining files out e h fault = handed_on (JoinGives joining files) out e e h refl (λ blame. no_layers e (fault blame))
+module _ {G : Type 0} (stands : G → G → Type 0) (name : List ℕ) (is_field : G → G → List ℕ → Type 0) (files : JoinFiles G) where
+  -- without layers there is no report
+  pub no_report : {T : Type 0} (out : Result T RunFault) (e : RunFault) → IsErrAnd out (λ x. x ≡ e)
+      → (BlamesInput e → LayersGive files (Err e)) → IfErr out (λ x. BlamesInput x → ReportGives stands name is_field files (Err x))
+  no_report out e h fault = handed_on (ReportGives stands name is_field files) out e e h refl (λ blame. no_layers e (fault blame))
 
--- the last step of a join, which finds the pairs and makes the report
-pub last_fault : {G T : Type 0} (joining : Joining G) (files : JoinFiles G) (out : Result T RunFault)
-    → IfErr out IsLateFault → IfErr out (λ f. BlamesInput f → JoinGives joining files (Err f))
-last_fault joining files (Ok x) err = tt
-last_fault joining files (Err e) err = λ blame. absurd (none_blamed e err blame)
+  -- the last step of a join, which finds the pairs and makes the report
+  pub last_fault : {T : Type 0} (out : Result T RunFault)
+      → IfErr out IsLateFault → IfErr out (λ f. BlamesInput f → ReportGives stands name is_field files (Err f))
+  last_fault (Ok x) err = tt
+  last_fault (Err e) err = λ blame. absurd (none_blamed e err blame)
 
 module _ {G : Type 0} (files : JoinFiles G) (layers : Layers G) (given : LayersGive files (Ok layers)) where
   pub late_is_of_join : (e : RunFault) → IsLateFault e → IsJoinFault files e

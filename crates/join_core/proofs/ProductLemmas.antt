@@ -22,8 +22,8 @@ use Rattle.join_core.proofs.JoinRunLemmas.{no_report, last_fault, last_faults, i
 pub no_product : {G T : Type 0} (product : Product) (joining : Joining G) (files : JoinFiles G) (out : Result T RunFault) (e : RunFault)
     → IsErrAnd out (λ x. x ≡ e) → (BlamesInput e → LayersGive files (Err e))
     → IfErr out (λ x. BlamesInput x → ProductGives product joining files (Err x))
-no_product Report = no_report
-no_product Picture = no_picture
+no_product Report joining files = no_report joining.stands _ _ files
+no_product Picture joining files = no_picture joining files
 
 pub is_product_fault : {T : Type 0} (product : Product) {G : Type 0} (files : JoinFiles G) (out : Result T RunFault) (e : RunFault) → IsErrAnd out (λ x. x ≡ e)
     → IsJoinFault files e → IfErr out (IsProductFault product files)
@@ -46,7 +46,8 @@ product_given product joining files layers (Err e) given is = tt
 pub product_blamed : {G T : Type 0} (product : Product) (joining : Joining G) (files : JoinFiles G) (layers : Layers G) (out : Result T RunFault)
     → LayersGive files (Ok layers) → (IsErrOf out TooManyToDraw → most_drawn < features_of layers) → IfErr out (IsLateProductFault product)
     → IfErr out (λ x. BlamesInput x → ProductGives product joining files (Err x))
-product_blamed Report joining files layers out given many late = last_fault joining files out late
+product_blamed Report joining files layers out given many late =
+    last_fault joining.stands _ _ files out late
 product_blamed Picture joining files layers out given many late = picture_blamed joining files layers out given many late
 
 pub late_faults : {T : Type 0} (product : Product) {G : Type 0} (files : JoinFiles G) (layers : Layers G) (out : Result T RunFault) → LayersGive files (Ok layers)

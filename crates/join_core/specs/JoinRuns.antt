@@ -1,6 +1,6 @@
 -- The results of a join of three files.
 use Rattle.std.specs.Prelude.{◌≡◌, ◌≢◌, ◌<◌, ◌≤◌, ⊤, ℕ, List, [], Option, Some, None, Result, Ok}
-use Rattle.std.specs.Prelude.{Err, IfSome, length, take}
+use Rattle.std.specs.Prelude.{Err, IfSome, codes, length, take}
 use Rattle.layer_core.specs.declared.fault.LayerFault.{LayerFault}
 use Rattle.layer_core.specs.declared.fault.LayerFault.TheVariants.{Memory as no_memory}
 use Rattle.format_core.specs.Formats.{Reading}
@@ -16,7 +16,7 @@ use Rattle.join_core.specs.declared.fault.RunFault.TheVariants.{Read, Edit, Join
 use Rattle.join_core.specs.declared.joins.sources.JoinSources.{JoinSources}
 use Rattle.join_core.specs.Inputs.{LayerFile, GivesLayer, BlamesBytes, BlamesEdit}
 use Rattle.join_core.specs.Joinings.{Joining, ArePairs}
-use Rattle.report_core.specs.Reports.{IsReport}
+use Rattle.report_core.specs.Reports.{AreLettersBy, IsReportBy}
 
 -- how the geometries of a join read, and the known bytes of its sources; there may be no file of
 -- edits
@@ -82,14 +82,21 @@ pub data LayersGive {G : Type 0} (files : JoinFiles G) : Result (Layers G) RunFa
       → EditFile files.reads files.edits (Ok edits)
       → edits_give 1 (both l r) edits ≡ Ok layers → LayersGive files (Ok layers)
 
--- the report of the edited layers' pairs, or the fault that there are no such layers
-pub data JoinGives {G : Type 0} (joining : Joining G) (files : JoinFiles G)
+-- the report of the edited layers' pairs, or the fault that there are no such layers; which two
+-- geometries are a pair, the name of the last column and the fields in it are parameters
+pub data ReportGives {G : Type 0} (stands : G → G → Type 0) (name : List ℕ)
+    (is_field : G → G → List ℕ → Type 0) (files : JoinFiles G)
     : Result (List ℕ) RunFault → Type 0 where
-  no_layers : (f : RunFault) → LayersGive files (Err f) → JoinGives joining files (Err f)
+  no_layers : (f : RunFault) → LayersGive files (Err f)
+      → ReportGives stands name is_field files (Err f)
   reported : (layers : Layers G) (pairs : List (ℕ × ℕ)) (text : List ℕ)
-      → LayersGive files (Ok layers) → ArePairs joining.stands layers pairs
-      → IsReport joining.is_matrix layers.left layers.right pairs text
-      → JoinGives joining files (Ok text)
+      → LayersGive files (Ok layers) → ArePairs stands layers pairs
+      → IsReportBy name is_field layers.left layers.right pairs text
+      → ReportGives stands name is_field files (Ok text)
+
+-- the report with matrices
+abbrev pub JoinGives : {G : Type 0} → Joining G → JoinFiles G → Result (List ℕ) RunFault → Type 0
+JoinGives joining = ReportGives joining.stands (codes "matrix") (AreLettersBy joining.is_matrix)
 
 -- a possible fault after all files are read and the edits are applied, except that of the sink:
 -- lack of memory or of threads
