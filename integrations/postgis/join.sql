@@ -1,13 +1,17 @@
 -- Joins two tables by rjoin in one transaction, which it leaves open. `rjoin-postgis` runs it by psql, in an empty
--- folder, with the variables left, right (tables), left_id, right_id, left_geometry, right_geometry (columns, or empty),
--- others (error, envelope, skip), decimals (0 to 6, or empty), into and skipped (new tables), and with RJOIN,
--- RJOIN_RELATION and RJOIN_WORKERS in the environment. At the end it writes a line `ready`.
+-- folder, with the variables left, right (tables), left_id, right_id, left_geometry, right_geometry (columns or empty),
+-- others (error, envelope, skip), rings (valid, even-odd), decimals (0 to 6, or empty), into and skipped (new tables),
+-- and with RJOIN, RJOIN_RELATION and RJOIN_WORKERS in the environment. At the end it writes a line `ready`.
 \set ON_ERROR_STOP on
 \set VERBOSITY terse
 \set SHOW_CONTEXT never
 \pset tuples_only on
 \pset format unaligned
 set client_min_messages = warning;
+-- Functions with a query of their own would be compiled at each call. Servers before 11 have no such setting.
+select set_config('jit', 'off', false) from pg_settings where name = 'jit' \g /dev/null
+-- The text of a number is the shortest one that is read back as it, or has all its digits on servers before 12.
+set extra_float_digits = 3;
 begin isolation level repeatable read;
 
 -- PostGIS may be in a schema off the search path; new tables go into the first schema of the path, as before.
@@ -55,37 +59,98 @@ begin
     return found[1];
 end $$;
 
--- A line that lies along an axis goes back on its way exactly where it isn't simple.
-create function pg_temp.rjoin_line_fault(line geometry) returns text language sql immutable as $$
+-- Whether a line is a segment along an axis: a line along an axis goes back on its way exactly if it isn't simple.
+create function pg_temp.rjoin_is_segment(line geometry) returns boolean language sql immutable as $$
     select case
-        when ST_XMin(line) = ST_XMax(line) and ST_YMin(line) = ST_YMax(line) then 'a line without a length'
-        when ST_XMin(line) <> ST_XMax(line) and ST_YMin(line) <> ST_YMax(line) then 'a slanted line, or one that turns'
-        when ST_NPoints(line) > 2 and not ST_IsSimple(line) then 'a line that turns'
+        when (ST_XMin(line) = ST_XMax(line)) = (ST_YMin(line) = ST_YMax(line)) then false
+        else ST_NPoints(line) = 2 or ST_IsSimple(line)
     end $$;
 
--- A valid polygon that covers its bounding box is a rectangle; nearly all have its five points.
-create function pg_temp.rjoin_polygon_fault(polygon geometry) returns text language sql immutable as $$
+-- Whether a polygon is a rectangle: a valid one that covers its bounding box. Nearly all rectangles have five points,
+-- and of others the area excludes nearly all.
+create function pg_temp.rjoin_is_rectangle(polygon geometry) returns boolean language sql immutable as $$
     select case
-        when ST_NumInteriorRings(polygon) > 0 then 'a polygon with a hole'
-        when ST_NPoints(polygon) < 5 then 'not a rectangle'
+        when ST_NumInteriorRings(polygon) > 0 or ST_NPoints(polygon) < 5 then false
+        when ST_Area(polygon) < 0.99 * (ST_XMax(polygon) - ST_XMin(polygon)) * (ST_YMax(polygon) - ST_YMin(polygon))
+            then false
         when ST_NPoints(polygon) = 5 and ST_Area(polygon) > 0
-            and ST_OrderingEquals(ST_Normalize(polygon), ST_Normalize(ST_Envelope(polygon))) then null
-        when not ST_IsValid(polygon) or not ST_Equals(polygon, ST_Envelope(polygon)) then 'not a rectangle'
+            and ST_OrderingEquals(ST_Normalize(polygon), ST_Normalize(ST_Envelope(polygon))) then true
+        else ST_IsValid(polygon) and ST_Equals(polygon, ST_Envelope(polygon))
     end $$;
 
--- Why a geometry, in two dimensions and unpacked if it has one part, is no box; null where it is one.
-create function pg_temp.rjoin_fault(shape geometry) returns text language sql immutable as $$
+-- Whether a geometry, in two dimensions and unpacked if it has one part, is a point, a segment along an axis or a
+-- rectangle.
+create function pg_temp.rjoin_is_box(shape geometry) returns boolean language sql immutable as $$
     select case
-        when shape is null then 'no geometry'
-        when ST_IsEmpty(shape) then 'an empty geometry'
-        when ST_NumGeometries(shape) > 1 then 'a geometry of several parts'
+        when shape is null or ST_IsEmpty(shape) then false
         else case ST_GeometryType(shape)
-            when 'ST_Point' then null
-            when 'ST_LineString' then pg_temp.rjoin_line_fault(shape)
-            when 'ST_Polygon' then pg_temp.rjoin_polygon_fault(shape)
-            else 'a curve or surface'
+            when 'ST_Point' then true
+            when 'ST_LineString' then pg_temp.rjoin_is_segment(shape)
+            when 'ST_Polygon' then pg_temp.rjoin_is_rectangle(shape)
+            else false
         end
     end $$;
+
+-- Whether two numbers are equal, or will be once they are rounded, half a unit away from zero, to these decimals.
+create function pg_temp.rjoin_are_equal(a double precision, b double precision, decimals integer) returns boolean
+language plpgsql stable as $$
+begin
+    return case
+        when a = b then true
+        when decimals is null or abs(b - a) * 10 ^ decimals >= 2 then false
+        else round(a::text::numeric, decimals) = round(b::text::numeric, decimals)
+    end;
+end $$;
+
+create function pg_temp.rjoin_is_dot(shape geometry, decimals integer) returns boolean language plpgsql stable as $$
+begin
+    return pg_temp.rjoin_are_equal(ST_XMin(shape), ST_XMax(shape), decimals)
+        and pg_temp.rjoin_are_equal(ST_YMin(shape), ST_YMax(shape), decimals);
+end $$;
+
+-- Why lines aren't read; null if they are.
+create function pg_temp.rjoin_line_fault(lines geometry, decimals integer) returns text language plpgsql stable as $$
+begin
+    return (
+        select case
+            when bool_or(pg_temp.rjoin_is_dot(geom, null)) then 'a line without a length'
+            when bool_or(pg_temp.rjoin_is_dot(geom, decimals))
+                then 'a line that has no length once rounded to ' || decimals || ' decimals'
+        end
+        from ST_Dump(lines));
+end $$;
+
+-- Why polygons aren't read; null if they are. By the even-odd rule a ring may be flat, and one that is a point is no
+-- part of the area.
+create function pg_temp.rjoin_polygon_fault(polygons geometry, decimals integer, rings text) returns text
+language plpgsql stable as $$
+begin
+    return (
+        select case
+            when bool_and(pg_temp.rjoin_is_dot(ring.geom, null)) then 'a polygon that is a point'
+            when bool_and(pg_temp.rjoin_is_dot(ring.geom, decimals))
+                then 'a polygon that is a point once rounded to ' || decimals || ' decimals'
+            when rings = 'valid' and not ST_IsValid(polygons) then 'an invalid polygon: ' || ST_IsValidReason(polygons)
+        end
+        from ST_Dump(polygons) part, ST_DumpRings(part.geom) ring);
+end $$;
+
+-- Why a geometry that is no box isn't read; null if it is.
+create function pg_temp.rjoin_fault(shape geometry, decimals integer, rings text) returns text
+language plpgsql stable as $$
+begin
+    return case
+        when shape is null then 'no geometry'
+        when ST_IsEmpty(shape) then 'an empty geometry'
+        when ST_GeometryType(shape) = 'ST_MultiPoint' then null
+        when ST_GeometryType(shape) in ('ST_LineString', 'ST_MultiLineString')
+            then pg_temp.rjoin_line_fault(shape, decimals)
+        when ST_GeometryType(shape) in ('ST_Polygon', 'ST_MultiPolygon')
+            then pg_temp.rjoin_polygon_fault(shape, decimals, rings)
+        when ST_GeometryType(shape) = 'ST_GeometryCollection' then 'a collection of several geometries'
+        else 'a curve or surface'
+    end;
+end $$;
 
 -- The fewest decimals that write a number exactly, or 7. The quotient of two whole numbers is correctly rounded, so
 -- it equals the number exactly where the decimal number is read back as it.
@@ -102,37 +167,69 @@ create function pg_temp.rjoin_decimals(number double precision) returns integer 
         else 7
     end $$;
 
-create function pg_temp.rjoin_wkt(x1 bigint, y1 bigint, x2 bigint, y2 bigint) returns text language sql immutable as $$
-    select case
-        when x1 <> x2 and y1 <> y2 then 'POLYGON((' || x1 || ' ' || y1 || ',' || x2 || ' ' || y1 || ','
-            || x2 || ' ' || y2 || ',' || x1 || ' ' || y2 || ',' || x1 || ' ' || y1 || '))'
-        when x1 <> x2 or y1 <> y2 then 'LINESTRING(' || x1 || ' ' || y1 || ',' || x2 || ' ' || y2 || ')'
-        else 'POINT(' || x1 || ' ' || y1 || ')'
-    end $$;
-
--- Numbers the rows of a table into a temporary one, with id, bounds, number of decimals, the fault of those that
--- aren't boxes, and whether the bounds are the geometry itself.
-create function pg_temp.rjoin_read(source regclass, id name, geometry name, target name) returns void
-language plpgsql as $$
+-- The fewest decimals that write all coordinates of a geometry exactly, or 7.
+create function pg_temp.rjoin_decimals(shape geometry) returns integer language plpgsql immutable as $$
 begin
-    execute format('create temporary table %I on commit drop as
-        select row_number() over () as n, id, srid, fault, fault is null as exact, x1, y1, x2, y2,
-            greatest(pg_temp.rjoin_decimals(x1), pg_temp.rjoin_decimals(y1),
-                     pg_temp.rjoin_decimals(x2), pg_temp.rjoin_decimals(y2)) as decimals
-        from (
-            select id, ST_SRID(shape) as srid, pg_temp.rjoin_fault(shape) as fault,
-                ST_XMin(shape) as x1, ST_YMin(shape) as y1, ST_XMax(shape) as x2, ST_YMax(shape) as y2
-            from (
-                select t.%I as id, ST_Force2D(
-                    case when ST_NumGeometries(t.%I) = 1 then ST_GeometryN(t.%I, 1) else t.%I end) as shape
-                from %s t
-                offset 0
-            ) one_part
-            offset 0
-        ) judged', target, id, geometry, geometry, geometry, source);
+    return (select max(greatest(pg_temp.rjoin_decimals(ST_X(geom)), pg_temp.rjoin_decimals(ST_Y(geom))))
+            from ST_DumpPoints(shape));
 end $$;
 
--- Ends the run at the first row that isn't a box, or takes envelopes; what is left with a fault is listed.
+-- The text of a box by its bounds. One that will be flat once it is rounded is a segment or a point.
+create function pg_temp.rjoin_wkt(x1 double precision, y1 double precision, x2 double precision, y2 double precision,
+    decimals integer) returns text language plpgsql stable as $$
+begin
+    return case
+        when not pg_temp.rjoin_are_equal(x1, x2, decimals) and not pg_temp.rjoin_are_equal(y1, y2, decimals)
+            then 'POLYGON((' || x1 || ' ' || y1 || ',' || x2 || ' ' || y1 || ','
+                || x2 || ' ' || y2 || ',' || x1 || ' ' || y2 || ',' || x1 || ' ' || y1 || '))'
+        when not pg_temp.rjoin_are_equal(x1, x2, decimals)
+            then 'LINESTRING(' || x1 || ' ' || y1 || ',' || x2 || ' ' || y1 || ')'
+        when not pg_temp.rjoin_are_equal(y1, y2, decimals)
+            then 'LINESTRING(' || x1 || ' ' || y1 || ',' || x1 || ' ' || y2 || ')'
+        else 'POINT(' || x1 || ' ' || y1 || ')'
+    end;
+end $$;
+
+-- The text of any other geometry without its empty parts. A number next to half a unit of 6 decimals, where each digit
+-- matters, has at most 23 decimals.
+create function pg_temp.rjoin_wkt(shape geometry) returns text language plpgsql immutable as $$
+declare wkt text := ST_AsText(shape, 30);
+begin
+    if wkt like '%EMPTY%' then
+        wkt := (select ST_AsText(ST_Collect(geom order by path), 30) from ST_Dump(shape) where not ST_IsEmpty(geom));
+    end if;
+    return wkt;
+end $$;
+
+-- Numbers the rows of a table into a temporary one, with id, bounds, number of decimals, the fault of those that aren't
+-- read, `exact` of those that are, and the shape of those that are read and aren't boxes.
+create function pg_temp.rjoin_read(source regclass, id name, geometry name, target name, decimals integer, rings text)
+returns void language plpgsql as $$
+begin
+    execute format('create temporary table %1$I on commit drop as
+        select row_number() over () as n, id, srid, fault, fault is null as exact, x1, y1, x2, y2,
+            case when fault is null and not is_box then shape end as shape,
+            case when fault is null and not is_box then pg_temp.rjoin_decimals(shape)
+                else greatest(pg_temp.rjoin_decimals(x1), pg_temp.rjoin_decimals(y1),
+                              pg_temp.rjoin_decimals(x2), pg_temp.rjoin_decimals(y2)) end as decimals
+        from (
+            select *, case when not is_box then pg_temp.rjoin_fault(shape, %5$L, %6$L) end as fault
+            from (
+                select id, shape, ST_SRID(shape) as srid, pg_temp.rjoin_is_box(shape) as is_box,
+                    ST_XMin(shape) as x1, ST_YMin(shape) as y1, ST_XMax(shape) as x2, ST_YMax(shape) as y2
+                from (
+                    select t.%2$I as id, ST_Force2D(
+                        case when ST_NumGeometries(t.%3$I) = 1 then ST_GeometryN(t.%3$I, 1) else t.%3$I end) as shape
+                    from %4$s t
+                    offset 0
+                ) one_part
+                offset 0
+            ) bounded
+            offset 0
+        ) judged', target, id, geometry, source, decimals, rings);
+end $$;
+
+-- Ends the run at the first row that isn't read, or takes envelopes; the rows that keep a fault are listed.
 create function pg_temp.rjoin_judge(target name, source regclass, side text, others text) returns void
 language plpgsql as $$
 declare bad record;
@@ -140,8 +237,9 @@ begin
     if others = 'error' then
         execute format('select id::text, fault from %I where fault is not null order by n limit 1', target) into bad;
         if bad.fault is not null then
-            raise exception '%, id %: not a point, axis-parallel segment or rectangle, but %; %',
-                source, bad.id, bad.fault, 'choose --others envelope or --others skip';
+            raise exception '%, id %: not points, lines or polygons that rjoin reads, but %; %',
+                source, bad.id, bad.fault, 'choose --others envelope or --others skip'
+                || case when bad.fault like 'an invalid%' then ', or --rings even-odd' else '' end;
         end if;
         return;
     end if;
@@ -187,13 +285,12 @@ begin
     end if;
 end $$;
 
--- Makes the view of a layer file, in units of the last decimal. Tells how many rows are rounded, and ends the run at
--- a coordinate out of rjoin's range of 10^12 units.
+-- Makes the view of a layer file. Warns how many rows rjoin will round, and ends the run at a coordinate out of its
+-- range of 10^12 units of the last decimal.
 create function pg_temp.rjoin_write(target name, source regclass, scale integer, file name) returns void
 language plpgsql as $$
 declare
-    power constant bigint := 10 ^ scale;
-    reach constant bigint := 1000000000000 / power;
+    reach constant bigint := 1000000000000 / (10 ^ scale)::bigint;
     rounded bigint;
     bad text := pg_temp.rjoin_first(target,
         format('not (least(x1, y1) >= -%1$s and greatest(x2, y2) <= %1$s)', reach));
@@ -207,9 +304,9 @@ begin
         raise warning '%: rows with coordinates rounded to % decimals: %', source, scale, rounded;
     end if;
     execute format('create temporary view %1$I as
-        select n as id, pg_temp.rjoin_wkt(round(x1 * %2$s)::bigint, round(y1 * %2$s)::bigint,
-                                          round(x2 * %2$s)::bigint, round(y2 * %2$s)::bigint) as wkt
-        from %3$I where fault is null order by n', file, power, target);
+        select n as id, case when shape is null then pg_temp.rjoin_wkt(x1, y1, x2, y2, %2$s)
+                             else pg_temp.rjoin_wkt(shape) end as wkt
+        from %3$I where fault is null order by n', file, scale, target);
 end $$;
 
 -- A name that is yet to be created, with or without its schema, as SQL writes it.
@@ -238,8 +335,9 @@ from pg_class join pg_namespace on pg_namespace.oid = relnamespace where pg_clas
     create temporary view rjoin_skipped as select * from :skipped;
 \endif
 
-select pg_temp.rjoin_read(:'left', :'left_id', :'left_geometry', 'rjoin_left'),
-    pg_temp.rjoin_read(:'right', :'right_id', :'right_geometry', 'rjoin_right') \g /dev/null
+select pg_temp.rjoin_read(:'left', :'left_id', :'left_geometry', 'rjoin_left', given, :'rings'),
+    pg_temp.rjoin_read(:'right', :'right_id', :'right_geometry', 'rjoin_right', given, :'rings')
+from (select nullif(:'decimals', '')::integer as given) option \g /dev/null
 select pg_temp.rjoin_judge('rjoin_left', :'left', 'left', :'others'),
     pg_temp.rjoin_judge('rjoin_right', :'right', 'right', :'others') \g /dev/null
 select pg_temp.rjoin_check_system() \g /dev/null
@@ -252,8 +350,13 @@ select pg_temp.rjoin_write('rjoin_left', :'left', :decimals, 'rjoin_left_file'),
 \copy (select id, wkt from rjoin_left_file) to 'left.csv' csv header
 \copy (select id, wkt from rjoin_right_file) to 'right.csv' csv header
 
+select '--scale ' || :decimals || ' --round' || case
+    when exists (select from rjoin_left where shape is not null)
+        or exists (select from rjoin_right where shape is not null)
+    then ' --geometry any --rings even-odd' else '' end as format \gset
+\setenv RJOIN_FORMAT :format
 create temporary table rjoin_pairs (left_n bigint, right_n bigint, matrix character(9)) on commit drop;
-\copy rjoin_pairs from program 'exec "$RJOIN" join left.csv right.csv --relation="$RJOIN_RELATION" --workers "$RJOIN_WORKERS"' csv header
+\copy rjoin_pairs from program 'exec "$RJOIN" join left.csv right.csv $RJOIN_FORMAT --relation="$RJOIN_RELATION" --workers "$RJOIN_WORKERS"' csv header
 create temporary view rjoin_named_pairs as
     select l.id as left_id, r.id as right_id, p.matrix, l.exact and r.exact as exact
     from rjoin_pairs p join rjoin_left l on l.n = p.left_n join rjoin_right r on r.n = p.right_n

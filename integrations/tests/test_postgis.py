@@ -20,6 +20,7 @@ sys.path.insert(0, str(ROOT / "bench"))
 import layers as made_layers  # noqa: E402
 
 COMMAND = ROOT / "integrations/postgis/rjoin-postgis"
+VILLAGE = ROOT / "data/village"
 SERVER = ROOT / "recipes/with-postgres"
 ANNOUNCE = 'echo "$PGHOST $PGUSER $PGDATABASE"; exec cat'
 
@@ -121,14 +122,22 @@ SHAPES = {
     "POLYGON ((0.5 0, 1 0, 1 0, 1 1, 0 1, 0 0, 0.5 0))": None,
     "MULTIPOLYGON (((0 0, 1 0, 1 1, 0 1, 0 0)))": None,
     "GEOMETRYCOLLECTION (LINESTRING (0 0, 3 0))": None,
-    "LINESTRING (0 0, 2 0, 1 0)": "a line that turns",
-    "LINESTRING (0 0, 1 1)": "a slanted line, or one that turns",
+    "LINESTRING (0 0, 2 0, 1 0)": None,
+    "LINESTRING Z (0 0 7, 1 1 8)": None,
+    "POLYGON ((0 0, 9 0, 9 9, 0 9, 0 0), (1 1, 2 1, 2 2, 1 2, 1 1))": None,
+    "POLYGON ((0 0, 7 0, 3 0.25, 0 1, 0 0))": None,
+    "MULTIPOINT ((0 0), (1 1))": None,
+    "MULTIPOINT (EMPTY, (2 3), (1 1))": None,
+    "MULTILINESTRING ((0 0, 1 1), EMPTY, (2 0, 0 2))": None,
+    "MULTIPOLYGON (((0 0, 1 0, 0 1, 0 0)), ((1 0, 2 0, 1 1, 1 0)))": None,
+    "GEOMETRYCOLLECTION (MULTILINESTRING ((0 0, 1 1), (2 0, 0 2)))": None,
     "LINESTRING (1 1, 1 1)": "a line without a length",
+    "MULTILINESTRING ((0 0, 1 1), (1 1, 1 1))": "a line without a length",
     "POINT EMPTY": "an empty geometry",
-    "POLYGON ((0 0, 2 0, 1 0, 1 1, 0 1, 0 0))": "not a rectangle",
-    "POLYGON ((0 0, 0 1, 1 0, 1 1, 0 0))": "not a rectangle",
-    "POLYGON ((0 0, 9 0, 9 9, 0 9, 0 0), (1 1, 2 1, 2 2, 1 2, 1 1))": "a polygon with a hole",
-    "MULTIPOINT ((0 0), (1 1))": "a geometry of several parts",
+    "POLYGON ((1 1, 1 1, 1 1, 1 1))": "a polygon that is a point",
+    "POLYGON ((0 0, 2 0, 1 0, 1 1, 0 1, 0 0))": "an invalid polygon: Self-intersection[2 0]",
+    "POLYGON ((0 0, 0 2, 2 0, 2 2, 0 0))": "an invalid polygon: Self-intersection[1 1]",
+    "GEOMETRYCOLLECTION (POINT (0 0), LINESTRING (0 0, 1 1))": "a collection of several geometries",
     "CIRCULARSTRING (0 0, 1 1, 2 0)": "a curve or surface",
 }
 
@@ -141,15 +150,15 @@ def test_other_geometries_and_ids_of_any_type(server: Dict[str, str]) -> None:
          + ", ".join(f"('{text}', '{text}')" for text in SHAPES) + ", ('null', null)")
     words = ['odd."Shapes"', "zones", "--relation", "intersects", "--into"]
     before = tables(server)
-    assert "not a point, axis-parallel segment or rectangle, but" in refused(
+    assert "not points, lines or polygons that rjoin reads, but" in refused(
         server, *words, 'odd."Pairs"')
     assert tables(server) == before
-    assert 'rows listed in odd."Pairs_skipped": 10' in done(
+    bad = {text: reason for text, reason in SHAPES.items() if reason}
+    assert f'rows listed in odd."Pairs_skipped": {len(bad) + 1}' in done(
         server, *words, 'odd."Pairs"', "--others", "skip")
     skipped = psql(server, 'select text, reason from odd."Pairs_skipped" join odd."Shapes"'
                    ' on "Key"::text = id where side = \'left\'')
-    assert {text: reason for text, reason in skipped} == {
-        **{text: reason for text, reason in SHAPES.items() if reason}, "null": "no geometry"}
+    assert {text: reason for text, reason in skipped} == {**bad, "null": "no geometry"}
     own = ('select "Key", z.id from odd."Shapes" join zones z on ST_Intersects({}, z.geom)'
            ' {} order by 1, 2')
     kept = 'where "Key"::text not in (select id from odd."Pairs_skipped")'
@@ -158,19 +167,76 @@ def test_other_geometries_and_ids_of_any_type(server: Dict[str, str]) -> None:
     assert psql(server, 'select pg_typeof(left_id), pg_typeof(right_id) from odd."Pairs" limit 1'
                 ) == [["uuid", "text"]]
     told = done(server, *words, "odd.boxes", "--others", "envelope", "--skipped", "odd.gone")
+    shape = ('case when text in (' + ", ".join(f"'{text}'" for text in bad)
+             + ') then ST_Envelope("The Shape") else "The Shape" end')
     assert psql(server, "select left_id, right_id from odd.boxes order by 1, 2") == psql(
-        server, own.format('ST_Envelope("The Shape")', ""))
+        server, own.format(shape, ""))
     assert len(psql(server, "select * from odd.gone")) == 2
     mirrored = done(server, "zones", 'odd."Shapes"', *words[2:], "odd.mirrored", "--others",
                     "envelope")
-    boxes = [text for text, reason in SHAPES.items() if reason is None]
     for pairs, side, said in (("boxes", "left", told), ("mirrored", "right", mirrored)):
         rows = psql(server, f'select text, exact from odd.{pairs} join odd."Shapes"'
                     f' on "Key" = {side}_id')
         assert {exact for _, exact in rows} == {"t", "f"}
-        assert all((exact == "t") == (text in boxes) for text, exact in rows)
+        assert all((exact == "t") == (text not in bad) for text, exact in rows)
         inexact = [exact for _, exact in rows].count("f")
         assert f"pairs that rest on an envelope, where exact is false: {inexact}\n" in said
+
+
+SLANTED = ("intersects", "touches", "crosses", "within", "contains", "overlaps", "equals", "covers",
+           "covered_by")
+
+
+@pytest.fixture(scope="session")
+def village(server: Dict[str, str]) -> str:
+    """All layers of the village in one table: points, lines and polygons of any direction with
+    whole coordinates."""
+    psql(server, "create table village (id text primary key, geom geometry)")
+    for path in sorted(VILLAGE.glob("*.csv")):
+        psql(server, f"\\copy village from '{path}' csv header")
+    return "village"
+
+
+@pytest.mark.parametrize("relation", SLANTED)
+def test_slanted_lines_and_polygons(server: Dict[str, str], village: str, relation: str) -> None:
+    done(server, village, village, "--relation", relation, "--into", f"village_{relation}")
+    own = psql(server, OWN.format(left=village, right=village, relation=relation.replace("_", "")))
+    assert psql(server, f"select * from village_{relation} order by 1, 2") == own
+    assert own or relation == "overlaps"
+
+
+MADE_OF_ANY = (("parcels", "overlaps"), ("neighbours", "touches"), ("roads", "crosses"),
+               ("zones", "within"))
+
+
+def test_made_layers_of_any_geometry(server: Dict[str, str], tmp_path: Path) -> None:
+    """Parcels of many corners, roads across them, and points in areas."""
+    for kind, relation in MADE_OF_ANY:
+        for side, path in zip("lr", made_layers.write_pair(tmp_path, kind, 400)):
+            psql(server, f"create table {kind}_{side} (id text primary key, geom geometry)",
+                 f"\\copy {kind}_{side} from '{path}' csv header")
+        done(server, f"{kind}_l", f"{kind}_r", "--relation", relation, "--into", f"{kind}_p")
+        own = psql(server, f"select l.id, r.id from {kind}_l l join {kind}_r r"
+                   f" on ST_{relation}(l.geom, r.geom) order by 1, 2")
+        found = psql(server, f"select left_id, right_id from {kind}_p order by 1, 2")
+        assert found == own and own, kind
+
+
+def test_rings_by_the_even_odd_rule(server: Dict[str, str]) -> None:
+    """A bow-tie is two triangles with a common corner at (2, 2)."""
+    psql(server, "create table bows (id text primary key, geom geometry)",
+         "insert into bows values ('bow', 'POLYGON ((0 0, 4 4, 4 0, 0 4, 0 0))')",
+         "create table dots (id text primary key, geom geometry)",
+         "insert into dots values ('left', 'POINT (1 2)'), ('right', 'POINT (3 2)'),"
+         " ('above', 'POINT (2 3)'), ('below', 'POINT (2 1)'), ('middle', 'POINT (2 2)')")
+    words = ["dots", "bows", "--relation", "within", "--into", "in_bows"]
+    assert ("bows, id bow: not points, lines or polygons that rjoin reads, but an invalid polygon: "
+            "Self-intersection[2 2]; choose --others envelope or --others skip, or --rings even-odd"
+            ) in refused(server, *words)
+    done(server, *words, "--rings", "even-odd")
+    assert psql(server, "select left_id from in_bows order by 1") == [["left"], ["right"]]
+    masked = ["bows", "bows", "--relation", "FFFFF1***", "--rings", "even-odd", "--into", "never"]
+    assert refused(server, *masked).strip().endswith("disjoint features may fit")
 
 
 def test_ids_and_names_are_never_read_as_sql(server: Dict[str, str]) -> None:
@@ -215,6 +281,44 @@ def test_decimals(server: Dict[str, str]) -> None:
     assert psql(server, "select left_id, right_id from fine_pairs order by 2") == own and own
     assert "far, id 9: a coordinate is out of range" in refused(
         server, "far", "zones", "--relation", "within", "--into", "far_pairs")
+
+
+def test_rounding_is_half_a_unit_away_from_zero(server: Dict[str, str]) -> None:
+    """Of points and of lines alike; a segment may become a point, any other line may not."""
+    psql(server, "create table halves (id text primary key, geom geometry)",
+         "insert into halves values ('east', 'LINESTRING (0.125 -1, 0.125 1)'),"
+         " ('west', 'LINESTRING (-0.125 -1, -0.125 1)'),"
+         " ('slanted', 'LINESTRING (-1.005 -2.000000001, 1.005 2)'),"
+         " ('short', 'LINESTRING (9 9, 9.001 9)'), ('tiny', 'LINESTRING (9 9, 9.001 9.001)')",
+         "create table marks (id text primary key, geom geometry)",
+         "insert into marks values ('east', 'POINT (0.13 0.5)'), ('west', 'POINT (-0.13 0.5)'),"
+         " ('middle', 'POINT (0 0)'), ('end', 'POINT (1.01 2)'), ('far', 'POINT (9 9)')")
+    words = ["marks", "halves", "--relation", "intersects", "--into", "on_halves"]
+    assert "halves, id slanted: a coordinate isn't written exactly by 6 decimals" in refused(
+        server, *words)
+    words += ["--decimals", "2"]
+    assert ("halves, id tiny: not points, lines or polygons that rjoin reads, but a line that has"
+            " no length once rounded to 2 decimals") in refused(server, *words)
+    assert "halves: rows with coordinates rounded to 2 decimals: 4" in done(
+        server, *words, "--others", "skip")
+    assert psql(server, "select left_id, right_id from on_halves order by 1") == [
+        ["east", "east"], ["end", "slanted"], ["far", "short"], ["middle", "slanted"],
+        ["west", "west"]]
+
+
+def test_all_digits_are_handed_over(server: Dict[str, str]) -> None:
+    """A half at 6 decimals and numbers next to halves, above and below."""
+    psql(server, "create table digits (id int primary key, geom geometry)",
+         "insert into digits values (1, ST_MakeLine(ST_Point(0.0000005, 0), ST_Point(1, 1))),"
+         " (2, ST_MakeLine(ST_Point(0.49999950000000006, 0), ST_Point(1, 1))),"
+         " (3, ST_MakeLine(ST_Point(0.49999949999999995, 0), ST_Point(1, 1))),"
+         " (4, ST_MakeLine(ST_Point(0.0000004999999999999999, 0), ST_Point(1, 1)))",
+         "create table ends (id int primary key, geom geometry)",
+         "insert into ends values (1, 'POINT (0.000001 0)'), (2, 'POINT (0.5 0)'),"
+         " (3, 'POINT (0.499999 0)'), (4, 'POINT (0 0)')")
+    done(server, "ends", "digits", "--relation", "touches", "--into", "ended", "--decimals", "6")
+    assert psql(server, "select left_id, right_id from ended order by 1") == [
+        ["1", "1"], ["2", "2"], ["3", "3"], ["4", "4"]]
 
 
 @pytest.mark.parametrize("words, text", [
