@@ -161,7 +161,8 @@ def test_polygons_and_paths(joined: Dict[str, Any], relation: str) -> None:
     """Beside KLayout's interacting, overlapping and inside of the regions of each pair; KLayout
     0.28 doesn't find all of those that share nothing but points of their boundaries."""
     answer = joined[f"angled 1/0 {relation} 2/0 error"]
-    asked: Counter[Tuple[Bounds, ...]] = Counter((corners(one), corners(other)) for one, other in answer["asked"])
+    asked: Counter[Tuple[Bounds, ...]] = Counter(
+        (corners(one), corners(other)) for one, other in answer["asked"])
     own = pairs_of(answer, corners)
     points = items(Path(answer["database"]), corners).get(
         f"'1/0 {relation} 2/0'.{POINTS_ALONE}", [])
