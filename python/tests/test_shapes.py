@@ -17,7 +17,7 @@ import pandas
 import pytest
 
 import rjoin
-from rjoin import outlines
+from rjoin import outlines, sources
 
 geopandas = pytest.importorskip("geopandas")
 wkt = pytest.importorskip("shapely.wkt")
@@ -175,10 +175,19 @@ def test_layers_of_boxes_are_given_as_boxes(monkeypatch: Any, real: str, tmp_pat
     assert (tmp_path / "words").read_text().count("--geometry any") == 1
 
 
+def test_texts_of_several_parts_are_read_without_shapely(monkeypatch: Any) -> None:
+    monkeypatch.setattr(sources, "has_shapely", lambda: False)
+    for text in TEXTS:
+        assert rjoin.stats([text]).features == 1
+        assert rjoin.relate(text, text) == wkt.loads(text).relate(wkt.loads(text))
+
+
 def test_parts_that_are_empty_are_left_away() -> None:
     for text, plain in (
             ("MULTIPOINT (EMPTY, (1 1), (3 3))", "MULTIPOINT (1 1, 3 3)"),
             ("MULTILINESTRING ((0 0, 3 3), EMPTY, (5 0, 5 9))",
+             "MULTILINESTRING ((0 0, 3 3), (5 0, 5 9))"),
+            ("MULTILINESTRING (EMPTY, (0 0, 3 3), (5 0, 5 9), EMPTY)",
              "MULTILINESTRING ((0 0, 3 3), (5 0, 5 9))"),
             ("MULTIPOLYGON (EMPTY, ((0 0, 2 0, 0 2, 0 0)), ((5 5, 9 5, 5 9, 5 5)))",
              "MULTIPOLYGON (((0 0, 2 0, 0 2, 0 0)), ((5 5, 9 5, 5 9, 5 5)))")):

@@ -48,10 +48,6 @@ class BoxBody:
         forms[self.replaced] = sheet.forms_of(units[self.replaced])
         return forms
 
-    def is_flattened(self, units: Units) -> bool:
-        """Whether a side of a box has no length once it is rounded."""
-        return not np.array_equal(self.forms(units), sheet.forms_of(units))
-
     def size(self, units: Units, columns: sheet.Columns) -> int:
         return sheet.size_of(self.forms(units), columns)
 

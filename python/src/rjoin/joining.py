@@ -58,8 +58,9 @@ class Reading(NamedTuple):
 class Job:
     """The layers of a run and geometries beside them, and how the program is to read them.
 
-    widened: texts have shown themselves to be more than boxes. overlooked: the faults of rings
-    because of which the even-odd rule is taken.
+    widened: the program is to read any geometry, since a source has more than boxes, as texts and
+    rounded boxes show only when it reads them. overlooked: the faults of rings because of which the
+    even-odd rule is taken.
     """
 
     def __init__(self, sources: Sequence[Source], reading: Reading,
@@ -76,10 +77,7 @@ class Job:
         self.scale = scale_of(sources, self.reading)
         for source in self.sources:
             source.leave_out_dots(self.scale)
-        self.widened = any([source.needs_any(self.scale) for source in self.sources])
-        with faults_without_rows():
-            for geometry in self.geometries:
-                self.widened |= geometry.needs_any(self.scale)
+        self.widened = any(source.needs_any for source in sources)
 
     @property
     def words(self) -> List[str]:

@@ -106,7 +106,8 @@ class Source(ABC):
     def greatest(self) -> float:
         """A number that no coordinate exceeds by its absolute value; 0 where all are small."""
 
-    def needs_any(self, scale: Scale) -> bool:
+    @property
+    def needs_any(self) -> bool:
         """Whether it is known to have more than boxes."""
         return False
 
@@ -226,10 +227,9 @@ class GeometrySource(Source):
             self.left_out = tuple(sorted([*self.left_out, *more], key=lambda notice: notice.row))
             self.rows, self.body, self.counted = self.rows[~dots], self.body.chosen(~dots), None
 
-    def needs_any(self, scale: Scale) -> bool:
-        if isinstance(self.body, AnyBody):
-            return True
-        return scale.rounds and self.body.is_flattened(self.units(scale))
+    @property
+    def needs_any(self) -> bool:
+        return isinstance(self.body, AnyBody)
 
     def text(self, scale: Scale) -> str:
         """The text of the only geometry."""
