@@ -41,7 +41,8 @@ def write(options: Namespace, everyone: list[Program], rows: list[Row], wrong: l
 
 def page(options: Namespace, everyone: list[Program], rows: list[Row], wrong: list[str]) -> str:
     versions = ", ".join(f"{program.name} {program.version.removeprefix('rjoin ')}" for program in everyone)
-    answer = "Every program gave the same pairs with the same DE-9IM letters or distances." if not wrong else "\n".join(wrong)
+    agrees = "Every program gave the same pairs with the same DE-9IM letters or distances."
+    answer = "\n".join(wrong) if wrong else agrees
     groups = "\n\n".join(group(options, title, [row for row in rows if row.geometry == geometry])
                          for geometry, title in TITLES.items() if any(row.geometry == geometry for row in rows))
     return f"""# Bench

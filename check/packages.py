@@ -234,8 +234,8 @@ def manual_has_all_of_the_help(it: Tried) -> None:
     text = words_of(shown.stdout.decode())
     whole = [str(it.launcher)]
     for words in [whole, *(whole + [name] for name in commands(help_of(it.program)))]:
-        shown = COMMANDS.sub("", well(ran(*words, "--help")).stdout.decode())
-        for line in shown.splitlines():
+        helped = COMMANDS.sub("", well(ran(*words, "--help")).stdout.decode())
+        for line in helped.splitlines():
             is_there = words_of(line.removeprefix("Usage: ")).casefold() in text.casefold()
             expect(is_there or line in TITLES, line)
 
@@ -256,12 +256,12 @@ def completion_offers_what_the_help_lists(it: Tried) -> None:
     expect(completions(it, "") == {*OPTIONS, "help"} == completions(it, "help", "") | {"help"}, completions(it, ""))
     expect(completions(it, "--") == {"--help", "--version"}, completions(it, "--"))
     for name, options in OPTIONS.items():
-        shown = set(re.findall(r"--\w+", "\n".join(help_of(it.program, name).entries["Options"])))
-        expect(completions(it, name, "--") == options == shown, (name, completions(it, name, "--")))
+        listed = set(re.findall(r"--\w+", "\n".join(help_of(it.program, name).entries["Options"])))
+        expect(completions(it, name, "--") == options == listed, (name, completions(it, name, "--")))
         expect(completions(it, name, "--scale", "") == SCALES, (name, completions(it, name, "--scale", "")))
-    shown = set(re.findall(r"^  ([a-z_]+)(?:  |$)", well(ran(it.program, "join", "--help")).stdout.decode(), re.M))
+    listed = set(re.findall(r"^  ([a-z_]+)(?:  |$)", well(ran(it.program, "join", "--help")).stdout.decode(), re.M))
     for name in ("join", "draw"):
-        expect(completions(it, name, "--relation", "") == RELATIONS == shown - {"disjoint"}, name)
+        expect(completions(it, name, "--relation", "") == RELATIONS == listed - {"disjoint"}, name)
     expect(completions(it, "join", "par") == {"parcels.csv"}, completions(it, "join", "par"))
     expect(completions(it, "join", "--edits", "road") == {"roads.csv"}, completions(it, "join", "--edits", "road"))
     expect(completions(it, "join", "--workers", "") == set(), completions(it, "join", "--workers", ""))

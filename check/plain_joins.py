@@ -42,7 +42,7 @@ class Scale:
 
     def units(self, number: str) -> int:
         """The number in units: the nearest whole one if it is rounded, half a unit away from zero."""
-        units = Fraction(number) * 10 ** self.digits
+        units = Fraction(number) * Fraction(10) ** self.digits
         if not self.rounds:
             assert units.denominator == 1
             return units.numerator
