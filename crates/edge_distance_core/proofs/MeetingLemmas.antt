@@ -43,7 +43,7 @@ reach_turned n d P Q h = record {
     plain : (a b x y : ℕ) → a ≡ b → x ≡ y → d * a ≤ n * x → d * b ≤ n * y
     plain a b x y e f k = subst (λ (m : ℕ). d * m ≤ n * y) e (subst (λ (m : ℕ). d * a ≤ n * m) f k)
 
-reach_within : (n d : ℕ) (P Q R S : Point → Type 0) → ((p : Point) → P p → R p) → ((q : Point) → Q q → S q) → ReachFraction n d P Q → ReachFraction n d R S
+pub reach_within : (n d : ℕ) (P Q R S : Point → Type 0) → ((p : Point) → P p → R p) → ((q : Point) → Q q → S q) → ReachFraction n d P Q → ReachFraction n d R S
 reach_within n d P Q R S first second h = record {
   first = h.first;
   second = h.second;
@@ -88,7 +88,7 @@ meeting_least e f n d node none one meeting = record {
     none_nearer n s m h = rw h (omega arith)
 
 -- a fraction that is no more than another
-far_lesser : (f g : SquaredFraction) (p q : Point) → IsNoMore f g → IsFar (pos (numerator_of g)) (pos g.denominator) p q → IsFar (pos (numerator_of f)) (pos f.denominator) p q
+pub far_lesser : (f g : SquaredFraction) (p q : Point) → IsNoMore f g → IsFar (pos (numerator_of g)) (pos g.denominator) p q → IsFar (pos (numerator_of f)) (pos f.denominator) p q
 far_lesser f g p q h far =
     far_less (pos (numerator_of f)) (pos f.denominator) (pos (numerator_of g)) (pos g.denominator) p q (positive g.denominator g.positive) (not_negative f.denominator)
     (plain (numerator_of f) g.denominator (numerator_of g) f.denominator h) far
@@ -108,7 +108,7 @@ pub record IsLesser (r f g : SquaredFraction) : Type 0 where
   pub first : IsNoMore r f
   pub second : IsNoMore r g
 
-by_one : (C : SquaredFraction → Type 0) (r f g : SquaredFraction) → (r ≡ f) ⊎ (r ≡ g) → C f → C g → C r
+pub by_one : (C : SquaredFraction → Type 0) (r f g : SquaredFraction) → (r ≡ f) ⊎ (r ≡ g) → C f → C g → C r
 by_one C r f g (inl e) h k = subst C (sym e) h
 by_one C r f g (inr e) h k = subst C (sym e) k
 

@@ -61,7 +61,7 @@ fn vertex_to_foot(v: &Vertex, e: &Edge, length: u128) -> SquaredFraction
 }
 
 /// The lesser of two squares.
-fn lesser(first: SquaredFraction, second: SquaredFraction) -> SquaredFraction
+pub fn lesser(first: SquaredFraction, second: SquaredFraction) -> SquaredFraction
     ensures one { (result ≡ first) ⊎ (result ≡ second) }
     ensures first { IsNoMore result first }
     ensures second { IsNoMore result second }

@@ -6,5 +6,5 @@ mod fraction;
 mod times;
 mod vector;
 
-pub use edges::{are_edges_within, edge_to_edge, vertex_to_edge, vertex_to_vertex};
+pub use edges::{are_edges_within, edge_to_edge, lesser, vertex_to_edge, vertex_to_vertex};
 pub use fraction::SquaredFraction;

@@ -1,0 +1,5 @@
+pub mod WayLemmas
+pub mod PartLemmas
+pub mod BoundaryLemmas
+pub mod SkeletonLemmas
+pub mod NearestLemmas

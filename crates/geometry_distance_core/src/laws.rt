@@ -1,0 +1,14 @@
+//! The law that ties the distance of geometries to that of their edges and single points.
+
+ghost use Rattle.plane_core.specs.Figures.{Figure, IsGeometry};
+ghost use Rattle.distance_core.specs.ShapePoints.{IsPointOf};
+ghost use Rattle.edge_distance_core.specs.declared.fraction.SquaredFraction.{SquaredFraction};
+ghost use Rattle.edge_distance_core.specs.Fractions.{IsSquareOf};
+ghost use Rattle.geometry_distance_core.specs.Skeletons.{IsOnSkeleton, AreApart};
+
+/// Closed geometries that share no point are as far apart as their edges and single points.
+pub fn skeleton_law()
+    ensures { (g h : Figure) (square : SquaredFraction) → IsGeometry g → IsGeometry h
+        → AreApart g h → IsSquareOf square (IsOnSkeleton g) (IsOnSkeleton h)
+        → IsSquareOf square (IsPointOf g) (IsPointOf h) }
+{}
