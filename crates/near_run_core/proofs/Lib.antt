@@ -1,0 +1,3 @@
+pub mod AmountLemmas
+pub mod DistanceLemmas
+pub mod RunLemmas

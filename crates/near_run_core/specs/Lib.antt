@@ -1,0 +1,2 @@
+pub mod DistanceTexts
+pub mod NearRuns
