@@ -5,9 +5,11 @@ mod apart;
 mod distance;
 mod gap;
 mod laws;
+mod nearness;
 mod root;
 
 pub use apart::{SquaredDistance, is_within, squared_distance};
 pub use distance::{Distance, MAX_DISTANCE};
 pub use laws::points_law;
+pub use nearness::Nearness;
 pub use root::rounded_root;

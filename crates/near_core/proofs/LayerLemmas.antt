@@ -4,7 +4,7 @@ use Rattle.layer_core.specs.Layers.{Contents}
 use Rattle.filter_core.specs.Joins.{StandIn, IsJoinList}
 use Rattle.near_core.specs.declared.features.NearFeatures.{NearFeatures}
 use Rattle.near_core.specs.declared.grown.GrownShape.{GrownShape}
-use Rattle.near_core.specs.declared.nearness.Nearness.{Nearness}
+use Rattle.distance_core.specs.declared.nearness.Nearness.{Nearness}
 use Rattle.near_core.specs.Conditions.{left_of, right_of, wanted}
 use Rattle.near_core.specs.Near.{BoxesMeet, AreWanted}
 

@@ -2,7 +2,7 @@
 use Rattle.layer_core.specs.Layers.{Contents}
 use Rattle.near_core.specs.declared.features.NearFeatures.{NearFeatures}
 use Rattle.near_core.specs.declared.grown.GrownShape.{GrownShape}
-use Rattle.near_core.specs.declared.nearness.Nearness.{Nearness}
+use Rattle.distance_core.specs.declared.nearness.Nearness.{Nearness}
 
 abbrev pub left_of : NearFeatures → Contents GrownShape
 left_of c = c.left.now.list

@@ -8,8 +8,8 @@ use Rattle.layer_core.specs.Layers.{Contents}
 use Rattle.filter_core.specs.Joins.{StandIn, BoxesMeet as BoxesMeetBy}
 use Rattle.refine_core.specs.declared.refined.Refined.{Refined}
 use Rattle.near_core.specs.declared.grown.GrownShape.{GrownShape}
-use Rattle.near_core.specs.declared.nearness.Nearness.{Nearness}
-use Rattle.near_core.specs.declared.nearness.Nearness.TheVariants.{Within, Apart}
+use Rattle.distance_core.specs.declared.nearness.Nearness.{Nearness}
+use Rattle.distance_core.specs.declared.nearness.Nearness.TheVariants.{Within, Apart}
 use Rattle.near_core.specs.Growth.{grown_box}
 
 abbrev pub BoxesMeet : GrownShape → GrownShape → Type 0

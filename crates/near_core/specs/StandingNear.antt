@@ -14,8 +14,8 @@ use Rattle.distance_core.specs.ShapePoints.{HasPoint}
 use Rattle.distance_core.proofs.GapLemmas.{AreClose, within_is_close}
 use Rattle.near_core.specs.declared.grown.GrownShape.{GrownShape}
 use Rattle.near_core.specs.Growth.{grown, growth_of, lower, upper}
-use Rattle.near_core.specs.declared.nearness.Nearness.{Nearness}
-use Rattle.near_core.specs.declared.nearness.Nearness.TheVariants.{Within, Apart}
+use Rattle.distance_core.specs.declared.nearness.Nearness.{Nearness}
+use Rattle.distance_core.specs.declared.nearness.Nearness.TheVariants.{Within, Apart}
 use Rattle.near_core.specs.Near.{BoxesMeet, AreNear, AreWanted}
 
 -- of two intervals that are at most d apart, grown by m and n, each begins before the other ends

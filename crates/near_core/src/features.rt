@@ -4,8 +4,7 @@ ghost use Rattle.std.specs.Prelude.{◌≡◌, ◌↔◌, IsSome, IfSome};
 ghost use Rattle.near_core.specs.Near.{AreNear, AreWanted, HaveSquare};
 
 use crate::grown::GrownShape;
-use crate::nearness::Nearness;
-use distance_core::{SquaredDistance, squared_distance};
+use distance_core::{Nearness, SquaredDistance, squared_distance};
 use layer_core::Layer;
 use refine_core::Condition;
 use std::alloc::{AllocError, Global};

@@ -7,14 +7,12 @@ mod grown;
 mod join;
 mod laws;
 mod listed;
-mod nearness;
 mod outcome;
 
-pub use distance_core::{Distance, SquaredDistance};
+pub use distance_core::{Distance, Nearness, SquaredDistance};
 pub use features::NearFeatures;
 pub use grown::GrownShape;
 pub use join::near_layers;
 pub use laws::{one_distance_law, touching_law};
 pub use listed::refine_list;
-pub use nearness::Nearness;
 pub use outcome::NearOutcome;
