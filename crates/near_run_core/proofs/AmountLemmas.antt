@@ -11,11 +11,11 @@ use Rattle.std.proofs.lemmas.Fmt.{decimal_is_IsNumeral}
 use Rattle.std.proofs.lemmas.List.Folds.{list_any-append}
 use Rattle.std.proofs.lemmas.Str.Parse.{digit_from_value}
 use Rattle.csv.specs.Writing.{default_writer, field_text, needs_byte, needs_quotes}
-use Rattle.wkt_core.specs.declared.scale.Scale.{Scale}
-use Rattle.wkt_core.specs.Scales.{digits_of}
-use Rattle.wkt_core.specs.Canonical.{decimals, fraction, number}
-use Rattle.wkt_core.specs.Grammar.{Digits}
-use Rattle.wkt_core.proofs.FractionLemmas.{power_pos, decimals_digits}
+use Rattle.number_core.specs.declared.scale.Scale.{Scale}
+use Rattle.number_core.specs.Scales.{digits_of}
+use Rattle.number_core.specs.CanonicalNumbers.{decimals, fraction, number}
+use Rattle.number_core.specs.Numbers.{Digits}
+use Rattle.number_core.proofs.FractionLemmas.{power_pos, decimals_digits}
 
 either : (a b : Bool) → a ≡ false → b ≡ false → (a || b) ≡ false
 either a b p q = rw p q

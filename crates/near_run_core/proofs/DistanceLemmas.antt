@@ -13,8 +13,8 @@ use Rattle.distance_core.proofs.SquareLemmas.{square_bound}
 use Rattle.layer_core.specs.Layers.{Contents}
 use Rattle.refine_core.specs.declared.refined.Refined.{Refined}
 use Rattle.report_core.specs.LastFields.{AddsField}
-use Rattle.wkt_core.specs.declared.scale.Scale.{Scale}
-use Rattle.wkt_core.specs.Canonical.{number}
+use Rattle.number_core.specs.declared.scale.Scale.{Scale}
+use Rattle.number_core.specs.CanonicalNumbers.{number}
 use Rattle.near_core.specs.declared.grown.GrownShape.{GrownShape}
 use Rattle.near_core.specs.Near.{HasSquare}
 use Rattle.near_run_core.specs.DistanceTexts.{IsDistanceText}

@@ -1,7 +1,7 @@
 -- The distance of two features, as a field of a report.
 use Rattle.std.specs.Prelude.{◌≡◌, ℕ, List, pos}
-use Rattle.wkt_core.specs.declared.scale.Scale.{Scale}
-use Rattle.wkt_core.specs.Canonical.{number}
+use Rattle.number_core.specs.declared.scale.Scale.{Scale}
+use Rattle.number_core.specs.CanonicalNumbers.{number}
 use Rattle.distance_core.specs.Roots.{IsRoundedRoot}
 use Rattle.near_core.specs.declared.grown.GrownShape.{GrownShape}
 use Rattle.near_core.specs.Near.{HaveSquare}

@@ -1,8 +1,8 @@
 //! Numbers of units as text.
 
 ghost use Rattle.std.specs.Prelude.{◌≡◌, ◌++◌, ◌<◌, ◌^◌, pos, OnOk};
-ghost use Rattle.wkt_core.specs.Canonical.{decimals, fraction, number};
-ghost use Rattle.wkt_core.specs.Scales.{digits_of};
+ghost use Rattle.number_core.specs.CanonicalNumbers.{decimals, fraction, number};
+ghost use Rattle.number_core.specs.Scales.{digits_of};
 
 use itoa::Buffer;
 use std::alloc::AllocError;

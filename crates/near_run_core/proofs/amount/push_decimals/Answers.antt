@@ -1,7 +1,7 @@
 use Rattle.std.proofs.Common.{◌≡◌, ◌++◌, ◌∙◌, ap, sym, arith, rules}
 use Rattle.std.proofs.lemmas.List.{append-nil}
-use Rattle.wkt_core.specs.Canonical.{decimals}
-use Rattle.wkt_core.proofs.FractionLemmas.{decimals-zero, digit_printed}
+use Rattle.number_core.specs.CanonicalNumbers.{decimals}
+use Rattle.number_core.proofs.FractionLemmas.{decimals-zero, digit_printed}
 use Rattle.near_run_core.proofs.amount.push_decimals.Goals as goal
 
 pub loop-rest-preserved : goal.loop-rest-preserved

@@ -1,6 +1,6 @@
 use Rattle.std.proofs.Common.{◌≡◌, ◌++◌, ◌<◌, ◌^◌, ℕ}
-use Rattle.wkt_core.specs.Canonical.{decimals}
-use Rattle.wkt_core.specs.Scales.{digits_of}
+use Rattle.number_core.specs.CanonicalNumbers.{decimals}
+use Rattle.number_core.specs.Scales.{digits_of}
 use Rattle.near_run_core.proofs.amount.push_decimals.Given as goal
 
 abbrev pub invariant-loop-rest : goal.invariant-loop-rest
