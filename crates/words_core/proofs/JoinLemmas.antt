@@ -1,5 +1,5 @@
 -- The faults of a join, in their order.
-use Rattle.std.proofs.Common.{◌≡◌, ◌≢◌, ◌≤◌, ℕ, Bool, true, false, Option, Some, None, List, refl, sym, subst, inl, inr}
+use Rattle.std.proofs.Common.{◌≡◌, ◌≤◌, ℕ, Bool, true, false, Option, Some, None, List, refl, sym, subst, inl, inr}
 use Rattle.std.specs.Prelude.{codes, ◌⊎◌}
 use Rattle.std.specs.Bool.{MatchBool}
 use Rattle.clap.specs.Words.{Row, Text, first_of}
@@ -12,8 +12,9 @@ use Rattle.relation_core.specs.declared.relation.Relation.{Relation}
 use Rattle.number_core.specs.ScaleLimits.{most_digits}
 use Rattle.number_core.specs.Scales.{digits_of}
 use Rattle.number_core.specs.declared.scale.Scale.{Scale}
-use Rattle.words_core.specs.Readings.{missing_text, number_at, share_input, shared_text, AllowsDisjointIn, AreOptionsIn, ForbidsDisjointIn, HasFormatFault, HasJoinFault, HasScaleFault, IsScaleIn}
-use Rattle.words_core.specs.Readings.{IsRangeFault, IsRelationFault, NeedsNoDisjoint, NeedsOneInput, NeedsOptions, NeedsRelation, NeedsScale, Says}
+use Rattle.words_core.specs.Readings.{missing_text, number_at, share_input, shared_text, AllowsDisjointIn, AreOptionsIn, ArePathsIn, ForbidsDisjointIn, HasFormatFault, HasJoinFault, HasScaleFault, IsScaleIn}
+use Rattle.words_core.specs.Readings.{IsRangeFault, IsRelationFault, NeedsNoDisjoint, NeedsOneInput, NeedsOptions, NeedsPaths, NeedsRelation, NeedsScale, Says}
+use Rattle.words_core.specs.declared.words.LayerPaths.{LayerPaths}
 use Rattle.words_core.specs.declared.words.WordFault.{WordFault}
 use Rattle.words_core.specs.declared.words.WordFault.TheVariants as fault
 use Rattle.words_core.proofs.ReadingLemmas.{needs_none, needs_some, needs_weaker}
@@ -80,7 +81,7 @@ scale_passed rows scale f Then is few h =
     needs_some (codes "scale") (number_at (codes "scale") rows) (digits_of scale) f _ is.digits
     (inr (few, h))
 
--- ---- joins
+-- ---- paths
 
 when_true : (b : Bool) (P Q : Type 0) → b ≡ true → P → MatchBool b P Q
 when_true true P Q e p = p
@@ -90,56 +91,73 @@ when_false : (b : Bool) (P Q : Type 0) → b ≡ false → Q → MatchBool b P Q
 when_false true P Q e q = cc
 when_false false P Q e q = q
 
+-- two files are standard input
+pub paths_share : (rows : List Row) (left right : Text) (edits : Option Text) (f : WordFault)
+    → first_of (codes "LEFT") rows ≡ Some left → first_of (codes "RIGHT") rows ≡ Some right
+    → first_of (codes "edits") rows ≡ edits → share_input left right edits ≡ true
+    → Says shared_text f → NeedsPaths rows f ⊥
+paths_share rows left right edits f is_left is_right are_edits shares says =
+    needs_some (codes "LEFT") (first_of (codes "LEFT") rows) left f _ is_left
+    (needs_some (codes "RIGHT") (first_of (codes "RIGHT") rows) right f _ is_right
+    (subst (λ (e : Option Text). NeedsOneInput left right e f ⊥) (sym are_edits)
+    (when_true (share_input left right edits) _ _ shares says)))
+
+-- at most one file is standard input, and then a further fault
+pub paths_passed : (rows : List Row) (paths : LayerPaths) (f : WordFault) (Then : Type 0)
+    → ArePathsIn rows paths → Then → NeedsPaths rows f Then
+paths_passed rows paths f Then are rest =
+    needs_some (codes "LEFT") (first_of (codes "LEFT") rows) paths.left.now f _ are.left
+    (needs_some (codes "RIGHT") (first_of (codes "RIGHT") rows) paths.right.now f _ are.right
+    (subst (λ (e : Option Text). NeedsOneInput paths.left.now paths.right.now e f Then)
+    (sym are.edits) (when_false _ _ _ are.one_input rest)))
+
+one_input_weaker : (b : Bool) (P Then : Type 0) → MatchBool b P ⊥ → MatchBool b P Then
+one_input_weaker true P Then h = h
+one_input_weaker false P Then h = absurd h
+
+pub paths_weaker : (rows : List Row) (f : WordFault) (Then : Type 0) → NeedsPaths rows f ⊥
+    → NeedsPaths rows f Then
+paths_weaker rows f Then n =
+    needs_weaker (codes "LEFT") (first_of (codes "LEFT") rows) f _ _
+    (λ left. needs_weaker (codes "RIGHT") (first_of (codes "RIGHT") rows) f _ _
+    (λ right. one_input_weaker (share_input left right (first_of (codes "edits") rows)) _ Then)) n
+
+-- ---- joins
+
 -- a fault that comes behind those of the relation
 abbrev LaterFault : List Row → WordFault → Type 0
 LaterFault rows f = NeedsOptions rows f (HasFormatFault rows f)
 
-module _ (rows : List Row) (left right : Text) (edits : Option Text) (f : WordFault)
-    (is_left : first_of (codes "LEFT") rows ≡ Some left)
-    (is_right : first_of (codes "RIGHT") rows ≡ Some right)
-    (are_edits : first_of (codes "edits") rows ≡ edits) where
-  join_from : NeedsOneInput left right edits f (NeedsRelation rows f (LaterFault rows f))
-      → HasJoinFault rows f
-  join_from h =
-      needs_some (codes "LEFT") (first_of (codes "LEFT") rows) left f _ is_left
-      (needs_some (codes "RIGHT") (first_of (codes "RIGHT") rows) right f _ is_right
-      (subst (λ (e : Option Text). NeedsOneInput left right e f
-      (NeedsRelation rows f (LaterFault rows f))) (sym are_edits) h))
+module _ (rows : List Row) (paths : LayerPaths) (f : WordFault) (are : ArePathsIn rows paths)
+  where
+    join_from : NeedsRelation rows f (LaterFault rows f) → HasJoinFault rows f
+    join_from h = paths_passed rows paths f _ are h
 
-  -- two files are standard input
-  pub join_shares : share_input left right edits ≡ true → (f ≢ fault.Memory → Says shared_text f)
-      → f ≢ fault.Memory → HasJoinFault rows f
-  join_shares e says known =
-      join_from (when_true (share_input left right edits) _ _ e (says known))
+    -- no relation is given
+    pub join_misses : first_of (codes "relation") rows ≡ None
+        → Says (missing_text (codes "relation")) f → HasJoinFault rows f
+    join_misses none says =
+        join_from (needs_none (codes "relation") (first_of (codes "relation") rows) f _ none says)
 
-  -- no relation is given
-  pub join_misses : share_input left right edits ≡ false
-      → first_of (codes "relation") rows ≡ None → Says (missing_text (codes "relation")) f
-      → HasJoinFault rows f
-  join_misses e none says =
-      join_from (when_false (share_input left right edits) _ _ e
-      (needs_none (codes "relation") (first_of (codes "relation") rows) f _ none says))
+    module _ (word : Text) (is_word : first_of (codes "relation") rows ≡ Some word) where
+      relation_from : IsRelationFault word f ⊎ ((relation : Relation) × Spells relation word
+          × NeedsNoDisjoint rows relation f (LaterFault rows f)) → HasJoinFault rows f
+      relation_from h =
+          join_from (needs_some (codes "relation") (first_of (codes "relation") rows) word f _
+          is_word h)
 
-  module _ (one_input : share_input left right edits ≡ false) (word : Text)
-      (is_word : first_of (codes "relation") rows ≡ Some word) where
-    relation_from : IsRelationFault word f ⊎ ((relation : Relation) × Spells relation word
-        × NeedsNoDisjoint rows relation f (LaterFault rows f)) → HasJoinFault rows f
-    relation_from h =
-        join_from (when_false (share_input left right edits) _ _ one_input
-        (needs_some (codes "relation") (first_of (codes "relation") rows) word f _ is_word h))
+      -- the relation is at fault
+      pub join_refuses : IsRelationFault word f → HasJoinFault rows f
+      join_refuses h = relation_from (inl h)
 
-    -- the relation is at fault
-    pub join_refuses : IsRelationFault word f → HasJoinFault rows f
-    join_refuses h = relation_from (inl h)
+      -- disjoint geometries may stand in the relation
+      pub join_allows : (relation : Relation) → Spells relation word
+          → AllowsDisjointIn rows relation → f ≡ fault.AllowsDisjoint → HasJoinFault rows f
+      join_allows relation spells allows e = relation_from (inr (relation, spells, inl (allows, e)))
 
-    -- disjoint geometries may stand in the relation
-    pub join_allows : (relation : Relation) → Spells relation word
-        → AllowsDisjointIn rows relation → f ≡ fault.AllowsDisjoint → HasJoinFault rows f
-    join_allows relation spells allows e = relation_from (inr (relation, spells, inl (allows, e)))
-
-    -- a later argument is at fault
-    pub join_passes : (relation : Relation) → Spells relation word
-        → ForbidsDisjointIn rows relation → NeedsOptions rows f (HasFormatFault rows f)
-        → HasJoinFault rows f
-    join_passes relation spells forbids h =
-        relation_from (inr (relation, spells, inr (forbids, h)))
+      -- a later argument is at fault
+      pub join_passes : (relation : Relation) → Spells relation word
+          → ForbidsDisjointIn rows relation → NeedsOptions rows f (HasFormatFault rows f)
+          → HasJoinFault rows f
+      join_passes relation spells forbids h =
+          relation_from (inr (relation, spells, inr (forbids, h)))

@@ -1,3 +1,4 @@
+pub mod DistanceLemmas
 pub mod GeometryLemmas
 pub mod JoinLemmas
 pub mod ReadingLemmas

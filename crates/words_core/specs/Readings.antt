@@ -26,6 +26,9 @@ use Rattle.number_core.specs.Scales.{digits_of, rounding_of}
 use Rattle.number_core.specs.declared.scale.Rounding.{Rounding}
 use Rattle.number_core.specs.declared.scale.Rounding.TheVariants.{Exact, Nearest}
 use Rattle.number_core.specs.declared.scale.Scale.{Scale}
+use Rattle.distance_core.specs.declared.distance.Distance.{Distance}
+use Rattle.distance_core.specs.declared.nearness.Nearness.{Nearness}
+use Rattle.distance_core.specs.declared.nearness.Nearness.TheVariants.{Apart, Within}
 use Rattle.options_core.specs.Options.{workers_of, batch_of, cut_of, AreWorkers, IsBatch, IsCut}
 use Rattle.options_core.specs.declared.options.Options.{Options}
 use Rattle.options_core.specs.declared.options.OptionFault.TheVariants as range
@@ -35,15 +38,18 @@ use Rattle.plane_core.specs.declared.rings.Rings.{Rings}
 use Rattle.plane_core.specs.declared.rings.Rings.TheVariants.{Proper, EvenOdd}
 use Rattle.words_core.specs.Conditions.{ForbidsDisjoint, HoldsForDisjoint, geometries_of}
 use Rattle.words_core.specs.Conditions.{relation_of}
+use Rattle.words_core.specs.Distances.{SpellsDistance, SpellsNoDistance}
 use Rattle.words_core.specs.Usage.{program_usage}
 use Rattle.words_core.specs.declared.condition.Condition.{Condition}
 use Rattle.words_core.specs.declared.condition.Geometries.{Geometries}
 use Rattle.words_core.specs.declared.condition.Geometries.TheVariants.{Box, Any}
 use Rattle.words_core.specs.declared.words.Command.{Command}
-use Rattle.words_core.specs.declared.words.Command.TheVariants.{Relate, Join, Window, Stats}
-use Rattle.words_core.specs.declared.words.Command.TheVariants.{Bounds}
+use Rattle.words_core.specs.declared.words.Command.TheVariants.{Relate, Join, Near, Window}
+use Rattle.words_core.specs.declared.words.Command.TheVariants.{Stats, Bounds}
 use Rattle.words_core.specs.declared.words.JoinRequest.{JoinRequest}
+use Rattle.words_core.specs.declared.words.LayerPaths.{LayerPaths}
 use Rattle.words_core.specs.declared.words.LayerRequest.{LayerRequest}
+use Rattle.words_core.specs.declared.words.NearRequest.{NearRequest}
 use Rattle.words_core.specs.declared.words.RelateRequest.{RelateRequest}
 use Rattle.words_core.specs.declared.words.WordFault.{WordFault}
 use Rattle.words_core.specs.declared.words.WordFault.TheVariants as fault
@@ -131,16 +137,36 @@ pub record IsConditionIn (rows : List Row) (relation : Relation) (condition : Co
 abbrev pub text_in : Option (Bor Text) → Option Text
 text_in = option_map (λ text. text.now)
 
+-- the paths of the files of a join, of which at most one is standard input
+pub record ArePathsIn (rows : List Row) (paths : LayerPaths) : Type 0 where
+  pub left : first_of (codes "LEFT") rows ≡ Some paths.left.now
+  pub right : first_of (codes "RIGHT") rows ≡ Some paths.right.now
+  pub edits : first_of (codes "edits") rows ≡ text_in paths.edits
+  pub one_input : share_input paths.left.now paths.right.now (text_in paths.edits) ≡ false
+
 pub record IsJoinIn (rows : List Row) (join : JoinRequest) : Type 0 where
-  pub left : first_of (codes "LEFT") rows ≡ Some join.left_path.now
-  pub right : first_of (codes "RIGHT") rows ≡ Some join.right_path.now
-  pub edits : first_of (codes "edits") rows ≡ text_in join.edits_path
-  pub one_input : share_input join.left_path.now join.right_path.now (text_in join.edits_path)
-      ≡ false
+  pub paths : ArePathsIn rows join.paths
   pub relation : IsRelationIn rows (relation_of join.condition)
   pub geometries : AreGeometriesIn rows (geometries_of join.condition)
   pub options : AreOptionsIn rows join.options
   pub scale : IsScaleIn rows join.scale
+
+-- pairs that share a point are left out where `--apart` is given
+abbrev pub IsNearnessIn : List Row → Nearness → Type 0
+IsNearnessIn rows Apart = first_of (codes "apart") rows ≡ Some (codes "true")
+IsNearnessIn rows Within = first_of (codes "apart") rows ≢ Some (codes "true")
+
+-- the word spells the distance at the scale
+abbrev pub IsDistanceIn : List Row → Scale → Distance → Type 0
+IsDistanceIn rows scale distance = (word : Text)
+    × (first_of (codes "distance") rows ≡ Some word) × SpellsDistance scale word distance
+
+pub record IsNearIn (rows : List Row) (near : NearRequest) : Type 0 where
+  pub paths : ArePathsIn rows near.paths
+  pub distance : IsDistanceIn rows near.scale near.distance
+  pub nearness : IsNearnessIn rows near.nearness
+  pub options : AreOptionsIn rows near.options
+  pub scale : IsScaleIn rows near.scale
 
 -- ---- faults
 
@@ -279,11 +305,24 @@ abbrev pub NeedsOneInput : Text → Text → Option Text → WordFault → Type 
 NeedsOneInput left right edits f Then =
     MatchBool (share_input left right edits) (Says shared_text f) Then
 
+-- a fault of the paths of two layers and of their edits, or the consequence if they have none
+abbrev pub NeedsPaths : List Row → WordFault → Type 0 → Type 0
+NeedsPaths rows f Then =
+    NeedsText (codes "LEFT") rows f (λ left. NeedsText (codes "RIGHT") rows f (λ right.
+    NeedsOneInput left right (first_of (codes "edits") rows) f Then))
+
 abbrev pub HasJoinFault : List Row → WordFault → Type 0
 HasJoinFault rows f =
-    NeedsText (codes "LEFT") rows f (λ left. NeedsText (codes "RIGHT") rows f (λ right.
-    NeedsOneInput left right (first_of (codes "edits") rows) f
-    (NeedsRelation rows f (NeedsOptions rows f (HasFormatFault rows f)))))
+    NeedsPaths rows f (NeedsRelation rows f (NeedsOptions rows f (HasFormatFault rows f)))
+
+-- the word of the distance spells none at the scale
+abbrev pub HasDistanceFault : List Row → Scale → WordFault → Type 0
+HasDistanceFault rows scale f = NeedsText (codes "distance") rows f (λ word.
+    (f ≡ fault.Distance) × SpellsNoDistance scale word)
+
+abbrev pub HasNearFault : List Row → WordFault → Type 0
+HasNearFault rows f = NeedsPaths rows f (NeedsOptions rows f (NeedsScale rows f
+    ((scale : Scale) × IsScaleIn rows scale × HasDistanceFault rows scale f)))
 
 -- ---- the words
 
@@ -300,6 +339,7 @@ name_of Picture = codes "draw"
 abbrev pub IsCommandIn : Text → List Row → Command → Type 0
 IsCommandIn name rows (Relate request) = (name ≡ codes "relate") × IsRelateIn rows request
 IsCommandIn name rows (Join join) = (name ≡ name_of join.product) × IsJoinIn rows join
+IsCommandIn name rows (Near near) = (name ≡ codes "near") × IsNearIn rows near
 IsCommandIn name rows (Window layer wkt) = (name ≡ codes "window")
     × (first_of (codes "WKT") rows ≡ Some wkt.now) × IsLayerIn rows layer
 IsCommandIn name rows (Stats layer) = (name ≡ codes "stats") × IsLayerIn rows layer
@@ -309,11 +349,13 @@ IsCommandIn name rows (Bounds layer) = (name ≡ codes "bounds") × IsLayerIn ro
 pub data HasCommandFault (rows : List Row) (f : WordFault) : Text → Type 0 where
   of_relate : HasRelateFault rows f → HasCommandFault rows f (codes "relate")
   of_join : (product : Product) → HasJoinFault rows f → HasCommandFault rows f (name_of product)
+  of_near : HasNearFault rows f → HasCommandFault rows f (codes "near")
   of_window : HasWindowFault rows f → HasCommandFault rows f (codes "window")
   of_stats : HasLayerFault rows f → HasCommandFault rows f (codes "stats")
   of_bounds : HasLayerFault rows f → HasCommandFault rows f (codes "bounds")
-  of_none : (name : Text) → name ≢ codes "relate" → name ≢ codes "join" → name ≢ codes "draw"
-      → name ≢ codes "window" → name ≢ codes "stats" → name ≢ codes "bounds"
+  of_none : (name : Text) → name ≢ codes "relate" → name ≢ codes "join" → name ≢ codes "near"
+      → name ≢ codes "draw" → name ≢ codes "window" → name ≢ codes "stats"
+      → name ≢ codes "bounds"
       → Says (missing_text (codes "COMMAND")) f → HasCommandFault rows f name
 
 -- the matches of some command are this command

@@ -25,11 +25,13 @@ numeric_rule name default = record (new_rule name) {
 abbrev pub scale_rule : Rule
 scale_rule = numeric_rule (codes "scale") (codes "0")
 
-abbrev pub relation_rule : Rule
-relation_rule = record (new_rule (codes "relation")) {
-  long = Some (codes "relation");
-  required = true;
-}
+-- `--name`, a text, which is required
+abbrev pub required_rule : Text → Rule
+required_rule name = record (new_rule name) { long = Some name; required = true }
+
+-- `--name`, which takes no value
+abbrev pub flag_rule : Text → Rule
+flag_rule name = record (new_rule name) { long = Some name; action = Some SetTrue }
 
 abbrev pub edits_rule : Rule
 edits_rule = record (new_rule (codes "edits")) { long = Some (codes "edits") }
@@ -44,16 +46,13 @@ geometry_rule = record (new_rule (codes "geometry")) {
 abbrev pub rings_rule : Rule
 rings_rule = record (new_rule (codes "rings")) { long = Some (codes "rings") }
 
--- `--round`, which takes no value
-abbrev pub round_rule : Rule
-round_rule = record (new_rule (codes "round")) {
-  long = Some (codes "round");
-  action = Some SetTrue;
-}
+-- the rules of how numbers are written, which all commands have
+abbrev pub number_rules : List Rule
+number_rules = scale_rule ∷ flag_rule (codes "round") ∷ []
 
--- the rules of how geometries are written, which all commands have
+-- the rules of how geometries of any kind are written
 abbrev pub format_rules : List Rule
-format_rules = scale_rule ∷ round_rule ∷ geometry_rule ∷ rings_rule ∷ []
+format_rules = number_rules ++ geometry_rule ∷ rings_rule ∷ []
 
 -- ---- commands
 
@@ -61,7 +60,11 @@ abbrev pub layer_rules : List Rule
 layer_rules = positional_rule (codes "LEFT") ∷ positional_rule (codes "RIGHT") ∷ []
 
 abbrev pub edit_rules : List Rule
-edit_rules = relation_rule ∷ edits_rule ∷ []
+edit_rules = required_rule (codes "relation") ∷ edits_rule ∷ []
+
+abbrev pub distance_rules : List Rule
+distance_rules =
+    required_rule (codes "distance") ∷ flag_rule (codes "apart") ∷ edits_rule ∷ []
 
 abbrev pub option_rules : List Rule
 option_rules =
@@ -70,6 +73,9 @@ option_rules =
 
 abbrev pub join_rules : List Rule
 join_rules = layer_rules ++ edit_rules ++ option_rules ++ format_rules
+
+abbrev pub near_rules : List Rule
+near_rules = layer_rules ++ distance_rules ++ option_rules ++ number_rules
 
 abbrev pub relate_rules : List Rule
 relate_rules = positional_rule (codes "A") ∷ positional_rule (codes "B") ∷ format_rules
@@ -88,6 +94,7 @@ abbrev pub subcommand_shapes : List Shape
 subcommand_shapes =
     subcommand_shape (codes "relate") relate_rules
     ∷ subcommand_shape (codes "join") join_rules
+    ∷ subcommand_shape (codes "near") near_rules
     ∷ subcommand_shape (codes "draw") join_rules
     ∷ subcommand_shape (codes "window") window_rules
     ∷ subcommand_shape (codes "stats") layer_only_rules
@@ -116,6 +123,9 @@ relate_about = codes "Writes the DE-9IM matrix of two geometries"
 
 abbrev pub join_about : Text
 join_about = codes "Writes the pairs of features of two layers that stand in a relation"
+
+abbrev pub near_about : Text
+near_about = codes "Writes the pairs of features of two layers that are at most a distance apart"
 
 abbrev pub draw_about : Text
 draw_about =

@@ -5,8 +5,8 @@ ghost use Rattle.words_core.specs.Conditions.{ForbidsDisjoint, HoldsForDisjoint}
 ghost use Rattle.words_core.specs.Conditions.{geometries_of, relation_of};
 
 use any_relation_core::AnyRelation;
+use plane_core::Rings;
 use relation_core::{AllowsDisjoint, JoinRelation, Relation};
-use wkt_any_core::Rings;
 
 /// The kind of geometries that a command takes.
 #[derive(Clone, Copy, Debug, PartialEq, Eq)]

@@ -77,6 +77,37 @@ share points, lines or areas. Neither --workers nor --batch nor --cut changes th
 Exit status: 0 for success, 1 for a fault of a file, output, memory, threads or hashing keys, 2 for
 invalid arguments";
 
+pub(crate) const NEAR: &str = "\
+A layer is a CSV file such as             Edits are a CSV file such as
+  id,wkt                                    op,layer,id,wkt
+  mill,\"LINESTRING (10 0, 10 10)\"           insert,left,inn,POINT (4 4)
+
+The path - stands for standard input, for at most one of the files.
+
+Geometries are points, segments along an axis and rectangles.
+
+The distance of two features is the least distance of a point of the left one and a point of the
+right one, and 0 if they share a point. The report has the pairs whose distance is at most that of
+--distance, which is decided exactly, and with --apart only those that share no point.
+
+The number after --distance is read as a coordinate is, with --scale and --round, and is 0 to
+1000000000000 units of the last decimal.
+
+The report is CSV: left,right,distance, and for each pair the two ids and the distance, rounded to
+the nearest unit of the last decimal. Neither --workers nor --batch nor --cut changes the report.
+
+For example,
+  rjoin near data/stations.csv data/roads.csv --distance 5 --apart
+writes
+  left,right,distance
+  mill,church path,5
+  church,mill lane,5
+  junction,church path,1
+  junction,north road,5
+
+Exit status: 0 for success, 1 for a fault of a file, output, memory, threads or hashing keys, 2 for
+invalid arguments";
+
 pub(crate) const DRAW: &str = "\
 The layers are read, edited and joined as by rjoin join; its --help describes files, geometries and
 relations.

@@ -12,4 +12,7 @@ mod words;
 
 pub use condition::{Condition, Geometries};
 pub use standard_input::is_standard_input;
-pub use words::{Command, JoinRequest, LayerRequest, RelateRequest, WordFault, read_words};
+pub use words::{
+    Command, JoinRequest, LayerPaths, LayerRequest, NearRequest, RelateRequest, WordFault,
+    read_words,
+};

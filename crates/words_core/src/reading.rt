@@ -1,8 +1,12 @@
 //! Reading the matches of `clap` as a command.
 
 mod arguments;
+mod distance;
 mod geometries;
 mod join;
+mod near;
+mod options;
+mod paths;
 mod relation;
 
 ghost use Rattle.std.specs.Prelude.{◌≡◌, ◌≢◌, codes, IfOk, IfErr};
@@ -16,6 +20,7 @@ use arguments::{missing, required};
 use clap::ArgMatches;
 use geometries::{read_geometries, read_scale};
 use join::read_join;
+use near::read_near;
 use options_core::Product;
 use std::alloc::Global;
 
@@ -44,6 +49,7 @@ fn read_named<'a>(
     match name {
         "relate" => read_relate(alloc, given),
         "join" => read_join(alloc, given, Product::Report),
+        "near" => read_near(alloc, given),
         "draw" => read_join(alloc, given, Product::Picture),
         "window" => read_window(alloc, given),
         "stats" => read_stats(alloc, given),

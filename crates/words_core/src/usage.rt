@@ -4,13 +4,13 @@ ghost use Rattle.std.specs.Prelude.{◌≡◌, [], codes, map, IfOk};
 ghost use Rattle.clap.specs.Simple.{new_shape};
 ghost use Rattle.words_core.specs.Tables.{about_told, argument_rule, shape_told};
 ghost use Rattle.words_core.specs.Usage.{AddsRules, HasUsage, IsArgument, IsBegun};
-ghost use Rattle.words_core.specs.Usage.{bounds_about, draw_about, edits_rule, join_about};
-ghost use Rattle.words_core.specs.Usage.{geometry_rule, join_rules, layer_only_rules, numeric_rule};
-ghost use Rattle.words_core.specs.Usage.{positional_rule, program_about, program_shape};
-ghost use Rattle.words_core.specs.Usage.{program_usage, relate_about, relate_rules};
-ghost use Rattle.words_core.specs.Usage.{relation_rule, rings_rule, round_rule, stats_about};
-ghost use Rattle.words_core.specs.Usage.{subcommand_shape};
-ghost use Rattle.words_core.specs.Usage.{subcommand_shapes, window_about, window_rules};
+ghost use Rattle.words_core.specs.Usage.{bounds_about, draw_about, edits_rule, flag_rule};
+ghost use Rattle.words_core.specs.Usage.{geometry_rule, join_about, join_rules, layer_only_rules};
+ghost use Rattle.words_core.specs.Usage.{near_about, near_rules, numeric_rule, positional_rule};
+ghost use Rattle.words_core.specs.Usage.{program_about, program_shape, program_usage};
+ghost use Rattle.words_core.specs.Usage.{relate_about, relate_rules, required_rule, rings_rule};
+ghost use Rattle.words_core.specs.Usage.{stats_about, subcommand_shape, subcommand_shapes};
+ghost use Rattle.words_core.specs.Usage.{window_about, window_rules};
 
 use crate::help;
 use clap::{Arg, ArgAction, Command, value_parser};
@@ -33,9 +33,17 @@ enum Argument {
         help: &'static str,
         default: &'static str,
     },
-    Relation,
+    /// A required option with a text as its value.
+    Required {
+        name: &'static str,
+        help: &'static str,
+    },
+    /// An option without a value.
+    Flag {
+        name: &'static str,
+        help: &'static str,
+    },
     Edits,
-    Round,
     Geometry,
     Rings,
 }
@@ -59,42 +67,37 @@ const RELATE_ARGUMENTS: [Argument; 6] = [
         help: "Second geometry, as well-known text",
     },
     SCALE,
-    Argument::Round,
+    ROUND,
     Argument::Geometry,
     Argument::Rings,
 ];
 
 /// The arguments of `join` and of `draw`.
 const JOIN_ARGUMENTS: [Argument; 11] = [
-    Argument::Positional {
-        name: "LEFT",
-        help: "CSV file of the left layer",
-    },
-    Argument::Positional {
-        name: "RIGHT",
-        help: "CSV file of the right layer",
-    },
-    Argument::Relation,
+    LEFT,
+    RIGHT,
+    RELATION,
     Argument::Edits,
-    Argument::Number {
-        name: "workers",
-        help: "Number of threads, 1 to 16",
-        default: "4",
-    },
-    Argument::Number {
-        name: "batch",
-        help: "Pairs per batch, 1 to 4096",
-        default: "256",
-    },
-    Argument::Number {
-        name: "cut",
-        help: "Rounds of cutting the trees into tasks, 0 to 8",
-        default: "2",
-    },
+    WORKERS,
+    BATCH,
+    CUT,
     SCALE,
-    Argument::Round,
+    ROUND,
     Argument::Geometry,
     Argument::Rings,
+];
+
+const NEAR_ARGUMENTS: [Argument; 10] = [
+    LEFT,
+    RIGHT,
+    DISTANCE,
+    APART,
+    Argument::Edits,
+    WORKERS,
+    BATCH,
+    CUT,
+    SCALE,
+    ROUND,
 ];
 
 const WINDOW_ARGUMENTS: [Argument; 6] = [
@@ -104,23 +107,65 @@ const WINDOW_ARGUMENTS: [Argument; 6] = [
         help: "Geometry of the window, as well-known text",
     },
     SCALE,
-    Argument::Round,
+    ROUND,
     Argument::Geometry,
     Argument::Rings,
 ];
 
 /// The arguments of `stats` and of `bounds`.
-const LAYER_ARGUMENTS: [Argument; 5] = [
-    LAYER,
-    SCALE,
-    Argument::Round,
-    Argument::Geometry,
-    Argument::Rings,
-];
+const LAYER_ARGUMENTS: [Argument; 5] = [LAYER, SCALE, ROUND, Argument::Geometry, Argument::Rings];
 
 const LAYER: Argument = Argument::Positional {
     name: "LAYER",
     help: "CSV file of the layer",
+};
+
+const LEFT: Argument = Argument::Positional {
+    name: "LEFT",
+    help: "CSV file of the left layer",
+};
+
+const RIGHT: Argument = Argument::Positional {
+    name: "RIGHT",
+    help: "CSV file of the right layer",
+};
+
+const WORKERS: Argument = Argument::Number {
+    name: "workers",
+    help: "Number of threads, 1 to 16",
+    default: "4",
+};
+
+const BATCH: Argument = Argument::Number {
+    name: "batch",
+    help: "Pairs per batch, 1 to 4096",
+    default: "256",
+};
+
+const CUT: Argument = Argument::Number {
+    name: "cut",
+    help: "Rounds of cutting the trees into tasks, 0 to 8",
+    default: "2",
+};
+
+const RELATION: Argument = Argument::Required {
+    name: "relation",
+    help: "Name of a relation, or mask of nine letters",
+};
+
+const DISTANCE: Argument = Argument::Required {
+    name: "distance",
+    help: "Greatest distance of a pair, read as a coordinate is",
+};
+
+const APART: Argument = Argument::Flag {
+    name: "apart",
+    help: "Leave out pairs that share a point",
+};
+
+const ROUND: Argument = Argument::Flag {
+    name: "round",
+    help: "Read each number as the nearest one of these decimals",
 };
 
 /// The number of decimals of all coordinates.
@@ -145,10 +190,18 @@ pub fn usage<'a>(alloc: Global) -> Result<Command<'a>, AllocError>
 }
 
 /// The commands of the program.
-fn subcommands() -> [Subcommand; 6]
+fn subcommands() -> [Subcommand; 7]
     ensures { map shape_told result ≡ subcommand_shapes }
 {
-    [relate(), join(), draw(), window(), stats(), bounds()]
+    [
+        relate(),
+        join(),
+        near(),
+        draw(),
+        window(),
+        stats(),
+        bounds(),
+    ]
 }
 
 fn relate() -> Subcommand
@@ -172,6 +225,18 @@ fn join() -> Subcommand
         about: "Writes the pairs of features of two layers that stand in a relation",
         help: help::JOIN,
         arguments: &JOIN_ARGUMENTS,
+    }
+}
+
+fn near() -> Subcommand
+    ensures shape { shape_told result ≡ subcommand_shape (codes "near") near_rules }
+    ensures about { about_told result ≡ near_about }
+{
+    Subcommand {
+        name: "near",
+        about: "Writes the pairs of features of two layers that are at most a distance apart",
+        help: help::NEAR,
+        arguments: &NEAR_ARGUMENTS,
     }
 }
 
@@ -267,9 +332,9 @@ fn declared_argument<'a>(alloc: Global, argument: Argument) -> Arg<'a>
             help,
             default,
         } => numeric(alloc, name, help, default),
-        Argument::Relation => relation(alloc),
+        Argument::Required { name, help } => required(alloc, name, help),
+        Argument::Flag { name, help } => flag(alloc, name, help),
         Argument::Edits => edits(alloc),
-        Argument::Round => round(alloc),
         Argument::Geometry => geometry(alloc),
         Argument::Rings => rings(alloc),
     }
@@ -300,13 +365,21 @@ fn numeric<'a>(alloc: Global, name: &'a str, help: &'a str, default: &'a str) ->
         .default_value(default)
 }
 
-fn relation<'a>(alloc: Global) -> Arg<'a>
-    ensures { IsArgument relation_rule result }
+/// A required option with a text as its value.
+fn required<'a>(alloc: Global, name: &'a str, help: &'a str) -> Arg<'a>
+    ensures { IsArgument (required_rule name.entry.now) result }
 {
-    Arg::new(alloc, "relation")
-        .long("relation")
-        .help("Name of a relation, or mask of nine letters")
-        .required(true)
+    Arg::new(alloc, name).long(name).help(help).required(true)
+}
+
+/// An option without a value.
+fn flag<'a>(alloc: Global, name: &'a str, help: &'a str) -> Arg<'a>
+    ensures { IsArgument (flag_rule name.entry.now) result }
+{
+    Arg::new(alloc, name)
+        .long(name)
+        .help(help)
+        .action(ArgAction::SetTrue)
 }
 
 fn edits<'a>(alloc: Global) -> Arg<'a>
@@ -315,15 +388,6 @@ fn edits<'a>(alloc: Global) -> Arg<'a>
     Arg::new(alloc, "edits")
         .long("edits")
         .help("CSV file of edits, which are applied before the join")
-}
-
-fn round<'a>(alloc: Global) -> Arg<'a>
-    ensures { IsArgument round_rule result }
-{
-    Arg::new(alloc, "round")
-        .long("round")
-        .help("Read each number as the nearest one of these decimals")
-        .action(ArgAction::SetTrue)
 }
 
 fn geometry<'a>(alloc: Global) -> Arg<'a>

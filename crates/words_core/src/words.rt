@@ -9,11 +9,12 @@ use crate::condition::{Condition, Geometries};
 use crate::reading::read_command;
 use crate::usage::usage;
 use clap::error::ErrorKind;
+use distance_core::{Distance, Nearness};
+use number_core::Scale;
 use options_core::{OptionFault, Options, Product};
 use relation_core::{AllowsDisjoint, MaskFault};
 use std::alloc::{AllocError, Global};
 use thiserror::Error;
-use wkt_core::Scale;
 
 /// Two geometries given as texts, and how to read them.
 #[derive(Clone, Copy, Debug, PartialEq, Eq)]
@@ -24,14 +25,31 @@ pub struct RelateRequest<'a> {
     pub geometries: Geometries,
 }
 
+/// The paths of the files of two layers, and of their edits, if there are any.
+#[derive(Clone, Copy, Debug, PartialEq, Eq)]
+pub struct LayerPaths<'a> {
+    pub left: &'a str,
+    pub right: &'a str,
+    pub edits: Option<&'a str>,
+}
+
 /// Two layers to join after edits, how to read and join them, and what to write.
 #[derive(Clone, Copy, Debug, PartialEq, Eq)]
 pub struct JoinRequest<'a> {
     pub product: Product,
-    pub left_path: &'a str,
-    pub right_path: &'a str,
-    pub edits_path: Option<&'a str>,
+    pub paths: LayerPaths<'a>,
     pub condition: Condition,
+    pub options: Options,
+    pub scale: Scale,
+}
+
+/// Two layers to join by distance after edits, and how to read and join them.
+#[derive(Clone, Copy, Debug, PartialEq, Eq)]
+pub struct NearRequest<'a> {
+    pub paths: LayerPaths<'a>,
+    /// In units of the scale.
+    pub distance: Distance,
+    pub nearness: Nearness,
     pub options: Options,
     pub scale: Scale,
 }
@@ -52,6 +70,9 @@ pub enum Command<'a> {
     /// Write the pairs of features of two layers that stand in a relation, or a picture of the two
     /// layers in which the features of these pairs are highlighted.
     Join(JoinRequest<'a>),
+    /// Write the pairs of features of two layers that are at most a distance apart, with their
+    /// distances.
+    Near(NearRequest<'a>),
     /// Write the ids of a layer's features that meet the geometry of a text.
     Window {
         layer: LayerRequest<'a>,
@@ -81,6 +102,9 @@ pub enum WordFault {
     /// The number of decimals is greater than a coordinate can have.
     #[error("--scale must be 0 to 6")]
     Scale,
+    /// The distance is no number of the scale, or out of range.
+    #[error("--distance must be a number of the scale, 0 to 1000000000000 units")]
+    Distance,
     /// The word of `--geometry` is neither `box` nor `any`.
     #[error("--geometry must be box or any")]
     Geometry,

@@ -2,14 +2,14 @@
 
 use crate::words::{asks, is_refused, parted};
 use any_relation_core::AnyRelation;
+use number_core::{Rounding, Scale};
 use options_core::{Options, Product};
+use plane_core::Rings;
 use relation_core::{AllowsDisjoint, JoinRelation, Mask, Relation};
 use std::alloc::Global;
 use std::test::Fail;
-use wkt_any_core::Rings;
-use wkt_core::{Rounding, Scale};
 use words_core::{
-    Command, Condition, Geometries, JoinRequest, LayerRequest, WordFault, read_words,
+    Command, Condition, Geometries, JoinRequest, LayerPaths, LayerRequest, WordFault, read_words,
 };
 
 const PROPER: Geometries = Geometries::Any(Rings::Proper);
@@ -119,9 +119,11 @@ fn joins(rt: HostRuntime) -> Result<(), Fail> {
         let condition = Condition::Any(AnyRelation::new(Relation::Crosses, rings)?);
         let wanted = |product| JoinRequest {
             product,
-            left_path: "l.csv",
-            right_path: "q.csv",
-            edits_path: None,
+            paths: LayerPaths {
+                left: "l.csv",
+                right: "q.csv",
+                edits: None,
+            },
             condition,
             options,
             scale,

@@ -1,7 +1,7 @@
 //! The help on commands and inputs, and the version.
 
 use crate::help_texts::{
-    OF_BOUNDS, OF_DRAW, OF_JOIN, OF_RELATE, OF_STATS, OF_THE_PROGRAM, OF_WINDOW,
+    OF_BOUNDS, OF_DRAW, OF_JOIN, OF_NEAR, OF_RELATE, OF_STATS, OF_THE_PROGRAM, OF_WINDOW,
 };
 use crate::words::parted;
 use std::alloc::Global;
@@ -15,6 +15,7 @@ const HELP: &[(&str, &str)] = &[
     ("rjoin|help", OF_THE_PROGRAM),
     ("rjoin|relate|--help", OF_RELATE),
     ("rjoin|join|--help", OF_JOIN),
+    ("rjoin|near|--help", OF_NEAR),
     ("rjoin|draw|--help", OF_DRAW),
     ("rjoin|help|draw", OF_DRAW),
     ("rjoin|window|--help", OF_WINDOW),

@@ -8,6 +8,7 @@ Usage: rjoin <COMMAND>
 Commands:
   relate  Writes the DE-9IM matrix of two geometries
   join    Writes the pairs of features of two layers that stand in a relation
+  near    Writes the pairs of features of two layers that are at most a distance apart
   draw    Writes a picture of two layers and of the pairs that stand in a relation, as SVG
   window  Writes the ids of the features of a layer that meet a geometry
   stats   Counts the features of a layer by kind, and the levels of its tree
@@ -127,6 +128,57 @@ The report is CSV: left,right,matrix, and for each pair the two ids and the nine
 in three rows of three: interior, boundary and exterior of the left one, each with interior,
 boundary and exterior of the right one. F means that the two share nothing, and 0, 1 or 2 that they
 share points, lines or areas. Neither --workers nor --batch nor --cut changes the report.
+
+Exit status: 0 for success, 1 for a fault of a file, output, memory, threads or hashing keys, 2 for
+invalid arguments
+";
+
+pub(crate) const OF_NEAR: &str = "\
+Writes the pairs of features of two layers that are at most a distance apart
+
+Usage: rjoin near [OPTIONS] --distance <distance> <LEFT> <RIGHT>
+
+Arguments:
+  <LEFT>   CSV file of the left layer
+  <RIGHT>  CSV file of the right layer
+
+Options:
+      --distance <distance>  Greatest distance of a pair, read as a coordinate is
+      --apart                Leave out pairs that share a point
+      --edits <edits>        CSV file of edits, which are applied before the join
+      --workers <workers>    Number of threads, 1 to 16 [default: 4]
+      --batch <batch>        Pairs per batch, 1 to 4096 [default: 256]
+      --cut <cut>            Rounds of cutting the trees into tasks, 0 to 8 [default: 2]
+      --scale <scale>        Decimals that a coordinate may have, 0 to 6 [default: 0]
+      --round                Read each number as the nearest one of these decimals
+  -h, --help                 Print help
+
+A layer is a CSV file such as             Edits are a CSV file such as
+  id,wkt                                    op,layer,id,wkt
+  mill,\"LINESTRING (10 0, 10 10)\"           insert,left,inn,POINT (4 4)
+
+The path - stands for standard input, for at most one of the files.
+
+Geometries are points, segments along an axis and rectangles.
+
+The distance of two features is the least distance of a point of the left one and a point of the
+right one, and 0 if they share a point. The report has the pairs whose distance is at most that of
+--distance, which is decided exactly, and with --apart only those that share no point.
+
+The number after --distance is read as a coordinate is, with --scale and --round, and is 0 to
+1000000000000 units of the last decimal.
+
+The report is CSV: left,right,distance, and for each pair the two ids and the distance, rounded to
+the nearest unit of the last decimal. Neither --workers nor --batch nor --cut changes the report.
+
+For example,
+  rjoin near data/stations.csv data/roads.csv --distance 5 --apart
+writes
+  left,right,distance
+  mill,church path,5
+  church,mill lane,5
+  junction,church path,1
+  junction,north road,5
 
 Exit status: 0 for success, 1 for a fault of a file, output, memory, threads or hashing keys, 2 for
 invalid arguments

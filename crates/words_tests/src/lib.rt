@@ -1,4 +1,4 @@
-//! Tests of the words of the command line, from outside: commands, conditions, faults and help.
+//! Tests of the words of the command line, from outside: commands, conditions, distances, faults and help.
 #![tactic(auto)]
 
 #[cfg(test)]
@@ -7,6 +7,8 @@ mod any_words;
 mod help;
 #[cfg(test)]
 mod help_texts;
+#[cfg(test)]
+mod near_words;
 #[cfg(test)]
 mod refused;
 #[cfg(test)]

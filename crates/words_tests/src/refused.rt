@@ -11,6 +11,11 @@ const WORDS: &[(&str, &str)] = &[
         "",
     ),
     ("rjoin|stats|l.csv|--geometry|any", ""),
+    ("rjoin|near|l.csv|q.csv|--distance|5|--apart", ""),
+    (
+        "rjoin|near|l.csv|q.csv|--distance|far",
+        "--distance must be a number of the scale, 0 to 1000000000000 units",
+    ),
     (
         "rjoin|join|l.csv|q.csv|--relation|disjoint|--geometry|any",
         "--relation: disjoint features may fit",

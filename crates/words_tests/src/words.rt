@@ -1,13 +1,14 @@
 //! The words of the commands, and their faults.
 
+use number_core::Scale;
 use options_core::{Options, Product};
+use plane_core::Rings;
 use relation_core::{JoinRelation, Relation};
 use std::alloc::Global;
 use std::test::Fail;
-use wkt_any_core::Rings;
-use wkt_core::Scale;
 use words_core::{
-    Command, Condition, Geometries, JoinRequest, LayerRequest, RelateRequest, WordFault, read_words,
+    Command, Condition, Geometries, JoinRequest, LayerPaths, LayerRequest, RelateRequest,
+    WordFault, read_words,
 };
 
 /// Words that don't fit the usage, with `|` between them.
@@ -39,6 +40,17 @@ const USAGE_FAULTS: &[&str] = &[
     "rjoin|join|-|-|--relation|touch",
     "rjoin|join|-|q.csv|--relation|touches|--workers|17|--edits|-",
     "rjoin|join|l.csv|-|--relation|touches|--edits|-|--scale|7",
+    "rjoin|join|l.csv|q.csv|--relation|touches|--distance|5",
+    "rjoin|join|l.csv|q.csv|--relation|touches|--apart",
+    "rjoin|near|l.csv|q.csv",
+    "rjoin|near|l.csv|--distance|5",
+    "rjoin|near|l.csv|q.csv|--distance",
+    "rjoin|near|l.csv|q.csv|--distance|-1",
+    "rjoin|near|l.csv|q.csv|--distance|5|--apart|yes",
+    "rjoin|near|l.csv|q.csv|--distance|5|--relation|touches",
+    "rjoin|near|l.csv|q.csv|--distance|5|--geometry|any",
+    "rjoin|near|-|-|--distance|x",
+    "rjoin|near|-|q.csv|--distance|5|--workers|17|--edits|-",
     "rjoin|draw|l.csv|q.csv",
     "rjoin|draw|l.csv|--relation|touches",
     "rjoin|draw|-|-|--relation|touches",
@@ -288,16 +300,18 @@ pub fn asks(
 #[test]
 fn joins(rt: HostRuntime) -> Result<(), Fail> {
     let condition = Condition::Boxes(JoinRelation::new(Relation::Within)?);
-    for &(last, edits_path, (workers, batch, cut), decimals) in JOINS {
+    for &(last, edits, (workers, batch, cut), decimals) in JOINS {
         let options = Options::new(workers, batch, cut)?;
         let Some(scale) = Scale::new(decimals) else {
             panic!(rt; "no scale");
         };
         let wanted = |product| JoinRequest {
             product,
-            left_path: "l.csv",
-            right_path: "q.csv",
-            edits_path,
+            paths: LayerPaths {
+                left: "l.csv",
+                right: "q.csv",
+                edits,
+            },
             condition,
             options,
             scale,

@@ -12,9 +12,9 @@ use super::arguments::{missing, number, optional};
 use crate::condition::Geometries;
 use crate::words::WordFault;
 use clap::ArgMatches;
+use number_core::{Rounding, Scale};
+use plane_core::Rings;
 use std::alloc::Global;
-use wkt_any_core::Rings;
-use wkt_core::{Rounding, Scale};
 
 /// Whether numbers are rounded.
 fn read_rounding(given: &ArgMatches<'_>) -> Rounding

@@ -1,23 +1,21 @@
 //! Reading a join, of which a report or a picture is asked for.
 
-ghost use Rattle.std.specs.Prelude.{◌≡◌, ◌≢◌, true, false, codes, IfOk, IfErr, IfSome, IfNone};
-ghost use Rattle.std.specs.Prelude.{OnOk, OnErr};
-ghost use Rattle.clap.specs.Words.{first_of};
-ghost use Rattle.words_core.specs.Readings.{AllowsDisjointIn, AreOptionsIn, ForbidsDisjointIn};
-ghost use Rattle.words_core.specs.Readings.{HasJoinFault, IsCommandIn, IsConditionIn, IsJoinIn};
-ghost use Rattle.words_core.specs.Readings.{NamesNoKind, NeedsOptions, Says, found_in, name_of};
-ghost use Rattle.words_core.specs.Readings.{share_input, shared_text, text_in};
+ghost use Rattle.std.specs.Prelude.{◌≡◌, ◌≢◌, IfOk, IfErr, IfSome, IfNone, OnOk, OnErr};
+ghost use Rattle.words_core.specs.Readings.{AllowsDisjointIn, ForbidsDisjointIn, HasJoinFault};
+ghost use Rattle.words_core.specs.Readings.{IsCommandIn, IsConditionIn, IsJoinIn, NamesNoKind};
+ghost use Rattle.words_core.specs.Readings.{found_in, name_of};
 
-use super::arguments::{number, optional, required};
+use super::arguments::required;
 use super::geometries::{geometry_fault, named_geometries, read_scale};
+use super::options::read_options;
+use super::paths::read_paths;
 use super::relation::read_relation;
 use crate::condition::Condition;
-use crate::standard_input::is_standard_input;
 use crate::words::{Command, JoinRequest, WordFault};
 use clap::ArgMatches;
-use options_core::{Options, Product};
+use options_core::Product;
 use relation_core::{AllowsDisjoint, Relation};
-use std::alloc::{AllocError, Global};
+use std::alloc::Global;
 
 pub fn read_join<'a>(
     alloc: Global,
@@ -44,9 +42,7 @@ fn read_request<'a>(
     ensures product { IfOk result (λ join. join.product ≡ product) }
     ensures err { IfErr result (λ f. f ≢ WordFault.Memory → HasJoinFault (found_in given.now) f) }
 {
-    let left_path = required(alloc, given, "LEFT")?;
-    let right_path = required(alloc, given, "RIGHT")?;
-    let edits_path = read_edits_path(alloc, given, left_path, right_path)?;
+    let paths = read_paths(alloc, given)?;
     let word = required(alloc, given, "relation")?;
     let relation = read_relation(alloc, word)?;
     let named = named_condition(given, relation)?;
@@ -55,9 +51,7 @@ fn read_request<'a>(
     match named {
         Some(condition) => Ok(JoinRequest {
             product,
-            left_path,
-            right_path,
-            edits_path,
+            paths,
             condition,
             options,
             scale,
@@ -83,65 +77,4 @@ fn named_condition(
         }
         None => Ok(None),
     }
-}
-
-/// Reads the path of the edits, if one is given, and checks that at most one path is standard
-/// input.
-fn read_edits_path<'a>(
-    alloc: Global,
-    given: &ArgMatches<'a>,
-    left: &str,
-    right: &str,
-) -> Result<Option<&'a str>, WordFault>
-    ensures ok { IfOk result (λ edits.
-        first_of (codes "edits") (found_in given.now) ≡ text_in edits) }
-    ensures one_input { let edits = first_of (codes "edits") (found_in given.now) in
-        OnOk result (share_input left.now right.now edits ≡ false) }
-    ensures shared { let edits = first_of (codes "edits") (found_in given.now) in
-        IfErr result (λ _. share_input left.now right.now edits ≡ true) }
-    ensures told { IfErr result (λ f. f ≢ WordFault.Memory → Says shared_text f) }
-{
-    let edits = optional(given, "edits");
-    if shares_input(left, right, edits) {
-        return Err(shared_input(alloc));
-    }
-    Ok(edits)
-}
-
-/// The fault of two files that are both standard input, which can be read only once.
-fn shared_input(alloc: Global) -> WordFault
-    ensures { result ≢ WordFault.Memory → Says shared_text result }
-{
-    let text = String::from_str(
-        alloc,
-        "error: only one of LEFT, RIGHT and --edits can be -\n",
-    );
-    match text {
-        Ok(text) => WordFault::Usage { text, help: false },
-        Err(AllocError) => WordFault::Memory,
-    }
-}
-
-/// Whether at least two of the files of a join are standard input.
-fn shares_input(left: &str, right: &str, edits: Option<&str>) -> bool
-    ensures { result ≡ share_input left.now right.now (text_in edits.entry) }
-{
-    let (left, right) = (is_standard_input(left), is_standard_input(right));
-    let edits = match edits {
-        Some(edits) => is_standard_input(edits),
-        None => false,
-    };
-    (left && right) || ((left || right) && edits)
-}
-
-fn read_options(alloc: Global, given: &ArgMatches<'_>) -> Result<Options, WordFault>
-    ensures ok { IfOk result (AreOptionsIn (found_in given.now)) }
-    ensures err { IfErr result (λ f. f ≢ WordFault.Memory
-        → NeedsOptions (found_in given.now) f ⊥) }
-{
-    let workers = number(alloc, given, "workers")?;
-    let batch = number(alloc, given, "batch")?;
-    let cut = number(alloc, given, "cut")?;
-    let options = Options::new(workers, batch, cut)?;
-    Ok(options)
 }

@@ -2,7 +2,7 @@ use Rattle.std.proofs.Common.{ap, refl, Err}
 use Rattle.words_core.specs.Readings.{found_in}
 use Rattle.words_core.proofs.JoinLemmas.{options_refused}
 use Rattle.words_core.proofs.ReadingLemmas.{fault_as}
-use Rattle.words_core.proofs.reading.join.read_options.Goals as goal
+use Rattle.words_core.proofs.reading.options.read_options.Goals as goal
 
 pub returns-in_err-options-clause-err : goal.returns-in_err-options-clause-err
 returns-in_err-options-clause-err c =

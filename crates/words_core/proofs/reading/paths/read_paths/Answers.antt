@@ -1,0 +1,10 @@
+use Rattle.std.proofs.Common.{sym, ◌∙◌}
+use Rattle.words_core.specs.Readings.{found_in}
+use Rattle.words_core.proofs.JoinLemmas.{paths_share}
+use Rattle.words_core.proofs.reading.paths.read_paths.Goals as goal
+
+pub returns-then-shares_input-clause-err : goal.returns-then-shares_input-clause-err
+returns-then-shares_input-clause-err c = λ known.
+    paths_share (found_in c.args.given.now) _ _ _ _ c.in_ok-left.ensures.ok
+    c.in_ok-right.ensures.ok c.optional-edits.ensures
+    (sym c.shares_input.ensures ∙ c.if-shares_input.true) (c.shared_input.ensures known)

@@ -1,0 +1,25 @@
+-- The number that a text spells at a scale, and the distance.
+use Rattle.std.specs.Prelude.{◌≡◌, ℕ, ℤ, pos, List}
+use Rattle.distance_core.specs.declared.distance.Distance.{Distance}
+use Rattle.distance_core.specs.Units.{units_of}
+use Rattle.number_core.specs.declared.scale.Scale.{Scale}
+use Rattle.number_core.specs.Numbers.{Number, Numeral}
+use Rattle.number_core.specs.Values.{IsGood, value}
+
+-- the whole text is a number of the grammar, whole at the scale and in the range of coordinates,
+-- with this value in units of the scale
+pub record SpellsNumber (scale : Scale) (text : List ℕ) (z : ℤ) : Type 0 where
+  pub numeral : Numeral
+  pub written : Number scale numeral text
+  pub good : IsGood scale numeral
+  pub same : value scale numeral ≡ z
+
+abbrev pub SpellsNoNumber : Scale → List ℕ → Type 0
+SpellsNoNumber scale text = (z : ℤ) → ¬ (SpellsNumber scale text z)
+
+-- the text spells the number of the units of this distance
+abbrev pub SpellsDistance : Scale → List ℕ → Distance → Type 0
+SpellsDistance scale text distance = SpellsNumber scale text (pos (units_of distance))
+
+abbrev pub SpellsNoDistance : Scale → List ℕ → Type 0
+SpellsNoDistance scale text = (distance : Distance) → ¬ (SpellsDistance scale text distance)
