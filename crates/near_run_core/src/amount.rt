@@ -9,7 +9,7 @@ use std::alloc::AllocError;
 use wkt_core::Scale;
 
 /// Adds a number of units of the scale, as coordinates are printed: 125 units of scale 2 as `1.25`.
-#[tactic(auto, using(wkt_core::proofs::FractionLemmas::power_pos))]
+#[tactic(auto, using(number_core::proofs::FractionLemmas::power_pos))]
 pub(crate) fn push_amount(text: &mut Vec<u8>, units: u64, scale: Scale) -> Result<(), AllocError>
     ensures { OnOk result (text.new.items ≡ text.old.items ++ number scale (pos units)) }
 {
