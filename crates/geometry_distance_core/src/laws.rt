@@ -1,9 +1,11 @@
-//! The law that ties the distance of geometries to that of their edges and single points.
+//! The laws that tie the distance of geometries to that of their edges and single points.
 
+ghost use Rattle.std.specs.Prelude.{ℕ, ◌≤◌, ◌*◌, ◌↔◌};
 ghost use Rattle.plane_core.specs.Figures.{Figure, IsGeometry};
+ghost use Rattle.distance_core.specs.Distances.{AreWithin};
 ghost use Rattle.distance_core.specs.ShapePoints.{IsPointOf};
 ghost use Rattle.edge_distance_core.specs.declared.fraction.SquaredFraction.{SquaredFraction};
-ghost use Rattle.edge_distance_core.specs.Fractions.{IsSquareOf};
+ghost use Rattle.edge_distance_core.specs.Fractions.{IsSquareOf, numerator_of};
 ghost use Rattle.geometry_distance_core.specs.Skeletons.{IsOnSkeleton, AreApart};
 
 /// Closed geometries that share no point are as far apart as their edges and single points.
@@ -11,4 +13,13 @@ pub fn skeleton_law()
     ensures { (g h : Figure) (square : SquaredFraction) → IsGeometry g → IsGeometry h
         → AreApart g h → IsSquareOf square (IsOnSkeleton g) (IsOnSkeleton h)
         → IsSquareOf square (IsPointOf g) (IsPointOf h) }
+{}
+
+/// Closed geometries are at most a distance apart exactly where their squared distance is at most
+/// the square of that distance.
+pub fn within_law()
+    ensures { (g h : Figure) (square : SquaredFraction) (units : ℕ)
+        → IsSquareOf square (IsPointOf g) (IsPointOf h)
+        → (numerator_of square ≤ (units * units) * square.denominator)
+        ↔ AreWithin units (IsPointOf g) (IsPointOf h) }
 {}

@@ -4,5 +4,5 @@
 mod laws;
 mod nearest;
 
-pub use laws::skeleton_law;
+pub use laws::{skeleton_law, within_law};
 pub use nearest::edges_to_edges;
