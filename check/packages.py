@@ -67,10 +67,13 @@ INSTALLED = {
                            "lib/klayout/salt/rjoin/pymacros/join_layers.lym", "lib/klayout/salt/rjoin/grain.xml",
                            "share/man/man1/rjoin-postgis.1.gz", "share/rjoin/recipes/from-ogr"),
 }
-FORMAT_OPTIONS = {"--scale", "--round", "--geometry", "--rings", "--help"}
-JOIN_OPTIONS = {"--relation", "--edits", "--workers", "--batch", "--cut", *FORMAT_OPTIONS}
+NUMBER_OPTIONS = {"--scale", "--round", "--help"}
+FORMAT_OPTIONS = {"--geometry", "--rings", *NUMBER_OPTIONS}
+LAYER_OPTIONS = {"--edits", "--workers", "--batch", "--cut"}
+JOIN_OPTIONS = {"--relation", *LAYER_OPTIONS, *FORMAT_OPTIONS}
 OPTIONS = {
     "relate": FORMAT_OPTIONS, "join": JOIN_OPTIONS, "draw": JOIN_OPTIONS, "window": FORMAT_OPTIONS,
+    "near": {"--distance", "--apart", *LAYER_OPTIONS, *NUMBER_OPTIONS},
     "stats": FORMAT_OPTIONS, "bounds": FORMAT_OPTIONS,
 }
 RELATIONS = {

@@ -200,6 +200,7 @@ STATUSES = {
     "join of any geometry refused": 1,
     "draw of any geometry refused": 1,
     "window by rings that cross": 1,
+    "near refused": 1,
     "no file": 1,
     "no command": 2,
     "two standard inputs": 2,
@@ -222,6 +223,9 @@ def commands() -> dict[str, list[str]]:
         "draw": ["draw", *join[1:]],
         "draw with edits": ["draw", *join[1:], "--edits", "edits.csv", "--workers", "3", "--batch", "1"],
         "draw refused": ["draw", *join[1:], "--edits", "bad.csv"],
+        "near": ["near", *join[1:3], "--distance", "5"],
+        "near with edits": ["near", *join[1:3], "--distance", "5", "--apart", "--edits", "edits.csv", "--batch", "1"],
+        "near refused": ["near", *join[1:3], "--distance", "5", "--edits", "bad.csv"],
         "window": ["window", "stations.csv", square],
         "stats": ["stats", "parcels.csv"],
         "bounds": ["bounds", "stations.csv"],
@@ -394,7 +398,7 @@ def equals_of_crowd() -> bytes:
 def output_cases(plain: dict[str, bytes], full: int, closed: int) -> list[Case]:
     """Outputs that take nothing, for a command and for help. `full` and `closed` are descriptors of such."""
     cases = []
-    for name, words in ((it, commands()[it]) for it in ("join", "draw", "window", "stats", "bounds", "relate", "help")):
+    for name, words in ((it, commands()[it]) for it in ("join", "near", "draw", "window", "stats", "bounds", "relate", "help")):
         front = plain[name]
         for shown, output in [("a full device", full), ("a closed pipe", closed)]:
             how = {"stdout": output}

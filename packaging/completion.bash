@@ -16,7 +16,7 @@ _rjoin() {
     --geometry) offered="box any" ;;
     --rings) offered="proper even-odd" ;;
     --edits) _filedir && return ;;
-    --workers | --batch | --cut) return ;;
+    --distance | --workers | --batch | --cut) return ;;
     *)
         if [[ $cword -eq 1 && $cur == -* ]]; then
             offered=$(_parse_help "$program")

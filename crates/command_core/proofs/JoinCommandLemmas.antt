@@ -1,4 +1,4 @@
--- How a command that joins the layers of two files, after a file of edits, ends.
+-- How a command over the files of two layers and of their edits ends.
 use Rattle.std.proofs.Common.{◌≡◌, ◌≢◌, ◌↔◌, ℕ, List, Option, Some, None, Bool, false, Result, Ok, Err, IsErrAnd, ◌⊎◌, inl, inr, IfErr, IfSome}
 use Rattle.std.proofs.Common.{refl, sym, subst, ◌∙◌}
 use Rattle.std.specs.Prelude.{⊤}
@@ -16,7 +16,7 @@ use Rattle.join_core.specs.declared.fault.RunFault.TheVariants as run
 use Rattle.join_core.specs.DrawRuns.{DrawGives, no_layers as draw_no_layers, too_many, drawn}
 use Rattle.join_core.specs.Inputs.{BlamesInput}
 use Rattle.join_core.specs.Joinings.{Joining, box_joining}
-use Rattle.join_core.specs.JoinRuns.{JoinFiles, LayersGive, left_fault, right_fault, edits_fault, edit_refused, edited, JoinGives, no_layers, reported}
+use Rattle.join_core.specs.JoinRuns.{JoinFiles, LayersGive, left_fault, right_fault, edits_fault, edit_refused, edited, ReportGives, no_layers, reported}
 use Rattle.join_core.specs.JoinRuns.{IsJoinFault}
 use Rattle.join_core.specs.Products.{ProductGives, IsProductFault}
 use Rattle.join_core.specs.Runs.{NoTextFault, RunEnds}
@@ -24,23 +24,28 @@ use Rattle.options_core.specs.declared.product.Product.{Product}
 use Rattle.options_core.specs.declared.product.Product.TheVariants.{Report, Picture}
 use Rattle.words_core.specs.declared.condition.Condition.{Condition}
 use Rattle.words_core.specs.declared.condition.Condition.TheVariants.{Boxes, Any}
-use Rattle.words_core.specs.declared.words.Command.TheVariants.{Join}
+use Rattle.words_core.specs.declared.words.Command.{Command}
+use Rattle.words_core.specs.declared.words.Command.TheVariants.{Join, Near}
 use Rattle.words_core.specs.declared.words.JoinRequest.{JoinRequest}
-use Rattle.command_core.specs.Commands.{CommandGives, IsCommandText, BlamesCommand, IsFoundFirst, IsFoundNext, OrNoFile, CommandEnds}
-use Rattle.command_core.specs.JoinResults.{AfterEdits, ConditionGives, IsConditionFault, JoinRequestGives, IsJoinRequestFault, files_read, known_bytes}
+use Rattle.words_core.specs.declared.words.LayerPaths.{LayerPaths}
+use Rattle.words_core.specs.declared.words.NearRequest.{NearRequest}
+use Rattle.near_format_core.specs.NearFormats.{ReadsGrown}
+use Rattle.command_core.specs.Commands.{CommandGives, IsCommandText, BlamesCommand, IsFoundFirst, IsFoundNext, IsFaultOf, OrNoFile, CommandEnds}
+use Rattle.command_core.specs.JoinResults.{AfterEdits, ConditionGives, IsConditionFault, JoinRequestGives, IsJoinRequestFault, PathsGive, files_read, known_bytes}
+use Rattle.command_core.specs.NearResults.{NearRequestGives, IsNearRequestFault, near_files}
 use Rattle.command_core.specs.Opening.{AfterOpening, Files, IsAt, IsMissing, AreEditsAt, AreEditsMissing, AreOpened, IsFirstMissing, no_left, no_right, no_edits}
 use Rattle.command_core.specs.Opening.{JoinBytes}
 use Rattle.join_core.proofs.RunLemmas.{ends_as}
-use Rattle.command_core.proofs.KnownLemmas.{join_known}
-use Rattle.command_core.proofs.CommandLemmas.{IsNoFile, found_missing, refused_ends, input_opened, err_is}
+use Rattle.command_core.proofs.KnownLemmas.{condition_untold, fault_known, join_untold, untold}
+use Rattle.command_core.proofs.CommandLemmas.{IsNoFile, OpensFiles, found_missing, refused_ends, input_opened, err_is}
 
 -- ---- opening
 
 -- the error that `?` returns for the first file that can't be opened
-pub missing_as : {T : Type 0} (known : Option Files) (join : JoinRequest) (result : Result T RunFault) (e f : RunFault) → IsErrAnd result (λ x. x ≡ e) → e ≡ f
-    → IsFirstMissing known join f → IfErr result (IsFirstMissing known join)
-missing_as known join (Ok x) e f h named missing = absurd h
-missing_as known join (Err x) e f h named missing = subst (IsFirstMissing known join) (sym (h ∙ named)) missing
+pub missing_as : {T : Type 0} (known : Option Files) (paths : LayerPaths) (result : Result T RunFault) (e f : RunFault) → IsErrAnd result (λ x. x ≡ e) → e ≡ f
+    → IsFirstMissing known paths f → IfErr result (IsFirstMissing known paths)
+missing_as known paths (Ok x) e f h named missing = absurd h
+missing_as known paths (Err x) e f h named missing = subst (IsFirstMissing known paths) (sym (h ∙ named)) missing
 
 -- the consequence of opening the edits, given that they can be opened
 edits_opened : (at : Files) (edits : Option (Bor (List ℕ))) (told : Option (Option (List ℕ))) (answer : Result (List ℕ) RunFault)
@@ -83,13 +88,17 @@ of_layers (run.NoFile i) missing is = is
 of_layers g missing is = missing
 
 -- no run gives the fault of a file that can't be opened
-product_opens : {G : Type 0} (product : Product) (joining : Joining G) (files : JoinFiles G) (g : RunFault) → IsNoFile g
-    → ProductGives product joining files (Err g) → ⊥
-product_opens {G} Report joining files g missing gives = by (Err g) gives refl
+report_opens : {G : Type 0} (stands : G → G → Type 0) (name : List ℕ) (is_field : G → G → List ℕ → Type 0) (files : JoinFiles G) (g : RunFault)
+    → IsNoFile g → ReportGives stands name is_field files (Err g) → ⊥
+report_opens {G} stands name is_field files g missing gives = by (Err g) gives refl
   where
-    by : (answer : Result (List ℕ) RunFault) → JoinGives joining files answer → answer ≡ Err g → ⊥
+    by : (answer : Result (List ℕ) RunFault) → ReportGives stands name is_field files answer → answer ≡ Err g → ⊥
     by answer (no_layers f given) is = of_layers g missing (layers_fault files (Err f) g given (let same : f ≡ g = cc in cc))
     by answer (reported layers pairs text a b d) is = cc
+
+product_opens : {G : Type 0} (product : Product) (joining : Joining G) (files : JoinFiles G) (g : RunFault) → IsNoFile g
+    → ProductGives product joining files (Err g) → ⊥
+product_opens Report joining files g missing gives = report_opens joining.stands _ _ files g missing gives
 product_opens {G} Picture joining files g missing gives = by (Err g) gives refl
   where
     by : (answer : Result (List ℕ) RunFault) → DrawGives joining files answer → answer ≡ Err g → ⊥
@@ -127,146 +136,186 @@ allows_all IsRunFault (run.NoFile i) is = tt
 allows_all IsRunFault run.NoKeys is = tt
 allows_all IsRunFault f is = is
 
--- ---- the end of a join
+-- ---- runs over the files of a command
 
-module _ {S : Type 0} (known : Option Files) (written : S → Option (List ℕ)) (is_flushed has_failed : S → Bool) (join : JoinRequest) where
+-- a run over the files at the paths of a command, and what its results and its faults are for the command
+pub record RunsOver (command : Command) (paths : LayerPaths) (Gives : JoinBytes → Result (List ℕ) RunFault → Type 0)
+    (IsFault : JoinBytes → RunFault → Type 0) : Type 0 where
+  pub opens_files : OpensFiles command
+  pub gives : (at : Files) (answer : Result (List ℕ) RunFault) → PathsGive at paths Gives answer ↔ CommandGives at command answer
+  pub faults : (known : Option Files) (f : RunFault) → OrNoFile (IsFault (known_bytes known paths)) f → IsFaultOf known command f
+  pub none_next : (g : RunFault) → ¬ (IsFoundNext command g)
+  pub opens : (bytes : JoinBytes) (g : RunFault) → IsNoFile g → ¬ (Gives bytes (Err g))
+  pub blames : (bytes : JoinBytes) (f : RunFault) → IsFault bytes f → BlamesCommand f → BlamesInput f
+  pub untells : (bytes : JoinBytes) (f : RunFault) → IsFault bytes f → IsFault (untold bytes) f
+
+pub join_runs : (join : JoinRequest) → RunsOver (Join join) join.paths (JoinRequestGives join) (IsJoinRequestFault join)
+join_runs join = record {
+  opens_files = tt;
+  gives = λ at answer. ((λ h. h), (λ h. h));
+  faults = λ known f h. h;
+  none_next = λ g found. found;
+  opens = condition_opens join.condition join.scale join.product;
+  blames = condition_blames join.condition join.scale join.product;
+  untells = condition_untold join.condition join.scale join.product;
+}
+
+pub near_runs : (near : NearRequest) → RunsOver (Near near) near.paths (NearRequestGives near) (IsNearRequestFault near)
+near_runs near = record {
+  opens_files = tt;
+  gives = λ at answer. ((λ h. h), (λ h. h));
+  faults = λ known f h. h;
+  none_next = λ g found. found;
+  opens = λ bytes g. report_opens _ _ _ (near_files near bytes) g;
+  blames = λ bytes f. join_blames (near_files near bytes) f;
+  untells = λ bytes f. join_untold (ReadsGrown near.scale near.distance) bytes f;
+}
+
+-- ---- the end of a command over files
+
+module _ {S : Type 0} (known : Option Files) (written : S → Option (List ℕ)) (is_flushed has_failed : S → Bool) (command : Command) (paths : LayerPaths)
+    (Gives : JoinBytes → Result (List ℕ) RunFault → Type 0) (IsFault : JoinBytes → RunFault → Type 0) (runs : RunsOver command paths Gives IsFault) where
   -- the consequence of opening the left file
   abbrev AfterLeft : Files → Result (List ℕ) RunFault → Option (List ℕ) → List ℕ → Type 0
   AfterLeft at answer lies p =
-      AfterOpening Right lies answer (λ q. AfterEdits at join.edits_path answer (λ d. JoinRequestGives join (record { left = Some p; right = Some q; edits = d }) answer))
+      AfterOpening Right lies answer (λ q. AfterEdits at paths.edits answer (λ d. Gives (record { left = Some p; right = Some q; edits = d }) answer))
 
-  -- once all files are opened, the results of the command are those of its run over their bytes
-  opened : (at : Files) (bytes : JoinBytes) (answer : Result (List ℕ) RunFault) → AreOpened (Some at) join bytes
-      → JoinRequestGives join bytes answer ↔ CommandGives at (Join join) answer
-  opened at bytes answer is =
+  -- once all files are opened, the results are those of the run over their bytes
+  paths_opened : (at : Files) (bytes : JoinBytes) (answer : Result (List ℕ) RunFault) → AreOpened (Some at) paths bytes
+      → Gives bytes answer ↔ PathsGive at paths Gives answer
+  paths_opened at bytes answer is =
       let is_l = is.at_left in
       let is_r = is.at_right in
-      let Given : Option (List ℕ) → Option (List ℕ) → Type 0 = λ p q. JoinRequestGives join (record { left = p; right = q; edits = bytes.edits }) answer in
-      let last = edits_opened at join.edits_path bytes.edits answer
-      (λ d. JoinRequestGives join (record { left = Some is_l.0; right = Some is_r.0; edits = d }) answer) is.at_edits in
-      let second = input_opened (at join.right_path.now) is_r.0 Right answer
-      (λ q. AfterEdits at join.edits_path answer (λ d. JoinRequestGives join (record { left = Some is_l.0; right = Some q; edits = d }) answer)) is_r.1 in
-      let first = input_opened (at join.left_path.now) is_l.0 Left answer (AfterLeft at answer (at join.right_path.now)) is_l.1 in (
+      let Given : Option (List ℕ) → Option (List ℕ) → Type 0 = λ p q. Gives (record { left = p; right = q; edits = bytes.edits }) answer in
+      let last = edits_opened at paths.edits bytes.edits answer
+      (λ d. Gives (record { left = Some is_l.0; right = Some is_r.0; edits = d }) answer) is.at_edits in
+      let second = input_opened (at paths.right.now) is_r.0 Right answer
+      (λ q. AfterEdits at paths.edits answer (λ d. Gives (record { left = Some is_l.0; right = Some q; edits = d }) answer)) is_r.1 in
+      let first = input_opened (at paths.left.now) is_l.0 Left answer (AfterLeft at answer (at paths.right.now)) is_l.1 in (
         (λ h. first.0 (second.0 (last.0 (subst (λ (q : Option (List ℕ)). Given (Some is_l.0) q) is_r.2
             (subst (λ (p : Option (List ℕ)). Given p bytes.right) is_l.2 h))))),
         (λ h. subst (λ (p : Option (List ℕ)). Given p bytes.right) (sym is_l.2) (subst (λ (q : Option (List ℕ)). Given (Some is_l.0) q) (sym is_r.2)
             (last.1 (second.1 (first.1 h))))),
       )
 
-  -- the command has this fault as its only result
-  abbrev GivesOnly : Option Files → RunFault → Type 0
-  GivesOnly known f = IfSome known (λ at. (answer : Result (List ℕ) RunFault) → (answer ≡ Err f) ↔ CommandGives at (Join join) answer)
+  opened : (at : Files) (bytes : JoinBytes) (answer : Result (List ℕ) RunFault) → AreOpened (Some at) paths bytes
+      → Gives bytes answer ↔ CommandGives at command answer
+  opened at bytes answer is =
+      let run = paths_opened at bytes answer is in
+      let whole = runs.gives at answer in
+      ((λ h. whole.0 (run.0 h)), (λ h. run.1 (whole.1 h)))
 
-  left_missing : (known : Option Files) → IsMissing known join.left_path.now → GivesOnly known (run.NoFile Left)
+  -- the paths give this fault as the only result
+  abbrev GivesOnly : Option Files → RunFault → Type 0
+  GivesOnly known f = IfSome known (λ at. (answer : Result (List ℕ) RunFault) → (answer ≡ Err f) ↔ PathsGive at paths Gives answer)
+
+  left_missing : (known : Option Files) → IsMissing known paths.left.now → GivesOnly known (run.NoFile Left)
   left_missing None missing = tt
   left_missing (Some at) missing = λ answer.
-      let After : Option (List ℕ) → Type 0 = λ lies. AfterOpening Left lies answer (AfterLeft at answer (at join.right_path.now)) in (
+      let After : Option (List ℕ) → Type 0 = λ lies. AfterOpening Left lies answer (AfterLeft at answer (at paths.right.now)) in (
         (λ h. let now : After None = h in subst After (sym missing) now),
         (λ h. let now : After None = subst After missing h in now),
       )
 
-  right_missing : (known : Option Files) (l : Option (List ℕ)) → IsAt known join.left_path.now l → IsMissing known join.right_path.now
+  right_missing : (known : Option Files) (l : Option (List ℕ)) → IsAt known paths.left.now l → IsMissing known paths.right.now
       → GivesOnly known (run.NoFile Right)
   right_missing None l is_l missing = tt
   right_missing (Some at) l is_l missing = λ answer.
       let After : Option (List ℕ) → Type 0 = λ lies. AfterLeft at answer lies is_l.0 in
-      let first = input_opened (at join.left_path.now) is_l.0 Left answer (AfterLeft at answer (at join.right_path.now)) is_l.1 in (
+      let first = input_opened (at paths.left.now) is_l.0 Left answer (AfterLeft at answer (at paths.right.now)) is_l.1 in (
         (λ h. first.0 (let now : After None = h in subst After (sym missing) now)),
         (λ h. let now : After None = subst After missing (first.1 h) in now),
       )
 
-  edits_missing : (known : Option Files) (l r : Option (List ℕ)) → IsAt known join.left_path.now l → IsAt known join.right_path.now r
-      → AreEditsMissing known join.edits_path → GivesOnly known (run.NoFile Edits)
+  edits_missing : (known : Option Files) (l r : Option (List ℕ)) → IsAt known paths.left.now l → IsAt known paths.right.now r
+      → AreEditsMissing known paths.edits → GivesOnly known (run.NoFile Edits)
   edits_missing None l r is_l is_r missing = tt
   edits_missing (Some at) l r is_l is_r missing = λ answer.
-      let last = edits_refused at join.edits_path answer
-      (λ d. JoinRequestGives join (record { left = Some is_l.0; right = Some is_r.0; edits = d }) answer) missing in
-      let second = input_opened (at join.right_path.now) is_r.0 Right answer
-      (λ q. AfterEdits at join.edits_path answer (λ d. JoinRequestGives join (record { left = Some is_l.0; right = Some q; edits = d }) answer)) is_r.1 in
-      let first = input_opened (at join.left_path.now) is_l.0 Left answer (AfterLeft at answer (at join.right_path.now)) is_l.1 in
+      let last = edits_refused at paths.edits answer
+      (λ d. Gives (record { left = Some is_l.0; right = Some is_r.0; edits = d }) answer) missing in
+      let second = input_opened (at paths.right.now) is_r.0 Right answer
+      (λ q. AfterEdits at paths.edits answer (λ d. Gives (record { left = Some is_l.0; right = Some q; edits = d }) answer)) is_r.1 in
+      let first = input_opened (at paths.left.now) is_l.0 Left answer (AfterLeft at answer (at paths.right.now)) is_l.1 in
       ((λ h. first.0 (second.0 (last.0 h))), (λ h. last.1 (second.1 (first.1 h))))
 
   that_fault : (known : Option Files) (f : RunFault) → GivesOnly known f
-      → IfSome known (λ at. CommandGives at (Join join) (Err f) ⊎ (BlamesCommand f → ⊥))
+      → IfSome known (λ at. CommandGives at command (Err f) ⊎ (BlamesCommand f → ⊥))
   that_fault None f only = tt
-  that_fault (Some at) f only = inl ((only (Err f)).0 refl)
+  that_fault (Some at) f only = inl ((runs.gives at (Err f)).0 ((only (Err f)).0 refl))
 
   no_other : (known : Option Files) (f : RunFault) → GivesOnly known f → (g : RunFault)
-      → IfSome known (λ at. CommandGives at (Join join) (Err g) → g ≡ f)
+      → IfSome known (λ at. CommandGives at command (Err g) → g ≡ f)
   no_other None f only g = tt
-  no_other (Some at) f only g = λ gives. err_is g f ((only (Err g)).1 gives)
+  no_other (Some at) f only g = λ gives. err_is g f ((only (Err g)).1 ((runs.gives at (Err g)).1 gives))
 
   refused_by : {T : Type 0} (sink : S) (result : Result T RunFault) (i : Input) → GivesOnly known (run.NoFile i) → has_failed sink ≡ false
-      → IsErrAnd result (λ x. x ≡ run.NoFile i) → CommandEnds known written is_flushed has_failed (Join join) sink sink result
+      → IsErrAnd result (λ x. x ≡ run.NoFile i) → CommandEnds known written is_flushed has_failed command sink sink result
   refused_by sink result i only fresh h =
-      refused_ends known written is_flushed has_failed (Join join) sink result (run.NoFile i) fresh h (λ e. absurd cc) (that_fault known (run.NoFile i) only)
-      (λ g found. no_other known (run.NoFile i) only g) (λ g found keys. no_other known (run.NoFile i) only g) tt
+      refused_ends known written is_flushed has_failed command sink result (run.NoFile i) fresh h (λ e. absurd cc) (that_fault known (run.NoFile i) only)
+      (λ g found. no_other known (run.NoFile i) only g) (λ g found keys. no_other known (run.NoFile i) only g) (runs.faults known (run.NoFile i) tt)
 
   -- a file can't be opened
-  pub not_opened : {T : Type 0} (sink : S) (result : Result T RunFault) (f : RunFault) → IsFirstMissing known join f → has_failed sink ≡ false
-      → IsErrAnd result (λ x. x ≡ f) → CommandEnds known written is_flushed has_failed (Join join) sink sink result
+  pub not_opened : {T : Type 0} (sink : S) (result : Result T RunFault) (f : RunFault) → IsFirstMissing known paths f → has_failed sink ≡ false
+      → IsErrAnd result (λ x. x ≡ f) → CommandEnds known written is_flushed has_failed command sink sink result
   not_opened sink result f (no_left missing) fresh h = refused_by sink result Left (left_missing known missing) fresh h
   not_opened sink result f (no_right l is_l missing) fresh h = refused_by sink result Right (right_missing known l is_l missing) fresh h
   not_opened sink result f (no_edits l r is_l is_r missing) fresh h =
       refused_by sink result Edits (edits_missing known l r is_l is_r missing) fresh h
 
-  no_keys_given : (known : Option Files) → IfSome known (λ at. CommandGives at (Join join) (Err run.NoKeys) ⊎ (BlamesCommand run.NoKeys → ⊥))
+  no_keys_given : (known : Option Files) → IfSome known (λ at. CommandGives at command (Err run.NoKeys) ⊎ (BlamesCommand run.NoKeys → ⊥))
   no_keys_given None = tt
   no_keys_given (Some at) = inr (λ blame. blame)
 
   -- no fault that is found first is a result, once the files are opened
-  none_found : {P : Type 0} (at : Files) (bytes : JoinBytes) → AreOpened (Some at) join bytes → (g : RunFault) → IsFoundFirst (Join join) g
-      → CommandGives at (Join join) (Err g) → P
+  none_found : {P : Type 0} (at : Files) (bytes : JoinBytes) → AreOpened (Some at) paths bytes → (g : RunFault) → IsFoundFirst command g
+      → CommandGives at command (Err g) → P
   none_found at bytes is g found gives =
-      absurd (condition_opens join.condition join.scale join.product bytes g (found_missing (Join join) g tt found) ((opened at bytes (Err g) is).1 gives))
+      absurd (runs.opens bytes g (found_missing command g runs.opens_files found) ((opened at bytes (Err g) is).1 gives))
 
-  none_first : (known : Option Files) (bytes : JoinBytes) → AreOpened known join bytes → (g f : RunFault) → IsFoundFirst (Join join) g
-      → IfSome known (λ at. CommandGives at (Join join) (Err g) → g ≡ f)
+  none_first : (known : Option Files) (bytes : JoinBytes) → AreOpened known paths bytes → (g f : RunFault) → IsFoundFirst command g
+      → IfSome known (λ at. CommandGives at command (Err g) → g ≡ f)
   none_first None bytes is g f found = tt
   none_first (Some at) bytes is g f found = none_found at bytes is g found
 
-  none_next : (g : RunFault) → IsFoundNext (Join join) g → ⊥
-  none_next g found = found
-
   -- the system gives no keys
   pub without_keys : {T : Type 0} (sink : S) (result : Result T RunFault) (f : RunFault) (bytes : JoinBytes)
-      → has_failed sink ≡ false → IsErrAnd result (λ x. x ≡ f) → f ≡ run.NoKeys → AreOpened known join bytes
-      → CommandEnds known written is_flushed has_failed (Join join) sink sink result
+      → has_failed sink ≡ false → IsErrAnd result (λ x. x ≡ f) → f ≡ run.NoKeys → AreOpened known paths bytes
+      → CommandEnds known written is_flushed has_failed command sink sink result
   without_keys sink result f bytes fresh h named is =
-      refused_ends known written is_flushed has_failed (Join join) sink result run.NoKeys fresh
+      refused_ends known written is_flushed has_failed command sink result run.NoKeys fresh
       (subst (λ (x : RunFault). IsErrAnd result (λ y. y ≡ x)) named h) (λ w. absurd cc) (no_keys_given known)
-      (λ g found. none_first known bytes is g run.NoKeys found) (λ g found keys. absurd (none_next g found)) tt
+      (λ g found. none_first known bytes is g run.NoKeys found) (λ g found keys. absurd (runs.none_next g found)) (runs.faults known run.NoKeys tt)
 
-  text_as : (known : Option Files) (bytes : JoinBytes) → AreOpened known join bytes → (text : List ℕ)
-      → JoinRequestGives join bytes (Ok text) → IsCommandText known (Join join) text
+  text_as : (known : Option Files) (bytes : JoinBytes) → AreOpened known paths bytes → (text : List ℕ)
+      → Gives bytes (Ok text) → IsCommandText known command text
   text_as None bytes is text h = tt
   text_as (Some at) bytes is text h = (opened at bytes (Ok text) is).0 h
 
-  blamed_as : {T : Type 0} (known : Option Files) (bytes : JoinBytes) → AreOpened known join bytes
-      → (result : Result T RunFault) → IfErr result (λ f. BlamesInput f → JoinRequestGives join bytes (Err f))
-      → IfErr result (λ f. f ≢ run.Write → IsJoinRequestFault join bytes f)
-      → IfErr result (λ f. BlamesCommand f → IfSome known (λ at. CommandGives at (Join join) (Err f)))
+  blamed_as : {T : Type 0} (known : Option Files) (bytes : JoinBytes) → AreOpened known paths bytes
+      → (result : Result T RunFault) → IfErr result (λ f. BlamesInput f → Gives bytes (Err f))
+      → IfErr result (λ f. f ≢ run.Write → IsFault bytes f)
+      → IfErr result (λ f. BlamesCommand f → IfSome known (λ at. CommandGives at command (Err f)))
   blamed_as known bytes is (Ok x) fault faults = tt
   blamed_as None bytes is (Err f) fault faults = λ blame. tt
   blamed_as (Some at) bytes is (Err f) fault faults = λ blame.
       let allowed = faults (λ w. subst BlamesCommand w blame) in
-      (opened at bytes (Err f) is).0 (fault (condition_blames join.condition join.scale join.product bytes f allowed blame))
+      (opened at bytes (Err f) is).0 (fault (runs.blames bytes f allowed blame))
 
-  first_as : {T : Type 0} (known : Option Files) (bytes : JoinBytes) → AreOpened known join bytes
-      → (result : Result T RunFault) (f : RunFault) → IsFoundFirst (Join join) f
-      → IfSome known (λ at. CommandGives at (Join join) (Err f) → result ≡ Err f)
+  first_as : {T : Type 0} (known : Option Files) (bytes : JoinBytes) → AreOpened known paths bytes
+      → (result : Result T RunFault) (f : RunFault) → IsFoundFirst command f
+      → IfSome known (λ at. CommandGives at command (Err f) → result ≡ Err f)
   first_as None bytes is result f found = tt
   first_as (Some at) bytes is result f found = none_found at bytes is f found
 
   -- all files were opened, and the run was executed
-  pub files_ran : {T : Type 0} {HasFailed : Input → Type 0} (bytes : JoinBytes) (old new : S) (result : Result T RunFault) → AreOpened known join bytes
-      → RunEnds (JoinRequestGives join bytes) NoTextFault (IsJoinRequestFault join bytes) HasFailed written is_flushed has_failed old new result
-      → CommandEnds known written is_flushed has_failed (Join join) old new result
+  pub files_ran : {T : Type 0} {HasFailed : Input → Type 0} (bytes : JoinBytes) (old new : S) (result : Result T RunFault) → AreOpened known paths bytes
+      → RunEnds (Gives bytes) NoTextFault (IsFault bytes) HasFailed written is_flushed has_failed old new result
+      → CommandEnds known written is_flushed has_failed command old new result
   files_ran bytes old new result is ran = record {
     writes = ends_as _ _ written is_flushed has_failed old new result (text_as known bytes is) ran.writes;
     fault = blamed_as known bytes is result ran.fault ran.faults;
     first = first_as known bytes is result;
-    next = λ f found. absurd (none_next f found);
-    faults = IfErr-weaker result _ _ (λ f given w. allows_all (IsJoinRequestFault join (known_bytes known join)) f
-        (join_known known join bytes is f (given w))) ran.faults;
+    next = λ f found. absurd (runs.none_next f found);
+    faults = IfErr-weaker result _ _ (λ f given w. runs.faults known f (allows_all (IsFault (known_bytes known paths)) f
+        (fault_known IsFault runs.untells known paths bytes is f (given w)))) ran.faults;
   }

@@ -21,8 +21,8 @@ use Rattle.words_core.specs.declared.condition.Condition.{Condition}
 use Rattle.words_core.specs.declared.condition.Condition.TheVariants.{Boxes, Any}
 use Rattle.words_core.specs.declared.condition.Geometries.{Geometries}
 use Rattle.words_core.specs.declared.condition.Geometries.TheVariants as geometries
-use Rattle.words_core.specs.declared.words.JoinRequest.{JoinRequest}
-use Rattle.command_core.specs.JoinResults.{IsConditionFault, IsJoinRequestFault, edits_at, files_read, known_bytes}
+use Rattle.words_core.specs.declared.words.LayerPaths.{LayerPaths}
+use Rattle.command_core.specs.JoinResults.{IsConditionFault, edits_at, files_read, known_bytes}
 use Rattle.command_core.specs.LayerResults.{IsLayerFaultOf, IsWindowFaultOf}
 use Rattle.command_core.specs.Opening.{Files, IsAt, AreEditsAt, AreOpened, JoinBytes, bytes_at}
 
@@ -66,7 +66,7 @@ untold_edits None = None
 untold_edits (Some told) = Some None
 
 -- the same files with unknown bytes
-abbrev untold : JoinBytes → JoinBytes
+abbrev pub untold : JoinBytes → JoinBytes
 untold bytes = record { left = None; right = None; edits = untold_edits bytes.edits }
 
 module _ {G : Type 0} (reads : Reading G) where
@@ -84,7 +84,7 @@ module _ {G : Type 0} (reads : Reading G) where
   layers_untold bytes layers answer (edited l r es made a b d e) is =
       edited l r es layers tt tt (edits_untold bytes.edits (Ok es) d) (let same : made ≡ layers = cc in e ∙ ap Ok same)
 
-  join_untold : (bytes : JoinBytes) (f : RunFault) → IsJoinFault (files_read reads bytes) f → IsJoinFault (files_read reads (untold bytes)) f
+  pub join_untold : (bytes : JoinBytes) (f : RunFault) → IsJoinFault (files_read reads bytes) f → IsJoinFault (files_read reads (untold bytes)) f
   join_untold bytes (run.Read input.Left f) is = tt
   join_untold bytes (run.Read input.Right f) is = λ other. ((is other).0, tt)
   join_untold bytes (run.Read input.Edits f) is = ((is.0.0, tt), (is.1.0, tt))
@@ -105,7 +105,7 @@ module _ {G : Type 0} (reads : Reading G) where
   product_untold Picture bytes run.TooManyToDraw is = tt
   product_untold Picture bytes f is = join_untold bytes f is
 
-condition_untold : (condition : Condition) (scale : Scale) (product : Product) (bytes : JoinBytes) (f : RunFault)
+pub condition_untold : (condition : Condition) (scale : Scale) (product : Product) (bytes : JoinBytes) (f : RunFault)
     → IsConditionFault condition scale product bytes f → IsConditionFault condition scale product (untold bytes) f
 condition_untold (Boxes relation) scale product bytes f is = product_untold (ReadsBox scale) product bytes f is
 condition_untold (Any relation) scale product bytes f is = product_untold (ReadsAny scale (rings_of relation)) product bytes f is
@@ -123,15 +123,16 @@ bytes_are a b left right edits =
     let made : Option (List ℕ) → Option (List ℕ) → Option (Option (List ℕ)) → JoinBytes = λ l r e. record { left = l; right = r; edits = e } in
     ap (λ l. made l a.right a.edits) left ∙ ap (λ r. made b.left r a.edits) right ∙ ap (λ e. made b.left b.right e) edits
 
--- the bytes that the files of a join tell are those known at its paths
-told_known : (at : Files) (join : JoinRequest) (bytes : JoinBytes) → AreOpened (Some at) join bytes → bytes ≡ known_bytes (Some at) join
-told_known at join bytes is = bytes_are bytes (known_bytes (Some at) join) (is.at_left.2 ∙ sym is.at_left.1) (is.at_right.2 ∙ sym is.at_right.1)
-    (edits_some at join.edits_path bytes.edits is.at_edits)
+-- the bytes that the opened files tell are those known at their paths
+told_known : (at : Files) (paths : LayerPaths) (bytes : JoinBytes) → AreOpened (Some at) paths bytes → bytes ≡ known_bytes (Some at) paths
+told_known at paths bytes is = bytes_are bytes (known_bytes (Some at) paths) (is.at_left.2 ∙ sym is.at_left.1) (is.at_right.2 ∙ sym is.at_right.1)
+    (edits_some at paths.edits bytes.edits is.at_edits)
 
--- a possible fault by what the files tell is one by what is known of them
-pub join_known : (known : Option Files) (join : JoinRequest) (bytes : JoinBytes) → AreOpened known join bytes → (f : RunFault)
-    → IsJoinRequestFault join bytes f → IsJoinRequestFault join (known_bytes known join) f
-join_known None join bytes is f fault =
-    subst (λ (e : Option (Option (List ℕ))). IsJoinRequestFault join (record { left = None; right = None; edits = e }) f)
-    (edits_none join.edits_path bytes.edits is.at_edits) (condition_untold join.condition join.scale join.product bytes f fault)
-join_known (Some at) join bytes is f fault = subst (λ (b : JoinBytes). IsJoinRequestFault join b f) (told_known at join bytes is) fault
+-- a possible fault by what the files tell, which may come of unknown bytes too, is one by what is known of them
+pub fault_known : (IsFault : JoinBytes → RunFault → Type 0) → ((bytes : JoinBytes) (f : RunFault) → IsFault bytes f → IsFault (untold bytes) f)
+    → (known : Option Files) (paths : LayerPaths) (bytes : JoinBytes) → AreOpened known paths bytes → (f : RunFault)
+    → IsFault bytes f → IsFault (known_bytes known paths) f
+fault_known IsFault untells None paths bytes is f fault =
+    subst (λ (e : Option (Option (List ℕ))). IsFault (record { left = None; right = None; edits = e }) f)
+    (edits_none paths.edits bytes.edits is.at_edits) (untells bytes f fault)
+fault_known IsFault untells (Some at) paths bytes is f fault = subst (λ (b : JoinBytes). IsFault b f) (told_known at paths bytes is) fault

@@ -13,15 +13,17 @@ use Rattle.join_core.specs.declared.fault.RunFault.TheVariants as run
 use Rattle.join_core.specs.Inputs.{BlamesInput}
 use Rattle.join_core.specs.Relating.{RelateGives, IsTextFault}
 use Rattle.join_core.specs.Runs.{Ends}
-use Rattle.command_core.specs.JoinResults.{IsJoinRequestFault, PathsGive, known_bytes}
+use Rattle.command_core.specs.JoinResults.{JoinRequestGives, IsJoinRequestFault, PathsGive}
+use Rattle.command_core.specs.JoinResults.{known_bytes}
 use Rattle.command_core.specs.LayerResults.{GivesCorners, GivesCounts, GivesWindow}
 use Rattle.command_core.specs.LayerResults.{IsLayerFaultOf, IsWindowFaultOf}
+use Rattle.command_core.specs.NearResults.{NearRequestGives, IsNearRequestFault}
 use Rattle.command_core.specs.Opening.{AfterOpening, Files, bytes_at}
 use Rattle.words_core.specs.declared.condition.Geometries.{Geometries}
 use Rattle.words_core.specs.declared.condition.Geometries.TheVariants.{Box, Any}
 use Rattle.words_core.specs.declared.words.Command.{Command}
-use Rattle.words_core.specs.declared.words.Command.TheVariants.{Relate, Join, Window, Stats}
-use Rattle.words_core.specs.declared.words.Command.TheVariants.{Bounds}
+use Rattle.words_core.specs.declared.words.Command.TheVariants.{Relate, Join, Near, Window}
+use Rattle.words_core.specs.declared.words.Command.TheVariants.{Stats, Bounds}
 use Rattle.words_core.specs.declared.words.LayerRequest.{LayerRequest}
 
 -- the letters of the matrix of two texts and a line feed, or the fault of the first text that
@@ -47,7 +49,8 @@ LayerPathGives Gives at layer answer =
 abbrev pub CommandGives : Files → Command → Result (List ℕ) RunFault → Type 0
 CommandGives at (Relate request) answer =
     GeometriesGive request.geometries request.scale request.a.now request.b.now answer
-CommandGives at (Join join) answer = PathsGive at join answer
+CommandGives at (Join join) answer = PathsGive at join.paths (JoinRequestGives join) answer
+CommandGives at (Near near) answer = PathsGive at near.paths (NearRequestGives near) answer
 CommandGives at (Window layer wkt) answer =
     LayerPathGives (λ geometries scale. GivesWindow geometries scale wkt.now) at layer answer
 CommandGives at (Stats layer) answer = LayerPathGives GivesCounts at layer answer
@@ -118,7 +121,8 @@ IsRelateFault (Any rings) _ = ⊥
 -- a possible fault of a command, except that of its sink, if the content of its files is known
 abbrev pub IsFaultOf : Option Files → Command → RunFault → Type 0
 IsFaultOf known (Relate request) = IsRelateFault request.geometries
-IsFaultOf known (Join join) = OrNoFile (IsJoinRequestFault join (known_bytes known join))
+IsFaultOf known (Join join) = OrNoFile (IsJoinRequestFault join (known_bytes known join.paths))
+IsFaultOf known (Near near) = OrNoFile (IsNearRequestFault near (known_bytes known near.paths))
 IsFaultOf known (Window layer wkt) = OrNoLayer
     (IsWindowFaultOf layer.geometries layer.scale wkt.now (bytes_at known layer.path.now))
 IsFaultOf known (Stats layer) =

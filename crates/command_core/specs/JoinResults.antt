@@ -14,6 +14,7 @@ use Rattle.any_run_core.specs.AnyJoinings.{any_joining}
 use Rattle.words_core.specs.declared.condition.Condition.{Condition}
 use Rattle.words_core.specs.declared.condition.Condition.TheVariants.{Boxes, Any}
 use Rattle.words_core.specs.declared.words.JoinRequest.{JoinRequest}
+use Rattle.words_core.specs.declared.words.LayerPaths.{LayerPaths}
 use Rattle.command_core.specs.Opening.{AfterOpening, Files, JoinBytes, bytes_at}
 
 -- these files, with geometries that read in this way
@@ -50,23 +51,23 @@ AfterEdits at None answer Then = Then None
 AfterEdits at (Some path) answer Then =
     AfterOpening Edits (at path.now) answer (λ bytes. Then (Some (Some bytes)))
 
--- the result of the join of the files at these paths, which are opened in the order left, right,
--- edits
-abbrev pub PathsGive : Files → JoinRequest → Result (List ℕ) RunFault → Type 0
-PathsGive at join answer =
-    AfterOpening Left (at join.left_path.now) answer (λ l.
-    AfterOpening Right (at join.right_path.now) answer (λ r.
-    AfterEdits at join.edits_path answer (λ e.
-    JoinRequestGives join (record { left = Some l; right = Some r; edits = e }) answer)))
+-- the result of the files at these paths, which are opened in the order left, right, edits
+abbrev pub PathsGive : Files → LayerPaths → (JoinBytes → Result (List ℕ) RunFault → Type 0)
+    → Result (List ℕ) RunFault → Type 0
+PathsGive at paths Gives answer =
+    AfterOpening Left (at paths.left.now) answer (λ l.
+    AfterOpening Right (at paths.right.now) answer (λ r.
+    AfterEdits at paths.edits answer (λ e.
+    Gives (record { left = Some l; right = Some r; edits = e }) answer)))
 
 abbrev pub edits_at : Option Files → Option (Bor (List ℕ)) → Option (Option (List ℕ))
 edits_at known None = None
 edits_at known (Some path) = Some (bytes_at known path.now)
 
--- the bytes of the files of a join, as far as they are known
-abbrev pub known_bytes : Option Files → JoinRequest → JoinBytes
-known_bytes known join = record {
-  left = bytes_at known join.left_path.now;
-  right = bytes_at known join.right_path.now;
-  edits = edits_at known join.edits_path;
+-- the bytes of the files at these paths, as far as they are known
+abbrev pub known_bytes : Option Files → LayerPaths → JoinBytes
+known_bytes known paths = record {
+  left = bytes_at known paths.left.now;
+  right = bytes_at known paths.right.now;
+  edits = edits_at known paths.edits;
 }

@@ -7,7 +7,7 @@ use Rattle.join_core.specs.declared.fault.RunFault.{RunFault}
 use Rattle.join_core.specs.declared.fault.RunFault.TheVariants.{NoFile, NoKeys}
 use Rattle.join_core.specs.declared.joins.sources.JoinSources.{JoinSources}
 use Rattle.join_core.specs.JoinRuns.{bytes_of}
-use Rattle.words_core.specs.declared.words.JoinRequest.{JoinRequest}
+use Rattle.words_core.specs.declared.words.LayerPaths.{LayerPaths}
 
 -- the content at each path: bytes, or `None` if nothing can be opened there
 abbrev pub Files : Type 0
@@ -68,17 +68,17 @@ bytes_in remaining sources = record {
   edits = bytes_of remaining sources.edits;
 }
 
--- the bytes at the paths of a join, as reported by its opened files
-pub record AreOpened (known : Option Files) (join : JoinRequest) (told : JoinBytes) : Type 0 where
-  pub at_left : IsAt known join.left_path.now told.left
-  pub at_right : IsAt known join.right_path.now told.right
-  pub at_edits : AreEditsAt known join.edits_path told.edits
+-- the bytes at the paths of layers, as reported by its opened files
+pub record AreOpened (known : Option Files) (paths : LayerPaths) (told : JoinBytes) : Type 0 where
+  pub at_left : IsAt known paths.left.now told.left
+  pub at_right : IsAt known paths.right.now told.right
+  pub at_edits : AreEditsAt known paths.edits told.edits
 
 -- the first file of a join that can't be opened, in the order left, right, edits
-pub data IsFirstMissing (known : Option Files) (join : JoinRequest) : RunFault → Type 0 where
-  no_left : IsMissing known join.left_path.now → IsFirstMissing known join (NoFile Left)
-  no_right : (left : Option (List ℕ)) → IsAt known join.left_path.now left
-      → IsMissing known join.right_path.now → IsFirstMissing known join (NoFile Right)
-  no_edits : (left right : Option (List ℕ)) → IsAt known join.left_path.now left
-      → IsAt known join.right_path.now right → AreEditsMissing known join.edits_path
-      → IsFirstMissing known join (NoFile Edits)
+pub data IsFirstMissing (known : Option Files) (paths : LayerPaths) : RunFault → Type 0 where
+  no_left : IsMissing known paths.left.now → IsFirstMissing known paths (NoFile Left)
+  no_right : (left : Option (List ℕ)) → IsAt known paths.left.now left
+      → IsMissing known paths.right.now → IsFirstMissing known paths (NoFile Right)
+  no_edits : (left right : Option (List ℕ)) → IsAt known paths.left.now left
+      → IsAt known paths.right.now right → AreEditsMissing known paths.edits
+      → IsFirstMissing known paths (NoFile Edits)

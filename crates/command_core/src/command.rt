@@ -9,6 +9,7 @@ use crate::improper::tell_improper;
 use crate::inputs::Inputs;
 use crate::joining::execute_join;
 use crate::layers::{execute_bounds, execute_stats, execute_window};
+use crate::near::execute_near;
 use crate::relating::execute_relate;
 use join_core::{RunFault, Sink, fault_line};
 use relate_any_core::Improper;
@@ -70,6 +71,7 @@ fn execute<R: RandomSource + AllocGlobal + Threads + Wait + Sync, I: Inputs, O: 
     match command {
         Command::Relate(request) => execute_relate(rt.alloc(), request, output, improper),
         Command::Join(join) => execute_join(rt, inputs, join, output),
+        Command::Near(near) => execute_near(rt, inputs, near, output),
         Command::Window { layer, wkt } => execute_window(rt, inputs, layer, wkt, output),
         Command::Stats(layer) => execute_stats(rt, inputs, layer, output),
         Command::Bounds(layer) => execute_bounds(rt, inputs, layer, output),

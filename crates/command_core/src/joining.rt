@@ -30,7 +30,7 @@ pub fn execute_join<R: RandomSource + AllocGlobal + Threads + Wait + Sync, I: In
     ensures { CommandEnds (I.files inputs.now) O.written O.is_flushed O.has_failed
         (Join join.now) output.old output.new result }
 {
-    let mut sources = open_sources(inputs, join)?;
+    let mut sources = open_sources(inputs, &join.paths)?;
     let states = hash_states(rt)?;
     run_sources(rt, join, states, &mut sources, output)
 }

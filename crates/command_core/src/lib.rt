@@ -7,6 +7,7 @@ mod improper;
 mod inputs;
 mod joining;
 mod layers;
+mod near;
 mod opening;
 mod program;
 mod relating;
@@ -17,6 +18,6 @@ pub use inputs::{Inputs, NotOpened};
 pub use program::{run_program, run_words};
 pub use word_fault::{word_line, word_status};
 pub use words_core::{
-    Command, Condition, Geometries, JoinRequest, LayerRequest, RelateRequest, WordFault,
-    is_standard_input, read_words,
+    Command, Condition, Geometries, JoinRequest, LayerPaths, LayerRequest, NearRequest,
+    RelateRequest, WordFault, is_standard_input, read_words,
 };

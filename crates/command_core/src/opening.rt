@@ -10,22 +10,22 @@ use crate::inputs::Inputs;
 use join_core::{Input, JoinSources, RunFault};
 use std::hash::RandomState;
 use std::random::RandomSource;
-use words_core::JoinRequest;
+use words_core::LayerPaths;
 
-/// Opens the files of a join, in the order left, right, edits.
+/// Opens the files at these paths, in the order left, right, edits.
 pub fn open_sources<I: Inputs>(
     inputs: &I,
-    join: &JoinRequest<'_>,
+    paths: &LayerPaths<'_>,
 ) -> Result<JoinSources<I::File, I::File, I::File>, RunFault>
     ensures opened { IfOk result (λ sources.
-        AreOpened (I.files inputs.now) join.now (bytes_in I.File.remaining sources)) }
+        AreOpened (I.files inputs.now) paths.now (bytes_in I.File.remaining sources)) }
     ensures fresh { IfOk result
         (AreFresh I.File.has_failed I.File.has_failed I.File.has_failed) }
-    ensures missing { IfErr result (IsFirstMissing (I.files inputs.now) join.now) }
+    ensures missing { IfErr result (IsFirstMissing (I.files inputs.now) paths.now) }
 {
-    let left = open_input(inputs, Input::Left, join.left_path)?;
-    let right = open_input(inputs, Input::Right, join.right_path)?;
-    let edits = open_edits(inputs, join.edits_path)?;
+    let left = open_input(inputs, Input::Left, paths.left)?;
+    let right = open_input(inputs, Input::Right, paths.right)?;
+    let edits = open_edits(inputs, paths.edits)?;
     Ok(JoinSources { left, right, edits })
 }
 

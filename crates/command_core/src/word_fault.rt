@@ -22,6 +22,7 @@ pub fn word_status(fault: &WordFault) -> u8
         WordFault::AllowsDisjoint => 2,
         WordFault::Options(_) => 2,
         WordFault::Scale => 2,
+        WordFault::Distance => 2,
         WordFault::Geometry => 2,
         WordFault::RingsOfBoxes => 2,
         WordFault::Rings => 2,
@@ -57,6 +58,9 @@ pub fn word_line<S: Sink>(fault: &WordFault, sink: &mut S) -> Result<(), WriteFa
             line.push(text);
         }
         WordFault::Scale => line.push("--scale must be 0 to 6"),
+        WordFault::Distance => {
+            line.push("--distance must be a number of the scale, 0 to 1000000000000 units");
+        }
         WordFault::Geometry => line.push("--geometry must be box or any"),
         WordFault::RingsOfBoxes => line.push("--rings needs --geometry any"),
         WordFault::Rings => line.push("--rings must be proper or even-odd"),

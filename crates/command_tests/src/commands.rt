@@ -36,6 +36,69 @@ church field,north road,FF2F01102
     "",
 )];
 
+const PARCELS_NEAR_A_ROAD: [Run; 4] = [
+    (
+        "near|data/parcels.csv|data/roads.csv|--distance|2",
+        0,
+        "left,right,distance
+mill field,mill lane,0
+mill field,high street,1
+church field,mill lane,0
+church field,high street,1
+church field,church path,0
+church field,north road,0
+\"meadow, upper\",mill lane,2
+\"meadow, upper\",high street,1
+\"meadow, upper\",church path,2
+\"meadow, upper\",north road,0
+",
+        "",
+    ),
+    (
+        "near|data/parcels.csv|data/roads.csv|--distance|1|--apart",
+        0,
+        "left,right,distance
+mill field,high street,1
+church field,high street,1
+\"meadow, upper\",high street,1
+",
+        "",
+    ),
+    (
+        "near|data/parcels.csv|roads.csv|--distance|1",
+        1,
+        "",
+        "rjoin: right: cannot be opened\n",
+    ),
+    (
+        "near|parcels.csv|roads.csv|--distance|far",
+        2,
+        "",
+        "rjoin: --distance must be a number of the scale, 0 to 1000000000000 units\n",
+    ),
+];
+
+const NEAR_AFTER_EDITS: [Run; 3] = [
+    (
+        "near|left.csv|right.csv|--distance|0",
+        0,
+        "left,right,distance\na,x,0\nb,x,0\n",
+        "",
+    ),
+    (
+        "near|left.csv|right.csv|--distance|0|--edits|edits.csv",
+        0,
+        "left,right,distance\nb,x,0\nb,y,0\n",
+        "",
+    ),
+    (
+        "near|bad.csv|right.csv|--distance|0|--edits|edits.csv",
+        1,
+        "",
+        "rjoin: left: row 2: id is already there\n",
+    ),
+];
+
 const FIELDS_THAT_MEET_A_WINDOW: [Run; 2] = [
     (
         "window|data/parcels.csv|LINESTRING (5 10, 5 12)",
@@ -164,6 +227,16 @@ const PICTURE_END: &str = " viewBox=\"0 0 6 6\">\n<g class=\"left\">\n\
 #[test]
 fn parcels_that_touch_a_road(rt: HostRuntime) -> Result<(), Fail> {
     check(&rt, &MAPS, &PARCELS_THAT_TOUCH_A_ROAD)
+}
+
+#[test]
+fn parcels_near_a_road(rt: HostRuntime) -> Result<(), Fail> {
+    check(&rt, &MAPS, &PARCELS_NEAR_A_ROAD)
+}
+
+#[test]
+fn near_after_edits(rt: HostRuntime) -> Result<(), Fail> {
+    check(&rt, &FILES, &NEAR_AFTER_EDITS)
 }
 
 #[test]

@@ -6,6 +6,9 @@ returns-in-Relate-clause-ends g c = rw c.in-Relate.is (c.execute_relate.ensures.
 pub returns-in-Join-clause-ends : goal.returns-in-Join-clause-ends
 returns-in-Join-clause-ends g c = rw c.in-Join.is c.execute_join.ensures
 
+pub returns-in-Near-clause-ends : goal.returns-in-Near-clause-ends
+returns-in-Near-clause-ends g c = rw c.in-Near.is c.execute_near.ensures
+
 pub returns-in-Window-clause-ends : goal.returns-in-Window-clause-ends
 returns-in-Window-clause-ends g c = rw c.in-Window.is c.execute_window.ensures
 
