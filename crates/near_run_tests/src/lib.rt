@@ -1,0 +1,14 @@
+//! Tests of `near_run_core` from outside: runs over files in memory, with reports worked out by
+//! hand.
+#![tactic(auto)]
+
+#[cfg(test)]
+mod faults;
+#[cfg(test)]
+mod refused;
+#[cfg(test)]
+mod reports;
+#[cfg(test)]
+mod running;
+#[cfg(test)]
+mod scales;
