@@ -11,8 +11,8 @@ use std::alloc::{AllocError, Global};
 use std::thread;
 use std::thread::Threads;
 
-/// An estimate of the number of bytes of the last field and the end of a record, that of the letters
-/// of a matrix and a line feed.
+/// An estimate of the number of bytes of the last field and the end of a record: that of the
+/// letters of a matrix and a line feed.
 const LAST_AND_END: usize = 10;
 
 /// The ids of a layer's features, as CSV fields with their commas, by number.
