@@ -14,3 +14,5 @@ mod files;
 mod parts;
 #[cfg(test)]
 mod refused_memory;
+#[cfg(test)]
+mod skipped;
