@@ -55,7 +55,7 @@ PAPERS = {
     "python3-rjoin": {"docs/PYTHON.md", "docs/CLUSTER.md", "docs/python.svg"},
     "rjoin-integrations": {
         "docs/QGIS.md", "docs/KLAYOUT.md", "docs/POSTGIS.md", "docs/RECIPES.md", "docs/qgis.png", "docs/klayout.png",
-        "docs/postgis.svg",
+        "docs/postgis.svg", "docs/storms.svg",
     },
 }
 INSTALLED = {
