@@ -398,8 +398,8 @@ def equals_of_crowd() -> bytes:
 def output_cases(plain: dict[str, bytes], full: int, closed: int) -> list[Case]:
     """Outputs that take nothing, for a command and for help. `full` and `closed` are descriptors of such."""
     cases = []
-    for name, words in ((it, commands()[it]) for it in ("join", "near", "draw", "window", "stats", "bounds", "relate", "help")):
-        front = plain[name]
+    for name in ("join", "near", "draw", "window", "stats", "bounds", "relate", "help"):
+        front, words = plain[name], commands()[name]
         for shown, output in [("a full device", full), ("a closed pipe", closed)]:
             how = {"stdout": output}
             cases.append(Case(f"{name} to {shown}", ["rjoin", *words], WRITE_FAILED, front=front, how=how))
