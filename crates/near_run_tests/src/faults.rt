@@ -22,7 +22,7 @@ fn double_id(rt: HostRuntime) -> Result<(), Fail> {
 }
 
 #[test]
-fn refused_edit(rt: HostRuntime) -> Result<(), Fail> {
+fn double_id_of_an_edit(rt: HostRuntime) -> Result<(), Fail> {
     let files = Files {
         left: POINT,
         right: POINT,
