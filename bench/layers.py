@@ -120,6 +120,10 @@ def chip_wires(size: int, _random: Random) -> Iterator[str]:
             yield shape(left, y + 5, left + width, y + 95)
 
 
+# Joins by distance, by what `Kind.geometry` says of them.
+NEAR = ("near", "near any")
+
+
 @dataclass(frozen=True)
 class Kind:
     """Two layers and the relation that they are joined by."""
@@ -127,13 +131,19 @@ class Kind:
     left: Callable[[int, Random], Iterator[str]]
     right: Callable[[int, Random], Iterator[str]]
     relation: str
-    # What `--geometry` says of the layers; or `near` for boxes within a distance.
+    # What `--geometry` says of the layers; or `near` for boxes and `near any` for any geometry within a distance, and
+    # `nearest` for the nearest boxes.
     geometry: str = "box"
 
     @property
     def distance(self) -> int | None:
         """The distance within which the features of a pair lie, where that is what they are joined by."""
-        return int(self.relation.split()[1]) if self.geometry == "near" else None
+        return int(self.relation.split()[1]) if self.geometry in NEAR else None
+
+    @property
+    def most(self) -> int | None:
+        """How many of the nearest features are sought, where that is what they are joined by."""
+        return int(self.relation.split()[1]) if self.geometry == "nearest" else None
 
 
 KINDS = {
@@ -144,11 +154,15 @@ KINDS = {
     "chip": Kind(chip_bars, chip_wires, "intersects"),
     "close": Kind(random_small_rectangles, random_small_rectangles, "within 5", "near"),
     "wide": Kind(random_small_rectangles, random_small_rectangles, "within 22", "near"),
+    "nearest": Kind(random_points, random_points, "nearest 1", "nearest"),
+    "nearest-ten": Kind(random_points, random_points, "nearest 10", "nearest"),
     "parcels": Kind(irregular.parcels, irregular.shifted_parcels, "intersects", "any"),
     "neighbours": Kind(irregular.parcels, irregular.parcels, "touches", "any"),
     "roads": Kind(irregular.roads, irregular.parcels, "crosses", "any"),
+    "crossings": Kind(irregular.roads, irregular.roads, "crosses", "any"),
     "zones": Kind(irregular.points, irregular.blobs, "within", "any"),
     "giants": Kind(irregular.giants, irregular.parcels, "contains", "any"),
+    "near-any": Kind(irregular.giants, irregular.parcels, "within 20000", "near any"),
 }
 BOX_KINDS = {kind: made for kind, made in KINDS.items() if made.geometry == "box"}
 

@@ -10,7 +10,8 @@ from xml.sax.saxutils import escape
 from programs import Program, Run
 
 COLOURS = ("#1b6ca8", "#8aa29e", "#c98b3c", "#7b5ea7", "#5b8c5a", "#a8553f")
-TITLES = {"box": "Points, segments and rectangles", "near": "Boxes within a distance", "any": "Any geometry"}
+TITLES = {"box": "Points, segments and rectangles", "near": "Boxes within a distance",
+          "nearest": "Nearest boxes", "any": "Any geometry", "near any": "Any geometry within a distance"}
 WIDTH = 760
 LABEL = 130
 BAR = 15
@@ -75,17 +76,19 @@ def page(options: Namespace, everyone: list[Program], rows: list[Row], wrong: li
 | chip | horizontal bars, eight a cell | vertical wires, eight a cell, every second one without a width |
 | close | random rectangles that cover a sixteenth of the square, with about two others within the distance | the same |
 | wide | such rectangles, with about twenty others within the distance | the same |
+| nearest, nearest-ten | random points | random points |
 | parcels | irregular parcels of 14 vertices on average, which share their sides | other such parcels, half a row away |
 | neighbours | such parcels | the same parcels |
 | roads | polylines of 2 to 33 vertices | such parcels |
+| crossings | such polylines | other such polylines |
 | zones | random points | areas of 100 vertices, as large as parcels |
-| giants | a few areas of 100,000 vertices, half as wide as the layer | such parcels |
+| giants, near-any | a few areas of 100,000 vertices, half as wide as the layer | such parcels |
 
 The generator has a fixed seed (`bench/layers.py`, and `bench/irregular.py` for any geometry). Of the cadastre, the chip and the neighbours, the number of pairs follows by arithmetic and is compared too; `bench/smoke` does that alone, at small sizes and with no peer.
 
 ## What the peers do
 
-GEOS (C interface): an STRtree of the right layer, prepared geometries, the named predicate, and the letters of the pairs that hold. GEOS plain: the letters of all pairs whose boxes meet, fitted to the masks. GEOS distance: the tree is asked by the left envelope, grown by the distance, and the prepared left geometry gives the distance. Boost.Geometry: a packed R-tree of boxes and `relation`, fitted to the masks. These read the CSV files themselves and join by as many threads as rjoin. PostGIS: `\\copy` into unlogged tables, a GiST index each, `ANALYZE`, the join with `ST_Relate`, or `ST_DWithin` with `ST_Distance`; all of that is in its seconds. All of them take geometries of any form, and rjoin reads the first seven kinds as points, axis-parallel segments and rectangles, which has a part in the difference. GEOS and Boost.Geometry round the points where lines cross, so their letters may differ from the exact ones.
+GEOS (C interface): an STRtree of the right layer, prepared geometries, the named predicate, and the letters of the pairs that hold. GEOS plain: the letters of all pairs whose boxes meet, fitted to the masks. GEOS distance: the tree is asked by the left envelope, grown by the distance, and the prepared left geometry gives the distance. Boost.Geometry: a packed R-tree of boxes and `relation`, fitted to the masks. These read the CSV files themselves and join by as many threads as rjoin. PostGIS: `\\copy` into unlogged tables, a GiST index each, `ANALYZE`, the join with `ST_Relate`, `ST_DWithin` with `ST_Distance`, or for nearest points a lateral query in the order of `<->` with its ties; all of that is in its seconds. All of them take geometries of any form, and rjoin reads the first nine kinds as points, axis-parallel segments and rectangles, which has a part in the difference. GEOS and Boost.Geometry round the points where lines cross, so their letters may differ from the exact ones.
 """  # noqa: E501
 
 

@@ -14,8 +14,8 @@ Words = list[str | Path]
 
 @dataclass(frozen=True)
 class Task:
-    """Two layers, the relation or the distance that they are joined by, what `--geometry` says of them, and how many
-    threads may work."""
+    """Two layers, the relation, the distance or the number of nearest features that they are joined by, what
+    `--geometry` says of them, and how many threads may work."""
 
     left: Path
     right: Path
@@ -23,6 +23,7 @@ class Task:
     geometry: str
     workers: int
     distance: int | None = None
+    most: int | None = None
 
 
 @dataclass(frozen=True)
@@ -67,13 +68,17 @@ def rjoin(path: str | Path) -> Program:
 
     def words(task: Task) -> Words:
         if task.distance is not None:
-            return [program, "near", task.left, task.right, "--distance", str(task.distance),
+            geometry = ["--geometry", "any"] if task.geometry == "near any" else []
+            return [program, "near", task.left, task.right, "--distance", str(task.distance), *geometry,
+                    "--workers", str(task.workers)]
+        if task.most is not None:
+            return [program, "nearest", task.left, task.right, "--most", str(task.most),
                     "--workers", str(task.workers)]
         geometry = ["--geometry", task.geometry] if task.geometry != "box" else []
         return [program, "join", task.left, task.right, "--relation", task.relation, *geometry,
                 "--workers", str(task.workers)]
 
-    return Program("rjoin", version, words, ("box", "near", "any"))
+    return Program("rjoin", version, words, ("box", "near", "nearest", "any", "near any"))
 
 
 def built(source: Path, *libraries: str) -> Path | None:
@@ -115,7 +120,7 @@ def geos_plain() -> Program | None:
 
 
 def geos_near() -> Program | None:
-    return geos_by("geos_near", "GEOS distance", [], "near")
+    return geos_by("geos_near", "GEOS distance", [], "near", "near any")
 
 
 def boost() -> Program | None:
@@ -133,16 +138,18 @@ def postgis() -> Program | None:
     asked: Words = ["psql", "-qAtX", "-c", "set client_min_messages = error; create extension if not exists postgis",
                     "-c", "select postgis_lib_version()"]
     version = output_of(asked)
-    return Program("PostGIS", version, postgis_words, ("box", "near")) if version else None
+    return Program("PostGIS", version, postgis_words, ("box", "near", "nearest")) if version else None
 
 
 def postgis_words(task: Task) -> Words:
     copies = [f"\\copy {side}_rows (id, geom) from '{path}' csv header"
               for side, path in (("left", task.left), ("right", task.right))]
-    if task.distance is None:
-        asked, query = f"relation=ST_{task.relation.title().replace('_', '')}", "postgis_join.sql"
-    else:
+    if task.distance is not None:
         asked, query = f"distance={task.distance}", "postgis_near.sql"
+    elif task.most is not None:
+        asked, query = f"most={task.most}", "postgis_nearest.sql"
+    else:
+        asked, query = f"relation=ST_{task.relation.title().replace('_', '')}", "postgis_join.sql"
     return ["psql", "-qX", "--csv", "-v", asked, "-v", f"workers={task.workers - 1}", "-f", HERE / "peers/tables.sql",
             "-c", copies[0], "-c", copies[1], "-f", HERE / "peers/indexes.sql", "-f", HERE / "peers" / query]
 

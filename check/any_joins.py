@@ -1,28 +1,36 @@
 #!/usr/bin/env python3
-"""Compares joins of layers of any geometry with those that plain_joins.py computes, and of boxes with those of boxes.
+"""Compares joins of layers of any geometry with those that plain_joins.py computes, of boxes with those of boxes, and
+joins of boxes by distance and their nearest features with those that plain_distances.py computes.
 
-    check/any_joins.py [PROGRAM]            a hundred small joins, all of them by 1, 2, 4 and 16 workers, with a window
+    check/any_joins.py [PROGRAM]            a hundred small joins, all of them by 1, 2, 4 and 16 workers, with a window,
+                                            and as many by distance
     check/any_joins.py --joins 1000         so many
     check/any_joins.py --boxes 100000       also layers of so many boxes
 
 The plain answers are first compared with those of check/runs. Then each report has to be the plain one, byte for byte,
-as have the bounds of the left layer and its features in a window. Masks that fit for disjoint geometries have to be
-refused, and of ten kinds of layers of boxes the reports under `--geometry any` have to be those under `--geometry box`.
-Each difference is written, and the last line counts; the status is 1 where some differ.
+also of a join by distance and of nearest features, as have the bounds of the left layer and its features in a window.
+Masks that fit for disjoint geometries have to be refused, and of ten kinds of layers of boxes the reports under
+`--geometry any` have to be those under `--geometry box`, and those of `near` and `nearest` by 1, 2, 4 and 16 workers
+and under `--geometry any` the plain ones. Each difference is written, and the last line counts; the status is 1 where
+some differ.
 """
 import argparse
 import random
+import re
 import subprocess
 import sys
 import tempfile
 from collections.abc import Iterator
 from functools import partial
+from itertools import chain, product
 from pathlib import Path
 
 import any_layers
 import box_layers
+import plain_distances
 import plain_joins
 from any_layers import NAMES, Join
+from geometry_distances import rounded_root, square_of
 from plain_joins import ROOT
 
 JOIN = ("join", "left.csv", "right.csv", "--relation")
@@ -30,7 +38,19 @@ PROGRAM = ROOT / "crates/rjoin/out/rjoin"
 SECONDS = 600
 WORKERS = (1, 2, 4, 16)
 FEW_BOXES = 60
+MANY_BOXES = 1000
+# What is asked of few boxes by their distances.
+DISTANCES = ("near --distance 3", "near --distance 7 --apart", "nearest", "nearest --most 3", "nearest --distance 0",
+             "nearest --most 4294967295 --distance 6")
+# The commands whose answers plain_joins.py and plain_distances.py compute.
+PLAIN = {"join": plain_joins.answer, "window": plain_joins.answer, "bounds": plain_joins.answer,
+         "near": plain_joins.answer, "nearest": plain_distances.answer}
+# The greatest distance that a join may ask for, in units.
+FARTHEST = 4 * 10 ** 12
 ALLOWS_DISJOINT = b"rjoin: --relation: disjoint features may fit\n"
+# What is said of layers that have rows with improper rings, read by the even-odd rule.
+IMPROPER = re.compile(
+    rb"rjoin: (left|right|layer): even-odd rule for \d+ features? with improper rings: rows? [\d, ]+\n")
 # Masks that fit the matrix of two disjoint geometries, and by which rule of rings: closed lines have no boundary, and
 # flat areas no interior. The last one fits for flat areas alone.
 REFUSED = (("FF*FF****", "proper"), ("**T******", "proper"), ("FF1FFF***", "proper"), ("FF2FF1*F2", "proper"),
@@ -75,7 +95,8 @@ def parted(found: bytes, awaited: bytes) -> str | None:
 
 def wrong(ended: Ended, awaited: bytes) -> str | None:
     """What is wrong with a run that has to write this."""
-    if ended.returncode != 0 or ended.stderr:
+    said = IMPROPER.sub(b"", ended.stderr) if "even-odd" in ended.args else ended.stderr
+    if ended.returncode != 0 or said:
         return f"status {ended.returncode}: {ended.stderr.decode(errors='replace').strip()}"
     return parted(ended.stdout, awaited)
 
@@ -84,8 +105,12 @@ def stored() -> Iterator[tuple[str, str | None]]:
     """The plain answers for the runs whose answers were written by hand."""
     for folder in sorted((ROOT / "check/runs").iterdir()):
         words = (folder / "args").read_text(encoding="utf-8", errors="surrogateescape").splitlines()
-        if words[0] in ("join", "window", "bounds") and not (folder / "status").exists():
-            report = plain_joins.answer(words, partial(file_of, folder))
+        # The plain programs read whole layers; stored_runs.py compares runs that leave rows out.
+        reads_all = not any(word.startswith("--skip") for word in words)
+        if words[0] in PLAIN and reads_all and not (folder / "status").exists():
+            # plain_distances.py reads boxes alone.
+            plain = plain_joins.answer if "any" in words else PLAIN[words[0]]
+            report = plain(words, partial(file_of, folder))
             yield folder.name, parted(report, (folder / "stdout").read_bytes())
 
 
@@ -121,6 +146,28 @@ def small_joins(program: Path, count: int) -> Iterator[tuple[str, str | None]]:
             yield f"{join.name}: {' '.join(words)}", wrong(ran(program, join.files, words), awaited)
 
 
+def distance_of(join: Join, source: random.Random) -> int:
+    """A number of units that some pair of a join is apart, or one less or more."""
+    left, right = (plain_joins.layer_of(join.files[f"{side}.csv"], plain_joins.Scale(join.digits))
+                   for side in ("left", "right"))
+    square = square_of(source.choice(list(left.values())), source.choice(list(right.values())))
+    return min(max(rounded_root(square) + source.choice((-1, 0, 0, 1)), 0), FARTHEST)
+
+
+def small_nears(program: Path, count: int) -> Iterator[tuple[str, str | None]]:
+    """Small joins by distance, and the nearest features of small layers, by the program beside the plain ones."""
+    for number in range(count):
+        join, source = any_layers.join_of(number), random.Random(number)
+        words = words_of(join, source.choice(WORKERS), source)
+        asked = ["--distance", plain_joins.decimal_of(distance_of(join, source), join.digits)]
+        layers, others = words[1:3], words[5:]
+        most = ["--most", str(source.choice((1, 2, 5)))]
+        for near in (["near", *layers, *asked, *others], ["near", *layers, *asked, "--apart", *others],
+                     ["nearest", *layers, *most, *others], ["nearest", *layers, *most, *asked, *others]):
+            awaited = plain_joins.answer(near, join.files.__getitem__)
+            yield f"{join.name}: {' '.join(near)}", wrong(ran(program, join.files, near), awaited)
+
+
 def masks(program: Path) -> Iterator[tuple[str, str | None]]:
     """Masks that are refused or taken by a rule of rings."""
     files = {f"{side}.csv": b"id,wkt\n" for side in ("left", "right")}
@@ -142,12 +189,32 @@ def boxes(program: Path, size: int, relations: tuple[str, ...]) -> Iterator[tupl
             yield f"{size} boxes, {kind}, {relation}", why
 
 
+def distances(program: Path) -> Iterator[tuple[str, str | None]]:
+    """Layers of boxes joined by distance, and the nearest features of them, beside the plain ones; all of them also as
+    any geometry."""
+    few = product([FEW_BOXES], box_layers.KINDS, DISTANCES)
+    many = product([MANY_BOXES], ["points with points", "mixture with mixture"], ["nearest", "nearest --most 10"])
+    for size, kind, asked in chain(few, many):
+        files, source = box_layers.files_of(kind, size), random.Random(f"{kind} {asked}")
+        digits = 0 if kind == "far with far" else source.choice((0, 2))
+        command, *others = asked.split()
+        words = [command, "left.csv", "right.csv", *others, "--scale", str(digits)]
+        awaited = plain_distances.answer(words, files.__getitem__)
+        for workers in WORKERS:
+            why = wrong(ran(program, files, [*words, "--workers", str(workers)]), awaited)
+            yield f"{size} boxes, {kind}, {asked} by {workers}", why
+        why = wrong(ran(program, files, [*words, "--geometry", "any"]), awaited)
+        yield f"{size} boxes, {kind}, {asked} as any geometry", why
+
+
 def parts(options: argparse.Namespace) -> Iterator[tuple[str, str | None]]:
     """All comparisons: a name each, and what is wrong."""
     yield from stored()
     yield from masks(options.program)
     yield from boxes(options.program, FEW_BOXES, NAMES)
+    yield from distances(options.program)
     yield from small_joins(options.program, options.joins)
+    yield from small_nears(options.program, options.joins)
     if options.boxes:
         yield from boxes(options.program, options.boxes, ("intersects", "touches"))
 

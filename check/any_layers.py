@@ -8,7 +8,7 @@ import re
 from collections.abc import Callable, Iterator
 from dataclasses import dataclass
 
-from plain_joins import Layer, field_of, has_proper_rings
+from plain_joins import Layer, decimal_of, field_of, has_proper_rings
 # plain_joins has made the folder of these known.
 from matrix import AREAS, LINES, POINTS, Geometry, Path
 from pairs import LIMIT, Maker, is_kept, moved, spread, text_of
@@ -42,13 +42,6 @@ class Join:
     digits: int
     rings: str
     window: str
-
-
-def decimal_of(units: int, digits: int) -> str:
-    """A number of units as a decimal number, without the zeros at its end."""
-    whole, rest = divmod(abs(units), 10 ** digits)
-    decimals = f"{rest:0{digits}}".rstrip("0") if digits else ""
-    return ("-" if units < 0 else "") + str(whole) + (f".{decimals}" if decimals else "")
 
 
 def text_at(geometry: Geometry, digits: int) -> str:

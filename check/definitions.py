@@ -59,7 +59,7 @@ SOURCES = {
     "rtree_core/Windows": "Guttman 1984, 3.1",
     "descent_core/Depths": "Brinkhoff, Kriegel and Seeger 1993, 4",
     "refine_core/Refinements": "the refinement step of Orenstein 1986 and of Brinkhoff, Kriegel and Seeger 1993",
-    "file_core/Records": "RFC 4180, as the crate `csv` reads it",
+    "row_core/Records": "RFC 4180, as the crate `csv` reads it",
     "report_core/CsvTexts": "RFC 4180, with a line feed behind each record",
     "draw_core/Pictures": "SVG 1.1",
 }

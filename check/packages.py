@@ -55,7 +55,7 @@ PAPERS = {
     "python3-rjoin": {"docs/PYTHON.md", "docs/CLUSTER.md", "docs/python.svg"},
     "rjoin-integrations": {
         "docs/QGIS.md", "docs/KLAYOUT.md", "docs/POSTGIS.md", "docs/RECIPES.md", "docs/qgis.png", "docs/klayout.png",
-        "docs/postgis.svg", "docs/storms.svg",
+        "docs/postgis.svg", "docs/spacing.svg", "docs/storms.svg",
     },
 }
 INSTALLED = {
@@ -67,13 +67,13 @@ INSTALLED = {
                            "lib/klayout/salt/rjoin/pymacros/join_layers.lym", "lib/klayout/salt/rjoin/grain.xml",
                            "share/man/man1/rjoin-postgis.1.gz", "share/rjoin/recipes/from-ogr"),
 }
-NUMBER_OPTIONS = {"--scale", "--round", "--help"}
-FORMAT_OPTIONS = {"--geometry", "--rings", *NUMBER_OPTIONS}
+FORMAT_OPTIONS = {"--geometry", "--rings", "--scale", "--round", "--help"}
 LAYER_OPTIONS = {"--edits", "--workers", "--batch", "--cut"}
-JOIN_OPTIONS = {"--relation", *LAYER_OPTIONS, *FORMAT_OPTIONS}
+JOIN_OPTIONS = {"--relation", "--skip", *LAYER_OPTIONS, *FORMAT_OPTIONS}
 OPTIONS = {
     "relate": FORMAT_OPTIONS, "join": JOIN_OPTIONS, "draw": JOIN_OPTIONS, "window": FORMAT_OPTIONS,
-    "near": {"--distance", "--apart", *LAYER_OPTIONS, *NUMBER_OPTIONS},
+    "near": {"--distance", "--apart", "--skip", *LAYER_OPTIONS, *FORMAT_OPTIONS},
+    "nearest": {"--most", "--distance", "--skip", *LAYER_OPTIONS, *FORMAT_OPTIONS},
     "stats": FORMAT_OPTIONS, "bounds": FORMAT_OPTIONS,
 }
 RELATIONS = {

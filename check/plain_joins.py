@@ -2,6 +2,8 @@
 """Joins of layers of any geometry, computed plainly and slowly: all pairs, with their matrices by fractions.
 
     check/plain_joins.py join LEFT RIGHT --relation R [--edits F] [--scale K] [--round]
+    check/plain_joins.py near LEFT RIGHT --distance D [--apart] [--edits F] [--scale K] [--round]
+    check/plain_joins.py nearest LEFT RIGHT [--most N] [--distance D] [--edits F] [--scale K] [--round]
     check/plain_joins.py window LAYER WKT [--scale K] [--round]
     check/plain_joins.py bounds LAYER [--scale K] [--round]
 
@@ -25,6 +27,7 @@ sys.path.append(str(ROOT / "crates/plane_tests/reference"))
 
 from matrix import AREAS, LINES, POINTS, Edge, Geometry, Vertex, matrix, meeting  # noqa: E402
 from pairs import stepped  # noqa: E402
+from geometry_distances import rounded_root, square_of  # noqa: E402
 
 KINDS = {"POINT": POINTS, "LINESTRING": LINES, "POLYGON": AREAS}
 # A list of points with no list in it.
@@ -126,8 +129,36 @@ def field_of(text: str) -> str:
     return '"' + text.replace('"', '""') + '"' if set(text) & set(',"\r\n') else text
 
 
-def report(left: Layer, right: Layer, relation: str) -> bytes:
-    rows = [("left", "right", "matrix"), *matches(left, right, relation)]
+def near_pairs(left: Layer, right: Layer, asked: argparse.Namespace, scale: Scale) -> Iterator[tuple[str, str, str]]:
+    """The pairs that are at most a distance apart, each with its rounded distance, in the order of the layers."""
+    units = scale.units(asked.distance)
+    for one, first in left.items():
+        for other, second in right.items():
+            square = square_of(first, second)
+            if square <= units * units and not (asked.apart and square == 0):
+                yield one, other, decimal_of(rounded_root(square), scale.digits)
+
+
+def nearest_pairs(left: Layer, right: Layer, asked: argparse.Namespace, scale: Scale) -> Iterator[tuple[str, str, str]]:
+    """For each left feature the nearest right ones, and those that are as far away as the last of these."""
+    units = scale.units(asked.distance) if asked.distance else None
+    for one, first in left.items():
+        # A stable sort: features that are as far away as each other stay in the order of the layer.
+        row = sorted(((square_of(first, second), other) for other, second in right.items()), key=lambda it: it[0])
+        for square, other in row:
+            nearer = sum(found < square for found, _ in row)
+            if nearer < asked.most and (units is None or square <= units * units):
+                yield one, other, decimal_of(rounded_root(square), scale.digits)
+
+
+def decimal_of(units: int, digits: int) -> str:
+    """A number of units as a decimal number, without the zeros at its end."""
+    whole, rest = divmod(abs(units), 10 ** digits)
+    decimals = f"{rest:0{digits}}".rstrip("0") if digits else ""
+    return ("-" if units < 0 else "") + str(whole) + (f".{decimals}" if decimals else "")
+
+
+def report(rows: list[tuple[str, str, str]]) -> bytes:
     return "".join(",".join(map(field_of, row)) + "\n" for row in rows).encode()
 
 
@@ -167,7 +198,7 @@ def options_of(words: list[str]) -> argparse.Namespace:
     """The words as the program reads them; what doesn't change the answer is taken and left."""
     parser = argparse.ArgumentParser(description=__doc__, formatter_class=argparse.RawDescriptionHelpFormatter)
     commands = parser.add_subparsers(dest="command", required=True)
-    for name, layers in (("join", 2), ("window", 1), ("bounds", 1)):
+    for name, layers in (("join", 2), ("near", 2), ("nearest", 2), ("window", 1), ("bounds", 1)):
         command = commands.add_parser(name)
         command.add_argument("layers", nargs=layers)
         for option in ("--geometry", "--rings"):
@@ -176,8 +207,13 @@ def options_of(words: list[str]) -> argparse.Namespace:
         command.add_argument("--round", action="store_true")
     commands.choices["window"].add_argument("wkt")
     commands.choices["join"].add_argument("--relation", required=True)
-    for option in ("--edits", "--workers", "--batch", "--cut"):
-        commands.choices["join"].add_argument(option)
+    commands.choices["near"].add_argument("--distance", required=True)
+    commands.choices["near"].add_argument("--apart", action="store_true")
+    commands.choices["nearest"].add_argument("--distance")
+    commands.choices["nearest"].add_argument("--most", type=int, default=1)
+    for name in ("join", "near", "nearest"):
+        for option in ("--edits", "--workers", "--batch", "--cut"):
+            commands.choices[name].add_argument(option)
     return parser.parse_args(words)
 
 
@@ -192,7 +228,11 @@ def answer(words: list[str], read: Callable[[str], bytes]) -> bytes:
         return window(first, geometry_of(options.wkt, scale))
     if options.edits:
         edit(first, others[0], read(options.edits), scale)
-    return report(first, others[0], options.relation)
+    if options.command == "near":
+        return report([("left", "right", "distance"), *near_pairs(first, others[0], options, scale)])
+    if options.command == "nearest":
+        return report([("left", "right", "distance"), *nearest_pairs(first, others[0], options, scale)])
+    return report([("left", "right", "matrix"), *matches(first, others[0], options.relation)])
 
 
 def main(words: list[str]) -> int:

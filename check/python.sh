@@ -73,6 +73,24 @@ scripts() { # a folder of the repository: its Python files, and what runs by Pyt
     find "$root/$1" -maxdepth 1 -type f \( -name '*.py' -o -exec grep -q '^#!.*python3' {} \; \) -print | sort
 }
 
+# The last line of a script has its counts: geopandas: 160 passed, 0 failed, 0 skipped
+counted() { # a name, and a command
+    local name=$1
+    shift
+    "$@" >"$work/log" 2>&1
+    local status=$? found
+    found=$(tail -n 1 "$work/log" | grep -oE '^[a-z]+: [0-9]+ passed, [0-9]+ failed, [0-9]+ skipped$')
+    if [ -z "$found" ]; then
+        count failed "$name"
+        cat "$work/log"
+        return
+    fi
+    echo "$found"
+    [ "$status" -eq 0 ] || cat "$work/log"
+    read -r _ good _ bad _ left _ <<<"$found"
+    passed=$((passed + good)) failed=$((failed + bad)) skipped=$((skipped + left))
+}
+
 # pytest's last line has its counts, such as: 160 passed, 2 skipped in 40.00s
 counts_of() { # a word
     tail -n 1 "$work/tests" | grep -oE "[0-9]+ $1" | cut -d' ' -f1 || true
@@ -122,6 +140,11 @@ done
 tool "style of the scripts" flake8 --max-line-length 120 "${all[@]}"
 if "$work/venv/bin/python" -c "import pytest" 2>/dev/null; then
     for folder in "${folders[@]}"; do tests "$folder" "$@"; done
+    if "$work/venv/bin/python" -c "import geopandas" 2>/dev/null; then
+        counted "GeoPandas' own tests" "$work/venv/bin/python" "$root/check/geopandas_tests.py"
+    else
+        count skipped "GeoPandas' own tests: GeoPandas is not installed"
+    fi
 else
     count skipped "tests: pytest is not installed"
 fi

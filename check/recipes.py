@@ -243,7 +243,7 @@ def check_klayout(folder: str) -> None:
     chip, database = f"{folder}/chip.gds", Path(folder, "pairs.lyrdb")
     klayout(write(folder, "chip.py", CHIP), path=chip)
     klayout(ROOT / "integrations/klayout/join.py", file=chip, left="1/0", right="2/0", relation="intersects",
-            output=database)
+            merged="0", output=database)
     boxes = VALUE.findall(database.read_text(encoding="utf-8"))
     theirs = klayout(write(folder, "asked.py", ASKED), file=chip)
     same("metal intersects poly", sorted(zip(boxes[::2], boxes[1::2])), pairs_of(theirs))

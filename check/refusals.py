@@ -47,15 +47,17 @@ NO_FILE = rb"rjoin: (left|right|edits|layer): cannot be opened\n"
 NO_KEYS = rb"rjoin: no random keys for hashing\n"
 READ_FAILED = rb"rjoin: (left|right|edits|layer): read failed\n"
 WRITE_FAILED = rb"rjoin: write failed\n"
+LIST_FAILED = rb"rjoin: skip: cannot be written\n"
 
 # How calls of each kind are refused, and the lines that may tell of it. A way without a line changes no answer.
 WAYS: dict[str, dict[str, bytes | None]] = {
-    "memory": {"once": NO_MEMORY + b"|" + NO_THREAD, "on": NO_MEMORY + b"|" + NO_THREAD},
+    "memory": dict.fromkeys(("once", "on"), NO_MEMORY + b"|" + NO_THREAD + b"|" + LIST_FAILED),
     "thread": {"once": NO_THREAD, "on": NO_THREAD},
-    "open": {"once": NO_FILE, "on": NO_FILE},
+    "open": {"once": NO_FILE + b"|" + LIST_FAILED, "on": NO_FILE + b"|" + LIST_FAILED},
     "keys": {"once": NO_KEYS, "on": NO_KEYS},
     "read": {"once": READ_FAILED, "on": READ_FAILED, "short": None, "bytes": None, "signal": None},
-    "write": {"once": WRITE_FAILED, "on": b"", "none": WRITE_FAILED, "short": None, "bytes": None, "signal": None},
+    "write": {"once": WRITE_FAILED + b"|" + LIST_FAILED, "on": b"", "none": WRITE_FAILED + b"|" + LIST_FAILED,
+              "short": None, "bytes": None, "signal": None},
 }
 
 
@@ -195,12 +197,14 @@ def stops(ended: Ended) -> str | None:
 STATUSES = {
     "join refused": 1,
     "draw refused": 1,
+    "join without unreadable rows refused": 1,
     "a bad geometry": 1,
     "a bad geometry of any direction": 1,
     "join of any geometry refused": 1,
     "draw of any geometry refused": 1,
     "window by rings that cross": 1,
     "near refused": 1,
+    "nearest refused": 1,
     "no file": 1,
     "no command": 2,
     "two standard inputs": 2,
@@ -223,9 +227,14 @@ def commands() -> dict[str, list[str]]:
         "draw": ["draw", *join[1:]],
         "draw with edits": ["draw", *join[1:], "--edits", "edits.csv", "--workers", "3", "--batch", "1"],
         "draw refused": ["draw", *join[1:], "--edits", "bad.csv"],
+        "join without unreadable rows": ["join", "torn.csv", *join[2:], "--skip", "LIST"],
+        "join without unreadable rows refused": ["join", "torn.csv", *join[2:], "--edits", "bad.csv", "--skip", "LIST"],
         "near": ["near", *join[1:3], "--distance", "5"],
         "near with edits": ["near", *join[1:3], "--distance", "5", "--apart", "--edits", "edits.csv", "--batch", "1"],
         "near refused": ["near", *join[1:3], "--distance", "5", "--edits", "bad.csv"],
+        "nearest": ["nearest", *join[1:3]],
+        "nearest with edits": ["nearest", *join[1:3], "--most", "2", "--distance", "5", "--edits", "edits.csv"],
+        "nearest refused": ["nearest", *join[1:3], "--edits", "bad.csv"],
         "window": ["window", "stations.csv", square],
         "stats": ["stats", "parcels.csv"],
         "bounds": ["bounds", "stations.csv"],
@@ -274,6 +283,11 @@ delete,left,corner,
 insert,left,new corner,"POLYGON ((0 0, 5 0, 0 3, 0 0))"
 insert,right,tree,POINT (3 2)
 """
+TORN = """id,wkt
+mill field,"POLYGON ((0 0, 9 0, 9 9, 0 9, 0 0))"
+empty,POINT EMPTY
+half,POINT (0.5 0)
+"""
 EDITS = """op,layer,id,wkt
 insert,left,new field,"POLYGON ((0 0, 2 0, 2 2, 0 2, 0 0))"
 delete,left,mill field,
@@ -281,17 +295,23 @@ insert,right,path,"LINESTRING (0 0, 2 0)"
 """
 
 
+def with_list(words: list[str], name: str) -> list[str]:
+    """The words with this file for the list of skipped rows, since sweeps run side by side."""
+    return [name if it == "LIST" else it for it in words]
+
+
 def program_tasks(shim: str, program: str) -> list[Sweep]:
     """The sweeps over the program."""
     tasks = []
     for label, words in commands().items():
         words = [program, *words]
-        plain = ran(words)
+        plain = ran(with_list(words, f"list of {label}"))
         if plain.status != STATUSES.get(label, 0):
             sys.exit(f"refusals: with nothing refused, {label} went wrong: {plain.shown()}")
         for kind, ways in WAYS.items():
             for way in ways:
-                tasks.append(Sweep(shim, label, words, kind, way, partial(judged, kind, way, plain)))
+                own = with_list(words, f"list of {label}, {kind} {way}")
+                tasks.append(Sweep(shim, label, own, kind, way, partial(judged, kind, way, plain)))
     return tasks
 
 
@@ -398,7 +418,7 @@ def equals_of_crowd() -> bytes:
 def output_cases(plain: dict[str, bytes], full: int, closed: int) -> list[Case]:
     """Outputs that take nothing, for a command and for help. `full` and `closed` are descriptors of such."""
     cases = []
-    for name in ("join", "near", "draw", "window", "stats", "bounds", "relate", "help"):
+    for name in ("join", "near", "nearest", "draw", "window", "stats", "bounds", "relate", "help"):
         front, words = plain[name], commands()[name]
         for shown, output in [("a full device", full), ("a closed pipe", closed)]:
             how = {"stdout": output}
@@ -440,6 +460,7 @@ def write_files(room: str) -> None:
     os.chdir(room)
     write_file("edits.csv", EDITS)
     write_file("bad.csv", EDITS + "delete,right,nowhere,\n")
+    write_file("torn.csv", TORN)
     write_file("slanted.csv", SLANTED)
     write_file("lines.csv", LINES)
     write_file("bow-ties.csv", BOW_TIES)

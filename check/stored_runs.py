@@ -1,11 +1,13 @@
 #!/usr/bin/env python3
 """Runs the program that `rt ci` has built on files whose answers were written by hand or follow by arithmetic.
 
-    check/stored_runs.py        all of it; the last line counts
+    check/stored_runs.py [ROWS]     all of it; the last line counts. ROWS are those of a layer some of whose rows are
+                                    skipped: 20,000 unless given, and 1,000 of them are unreadable
 
 A folder of check/runs is one run: `args` has its words, one a line, `stdin` is its standard input, and `files/` are the
-files that lie where it runs. It has to write `stdout`, say `stderr` and end with the status in `status`; a file that
-isn't there stands for nothing, or for status 0. Runs over files that are longer than one read are made below.
+files that lie where it runs. It has to write `stdout`, say `stderr`, end with the status in `status` and leave the
+files of `left/` beside those that were there; a file that isn't there stands for nothing, or for status 0. Runs over
+files that are longer than one read are made below.
 """
 import subprocess
 import sys
@@ -33,6 +35,7 @@ class Run:
     stdout: bytes = b""
     stderr: bytes = b""
     status: int = 0
+    left: dict[str, bytes] = field(default_factory=dict)
 
     def wrong(self) -> str | None:
         """Runs the program, and says what it did otherwise."""
@@ -44,11 +47,16 @@ class Run:
                 ended = subprocess.run(words, cwd=room, input=self.stdin, capture_output=True, timeout=SECONDS)
             except subprocess.TimeoutExpired:
                 return "it took too long"
+            found = {path.name: path.read_bytes() for path in Path(room).iterdir()}
         if ended.returncode != self.status:
             return f"status {ended.returncode}, and not {self.status}: {ended.stderr[:200]!r}"
         if ended.stderr != self.stderr:
             return f"it said {ended.stderr[:200]!r}, and not {self.stderr[:200]!r}"
-        return parted("it wrote", ended.stdout, self.stdout)
+        wanted = {**self.files, **self.left}
+        if found.keys() != wanted.keys():
+            return f"it left {sorted(found)}, and not {sorted(wanted)}"
+        texts = [("it wrote", ended.stdout, self.stdout), *((f"{it} has", found[it], wanted[it]) for it in wanted)]
+        return next((why for why in (parted(*it) for it in texts) if why), None)
 
 
 def parted(what: str, found: bytes, wanted: bytes) -> str | None:
@@ -69,7 +77,8 @@ def stored(folder: Path) -> Run:
     files = {path.name: path.read_bytes() for path in (folder / "files").glob("*")}
     words = content("args").decode(errors="surrogateescape").splitlines()
     status = int(content("status") or 0)
-    return Run(folder.name, words, files, content("stdin"), content("stdout"), content("stderr"), status)
+    left = {path.name: path.read_bytes() for path in (folder / "left").glob("*")}
+    return Run(folder.name, words, files, content("stdin"), content("stdout"), content("stderr"), status, left)
 
 
 def layer(rows: list[tuple[str, str]]) -> bytes:
@@ -123,12 +132,48 @@ def runs_of_most() -> Iterator[Run]:
     yield Run("most-points-deleted", edited, files, stdout=header + b"0,0,0FFFFFFF2\n")
 
 
+def runs_that_skip(rows: int) -> Iterator[Run]:
+    """Makes runs over a layer 1,000 of whose rows can't be read, by the numbers of workers that read it in other parts.
+
+    Row n of the left layer is the point (n, 0), and every one of a thousandth of the rows has one of the four faults in
+    turn, whatever its place in a part is. The right layer is a line along all of them, whose last row is at fault too.
+    """
+    faults = [("POINT (1 2", "not a geometry text"), ("POINT (0.5 2)", "number not whole or out of range"),
+              ('"LINESTRING (1 1, 1 1)"', "a line without length, or a ring that is not closed or is flat"),
+              ('"POLYGON ((0 0, 4 4, 4 0, 0 4, 0 0))"', "rings cross or overlap")]
+    step = rows // 1_000
+    texts, listed, pairs = [], [], []
+    for n in range(1, rows + 1):
+        if n % step:
+            texts.append(f"p{n},POINT ({n} 0)\n")
+            pairs.append(f"p{n},line,0FFFFF102\n")
+        else:
+            text, fault = faults[n // step % 4]
+            texts.append(f"p{n},{text}\n")
+            listed.append(f'left,{n},p{n},{quoted(fault)}\n')
+    files = {"left.csv": "".join(["id,wkt\n", *texts]).encode(),
+             "right.csv": f'id,wkt\nline,"LINESTRING (0 0, {rows + 1} 0)"\nlast,POINT EMPTY\n'.encode()}
+    report = "".join(["left,right,matrix\n", *pairs]).encode()
+    left = {"list.csv": "".join(["side,row,id,fault\n", *listed, "right,2,last,not a geometry text\n"]).encode()}
+    said = f"rjoin: rows skipped: left {len(listed)}, right 1\n".encode()
+    for workers in ("1", "2", "3", "4", "16"):
+        words = ["join", "left.csv", "right.csv", "--relation", "within", "--geometry", "any", "--skip", "list.csv",
+                 "--workers", workers]
+        yield Run(f"rows-skipped-by-{workers}-workers", words, files, stdout=report, stderr=said, left=left)
+
+
+def quoted(text: str) -> str:
+    """A field of CSV."""
+    return f'"{text}"' if "," in text else text
+
+
 def main() -> int:
     if not PROGRAM.is_file():
         print("stored runs: the program isn't built: run `rt ci` first")
         return 2
     folders = sorted(path for path in (ROOT / "check/runs").iterdir() if path.is_dir())
-    runs = [*map(stored, folders), *long_runs()]
+    rows = int(sys.argv[1]) if len(sys.argv) > 1 else MANY
+    runs = [*map(stored, folders), *long_runs(), *runs_that_skip(rows)]
     failed = 0
     for run in runs:
         why = run.wrong()

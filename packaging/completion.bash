@@ -15,8 +15,8 @@ _rjoin() {
     --scale) offered="0 1 2 3 4 5 6" ;;
     --geometry) offered="box any" ;;
     --rings) offered="proper even-odd" ;;
-    --edits) _filedir && return ;;
-    --distance | --workers | --batch | --cut) return ;;
+    --edits | --skip) _filedir && return ;;
+    --distance | --most | --workers | --batch | --cut) return ;;
     *)
         if [[ $cword -eq 1 && $cur == -* ]]; then
             offered=$(_parse_help "$program")

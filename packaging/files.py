@@ -17,7 +17,7 @@ MAINTAINER = "Soffitnettle maintainers <maintainers@users.noreply.soffitnettle.e
 # The pages of each package. All lie below DOCS, so that their links lead from one to the other.
 PYTHON_PAGES = ("docs/PYTHON.md", "docs/CLUSTER.md", "docs/python.svg")
 INTEGRATION_PAGES = ("docs/QGIS.md", "docs/KLAYOUT.md", "docs/POSTGIS.md", "docs/RECIPES.md", "docs/qgis.png",
-                     "docs/klayout.png", "docs/postgis.svg", "docs/storms.svg")
+                     "docs/klayout.png", "docs/postgis.svg", "docs/spacing.svg", "docs/storms.svg")
 PAGES = ("README.md", "CHANGELOG.md", "docs/*.md", "docs/*.svg", "docs/*.png")
 HOSTS = ("integrations/qgis", "integrations/klayout", "integrations/postgis")
 RECIPES = ("recipes/from-ogr", "recipes/from-postgis", "recipes/to-postgis", "recipes/with-postgres")

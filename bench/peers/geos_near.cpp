@@ -1,6 +1,7 @@
 // A join within a distance on GEOS by its C interface: an STRtree of the right layer, asked by the envelope of each
 // left geometry grown by the distance, and the distance by the prepared left geometry. Distances are rounded to whole
-// numbers; the distance of rectangles with whole coordinates is the root of a whole number, and so never halfway.
+// numbers; the distance of rectangles with whole coordinates is the root of a whole number, and so never halfway. Other
+// geometries may be halfway apart, but hardly ever are.
 #include "common.hpp"
 #include "geos_layers.hpp"
 

@@ -3,28 +3,30 @@
     klayout -b -r integrations/klayout/join.py -rd file=chip.gds -rd left=1/0 -rd right=2/0 \\
         -rd relation=overlaps -rd output=pairs.lyrdb
 
-`-rd others=envelope` takes the bounding boxes of shapes that rjoin doesn't read, `others=skip`
-lists them in a category of their own; without it the first one ends the run. Texts are listed in
-any case. `-rd merged=1` merges the shapes of each layer first. `-rd cell=NAME` takes another cell
-than the top cell. It prints the number of items of each category, and of pairs that rest on a
-bounding box.
+`-rd space=0.2`, in micrometres, in place of `-rd relation=..` gives the shapes that share no point
+and are closer than that. The shapes of each layer are merged first; `-rd merged=0` takes them as
+they are drawn. `-rd mode=cell` joins the shapes of each cell by themselves, in place of all below
+the top cell. `-rd others=envelope` takes the bounding boxes of shapes that rjoin doesn't read,
+`others=skip` lists them in a category of their own; without it the first one ends the run. Texts
+are listed in any case. `-rd cell=NAME` takes another cell than the top cell. It prints the number
+of items of each category, and of pairs that rest on a bounding box.
 """
 from __future__ import annotations
 
 import os
 import sys
-from collections import Counter
 from pathlib import Path
-from typing import Dict, Iterator
+from typing import Dict
 
 import pya
 
 sys.path.insert(0, str(Path(__file__).resolve().parent / "python"))
 
 from rjoin_klayout.found import VERSION  # noqa: E402
-from rjoin_klayout.join import ENVELOPE, ERROR, INEXACT, JoinError, Request  # noqa: E402
-from rjoin_klayout.join import join_layers  # noqa: E402
+from rjoin_klayout.join import Request, join_layers  # noqa: E402
+from rjoin_klayout.layers import ENVELOPE, ERROR, FLAT, JoinError, Reading  # noqa: E402
 from rjoin_klayout.program import ProgramError, staleness  # noqa: E402
+from rjoin_klayout.report import Report  # noqa: E402
 
 SWITCH = {"0": False, "1": True}
 
@@ -60,27 +62,24 @@ def cell_of(layout: pya.Layout, name: str) -> pya.Cell:
     return tops[0]
 
 
-def save(database: pya.ReportDatabase, path: str) -> None:
+def save(report: Report, path: str) -> None:
     """Writes the database; a file that is there is replaced only by a whole one."""
     part = f"{path}.part"
     try:
-        database.save(part)
+        report.write(Path(part))
         os.replace(part, path)
-    except (OSError, RuntimeError) as fault:
+    except OSError as fault:
         raise JoinError(f"{path} can't be written: {fault}") from fault
 
 
-def counts(database: pya.ReportDatabase) -> Iterator[str]:
-    """A line for each category that has items, in the order of the items."""
-    found = Counter(item.category_id() for item in database.each_item())
-    for identifier, count in found.items():
-        yield f"{database.category_by_id(identifier).path()}: {count}"
-
-
-def inexact(database: pya.ReportDatabase) -> int:
-    """How many pairs rest on a bounding box."""
-    return sum(any(value.is_string() and value.string() == INEXACT for value in item.each_value())
-               for item in database.each_item())
+def request_of(given: Dict[str, object]) -> Request:
+    """The request of the variables of the command line."""
+    merged = word(given, "merged", "1")
+    if merged not in SWITCH:
+        raise JoinError("merged must be 0 or 1")
+    return Request(word(given, "left"), word(given, "right"), word(given, "relation", ""),
+                   word(given, "space", ""), Reading(word(given, "others", ERROR), SWITCH[merged],
+                                                     word(given, "mode", FLAT)))
 
 
 def join(given: Dict[str, object]) -> None:
@@ -88,22 +87,18 @@ def join(given: Dict[str, object]) -> None:
     if "version" in given:
         print(f"rjoin for KLayout {VERSION}")
         return
-    merged = word(given, "merged", "0")
-    if merged not in SWITCH:
-        raise JoinError("merged must be 0 or 1")
-    request = Request(word(given, "left"), word(given, "right"), word(given, "relation"),
-                      word(given, "others", ERROR), SWITCH[merged])
+    request = request_of(given)
     stale = staleness()
     if stale:
         print(f"join.py: warning: {stale}", file=sys.stderr)
     output = word(given, "output")
     layout = read(word(given, "file"))
-    database = join_layers(layout, cell_of(layout, word(given, "cell", "")), request)
-    save(database, output)
-    for line in counts(database):
-        print(line)
-    if request.others == ENVELOPE:
-        print(f"pairs that rest on a bounding box: {inexact(database)}")
+    report = join_layers(layout, cell_of(layout, word(given, "cell", "")), request)
+    save(report, output)
+    for path, count in report.counts():
+        print(f"{path}: {count}")
+    if request.reading.others == ENVELOPE:
+        print(f"pairs that rest on a bounding box: {report.inexact}")
 
 
 def main(given: Dict[str, object]) -> int:

@@ -1,7 +1,10 @@
 -- Joins two tables by rjoin in one transaction, which it leaves open. `rjoin-postgis` runs it by psql, in an empty
 -- folder, with the variables left, right (tables), left_id, right_id, left_geometry, right_geometry (columns or empty),
--- others (error, envelope, skip), rings (valid, even-odd), decimals (0 to 6, or empty), into and skipped (new tables),
--- and with RJOIN, RJOIN_RELATION and RJOIN_WORKERS in the environment. At the end it writes a line `ready`.
+-- left_columns, right_columns (JSON lists of columns to carry), others (error, envelope, skip), rings (valid,
+-- even-odd), decimals (0 to 6, or empty), into and skipped (new tables), command (of rjoin: join, near, nearest),
+-- distance and distance_decimals (a number and its decimals, 0 for none), and with RJOIN, RJOIN_COMMAND,
+-- RJOIN_CONDITION (a word), RJOIN_MORE (words without blanks) and RJOIN_WORKERS in the environment. At the end it
+-- writes a line `ready`.
 \set ON_ERROR_STOP on
 \set VERBOSITY terse
 \set SHOW_CONTEXT never
@@ -59,6 +62,27 @@ begin
     return found[1];
 end $$;
 
+-- The columns of a JSON list, each of which is there.
+create function pg_temp.rjoin_columns(source regclass, listed json) returns text[] language plpgsql as $$
+declare
+    names text[] := array(select json_array_elements_text(listed));
+    missing text := (select name from unnest(names) name where name not in (
+        select attname from pg_attribute where attrelid = source and attnum > 0 and not attisdropped) limit 1);
+begin
+    if missing is not null then
+        raise exception '% has no column %', source, missing;
+    end if;
+    return names;
+end $$;
+
+-- The names that columns of a side are carried by, each behind a comma; and these columns of a table, by these names.
+create function pg_temp.rjoin_carried(columns text[], side text) returns text language sql as $$
+    select coalesce(string_agg(format(', %I', side || name), '' order by place), '')
+    from unnest(columns) with ordinality listed (name, place) $$;
+create function pg_temp.rjoin_carrying(columns text[], side text, alias text) returns text language sql as $$
+    select coalesce(string_agg(format(', %I.%I as %I', alias, name, side || name), '' order by place), '')
+    from unnest(columns) with ordinality listed (name, place) $$;
+
 -- Whether a line is a segment along an axis: a line along an axis goes back on its way exactly if it isn't simple.
 create function pg_temp.rjoin_is_segment(line geometry) returns boolean language sql immutable as $$
     select case
@@ -67,14 +91,15 @@ create function pg_temp.rjoin_is_segment(line geometry) returns boolean language
     end $$;
 
 -- Whether a polygon is a rectangle: a valid one that covers its bounding box. Nearly all rectangles have five points,
--- and of others the area excludes nearly all.
+-- and of other polygons the area excludes nearly all.
 create function pg_temp.rjoin_is_rectangle(polygon geometry) returns boolean language sql immutable as $$
     select case
-        when ST_NumInteriorRings(polygon) > 0 or ST_NPoints(polygon) < 5 then false
+        when ST_NPoints(polygon) < 5 then false
+        when ST_NPoints(polygon) = 5
+            and ST_OrderingEquals(ST_Normalize(polygon), ST_Normalize(ST_Envelope(polygon))) then true
+        when ST_NumInteriorRings(polygon) > 0 then false
         when ST_Area(polygon) < 0.99 * (ST_XMax(polygon) - ST_XMin(polygon)) * (ST_YMax(polygon) - ST_YMin(polygon))
             then false
-        when ST_NPoints(polygon) = 5 and ST_Area(polygon) > 0
-            and ST_OrderingEquals(ST_Normalize(polygon), ST_Normalize(ST_Envelope(polygon))) then true
         else ST_IsValid(polygon) and ST_Equals(polygon, ST_Envelope(polygon))
     end $$;
 
@@ -124,15 +149,21 @@ end $$;
 -- part of the area.
 create function pg_temp.rjoin_polygon_fault(polygons geometry, decimals integer, rings text) returns text
 language plpgsql stable as $$
+declare fault text;
 begin
-    return (
-        select case
-            when bool_and(pg_temp.rjoin_is_dot(ring.geom, null)) then 'a polygon that is a point'
-            when bool_and(pg_temp.rjoin_is_dot(ring.geom, decimals))
-                then 'a polygon that is a point once rounded to ' || decimals || ' decimals'
-            when rings = 'valid' and not ST_IsValid(polygons) then 'an invalid polygon: ' || ST_IsValidReason(polygons)
-        end
-        from ST_Dump(polygons) part, ST_DumpRings(part.geom) ring);
+    if ST_GeometryType(polygons) <> 'ST_Polygon' or pg_temp.rjoin_is_dot(ST_ExteriorRing(polygons), decimals) then
+        fault := (
+            select case
+                when bool_and(pg_temp.rjoin_is_dot(ring.geom, null)) then 'a polygon that is a point'
+                when bool_and(pg_temp.rjoin_is_dot(ring.geom, decimals))
+                    then 'a polygon that is a point once rounded to ' || decimals || ' decimals'
+            end
+            from ST_Dump(polygons) part, ST_DumpRings(part.geom) ring);
+    end if;
+    if fault is null and rings = 'valid' and not ST_IsValid(polygons) then
+        fault := 'an invalid polygon: ' || ST_IsValidReason(polygons);
+    end if;
+    return fault;
 end $$;
 
 -- Why a geometry that is no box isn't read; null if it is.
@@ -167,11 +198,20 @@ create function pg_temp.rjoin_decimals(number double precision) returns integer 
         else 7
     end $$;
 
--- The fewest decimals that write all coordinates of a geometry exactly, or 7.
+-- The fewest decimals that write all coordinates of a geometry exactly, or 7: those at which its text is the one with
+-- all digits.
 create function pg_temp.rjoin_decimals(shape geometry) returns integer language plpgsql immutable as $$
+declare whole text := ST_AsText(shape, 30);
 begin
-    return (select max(greatest(pg_temp.rjoin_decimals(ST_X(geom)), pg_temp.rjoin_decimals(ST_Y(geom))))
-            from ST_DumpPoints(shape));
+    if ST_AsText(shape, 6) <> whole then
+        return 7;
+    end if;
+    for decimals in 0..5 loop
+        if ST_AsText(shape, decimals) = whole then
+            return decimals;
+        end if;
+    end loop;
+    return 6;
 end $$;
 
 -- The text of a box by its bounds. One that will be flat once it is rounded is a segment or a point.
@@ -203,30 +243,32 @@ end $$;
 
 -- Numbers the rows of a table into a temporary one, with id, bounds, number of decimals, the fault of those that aren't
 -- read, `exact` of those that are, and the shape of those that are read and aren't boxes.
-create function pg_temp.rjoin_read(source regclass, id name, geometry name, target name, decimals integer, rings text)
-returns void language plpgsql as $$
+create function pg_temp.rjoin_read(source regclass, id name, geometry name, target name, decimals integer, rings text,
+    columns text[], side text) returns void language plpgsql as $$
 begin
     execute format('create temporary table %1$I on commit drop as
         select row_number() over () as n, id, srid, fault, fault is null as exact, x1, y1, x2, y2,
             case when fault is null and not is_box then shape end as shape,
             case when fault is null and not is_box then pg_temp.rjoin_decimals(shape)
                 else greatest(pg_temp.rjoin_decimals(x1), pg_temp.rjoin_decimals(y1),
-                              pg_temp.rjoin_decimals(x2), pg_temp.rjoin_decimals(y2)) end as decimals
+                              pg_temp.rjoin_decimals(x2), pg_temp.rjoin_decimals(y2)) end as decimals %7$s
         from (
             select *, case when not is_box then pg_temp.rjoin_fault(shape, %5$L, %6$L) end as fault
             from (
                 select id, shape, ST_SRID(shape) as srid, pg_temp.rjoin_is_box(shape) as is_box,
-                    ST_XMin(shape) as x1, ST_YMin(shape) as y1, ST_XMax(shape) as x2, ST_YMax(shape) as y2
+                    ST_XMin(shape) as x1, ST_YMin(shape) as y1, ST_XMax(shape) as x2, ST_YMax(shape) as y2 %7$s
                 from (
                     select t.%2$I as id, ST_Force2D(
                         case when ST_NumGeometries(t.%3$I) = 1 then ST_GeometryN(t.%3$I, 1) else t.%3$I end) as shape
+                        %8$s
                     from %4$s t
                     offset 0
                 ) one_part
                 offset 0
             ) bounded
             offset 0
-        ) judged', target, id, geometry, source, decimals, rings);
+        ) judged', target, id, geometry, source, decimals, rings,
+        pg_temp.rjoin_carried(columns, side), pg_temp.rjoin_carrying(columns, side, 't'));
 end $$;
 
 -- Ends the run at the first row that isn't read, or takes envelopes; the rows that keep a fault are listed.
@@ -270,6 +312,20 @@ begin
     end if;
     execute format('select coalesce(max(decimals), 0) from %I where fault is null', target) into most;
     return most;
+end $$;
+
+-- The decimals of a join by distance: as many as the range of 10^12 units allows, but no fewer than given.
+create function pg_temp.rjoin_finest(fewest integer, distance double precision) returns integer language plpgsql
+as $$
+begin
+    return (
+        select greatest(fewest, max(decimals)) from (
+            select greatest(max(abs(x1)), max(abs(x2)), max(abs(y1)), max(abs(y2)), distance) as reach
+            from (select x1, y1, x2, y2, fault from rjoin_left
+                  union all select x1, y1, x2, y2, fault from rjoin_right) bounds
+            where fault is null
+        ) reached, generate_series(0, 6) decimals
+        where decimals = 0 or reach * 10 ^ decimals <= 1e12);
 end $$;
 
 -- Ends the run where two rows that take part have different reference systems.
@@ -318,25 +374,49 @@ select :'left'::regclass as left, :'right'::regclass as right,
 select pg_temp.rjoin_id(:'left', :'left_id') as left_id, pg_temp.rjoin_id(:'right', :'right_id') as right_id,
     pg_temp.rjoin_geometry(:'left', :'left_geometry') as left_geometry,
     pg_temp.rjoin_geometry(:'right', :'right_geometry') as right_geometry,
-    :'others' <> 'error' as lists, :'others' = 'envelope' as envelopes \gset
+    pg_temp.rjoin_columns(:'left', :'left_columns') as left_columns,
+    pg_temp.rjoin_columns(:'right', :'right_columns') as right_columns,
+    :'others' <> 'error' as lists, :'others' = 'envelope' as envelopes,
+    :'command' <> 'join' as by_distance, :'command' = 'nearest' as by_nearest \gset
+select pg_temp.rjoin_carrying(:'left_columns', 'left_', 'l') || pg_temp.rjoin_carrying(:'right_columns', 'right_', 'r')
+    as carrying,
+    pg_temp.rjoin_carried(:'left_columns', 'left_') || pg_temp.rjoin_carried(:'right_columns', 'right_') as carried
+\gset
+\if :by_distance
+    \set measure distance
+    \set measure_type 'double precision'
+\else
+    \set measure matrix
+    \set measure_type character(9)
+\endif
+\if :by_nearest
+    \set order 'left_n, distance, right_n'
+\else
+    \set order 'left_n, right_n'
+\endif
 
 -- The results first: a name that is taken ends the run before anything is read.
 create table :into as
-    select l.:"left_id" as left_id, r.:"right_id" as right_id, ''::character(9) as matrix
+    select l.:"left_id" as left_id, r.:"right_id" as right_id :carrying, null:::measure_type as :measure
     from :left l, :right r with no data;
 -- With its schema, since a temporary table of its name would go first.
 select format('%I.%I', nspname, relname) as pairs
 from pg_class join pg_namespace on pg_namespace.oid = relnamespace where pg_class.oid = :'into'::regclass \gset
 \if :envelopes
     alter table :pairs add column exact boolean not null;
+    \set exact ', exact'
+\else
+    \set exact ''
 \endif
 \if :lists
     create table :skipped (side text not null, id text, reason text not null);
     create temporary view rjoin_skipped as select * from :skipped;
 \endif
 
-select pg_temp.rjoin_read(:'left', :'left_id', :'left_geometry', 'rjoin_left', given, :'rings'),
-    pg_temp.rjoin_read(:'right', :'right_id', :'right_geometry', 'rjoin_right', given, :'rings')
+select pg_temp.rjoin_read(:'left', :'left_id', :'left_geometry', 'rjoin_left', given, :'rings',
+        :'left_columns', 'left_'),
+    pg_temp.rjoin_read(:'right', :'right_id', :'right_geometry', 'rjoin_right', given, :'rings',
+        :'right_columns', 'right_')
 from (select nullif(:'decimals', '')::integer as given) option \g /dev/null
 select pg_temp.rjoin_judge('rjoin_left', :'left', 'left', :'others'),
     pg_temp.rjoin_judge('rjoin_right', :'right', 'right', :'others') \g /dev/null
@@ -344,7 +424,10 @@ select pg_temp.rjoin_check_system() \g /dev/null
 
 select case when :'decimals' <> '' then nullif(:'decimals', '')::integer
     else greatest(pg_temp.rjoin_fewest('rjoin_left', :'left'), pg_temp.rjoin_fewest('rjoin_right', :'right'))
-    end as decimals \gset
+    end as decimals, :'decimals' = '' and :'by_distance' as is_finer \gset
+\if :is_finer
+    select pg_temp.rjoin_finest(greatest(:decimals, :distance_decimals), :distance) as decimals \gset
+\endif
 select pg_temp.rjoin_write('rjoin_left', :'left', :decimals, 'rjoin_left_file'),
     pg_temp.rjoin_write('rjoin_right', :'right', :decimals, 'rjoin_right_file') \g /dev/null
 \copy (select id, wkt from rjoin_left_file) to 'left.csv' csv header
@@ -355,15 +438,11 @@ select '--scale ' || :decimals || ' --round' || case
         or exists (select from rjoin_right where shape is not null)
     then ' --geometry any --rings even-odd' else '' end as format \gset
 \setenv RJOIN_FORMAT :format
-create temporary table rjoin_pairs (left_n bigint, right_n bigint, matrix character(9)) on commit drop;
-\copy rjoin_pairs from program 'exec "$RJOIN" join left.csv right.csv $RJOIN_FORMAT --relation="$RJOIN_RELATION" --workers "$RJOIN_WORKERS"' csv header
+create temporary table rjoin_pairs (left_n bigint, right_n bigint, :measure :measure_type) on commit drop;
+\copy rjoin_pairs from program 'exec "$RJOIN" "$RJOIN_COMMAND" left.csv right.csv $RJOIN_FORMAT "$RJOIN_CONDITION" $RJOIN_MORE --workers "$RJOIN_WORKERS"' csv header
 create temporary view rjoin_named_pairs as
-    select l.id as left_id, r.id as right_id, p.matrix, l.exact and r.exact as exact
-    from rjoin_pairs p join rjoin_left l on l.n = p.left_n join rjoin_right r on r.n = p.right_n
-    order by p.left_n, p.right_n;
-\if :envelopes
-    insert into :pairs (left_id, right_id, matrix, exact) select left_id, right_id, matrix, exact from rjoin_named_pairs;
-\else
-    insert into :pairs (left_id, right_id, matrix) select left_id, right_id, matrix from rjoin_named_pairs;
-\endif
+    select left_n, right_n, l.id as left_id, r.id as right_id :carried, :measure, l.exact and r.exact as exact
+    from rjoin_pairs p join rjoin_left l on l.n = left_n join rjoin_right r on r.n = right_n;
+insert into :pairs (left_id, right_id :carried, :measure :exact)
+select left_id, right_id :carried, :measure :exact from rjoin_named_pairs order by :order;
 \echo ready

@@ -1,9 +1,10 @@
 """Joins layers inside one KLayout in batch mode, and asks KLayout itself of each pair of shapes.
 
-`folder` (-rd) has the file `requests`, a JSON list with `layout`, `left`, `right`, `relation`,
-perhaps `others`, `merged` and `asked`. It gets a report database for each and the file `answers`:
-`error`, `database`, and in `asked` the pairs of shapes that stand in the relation by KLayout's own
-methods, of regions for the layout `angled`, of boxes for the others.
+`folder` (-rd) has the file `requests`, a JSON list with `layout`, `left`, `right`, `relation` or
+`space`, perhaps `others`, `merged`, `mode` and `asked`. It gets a report database for each and the
+file `answers`: `error`, `database`, and in `asked` the pairs of shapes that stand in the relation
+by KLayout's own methods, of regions for the layout `angled`, of boxes for the others, and those
+that are closer than the space by its separation check.
 """
 from __future__ import annotations
 
@@ -19,7 +20,8 @@ import pya
 given = globals()
 sys.path.insert(0, given["package"])
 
-from rjoin_klayout.join import JoinError, Request, join_layers, layer_index  # noqa: E402
+from rjoin_klayout.join import Request, join_layers  # noqa: E402
+from rjoin_klayout.layers import JoinError, Reading, layer_index  # noqa: E402
 from rjoin_klayout.program import ProgramError  # noqa: E402
 
 
@@ -147,6 +149,28 @@ def metal() -> pya.Layout:
     return layout
 
 
+def spaced() -> pya.Layout:
+    """Boxes beside each other and across corners, some of them at 50 units exactly; and a cell
+    with two boxes 30 units apart, which is placed twice, so that boxes of the two are close too."""
+    layout, source = pya.Layout(), random.Random(3)
+    top, cell = layout.create_cell("TOP"), layout.create_cell("CELL")
+    for number in (1, 2):
+        shapes = top.shapes(layout.layer(number, 0))
+        for _ in range(60):
+            x, y = 10 * source.randrange(250), 10 * source.randrange(250)
+            shapes.insert(pya.Box(0, 0, 10 * source.randint(1, 9), 10).moved(x, y))
+        shapes.insert(pya.Text("VDD", pya.Trans(50, 50)))
+    layout.layer(3, 0)
+    for corner in (0, 50):
+        cell.shapes(layout.layer(3, 0)).insert(pya.Box(corner, 0, corner + 20, 20))
+    for place in (0, 100):
+        top.insert(pya.CellInstArray(cell.cell_index(), pya.Trans(place, 0)))
+    corners = top.shapes(layout.layer(4, 0))
+    for x, y in ((0, 0), (50, 0), (0, 50), (80, 90), (120, 140)):  # the last is 30 and 40 away
+        corners.insert(pya.Box(x, y, x + 10, y + 10))
+    return layout
+
+
 def town() -> pya.Layout:
     """The town, from its file."""
     layout = pya.Layout()
@@ -182,9 +206,10 @@ def regions_hold(relation: str, one: pya.Region, other: pya.Region) -> bool:
 
 
 def areas(layout: pya.Layout, name: str) -> List[pya.Polygon]:
-    """The flattened shapes of a layer."""
+    """The flattened shapes of a layer, without its texts."""
     found = []
     shapes = layout.top_cell().begin_shapes_rec(layer_index(layout, name))
+    shapes.shape_flags = pya.Shapes.SAll & ~pya.Shapes.STexts
     while not shapes.at_end():
         found.append(shapes.shape().polygon.transformed(shapes.trans()))
         shapes.next()
@@ -221,15 +246,37 @@ def asked(layout: pya.Layout, request: Dict[str, Any]) -> List[Tuple[str, str]]:
             if holds(request["relation"], one, other)]
 
 
+def asked_of_spacing(layout: pya.Layout, request: Dict[str, Any]) -> List[Tuple[str, str]]:
+    """The pairs that KLayout's separation check finds too close, of shapes that share no point; of
+    a layer with itself each pair once."""
+    limit = round(float(request["space"]) / layout.dbu)
+    left, right = (areas(layout, request[side]) for side in ("left", "right"))
+    is_same = request["left"] == request["right"]
+    found = []
+    for number, one in enumerate(left):
+        for other in right[number + 1:] if is_same else right:
+            region = pya.Region(other)
+            if pya.Region(one).interacting(region).is_empty() and not pya.Region(
+                    one).separation_check(region, limit, False, pya.Region.Euclidian).is_empty():
+                found.append((text_of(one, layout.dbu), text_of(other, layout.dbu)))
+    return found
+
+
 def answer(layout: pya.Layout, request: Dict[str, Any], path: Path) -> Dict[str, Any]:
     """What comes of one request."""
-    words = Request(request["left"], request["right"], request["relation"],
-                    request.get("others", "error"), request.get("merged", False))
+    words = Request(request["left"], request["right"], request.get("relation", ""),
+                    request.get("space", ""),
+                    Reading(request.get("others", "error"), request.get("merged", False),
+                            request.get("mode", "flat")))
     try:
-        join_layers(layout, layout.top_cell(), words).save(str(path))
+        report = join_layers(layout, layout.top_cell(), words)
+        report.write(path)
+        assert report.database().num_items() == sum(count for _, count in report.counts())
     except (JoinError, ProgramError) as fault:
         return {"error": str(fault)}
     ask = asked_of_regions if request["layout"] == "angled" else asked
+    if "space" in request:
+        ask = asked_of_spacing
     return {"error": None, "database": str(path),
             "asked": ask(layout, request) if request.get("asked") else []}
 
@@ -237,7 +284,7 @@ def answer(layout: pya.Layout, request: Dict[str, Any], path: Path) -> Dict[str,
 def main(folder: Path) -> None:
     """Works the requests off."""
     layouts = {"chip": chip(), "others": others(), "town": town(), "metal": metal(),
-               "angled": angled(), "folded": folded()}
+               "angled": angled(), "folded": folded(), "spaced": spaced()}
     requests = json.loads((folder / "requests").read_text(encoding="utf-8"))
     answers = [answer(layouts[request["layout"]], request, folder / f"{number}.lyrdb")
                for number, request in enumerate(requests)]

@@ -1,10 +1,11 @@
 """Runs Processing algorithms inside one QGIS without a display; the tests call it by QGIS's Python.
 
 Each line of standard input is a JSON list of runs, each with `algorithm`, `parameters` and perhaps
-`cancel_at`, a progress at which to cancel, `program`, the value of RJOIN, and `invalid`, the number
-of the filtering of invalid features. Standard output gets a line for it, a list of the same
-length: `results`, the text of an `error`, `progress`, `log`, and in `rows` the attributes and the
-well-known text of each feature of every output layer, and in `systems` its reference system.
+`cancel_at`, a progress at which to cancel, `program`, the value of RJOIN, `invalid`, the number of
+the filtering of invalid features, and `selected`, by the names of parameters the expressions of the
+features that are selected, which take part alone. Standard output gets a line for it, a list of the
+same length: `results`, the text of an `error`, `progress`, `log`, and in `rows` the attributes and
+the well-known text of each feature of every output layer, and in `systems` its reference system.
 """
 from __future__ import annotations
 
@@ -20,7 +21,9 @@ from qgis.core import (
     QgsFeatureRequest,
     QgsProcessingContext,
     QgsProcessingException,
+    QgsProcessingFeatureSourceDefinition,
     QgsProcessingFeedback,
+    QgsProject,
     QgsVectorLayer,
 )
 
@@ -68,18 +71,30 @@ def rows_of(layer: QgsVectorLayer) -> List[Dict[str, Any]]:
     return [row(names, feature) for feature in layer.getFeatures()]
 
 
+def selected(path: str, expression: str) -> QgsProcessingFeatureSourceDefinition:
+    """A layer of which the features that fit an expression are selected."""
+    layer = QgsVectorLayer(path, "selected", "ogr")
+    QgsProject.instance().addMapLayer(layer)
+    layer.selectByExpression(expression)
+    return QgsProcessingFeatureSourceDefinition(layer.id(), True)
+
+
 def run(request: Dict[str, Any]) -> Dict[str, Any]:
     """One run."""
     import processing
 
     context, feedback = QgsProcessingContext(), Recorder(request.get("cancel_at"))
+    context.setProject(QgsProject.instance())
     context.setInvalidGeometryCheck(QgsFeatureRequest.InvalidGeometryCheck(
         request.get("invalid", 0)))
     answer: Dict[str, Any] = {"error": None, "results": {}, "rows": {}}
     program = os.environ["RJOIN"]
+    parameters = dict(request["parameters"])
+    for name, expression in request.get("selected", {}).items():
+        parameters[name] = selected(parameters[name], expression)
     try:
         os.environ["RJOIN"] = request.get("program", program)
-        results = processing.run(request["algorithm"], request["parameters"], context=context,
+        results = processing.run(request["algorithm"], parameters, context=context,
                                  feedback=feedback)
         layers = {name: layer_of(value, context) for name, value in results.items()}
         answer["rows"] = {name: layer and rows_of(layer) for name, layer in layers.items()}

@@ -46,6 +46,15 @@ METAL = [{"layout": "metal", "left": left, "right": right, "relation": relation,
               ("4/0", "2/0", "intersects", "error"))]
 
 
+SPACED: List[Tuple[str, str, str, Dict[str, str]]] = [
+    ("1/0", "2/0", "0.05", {}), ("1/0", "2/0", "0.051", {}), ("1/0", "1/0", "0.05", {}),
+    ("4/0", "4/0", "0.05", {}), ("4/0", "4/0", "0.051", {}), ("3/0", "3/0", "0.04", {}),
+    ("3/0", "3/0", "0.04", {"mode": "cell"})]
+SPACES: List[Dict[str, Any]] = [
+    {"layout": "spaced", "left": left, "right": right, "space": space, "asked": True, **more}
+    for left, right, space, more in SPACED]
+
+
 def klayout_run(words: List[str], variables: Dict[str, str], **environment: str
                 ) -> subprocess.CompletedProcess[str]:
     """Runs KLayout without a display."""
@@ -83,12 +92,15 @@ def joined(klayout: Any, town: Path, tmp_path_factory: pytest.TempPathFactory) -
                  "asked": True} for layout, left, right, relation in COMPARED]
     requests += [{"layout": "angled", "left": "1/0", "right": "2/0", "relation": relation,
                   "asked": True} for relation in ANGLED]
-    requests.append({"layout": "folded", "left": "1/0", "right": "2/0",
-                     "relation": "contains_properly"})
+    requests += [{"layout": "folded", "left": "1/0", "right": "2/0",
+                  "relation": "contains_properly", "merged": merged} for merged in (False, True)]
     requests += [{"layout": "others", "left": "1/0", "right": right, "relation": "contains",
                   "others": others} for right in ("2/0", "3/0")
                  for others in ("error", "skip", "envelope")]
-    requests += METAL
+    requests += METAL + SPACES
+    requests += [{"layout": "angled", "left": "1/0", "right": "2/0", "space": "0.3", "asked": True},
+                 {"layout": "metal", "left": "1/0", "right": "2/0", "relation": "contains",
+                  "mode": "cell"}]
     for words in FAULTS:
         left, relation, right, *others = words.split()
         requests.append({"layout": "chip", "left": left, "right": right, "relation": relation,
@@ -102,9 +114,10 @@ def joined(klayout: Any, town: Path, tmp_path_factory: pytest.TempPathFactory) -
 
 
 def key_of(request: Dict[str, Any]) -> str:
-    words = [str(request[name]) for name in ("layout", "left", "relation", "right")]
-    words += [request.get("others", "error"), *["merged"] * request.get("merged", False)]
-    return " ".join(words)
+    condition = request.get("relation") or f"<{request['space']}"
+    words = [request["layout"], request["left"], condition, request["right"],
+             request.get("others", "error"), *["merged"] * request.get("merged", False)]
+    return " ".join([*words, *["cell"] * (request.get("mode") == "cell")])
 
 
 def numbers_of(text: str) -> List[float]:
@@ -170,9 +183,10 @@ def test_polygons_and_paths(joined: Dict[str, Any], relation: str) -> None:
     assert (asked - Counter(points)).total() > 0
 
 
-def test_cut_lines_and_paths_that_cross_themselves(joined: Dict[str, Any]) -> None:
-    """A cut line isn't a side, and what a path covers twice is inside."""
-    pairs = pairs_of(joined["folded 1/0 contains_properly 2/0 error"])
+@pytest.mark.parametrize("merged", ["", " merged"])
+def test_cut_lines_and_paths_that_cross_themselves(joined: Dict[str, Any], merged: str) -> None:
+    """A cut line isn't a side, an area that a path covers twice is inside, and a hole stays one."""
+    pairs = pairs_of(joined[f"folded 1/0 contains_properly 2/0 error{merged}"])
     assert sorted(one for one, _ in pairs) == [(0.0, 0.0, 1.0, 1.0), (0.0, 1.5, 1.05, 3.05)]
     assert (0.48, 1.98, 0.52, 2.02) in {other for _, other in pairs}
     assert (0.45, 0.45, 0.55, 0.55) not in {other for _, other in pairs}
@@ -222,6 +236,62 @@ def test_areas_that_are_cut_up(joined: Dict[str, Any]) -> None:
     assert "left: TOP merged" in Path(angle["database"]).read_text(encoding="utf-8")
 
 
+@pytest.mark.parametrize("request_", SPACES, ids=key_of)
+def test_spacing(joined: Dict[str, Any], request_: Dict[str, Any]) -> None:
+    """Beside KLayout's separation check of each pair of shapes: less than the space, and across
+    corners too. Of a layer with itself each pair comes once."""
+    answer = joined[key_of(request_)]
+    asked = Counter((bounds(one), bounds(other)) for one, other in answer["asked"])
+    own = pairs_of(answer)
+    if request_.get("mode") == "cell":
+        assert own == Counter([((0.0, 0.0, 0.02, 0.02), (0.05, 0.0, 0.07, 0.02))])
+        assert items(Path(answer["database"])) and asked.total() == 3
+    else:
+        assert own == asked and asked
+
+
+def test_spacing_is_told(joined: Dict[str, Any]) -> None:
+    """A pair 30, 40 and so 50 units apart isn't closer than 50 units; its distance is there."""
+    assert pairs_of(joined["spaced 4/0 <0.05 4/0 error"]).total() == 2
+    wider = Path(joined["spaced 4/0 <0.051 4/0 error"]["database"]).read_text(encoding="utf-8")
+    assert wider.count("distance: 0.05 um") == 1 and wider.count("distance: 0.04 um") == 2
+    assert "left out of layer 1/0" in Path(
+        joined["spaced 1/0 <0.05 1/0 error"]["database"]).read_text(encoding="utf-8")
+    by_cell = ElementTree.parse(joined["spaced 3/0 <0.04 3/0 error cell"]["database"]).getroot()
+    assert [item.findtext("cell") for item in by_cell.iter("item")] == ["CELL"]
+    place = by_cell.find("cells/cell[name='CELL']/references/ref")
+    assert place is not None and place.findtext("parent") == "TOP"
+    assert place.findtext("trans") == "r0 *1 0,0"
+    assert by_cell.findtext("categories/category/description") == (
+        "shapes that share no point and are closer than 0.04 um")
+
+
+def test_spacing_of_other_shapes(joined: Dict[str, Any]) -> None:
+    """Joined where the program reads them, else refused by name. KLayout 0.28 takes some shapes
+    that share nothing but a point for apart."""
+    answer = joined["angled 1/0 <0.3 2/0 error"]
+    if answer["error"] is not None:
+        assert re.match(r"layer 1/0, cell TOP: neither a box nor a segment along an axis, .* rjoin "
+                        "near reads", answer["error"])
+        return
+    asked: Counter[Tuple[Bounds, ...]] = Counter(
+        (corners(one), corners(other)) for one, other in answer["asked"])
+    own = pairs_of(answer, corners)
+    points = items(Path(joined["angled 1/0 touches 2/0 error"]["database"]), corners).get(
+        f"'1/0 touches 2/0'.{POINTS_ALONE}", [])
+    assert own and not own - asked and not asked - own - Counter(points)
+
+
+def test_categories_say_what_they_mean(joined: Dict[str, Any]) -> None:
+    root = ElementTree.parse(joined["town 1/0 overlaps 4/0 error"]["database"]).getroot()
+    top = root.find("categories/category")
+    assert top is not None
+    assert top.findtext("description") == "the left shape overlaps the right one"
+    assert {category.findtext("description") for category in top.iter("category")} >= {
+        "left and right: interior and interior share an area; interior and boundary share lines; "
+        "boundary and interior share lines; boundary and boundary share points"}
+
+
 @pytest.mark.parametrize("words, text", FAULTS.items())
 def test_faults(joined: Dict[str, Any], words: str, text: str) -> None:
     left, relation, right, *others = words.split()
@@ -233,7 +303,7 @@ def test_batch_mode(klayout: Any, town: Path, tmp_path: Path) -> None:
     """The documented step; every station lies at its own place, as another layer of points."""
     output = tmp_path / "pairs.lyrdb"
     ended = klayout(PACKAGE / "join.py", file=str(town), left="stations (3/0)", right="stations",
-                    relation="equals", output=str(output))
+                    relation="equals", merged="0", output=str(output))
     assert ended.returncode == 0, ended.stderr
     assert ended.stdout.strip() == "'stations (3/0) equals stations'.'0FFFFFFF2': 16"
     assert sum(map(len, items(output).values())) == 16
@@ -243,7 +313,7 @@ def test_batch_mode_merges_and_tells_bounding_boxes(klayout: Any, town: Path, tm
                                                     ) -> None:
     """The town's parcels, which lie side by side, are merged to rectangles too."""
     words = {"file": str(town), "left": "1/0", "right": "3/0", "relation": "contains",
-             "output": str(tmp_path / "pairs.lyrdb"), "merged": "1"}
+             "output": str(tmp_path / "pairs.lyrdb")}
     ended = klayout(PACKAGE / "join.py", others="envelope", **words)
     assert ended.returncode == 0, ended.stderr
     lines = ended.stdout.splitlines()
@@ -251,6 +321,10 @@ def test_batch_mode_merges_and_tells_bounding_boxes(klayout: Any, town: Path, tm
     assert lines[-1] == "pairs that rest on a bounding box: 0"
     wrong = klayout(PACKAGE / "join.py", **{**words, "merged": "yes"})
     assert wrong.returncode == 1 and "merged must be 0 or 1" in wrong.stderr
+    both = klayout(PACKAGE / "join.py", space="1", **words)
+    assert both.returncode == 1 and "one of relation and space is needed" in both.stderr
+    none = klayout(PACKAGE / "join.py", **{**words, "relation": "", "space": "-1"})
+    assert none.returncode == 1 and "space must be a number of micrometres above 0" in none.stderr
 
 
 def test_batch_mode_fails_with_a_status(klayout: Any, town: Path, tmp_path: Path) -> None:
@@ -276,8 +350,9 @@ try:
     asked = dialog.JoinDialog(window, ["1/0", "4/0"])
     asked.relation.setCurrentText("overlaps")
     print(asked.merged.text, asked.merged.checked)
-    asked.merged.checked = True
+    asked.space.text = "0.5"
     print(asked.request())
+    asked.space.text = ""
     asked.merged.checked = False
     print(dialog.show(view, asked.request()), view.num_rdbs())
 except Exception:
@@ -297,8 +372,9 @@ def test_package_with_its_dialog(klayout: Any, town: Path, tmp_path: Path) -> No
                         KLAYOUT_HOME=str(tmp_path / "home"))
     assert ended.stdout.splitlines() == [
         "Join layers by relation",
-        "Merge the shapes of each layer first False",
-        "Request(left='1/0', right='4/0', relation='overlaps', others='error', merged=True)",
+        "Merge the shapes of each layer first True",
+        "Request(left='1/0', right='4/0', relation='', space='0.5', "
+        "reading=Reading(others='error', merged=True, mode='flat'))",
         "20 1"
     ], ended.stderr
 

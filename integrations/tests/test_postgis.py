@@ -105,6 +105,116 @@ def test_joins_of_the_town(server: Dict[str, str], join: Join) -> None:
     assert own or join.relation == "overlaps"
 
 
+NEAR = ("select l.id, r.id, round(ST_Distance(l.geom, r.geom)::numeric, 6)::double precision"
+        " from {left} l join {right} r on ST_DWithin(l.geom, r.geom, {distance}) {apart}"
+        " order by 1, 2")
+APART = "where not ST_Intersects(l.geom, r.geom)"
+
+
+@pytest.mark.parametrize("left, right, distance", [
+    ("stations", "roads", "1.25"), ("parcels", "zones", "2.5"), ("parcels", "roads", "0"),
+    ("stations", "stations", "3.75")])
+def test_joins_within_a_distance(server: Dict[str, str], left: str, right: str, distance: str
+                                 ) -> None:
+    """Beside ST_DWithin and ST_Distance, whose results are the same to 6 decimals."""
+    name = f"near_{left}_{right}"
+    for option, table, condition in (("", name, ""), ("--apart", f"{name}_apart", APART)):
+        words = [option] if option else []
+        done(server, left, right, "--distance", distance, "--into", table, *words)
+        own = psql(server, NEAR.format(left=left, right=right, distance=distance, apart=condition))
+        assert psql(server, f"select * from {table} order by 1, 2") == own
+        assert own or option
+
+
+def test_decimals_of_distances(server: Dict[str, str]) -> None:
+    """As many as the size of the coordinates allows, unless they are given."""
+    psql(server, "create table origin (id int primary key, geom geometry)",
+         "insert into origin values (1, 'POINT (0 0)')",
+         "create table around (id int primary key, geom geometry)",
+         "insert into around values (1, 'POINT (1 1)'), (2, 'POINT (30000000 0.5)')")
+    words = ["origin", "around", "--distance", "1.5", "--into"]
+    done(server, *words, "origin_fine")
+    assert psql(server, "select distance from origin_fine") == [["1.4142"]]
+    done(server, *words, "origin_coarse", "--decimals", "1")
+    assert psql(server, "select distance from origin_coarse") == [["1.4"]]
+    done(server, "origin", "around", "--distance", "30000001", "--into", "origin_wide")
+    assert psql(server, "select count(*) from origin_wide") == [["2"]]
+    assert "--distance must be a number of the scale" in refused(
+        server, "origin", "around", "--distance", "1000000000001", "--into", "never")
+    wrong: Dict[str, str] = {
+        "--distance 4e7": "not a decimal number: '4e7'",
+        "--distance 1.25 --decimals 1": "--distance has more than 1 decimals",
+        "--relation within --distance 1": "--relation goes without --distance and --nearest",
+        "--relation within --apart": "--apart needs --distance",
+        "--nearest 0": "not a whole number of 1 or more: '0'",
+        "": "one of --relation, --distance and --nearest is needed"}
+    for more, fault in wrong.items():
+        ended = command(server, "origin", "around", "--into", "never", *more.split())
+        assert ended.returncode == 2 and fault in ended.stderr, ended.stderr
+
+
+def test_distances_of_other_shapes(server: Dict[str, str], village: str) -> None:
+    done(server, village, village, "--distance", "20", "--into", "village_near")
+    own = psql(server, NEAR.format(left=village, right=village, distance=20, apart=""))
+    assert psql(server, "select * from village_near order by 1, 2") == own and own
+
+
+def test_columns_are_carried(server: Dict[str, str]) -> None:
+    psql(server, 'create table owned ("Key" int primary key, "The owner" text, geom geometry)',
+         "insert into owned select row_number() over (order by id), 'of ' || id, geom from parcels")
+    done(server, "owned", "zones", "--relation", "overlaps", "--into", "owned_zones",
+         "--left-columns", "The owner", "geom", "--right-columns", "geom")
+    own = psql(server, 'select p."Key", z.id, p."The owner", p.geom, z.geom,'
+               " ST_Relate(p.geom, z.geom) from owned p join zones z"
+               " on ST_Overlaps(p.geom, z.geom) order by 1, 2")
+    assert psql(server, "select * from owned_zones order by 1, 2") == own and own
+    assert psql(server, 'select "left_The owner", left_geom, right_geom from owned_zones')
+    words = ["owned", "zones", "--relation", "overlaps", "--into", "never"]
+    assert "owned has no column owner" in refused(server, *words, "--left-columns", "owner")
+    assert "zones has no column x" in refused(server, *words, "--right-columns", "id", "x")
+
+
+NEAREST = ("select l.id, n.id, n.distance from {left} l cross join lateral ("
+           "select r.id, round(ST_Distance(l.geom, r.geom)::numeric, 6)::double precision"
+           " as distance from {right} r where ST_Distance(l.geom, r.geom) <= {limit}"
+           " order by distance fetch first {most} rows with ties) n order by 1, 3, 2")
+
+
+@pytest.mark.parametrize("most, limit", [("1", None), ("3", None), ("4", "2.5")])
+def test_nearest_rows(server: Dict[str, str], most: str, limit: str | None) -> None:
+    """Beside a sort of all distances to 6 decimals, with those that tie with the last; PostGIS
+    rounds them otherwise, and misses ties."""
+    for left, right in (("stations", "roads"), ("parcels", "stations")):
+        name = f"nearest_{left}_{most}"
+        done(server, left, right, "--nearest", most, "--into", name,
+             *[] if limit is None else ["--distance", limit])
+        own = psql(server, NEAREST.format(left=left, right=right, most=most, limit=limit or 1e9))
+        assert psql(server, f"select * from {name} order by 1, 3, 2") == own and own
+
+
+@pytest.mark.parametrize("most, limit", [("1", None), ("3", "250.5")])
+def test_nearest_rows_of_other_shapes(server: Dict[str, str], village: str, most: str,
+                                      limit: str | None) -> None:
+    """Of points, and of lines and polygons, many of which share points with others."""
+    for kind in ("Point", "LineString", "Polygon"):
+        left = f"village_{kind.lower()}_{most}"
+        psql(server, f"create view {left} as select * from {village}"
+             f" where ST_GeometryType(geom) = 'ST_{kind}'")
+        done(server, left, village, "--left-id", "id", "--nearest", most, "--into", f"{left}_found",
+             *[] if limit is None else ["--distance", limit])
+        own = psql(server, NEAREST.format(left=left, right=village, most=most, limit=limit or 1e9))
+        assert psql(server, f"select * from {left}_found order by 1, 3, 2") == own and own
+
+
+def test_a_program_without_nearest_rows_is_named(server: Dict[str, str], tmp_path: Path) -> None:
+    program = stand_in(tmp_path / "rjoin", "echo \"error: unrecognized subcommand 'nearest'\" >&2\n"
+                       "exit 2")
+    before = tables(server)
+    assert "unrecognized subcommand 'nearest'" in refused(
+        server, "stations", "roads", "--nearest", "1", "--into", "never", RJOIN=str(program))
+    assert tables(server) == before
+
+
 def test_made_layers(server: Dict[str, str], tmp_path: Path) -> None:
     for kind, made in made_layers.BOX_KINDS.items():
         for side, path in zip("lr", made_layers.write_pair(tmp_path, kind, 4000)):

@@ -253,6 +253,184 @@ def test_envelopes(runs: Any, tmp_path: Path) -> None:
     assert pairs(envelopes) == pairs(own) and pairs(own)
 
 
+def test_several_relations(runs: Any) -> None:
+    """As the native algorithm has them: the same features, fields and those without a partner."""
+    parcels, roads = town("parcels"), town("roads")
+    own, native, mixed = runs([
+        ours(parcels, roads, "touches", RELATION=[1, 2], DISCARD_NONMATCHING=False,
+             NON_MATCHING="memory:"),
+        {"algorithm": "native:joinattributesbylocation", "parameters": {
+            "INPUT": parcels, "JOIN": roads, "PREDICATE": [NATIVE["touches"], NATIVE["crosses"]],
+            "METHOD": 0, "OUTPUT": "memory:", "NON_MATCHING": "memory:"}},
+        ours(parcels, roads, "touches", RELATION="1,0,2")])
+    assert compared(own) == compared(native) and own["results"]["PAIRS"] > 0
+    assert own["rows"]["NON_MATCHING"] == native["rows"]["NON_MATCHING"] and (
+        len(own["rows"]["NON_MATCHING"]) == own["results"]["UNJOINABLE_COUNT"])
+    (meeting,) = runs([natives(parcels, roads, "intersects")])
+    assert compared(mixed) == compared(meeting)
+
+
+def test_the_first_partner_alone(runs: Any) -> None:
+    """In the order of the join layer, as the native algorithm takes it."""
+    layers = town("parcels"), town("roads"), "touches"
+    native = natives(*layers)
+    native["parameters"].update({"METHOD": 1, "DISCARD_NONMATCHING": False})
+    own, theirs = runs([ours(*layers, METHOD=2, DISCARD_NONMATCHING=False), native])
+    assert compared(own) == compared(theirs)
+    assert own["results"]["PAIRS"] == own["results"]["JOINED_COUNT"] > 0
+
+
+def test_selected_features_alone(runs: Any) -> None:
+    chosen = {"INPUT": "\"id\" like 'Bridge%'", "JOIN": "\"id\" like '%road%'"}
+    layers = town("parcels"), town("roads"), "touches"
+    own, native = runs([{**request, "selected": chosen}
+                        for request in (ours(*layers), natives(*layers))])
+    assert compared(own) == compared(native) and pairs(own)
+
+
+WORLD = "/usr/share/qgis/resources/data/world_map.gpkg|layername="
+
+
+def test_the_map_of_the_world(runs: Any, tmp_path: Path) -> None:
+    """The layers that QGIS ships, whose coordinates have more than 6 decimals: the same features
+    with the same fields. Disputed borders run within a millionth of a degree of countries: QGIS
+    gives the pairs of the rounded layers where it joins rounded ones."""
+    if not Path(WORLD.partition("|")[0]).exists():
+        pytest.skip("QGIS's map of the world isn't there")
+    countries, borders = f"{WORLD}countries", f"{WORLD}disputed_borders"
+    paths = [str(tmp_path / f"{name}.gpkg") for name in ("countries", "borders")]
+    rounded = [{"algorithm": "native:snappointstogrid", "parameters": {
+        "INPUT": source, "HSPACING": 1e-6, "VSPACING": 1e-6, "OUTPUT": path}}
+        for source, path in zip((countries, borders), paths)]
+    stopped, whole, _, _, theirs, within, native = runs([
+        ours(countries, borders, "intersects"), ours(countries, borders, "intersects", DECIMALS=6),
+        *rounded, natives(paths[0], paths[1], "intersects"),
+        ours(countries, countries, "within", DECIMALS=6), natives(countries, countries, "within")])
+    assert "isn't written exactly by 6 decimals" in stopped["error"]
+    assert numbers(whole) == numbers(theirs) and len(numbers(whole)) == 80
+    assert compared(within) == compared(native) and within["results"]["PAIRS"] == 240
+
+
+def numbers(answer: Dict[str, Any]) -> Pairs:
+    """The pairs by the keys of their GeoPackages."""
+    assert answer["error"] is None, answer["error"]
+    return sorted((row["fid"], row["fid_2"]) for row in answer["rows"]["OUTPUT"])
+
+
+def nearest(left: str, right: str, **more: Any) -> Run:
+    """QGIS's own nearest features, by any number and distance."""
+    return {"algorithm": "native:joinbynearest", "parameters": {
+        "INPUT": left, "INPUT_2": right, "DISCARD_NONMATCHING": True, "OUTPUT": "memory:", **more}}
+
+
+def near(left: str, right: str, distance: float, **more: Any) -> Run:
+    return {"algorithm": "rjoin:joinwithindistance", "parameters": {
+        "INPUT": left, "JOIN": right, "DISTANCE": distance, "DISCARD_NONMATCHING": True,
+        "OUTPUT": "memory:", **more}}
+
+
+def distances(answer: Dict[str, Any]) -> List[Tuple[str, str, float]]:
+    """The pairs with their distances to 6 decimals."""
+    assert answer["error"] is None, answer["error"]
+    return sorted((row["id"], row["id_2"], round(row["distance"], 6))
+                  for row in answer["rows"]["OUTPUT"])
+
+
+@pytest.mark.parametrize("left, right, distance", [
+    ("stations", "roads", 5), ("stations", "stations", 14.5), ("parcels", "zones", 10.25),
+    ("parcels", "roads", 0)])
+def test_within_distance(runs: Any, left: str, right: str, distance: float) -> None:
+    """Beside all of QGIS's nearest features that are as near."""
+    own, apart, every = runs([
+        near(town(left), town(right), distance),
+        near(town(left), town(right), distance, APART=True),
+        nearest(town(left), town(right), NEIGHBORS=1000)])
+    asked = [row for row in distances(every) if row[2] <= distance]
+    if left == right:  # where QGIS leaves out each feature itself
+        asked = sorted(asked + [(name, name, 0.0) for name in station_ids()])
+    assert distances(own) == asked and asked
+    assert distances(apart) == [row for row in asked if row[2] > 0]
+
+
+def test_decimals_of_distances(runs: Any, tmp_path: Path) -> None:
+    """As many as the size of the coordinates allows, unless they are given."""
+    one = layer(tmp_path / "one.csv", {"a": "POINT (0 0)"})
+    other = layer(tmp_path / "other.csv", {"b": "POINT (1 1)", "c": "POINT (2 0.5)"})
+    far = layer(tmp_path / "far.csv", {"f": "POINT (30000000 0)"})
+    fine, given, coarse, refused, many, lonely, out_of_range = runs([
+        near(one, other, 1.5), near(one, other, 1.5, DECIMALS=1), near(one, far, 4e7),
+        near(one, other, 1.25, DECIMALS=1), near(one, other, 0.1234567),
+        near(one, other, 1, DISCARD_NONMATCHING=False), near(one, far, 0.000001)])
+    assert [row["distance"] for row in fine["rows"]["OUTPUT"]] == [1.414214]
+    assert [row["distance"] for row in given["rows"]["OUTPUT"]] == [1.4]
+    assert "Decimals of the distances: 4" in coarse["log"] and distances(coarse)
+    assert "Distance: 1.25 has more than 1 decimals" in refused["error"]
+    assert "Distance: 0.1234567 isn't written exactly by 6 decimals" in many["error"]
+    assert [(row["id"], row["distance"]) for row in lonely["rows"]["OUTPUT"]] == [("a", None)]
+    assert "With the decimals of the distance, 6, 30000000.0 is out of range" in (
+        out_of_range["error"])
+
+
+def test_distances_of_other_shapes(runs: Any) -> None:
+    own, every = runs([near(village("stops", "Point"), PARCELS, 20),
+                       nearest(village("stops", "Point"), PARCELS, NEIGHBORS=1000)])
+    assert distances(own) == [row for row in distances(every) if row[2] <= 20]
+
+
+def nearest_of(rows: List[Tuple[str, str, float]], limit: Dict[str, Any]
+               ) -> List[Tuple[str, str, float]]:
+    """The nearest of all pairs, with those that tie with the last."""
+    found = []
+    for left in sorted({row[0] for row in rows}):
+        near = sorted(row[2] for row in rows
+                      if row[0] == left and row[2] <= limit.get("MAX_DISTANCE", 1e9))
+        last = near[:limit.get("NEIGHBORS", 1)][-1:] or [-1.0]
+        found += [row for row in rows if row[0] == left and row[2] <= last[0]]
+    return sorted(found)
+
+
+@pytest.mark.parametrize("left, right", [("stations", "roads"), ("stations", "stations"),
+                                         ("parcels", "roads")])
+@pytest.mark.parametrize("limit", [{}, {"NEIGHBORS": 3}, {"NEIGHBORS": 4, "MAX_DISTANCE": 9.5}])
+def test_nearest(runs: Any, left: str, right: str, limit: Dict[str, Any]) -> None:
+    check_nearest(runs, town(left), town(right), limit)
+
+
+@pytest.mark.parametrize("limit", [{}, {"NEIGHBORS": 3, "MAX_DISTANCE": 150.25}])
+def test_nearest_of_other_shapes(runs: Any, limit: Dict[str, Any]) -> None:
+    for left, right in ((village("stops", "Point"), PARCELS), (PARCELS, ROADS), (ROADS, ROADS)):
+        check_nearest(runs, left, right, limit)
+
+
+def check_nearest(runs: Any, left: str, right: str, limit: Dict[str, Any]) -> None:
+    """The same fields as QGIS's own, and its features; those that tie may change places. QGIS
+    rounds distances before it compares them and misses ties, so all distances to 6 decimals
+    decide."""
+    own, native, every = runs([
+        {"algorithm": "rjoin:joinnearest", "parameters": {
+            "INPUT": left, "JOIN": right, "DISCARD_NONMATCHING": True,
+            "OUTPUT": "memory:", **limit}},
+        nearest(left, right, **limit),
+        nearest(left, right, NEIGHBORS=1000)])
+    assert distances(own) == nearest_of(distances(every), limit) and distances(own)
+    assert set(distances(native)) <= set(distances(own))
+    assert list(own["rows"]["OUTPUT"][0]) == list(native["rows"]["OUTPUT"][0])
+    for row in own["rows"]["OUTPUT"]:
+        line = [row[name] for name in ("feature_x", "feature_y", "nearest_x", "nearest_y")]
+        assert abs(((line[0] - line[2]) ** 2 + (line[1] - line[3]) ** 2) ** 0.5
+                   - row["distance"]) < 1e-5
+
+
+def test_nearest_where_features_are_left_out(runs: Any, tmp_path: Path) -> None:
+    others = layer(tmp_path / "others.csv", {"box": OTHERS["box"], "curve": OTHERS["curve"]})
+    parameters: Dict[str, Any] = {"INPUT": town("stations"), "JOIN": others, "OTHERS": LEAVE_OUT,
+                                  "DISCARD_NONMATCHING": True, "OUTPUT": "memory:"}
+    stopped, marked = runs([{"algorithm": "rjoin:joinnearest", "parameters": given} for given in (
+        parameters, {**parameters, "INCOMPLETE": MARK})])
+    assert "features left out: 1, each of which may be nearer" in stopped["error"]
+    assert {row["known"] for row in marked["rows"]["OUTPUT"]} == {False}
+
+
 FAR = "POLYGON ((900 900, 901 900, 901 901, 900 901, 900 900))"
 
 

@@ -44,8 +44,9 @@ def test_each_page_tells_the_limits(page: str) -> None:
 def test_the_page_of_klayout_tells_of_merged_shapes() -> None:
     """By the words of its dialog and of batch mode."""
     page = (HERE.parent / "docs/KLAYOUT.md").read_text(encoding="utf-8")
-    for words in ("Shapes are joined as they are drawn.", "two pieces that abut touch each other",
-                  "*Merge the shapes of each layer first*", "`-rd merged=1`"):
+    for words in ("as KLayout's own checks do", "two pieces that abut touch each other",
+                  "*Merge the shapes of each layer first*", "`-rd merged=0`", "`-rd mode=cell`",
+                  "*Those of each cell by themselves*", "`-rd space=0.2`"):
         assert words in page
 
 

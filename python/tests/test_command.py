@@ -2,6 +2,7 @@
 from __future__ import annotations
 
 import csv
+import sqlite3
 from pathlib import Path
 from typing import Any, List, Tuple
 
@@ -47,13 +48,12 @@ def test_pairs_are_written_as_csv(town: Any, files: Any, tmp_path: Path) -> None
 def test_pairs_are_written_as_a_table(town: Any, files: Any, tmp_path: Path) -> None:
     output = tmp_path / "pairs.gpkg"
     assert ends([*files, "--relation", "touches", "-o", output, "--attributes"]) == 0
-    fiona = pytest.importorskip("fiona")
-    with fiona.open(output) as rows:
-        assert rows.schema["geometry"] == "None"
-        values = [row.properties for row in rows]
-    named = [(row["id_left"], row["id_right"], row["matrix"]) for row in values]
-    assert named == touching(town) and {row["lanes"] for row in values} == {2}
-    assert [row["left"] for row in values][:3] == [0, 0, 0]
+    with sqlite3.connect(output) as package:
+        kinds = package.execute("SELECT data_type FROM gpkg_contents").fetchall()
+    assert kinds == [("attributes",)]
+    rows = geopandas.read_file(output, ignore_geometry=True)
+    assert list(zip(rows["id_left"], rows["id_right"], rows["matrix"])) == touching(town)
+    assert set(rows["lanes"]) == {2} and rows["left"][:3].tolist() == [0, 0, 0]
 
 
 def test_features_are_written_with_fields_of_both_sides(town: Any, files: Any,
@@ -110,15 +110,14 @@ def test_a_table_is_written_only_where_all_rows_are_kept(files: Any, tmp_path: P
 @pytest.mark.parametrize("more", ((), ("--geometry",)))
 def test_a_field_with_the_name_of_the_key_is_kept(town: Any, tmp_path: Path, more: Any) -> None:
     """Of a Shapefile that was a GeoPackage; each parcel has several roads."""
-    fiona = pytest.importorskip("fiona")
     town["parcels"].assign(fid=range(100, 157)).to_file(tmp_path / "parcels.shp")
     output = tmp_path / "out.gpkg"
     assert ends([tmp_path / "parcels.shp", TOWN / "roads.csv", "--relation", "touches", "-o",
                  output, "--attributes", *more]) == 0
-    with fiona.open(output) as rows:
-        assert [row.properties["fid"] for row in rows] == [
-            100 + town["parcels"].index[town["parcels"]["id"] == one][0]
-            for one, _, _ in touching(town)]
+    rows = geopandas.read_file(output, ignore_geometry=True)
+    assert rows["fid"].tolist() == [
+        100 + town["parcels"].index[town["parcels"]["id"] == one][0]
+        for one, _, _ in touching(town)]
 
 
 def test_faults_leave_nothing_and_are_told_in_a_line(files: Any, tmp_path: Path,

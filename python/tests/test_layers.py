@@ -105,6 +105,15 @@ def test_a_left_join_without_all_right_features_is_refused_or_marked() -> None:
         assert marked["known"].tolist() == partners.tolist()
         with pytest.warns(rjoin.LeftOutWarning):
             assert rjoin.sjoin(squares, **rule)["index_right"].iloc[0] == "a"
+        turned = {"left": rule["right"], "right": squares, "how": "right",
+                  **{name: value for name, value in rule.items() if name != "right"}}
+        with pytest.raises(rjoin.InputError, match="incomplete='mark'") as caught:
+            rjoin.sjoin(**turned)
+        assert (caught.value.side, caught.value.feature) == ("left", first)
+        with pytest.warns(rjoin.LeftOutWarning):
+            marked = rjoin.sjoin(**turned, incomplete="mark")
+        assert marked.index.tolist() == ["a", "b"] and marked["index_left"].iloc[0] == "a"
+        assert marked["known"].tolist() == marked["index_left"].notna().tolist()
     whole = rjoin.sjoin(squares, others.iloc[:1], how="left", other="skip", incomplete="mark")
     assert whole["known"].tolist() == [True, True]
     assert whole["index_right"].isna().tolist() == [False, True]

@@ -149,6 +149,21 @@ def test_a_program_that_answers_nothing_is_told(monkeypatch: Any, tmp_path: Path
     assert caught.type is rjoin.RjoinError
 
 
+@pytest.mark.parametrize("line", ("0,0,0FFFFFFF", "0;0,0FFFFFFF2", "x,0,0FFFFFFF2", "0,0,0FFFFFFX2",
+                                  "0,0,0FFFFFFF2,", "0,0,0FFFFFFF2 0,0,0FFFFFFF2", ""))
+def test_a_line_that_no_join_writes_is_told(monkeypatch: Any, tmp_path: Path, line: str) -> None:
+    def answers(text: str) -> None:
+        path = script(tmp_path / "rjoin", f"printf 'left,right,matrix\\n{text}\\n'")
+        monkeypatch.setenv("RJOIN", str(path))
+    answers("0,0,0FFFFFFF2")
+    assert len(joined()) == 1
+    answers(line)
+    with pytest.raises(rjoin.RjoinError, match="wrote no answer of its kind"):
+        geopandas = pytest.importorskip("geopandas")
+        frame = geopandas.GeoDataFrame(geometry=geopandas.GeoSeries.from_wkt(["POINT (0 0)"]))
+        rjoin.sjoin(frame, frame, matrix=True)
+
+
 @pytest.mark.parametrize("call", CALLS)
 @pytest.mark.parametrize("name", OTHER_PROGRAMS)
 def test_another_program_is_told(monkeypatch: Any, tmp_path: Path, call: str, name: str) -> None:

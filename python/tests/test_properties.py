@@ -98,8 +98,13 @@ def shapelys(left: Layer, right: Layer, relation: str) -> List[Triple]:
     places = {id(geometry): place for place, geometry in enumerate(right.geometries)}
     return [(one, other, geometry.relate(right.geometries[other]))
             for one, geometry in enumerate(left.geometries)
-            for other in sorted(places[id(found)] for found in tree.query(geometry))
+            for other in sorted(place_of(found, places) for found in tree.query(geometry))
             if holds(geometry, right.geometries[other], relation)]
+
+
+def place_of(found: Any, places: Dict[int, int]) -> int:
+    """The place of what a tree has found: a geometry, and from Shapely 2 on the place."""
+    return places[id(found)] if hasattr(found, "geom_type") else int(found)
 
 
 def holds(one: Any, other: Any, relation: str) -> bool:

@@ -20,6 +20,7 @@ import rjoin
 from rjoin import outlines, sources
 
 geopandas = pytest.importorskip("geopandas")
+shapely = pytest.importorskip("shapely")
 wkt = pytest.importorskip("shapely.wkt")
 affinity = pytest.importorskip("shapely.affinity")
 shapely_geometry = pytest.importorskip("shapely.geometry")
@@ -98,6 +99,19 @@ def mixture(seed: int, count: int, unit: float = 1.0) -> Any:
                                   index=[f"id {count - row}" for row in range(count)])
 
 
+def without_touching_holes(frame: Any) -> Any:
+    """Without areas whose hole touches the shell, which GEOS 3.13 relates wrongly to others.
+
+    It gives POLYGON ((0 0, 8 0, 8 8, 0 8, 0 0), (4 0, 5 2, 3 2, 4 0)) and
+    POLYGON ((1 0, 9 0, 9 -8, 1 0)) a common interior.
+    """
+    parts = [getattr(shape, "geoms", [shape]) for shape in frame.geometry]
+    touching = [any(part.geom_type == "Polygon" and any(
+        hole.intersects(part.exterior) for hole in part.interiors) for part in some)
+        for some in parts]
+    return frame[~np.array(touching)]
+
+
 def holds(one: Any, other: Any, relation: str) -> bool:
     if "*" in relation:
         return bool(one.relate_pattern(other, relation))
@@ -113,6 +127,8 @@ def shapelys(left: Any, right: Any, relation: str) -> List[Tuple[Any, Any, str]]
 def test_geometries_of_any_form_are_joined_as_geopandas_does(predicate: str) -> None:
     for seed, unit in ((1, 1.0), (2, 0.25)):
         left, right = mixture(seed, 150, unit), mixture(seed + 10, 150, unit)
+        if getattr(shapely, "geos_version", (0,)) >= (3, 13):
+            left, right = without_touching_holes(left), without_touching_holes(right)
         theirs = geopandas.sjoin(left, right, predicate=predicate)
         ours = rjoin.sjoin(left, right, predicate, workers=2)
         found = list(zip(ours["n_left"], ours["n_right"]))

@@ -31,6 +31,9 @@ INDICES: Dict[str, Callable[[int], Any]] = {
 }
 
 
+HOW = ("inner", "left", "right")
+
+
 def ordered(frame: Any, columns: List[str]) -> Any:
     """The rows in an order of their own; GeoPandas leaves it open."""
     keys = frame[columns].astype(str).agg("|".join, axis=1).to_numpy()
@@ -78,7 +81,7 @@ def expected(lefts: Any, rights: Any, relation: str) -> List[Tuple[int, int, str
 
 @pytest.mark.parametrize("right_index", INDICES)
 @pytest.mark.parametrize("left_index", INDICES)
-@pytest.mark.parametrize("how", ("inner", "left"))
+@pytest.mark.parametrize("how", HOW)
 def test_indices_of_all_kinds_are_kept(town: Any, left_index: str, right_index: str,
                                        how: str) -> None:
     left, right = town["parcels"].copy(), town["zones"].copy()
@@ -91,10 +94,102 @@ def test_suffixes_and_columns_are_those_of_geopandas(town: Any) -> None:
     left = town["parcels"].assign(area=2.5, note="n")
     right = town["roads"].assign(area=1, kind=pandas.Categorical(["a", "b"] * 8))
     right = right.rename_geometry("line")
-    for how in ("inner", "left"):
+    for how, geometry in zip(HOW, ("geometry", "geometry", "line")):
         ours = rjoin.sjoin(left, right, "touches", how, lsuffix="parcel", rsuffix="road")
         same(ours, geopandas.sjoin(left, right, how, "touches", lsuffix="parcel", rsuffix="road"))
-    assert ours.crs == left.crs and ours.geometry.name == "geometry"
+        assert ours.crs == left.crs and ours.geometry.name == geometry
+
+
+def test_a_right_join_has_the_order_of_the_right_frame(town: Any) -> None:
+    left, right = town["roads"], town["parcels"]
+    pairs = rjoin.pairs(left, right, "crosses", ids="position")[["right", "left"]]
+    ours = rjoin.sjoin(left, right, "crosses", "right", matrix=True)
+    alone = sorted(set(range(len(right))) - set(pairs["right"]))
+    expected = sorted([*map(tuple, pairs.to_numpy().tolist()), *((place, -1) for place in alone)])
+    assert list(zip(ours.index, ours["index_left"].fillna(-1))) == expected and alone
+    assert (ours["matrix"].isna() == ours["index_left"].isna()).all()
+    assert list(ours.columns) == ["index_left", "id_left", "id_right", "geometry", "matrix"]
+
+
+@pytest.mark.parametrize("how", HOW)
+def test_columns_of_indices_have_their_names_from_geopandas_1_on(monkeypatch: Any,
+                                                                 how: str) -> None:
+    """The columns and the names of the index are written by hand, after its rules."""
+    monkeypatch.setattr(geopandas, "__version__", "1.0.1")
+    points = geopandas.GeoSeries.from_wkt(["POINT (1 1)", "POINT (2 2)"])
+
+    def frame(names: Any, **columns: Any) -> Any:
+        levels = [[1, 2], ["a", "b"]][:len(names)]
+        index = (pandas.MultiIndex.from_arrays(levels, names=names) if len(names) > 1
+                 else pandas.Index(levels[0], name=names[0]))
+        return geopandas.GeoDataFrame({**columns, "geometry": points.to_numpy()}, index=index)
+
+    cases = (
+        (frame(["one"]), frame(["two"]), ["two"], ["one"], ["one"], ["two"]),
+        (frame(["key"]), frame(["key"]), ["key_right"], ["key_left"], ["key_left"], ["key_right"]),
+        (frame([None]), frame(["two", None]), ["two", "index_right1"], ["index_left"], [None],
+         ["two", None]),
+        (frame([None], key=7), frame(["key"]), ["key_left", "key_right"],
+         ["index_left", "key_left"], [None], ["key_right"]),
+    )
+    for left, right, inner, from_right, left_names, right_names in cases:
+        ours = rjoin.sjoin(left, right, how=how)
+        names = [name for name in ours.columns if name != "geometry"]
+        assert names == (from_right if how == "right" else inner)
+        assert list(ours.index.names) == (right_names if how == "right" else left_names)
+        assert len(ours) == 2 and ours.geometry.name == "geometry"
+    with pytest.raises(ValueError, match="'index_right'.* cannot be a column name"):
+        rjoin.sjoin(frame([None], index_right=1), frame([None]), how=how)
+    assert "index_right" in rjoin.sjoin(frame([None], index_right=1), frame(["two"])).columns
+
+
+def test_rows_are_joined_where_columns_are_equal_too(town: Any) -> None:
+    numbers = np.arange(len(town["parcels"]))
+    left = town["parcels"].assign(block=numbers % 3, side=np.array(list("abba"))[numbers % 4])
+    right = town["zones"].assign(block=1, side="a")
+    both = rjoin.sjoin(left, right, on_attribute=["block", "side"])
+    plain = rjoin.sjoin(left, right)
+    kept = plain[(plain["block_left"] == plain["block_right"])
+                 & (plain["side_left"] == plain["side_right"])]
+    assert both.index.tolist() == kept.index.tolist()
+    assert "block_right" not in both.columns and "block" in both.columns
+    missing = left.assign(block=np.nan), right.assign(block=np.nan)
+    assert rjoin.sjoin(*missing, on_attribute="block").empty
+    alone = rjoin.sjoin(*missing, how="right", on_attribute="block")
+    assert alone.index.tolist() == right.index.tolist() and alone["index_left"].isna().all()
+    for wrong, told in (("other", "both of"), ("note", "the right"), ("geometry", "geometry")):
+        with pytest.raises(ValueError, match=told):
+            rjoin.sjoin(left.assign(note=1), right, on_attribute=wrong)
+
+
+def test_empty_and_missing_geometries_are_kept_without_a_partner(town: Any) -> None:
+    lacking = geopandas.GeoDataFrame(
+        {"id": ["none", "empty"]}, index=[100, 101], crs=town["roads"].crs,
+        geometry=[None, shapely_geometry.Point()])
+    left, right = (pandas.concat([town[name], lacking]) for name in ("parcels", "roads"))
+    for how in HOW:
+        with warnings.catch_warnings():
+            warnings.simplefilter("error", rjoin.LeftOutWarning)
+            ours = rjoin.sjoin(left, right, how=how, missing="keep", incomplete="mark"
+                               if how != "inner" else "error")
+        theirs = geopandas.sjoin(left, right, how=how)
+        if how != "inner":
+            assert ours.pop("known").all()
+        same(ours, theirs)
+    assert (rjoin.sjoin(lacking, right, how="left", missing="keep")["index_right"].isna()).all()
+    with pytest.raises(rjoin.ArgumentError, match="missing must be 'error' or 'skip'"):
+        rjoin.pairs(left, right, missing="keep")
+
+
+def test_the_old_name_of_the_predicate_is_taken_with_a_warning(town: Any) -> None:
+    left, right = town["roads"], town["parcels"]
+    with pytest.warns(FutureWarning, match="`op` parameter is deprecated") as caught:
+        ours = rjoin.sjoin(left, right, op="crosses")
+    assert caught[0].filename == __file__
+    testing.assert_geodataframe_equal(ours, rjoin.sjoin(left, right, "crosses"))
+    with pytest.warns(UserWarning, match="'touches'.*`predicate` will be overridden"):
+        ours = rjoin.sjoin(left, right, "touches", op="crosses")
+    testing.assert_geodataframe_equal(ours, rjoin.sjoin(left, right, "crosses"))
 
 
 def test_names_that_cannot_stand_beside_each_other_are_refused(town: Any) -> None:
@@ -148,7 +243,7 @@ def test_wrong_arguments_are_refused_before_anything_is_read(town: Any) -> None:
     left, right = town["parcels"], town["roads"]
     wrong: Tuple[Tuple[str, Any], ...] = (
         ("scale", 7), ("scale", -1), ("scale", 1.5), ("scale", "2"), ("workers", 0),
-        ("workers", 17), ("workers", True), ("how", "right"), ("other", "box"),
+        ("workers", 17), ("workers", True), ("how", "outer"), ("other", "box"),
         ("missing", "envelope"))
     for name, value in wrong:
         with pytest.raises(rjoin.ArgumentError, match=name):

@@ -74,8 +74,16 @@ class Tools:
         return self.folder / "report.csv"
 
     def command(self, left: Path, right: Path, relation: str, *more: str) -> list[str]:
-        words = ["join", left, right, "--relation", relation, "--out", self.report(), *more]
-        return [*map(str, words), "--program", self.program, "--scheduler", self.scheduler]
+        return self.words(["join", left, right, "--relation", relation, *more])
+
+    def words(self, words: Sequence[Any]) -> list[str]:
+        """The words of a command, with the report, the program and the scheduler, which later words
+        may replace; without a scheduler, the workers are threads of the command.
+        """
+        place = ["--scheduler", self.scheduler] if self.scheduler else ["--workers", "2"]
+        files = ["--out", self.report(), "--program", self.program]
+        command, *more = words
+        return [*map(str, (command, *files, *place, *more))]
 
     def local_command(self, left: Path, right: Path, relation: str, *more: str) -> list[str]:
         """The same, without a scheduler, in a process of its own."""
@@ -87,18 +95,32 @@ class Tools:
         self, left: Path, right: Path, relation: str, scale: str = "0", *more: str
     ) -> None:
         """The report of the cluster has the bytes of that of one run."""
+        words = ["join", left, right, "--relation", relation, "--scale", scale]
+        self.check_command(words, *more)
+
+    def check_command(self, words: Sequence[Any], *more: str) -> bytes:
+        """The report of a command of the cluster has the bytes of that of one run of these words,
+        and nothing else is left.
+        """
         from rjoin_cluster.command import main
 
-        one = self.one_run(left, right, relation, "--scale", scale)
+        one = ended([self.program, *words])
         assert one.status == 0, one.errors
-        assert main(self.command(left, right, relation, "--scale", scale, *more)) == 0
+        assert main(self.words([*words, *more])) == 0
         assert self.report().read_bytes() == one.output
         assert [path.name for path in self.folder.glob("*rjoin-cluster*")] == []
+        return one.output
 
 
 @pytest.fixture
 def tools(program: str, scheduler: str, tmp_path: Path) -> Tools:
     return Tools(program, scheduler, tmp_path)
+
+
+@pytest.fixture
+def tools_here(program: str, tmp_path: Path) -> Tools:
+    """The workers are threads of the test, so that what it patches is patched for them too."""
+    return Tools(program, "", tmp_path)
 
 
 @contextmanager

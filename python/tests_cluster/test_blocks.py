@@ -4,15 +4,17 @@ from __future__ import annotations
 from dataclasses import dataclass
 from pathlib import Path
 from types import SimpleNamespace
-from typing import Any, Sequence
+from typing import Any, Optional, Sequence
 
 import pytest
 from conftest import write_layer
 
-from rjoin_cluster import blocks, steps
-from rjoin_cluster.answers import read_answer
+from rjoin_cluster import blocks, parts, steps
+from rjoin_cluster.answers import Features, read_answer
+from rjoin_cluster.conditions import Reach
 from rjoin_cluster.inputs import find_inputs
 from rjoin_cluster.program import Program, RowFault
+from rjoin_cluster.reading import Reading
 from rjoin_cluster.records import scan
 from rjoin_cluster.sides import Side
 
@@ -23,16 +25,24 @@ GOOD = [(f"n{number}", f"POINT ({number} 1)") for number in range(50)]
 
 @pytest.fixture
 def small_parts(monkeypatch: pytest.MonkeyPatch) -> None:
-    monkeypatch.setattr(blocks, "MOST_PART", MOST)
+    monkeypatch.setattr(parts, "MOST_PART", MOST)
     monkeypatch.setattr(steps, "MOST_BEHIND", MOST + 1)
 
 
 def jobs_of(program: str, layer: Path, block: int) -> Sequence[Any]:
     """The blocks of a layer that is the left one and the right one."""
-    request: Any = SimpleNamespace(program=Program(program, "0"), block_bytes=block)
+    request: Any = SimpleNamespace(
+        program=Program(program, Reading()), block_bytes=block, has_texts=False, skip=None
+    )
     engine: Any = SimpleNamespace(all=lambda name, task, jobs: [task(job) for job in jobs])
     layout: Any = None
-    return steps.Steps(request, find_inputs(str(layer), str(layer)), layout, engine).cut()
+    inputs = find_inputs(str(layer), str(layer))
+    return steps.Steps(request, Reach(0, "matrix", 9), inputs, layout, engine).cut()
+
+
+def features_of(program: Program, block: blocks.Extent) -> tuple[Features, Optional[RowFault]]:
+    read = parts.features_of(program, block.number, block.read(), skips=False)
+    return read.features, read.fault
 
 
 def test_a_quote_that_is_never_closed(program: str, tmp_path: Path, small_parts: None) -> None:
@@ -41,9 +51,9 @@ def test_a_quote_that_is_never_closed(program: str, tmp_path: Path, small_parts:
     jobs = jobs_of(program, write_layer(tmp_path / "open.csv", rows), 40)
     assert max(job.block.end - job.block.begin for job in jobs) == MOST + 1 + 40
     last = jobs[len(jobs) // 2 - 1]
-    before = [blocks.features_of(job.program, job.block) for job in jobs[: last.block.number]]
+    before = [features_of(job.program, job.block) for job in jobs[: last.block.number]]
     assert [fault for _, fault in before if fault is not None] == []
-    features, fault = blocks.features_of(last.program, last.block)
+    features, fault = features_of(last.program, last.block)
     row = 10 - sum(len(read.boxes) for read, _ in before)
     assert fault == RowFault(row, f"longer than {MOST} bytes", "rjoin-cluster")
     assert len(features.boxes) == row - 1
@@ -55,7 +65,7 @@ def test_a_header_that_is_a_part_of_its_own(
     """A first record that just fits in a run doesn't fit together with the header."""
     rows = [("a" * (MOST - 14), "POINT (1 1)"), *GOOD[:2]]
     job = jobs_of(program, write_layer(tmp_path / "long.csv", rows), 4000)[0]
-    features, fault = blocks.features_of(job.program, job.block)
+    features, fault = features_of(job.program, job.block)
     assert (features.boxes[:, 0].tolist(), fault) == ([1, 0, 1], None)
 
 
@@ -66,7 +76,7 @@ class SmallProgram(Program):
     def bounds(self, layer: Sequence[Any]) -> Any:
         answer = super().bounds(layer)
         rows = 0 if isinstance(answer, RowFault) else len(read_answer(answer).boxes)
-        return answer if rows <= FEW else RowFault(FEW + 1, blocks.FULL)
+        return answer if rows <= FEW else RowFault(FEW + 1, parts.FULL)
 
 
 @pytest.mark.parametrize("longest", [1, 60])
@@ -74,11 +84,11 @@ def test_a_block_of_more_features_than_a_run_takes(
     program: str, tmp_path: Path, longest: int, monkeypatch: pytest.MonkeyPatch
 ) -> None:
     """Whether or not its beginning lets expect it."""
-    monkeypatch.setattr(blocks, "MOST_FEATURES", FEW)
-    monkeypatch.setattr(blocks, "WINDOW", 100)
+    monkeypatch.setattr(parts, "MOST_FEATURES", FEW)
+    monkeypatch.setattr(parts, "WINDOW", 100)
     rows = [("b" * longest, "POINT (1 1)"), *GOOD, ("last", "POINT (1"), *GOOD]
     job = jobs_of(program, write_layer(tmp_path / "many.csv", rows), 4000)[0]
-    features, fault = blocks.features_of(SmallProgram(program, "0"), job.block)
+    features, fault = features_of(SmallProgram(program, Reading()), job.block)
     assert features.boxes[:, 0].tolist() == [1, *range(50)]
     assert fault is not None and fault.row == 52
 

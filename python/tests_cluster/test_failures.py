@@ -40,13 +40,20 @@ def started(tools: Tools, address: str, left: Path, right: Path, *more: str) -> 
     return subprocess.Popen(command, stderr=subprocess.PIPE, text=True)
 
 
-@pytest.mark.parametrize("step", ["boxes-*.rows", "pairs-*.rows"])
+@pytest.mark.parametrize(
+    "step, more",
+    [
+        ("boxes-*.rows", []),
+        ("pairs-*.rows", []),
+        ("texts-*.bytes", ["--geometry", "any"]),
+    ],
+)
 def test_a_worker_that_is_killed_changes_nothing(
-    tools: Tools, pair: tuple[Path, Path], step: str
+    tools: Tools, pair: tuple[Path, Path], step: str, more: list[str]
 ) -> None:
     with own_cluster(n_workers=2) as client:
         numbers = client.run(os.getpid)
-        process = started(tools, client.scheduler.address, *pair)
+        process = started(tools, client.scheduler.address, *pair, *more)
         wait_for(tools, step, process)
         os.kill(next(iter(numbers.values())), signal.SIGKILL)
         assert process.wait(WAIT) == 0, process.stderr.read()

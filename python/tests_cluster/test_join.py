@@ -100,7 +100,7 @@ def test_features_that_no_tile_separates(
     tools: Tools, monkeypatch: pytest.MonkeyPatch, capsys: pytest.CaptureFixture[str]
 ) -> None:
     """All features cover all, and are more than a run takes: each part is joined with each."""
-    from rjoin_cluster.runs import Numerals
+    from rjoin_cluster.box_layers import Numerals
 
     monkeypatch.setattr(Numerals, "most_features", property(lambda _: 40))
     rows = [(f"a{number}", quoted(layers.rectangle(0, 0, 9, 9))) for number in range(100)]

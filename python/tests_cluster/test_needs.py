@@ -12,10 +12,11 @@ from conftest import Tools
 from rjoin_cluster.cluster import TOKEN, Needs, lack_of
 from rjoin_cluster.layout import Layout, save_bytes
 from rjoin_cluster.program import Program
+from rjoin_cluster.reading import Reading
 
 
 def test_what_a_worker_lacks(tools: Tools) -> None:
-    layout, program = Layout(str(tools.folder)), Program(tools.program, "0")
+    layout, program = Layout(str(tools.folder)), Program(tools.program, Reading())
     needs = Needs(layout, program, program.version(), ((__file__, os.stat(__file__).st_size),))
     assert "No such file" in lack_of(needs)
     layout.token().write_bytes(b"of others")
@@ -25,7 +26,7 @@ def test_what_a_worker_lacks(tools: Tools) -> None:
     assert list(tools.folder.glob("check-*")) == []
     assert lack_of(replace(needs, version="rjoin 0")).endswith("and not rjoin 0")
     assert lack_of(replace(needs, files=((__file__, 1),))) == f"{__file__} is another file"
-    assert "No such file" in lack_of(replace(needs, program=Program("/nowhere/rjoin", "0")))
+    assert "No such file" in lack_of(replace(needs, program=Program("/nowhere/rjoin", Reading())))
 
 
 @pytest.mark.skipif(os.geteuid() != 0, reason="one has to be root to be another user")
@@ -34,7 +35,7 @@ def test_a_worker_of_another_user(tools: Tools, mode: int, path: str) -> None:
     """It can't read what is in the folder, or else it can't write into it."""
     for folder in [tools.folder, *tools.folder.parents]:
         folder.chmod(folder.stat().st_mode | 0o055)
-    layout, program = Layout(str(tools.folder / "shared")), Program(tools.program, "0")
+    layout, program = Layout(str(tools.folder / "shared")), Program(tools.program, Reading())
     Path(layout.folder).mkdir(mode)
     save_bytes(layout.token(), [TOKEN])
     layout.token().chmod(0o644)

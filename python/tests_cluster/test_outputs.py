@@ -46,7 +46,7 @@ def test_what_cannot_be_completed_leaves_nothing(tmp_path: Path) -> None:
 
 
 def test_each_256th_rank_of_pairs_that_come_in_parts(tmp_path: Path) -> None:
-    kind = pair_type(3)
+    kind = pair_type(9, 3, False)
     lengths = (0, 1, KEY_STEP - 1, 1, 0, KEY_STEP, 3 * KEY_STEP + 5, 7)
     pairs = np.zeros(sum(lengths), dtype=kind)
     pairs["rank"] = 3 * np.arange(pairs.size)

@@ -1,4 +1,5 @@
 pub mod DecisionLemmas
+pub mod HeldLemmas
 pub mod JoinLemmas
 pub mod PreparedLemmas
 pub mod RefinedLayers

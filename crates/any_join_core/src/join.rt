@@ -10,11 +10,12 @@ ghost use Rattle.any_join_core.specs.Matches.{AreRelated, HasMatrix};
 
 use crate::features::RelatedFeatures;
 use crate::outcome::AnyOutcome;
-use crate::prepared::{PreparedLayer, Side};
+use crate::prepared::PreparedLayer;
 use any_geometry_core::AnyGeometry;
 use any_relation_core::AnyRelation;
 use filter_core::meeting_layers;
 use layer_core::Layer;
+use often_core::Side;
 use options_core::Options;
 use parallel_core::JoinFault;
 use refine_core::refine_pairs;

@@ -12,5 +12,6 @@ pub use any_geometry_core::AnyGeometry;
 pub use features::RelatedFeatures;
 pub use join::join_any;
 pub use matching::{PreparedPair, matrix_of, related};
+pub use often_core::Side;
 pub use outcome::AnyOutcome;
-pub use prepared::{PreparedLayer, Side};
+pub use prepared::PreparedLayer;

@@ -11,7 +11,8 @@ ghost use Rattle.any_join_core.specs.PreparedPairs.{AreOf};
 use agreement_core::relate_boxes;
 use any_geometry_core::AnyGeometry;
 use any_relation_core::{AnyRelation, Rings};
-use arrangement_core::{PreparedGeometry, relate, relate_prepared};
+use arrangement_core::{PreparedGeometry, relate, relate_prepared, relate_within};
+use layer_core::Geometry as HasBounds;
 use plane_core::Geometry;
 use relation_core::Matrix;
 use std::alloc::{AllocError, Global};
@@ -75,14 +76,45 @@ fn fitting(
     ensures matrix { IfOk result (λ found. IfSome found
         (IsPlaneMatrix (figure_of first.now) (figure_of second.now))) }
 {
+    let matrix = pair_matrix(alloc, first, second, prepared)?;
     let (first, second) = (first.geometry(), second.geometry());
-    let matrix = matrix_of(alloc, first, second, prepared)?;
     let relation = relation.relation();
     if relation.fits(&matrix, first.dim(), second.dim()) {
         Ok(Some(matrix))
     } else {
         Ok(None)
     }
+}
+
+/// The matrix of two geometries of layers.
+fn pair_matrix(
+    alloc: Global,
+    first: &AnyGeometry,
+    second: &AnyGeometry,
+    prepared: PreparedPair,
+) -> Result<Matrix, AllocError>
+    requires { AreOf (figure_of first.now) (figure_of second.now) prepared }
+    ensures { IfOk result (IsPlaneMatrix (figure_of first.now) (figure_of second.now)) }
+{
+    match (prepared.first, prepared.second) {
+        (None, None) => plain_matrix(alloc, first, second),
+        _ => matrix_of(alloc, first.geometry(), second.geometry(), prepared),
+    }
+}
+
+/// The matrix of two geometries of layers, neither of which is prepared. Their envelopes are known.
+fn plain_matrix(
+    alloc: Global,
+    first: &AnyGeometry,
+    second: &AnyGeometry,
+) -> Result<Matrix, AllocError>
+    ensures { IfOk result (IsPlaneMatrix (figure_of first.now) (figure_of second.now)) }
+{
+    let (a, b) = (first.geometry(), second.geometry());
+    if let Some(matrix) = relate_boxes(a, b) {
+        return Ok(matrix);
+    }
+    relate_within(alloc, a, first.bounds(), b, second.bounds())
 }
 
 /// The matrix of two geometries. Two boxes, such as points and rectangles, take no memory; of

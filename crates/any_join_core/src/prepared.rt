@@ -6,32 +6,13 @@ ghost use Rattle.any_join_core.specs.Prepared.{ArePrepared};
 use any_geometry_core::AnyGeometry;
 use arrangement_core::PreparedGeometry;
 use layer_core::Layer;
+use often_core::{Side, met_often};
 use std::alloc::{AllocError, Global};
 use std::marker::Model;
 
 /// The fewest vertices of a geometry that is prepared. The index of a smaller one saves less time
 /// than it takes.
-const LARGE: usize = 64;
-
-/// The fewest pairs of a feature that is prepared.
-const OFTEN: u8 = 2;
-
-/// A side of the pairs of a join.
-#[derive(Clone, Copy, Debug, PartialEq, Eq)]
-pub enum Side {
-    Left,
-    Right,
-}
-
-impl Side {
-    /// The number of the pair's feature on this side.
-    fn number_in(self, pair: (u32, u32)) -> u32 {
-        match self {
-            Side::Left => pair.0,
-            Side::Right => pair.1,
-        }
-    }
-}
+const LARGE: usize = 32;
 
 /// A feature whose geometry is prepared.
 #[derive(Drop)]
@@ -83,8 +64,8 @@ impl<'a> PreparedLayer<'a> {
         ensures { IfOk result (λ p. p ≡ layer.now.list) }
     {
         let large = large_features(alloc, layer)?;
-        let counts = pair_counts(alloc, &large, pairs, side)?;
-        let features = prepared_features(alloc, layer, &large, &counts)?;
+        let often = met_often(alloc, &large, pairs, side)?;
+        let features = prepared_features(alloc, layer, &often)?;
         let places = places_of(alloc, &features)?;
         Ok(PreparedLayer {
             layer,
@@ -125,52 +106,19 @@ fn large_features(alloc: Global, layer: &Layer<AnyGeometry>) -> Result<Vec<u32>,
     Ok(large)
 }
 
-/// For each number up to the last large feature's the number of pairs that it occurs in, or
-/// [`OFTEN`] if these are more.
-fn pair_counts(
-    alloc: Global,
-    large: &[u32],
-    pairs: &[(u32, u32)],
-    side: Side,
-) -> Result<Vec<u8>, AllocError> {
-    let Some(last) = large.last() else {
-        return Ok(Vec::new(alloc));
-    };
-    let mut counts = Vec::from_elem(alloc, 0, *last as usize + 1)?;
-    for pair in pairs {
-        if let Some(count) = counts.get_mut(side.number_in(*pair) as usize) {
-            if *count < OFTEN {
-                *count += 1;
-            }
-        }
-    }
-    Ok(counts)
-}
-
-/// The large features that occur in several pairs, each prepared.
+/// The features with these numbers, each prepared.
 fn prepared_features<'a>(
     alloc: Global,
     layer: &'a Layer<AnyGeometry>,
-    large: &[u32],
-    counts: &[u8],
+    numbers: &[u32],
 ) -> Result<Vec<PreparedFeature<'a>>, AllocError>
     ensures { IfOk result (λ features. ArePrepared layer.now.list features.items) }
 {
     let mut features = Vec::new(alloc);
-    for number in large {
-        if is_met_often(counts, *number) {
-            push_prepared(alloc, &mut features, layer, *number)?;
-        }
+    for number in numbers {
+        push_prepared(alloc, &mut features, layer, *number)?;
     }
     Ok(features)
-}
-
-/// Whether a feature occurs in several pairs.
-fn is_met_often(counts: &[u8], number: u32) -> bool {
-    match counts.get(number as usize) {
-        Some(count) => *count >= OFTEN,
-        None => false,
-    }
 }
 
 /// Prepares the feature with this number, if the layer has one.

@@ -1,5 +1,8 @@
 -- The matches of a join of any geometry, as a report takes them.
-use Rattle.std.proofs.Common.{List, All}
+use Rattle.std.proofs.Common.{◌≡◌, List, All, Result, Ok, Err, IfOk, OnOk, subst, sym}
+use Rattle.join_core.specs.declared.fault.RunFault.{RunFault}
+use Rattle.join_core.specs.declared.joins.loaded.SkippedRows.{SkippedRows}
+use Rattle.join_core.specs.declared.joins.output.JoinText.{JoinText}
 use Rattle.relation_core.specs.declared.matrix.Matrix.{Matrix}
 use Rattle.layer_core.specs.Layers.{Contents}
 use Rattle.refine_core.specs.declared.refined.Refined.{Refined}
@@ -18,3 +21,14 @@ are_matches left right matches all = λ k d within.
       second_held = has.second_held;
       related = has.holds;
     }
+
+-- what holds of the rows that were skipped holds of those that stand beside the text
+pub rows_handed : (P : SkippedRows → Type 0) (rows : SkippedRows) (out : Result JoinText RunFault) → P rows → IfOk out (λ made. made.skipped ≡ rows)
+    → IfOk out (λ made. P made.skipped)
+rows_handed P rows (Ok made) given is = subst P (sym is) given
+rows_handed P rows (Err f) given is = tt
+
+-- what holds, holds on success
+pub holds_on_ok : (out : Result JoinText RunFault) (P : Type 0) → P → OnOk out P
+holds_on_ok (Ok made) P h = h
+holds_on_ok (Err f) P h = tt

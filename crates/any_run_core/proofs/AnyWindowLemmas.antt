@@ -6,7 +6,7 @@ use Rattle.format_core.specs.Formats.{Reading}
 use Rattle.join_core.specs.declared.fault.Input.{Input}
 use Rattle.join_core.specs.declared.fault.Input.TheVariants.{First, Second, Left, Right, Edits, Layer, Window}
 use Rattle.join_core.specs.declared.fault.RunFault.{RunFault}
-use Rattle.join_core.specs.declared.fault.RunFault.TheVariants.{NoFile, Read, Wkt, Geometry, Edit, Join, TooManyToDraw, Write, Memory, NoKeys}
+use Rattle.join_core.specs.declared.fault.RunFault.TheVariants.{NoFile, Read, Wkt, Geometry, Edit, Join, TooManyToDraw, Write, NotStored, Memory, NoKeys}
 use Rattle.join_core.specs.Jobs.{OnlyAt}
 use Rattle.join_core.specs.LayerRuns.{LayerGives, IsLayerRunFault}
 use Rattle.join_core.specs.Runs.{NoTextFault, RunEnds}
@@ -30,6 +30,7 @@ of_layer reads wkt file w spelled (Edit n e) is = ((w, spelled), is)
 of_layer reads wkt file w spelled (Join j) is = ((w, spelled), is)
 of_layer reads wkt file w spelled TooManyToDraw is = ((w, spelled), is)
 of_layer reads wkt file w spelled Write is = ((w, spelled), is)
+of_layer reads wkt file w spelled NotStored is = ((w, spelled), is)
 of_layer reads wkt file w spelled Memory is = tt
 of_layer reads wkt file w spelled NoKeys is = ((w, spelled), is)
 

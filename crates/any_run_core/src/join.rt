@@ -1,14 +1,16 @@
 //! Joins of two files of layers of any geometry after a file of edits.
 
-ghost use Rattle.std.specs.Prelude.{◌≡◌, ◌<◌, Ok, Err, false, IfOk, IfErr, IsErrOf};
+ghost use Rattle.std.specs.Prelude.{◌≡◌, ◌<◌, Ok, Err, false, IfOk, IfErr, IsErrOf, OnOk};
 ghost use Rattle.any_geometry_core.specs.declared.geometry.AnyGeometry.{AnyGeometry};
 ghost use Rattle.any_relation_core.specs.AnyRelations.{rings_of};
 ghost use Rattle.format_core.specs.Formats.{ReadsAny};
 ghost use Rattle.layer_core.specs.Edits.{both};
 ghost use Rattle.draw_core.specs.Limits.{most_drawn};
 ghost use Rattle.join_core.specs.DrawRuns.{features_of};
+ghost use Rattle.join_core.specs.ImproperRings.{AreRingsImproper};
 ghost use Rattle.join_core.specs.Inputs.{BlamesInput};
-ghost use Rattle.join_core.specs.JoinRuns.{files_of};
+ghost use Rattle.join_core.specs.JoinRuns.{AreRowsSkipped, files_by, files_of, skipped_lists};
+ghost use Rattle.join_core.specs.Marks.{AreRowsMarked, marked_lists};
 ghost use Rattle.join_core.specs.Products.{ProductGives, IsProduct, IsProductFault};
 ghost use Rattle.join_core.specs.Products.{IsLateProductFault};
 ghost use Rattle.join_core.specs.Runs.{NoTextFault, RunEnds};
@@ -19,12 +21,14 @@ ghost use Rattle.any_run_core.specs.AnyJoinings.{any_joining};
 use any_geometry_core::AnyGeometry;
 use any_join_core::join_any;
 use any_relation_core::AnyRelation;
-use file_core::{LayerReader, Source};
+use file_core::{LayerReader, Unreadable};
 use format_core::AnyFormat;
 use join_core::{
-    JoinJob, JoinSources, Output, RunFault, Sink, Text, can_be_made, edited_layers, free_layers,
+    ImproperRings, JoinJob, JoinSources, JoinText, LoadedLayers, MarkedRows, Output, RunFault,
+    Sink, Text, can_be_made, free_layers, load_marked, with_skipped,
 };
 use layer_core::Layer;
+use row_core::Source;
 use std::hash::RandomState;
 use std::sync::Wait;
 use std::thread::Threads;
@@ -65,93 +69,105 @@ where
         (HasFailed A.has_failed B.has_failed E.has_failed sources.new)
         S.written S.is_flushed S.has_failed sink.old sink.new result }
 {
-    let run = AnyJoinRun { rt, job };
-    let text = run.text(states, sources)?;
-    text.write(sink)?;
+    let mut improper = MarkedRows::none(rt.alloc());
+    let made = any_join_text(rt, job, Unreadable::Refuse, states, sources, &mut improper)?;
+    made.text.write(sink)?;
     Ok(())
 }
 
-/// A job and the runtime that runs it.
-#[derive(Drop)]
-struct AnyJoinRun<'a, R> {
-    rt: &'a R,
-    job: &'a JoinJob<AnyCondition>,
+/// The product of a join of two layers of any geometry as text, and the rows that were skipped,
+/// where `unreadable` is [`Unreadable::Skip`]. `improper` becomes the rows of the files whose
+/// geometries have improper rings. All else is as [`JoinJob::run`] says of boxes.
+pub fn any_join_text<R, A, B, E>(
+    rt: &R,
+    job: &JoinJob<AnyCondition>,
+    unreadable: Unreadable,
+    states: (RandomState, RandomState),
+    sources: &mut JoinSources<A, B, E>,
+    improper: &mut MarkedRows,
+) -> Result<JoinText, RunFault>
+where
+    R: AllocGlobal + Threads + Wait + Sync,
+    A: Source,
+    B: Source,
+    E: Source,
+    requires { AreFresh A.has_failed B.has_failed E.has_failed sources.old }
+    ensures ok { let condition = job.now.condition in
+        let joining = any_joining condition.relation in
+        let reads = ReadsAny condition.scale (rings_of condition.relation) in
+        let files = files_by unreadable reads A.remaining B.remaining E.remaining sources.old in
+        let gives = ProductGives job.now.product joining files in
+        IfOk result (λ made. gives (Ok (bytes_of_text made.text))) }
+    ensures skipped { let condition = job.now.condition in
+        let reads = ReadsAny condition.scale (rings_of condition.relation) in
+        let files = files_by unreadable reads A.remaining B.remaining E.remaining sources.old in
+        IfOk result (λ made. AreRowsSkipped files (skipped_lists made.skipped)) }
+    ensures improper { let condition = job.now.condition in
+        let rings = rings_of condition.relation in
+        let reads = ReadsAny condition.scale rings in
+        let files = files_by unreadable reads A.remaining B.remaining E.remaining sources.old in
+        OnOk result (AreRowsMarked (AreRingsImproper rings) files (marked_lists improper.new)) }
+    ensures fault { let condition = job.now.condition in
+        let joining = any_joining condition.relation in
+        let reads = ReadsAny condition.scale (rings_of condition.relation) in
+        let files = files_by unreadable reads A.remaining B.remaining E.remaining sources.old in
+        let gives = ProductGives job.now.product joining files in
+        IfErr result (λ f. BlamesInput f → gives (Err f)) }
+    ensures faults { let condition = job.now.condition in
+        let reads = ReadsAny condition.scale (rings_of condition.relation) in
+        let files = files_by unreadable reads A.remaining B.remaining E.remaining sources.old in
+        IfErr result (IsProductFault job.now.product files) }
+    ensures io { TellsFailures A.has_failed B.has_failed E.has_failed sources.new result }
+{
+    let workers = job.options.workers();
+    let rings = job.condition.relation.rings();
+    let reader = LayerReader {
+        rt,
+        alloc: rt.alloc(),
+        format: AnyFormat {
+            scale: job.condition.scale,
+            rings,
+        },
+        threads: workers,
+    };
+    let marks = ImproperRings { rings };
+    let loaded = load_marked(&reader, &marks, unreadable, states, sources, improper)?;
+    let LoadedLayers {
+        layers: (left, right),
+        skipped,
+    } = loaded;
+    let text = product(rt, job, &left, &right);
+    free_layers(rt, left, right, workers);
+    with_skipped(text, skipped)
 }
 
-impl<R: AllocGlobal + Threads + Wait + Sync> AnyJoinRun<'_, R> {
-    /// The text of the product, or the first fault.
-    fn text<A: Source, B: Source, E: Source>(
-        &self,
-        states: (RandomState, RandomState),
-        sources: &mut JoinSources<A, B, E>,
-    ) -> Result<Text, RunFault>
-        requires { AreFresh A.has_failed B.has_failed E.has_failed sources.old }
-        ensures ok { let job = self.now.job.now in
-            let joining = any_joining job.condition.relation in
-            let reads = ReadsAny job.condition.scale (rings_of job.condition.relation) in
-            let files = files_of reads A.remaining B.remaining E.remaining sources.old in
-            let gives = ProductGives job.product joining files in
-            IfOk result (λ text. gives (Ok (bytes_of_text text))) }
-        ensures fault { let job = self.now.job.now in
-            let joining = any_joining job.condition.relation in
-            let reads = ReadsAny job.condition.scale (rings_of job.condition.relation) in
-            let files = files_of reads A.remaining B.remaining E.remaining sources.old in
-            let gives = ProductGives job.product joining files in
-            IfErr result (λ f. BlamesInput f → gives (Err f)) }
-        ensures faults { let job = self.now.job.now in
-            let reads = ReadsAny job.condition.scale (rings_of job.condition.relation) in
-            let files = files_of reads A.remaining B.remaining E.remaining sources.old in
-            IfErr result (IsProductFault job.product files) }
-        ensures io { TellsFailures A.has_failed B.has_failed E.has_failed sources.new result }
-    {
-        let JoinJob {
-            condition,
-            options,
-            ..
-        } = self.job;
-        let reader = LayerReader {
-            rt: self.rt,
-            alloc: self.rt.alloc(),
-            format: AnyFormat {
-                scale: condition.scale,
-                rings: condition.relation.rings(),
-            },
-            threads: options.workers(),
-        };
-        let (left, right) = edited_layers(&reader, states, sources)?;
-        let text = self.product(&left, &right);
-        free_layers(self.rt, left, right, options.workers());
-        text
+/// The product of two layers.
+fn product<R: AllocGlobal + Threads + Wait + Sync>(
+    rt: &R,
+    job: &JoinJob<AnyCondition>,
+    left: &Layer<AnyGeometry>,
+    right: &Layer<AnyGeometry>,
+) -> Result<Text, RunFault>
+    ensures ok { let joining = any_joining job.now.condition.relation in
+        let layers = both left.now.list right.now.list in
+        IfOk result (λ text. IsProduct job.now.product joining layers (bytes_of_text text)) }
+    ensures many { let layers = both left.now.list right.now.list in
+        IsErrOf result RunFault.TooManyToDraw → most_drawn < features_of layers }
+    ensures err { IfErr result (IsLateProductFault job.now.product) }
+{
+    let JoinJob {
+        condition,
+        options,
+        product,
+    } = job;
+    if !can_be_made(*product, left, right) {
+        return Err(RunFault::TooManyToDraw);
     }
-
-    /// The product of two layers.
-    fn product(
-        &self,
-        left: &Layer<AnyGeometry>,
-        right: &Layer<AnyGeometry>,
-    ) -> Result<Text, RunFault>
-        ensures ok { let job = self.now.job.now in
-            let joining = any_joining job.condition.relation in
-            let layers = both left.now.list right.now.list in
-            IfOk result (λ text. IsProduct job.product joining layers (bytes_of_text text)) }
-        ensures many { let layers = both left.now.list right.now.list in
-            IsErrOf result RunFault.TooManyToDraw → most_drawn < features_of layers }
-        ensures err { IfErr result (IsLateProductFault self.now.job.now.product) }
-    {
-        let JoinJob {
-            condition,
-            options,
-            product,
-        } = self.job;
-        if !can_be_made(*product, left, right) {
-            return Err(RunFault::TooManyToDraw);
-        }
-        let outcome = join_any(self.rt, left, right, &condition.relation, options)?;
-        let output = Output {
-            rt: self.rt,
-            product: *product,
-            workers: options.workers(),
-        };
-        output.text(left, right, outcome.matches.as_slice())
-    }
+    let outcome = join_any(rt, left, right, &condition.relation, options)?;
+    let output = Output {
+        rt,
+        product: *product,
+        workers: options.workers(),
+    };
+    output.text(left, right, outcome.matches.as_slice())
 }

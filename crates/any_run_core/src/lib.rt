@@ -6,6 +6,6 @@ mod join;
 mod stats;
 mod window;
 
-pub use join::{AnyCondition, run_any_join};
+pub use join::{AnyCondition, any_join_text, run_any_join};
 pub use stats::run_any_stats;
 pub use window::run_any_window;

@@ -3,18 +3,21 @@
 ghost use Rattle.std.specs.Prelude.{◌≡◌, ◌++◌, false, IfOk, IsTrue, OnOk};
 ghost use Rattle.format_core.specs.Formats.{ReadsAny};
 ghost use Rattle.join_core.specs.declared.fault.Input.{Input};
+ghost use Rattle.join_core.specs.ImproperRings.{AreRingsImproper};
 ghost use Rattle.join_core.specs.Jobs.{OnlyAt};
 ghost use Rattle.join_core.specs.LayerRuns.{LayerGives, IsLayerRunFault};
+ghost use Rattle.join_core.specs.Marks.{MarksLayer};
 ghost use Rattle.join_core.specs.Runs.{NoTextFault, RunEnds};
 ghost use Rattle.join_core.specs.StatsTexts.{count_line};
 ghost use Rattle.any_run_core.specs.AnyStats.{AreAnyCounts, any_stats_text, vertices_in};
 
 use any_geometry_core::AnyGeometry;
-use file_core::{LayerReader, Source};
+use file_core::LayerReader;
 use format_core::AnyFormat;
 use itoa::Buffer;
-use join_core::{DEFAULT_WORKERS, LayerText, RunFault, Sink, Text, run_on_layer};
+use join_core::{DEFAULT_WORKERS, ImproperRings, LayerText, RunFault, Sink, Text, run_marking};
 use layer_core::{FeatureList, Stats};
+use row_core::Source;
 use std::alloc::{AllocError, Global};
 use std::hash::RandomState;
 use std::thread::Threads;
@@ -23,7 +26,8 @@ use std::thread::Threads;
 /// and areas, the number of their vertices, and the height of a tree packed from them: six lines,
 /// each a word, a space and a number.
 ///
-/// Several threads read the layer. `state` hashes the ids.
+/// Several threads read the layer. `state` hashes the ids. `improper` becomes the numbers of the
+/// rows whose geometries have improper rings, from 1, after the header, in file order.
 ///
 /// # Errors
 /// A fault of the layer, after which nothing is written, or a fault of the output.
@@ -33,15 +37,19 @@ pub fn run_any_stats<R: Threads + Sync, L: Source, S: Sink>(
     state: RandomState,
     format: AnyFormat,
     layer: &mut L,
+    improper: &mut Vec<u32>,
     sink: &mut S,
 ) -> Result<(), RunFault>
     requires layer { L.has_failed layer.old ≡ false }
     requires sink { S.has_failed sink.old ≡ false }
-    ensures { let reads = ReadsAny format.scale format.rings in
+    ensures runs { let reads = ReadsAny format.scale format.rings in
         let file = L.remaining layer.old in
         RunEnds (LayerGives AreAnyCounts reads file) NoTextFault (IsLayerRunFault reads file)
         (OnlyAt Input.Layer (IsTrue (L.has_failed layer.new)))
         S.written S.is_flushed S.has_failed sink.old sink.new result }
+    ensures improper { let reads = ReadsAny format.scale format.rings in
+        let is_marked = AreRingsImproper format.rings in
+        OnOk result (MarksLayer reads is_marked (L.remaining layer.old) improper.new.items) }
 {
     let reader = LayerReader {
         rt,
@@ -49,7 +57,10 @@ pub fn run_any_stats<R: Threads + Sync, L: Source, S: Sink>(
         format,
         threads: DEFAULT_WORKERS,
     };
-    run_on_layer(&reader, state, layer, &Counts, sink)
+    let marks = ImproperRings {
+        rings: format.rings,
+    };
+    run_marking(&reader, state, layer, &Counts, &marks, improper, sink)
 }
 
 /// The text of `run_any_stats`: the counts of a layer's features.

@@ -1,18 +1,21 @@
 //! The features of a layer of any geometry that share a point with a window.
 
-ghost use Rattle.std.specs.Prelude.{◌≡◌, Ok, false, IfOk, IfErr, IsTrue};
+ghost use Rattle.std.specs.Prelude.{◌≡◌, Ok, false, IfOk, IfErr, IsTrue, OnOk};
 ghost use Rattle.format_core.specs.Formats.{ReadsAny};
 ghost use Rattle.join_core.specs.declared.fault.Input.{Input};
+ghost use Rattle.join_core.specs.ImproperRings.{AreRingsImproper};
 ghost use Rattle.join_core.specs.Jobs.{OnlyAt};
+ghost use Rattle.join_core.specs.Marks.{MarksLayer};
 ghost use Rattle.join_core.specs.Runs.{NoTextFault, RunEnds};
 ghost use Rattle.any_run_core.specs.AnyWindows.{AnyWindowGives, IsAnyWindowFault, IsUnread};
 
 use crate::intersection::intersect;
 use any_geometry_core::AnyGeometry;
 use arrangement_core::PreparedGeometry;
-use file_core::{LayerReader, Source};
+use file_core::LayerReader;
 use format_core::{AnyFormat, Format, TextFault};
-use join_core::{Input, Meeting, RunFault, Sink, Window, run_on_layer};
+use join_core::{ImproperRings, Input, Meeting, RunFault, Sink, Window, run_marking};
+use row_core::Source;
 use std::alloc::{AllocError, Global};
 use std::hash::RandomState;
 use std::marker::Model;
@@ -22,7 +25,9 @@ use std::thread::Threads;
 /// and then one record for each such feature, in layer order.
 ///
 /// The text of the window is read first, then the layer, by several threads; `state` hashes its
-/// ids. The window is prepared once for its matrices with all features.
+/// ids. The window is prepared once for its matrices with all features. `improper` becomes the
+/// numbers of the layer's rows whose geometries have improper rings, from 1, after the header, in
+/// file order.
 ///
 /// # Errors
 /// The first fault of the window or the layer, after which nothing is written, or a fault of the
@@ -32,20 +37,31 @@ pub fn run_any_window<R: Threads + Sync, L: Source, S: Sink>(
     state: RandomState,
     layer: &mut L,
     wkt: &[u8],
+    improper: &mut Vec<u32>,
     sink: &mut S,
 ) -> Result<(), RunFault>
     requires layer { L.has_failed layer.old ≡ false }
     requires sink { S.has_failed sink.old ≡ false }
-    ensures { let reads = ReadsAny reader.now.format.scale reader.now.format.rings in
+    ensures runs { let reads = ReadsAny reader.now.format.scale reader.now.format.rings in
         let file = L.remaining layer.old in
         RunEnds (AnyWindowGives reads wkt.now file) NoTextFault
         (IsAnyWindowFault reads wkt.now file)
         (OnlyAt Input.Layer (IsTrue (L.has_failed layer.new)))
         S.written S.is_flushed S.has_failed sink.old sink.new result }
+    ensures improper { let format = reader.now.format in
+        let reads = ReadsAny format.scale format.rings in
+        let is_marked = AreRingsImproper format.rings in
+        OnOk result (MarksLayer reads is_marked (L.remaining layer.old) improper.new.items) }
 {
     match read_window(reader.alloc, reader.format, wkt) {
         Ok(geometry) => match AnyWindow::new(reader.alloc, &geometry) {
-            Ok(window) => run_on_layer(reader, state, layer, &Meeting { window }, sink),
+            Ok(window) => {
+                let marks = ImproperRings {
+                    rings: reader.format.rings,
+                };
+                let made = Meeting { window };
+                run_marking(reader, state, layer, &made, &marks, improper, sink)
+            }
             Err(AllocError) => Err(RunFault::Memory),
         },
         Err(fault) => Err(fault),

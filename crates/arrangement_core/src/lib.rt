@@ -14,4 +14,4 @@ mod rounds;
 mod shown;
 mod work;
 
-pub use prepared::{PreparedGeometry, relate, relate_prepared};
+pub use prepared::{PreparedGeometry, relate, relate_prepared, relate_within};

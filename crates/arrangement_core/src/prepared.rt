@@ -125,9 +125,27 @@ pub fn relate(alloc: Global, a: &Geometry, b: &Geometry) -> Result<Matrix, Alloc
 {
     let first_box = a.bounds();
     let second_box = b.bounds();
-    let is_apart = !first_box.meets(&second_box);
-    let first = PreparedGeometry::for_one(alloc, a, first_box, is_apart)?;
-    let second = PreparedGeometry::for_one(alloc, b, second_box, is_apart)?;
+    relate_within(alloc, a, first_box, b, second_box)
+}
+
+/// The same matrix, given for each geometry a box in which its vertices lie.
+///
+/// # Errors
+/// If an allocation fails.
+pub fn relate_within(
+    alloc: Global,
+    a: &Geometry,
+    a_box: Shape,
+    b: &Geometry,
+    b_box: Shape,
+) -> Result<Matrix, AllocError>
+    requires first { All (HoldsVertex a_box) (vertices_of a.now) }
+    requires second { All (HoldsVertex b_box) (vertices_of b.now) }
+    ensures { IfOk result (λ m. IsPlaneMatrix a.now b.now m) }
+{
+    let is_apart = !a_box.meets(&b_box);
+    let first = PreparedGeometry::for_one(alloc, a, a_box, is_apart)?;
+    let second = PreparedGeometry::for_one(alloc, b, b_box, is_apart)?;
     let matrix = relate_prepared(alloc, &first, &second)?;
     Ok(matrix)
 }

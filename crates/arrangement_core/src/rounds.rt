@@ -39,7 +39,7 @@ fn lowest(edges: &[Edge]) -> usize
 /// A matrix that shows edges of the first geometry, beginning at their lowest vertex: the interior
 /// of a ring lies above one of the edges there, so that it is soon shown.
 fn mark_edges(
-    alloc: Global,
+    work: &mut Work,
     matrix: Matrix,
     pair: &Pair,
     points: &[Vertex],
@@ -52,17 +52,18 @@ fn mark_edges(
         let marked = AreMarked a b (outline_edges a b) points.now edges.now in
         IfOk result (λ m. marked matrix m) }
 {
-    let mut work = no_work(alloc);
+    work.seen = None;
     let start = lowest(edges);
     let (before, after) = edges.split_at(start);
-    let begun = mark_some(&mut work, matrix, pair, points, after)?;
-    let grown = mark_some(&mut work, begun, pair, points, before)?;
+    let begun = mark_some(work, matrix, pair, points, after)?;
+    let grown = mark_some(work, begun, pair, points, before)?;
     Ok(grown)
 }
 
 /// A matrix that shows the edges of the first geometry around the box of the second.
 fn mark_around(
     alloc: Global,
+    work: &mut Work,
     matrix: Matrix,
     pair: &Pair,
     points: &[Vertex],
@@ -76,7 +77,7 @@ fn mark_around(
 {
     let around = pair.first.edges_around(alloc, &pair.second_box)?;
     let edges = around.as_slice();
-    let grown = mark_edges(alloc, matrix, pair, points, edges)?;
+    let grown = mark_edges(work, matrix, pair, points, edges)?;
     Ok(grown)
 }
 
@@ -128,7 +129,7 @@ fn outer_start(pair: &Pair) -> usize
 /// A matrix that shows the edges of the first geometry that lie beyond the box of the second,
 /// beginning where few of them are likely to show all.
 fn mark_outer(
-    alloc: Global,
+    work: &mut Work,
     matrix: Matrix,
     pair: &Pair,
     points: &[Vertex],
@@ -141,17 +142,21 @@ fn mark_outer(
         let marked = AreSomeMarked a b es points.now (is_beyond box) a.edges.items in
         IfOk result (λ m. marked matrix m) }
 {
-    let mut work = no_work(alloc);
     let own_edges = pair.first.edges();
     let start = outer_start(pair);
     let (before, after) = own_edges.split_at(start);
-    let begun = mark_beyond(&mut work, matrix, pair, points, after)?;
-    let grown = mark_beyond(&mut work, begun, pair, points, before)?;
+    let begun = mark_beyond(work, matrix, pair, points, after)?;
+    let grown = mark_beyond(work, begun, pair, points, before)?;
     Ok(grown)
 }
 
 /// The matrix with all edges of two geometries.
-fn mark_both(alloc: Global, pair: &Pair, points: &[Vertex]) -> Result<Matrix, AllocError>
+fn mark_both(
+    alloc: Global,
+    work: &mut Work,
+    pair: &Pair,
+    points: &[Vertex],
+) -> Result<Matrix, AllocError>
     requires long { All HasLength (outline_edges pair.now.first.now pair.now.second.now) }
     requires first { IsBounded pair.now.first.now pair.now.first_box }
     requires second { IsBounded pair.now.second.now pair.now.second_box }
@@ -160,12 +165,12 @@ fn mark_both(alloc: Global, pair: &Pair, points: &[Vertex]) -> Result<Matrix, Al
 {
     let turned = pair.turned();
     let start = outside();
-    let around_first = mark_around(alloc, start, pair, points)?;
+    let around_first = mark_around(alloc, work, start, pair, points)?;
     let across = transposed(&around_first);
-    let around_both = mark_around(alloc, across, &turned, points)?;
-    let second = mark_outer(alloc, around_both, &turned, points)?;
+    let around_both = mark_around(alloc, work, across, &turned, points)?;
+    let second = mark_outer(work, around_both, &turned, points)?;
     let back = transposed(&second);
-    let all = mark_outer(alloc, back, pair, points)?;
+    let all = mark_outer(work, back, pair, points)?;
     Ok(all)
 }
 
@@ -178,7 +183,8 @@ pub(crate) fn read_off(alloc: Global, pair: &Pair) -> Result<Matrix, AllocError>
 {
     let point_list = all_points(alloc, pair.first.outline(), pair.second.outline())?;
     let points = point_list.as_slice();
-    let marked = mark_both(alloc, pair, points)?;
+    let mut work = no_work(alloc);
+    let marked = mark_both(alloc, &mut work, pair, points)?;
     let with_first = mark_points(marked, pair.first, pair.second);
     let turned = transposed(&with_first);
     let with_second = mark_points(turned, pair.second, pair.first);

@@ -35,6 +35,7 @@ text_fault_named scale a b (run.Edit n l) is named = absurd is
 text_fault_named scale a b (run.Join j) is named = absurd is
 text_fault_named scale a b run.TooManyToDraw is named = absurd is
 text_fault_named scale a b run.Write is named = absurd is
+text_fault_named scale a b run.NotStored is named = absurd is
 text_fault_named scale a b run.Memory is named = absurd is
 text_fault_named scale a b run.NoKeys is named = absurd is
 
@@ -65,6 +66,7 @@ relate_first (Some at) request result wkt (run.Edit n l) first = absurd first
 relate_first (Some at) request result wkt (run.Join j) first = absurd first
 relate_first (Some at) request result wkt run.TooManyToDraw first = absurd first
 relate_first (Some at) request result wkt run.Write first = absurd first
+relate_first (Some at) request result wkt run.NotStored first = absurd first
 relate_first (Some at) request result wkt run.Memory first = absurd first
 relate_first (Some at) request result wkt run.NoKeys first = absurd first
 
@@ -114,6 +116,7 @@ module _ (rings : Rings) where
   any_first (Some at) request result (run.Join j) first = absurd first
   any_first (Some at) request result run.TooManyToDraw first = absurd first
   any_first (Some at) request result run.Write first = absurd first
+  any_first (Some at) request result run.NotStored first = absurd first
   any_first (Some at) request result run.Memory first = absurd first
   any_first (Some at) request result run.NoKeys first = absurd first
 

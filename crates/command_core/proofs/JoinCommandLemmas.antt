@@ -1,5 +1,5 @@
 -- How a command over the files of two layers and of their edits ends.
-use Rattle.std.proofs.Common.{◌≡◌, ◌≢◌, ◌↔◌, ℕ, List, Option, Some, None, Bool, false, Result, Ok, Err, IsErrAnd, ◌⊎◌, inl, inr, IfErr, IfSome}
+use Rattle.std.proofs.Common.{◌≡◌, ◌≢◌, ◌↔◌, ℕ, List, Option, Some, None, Bool, false, Result, Ok, Err, IsErrAnd, ◌⊎◌, inl, inr, IfErr, IfSome, IsSome}
 use Rattle.std.proofs.Common.{refl, sym, subst, ◌∙◌}
 use Rattle.std.specs.Prelude.{⊤}
 use Rattle.std.proofs.lemmas.Result.{IfErr-weaker}
@@ -16,27 +16,35 @@ use Rattle.join_core.specs.declared.fault.RunFault.TheVariants as run
 use Rattle.join_core.specs.DrawRuns.{DrawGives, no_layers as draw_no_layers, too_many, drawn}
 use Rattle.join_core.specs.Inputs.{BlamesInput}
 use Rattle.join_core.specs.Joinings.{Joining, box_joining}
-use Rattle.join_core.specs.JoinRuns.{JoinFiles, LayersGive, left_fault, right_fault, edits_fault, edit_refused, edited, ReportGives, no_layers, reported}
+use Rattle.join_core.specs.JoinRuns.{JoinFiles, LayersGive, left_fault, right_fault, edits_fault, edit_refused, edited, ListReportGives, no_layers, reported}
 use Rattle.join_core.specs.JoinRuns.{IsJoinFault}
 use Rattle.join_core.specs.Products.{ProductGives, IsProductFault}
-use Rattle.join_core.specs.Runs.{NoTextFault, RunEnds}
+use Rattle.join_core.specs.Runs.{Ends}
 use Rattle.options_core.specs.declared.product.Product.{Product}
 use Rattle.options_core.specs.declared.product.Product.TheVariants.{Report, Picture}
 use Rattle.words_core.specs.declared.condition.Condition.{Condition}
 use Rattle.words_core.specs.declared.condition.Condition.TheVariants.{Boxes, Any}
 use Rattle.words_core.specs.declared.words.Command.{Command}
-use Rattle.words_core.specs.declared.words.Command.TheVariants.{Join, Near}
+use Rattle.words_core.specs.declared.words.Command.TheVariants.{Join, Near, Nearest}
 use Rattle.words_core.specs.declared.words.JoinRequest.{JoinRequest}
 use Rattle.words_core.specs.declared.words.LayerPaths.{LayerPaths}
 use Rattle.words_core.specs.declared.words.NearRequest.{NearRequest}
+use Rattle.words_core.specs.declared.words.NearestRequest.{NearestRequest}
+use Rattle.words_core.specs.declared.condition.Geometries.{Geometries}
+use Rattle.words_core.specs.declared.condition.Geometries.TheVariants as kinds
 use Rattle.near_format_core.specs.NearFormats.{ReadsGrown}
+use Rattle.near_format_core.specs.AnyNearFormats.{ReadsGrownAny}
+use Rattle.near_run_core.specs.declared.job.NearJob.{NearJob}
+use Rattle.near_run_core.specs.declared.job.NearestJob.{NearestJob}
 use Rattle.command_core.specs.Commands.{CommandGives, IsCommandText, BlamesCommand, IsFoundFirst, IsFoundNext, IsFaultOf, OrNoFile, CommandEnds}
-use Rattle.command_core.specs.JoinResults.{AfterEdits, ConditionGives, IsConditionFault, JoinRequestGives, IsJoinRequestFault, PathsGive, files_read, known_bytes}
-use Rattle.command_core.specs.NearResults.{NearRequestGives, IsNearRequestFault, near_files}
+use Rattle.command_core.specs.JoinResults.{AfterEdits, ConditionGives, IsConditionFault, JoinRequestGives, IsJoinRequestFault, OrNotStored, PathsGive, files_read, known_bytes}
+use Rattle.command_core.specs.NearResults.{NearRequestGives, IsNearRequestFault, KindGives, IsKindFault, job_of}
+use Rattle.command_core.specs.NearestResults.{NearestKindGives, NearestRequestGives, IsNearestKindFault, IsNearestRequestFault, nearest_job_of}
 use Rattle.command_core.specs.Opening.{AfterOpening, Files, IsAt, IsMissing, AreEditsAt, AreEditsMissing, AreOpened, IsFirstMissing, no_left, no_right, no_edits}
 use Rattle.command_core.specs.Opening.{JoinBytes}
-use Rattle.join_core.proofs.RunLemmas.{ends_as}
-use Rattle.command_core.proofs.KnownLemmas.{condition_untold, fault_known, join_untold, untold}
+use Rattle.join_core.proofs.RunLemmas.{ends_as, not_begun}
+use Rattle.command_core.specs.Skipping.{IsStoreFault}
+use Rattle.command_core.proofs.KnownLemmas.{condition_untold, fault_known, join_untold, stored_untold, untold}
 use Rattle.command_core.proofs.CommandLemmas.{IsNoFile, OpensFiles, found_missing, refused_ends, input_opened, err_is}
 
 -- ---- opening
@@ -88,17 +96,17 @@ of_layers (run.NoFile i) missing is = is
 of_layers g missing is = missing
 
 -- no run gives the fault of a file that can't be opened
-report_opens : {G : Type 0} (stands : G → G → Type 0) (name : List ℕ) (is_field : G → G → List ℕ → Type 0) (files : JoinFiles G) (g : RunFault)
-    → IsNoFile g → ReportGives stands name is_field files (Err g) → ⊥
-report_opens {G} stands name is_field files g missing gives = by (Err g) gives refl
+report_opens : {G : Type 0} (AreListed : Layers G → List (ℕ × ℕ) → Type 0) (name : List ℕ) (is_field : G → G → List ℕ → Type 0) (files : JoinFiles G) (g : RunFault)
+    → IsNoFile g → ListReportGives AreListed name is_field files (Err g) → ⊥
+report_opens {G} AreListed name is_field files g missing gives = by (Err g) gives refl
   where
-    by : (answer : Result (List ℕ) RunFault) → ReportGives stands name is_field files answer → answer ≡ Err g → ⊥
+    by : (answer : Result (List ℕ) RunFault) → ListReportGives AreListed name is_field files answer → answer ≡ Err g → ⊥
     by answer (no_layers f given) is = of_layers g missing (layers_fault files (Err f) g given (let same : f ≡ g = cc in cc))
     by answer (reported layers pairs text a b d) is = cc
 
 product_opens : {G : Type 0} (product : Product) (joining : Joining G) (files : JoinFiles G) (g : RunFault) → IsNoFile g
     → ProductGives product joining files (Err g) → ⊥
-product_opens Report joining files g missing gives = report_opens joining.stands _ _ files g missing gives
+product_opens Report joining files g missing gives = report_opens _ _ _ files g missing gives
 product_opens {G} Picture joining files g missing gives = by (Err g) gives refl
   where
     by : (answer : Result (List ℕ) RunFault) → DrawGives joining files answer → answer ≡ Err g → ⊥
@@ -106,12 +114,12 @@ product_opens {G} Picture joining files g missing gives = by (Err g) gives refl
     by answer (too_many layers a b) is = subst IsNoFile (let same : g ≡ run.TooManyToDraw = cc in same) missing
     by answer (drawn layers pairs a b d) is = cc
 
-condition_opens : (condition : Condition) (scale : Scale) (product : Product) (bytes : JoinBytes) (g : RunFault) → IsNoFile g
-    → ConditionGives condition scale product bytes (Err g) → ⊥
-condition_opens (Boxes relation) scale product bytes g missing gives =
-    product_opens product (box_joining relation) (files_read (ReadsBox scale) bytes) g missing gives
-condition_opens (Any relation) scale product bytes g missing gives =
-    product_opens product (any_joining relation) (files_read (ReadsAny scale (rings_of relation)) bytes) g missing gives
+condition_opens : (condition : Condition) (scale : Scale) (product : Product) (skip : Option (Bor (List ℕ))) (bytes : JoinBytes) (g : RunFault)
+    → IsNoFile g → ConditionGives condition scale product skip bytes (Err g) → ⊥
+condition_opens (Boxes relation) scale product skip bytes g missing gives =
+    product_opens product (box_joining relation) (files_read skip (ReadsBox scale) bytes) g missing gives
+condition_opens (Any relation) scale product skip bytes g missing gives =
+    product_opens product (any_joining relation) (files_read skip (ReadsAny scale (rings_of relation)) bytes) g missing gives
 
 -- a fault of a run blames an input if it blames the command
 join_blames : {G : Type 0} (files : JoinFiles G) (f : RunFault) → IsJoinFault files f → BlamesCommand f → BlamesInput f
@@ -124,11 +132,136 @@ product_blames Report files f allowed blame = join_blames files f allowed blame
 product_blames Picture files run.TooManyToDraw allowed blame = blame
 product_blames Picture files f allowed blame = join_blames files f allowed blame
 
-condition_blames : (condition : Condition) (scale : Scale) (product : Product) (bytes : JoinBytes) (f : RunFault)
-    → IsConditionFault condition scale product bytes f → BlamesCommand f → BlamesInput f
-condition_blames (Boxes relation) scale product bytes f allowed blame = product_blames product (files_read (ReadsBox scale) bytes) f allowed blame
-condition_blames (Any relation) scale product bytes f allowed blame =
-    product_blames product (files_read (ReadsAny scale (rings_of relation)) bytes) f allowed blame
+condition_blames : (condition : Condition) (scale : Scale) (product : Product) (skip : Option (Bor (List ℕ))) (bytes : JoinBytes) (f : RunFault)
+    → IsConditionFault condition scale product skip bytes f → BlamesCommand f → BlamesInput f
+condition_blames (Boxes relation) scale product skip bytes f allowed blame = product_blames product (files_read skip (ReadsBox scale) bytes) f allowed blame
+condition_blames (Any relation) scale product skip bytes f allowed blame =
+    product_blames product (files_read skip (ReadsAny scale (rings_of relation)) bytes) f allowed blame
+
+stored_blames : (skip : Option (Bor (List ℕ))) (IsRunFault : RunFault → Type 0) → ((f : RunFault) → IsRunFault f → BlamesCommand f → BlamesInput f)
+    → (f : RunFault) → OrNotStored skip IsRunFault f → BlamesCommand f → BlamesInput f
+stored_blames skip IsRunFault blames run.NotStored is blame = blame
+stored_blames skip IsRunFault blames f is blame = blames f is blame
+
+-- ---- what a run writes
+
+-- no run ends with a fault of what it writes
+abbrev NoneOf : RunFault → (RunFault → Type 0) → Type 0
+NoneOf f IsRunFault = ¬ (IsRunFault f)
+
+product_writes : {G : Type 0} (product : Product) (files : JoinFiles G) → NoneOf run.Write (IsProductFault product files)
+    × NoneOf run.NotStored (IsProductFault product files)
+product_writes Report files = ((λ is. is.0), (λ is. is.0))
+product_writes Picture files = ((λ is. is.0), (λ is. is.0))
+
+pub condition_writes : (condition : Condition) (scale : Scale) (product : Product) (skip : Option (Bor (List ℕ))) (bytes : JoinBytes)
+    → NoneOf run.Write (IsConditionFault condition scale product skip bytes)
+    × NoneOf run.NotStored (IsConditionFault condition scale product skip bytes)
+condition_writes (Boxes relation) scale product skip bytes = product_writes product (files_read skip (ReadsBox scale) bytes)
+condition_writes (Any relation) scale product skip bytes = product_writes product (files_read skip (ReadsAny scale (rings_of relation)) bytes)
+
+-- a fault of a run is one with a list of skipped rows, too
+pub or_stored : (skip : Option (Bor (List ℕ))) (IsRunFault : RunFault → Type 0) → NoneOf run.NotStored IsRunFault → (f : RunFault) → IsRunFault f
+    → OrNotStored skip IsRunFault f
+or_stored skip IsRunFault none run.NotStored is = absurd (none is)
+or_stored skip IsRunFault none f is = is
+
+-- where a run has written something there are layers, so that memory may run out behind it
+pub report_wants : {G : Type 0} (AreListed : Layers G → List (ℕ × ℕ) → Type 0) (name : List ℕ) (is_field : G → G → List ℕ → Type 0) (files : JoinFiles G) (text : List ℕ)
+    → ListReportGives AreListed name is_field files (Ok text) → IsJoinFault files run.Memory
+report_wants {G} AreListed name is_field files text gives = by (Ok text) gives refl
+  where
+    by : (answer : Result (List ℕ) RunFault) → ListReportGives AreListed name is_field files answer → answer ≡ Ok text → IsJoinFault files run.Memory
+    by answer (no_layers f given) is = absurd cc
+    by answer (reported layers pairs written a b d) is = (tt, (layers, a))
+
+product_wants : {G : Type 0} (product : Product) (joining : Joining G) (files : JoinFiles G) (text : List ℕ) → ProductGives product joining files (Ok text)
+    → IsProductFault product files run.Memory
+product_wants Report joining files text gives = report_wants _ _ _ files text gives
+product_wants {G} Picture joining files text gives = by (Ok text) gives refl
+  where
+    by : (answer : Result (List ℕ) RunFault) → DrawGives joining files answer → answer ≡ Ok text → IsProductFault Picture files run.Memory
+    by answer (draw_no_layers f given) is = absurd cc
+    by answer (too_many layers a b) is = absurd cc
+    by answer (drawn layers pairs a b d) is = (tt, (layers, a))
+
+pub condition_wants : (condition : Condition) (scale : Scale) (product : Product) (skip : Option (Bor (List ℕ))) (bytes : JoinBytes) (text : List ℕ)
+    → ConditionGives condition scale product skip bytes (Ok text) → IsConditionFault condition scale product skip bytes run.Memory
+condition_wants (Boxes relation) scale product skip bytes text gives =
+    product_wants product (box_joining relation) (files_read skip (ReadsBox scale) bytes) text gives
+condition_wants (Any relation) scale product skip bytes text gives =
+    product_wants product (any_joining relation) (files_read skip (ReadsAny scale (rings_of relation)) bytes) text gives
+
+kind_opens : (geometries : Geometries) (job : NearJob) (skip : Option (Bor (List ℕ))) (bytes : JoinBytes) (g : RunFault) → IsNoFile g
+    → KindGives geometries job skip bytes (Err g) → ⊥
+kind_opens kinds.Box job skip bytes g missing gives = report_opens _ _ _ (files_read skip (ReadsGrown job.scale job.distance) bytes) g missing gives
+kind_opens (kinds.Any rings) job skip bytes g missing gives =
+    report_opens _ _ _ (files_read skip (ReadsGrownAny job.scale rings job.distance) bytes) g missing gives
+
+kind_blames : (geometries : Geometries) (job : NearJob) (skip : Option (Bor (List ℕ))) (bytes : JoinBytes) (f : RunFault)
+    → IsKindFault geometries job skip bytes f → BlamesCommand f → BlamesInput f
+kind_blames kinds.Box job skip bytes f allowed blame = join_blames (files_read skip (ReadsGrown job.scale job.distance) bytes) f allowed blame
+kind_blames (kinds.Any rings) job skip bytes f allowed blame =
+    join_blames (files_read skip (ReadsGrownAny job.scale rings job.distance) bytes) f allowed blame
+
+kind_untold : (geometries : Geometries) (job : NearJob) (skip : Option (Bor (List ℕ))) (bytes : JoinBytes) (f : RunFault)
+    → IsKindFault geometries job skip bytes f → IsKindFault geometries job skip (untold bytes) f
+kind_untold kinds.Box job skip bytes f allowed = join_untold skip (ReadsGrown job.scale job.distance) bytes f allowed
+kind_untold (kinds.Any rings) job skip bytes f allowed = join_untold skip (ReadsGrownAny job.scale rings job.distance) bytes f allowed
+
+pub kind_writes : (geometries : Geometries) (job : NearJob) (skip : Option (Bor (List ℕ))) (bytes : JoinBytes)
+    → NoneOf run.Write (IsKindFault geometries job skip bytes) × NoneOf run.NotStored (IsKindFault geometries job skip bytes)
+kind_writes kinds.Box job skip bytes = ((λ is. is.0), (λ is. is.0))
+kind_writes (kinds.Any rings) job skip bytes = ((λ is. is.0), (λ is. is.0))
+
+-- a fault of opened files is no fault of what is written
+pub near_not_written : (near : NearRequest) (known : Option Files) (bytes : JoinBytes) (f : RunFault) → AreOpened known near.paths bytes
+    → IsKindFault near.geometries (job_of near) near.paths.skip bytes f → f ≢ run.Write
+near_not_written near known bytes f opened is same =
+    (kind_writes near.geometries (job_of near) near.paths.skip bytes).0 (subst (IsKindFault near.geometries (job_of near) near.paths.skip bytes) same is)
+
+pub join_not_written : (join : JoinRequest) (known : Option Files) (bytes : JoinBytes) (f : RunFault) → AreOpened known join.paths bytes
+    → IsConditionFault join.condition join.scale join.product join.paths.skip bytes f → f ≢ run.Write
+join_not_written join known bytes f opened is same =
+    (condition_writes join.condition join.scale join.product join.paths.skip bytes).0
+    (subst (IsConditionFault join.condition join.scale join.product join.paths.skip bytes) same is)
+
+pub kind_wants : (geometries : Geometries) (job : NearJob) (skip : Option (Bor (List ℕ))) (bytes : JoinBytes) (text : List ℕ)
+    → KindGives geometries job skip bytes (Ok text) → IsKindFault geometries job skip bytes run.Memory
+kind_wants kinds.Box job skip bytes text gives = report_wants _ _ _ (files_read skip (ReadsGrown job.scale job.distance) bytes) text gives
+kind_wants (kinds.Any rings) job skip bytes text gives =
+    report_wants _ _ _ (files_read skip (ReadsGrownAny job.scale rings job.distance) bytes) text gives
+
+nearest_kind_opens : (geometries : Geometries) (job : NearestJob) (skip : Option (Bor (List ℕ))) (bytes : JoinBytes) (g : RunFault) → IsNoFile g
+    → NearestKindGives geometries job skip bytes (Err g) → ⊥
+nearest_kind_opens kinds.Box job skip bytes g missing gives = report_opens _ _ _ (files_read skip (ReadsBox job.scale) bytes) g missing gives
+nearest_kind_opens (kinds.Any rings) job skip bytes g missing gives = report_opens _ _ _ (files_read skip (ReadsAny job.scale rings) bytes) g missing gives
+
+nearest_kind_blames : (geometries : Geometries) (job : NearestJob) (skip : Option (Bor (List ℕ))) (bytes : JoinBytes) (f : RunFault)
+    → IsNearestKindFault geometries job skip bytes f → BlamesCommand f → BlamesInput f
+nearest_kind_blames kinds.Box job skip bytes f allowed blame = join_blames (files_read skip (ReadsBox job.scale) bytes) f allowed blame
+nearest_kind_blames (kinds.Any rings) job skip bytes f allowed blame = join_blames (files_read skip (ReadsAny job.scale rings) bytes) f allowed blame
+
+nearest_kind_untold : (geometries : Geometries) (job : NearestJob) (skip : Option (Bor (List ℕ))) (bytes : JoinBytes) (f : RunFault)
+    → IsNearestKindFault geometries job skip bytes f → IsNearestKindFault geometries job skip (untold bytes) f
+nearest_kind_untold kinds.Box job skip bytes f allowed = join_untold skip (ReadsBox job.scale) bytes f allowed
+nearest_kind_untold (kinds.Any rings) job skip bytes f allowed = join_untold skip (ReadsAny job.scale rings) bytes f allowed
+
+pub nearest_kind_writes : (geometries : Geometries) (job : NearestJob) (skip : Option (Bor (List ℕ))) (bytes : JoinBytes)
+    → NoneOf run.Write (IsNearestKindFault geometries job skip bytes) × NoneOf run.NotStored (IsNearestKindFault geometries job skip bytes)
+nearest_kind_writes kinds.Box job skip bytes = ((λ is. is.0), (λ is. is.0))
+nearest_kind_writes (kinds.Any rings) job skip bytes = ((λ is. is.0), (λ is. is.0))
+
+pub nearest_not_written : (nearest : NearestRequest) (known : Option Files) (bytes : JoinBytes) (f : RunFault) → AreOpened known nearest.paths bytes
+    → IsNearestKindFault nearest.geometries (nearest_job_of nearest) nearest.paths.skip bytes f → f ≢ run.Write
+nearest_not_written nearest known bytes f opened is same =
+    (nearest_kind_writes nearest.geometries (nearest_job_of nearest) nearest.paths.skip bytes).0
+    (subst (IsNearestKindFault nearest.geometries (nearest_job_of nearest) nearest.paths.skip bytes) same is)
+
+pub nearest_kind_wants : (geometries : Geometries) (job : NearestJob) (skip : Option (Bor (List ℕ))) (bytes : JoinBytes) (text : List ℕ)
+    → NearestKindGives geometries job skip bytes (Ok text) → IsNearestKindFault geometries job skip bytes run.Memory
+nearest_kind_wants kinds.Box job skip bytes text gives = report_wants _ _ _ (files_read skip (ReadsBox job.scale) bytes) text gives
+nearest_kind_wants (kinds.Any rings) job skip bytes text gives = report_wants _ _ _ (files_read skip (ReadsAny job.scale rings) bytes) text gives
 
 -- a fault of a run is one of its command
 allows_all : (IsRunFault : RunFault → Type 0) (f : RunFault) → IsRunFault f → OrNoFile IsRunFault f
@@ -155,9 +288,12 @@ join_runs join = record {
   gives = λ at answer. ((λ h. h), (λ h. h));
   faults = λ known f h. h;
   none_next = λ g found. found;
-  opens = condition_opens join.condition join.scale join.product;
-  blames = condition_blames join.condition join.scale join.product;
-  untells = condition_untold join.condition join.scale join.product;
+  opens = condition_opens join.condition join.scale join.product join.paths.skip;
+  blames = λ bytes. stored_blames join.paths.skip (IsConditionFault join.condition join.scale join.product join.paths.skip bytes)
+      (condition_blames join.condition join.scale join.product join.paths.skip bytes);
+  untells = λ bytes. stored_untold join.paths.skip (IsConditionFault join.condition join.scale join.product join.paths.skip bytes)
+      (IsConditionFault join.condition join.scale join.product join.paths.skip (untold bytes))
+      (condition_untold join.condition join.scale join.product join.paths.skip bytes);
 }
 
 pub near_runs : (near : NearRequest) → RunsOver (Near near) near.paths (NearRequestGives near) (IsNearRequestFault near)
@@ -166,9 +302,26 @@ near_runs near = record {
   gives = λ at answer. ((λ h. h), (λ h. h));
   faults = λ known f h. h;
   none_next = λ g found. found;
-  opens = λ bytes g. report_opens _ _ _ (near_files near bytes) g;
-  blames = λ bytes f. join_blames (near_files near bytes) f;
-  untells = λ bytes f. join_untold (ReadsGrown near.scale near.distance) bytes f;
+  opens = kind_opens near.geometries (job_of near) near.paths.skip;
+  blames = λ bytes. stored_blames near.paths.skip (IsKindFault near.geometries (job_of near) near.paths.skip bytes)
+      (kind_blames near.geometries (job_of near) near.paths.skip bytes);
+  untells = λ bytes. stored_untold near.paths.skip (IsKindFault near.geometries (job_of near) near.paths.skip bytes)
+      (IsKindFault near.geometries (job_of near) near.paths.skip (untold bytes))
+      (kind_untold near.geometries (job_of near) near.paths.skip bytes);
+}
+
+pub nearest_runs : (nearest : NearestRequest) → RunsOver (Nearest nearest) nearest.paths (NearestRequestGives nearest) (IsNearestRequestFault nearest)
+nearest_runs nearest = record {
+  opens_files = tt;
+  gives = λ at answer. ((λ h. h), (λ h. h));
+  faults = λ known f h. h;
+  none_next = λ g found. found;
+  opens = nearest_kind_opens nearest.geometries (nearest_job_of nearest) nearest.paths.skip;
+  blames = λ bytes. stored_blames nearest.paths.skip (IsNearestKindFault nearest.geometries (nearest_job_of nearest) nearest.paths.skip bytes)
+      (nearest_kind_blames nearest.geometries (nearest_job_of nearest) nearest.paths.skip bytes);
+  untells = λ bytes. stored_untold nearest.paths.skip (IsNearestKindFault nearest.geometries (nearest_job_of nearest) nearest.paths.skip bytes)
+      (IsNearestKindFault nearest.geometries (nearest_job_of nearest) nearest.paths.skip (untold bytes))
+      (nearest_kind_untold nearest.geometries (nearest_job_of nearest) nearest.paths.skip bytes);
 }
 
 -- ---- the end of a command over files
@@ -308,14 +461,51 @@ module _ {S : Type 0} (known : Option Files) (written : S → Option (List ℕ))
   first_as (Some at) bytes is result f found = none_found at bytes is f found
 
   -- all files were opened, and the run was executed
-  pub files_ran : {T : Type 0} {HasFailed : Input → Type 0} (bytes : JoinBytes) (old new : S) (result : Result T RunFault) → AreOpened known paths bytes
-      → RunEnds (Gives bytes) NoTextFault (IsFault bytes) HasFailed written is_flushed has_failed old new result
-      → CommandEnds known written is_flushed has_failed command old new result
-  files_ran bytes old new result is ran = record {
-    writes = ends_as _ _ written is_flushed has_failed old new result (text_as known bytes is) ran.writes;
-    fault = blamed_as known bytes is result ran.fault ran.faults;
+  pub files_ran : {T : Type 0} (bytes : JoinBytes) (old new : S) (result : Result T RunFault) → AreOpened known paths bytes
+      → Ends (λ text. Gives bytes (Ok text)) written is_flushed has_failed old new result → IfErr result (λ f. BlamesInput f → Gives bytes (Err f))
+      → IfErr result (λ f. f ≢ run.Write → IsFault bytes f) → CommandEnds known written is_flushed has_failed command old new result
+  files_ran bytes old new result is writes fault faults = record {
+    writes = ends_as _ _ written is_flushed has_failed old new result (text_as known bytes is) writes;
+    fault = blamed_as known bytes is result fault faults;
     first = first_as known bytes is result;
     next = λ f found. absurd (runs.none_next f found);
     faults = IfErr-weaker result _ _ (λ f given w. runs.faults known f (allows_all (IsFault (known_bytes known paths)) f
-        (fault_known IsFault runs.untells known paths bytes is f (given w)))) ran.faults;
+        (fault_known IsFault runs.untells known paths bytes is f (given w)))) faults;
   }
+
+  -- the run ended with a fault, before anything was written
+  pub run_failed : {T : Type 0} (bytes : JoinBytes) (sink : S) (result : Result T RunFault) (e : RunFault) → AreOpened known paths bytes
+      → has_failed sink ≡ false → IsErrAnd result (λ x. x ≡ e) → ¬ (IsFault bytes run.Write) → (BlamesInput e → Gives bytes (Err e)) → IsFault bytes e
+      → CommandEnds known written is_flushed has_failed command sink sink result
+  run_failed bytes sink (Ok x) e is fresh h writes given allowed = absurd h
+  run_failed {T} bytes sink (Err x) e is fresh h writes given allowed =
+      let same : (let r : Result T RunFault = Err x in r) ≡ Err e = cc in
+      files_ran bytes sink sink (Err x) is
+      (not_begun (λ text. Gives bytes (Ok text)) written is_flushed has_failed sink (Err x) e fresh same (λ w. writes (subst (IsFault bytes) w allowed)))
+      (λ blame. subst (λ (f : RunFault). Gives bytes (Err f)) (sym h) (given (subst BlamesInput h blame)))
+      (λ w. subst (IsFault bytes) (sym h) allowed)
+
+  store_blames : (f : RunFault) → IsStoreFault paths.skip f → BlamesInput f → ⊥
+  store_blames run.Memory is blame = blame
+  store_blames run.NotStored is blame = blame
+  store_blames f is blame = is
+
+  store_allowed : (bytes : JoinBytes) → IsFault bytes run.Memory → (IsSome paths.skip → IsFault bytes run.NotStored) → (f : RunFault)
+      → IsStoreFault paths.skip f → IsFault bytes f
+  store_allowed bytes wants stores run.Memory is = wants
+  store_allowed bytes wants stores run.NotStored is = stores is
+  store_allowed bytes wants stores f is = absurd is
+
+  -- the run made this text, which was written or not
+  pub run_made : {T : Type 0} (bytes : JoinBytes) (old new : S) (result : Result T RunFault) (text : List ℕ) → AreOpened known paths bytes
+      → IsFault bytes run.Memory → (IsSome paths.skip → IsFault bytes run.NotStored)
+      → Gives bytes (Ok text) → Ends (λ t. t ≡ text) written is_flushed has_failed old new result
+      → IfErr result (λ f. f ≢ run.Write → IsStoreFault paths.skip f) → CommandEnds known written is_flushed has_failed command old new result
+  run_made {T} bytes old new result text is wants stores given ends faults =
+      files_ran bytes old new result is
+      (ends_as (λ t. t ≡ text) (λ t. Gives bytes (Ok t)) written is_flushed has_failed old new result (λ t same. subst (λ (x : List ℕ). Gives bytes (Ok x)) (sym same) given) ends)
+      (by result faults) (IfErr-weaker result _ _ (λ f allowed w. store_allowed bytes wants stores f (allowed w)) faults)
+    where
+      by : (r : Result T RunFault) → IfErr r (λ f. f ≢ run.Write → IsStoreFault paths.skip f) → IfErr r (λ f. BlamesInput f → Gives bytes (Err f))
+      by (Ok x) faults = tt
+      by (Err f) faults = λ blame. absurd (store_blames f (faults (λ w. subst BlamesInput w blame)) blame)

@@ -7,7 +7,7 @@ use Rattle.wkt_core.specs.declared.fault.WktFault.{WktFault}
 use Rattle.number_core.specs.declared.scale.Scale.{Scale}
 use Rattle.any_geometry_core.specs.AnyGeometries.{box_of}
 use Rattle.format_core.specs.Formats.{Reading, ReadsAny, ReadsBox}
-use Rattle.file_core.specs.declared.read_fault.ReadFault.{ReadFault}
+use Rattle.row_core.specs.declared.read_fault.ReadFault.{ReadFault}
 use Rattle.layer_core.specs.Layers.{Contents}
 use Rattle.join_core.specs.declared.fault.Input.{Input}
 use Rattle.join_core.specs.declared.fault.Input.TheVariants as input

@@ -5,6 +5,7 @@ use Rattle.report_core.specs.Written.{AppendsPrefix}
 use Rattle.join_core.specs.Lines.{line_of}
 use Rattle.command_core.specs.Endings.{WordsAreDone}
 use Rattle.command_core.specs.Opening.{Files}
+use Rattle.command_core.specs.Storing.{Stored}
 use Rattle.words_core.specs.Readings.{ReadAs}
 
 -- a line that starts with the program's name, followed by one text
@@ -30,8 +31,8 @@ pub map_of_items : {A B : Type 0} (f : A → B) (slice items : List A) (made : L
 map_of_items f slice items made same is = ap (map f) same ∙ is
 
 -- words that are done, given equal words
-pub words_done_as : {O E : Type 0} {known : Option Files} {written : O → Option (List ℕ)} {is_flushed has_failed : O → Bool} {output output' : O}
+pub words_done_as : {O E : Type 0} {known : Option Files} {stored stored' : Stored} {written : O → Option (List ℕ)} {is_flushed has_failed : O → Bool} {output output' : O}
     {told : E → Option (List ℕ)} {has_failed' : E → Bool} {errors errors' : E} {status : ℕ} (old new : List (List ℕ)) → old ≡ new
-    → WordsAreDone old known written is_flushed has_failed output output' told has_failed' errors errors' status
-    → WordsAreDone new known written is_flushed has_failed output output' told has_failed' errors errors' status
+    → WordsAreDone old known stored stored' written is_flushed has_failed output output' told has_failed' errors errors' status
+    → WordsAreDone new known stored stored' written is_flushed has_failed output output' told has_failed' errors errors' status
 words_done_as old new same done = record { read = done.read; reading = subst (λ (ws : List (List ℕ)). ReadAs ws done.read) same done.reading; done = done.done }

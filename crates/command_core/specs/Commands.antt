@@ -18,12 +18,13 @@ use Rattle.command_core.specs.JoinResults.{known_bytes}
 use Rattle.command_core.specs.LayerResults.{GivesCorners, GivesCounts, GivesWindow}
 use Rattle.command_core.specs.LayerResults.{IsLayerFaultOf, IsWindowFaultOf}
 use Rattle.command_core.specs.NearResults.{NearRequestGives, IsNearRequestFault}
+use Rattle.command_core.specs.NearestResults.{NearestRequestGives, IsNearestRequestFault}
 use Rattle.command_core.specs.Opening.{AfterOpening, Files, bytes_at}
 use Rattle.words_core.specs.declared.condition.Geometries.{Geometries}
 use Rattle.words_core.specs.declared.condition.Geometries.TheVariants.{Box, Any}
 use Rattle.words_core.specs.declared.words.Command.{Command}
-use Rattle.words_core.specs.declared.words.Command.TheVariants.{Relate, Join, Near, Window}
-use Rattle.words_core.specs.declared.words.Command.TheVariants.{Stats, Bounds}
+use Rattle.words_core.specs.declared.words.Command.TheVariants.{Relate, Join, Near, Nearest}
+use Rattle.words_core.specs.declared.words.Command.TheVariants.{Window, Stats, Bounds}
 use Rattle.words_core.specs.declared.words.LayerRequest.{LayerRequest}
 
 -- the letters of the matrix of two texts and a line feed, or the fault of the first text that
@@ -51,6 +52,8 @@ CommandGives at (Relate request) answer =
     GeometriesGive request.geometries request.scale request.a.now request.b.now answer
 CommandGives at (Join join) answer = PathsGive at join.paths (JoinRequestGives join) answer
 CommandGives at (Near near) answer = PathsGive at near.paths (NearRequestGives near) answer
+CommandGives at (Nearest nearest) answer =
+    PathsGive at nearest.paths (NearestRequestGives nearest) answer
 CommandGives at (Window layer wkt) answer =
     LayerPathGives (λ geometries scale. GivesWindow geometries scale wkt.now) at layer answer
 CommandGives at (Stats layer) answer = LayerPathGives GivesCounts at layer answer
@@ -123,6 +126,8 @@ abbrev pub IsFaultOf : Option Files → Command → RunFault → Type 0
 IsFaultOf known (Relate request) = IsRelateFault request.geometries
 IsFaultOf known (Join join) = OrNoFile (IsJoinRequestFault join (known_bytes known join.paths))
 IsFaultOf known (Near near) = OrNoFile (IsNearRequestFault near (known_bytes known near.paths))
+IsFaultOf known (Nearest nearest) =
+    OrNoFile (IsNearestRequestFault nearest (known_bytes known nearest.paths))
 IsFaultOf known (Window layer wkt) = OrNoLayer
     (IsWindowFaultOf layer.geometries layer.scale wkt.now (bytes_at known layer.path.now))
 IsFaultOf known (Stats layer) =

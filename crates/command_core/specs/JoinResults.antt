@@ -1,12 +1,15 @@
 -- The results and the faults of the join of a request, by the bytes of its files.
-use Rattle.std.specs.Prelude.{ℕ, List, Option, Some, None, Result}
+use Rattle.std.specs.Prelude.{ℕ, List, Option, Some, None, IsSome, Result}
 use Rattle.std.specs.Borrow.{Bor}
 use Rattle.number_core.specs.declared.scale.Scale.{Scale}
 use Rattle.format_core.specs.Formats.{Reading, ReadsAny, ReadsBox}
+use Rattle.file_core.specs.declared.skipped.Unreadable.{Unreadable}
+use Rattle.file_core.specs.declared.skipped.Unreadable.TheVariants.{Refuse, Skip}
 use Rattle.options_core.specs.declared.product.Product.{Product}
 use Rattle.any_relation_core.specs.AnyRelations.{rings_of}
 use Rattle.join_core.specs.declared.fault.Input.TheVariants.{Left, Right, Edits}
 use Rattle.join_core.specs.declared.fault.RunFault.{RunFault}
+use Rattle.join_core.specs.declared.fault.RunFault.TheVariants.{NotStored}
 use Rattle.join_core.specs.Joinings.{box_joining}
 use Rattle.join_core.specs.JoinRuns.{JoinFiles}
 use Rattle.join_core.specs.Products.{ProductGives, IsProductFault}
@@ -17,32 +20,50 @@ use Rattle.words_core.specs.declared.words.JoinRequest.{JoinRequest}
 use Rattle.words_core.specs.declared.words.LayerPaths.{LayerPaths}
 use Rattle.command_core.specs.Opening.{AfterOpening, Files, JoinBytes, bytes_at}
 
+-- rows whose geometry can't be read are skipped where there is a path for the list of them
+abbrev pub unreadable_for : Option (Bor (List ℕ)) → Unreadable
+unreadable_for None = Refuse
+unreadable_for (Some path) = Skip
+
 -- these files, with geometries that read in this way
-abbrev pub files_read : {G : Type 0} → Reading G → JoinBytes → JoinFiles G
-files_read reads bytes =
-    record { reads = reads; left = bytes.left; right = bytes.right; edits = bytes.edits }
+abbrev pub files_read : {G : Type 0} → Option (Bor (List ℕ)) → Reading G → JoinBytes → JoinFiles G
+files_read skip reads bytes = record {
+  reads = reads;
+  unreadable = unreadable_for skip;
+  left = bytes.left;
+  right = bytes.right;
+  edits = bytes.edits;
+}
 
 -- the report or the picture of the join of files by this condition
-abbrev pub ConditionGives : Condition → Scale → Product → JoinBytes → Result (List ℕ) RunFault
-    → Type 0
-ConditionGives (Boxes relation) scale product bytes =
-    ProductGives product (box_joining relation) (files_read (ReadsBox scale) bytes)
-ConditionGives (Any relation) scale product bytes =
+abbrev pub ConditionGives : Condition → Scale → Product → Option (Bor (List ℕ)) → JoinBytes
+    → Result (List ℕ) RunFault → Type 0
+ConditionGives (Boxes relation) scale product skip bytes =
+    ProductGives product (box_joining relation) (files_read skip (ReadsBox scale) bytes)
+ConditionGives (Any relation) scale product skip bytes =
     ProductGives product (any_joining relation)
-    (files_read (ReadsAny scale (rings_of relation)) bytes)
+    (files_read skip (ReadsAny scale (rings_of relation)) bytes)
 
 abbrev pub JoinRequestGives : JoinRequest → JoinBytes → Result (List ℕ) RunFault → Type 0
-JoinRequestGives join = ConditionGives join.condition join.scale join.product
+JoinRequestGives join = ConditionGives join.condition join.scale join.product join.paths.skip
 
--- a possible fault of the join of files by this condition, except that of its sink
-abbrev pub IsConditionFault : Condition → Scale → Product → JoinBytes → RunFault → Type 0
-IsConditionFault (Boxes relation) scale product bytes =
-    IsProductFault product (files_read (ReadsBox scale) bytes)
-IsConditionFault (Any relation) scale product bytes =
-    IsProductFault product (files_read (ReadsAny scale (rings_of relation)) bytes)
+-- a possible fault of the join of files by this condition, except those of what it writes
+abbrev pub IsConditionFault : Condition → Scale → Product → Option (Bor (List ℕ)) → JoinBytes
+    → RunFault → Type 0
+IsConditionFault (Boxes relation) scale product skip bytes =
+    IsProductFault product (files_read skip (ReadsBox scale) bytes)
+IsConditionFault (Any relation) scale product skip bytes =
+    IsProductFault product (files_read skip (ReadsAny scale (rings_of relation)) bytes)
 
+-- a possible fault of a run, or that the list of the rows that were skipped can't be written
+abbrev pub OrNotStored : Option (Bor (List ℕ)) → (RunFault → Type 0) → RunFault → Type 0
+OrNotStored skip IsRunFault NotStored = IsSome skip
+OrNotStored skip IsRunFault fault = IsRunFault fault
+
+-- a possible fault of the join of a request, except that of its sink
 abbrev pub IsJoinRequestFault : JoinRequest → JoinBytes → RunFault → Type 0
-IsJoinRequestFault join = IsConditionFault join.condition join.scale join.product
+IsJoinRequestFault join bytes = OrNotStored join.paths.skip
+    (IsConditionFault join.condition join.scale join.product join.paths.skip bytes)
 
 -- the file of edits, if one is given
 abbrev pub AfterEdits : Files → Option (Bor (List ℕ)) → Result (List ℕ) RunFault

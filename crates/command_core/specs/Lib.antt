@@ -1,7 +1,11 @@
 pub mod Commands
 pub mod Endings
+pub mod ImproperRows
 pub mod JoinResults
 pub mod LayerResults
 pub mod NearResults
+pub mod NearestResults
 pub mod Opening
+pub mod Skipping
+pub mod Storing
 pub mod WordFaults

@@ -5,7 +5,7 @@ use Rattle.join_core.specs.Lines.{line_of}
 use Rattle.options_core.specs.OptionTexts.{option_text}
 use Rattle.words_core.specs.declared.words.WordFault.{WordFault}
 use Rattle.words_core.specs.declared.words.WordFault.TheVariants.{Usage, Relation, AllowsDisjoint}
-use Rattle.words_core.specs.declared.words.WordFault.TheVariants.{Options, Scale, Distance}
+use Rattle.words_core.specs.declared.words.WordFault.TheVariants.{Options, Scale, Distance, Most}
 use Rattle.words_core.specs.declared.words.WordFault.TheVariants.{Geometry, RingsOfBoxes, Rings}
 use Rattle.words_core.specs.declared.words.WordFault.TheVariants.{Memory}
 
@@ -17,13 +17,14 @@ word_status_of AllowsDisjoint = 2
 word_status_of (Options fault) = 2
 word_status_of Scale = 2
 word_status_of Distance = 2
+word_status_of Most = 2
 word_status_of Geometry = 2
 word_status_of RingsOfBoxes = 2
 word_status_of Rings = 2
 word_status_of Memory = 1
 
 abbrev pub distance_text : List ℕ
-distance_text = codes "--distance must be a number of the scale, 0 to 1000000000000 units"
+distance_text = codes "--distance must be a number of the scale, 0 to 4000000000000 units"
 
 -- the text of `clap`, or one of the program's own lines
 abbrev pub word_fault_line : WordFault → List ℕ
@@ -33,6 +34,7 @@ word_fault_line AllowsDisjoint = line_of (codes "--relation: " ++ allows_disjoin
 word_fault_line (Options fault) = line_of (option_text fault)
 word_fault_line Scale = line_of (codes "--scale must be 0 to 6")
 word_fault_line Distance = line_of distance_text
+word_fault_line Most = line_of (codes "--most must be 1 to 4294967295")
 word_fault_line Geometry = line_of (codes "--geometry must be box or any")
 word_fault_line RingsOfBoxes = line_of (codes "--rings needs --geometry any")
 word_fault_line Rings = line_of (codes "--rings must be proper or even-odd")

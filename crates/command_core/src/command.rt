@@ -2,17 +2,20 @@
 //! fault line.
 
 ghost use Rattle.std.specs.Prelude.{◌≡◌, false, OnOk};
-ghost use Rattle.command_core.specs.Commands.{CommandEnds, HasImproper, none_improper};
-ghost use Rattle.command_core.specs.Endings.{CommandIsDone};
+ghost use Rattle.join_core.specs.JoinRuns.{SkippedLists};
+ghost use Rattle.command_core.specs.Commands.{CommandEnds};
+ghost use Rattle.command_core.specs.Endings.{AreNoNotes, AreNotes, CommandIsDone};
+ghost use Rattle.command_core.specs.Skipping.{SkipEnds};
 
-use crate::improper::tell_improper;
 use crate::inputs::Inputs;
 use crate::joining::execute_join;
 use crate::layers::{execute_bounds, execute_stats, execute_window};
 use crate::near::execute_near;
+use crate::nearest::execute_nearest;
+use crate::notes::{Notes, tell};
+use crate::outputs::Outputs;
 use crate::relating::execute_relate;
 use join_core::{RunFault, Sink, fault_line};
-use relate_any_core::Improper;
 use std::random::RandomSource;
 use std::sync::Wait;
 use std::thread::Threads;
@@ -23,26 +26,24 @@ pub const FAILED: u8 = 1;
 
 /// Executes a command and returns the exit status: 0 if everything was written, otherwise 1 with
 /// the line of the fault on `errors`. Lines on `errors` also name the geometries of `relate` whose
-/// improper rings were accepted under the even-odd rule.
+/// improper rings were accepted under the even-odd rule, or count the rows that were skipped, and
+/// name rows of layers with such rings.
 pub fn run_command<
     R: RandomSource + AllocGlobal + Threads + Wait + Sync,
-    I: Inputs,
+    I: Inputs + Outputs,
     O: Sink,
     E: Sink,
->(rt: &R, inputs: &I, command: &Command<'_>, output: &mut O, errors: &mut E) -> u8
+>(rt: &R, files: &mut I, command: &Command<'_>, output: &mut O, errors: &mut E) -> u8
     requires output { O.has_failed output.old ≡ false }
     requires errors { E.has_failed errors.old ≡ false }
-    ensures { CommandIsDone (I.files inputs.now)
+    ensures { CommandIsDone (I.files files.old) (I.stored files.old) (I.stored files.new)
         O.written O.is_flushed O.has_failed output.old output.new
         E.written E.has_failed errors.old errors.new command.now result }
 {
-    let mut improper = Improper {
-        first: false,
-        second: false,
-    };
-    match execute(rt, inputs, command, output, &mut improper) {
+    let mut notes = Notes::none(rt.alloc());
+    match execute(rt, files, command, output, &mut notes) {
         Ok(()) => {
-            tell_improper(&improper, errors);
+            tell(&notes, errors);
             0
         }
         Err(fault) => {
@@ -53,27 +54,42 @@ pub fn run_command<
     }
 }
 
-/// Executes a command, and records in `improper` which of the geometries of `relate` have improper
-/// rings.
-fn execute<R: RandomSource + AllocGlobal + Threads + Wait + Sync, I: Inputs, O: Sink>(
+/// Executes a command, and records what there is to say of it.
+fn execute<R: RandomSource + AllocGlobal + Threads + Wait + Sync, I: Inputs + Outputs, O: Sink>(
     rt: &R,
-    inputs: &I,
+    files: &mut I,
     command: &Command<'_>,
     output: &mut O,
-    improper: &mut Improper,
+    notes: &mut Notes,
 ) -> Result<(), RunFault>
     requires output { O.has_failed output.old ≡ false }
-    requires none { improper.old ≡ none_improper }
-    ensures ends { CommandEnds (I.files inputs.now) O.written O.is_flushed O.has_failed
+    requires none { AreNoNotes notes.old }
+    ensures ends { CommandEnds (I.files files.old) O.written O.is_flushed O.has_failed
         command.now output.old output.new result }
-    ensures improper { OnOk result (HasImproper command.now improper.new) }
+    ensures skips { (rows : SkippedLists) × SkipEnds (I.files files.old) command.now
+        (I.stored files.old) (I.stored files.new) rows result
+        × OnOk result (AreNotes (I.files files.old) command.now rows notes.new) }
 {
     match command {
-        Command::Relate(request) => execute_relate(rt.alloc(), request, output, improper),
-        Command::Join(join) => execute_join(rt, inputs, join, output),
-        Command::Near(near) => execute_near(rt, inputs, near, output),
-        Command::Window { layer, wkt } => execute_window(rt, inputs, layer, wkt, output),
-        Command::Stats(layer) => execute_stats(rt, inputs, layer, output),
-        Command::Bounds(layer) => execute_bounds(rt, inputs, layer, output),
+        Command::Relate(request) => {
+            execute_relate(rt.alloc(), request, output, &mut notes.improper)
+        }
+        Command::Join(join) => {
+            let improper = &mut notes.rows.layers;
+            execute_join(rt, files, join, output, &mut notes.skipped, improper)
+        }
+        Command::Near(near) => {
+            let improper = &mut notes.rows.layers;
+            execute_near(rt, files, near, output, &mut notes.skipped, improper)
+        }
+        Command::Nearest(nearest) => {
+            let improper = &mut notes.rows.layers;
+            execute_nearest(rt, files, nearest, output, &mut notes.skipped, improper)
+        }
+        Command::Window { layer, wkt } => {
+            execute_window(rt, files, layer, wkt, output, &mut notes.rows.layer)
+        }
+        Command::Stats(layer) => execute_stats(rt, files, layer, output, &mut notes.rows.layer),
+        Command::Bounds(layer) => execute_bounds(rt, files, layer, output, &mut notes.rows.layer),
     }
 }

@@ -1,19 +1,24 @@
 //! Messages on geometries with improper rings, written after their matrix.
 
-ghost use Rattle.std.specs.Prelude.{◌≡◌, false};
-ghost use Rattle.command_core.specs.Endings.{IsToldOf, improper_text};
+ghost use Rattle.std.specs.Prelude.{◌≡◌, ◌↔◌, false, IsErr, IsTrue};
+ghost use Rattle.command_core.specs.Endings.{IsToldOfRings, improper_text};
 
-use join_core::{Sink, write_text};
+use join_core::{Sink, WriteFailed, write_text};
 use relate_any_core::Improper;
 
 /// Writes one line for each geometry with improper rings: the even-odd rule was applied to it.
-pub fn tell_improper<E: Sink>(improper: &Improper, errors: &mut E)
+///
+/// # Errors
+/// If the sink has failed.
+pub fn tell_improper<E: Sink>(improper: &Improper, errors: &mut E) -> Result<(), WriteFailed>
     requires { E.has_failed errors.old ≡ false }
-    ensures { IsToldOf E.written E.has_failed errors.old errors.new improper.now }
+    ensures told { IsToldOfRings E.written E.has_failed errors.old errors.new improper.now }
+    ensures failed { IsErr result ↔ IsTrue (E.has_failed errors.new) }
 {
     if improper.first || improper.second {
-        // If standard error fails, nothing more can be reported.
-        let _ = write_text(errors, improper_text(improper).as_bytes());
+        write_text(errors, improper_text(improper).as_bytes())
+    } else {
+        Ok(())
     }
 }
 

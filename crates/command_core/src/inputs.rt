@@ -3,7 +3,7 @@
 ghost use Rattle.std.specs.Prelude.{◌≡◌, ℕ, List, Option, None, false, IfOk, IfSome};
 ghost use Rattle.command_core.specs.Opening.{Opens};
 
-use file_core::Source;
+use row_core::Source;
 use thiserror::Error;
 
 /// A file can't be opened.

@@ -1,7 +1,9 @@
 //! Commands over one layer of boxes or of any geometry: windows, counts and corners.
 
-ghost use Rattle.std.specs.Prelude.{◌≡◌, false};
+ghost use Rattle.std.specs.Prelude.{◌≡◌, [], false, OnOk};
 ghost use Rattle.command_core.specs.Commands.{CommandEnds};
+ghost use Rattle.command_core.specs.ImproperRows.{LayerRows};
+ghost use Rattle.command_core.specs.Opening.{bytes_at};
 ghost use Rattle.words_core.specs.declared.words.Command.TheVariants.{Bounds, Stats, Window};
 
 use crate::inputs::Inputs;
@@ -9,7 +11,10 @@ use crate::opening::open_layer;
 use any_run_core::{run_any_stats, run_any_window};
 use file_core::LayerReader;
 use format_core::AnyFormat;
-use join_core::{DEFAULT_WORKERS, RunFault, Sink, run_bounds, run_stats, run_window};
+use join_core::{
+    DEFAULT_WORKERS, ImproperRings, RunFault, Sink, run_bounds, run_bounds_marking, run_stats,
+    run_window,
+};
 use std::random::RandomSource;
 use std::thread::Threads;
 use words_core::{Geometries, LayerRequest};
@@ -21,10 +26,15 @@ pub fn execute_window<R: RandomSource + AllocGlobal + Threads + Sync, I: Inputs,
     request: &LayerRequest<'_>,
     wkt: &str,
     output: &mut O,
+    improper: &mut Vec<u32>,
 ) -> Result<(), RunFault>
-    requires { O.has_failed output.old ≡ false }
-    ensures { CommandEnds (I.files inputs.now) O.written O.is_flushed O.has_failed
+    requires output { O.has_failed output.old ≡ false }
+    requires none { improper.old.items ≡ [] }
+    ensures ends { CommandEnds (I.files inputs.now) O.written O.is_flushed O.has_failed
         (Window request.now wkt.entry) output.old output.new result }
+    ensures rows { let request = request.now in
+        let bytes = bytes_at (I.files inputs.now) request.path.now in
+        OnOk result (LayerRows request.geometries request.scale bytes improper.new.items) }
 {
     let (mut layer, state) = open_layer(rt, inputs, request.path)?;
     let wkt = wkt.as_bytes();
@@ -38,7 +48,7 @@ pub fn execute_window<R: RandomSource + AllocGlobal + Threads + Sync, I: Inputs,
                 format: AnyFormat { scale, rings },
                 threads: DEFAULT_WORKERS,
             };
-            run_any_window(&reader, state, &mut layer, wkt, output)
+            run_any_window(&reader, state, &mut layer, wkt, improper, output)
         }
     }
 }
@@ -49,10 +59,15 @@ pub fn execute_stats<R: RandomSource + AllocGlobal + Threads + Sync, I: Inputs, 
     inputs: &I,
     request: &LayerRequest<'_>,
     output: &mut O,
+    improper: &mut Vec<u32>,
 ) -> Result<(), RunFault>
-    requires { O.has_failed output.old ≡ false }
-    ensures { CommandEnds (I.files inputs.now) O.written O.is_flushed O.has_failed
+    requires output { O.has_failed output.old ≡ false }
+    requires none { improper.old.items ≡ [] }
+    ensures ends { CommandEnds (I.files inputs.now) O.written O.is_flushed O.has_failed
         (Stats request.now) output.old output.new result }
+    ensures rows { let request = request.now in
+        let bytes = bytes_at (I.files inputs.now) request.path.now in
+        OnOk result (LayerRows request.geometries request.scale bytes improper.new.items) }
 {
     let (mut layer, state) = open_layer(rt, inputs, request.path)?;
     let scale = request.scale;
@@ -60,7 +75,7 @@ pub fn execute_stats<R: RandomSource + AllocGlobal + Threads + Sync, I: Inputs, 
         Geometries::Box => run_stats(rt, rt.alloc(), state, scale, &mut layer, output),
         Geometries::Any(rings) => {
             let format = AnyFormat { scale, rings };
-            run_any_stats(rt, rt.alloc(), state, format, &mut layer, output)
+            run_any_stats(rt, rt.alloc(), state, format, &mut layer, improper, output)
         }
     }
 }
@@ -71,18 +86,29 @@ pub fn execute_bounds<R: RandomSource + AllocGlobal + Threads + Sync, I: Inputs,
     inputs: &I,
     request: &LayerRequest<'_>,
     output: &mut O,
+    improper: &mut Vec<u32>,
 ) -> Result<(), RunFault>
-    requires { O.has_failed output.old ≡ false }
-    ensures { CommandEnds (I.files inputs.now) O.written O.is_flushed O.has_failed
+    requires output { O.has_failed output.old ≡ false }
+    requires none { improper.old.items ≡ [] }
+    ensures ends { CommandEnds (I.files inputs.now) O.written O.is_flushed O.has_failed
         (Bounds request.now) output.old output.new result }
+    ensures rows { let request = request.now in
+        let bytes = bytes_at (I.files inputs.now) request.path.now in
+        OnOk result (LayerRows request.geometries request.scale bytes improper.new.items) }
 {
     let (mut layer, state) = open_layer(rt, inputs, request.path)?;
     let scale = request.scale;
     match request.geometries {
         Geometries::Box => run_bounds(rt, rt.alloc(), state, scale, &mut layer, output),
         Geometries::Any(rings) => {
-            let format = AnyFormat { scale, rings };
-            run_bounds(rt, rt.alloc(), state, format, &mut layer, output)
+            let reader = LayerReader {
+                rt,
+                alloc: rt.alloc(),
+                format: AnyFormat { scale, rings },
+                threads: DEFAULT_WORKERS,
+            };
+            let marks = ImproperRings { rings };
+            run_bounds_marking(&reader, state, &mut layer, &marks, improper, output)
         }
     }
 }

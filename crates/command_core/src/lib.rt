@@ -4,20 +4,26 @@
 
 mod command;
 mod improper;
+mod improper_rows;
 mod inputs;
 mod joining;
 mod layers;
 mod near;
+mod nearest;
+mod notes;
 mod opening;
+mod outputs;
 mod program;
 mod relating;
+mod skipping;
 mod word_fault;
 
 pub use command::{FAILED, run_command};
 pub use inputs::{Inputs, NotOpened};
+pub use outputs::{NotStored, Outputs};
 pub use program::{run_program, run_words};
 pub use word_fault::{word_line, word_status};
 pub use words_core::{
     Command, Condition, Geometries, JoinRequest, LayerPaths, LayerRequest, NearRequest,
-    RelateRequest, WordFault, is_standard_input, read_words,
+    NearestRequest, RelateRequest, WordFault, is_standard_input, read_words,
 };

@@ -1,36 +1,103 @@
-//! Joins of two layers of boxes by distance, after a file of edits.
+//! Joins of two layers of boxes or of any geometry by distance, after a file of edits.
 
-ghost use Rattle.std.specs.Prelude.{◌≡◌, false};
+ghost use Rattle.std.specs.Prelude.{◌≡◌, Ok, Err, false, IfOk, IfErr, OnOk};
+ghost use Rattle.join_core.specs.Inputs.{BlamesInput};
+ghost use Rattle.join_core.specs.JoinRuns.{SkippedLists, skipped_lists};
+ghost use Rattle.join_core.specs.Marks.{marked_lists, no_rows};
+ghost use Rattle.join_core.specs.SourceStates.{AreFresh, TellsFailures};
+ghost use Rattle.join_core.specs.Texts.{bytes_of_text};
 ghost use Rattle.command_core.specs.Commands.{CommandEnds};
+ghost use Rattle.command_core.specs.NearResults.{NearRequestGives, IsKindFault, job_of};
+ghost use Rattle.command_core.specs.ImproperRows.{KindRows};
+ghost use Rattle.command_core.specs.JoinResults.{known_bytes};
+ghost use Rattle.command_core.specs.Opening.{bytes_in};
+ghost use Rattle.command_core.specs.Skipping.{KindSkips, SkipEnds, counts_for};
 ghost use Rattle.words_core.specs.declared.words.Command.TheVariants.{Near};
 
 use crate::inputs::Inputs;
+use crate::notes::SkippedCounts;
 use crate::opening::{hash_states, open_sources};
-use join_core::{RunFault, Sink};
-use near_run_core::{NearJob, run_near};
+use crate::outputs::Outputs;
+use crate::skipping::{counts_for, unreadable_for, write_made};
+use join_core::{JoinSources, JoinText, MarkedRows, RunFault, Sink};
+use near_run_core::{AnyNearJob, NearJob, any_near_text, near_text};
+use row_core::Source;
+use std::hash::RandomState;
 use std::random::RandomSource;
 use std::sync::Wait;
 use std::thread::Threads;
-use words_core::NearRequest;
+use words_core::{Geometries, NearRequest};
 
-/// Writes the report of a join by distance.
-pub fn execute_near<R: RandomSource + AllocGlobal + Threads + Wait + Sync, I: Inputs, O: Sink>(
+/// Writes the report of a join by distance, and before it the list of the rows that were skipped,
+/// whose numbers are recorded, if it is asked for. Records the rows with improper rings.
+pub fn execute_near<
+    R: RandomSource + AllocGlobal + Threads + Wait + Sync,
+    I: Inputs + Outputs,
+    O: Sink,
+>(
     rt: &R,
-    inputs: &I,
+    files: &mut I,
     near: &NearRequest<'_>,
     output: &mut O,
+    skipped: &mut Option<SkippedCounts>,
+    improper: &mut MarkedRows,
 ) -> Result<(), RunFault>
-    requires { O.has_failed output.old ≡ false }
-    ensures { CommandEnds (I.files inputs.now) O.written O.is_flushed O.has_failed
+    requires output { O.has_failed output.old ≡ false }
+    requires none { marked_lists improper.old ≡ no_rows }
+    ensures ends { CommandEnds (I.files files.old) O.written O.is_flushed O.has_failed
         (Near near.now) output.old output.new result }
+    ensures skips { (rows : SkippedLists) × SkipEnds (I.files files.old) (Near near.now)
+        (I.stored files.old) (I.stored files.new) rows result
+        × OnOk result (skipped.new ≡ counts_for near.now.paths.skip rows) }
+    ensures rows { let bytes = known_bytes (I.files files.old) near.now.paths in
+        let rows = marked_lists improper.new in
+        OnOk result (KindRows near.now.geometries (job_of near.now) near.now.paths.skip
+        bytes rows) }
 {
-    let mut sources = open_sources(inputs, &near.paths)?;
+    let mut sources = open_sources(files, &near.paths)?;
     let states = hash_states(rt)?;
+    let made = request_text(rt, near, states, &mut sources, improper)?;
+    *skipped = counts_for(&made.skipped, near.paths.skip);
+    write_made(rt.alloc(), &made, near.paths.skip, files, output)
+}
+
+/// The report of a join of opened files by distance, and the rows that were skipped. `states` hash
+/// the ids of the two layers.
+fn request_text<R: AllocGlobal + Threads + Wait + Sync, F: Source>(
+    rt: &R,
+    near: &NearRequest<'_>,
+    states: (RandomState, RandomState),
+    sources: &mut JoinSources<F, F, F>,
+    improper: &mut MarkedRows,
+) -> Result<JoinText, RunFault>
+    requires fresh { AreFresh F.has_failed F.has_failed F.has_failed sources.old }
+    requires none { marked_lists improper.old ≡ no_rows }
+    ensures ok { let gives = NearRequestGives near.now (bytes_in F.remaining sources.old) in
+        IfOk result (λ made. gives (Ok (bytes_of_text made.text))) }
+    ensures skipped { let request = near.now in let bytes = bytes_in F.remaining sources.old in
+        IfOk result (λ made. KindSkips request.geometries (job_of request) request.paths.skip
+        bytes (skipped_lists made.skipped)) }
+    ensures rows { let request = near.now in let bytes = bytes_in F.remaining sources.old in
+        OnOk result (KindRows request.geometries (job_of request) request.paths.skip bytes
+        (marked_lists improper.new)) }
+    ensures fault { let gives = NearRequestGives near.now (bytes_in F.remaining sources.old) in
+        IfErr result (λ f. BlamesInput f → gives (Err f)) }
+    ensures faults { let request = near.now in let bytes = bytes_in F.remaining sources.old in
+        IfErr result (IsKindFault request.geometries (job_of request) request.paths.skip bytes) }
+    ensures io { TellsFailures F.has_failed F.has_failed F.has_failed sources.new result }
+{
+    let unreadable = unreadable_for(near.paths.skip);
     let job = NearJob {
         scale: near.scale,
         distance: near.distance,
         nearness: near.nearness,
         options: near.options,
     };
-    run_near(rt, &job, states, &mut sources, output)
+    match near.geometries {
+        Geometries::Box => near_text(rt, &job, unreadable, states, sources),
+        Geometries::Any(rings) => {
+            let job = AnyNearJob { near: job, rings };
+            any_near_text(rt, &job, unreadable, states, sources, improper)
+        }
+    }
 }

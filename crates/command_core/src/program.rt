@@ -6,6 +6,7 @@ ghost use Rattle.words_core.specs.Readings.{IsUngiven};
 
 use crate::command::{FAILED, run_command};
 use crate::inputs::Inputs;
+use crate::outputs::Outputs;
 use crate::word_fault::{word_line, word_status};
 use join_core::{RunFault, Sink, WriteFailed, fault_line};
 use std::alloc::{AllocError, Global};
@@ -20,18 +21,18 @@ use words_core::{WordFault, read_words};
 /// go to `output`, the line of a fault to `errors`.
 pub fn run_program<
     R: Env + RandomSource + AllocGlobal + Threads + Wait + Sync,
-    I: Inputs,
+    I: Inputs + Outputs,
     O: Sink,
     E: Sink,
->(rt: &R, inputs: &I, output: &mut O, errors: &mut E) -> u8
+>(rt: &R, files: &mut I, output: &mut O, errors: &mut E) -> u8
     requires output { O.has_failed output.old ≡ false }
     requires errors { E.has_failed errors.old ≡ false }
-    ensures { ProgramIsDone (I.files inputs.now)
+    ensures { ProgramIsDone (I.files files.old) (I.stored files.old) (I.stored files.new)
         O.written O.is_flushed O.has_failed output.old output.new
         E.written E.has_failed errors.old errors.new result }
 {
     match given_words(rt) {
-        Ok(words) => run_words(rt, &words, inputs, output, errors),
+        Ok(words) => run_words(rt, &words, files, output, errors),
         Err(fault) => show_word_fault(&fault, output, errors),
     }
 }
@@ -53,18 +54,19 @@ fn given_words<R: Env + AllocGlobal>(rt: &R) -> Result<Vec<String>, WordFault>
 /// Runs the program on the given words.
 pub fn run_words<
     R: RandomSource + AllocGlobal + Threads + Wait + Sync,
-    I: Inputs,
+    I: Inputs + Outputs,
     O: Sink,
     E: Sink,
->(rt: &R, words: &[String], inputs: &I, output: &mut O, errors: &mut E) -> u8
+>(rt: &R, words: &[String], files: &mut I, output: &mut O, errors: &mut E) -> u8
     requires output { O.has_failed output.old ≡ false }
     requires errors { E.has_failed errors.old ≡ false }
-    ensures { WordsAreDone (map string_bytes words.now) (I.files inputs.now)
+    ensures { WordsAreDone (map string_bytes words.now)
+        (I.files files.old) (I.stored files.old) (I.stored files.new)
         O.written O.is_flushed O.has_failed output.old output.new
         E.written E.has_failed errors.old errors.new result }
 {
     match texts_of(rt.alloc(), words) {
-        Ok(words) => run_read(rt, &words, inputs, output, errors),
+        Ok(words) => run_read(rt, &words, files, output, errors),
         Err(AllocError) => show_word_fault(&WordFault::Memory, output, errors),
     }
 }
@@ -82,21 +84,21 @@ fn texts_of(alloc: Global, words: &[String]) -> Result<Vec<&str>, AllocError>
 }
 
 /// Reads the words as a command and runs it, or shows why they are none.
-fn run_read<R: RandomSource + AllocGlobal + Threads + Wait + Sync, I: Inputs, O: Sink, E: Sink>(
-    rt: &R,
-    words: &[&str],
-    inputs: &I,
-    output: &mut O,
-    errors: &mut E,
-) -> u8
+fn run_read<
+    R: RandomSource + AllocGlobal + Threads + Wait + Sync,
+    I: Inputs + Outputs,
+    O: Sink,
+    E: Sink,
+>(rt: &R, words: &[&str], files: &mut I, output: &mut O, errors: &mut E) -> u8
     requires output { O.has_failed output.old ≡ false }
     requires errors { E.has_failed errors.old ≡ false }
-    ensures { WordsAreDone (map (λ word. word.now) words.now) (I.files inputs.now)
+    ensures { WordsAreDone (map (λ word. word.now) words.now)
+        (I.files files.old) (I.stored files.old) (I.stored files.new)
         O.written O.is_flushed O.has_failed output.old output.new
         E.written E.has_failed errors.old errors.new result }
 {
     match read_words(rt.alloc(), words) {
-        Ok(command) => run_command(rt, inputs, &command, output, errors),
+        Ok(command) => run_command(rt, files, &command, output, errors),
         Err(fault) => show_word_fault(&fault, output, errors),
     }
 }

@@ -23,6 +23,7 @@ pub fn word_status(fault: &WordFault) -> u8
         WordFault::Options(_) => 2,
         WordFault::Scale => 2,
         WordFault::Distance => 2,
+        WordFault::Most => 2,
         WordFault::Geometry => 2,
         WordFault::RingsOfBoxes => 2,
         WordFault::Rings => 2,
@@ -59,8 +60,9 @@ pub fn word_line<S: Sink>(fault: &WordFault, sink: &mut S) -> Result<(), WriteFa
         }
         WordFault::Scale => line.push("--scale must be 0 to 6"),
         WordFault::Distance => {
-            line.push("--distance must be a number of the scale, 0 to 1000000000000 units");
+            line.push("--distance must be a number of the scale, 0 to 4000000000000 units");
         }
+        WordFault::Most => line.push("--most must be 1 to 4294967295"),
         WordFault::Geometry => line.push("--geometry must be box or any"),
         WordFault::RingsOfBoxes => line.push("--rings needs --geometry any"),
         WordFault::Rings => line.push("--rings must be proper or even-odd"),

@@ -49,6 +49,26 @@ pub const JOINS: &[Run] = &[
         "left,right,matrix\nq,t,F0FFFF212\n",
         "",
     ),
+    (
+        "join|bow.csv|bow.csv|--relation|intersects|--geometry|any|--rings|even-odd",
+        0,
+        "left,right,matrix\ndot,dot,0FFFFFFF2\ndot,bow,F0FFFF212\n\
+         bow,dot,FF20F1FF2\nbow,bow,2FFF1FFF2\n",
+        "rjoin: left: even-odd rule for 1 feature with improper rings: row 2\n\
+         rjoin: right: even-odd rule for 1 feature with improper rings: row 2\n",
+    ),
+    (
+        "nearest|bow.csv|right.csv|--geometry|any|--rings|even-odd",
+        0,
+        "left,right,distance\ndot,s,0\nbow,s,0\nbow,q,0\n",
+        "rjoin: left: even-odd rule for 1 feature with improper rings: row 2\n",
+    ),
+    (
+        "window|bow.csv|POINT (0 0)|--geometry|any|--rings|even-odd",
+        0,
+        "id\ndot\nbow\n",
+        "rjoin: layer: even-odd rule for 1 feature with improper rings: row 2\n",
+    ),
 ];
 
 #[test]

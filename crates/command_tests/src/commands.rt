@@ -74,7 +74,7 @@ church field,high street,1
         "near|parcels.csv|roads.csv|--distance|far",
         2,
         "",
-        "rjoin: --distance must be a number of the scale, 0 to 1000000000000 units\n",
+        "rjoin: --distance must be a number of the scale, 0 to 4000000000000 units\n",
     ),
 ];
 
@@ -93,6 +93,70 @@ const NEAR_AFTER_EDITS: [Run; 3] = [
     ),
     (
         "near|bad.csv|right.csv|--distance|0|--edits|edits.csv",
+        1,
+        "",
+        "rjoin: left: row 2: id is already there\n",
+    ),
+];
+
+const ROADS_NEAREST_TO_A_PARCEL: [Run; 4] = [
+    (
+        "nearest|data/parcels.csv|data/roads.csv",
+        0,
+        "left,right,distance
+mill field,mill lane,0
+church field,mill lane,0
+church field,church path,0
+church field,north road,0
+\"meadow, upper\",north road,0
+",
+        "",
+    ),
+    (
+        "nearest|data/parcels.csv|data/roads.csv|--most|3|--distance|2",
+        0,
+        "left,right,distance
+mill field,mill lane,0
+mill field,high street,1
+church field,mill lane,0
+church field,church path,0
+church field,north road,0
+\"meadow, upper\",north road,0
+\"meadow, upper\",high street,1
+\"meadow, upper\",mill lane,2
+\"meadow, upper\",church path,2
+",
+        "",
+    ),
+    (
+        "nearest|data/parcels.csv|roads.csv",
+        1,
+        "",
+        "rjoin: right: cannot be opened\n",
+    ),
+    (
+        "nearest|parcels.csv|roads.csv|--most|0",
+        2,
+        "",
+        "rjoin: --most must be 1 to 4294967295\n",
+    ),
+];
+
+const NEAREST_AFTER_EDITS: [Run; 3] = [
+    (
+        "nearest|left.csv|right.csv",
+        0,
+        "left,right,distance\na,x,0\nb,x,0\n",
+        "",
+    ),
+    (
+        "nearest|left.csv|right.csv|--edits|edits.csv",
+        0,
+        "left,right,distance\nb,x,0\nb,y,0\n",
+        "",
+    ),
+    (
+        "nearest|bad.csv|right.csv|--edits|edits.csv",
         1,
         "",
         "rjoin: left: row 2: id is already there\n",
@@ -237,6 +301,16 @@ fn parcels_near_a_road(rt: HostRuntime) -> Result<(), Fail> {
 #[test]
 fn near_after_edits(rt: HostRuntime) -> Result<(), Fail> {
     check(&rt, &FILES, &NEAR_AFTER_EDITS)
+}
+
+#[test]
+fn roads_nearest_to_a_parcel(rt: HostRuntime) -> Result<(), Fail> {
+    check(&rt, &MAPS, &ROADS_NEAREST_TO_A_PARCEL)
+}
+
+#[test]
+fn nearest_after_edits(rt: HostRuntime) -> Result<(), Fail> {
+    check(&rt, &FILES, &NEAREST_AFTER_EDITS)
 }
 
 #[test]

@@ -18,4 +18,6 @@ mod runs;
 #[cfg(test)]
 mod shelf;
 #[cfg(test)]
+mod skipping;
+#[cfg(test)]
 mod words;

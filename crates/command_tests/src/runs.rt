@@ -22,7 +22,7 @@ struct Ended {
 }
 
 /// The name of the program, and the words between `|`.
-fn given_words(alloc: Global, words: &str) -> Result<Vec<String>, AllocError> {
+pub fn given_words(alloc: Global, words: &str) -> Result<Vec<String>, AllocError> {
     let mut given = Vec::new(alloc);
     given.push(String::from_str(alloc, "rjoin")?)?;
     for word in words.split('|') {
@@ -39,7 +39,8 @@ fn run_on<R: RandomSource + AllocGlobal + Threads + Wait + Sync>(
 ) -> Ended {
     let mut output = ToWrite::new(Vec::new(rt.alloc()));
     let mut errors = ToWrite::new(Vec::new(rt.alloc()));
-    let status = run_words(rt, words, &Shelf { files }, &mut output, &mut errors);
+    let mut shelf = Shelf::new(rt.alloc(), files);
+    let status = run_words(rt, words, &mut shelf, &mut output, &mut errors);
     Ended {
         status,
         written: output.into_inner(),

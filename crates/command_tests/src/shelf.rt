@@ -1,7 +1,8 @@
 //! Files in memory.
 
-use command_core::{Inputs, NotOpened};
-use file_core::FromRead;
+use command_core::{Inputs, NotOpened, NotStored, Outputs};
+use row_core::FromRead;
+use std::alloc::Global;
 
 /// Two layers, edits, a layer with a fault, and edits on standard input.
 pub const FILES: [(&str, &str); 5] = [
@@ -21,10 +22,26 @@ pub const FILES: [(&str, &str); 5] = [
     ("-", "op,layer,id,wkt\ndelete,left,a,\n"),
 ];
 
-/// Files by their paths.
+/// Files by their paths, and those that were stored.
 #[derive(Drop)]
 pub struct Shelf<'a> {
+    pub alloc: Global,
     pub files: &'a [(&'a str, &'a str)],
+    pub stored: Vec<(String, Vec<u8>)>,
+    /// Whether a file can be stored.
+    pub is_open: bool,
+}
+
+impl<'a> Shelf<'a> {
+    /// Files of which none was stored yet.
+    pub fn new(alloc: Global, files: &'a [(&'a str, &'a str)]) -> Shelf<'a> {
+        Shelf {
+            alloc,
+            files,
+            stored: Vec::new(alloc),
+            is_open: true,
+        }
+    }
 }
 
 impl<'a> Inputs for Shelf<'a> {
@@ -37,5 +54,22 @@ impl<'a> Inputs for Shelf<'a> {
             }
         }
         Err(NotOpened)
+    }
+}
+
+impl Outputs for Shelf<'_> {
+    fn store(&mut self, path: &str, bytes: &[u8]) -> Result<(), NotStored> {
+        if !self.is_open {
+            return Err(NotStored);
+        }
+        let alloc = self.alloc;
+        let (Ok(path), Ok(bytes)) = (String::from_str(alloc, path), Vec::from_slice(alloc, bytes))
+        else {
+            return Err(NotStored);
+        };
+        match self.stored.push((path, bytes)) {
+            Ok(()) => Ok(()),
+            Err(_) => Err(NotStored),
+        }
     }
 }

@@ -23,10 +23,10 @@ use Rattle.edge_distance_core.proofs.LeastLemmas.{pos_scaled, pos_scale, from_fa
 natural_same : (a b : ℕ) (x y : ℤ) → pos a ≡ x → pos b ≡ y → x ≡ y → a ≡ b
 natural_same a b x y e f h = omega (arith, ints)
 
-scaled_turned : (p q : Point) → scaled_square p q ≡ scaled_square q p
+pub scaled_turned : (p q : Point) → scaled_square p q ≡ scaled_square q p
 scaled_turned p q = natural_same _ _ _ _ (pos_scaled p q) (pos_scaled q p) (off-turned p q)
 
-scale_turned : (p q : Point) → scale_of p q ≡ scale_of q p
+pub scale_turned : (p q : Point) → scale_of p q ≡ scale_of q p
 scale_turned p q = natural_same _ _ _ _ (pos_scale p q) (pos_scale q p) (scale-turned p q)
 
 pub reach_turned : (n d : ℕ) (P Q : Point → Type 0) → ReachFraction n d P Q → ReachFraction n d Q P

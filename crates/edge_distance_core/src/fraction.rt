@@ -27,7 +27,7 @@ impl SquaredFraction {
     ghost use Rattle.edge_distance_core.specs.FractionRoots.{IsRoundedFractionRoot, IsRootFrom};
 
     /// A whole number as a fraction.
-    pub(crate) fn whole(square: u128) -> SquaredFraction
+    pub fn whole(square: u128) -> SquaredFraction
         requires { square ≤ greatest_square }
         ensures numerator { numerator_of result ≡ square }
         ensures denominator { result.denominator ≡ 1 }
@@ -51,14 +51,21 @@ impl SquaredFraction {
         left.compare(right)
     }
 
+    /// Whether the square is at most a whole number.
+    pub fn is_at_most(&self, square: u128) -> bool
+        ensures { IsTrue result ↔ numerator_of self.now ≤ square * self.now.denominator }
+    {
+        let limit = Wide::product(square, self.denominator);
+        self.numerator.compare(limit).is_le()
+    }
+
     /// Whether the square is at most that of a distance.
     pub fn is_within(&self, distance: Distance) -> bool
         ensures { IsTrue result ↔ numerator_of self.now
             ≤ (units_of distance * units_of distance) * self.now.denominator }
     {
         let units = u128::from(distance.units());
-        let limit = Wide::product(units * units, self.denominator);
-        self.numerator.compare(limit).is_le()
+        self.is_at_most(units * units)
     }
 
     /// Whether the root of the square is at least `root - 1/2`.

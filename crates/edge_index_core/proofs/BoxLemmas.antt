@@ -36,7 +36,7 @@ box_corners e = record {
 }
 
 -- an interval with a number of another doesn't begin after that one's end
-begins_before : (a b c d z w : ℤ) → pos 0 <ℤ w → IsIn (w *ℤ a) (w *ℤ b) z → IsIn (w *ℤ c) (w *ℤ d) z → int_min a b ≤ℤ int_max c d
+pub begins_before : (a b c d z w : ℤ) → pos 0 <ℤ w → IsIn (w *ℤ a) (w *ℤ b) z → IsIn (w *ℤ c) (w *ℤ d) z → int_min a b ≤ℤ int_max c d
 begins_before a b c d z w hw h k = by_lt_z (int_max c d) (int_min a b)
     (λ behind. absurd (clash _ _ z (low_of a b z w hw h) (high_of c d z w hw k) (less_scaled w (int_max c d) (int_min a b) hw behind)))
     (λ before. before)

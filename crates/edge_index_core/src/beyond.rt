@@ -6,6 +6,7 @@ ghost use Rattle.edge_index_core.specs.Beyond.{is_left, is_right, is_low, is_hig
 use geom_core::Shape;
 use plane_core::Edge;
 
+#[inline]
 fn is_left(e: &Edge, bounds: &Shape) -> bool
     ensures { result ≡ is_left bounds.now e.now }
 {
@@ -13,6 +14,7 @@ fn is_left(e: &Edge, bounds: &Shape) -> bool
     e.a.x < limit && e.b.x < limit
 }
 
+#[inline]
 fn is_right(e: &Edge, bounds: &Shape) -> bool
     ensures { result ≡ is_right bounds.now e.now }
 {
@@ -20,6 +22,7 @@ fn is_right(e: &Edge, bounds: &Shape) -> bool
     limit < e.a.x && limit < e.b.x
 }
 
+#[inline]
 fn is_low(e: &Edge, bounds: &Shape) -> bool
     ensures { result ≡ is_low bounds.now e.now }
 {
@@ -27,6 +30,7 @@ fn is_low(e: &Edge, bounds: &Shape) -> bool
     e.a.y < limit && e.b.y < limit
 }
 
+#[inline]
 fn is_high(e: &Edge, bounds: &Shape) -> bool
     ensures { result ≡ is_high bounds.now e.now }
 {
@@ -35,12 +39,9 @@ fn is_high(e: &Edge, bounds: &Shape) -> bool
 }
 
 /// Whether an edge lies entirely on one side of a box.
+#[inline]
 pub fn is_beyond(e: &Edge, bounds: &Shape) -> bool
     ensures { result ≡ is_beyond bounds.now e.now }
 {
-    let left = is_left(e, bounds);
-    let right = is_right(e, bounds);
-    let low = is_low(e, bounds);
-    let high = is_high(e, bounds);
-    left | right | low | high
+    is_left(e, bounds) || is_right(e, bounds) || is_low(e, bounds) || is_high(e, bounds)
 }

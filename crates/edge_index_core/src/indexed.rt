@@ -9,13 +9,13 @@ ghost use Rattle.edge_index_core.specs.Indexes.{IsIndexOf};
 ghost use Rattle.edge_index_core.specs.Runs.{AreRunBoxes};
 ghost use Rattle.edge_index_core.specs.Trees.{IsTreeOf};
 
-use crate::around::{find_around, scan_around};
+use crate::around::{find_around, runs_around, scan_around};
 use crate::entries::entries_of;
 use crate::runs::{run_boxes, scan_runs};
 use crate::scan::scan_node;
 use crate::starts::Starts;
 use geom_core::Shape;
-use plane_core::{Edge, Outline, Place, Scan, Standing};
+use plane_core::{Edge, Outline, Place, Scan, Spot, Standing};
 use rtree_core::{Node, RTree};
 use std::alloc::{AllocError, Global};
 use std::marker::Model;
@@ -81,8 +81,18 @@ fn scan_of(root: &Node, edges: &[Edge], p: &Place) -> Scan
     requires { IsTreeOf edges.now root.now }
     ensures { IsScan edges.now (point_of p.now) result }
 {
+    let spot = Spot::of(p);
     let none = Scan::empty();
-    scan_node(root, edges, p, none)
+    scan_node(root, edges, &spot, none)
+}
+
+/// The scan of edges at a point, by the boxes of their runs.
+fn scan_by_runs(boxes: &[Shape], edges: &[Edge], p: &Place) -> Scan
+    requires { AreRunBoxes edges.now boxes.now }
+    ensures { IsScan edges.now (point_of p.now) result }
+{
+    let spot = Spot::of(p);
+    scan_runs(boxes, edges, &spot)
 }
 
 impl IndexedOutline {
@@ -91,7 +101,7 @@ impl IndexedOutline {
         ensures { IfOk result (λ i. i ≡ outline) }
     {
         let index = index_of(alloc, &outline.edges)?;
-        let starts = Starts::of(&outline.edges);
+        let starts = Starts::of(&outline);
         Ok(IndexedOutline {
             outline,
             index,
@@ -103,7 +113,7 @@ impl IndexedOutline {
     pub fn plain(outline: Outline) -> IndexedOutline
         ensures { result ≡ outline }
     {
-        let starts = Starts::of(&outline.edges);
+        let starts = Starts::of(&outline);
         IndexedOutline {
             outline,
             index: EdgeIndex::None,
@@ -159,7 +169,8 @@ impl IndexedOutline {
     {
         match &self.index {
             EdgeIndex::Tree(tree) => find_around(alloc, tree, &self.outline.edges, bounds),
-            _ => scan_around(alloc, &self.outline.edges, bounds),
+            EdgeIndex::Runs(boxes) => runs_around(alloc, boxes, &self.outline.edges, bounds),
+            EdgeIndex::None => scan_around(alloc, &self.outline.edges, bounds),
         }
     }
 
@@ -174,7 +185,7 @@ impl IndexedOutline {
         }
         match self.run_boxes() {
             Some(boxes) => {
-                let scan = scan_runs(boxes, &self.outline.edges, p);
+                let scan = scan_by_runs(boxes, &self.outline.edges, p);
                 self.outline.standing_by(p, scan)
             }
             None => self.outline.standing_at(p),

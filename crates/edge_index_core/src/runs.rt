@@ -8,7 +8,7 @@ ghost use Rattle.edge_index_core.specs.Runs.{run_len, HoldsEdge, AreRunBoxes};
 
 use crate::bounds::bounds_of;
 use geom_core::Shape;
-use plane_core::{Edge, Place, Scan};
+use plane_core::{Edge, Scan, Spot};
 use std::alloc::{AllocError, Global};
 
 /// The number of edges of a run; the last run may have fewer.
@@ -51,8 +51,8 @@ pub(crate) fn run_boxes(alloc: Global, edges: &[Edge]) -> Result<Vec<Shape>, All
 }
 
 /// Adds edges to a scan.
-fn scan_all(edges: &[Edge], p: &Place, scan: Scan) -> Scan
-    ensures { let q = point_of p.now in
+fn scan_all(edges: &[Edge], p: &Spot, scan: Scan) -> Scan
+    ensures { let q = point_of p.now.place in
         (es : List Edge) → IsScan es q scan → IsScan (es ++ edges.now) q result }
 {
     let mut grown = scan;
@@ -64,9 +64,9 @@ fn scan_all(edges: &[Edge], p: &Place, scan: Scan) -> Scan
 
 /// The scan of edges at a point, by the boxes of their runs. A run is skipped unless the point is
 /// over its box.
-pub(crate) fn scan_runs(boxes: &[Shape], edges: &[Edge], p: &Place) -> Scan
+pub(crate) fn scan_runs(boxes: &[Shape], edges: &[Edge], p: &Spot) -> Scan
     requires { AreRunBoxes edges.now boxes.now }
-    ensures { IsScan edges.now (point_of p.now) result }
+    ensures { IsScan edges.now (point_of p.now.place) result }
 {
     let mut scan = Scan::empty();
     let mut rest = edges;

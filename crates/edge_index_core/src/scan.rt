@@ -7,13 +7,13 @@ ghost use Rattle.rtree_core.specs.Nodes.{entries_of, IsLawful};
 ghost use Rattle.edge_index_core.specs.Trees.{IsEntryIn};
 ghost use Rattle.edge_index_core.specs.Scans.{AddsScan};
 
-use plane_core::{Edge, Place, Scan};
+use plane_core::{Edge, Scan, Spot};
 use rtree_core::{Entry, Node};
 
 /// Adds the edges of a leaf to a scan. An edge is skipped unless the point is over its box.
-fn scan_entries(entries: &[Entry], edges: &[Edge], p: &Place, scan: Scan) -> Scan
+fn scan_entries(entries: &[Entry], edges: &[Edge], p: &Spot, scan: Scan) -> Scan
     requires { All (IsEntryIn edges.now) entries.now }
-    ensures { AddsScan edges.now (point_of p.now) entries.now scan result }
+    ensures { AddsScan edges.now (point_of p.now.place) entries.now scan result }
 {
     let mut grown = scan;
     for entry in entries {
@@ -30,11 +30,11 @@ fn scan_entries(entries: &[Entry], edges: &[Edge], p: &Place, scan: Scan) -> Sca
 /// Adds the edges below nodes of a tree to a scan. A node is skipped unless the point is over its
 /// cover.
 #[cycle(scan)]
-fn scan_nodes(nodes: &[Node], edges: &[Edge], p: &Place, scan: Scan) -> Scan
+fn scan_nodes(nodes: &[Node], edges: &[Edge], p: &Spot, scan: Scan) -> Scan
     requires lawful { All IsLawful nodes.now }
     requires entries { All (IsEntryIn edges.now) (flat_map entries_of nodes.now) }
     ensures { let entries = flat_map entries_of nodes.now in
-        AddsScan edges.now (point_of p.now) entries scan result }
+        AddsScan edges.now (point_of p.now.place) entries scan result }
 {
     let mut grown = scan;
     for node in nodes {
@@ -50,10 +50,10 @@ fn scan_nodes(nodes: &[Node], edges: &[Edge], p: &Place, scan: Scan) -> Scan
 
 /// Adds the edges below a node of a tree to a scan.
 #[cycle(scan)]
-pub(crate) fn scan_node(node: &Node, edges: &[Edge], p: &Place, scan: Scan) -> Scan
+pub(crate) fn scan_node(node: &Node, edges: &[Edge], p: &Spot, scan: Scan) -> Scan
     requires lawful { IsLawful node.now }
     requires entries { All (IsEntryIn edges.now) (entries_of node.now) }
-    ensures { AddsScan edges.now (point_of p.now) (entries_of node.now) scan result }
+    ensures { AddsScan edges.now (point_of p.now.place) (entries_of node.now) scan result }
 {
     let leaf = node.is_leaf();
     if leaf {

@@ -4,7 +4,7 @@ ghost use Rattle.std.specs.Prelude.{ℕ, ◌≤◌, length};
 ghost use Rattle.edge_index_core.specs.Starts.{AreWithin};
 
 use geom_core::Shape;
-use plane_core::Edge;
+use plane_core::{Edge, Kind, Outline};
 
 /// The index of an edge that ends at the lowest vertex, of one that ends at the leftmost, and of
 /// one that ends at the rightmost; 0 if there are no edges.
@@ -33,8 +33,22 @@ fn least_by<F: Fn(&Edge) -> i64>(edges: &[Edge], number: F) -> usize
 }
 
 impl Starts {
+    /// The outermost edges of rings; of other geometries the first edge, at which none begins.
+    pub(crate) fn of(outline: &Outline) -> Starts
+        ensures { AreWithin (length outline.now.edges.items) result }
+    {
+        match outline.kind {
+            Kind::Areas => Starts::outermost(&outline.edges),
+            Kind::Points | Kind::Lines => Starts {
+                low: 0,
+                left: 0,
+                right: 0,
+            },
+        }
+    }
+
     /// The outermost edges of a list.
-    pub(crate) fn of(edges: &[Edge]) -> Starts
+    fn outermost(edges: &[Edge]) -> Starts
         ensures { AreWithin (length edges.now) result }
     {
         Starts {

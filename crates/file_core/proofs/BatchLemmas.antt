@@ -4,19 +4,20 @@ use Rattle.std.proofs.lemmas.List.Elements.{All-nil}
 use Rattle.std.specs.declared.alloc.Global.{Global}
 use Rattle.std.specs.declared.vec.Vec.{Vec}
 use Rattle.format_core.specs.Formats.{Reading}
-use Rattle.file_core.specs.declared.layer_row.ReadRow.{ReadRow}
-use Rattle.file_core.specs.declared.read_fault.ReadFault.{ReadFault}
-use Rattle.file_core.specs.declared.read_fault.ReadFault.TheVariants.{Io, Memory}
-use Rattle.file_core.specs.declared.rows.Rows.{Rows as RowsOf}
-use Rattle.file_core.specs.declared.unread.Unread.{Unread}
-use Rattle.file_core.specs.declared.unread.Unread.TheVariants.{Rows, Text}
-use Rattle.file_core.specs.Batches.{HasFault, HasId, IsBatch, SayInTurn, after_rows, all_rows, if_loaded, with_rows}
-use Rattle.file_core.specs.LayerRows.{RowContent, RowSays, Says, content_of}
+use Rattle.row_core.specs.declared.layer_row.ReadRow.{ReadRow}
+use Rattle.row_core.specs.declared.read_fault.ReadFault.{ReadFault}
+use Rattle.row_core.specs.declared.read_fault.ReadFault.TheVariants.{Io, Memory}
+use Rattle.row_core.specs.declared.rows.Rows.{Rows as RowsOf}
+use Rattle.row_core.specs.declared.unread.Unread.{Unread}
+use Rattle.row_core.specs.declared.unread.Unread.TheVariants.{Rows, Text}
+use Rattle.file_core.specs.Batches.{HasFault, IsBatch, SayInTurn, after_rows, all_rows, if_loaded, with_rows}
+use Rattle.row_core.specs.LayerRows.{HasId}
+use Rattle.row_core.specs.LayerRows.{RowContent, RowSays, Says, content_of}
 use Rattle.file_core.specs.SkippedRows.{Loaded, LoadsRow, loaded_with, rows_in}
 use Rattle.file_core.proofs.LoadedLemmas.{loaded_with-next}
-use Rattle.file_core.specs.Records.{Record}
-use Rattle.file_core.specs.Rows.{RowsGive, most_rows, rows_left}
-use Rattle.file_core.specs.Unread.{IsUnread, count_unread, records_unread}
+use Rattle.row_core.specs.Records.{Record}
+use Rattle.row_core.specs.Rows.{RowsGive, most_rows, rows_left}
+use Rattle.row_core.specs.Unread.{IsUnread, count_unread, records_unread}
 
 -- ---- what was loaded of some rows
 module _ {G : Type 0} where

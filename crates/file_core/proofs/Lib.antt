@@ -1,8 +1,3 @@
-pub mod RecordLemmas
-pub mod CutLemmas
-pub mod FieldLemmas
-pub mod HeaderLemmas
-pub mod FileLemmas
 pub mod LoadedLemmas
 pub mod BatchLemmas
 pub mod PartLemmas

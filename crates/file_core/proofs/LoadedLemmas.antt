@@ -7,15 +7,15 @@ use Rattle.layer_core.specs.declared.fault.LayerFault.{LayerFault}
 use Rattle.layer_core.specs.Layers.{Contents, empty, inserted}
 use Rattle.layer_core.specs.Refusals.{insert_refusal}
 use Rattle.file_core.specs.declared.loading.Loading.{Loading}
-use Rattle.file_core.specs.declared.read_fault.ReadFault.{ReadFault}
+use Rattle.row_core.specs.declared.read_fault.ReadFault.{ReadFault}
 use Rattle.file_core.specs.declared.skipped.SkippedRow.{SkippedRow}
 use Rattle.file_core.specs.declared.skipped.Unreadable.{Unreadable}
 use Rattle.file_core.specs.declared.skipped.Unreadable.TheVariants.{Refuse, Skip}
 use Rattle.file_core.specs.LayerFiles.{IsLayerFile, LayerRowGives, refused_or, with_row, with_shape}
-use Rattle.file_core.specs.LayerRows.{RowContent}
-use Rattle.file_core.specs.Records.{Record}
-use Rattle.file_core.specs.Rows.{RowsGive}
-use Rattle.file_core.specs.SkippedRows.{Loaded, LoadsFile, LoadsRow, begun, loaded_or, loaded_with, rows_in, SkippedContent, skipped_content, with_reading, with_unreadable}
+use Rattle.row_core.specs.LayerRows.{RowContent}
+use Rattle.row_core.specs.Records.{Record}
+use Rattle.row_core.specs.Rows.{RowsGive}
+use Rattle.file_core.specs.SkippedRows.{IsLayerFileBy, Loaded, LoadsFile, LoadsRow, begun, loaded_or, loaded_with, rows_in, SkippedContent, skipped_content, with_reading, with_unreadable}
 
 -- ---- skipped rows, and the values that they stand for
 pub length_skipped : (rows : List SkippedRow) → length (map skipped_content rows) ≡ length rows
@@ -157,3 +157,18 @@ module _ {G : Type 0} where
           → MatchResult rows (λ rows. RowsGive (LayerRowGives reads) 1 empty rows (list_loaded answer)) (λ fault. list_loaded answer ≡ Err fault)
       by (Ok rows) gives = rows_refused reads 1 (begun Refuse) rows answer refl gives
       by (Err fault) is = ap list_loaded is
+
+  -- ---- the layer of what was loaded
+
+  -- the layer of the rows that were not skipped is that of the file
+  pub file_layer : (reads : Reading G) (unreadable : Unreadable) (bytes : List ℕ) (layer : Contents G) (rows : List SkippedContent)
+      → LoadsFile reads unreadable bytes (Ok (record { unreadable = unreadable; list = layer; skipped = rows }))
+      → IsLayerFileBy reads unreadable bytes (Ok layer)
+  file_layer reads Refuse bytes layer rows loads = file_refused reads bytes (Ok (record { unreadable = Refuse; list = layer; skipped = rows })) loads
+  file_layer reads Skip bytes layer rows loads = (rows, loads)
+
+  -- and so is the fault
+  pub file_fault : (reads : Reading G) (unreadable : Unreadable) (bytes : List ℕ) (fault : ReadFault)
+      → LoadsFile reads unreadable bytes (Err fault) → IsLayerFileBy reads unreadable bytes (Err fault)
+  file_fault reads Refuse bytes fault loads = file_refused reads bytes (Err fault) loads
+  file_fault reads Skip bytes fault loads = loads

@@ -1,29 +1,23 @@
 -- Parts of a text: which of them are whole, and the rows of parts that follow one another.
-use Rattle.std.proofs.Common.{◌≡◌, ◌∙◌, ℕ, ◌+◌, ◌<◌, ◌≤◌, Bool, true, false, List, [], ◌∷◌, ◌++◌, All, Bor, length, Option, Some, None, IfSome, Ok, refl, sym, ap, subst, arith, if◌then◌else◌, length-append, slice_get, IsTrue, not, nat_eq, ◌==◌, ◌&&◌}
+use Rattle.std.proofs.Common.{◌≡◌, ◌∙◌, ℕ, ◌+◌, ◌<◌, true, false, List, [], ◌∷◌, ◌++◌, All, Bor, length, Option, Some, None, IfSome, Ok, refl, sym, ap, subst, arith, length-append}
 use Rattle.std.proofs.Math.ListN.{get_or-append}
-use Rattle.std.proofs.lemmas.List.Elements.{All-append, All-cons, All-nil, All-tail}
-use Rattle.csv.specs.Machine.{ends_at_end}
-use Rattle.csv.specs.Reading.{default_config, is_bom, records, strip_bom}
-use Rattle.csv.specs.Records.{field_at}
-use Rattle.csv.specs.declared.parser.State.{State}
-use Rattle.csv.specs.declared.parser.State.TheVariants as st
+use Rattle.std.proofs.lemmas.List.Elements.{All-append, All-tail}
+use Rattle.csv.specs.Reading.{default_config, records}
 use Rattle.format_core.specs.Formats.{Reading}
-use Rattle.file_core.specs.declared.layer_row.ReadRow.{ReadRow}
+use Rattle.row_core.specs.declared.layer_row.ReadRow.{ReadRow}
 use Rattle.file_core.specs.declared.parts.Parts.{Parts}
-use Rattle.file_core.specs.declared.rows.Rows.{Rows as RowsOf}
-use Rattle.file_core.specs.declared.unread.Unread.TheVariants.{Text, Rows}
-use Rattle.file_core.specs.Batches.{HasId, IsBatch}
-use Rattle.file_core.specs.Cuts.{EndsBetween, EndsWithFeed, IsClosed, IsPlain, state_after}
-use Rattle.file_core.specs.LayerFiles.{layer_columns}
-use Rattle.file_core.specs.Limits.{most_file_bytes}
+use Rattle.row_core.specs.declared.rows.Rows.{Rows as RowsOf}
+use Rattle.row_core.specs.declared.unread.Unread.TheVariants.{Text, Rows}
+use Rattle.file_core.specs.Batches.{IsBatch}
+use Rattle.row_core.specs.LayerRows.{HasId}
+use Rattle.row_core.specs.Cuts.{EndsWithFeed, IsClosed, IsPlain}
 use Rattle.file_core.specs.Parts.{IsBoth, IsOnePart, IsParts, rows_of}
-use Rattle.file_core.specs.Records.{Record, records_of}
-use Rattle.file_core.specs.Rows.{IsOpened, rows_left}
-use Rattle.file_core.specs.Unread.{IsHeaded, IsHeaderLine, IsUnread, IsUnreadFile}
+use Rattle.row_core.specs.Rows.{rows_left}
+use Rattle.row_core.specs.Unread.{IsUnread}
 use Rattle.file_core.proofs.BatchLemmas.{say-append, say-length, say-then}
-use Rattle.file_core.proofs.CutLemmas.{closed-between, state-append, step-after_cr, text-cut}
-use Rattle.file_core.proofs.FileLemmas.{rows-headed}
-use Rattle.file_core.proofs.RecordLemmas.{length_records_from}
+use Rattle.row_core.proofs.CutLemmas.{text-cut}
+use Rattle.row_core.proofs.RecordLemmas.{length_records_from}
+use Rattle.row_core.proofs.EndLemmas.{ends-append, feed-between}
 
 -- ---- lists in two parts
 
@@ -37,90 +31,6 @@ All-back P (x ∷ a) b all = All-back P a b (All-tail P x (a ++ b) all)
 pub if_some : {X : Type 0} (P Q : X → Type 0) (o : Option X) → IfSome o P → ((x : X) → P x → Q x) → IfSome o Q
 if_some P Q None h more = tt
 if_some P Q (Some x) h more = more x h
-
--- ---- ends and beginnings
-
-field-last : (front : Record) (last : List ℕ) → field_at (front ++ last ∷ []) (length front) ≡ Some last
-unfolding field_at
-field-last [] last = refl
-field-last (x ∷ front) last = field-last front last
-
--- a record whose last field doesn't end with a line feed
-pub ended_closed : (fields : Record) (i : ℕ) (field : List ℕ) → i + 1 ≡ length fields → Some field ≡ field_at fields i → ¬ (EndsWithFeed field)
-    → IsClosed fields
-ended_closed fields i field at is ended front last e =
-    let place : i ≡ length front = omega (arith, ap length e, length-append front ((last ++ 10 ∷ []) ∷ [])) in
-    let here : field_at fields i ≡ Some (last ++ 10 ∷ []) = rw (e, place) (field-last front (last ++ 10 ∷ [])) in
-    let same : field ≡ last ++ 10 ∷ [] = cc in
-    ended (last, same)
-
--- a text whose first byte isn't that of a byte order mark
-pub plain_first : (text : List ℕ) (c : ℕ) → Some c ≡ slice_get text 0 → IsTrue (not (nat_eq c 239)) → IsPlain text
-unfolding strip_bom
-plain_first [] c is other = refl
-plain_first (a ∷ []) c is other = refl
-plain_first (a ∷ b ∷ []) c is other = refl
-plain_first (a ∷ b ∷ d ∷ rest) c is other =
-    let same : c ≡ a = cc in
-    by (a == 239) (rw same at other)
-  where
-    by : (t : Bool) → IsTrue (not t) → (if t && (b == 187) && (d == 191) then rest else a ∷ b ∷ d ∷ rest) ≡ a ∷ b ∷ d ∷ rest
-    by true h = let e = h in cc
-    by false h = refl
-
-pub plain_empty : (text : List ℕ) → None ≡ slice_get text 0 → IsPlain text
-unfolding strip_bom
-plain_empty [] none = refl
-plain_empty (a ∷ rest) none = let n = none in cc
-
--- a byte order mark stays at the start
-strip-append : (a b : List ℕ) → 3 ≤ length a → strip_bom (a ++ b) ≡ strip_bom a ++ b
-unfolding strip_bom
-strip-append [] b long = absurd (omega arith)
-strip-append (x ∷ []) b long = absurd (omega arith)
-strip-append (x ∷ y ∷ []) b long = absurd (omega arith)
-strip-append (x ∷ y ∷ z ∷ a) b long = by (is_bom x y z)
-  where
-    by : (t : Bool) → (if t then a ++ b else x ∷ y ∷ z ∷ (a ++ b)) ≡ (if t then a else x ∷ y ∷ z ∷ a) ++ b
-    by true = refl
-    by false = refl
-
-feed-tail : (x y : ℕ) (a : List ℕ) → EndsWithFeed (x ∷ y ∷ a) → EndsWithFeed (y ∷ a)
-feed-tail x y a ([], is) = absurd (omega (arith, ap length is))
-feed-tail x y a (z ∷ front, is) = let rest : y ∷ a ≡ front ++ 10 ∷ [] = cc in (front, rest)
-
-strip-feed : (a : List ℕ) → 3 < length a → EndsWithFeed a → EndsWithFeed (strip_bom a)
-unfolding strip_bom
-strip-feed [] long ends = absurd (omega arith)
-strip-feed (x ∷ []) long ends = absurd (omega arith)
-strip-feed (x ∷ y ∷ []) long ends = absurd (omega arith)
-strip-feed (x ∷ y ∷ z ∷ []) long ends = absurd (omega arith)
-strip-feed (x ∷ y ∷ z ∷ w ∷ a) long ends = by (is_bom x y z)
-  where
-    by : (t : Bool) → EndsWithFeed (if t then w ∷ a else x ∷ y ∷ z ∷ w ∷ a)
-    by true = feed-tail z w a (feed-tail y z (w ∷ a) (feed-tail x y (z ∷ w ∷ a) ends))
-    by false = ends
-
--- a text of records none of which ends with a line feed, but which does
-feed-between : (text : List ℕ) → EndsWithFeed text → All IsClosed (records default_config text) → EndsBetween st.StartRecord text
-feed-between text (front, is) closed =
-    let all = rw is at closed in
-    let ends : EndsBetween st.StartRecord (front ++ 10 ∷ []) = closed-between (length (front ++ 10 ∷ []) + 1) st.StartRecord front refl (omega arith) all in
-    rw is ends
-
-ends-from : (s : State) (b : List ℕ) → ends_at_end s ≡ false → EndsBetween st.StartRecord b → EndsBetween s b
-ends-from s [] between ends = between
-ends-from st.StartRecord (c ∷ b) between ends = ends
-ends-from st.AfterCr (c ∷ b) between ends = rw (step-after_cr c) ends
-ends-from st.StartField (c ∷ b) between ends = let h = between in cc
-ends-from st.InField (c ∷ b) between ends = let h = between in cc
-ends-from st.InQuoted (c ∷ b) between ends = let h = between in cc
-ends-from st.AfterQuote (c ∷ b) between ends = let h = between in cc
-ends-from st.InEscape (c ∷ b) between ends = let h = between in cc
-ends-from st.InComment (c ∷ b) between ends = let h = between in cc
-
-ends-append : (a b : List ℕ) → EndsBetween st.StartRecord a → EndsBetween st.StartRecord b → EndsBetween st.StartRecord (a ++ b)
-ends-append a b first second = rw (state-append st.StartRecord a b) (ends-from (state_after st.StartRecord a) b first second)
 
 -- ---- parts
 
@@ -167,44 +77,5 @@ parts-batch reads text rest count behind round parts unread is read plain counte
       ids = read.ids;
       no_io = λ e. cc;
     }
-
--- ---- a header
-
-pub header_line : (line : List ℕ) (rows : RowsOf) → 3 < length line → EndsWithFeed line → IsOpened layer_columns line rows
-    → rows.unended ≡ false → rows_left rows ≡ [] → IsHeaderLine layer_columns line
-header_line line rows long ends opened ended none =
-    let alone : records_of line ≡ opened.header ∷ [] = opened.records ∙ ap (λ others. opened.header ∷ others) none in
-    record {
-      header = opened.header;
-      headed = opened.headed;
-      records = alone;
-      ends = feed-between (strip_bom line) (strip-feed line long ends)
-          (rw alone (All-cons IsClosed opened.header [] (opened.closed ended) (All-nil IsClosed)));
-      long = omega arith;
-    }
-
-header-unread : (bytes line : List ℕ) (rest : Bor (List ℕ)) → line ++ rest.now ≡ bytes → length bytes ≤ most_file_bytes
-    → IsHeaderLine layer_columns line → IsPlain rest.now → IsUnreadFile bytes (Text rest 0)
-header-unread bytes line rest is few headed plain =
-    let text : strip_bom bytes ≡ strip_bom line ++ rest.now = ap strip_bom (sym is) ∙ strip-append line rest.now headed.long in
-    let all : records_of bytes ≡ headed.header ∷ records default_config rest.now =
-    ap (records default_config) text ∙ text-cut (strip_bom line) rest.now headed.ends
-    ∙ ap (λ first. first ++ records default_config rest.now) headed.records in
-    record {
-      rows = rows-headed layer_columns bytes few headed.header (records default_config rest.now) all headed.headed;
-      none_read = refl;
-      reading = (
-        plain,
-        omega (arith, length_records_from (length rest.now + 1) st.StartRecord rest.now, ap length is, length-append line rest.now),
-      );
-    }
-
--- a file that is cut after its first line
-pub header_cut : (bytes : List ℕ) (r : Option (Bor (List ℕ))) → IfSome r (λ rest. IsHeaded bytes rest.now)
-    → IfSome r (λ rest. IsUnreadFile bytes (Text rest 0))
-header_cut bytes None h = h
-header_cut bytes (Some rest) h = header-unread bytes h.line rest h.whole h.few h.headed h.plain
-
-pub ruleset plain = (plain_empty, plain_first)
 
 pub ruleset one_whole = (if_some, parts_whole, length_records_from)

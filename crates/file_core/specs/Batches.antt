@@ -1,28 +1,23 @@
 -- Rows that are read together, and the layer with all of them.
-use Rattle.std.specs.Prelude.{◌≡◌, ◌≢◌, ◌+◌, ◌<◌, ◌≤◌, ◌++◌, ℕ, Bool, true, false, List, [], ◌∷◌, length}
+use Rattle.std.specs.Prelude.{◌≡◌, ◌≢◌, ◌+◌, ◌<◌, ◌≤◌, ◌++◌, ℕ, Bool, true, false, List, [], ◌∷◌}
+use Rattle.std.specs.Prelude.{length}
 use Rattle.std.specs.Prelude.{All}
-use Rattle.std.specs.Prelude.{IsTrue, Result, Ok, Err}
+use Rattle.std.specs.Prelude.{Result, Ok, Err}
 use Rattle.std.specs.declared.alloc.Global.{Global}
 use Rattle.std.specs.declared.vec.Vec.{Vec}
 use Rattle.format_core.specs.Formats.{Reading}
 use Rattle.file_core.specs.declared.batch.Batch.{Batch}
-use Rattle.file_core.specs.declared.layer_row.ReadRow.{ReadRow}
+use Rattle.row_core.specs.declared.layer_row.ReadRow.{ReadRow}
 use Rattle.file_core.specs.declared.loading.Loading.{Loading}
-use Rattle.file_core.specs.declared.read_fault.ReadFault.{ReadFault}
-use Rattle.file_core.specs.declared.read_fault.ReadFault.TheVariants.{Io, Memory}
-use Rattle.file_core.specs.declared.unread.Unread.{Unread}
-use Rattle.file_core.specs.LayerRows.{RowSays, Says, content_of}
-use Rattle.layer_core.specs.Ids.{id_bytes}
+use Rattle.row_core.specs.declared.read_fault.ReadFault.{ReadFault}
+use Rattle.row_core.specs.declared.read_fault.ReadFault.TheVariants.{Io, Memory}
+use Rattle.row_core.specs.declared.unread.Unread.{Unread}
+use Rattle.row_core.specs.LayerRows.{HasId, RowSays, Says, content_of}
 use Rattle.layer_core.specs.Layers.{Contents}
-use Rattle.file_core.specs.Records.{Record}
-use Rattle.layer_core.specs.Refusals.{is_id}
-use Rattle.file_core.specs.Rows.{most_rows}
+use Rattle.row_core.specs.Records.{Record}
+use Rattle.row_core.specs.Rows.{most_rows}
 use Rattle.file_core.specs.SkippedRows.{Loaded, loaded_or, loaded_with, rows_in}
-use Rattle.file_core.specs.Unread.{IsUnread, count_unread, records_unread}
-
--- the length of the row's id is that of an id
-abbrev pub HasId : {G : Type 0} → ReadRow G → Type 0
-HasId row = IsTrue (is_id (id_bytes row.id))
+use Rattle.row_core.specs.Unread.{IsUnread, count_unread, records_unread}
 
 -- the consequence of what was loaded, or the fault
 abbrev pub if_loaded : {G : Type 0} → Result (Loaded G) ReadFault

@@ -9,13 +9,13 @@ use Rattle.layer_core.specs.declared.edit.Edit.{Edit}
 use Rattle.layer_core.specs.declared.edit.Side.{Side}
 use Rattle.format_core.specs.declared.text_fault.TextFault.{TextFault}
 use Rattle.format_core.specs.Formats.{Reading}
-use Rattle.file_core.specs.declared.read_fault.ReadFault.{ReadFault}
-use Rattle.file_core.specs.declared.read_fault.ReadFault.TheVariants.{Row}
+use Rattle.row_core.specs.declared.read_fault.ReadFault.{ReadFault}
+use Rattle.row_core.specs.declared.read_fault.ReadFault.TheVariants.{Row}
 use Rattle.layer_core.specs.Edits.{EditContent, content_of}
-use Rattle.file_core.specs.Fields.{AfterId, side_named}
-use Rattle.file_core.specs.TextFaults.{fault_of_text}
-use Rattle.file_core.specs.Records.{Record}
-use Rattle.file_core.specs.Rows.{FileGives}
+use Rattle.row_core.specs.Fields.{AfterId, side_named}
+use Rattle.row_core.specs.RowFaults.{fault_of_text}
+use Rattle.row_core.specs.Records.{Record}
+use Rattle.row_core.specs.Rows.{FileGives}
 
 abbrev pub edit_columns : List (List ℕ)
 edit_columns = codes "op" ∷ codes "layer" ∷ codes "id" ∷ codes "wkt" ∷ []

@@ -1,34 +1,21 @@
 -- The layer of a CSV file, or its fault.
-use Rattle.std.specs.Prelude.{◌≡◌, ℕ, List, [], ◌∷◌, codes, Option, Some, None, Result, Ok, Err}
+use Rattle.std.specs.Prelude.{◌≡◌, ℕ, List, Option, Some, None, Result, Ok, Err}
 use Rattle.layer_core.specs.declared.fault.LayerFault.{LayerFault}
-use Rattle.layer_core.specs.declared.fault.LayerFault.TheVariants.{BadId, DoubleId, LayerFull}
-use Rattle.layer_core.specs.declared.fault.LayerFault.TheVariants.{NoSuchId, Memory}
 use Rattle.format_core.specs.declared.text_fault.TextFault.{TextFault}
 use Rattle.format_core.specs.Formats.{Reading}
-use Rattle.file_core.specs.declared.read_fault.ReadFault.{ReadFault}
-use Rattle.file_core.specs.declared.read_fault.ReadFault.TheVariants.{Memory as no_memory, Layer}
-use Rattle.file_core.specs.LayerRows.{RowContent, RowSays}
+use Rattle.row_core.specs.declared.read_fault.ReadFault.{ReadFault}
+use Rattle.row_core.specs.declared.read_fault.ReadFault.TheVariants.{Layer}
+use Rattle.row_core.specs.LayerRows.{RowContent, RowSays, layer_columns}
 use Rattle.layer_core.specs.Layers.{Contents, empty, inserted}
 use Rattle.layer_core.specs.LayerTrees.{LayerState}
-use Rattle.file_core.specs.Records.{Record}
+use Rattle.row_core.specs.Records.{Record}
 use Rattle.layer_core.specs.Refusals.{insert_refusal}
-use Rattle.file_core.specs.Rows.{FileGives}
-use Rattle.file_core.specs.TextFaults.{fault_of_text}
-
-abbrev pub layer_columns : List (List ℕ)
-layer_columns = codes "id" ∷ codes "wkt" ∷ []
+use Rattle.row_core.specs.Rows.{FileGives}
+use Rattle.row_core.specs.RowFaults.{fault_of_text}
 
 abbrev pub refused_or : {A : Type 0} → ℕ → Option LayerFault → A → Result A ReadFault
 refused_or n (Some fault) a = Err (Layer n fault)
 refused_or n None a = Ok a
-
--- the fault of a row that a layer refuses
-abbrev pub fault_of_row : ℕ → LayerFault → ReadFault
-fault_of_row n Memory = no_memory
-fault_of_row n BadId = Layer n BadId
-fault_of_row n DoubleId = Layer n DoubleId
-fault_of_row n LayerFull = Layer n LayerFull
-fault_of_row n NoSuchId = Layer n NoSuchId
 
 -- the layer with this feature of the row with this number, or the row's fault
 abbrev pub with_shape : {G : Type 0} → ℕ → Contents G → List ℕ → Result G TextFault

@@ -1,15 +1,5 @@
 pub mod Batches
-pub mod Cuts
 pub mod EditFiles
-pub mod FaultTexts
-pub mod Fields
 pub mod LayerFiles
-pub mod LayerRows
-pub mod Limits
 pub mod Parts
-pub mod Records
-pub mod Rows
 pub mod SkippedRows
-pub mod Sources
-pub mod TextFaults
-pub mod Unread

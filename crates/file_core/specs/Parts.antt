@@ -3,10 +3,11 @@ use Rattle.std.specs.Prelude.{◌≡◌, ◌+◌, ◌++◌, ℕ, List, [], lengt
 use Rattle.csv.specs.Reading.{default_config, records}
 use Rattle.csv.specs.declared.parser.State.TheVariants.{StartRecord}
 use Rattle.format_core.specs.Formats.{Reading}
-use Rattle.file_core.specs.declared.layer_row.ReadRow.{ReadRow}
+use Rattle.row_core.specs.declared.layer_row.ReadRow.{ReadRow}
 use Rattle.file_core.specs.declared.parts.Parts.{Parts}
-use Rattle.file_core.specs.Batches.{HasId, SayInTurn, all_rows}
-use Rattle.file_core.specs.Cuts.{EndsBetween}
+use Rattle.file_core.specs.Batches.{SayInTurn, all_rows}
+use Rattle.row_core.specs.LayerRows.{HasId}
+use Rattle.row_core.specs.Cuts.{EndsBetween}
 
 -- the rows of all parts
 abbrev pub rows_of : {G : Type 0} → Parts G → List (ReadRow G)

@@ -6,16 +6,17 @@ use Rattle.layer_core.specs.Ids.{id_bytes}
 use Rattle.layer_core.specs.Layers.{Contents, empty, inserted}
 use Rattle.layer_core.specs.Refusals.{insert_refusal}
 use Rattle.file_core.specs.declared.loading.Loading.{Loading}
-use Rattle.file_core.specs.declared.read_fault.ReadFault.{ReadFault}
+use Rattle.row_core.specs.declared.read_fault.ReadFault.{ReadFault}
 use Rattle.file_core.specs.declared.skipped.SkippedRow.{SkippedRow}
 use Rattle.file_core.specs.declared.skipped.Unreadable.{Unreadable}
 use Rattle.file_core.specs.declared.skipped.Unreadable.TheVariants.{Refuse, Skip}
 use Rattle.file_core.specs.declared.skipped.WithSkipped.{WithSkipped}
-use Rattle.file_core.specs.LayerFiles.{layer_columns, refused_or}
-use Rattle.file_core.specs.LayerRows.{RowContent, RowSays}
-use Rattle.file_core.specs.Records.{Record}
-use Rattle.file_core.specs.Rows.{FileGives}
-use Rattle.file_core.specs.TextFaults.{fault_of_text}
+use Rattle.file_core.specs.LayerFiles.{IsLayerFile, refused_or}
+use Rattle.row_core.specs.LayerRows.{layer_columns}
+use Rattle.row_core.specs.LayerRows.{RowContent, RowSays}
+use Rattle.row_core.specs.Records.{Record}
+use Rattle.row_core.specs.Rows.{FileGives}
+use Rattle.row_core.specs.RowFaults.{fault_of_text}
 
 -- a row that was skipped: its number in the file, its id, and the fault of its geometry's text
 pub record SkippedContent : Type 0 where
@@ -71,6 +72,20 @@ abbrev pub LoadsFile : {G : Type 0} → Reading G → Unreadable → List ℕ
 LoadsFile reads unreadable bytes answer =
     FileGives layer_columns (LoadsRow reads) (begun unreadable) bytes answer
 
+-- the layer of a file that is read in this way, or its fault
+abbrev pub IsLayerFileBy : {G : Type 0} → Reading G → Unreadable → List ℕ
+    → Result (Contents G) ReadFault → Type 0
+IsLayerFileBy reads Refuse bytes answer = IsLayerFile reads bytes answer
+IsLayerFileBy reads Skip bytes (Ok layer) = (rows : List SkippedContent)
+    × LoadsFile reads Skip bytes (Ok (record { unreadable = Skip; list = layer; skipped = rows }))
+IsLayerFileBy reads Skip bytes (Err fault) = LoadsFile reads Skip bytes (Err fault)
+
+-- the rows of a file that are skipped where it is read in this way
+abbrev pub AreSkipped : {G : Type 0} → Reading G → Unreadable → List ℕ → List SkippedContent
+    → Type 0
+AreSkipped {G} reads unreadable bytes rows = (layer : Contents G) × LoadsFile reads unreadable bytes
+    (Ok (record { unreadable = unreadable; list = layer; skipped = rows }))
+
 -- ---- the values that stand for these
 
 abbrev pub skipped_content : SkippedRow → SkippedContent
@@ -89,15 +104,15 @@ abbrev pub loaded_or : {G : Type 0} → Result (Loading (Contents G)) ReadFault
 loaded_or (Ok loading) = Ok (loaded_of loading)
 loaded_or (Err fault) = Err fault
 
--- what is read of a file without its unreadable rows
-abbrev pub skipping : {G T : Type 0} → (T → Contents G) → WithSkipped T → Loaded G
-skipping list result = record {
-  unreadable = Skip;
+-- what is read of a file in this way, and the rows that are skipped
+abbrev pub with_skipped : {G T : Type 0} → Unreadable → (T → Contents G) → WithSkipped T → Loaded G
+with_skipped unreadable list result = record {
+  unreadable = unreadable;
   list = list result.read;
   skipped = map skipped_content result.skipped.items;
 }
 
-abbrev pub skipping_or : {G T : Type 0} → (T → Contents G) → Result (WithSkipped T) ReadFault
-    → Result (Loaded G) ReadFault
-skipping_or list (Ok result) = Ok (skipping list result)
-skipping_or list (Err fault) = Err fault
+abbrev pub with_skipped_or : {G T : Type 0} → Unreadable → (T → Contents G)
+    → Result (WithSkipped T) ReadFault → Result (Loaded G) ReadFault
+with_skipped_or unreadable list (Ok result) = Ok (with_skipped unreadable list result)
+with_skipped_or unreadable list (Err fault) = Err fault

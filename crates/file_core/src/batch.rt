@@ -1,24 +1,21 @@
 //! Batches of rows, which are read ahead of their insertion.
 
 ghost use Rattle.std.specs.Prelude.{◌≡◌, ◌<◌, ◌≤◌, [], false, All, IfOk, IfSome, Ok};
-ghost use Rattle.file_core.specs.Batches.{AnswersRows, CanNumber, HasId, IsBatch, IsNext, all_rows};
-ghost use Rattle.file_core.specs.Cuts.{IsClosed};
+ghost use Rattle.file_core.specs.Batches.{AnswersRows, CanNumber, IsBatch, IsNext, all_rows};
+ghost use Rattle.row_core.specs.LayerRows.{HasId};
+ghost use Rattle.row_core.specs.Cuts.{IsClosed};
 ghost use Rattle.file_core.specs.Parts.{IsParts};
-ghost use Rattle.file_core.specs.Rows.{IsReading, rows_left};
+ghost use Rattle.row_core.specs.Rows.{IsReading, has_unended, rows_left};
 ghost use Rattle.file_core.specs.SkippedRows.{loaded_of};
-ghost use Rattle.file_core.specs.Unread.{IsUnread};
+ghost use Rattle.row_core.specs.Unread.{IsUnread};
 
-use crate::cuts::{cut, is_plain};
+use crate::cuts::cut;
 use crate::insertion::add_parts;
-use crate::layer_row::{ReadRow, read_row};
 use crate::loading::Loading;
 use crate::parts::{Parts, read_four, read_two};
-use crate::read_fault::ReadFault;
-use crate::row_reader::RowReader;
-use crate::rows::Rows;
-use crate::unread::Unread;
 use format_core::Format;
 use layer_core::{FeatureList, Geometry};
+use row_core::{ReadFault, ReadRow, RowReader, Rows, Unread, is_plain, read_row};
 use std::alloc::AllocError;
 use std::thread;
 use std::thread::Threads;
@@ -90,7 +87,7 @@ pub(crate) fn fill<F: Format>(
     requires some { 0 < most }
     ensures batch { IsBatch (F.reads reader.format) (Unread.Rows rows.old) read.new.items result
         (Unread.Rows rows.new) }
-    ensures closed { result ≡ Ok false → rows.new.unended ≡ false
+    ensures closed { result ≡ Ok false → has_unended rows.new ≡ false
         → All IsClosed (rows_left rows.old) }
 {
     read.reserve(most)?;

@@ -1,10 +1,6 @@
-//! Cutting a text of records into parts, and tests of the ends of a part.
+//! Cutting a text of records into parts.
 
-ghost use Rattle.std.specs.Prelude.{◌≡◌, ◌≤◌, ◌++◌, ◌↔◌, false, length, IsTrue, Bool};
-ghost use Rattle.csv.specs.Records.{fields_of};
-ghost use Rattle.file_core.specs.Cuts.{EndsWithFeed, IsClosed, IsPlain};
-
-use csv::ByteRecord;
+ghost use Rattle.std.specs.Prelude.{◌≡◌, ◌++◌};
 
 /// The number of bytes before a place in which a cut is searched for.
 const WINDOW: usize = 4096;
@@ -62,39 +58,4 @@ fn few_line_feeds(text: &[u8]) -> u8 {
         count = count.wrapping_add((*byte == b'\n').into());
     }
     count
-}
-
-/// Whether a text ends with a line feed.
-pub(crate) fn ends_with_feed(text: &[u8]) -> bool
-    ensures { IsTrue result ↔ EndsWithFeed text.now }
-{
-    match text.split_last() {
-        Some((last, _)) => *last == b'\n',
-        None => false,
-    }
-}
-
-/// Whether the last field of a record ends with a line feed, as it does if a cut was within it.
-#[tactic(auto, using(crate::proofs::PartLemmas::ended_closed))]
-pub(crate) fn is_unended(row: &ByteRecord) -> bool
-    ensures { result ≡ false → IsClosed (fields_of row.now) }
-{
-    let Some(last) = row.len().checked_sub(1) else {
-        return false;
-    };
-    match row.get(last) {
-        Some(field) => ends_with_feed(field),
-        None => true,
-    }
-}
-
-/// Whether a text doesn't begin like a byte order mark.
-#[tactic(auto, using(crate::proofs::PartLemmas::plain))]
-pub(crate) fn is_plain(text: &[u8]) -> bool
-    ensures { IsTrue result → IsPlain text.now }
-{
-    match text.first() {
-        Some(first) => *first != 0xEF,
-        None => true,
-    }
 }

@@ -6,16 +6,12 @@ ghost use Rattle.csv.specs.Records.{fields_of};
 ghost use Rattle.layer_core.specs.Edits.{content_of};
 ghost use Rattle.file_core.specs.EditFiles.{edit_contents, DeletionGives, EditRowGives};
 ghost use Rattle.file_core.specs.EditFiles.{InsertionGives, IsEditFile};
-ghost use Rattle.file_core.specs.Limits.{most_file_bytes};
+ghost use Rattle.row_core.specs.Limits.{most_file_bytes};
 
-use crate::fields::{four_fields, id_in, side_in};
-use crate::read_fault::ReadFault;
-use crate::row_reader::RowReader;
-use crate::rows::Rows;
-use crate::source::{Source, read_all};
 use csv::ByteRecord;
 use format_core::Format;
 use layer_core::{Edit, LayerFault, Side};
+use row_core::{ReadFault, RowReader, Rows, Source, four_fields, id_in, read_all, side_in};
 use std::alloc::Global;
 
 /// The columns of a file of edits.

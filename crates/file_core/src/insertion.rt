@@ -3,18 +3,18 @@
 ghost use Rattle.std.specs.Prelude.{◌≡◌, ◌≢◌, ◌+◌, ◌≤◌, Ok, Err, All, OnOk, IfErr, IsTrue};
 ghost use Rattle.layer_core.specs.Ids.{id_bytes};
 ghost use Rattle.layer_core.specs.Refusals.{is_id};
-ghost use Rattle.file_core.specs.Batches.{CanNumber, HasId, all_rows, with_rows};
-ghost use Rattle.file_core.specs.LayerRows.{content_of};
-ghost use Rattle.file_core.specs.Rows.{most_rows};
+ghost use Rattle.file_core.specs.Batches.{CanNumber, all_rows, with_rows};
+ghost use Rattle.row_core.specs.LayerRows.{HasId};
+ghost use Rattle.row_core.specs.LayerRows.{content_of};
+ghost use Rattle.row_core.specs.Rows.{most_rows};
 ghost use Rattle.file_core.specs.SkippedRows.{loaded_of, loaded_with, rows_in, with_reading};
 ghost use Rattle.file_core.specs.SkippedRows.{with_unreadable};
 
-use crate::layer_row::ReadRow;
 use crate::loading::{Loading, next_row};
-use crate::read_fault::ReadFault;
 use crate::skipped::{SkippedRow, Unreadable};
 use format_core::TextFault;
 use layer_core::{FeatureList, Geometry, Id};
+use row_core::{ReadFault, ReadRow};
 
 /// Adds the next row, whose geometry was read: inserts its feature.
 fn insert<G: Geometry>(

@@ -2,24 +2,22 @@
 
 ghost use Rattle.std.specs.Prelude.{◌≡◌, ◌≢◌, ◌≤◌, ◌↔◌, false, Ok, Err, All, IsErrOf, IsTrue};
 ghost use Rattle.std.specs.Prelude.{IfOk, IfErr, IfSome};
-ghost use Rattle.file_core.specs.Batches.{CanNumber, HasId, IsBatch, after_rows, all_rows};
+ghost use Rattle.file_core.specs.Batches.{CanNumber, IsBatch, after_rows, all_rows};
+ghost use Rattle.row_core.specs.LayerRows.{HasId};
 ghost use Rattle.file_core.specs.Batches.{if_loaded, with_rows};
 ghost use Rattle.file_core.specs.LayerFiles.{IsLayerFile, list_read};
-ghost use Rattle.file_core.specs.SkippedRows.{LoadsFile, loaded_of, loaded_or, skipping_or};
-ghost use Rattle.file_core.specs.Unread.{IsUnread};
+ghost use Rattle.file_core.specs.SkippedRows.{LoadsFile, loaded_of, loaded_or, with_skipped_or};
+ghost use Rattle.row_core.specs.Unread.{IsUnread};
 ghost use Rattle.layer_core.specs.Limits.{most_features};
 
 use crate::batch::{Batch, Crew, MIN_THREADED_BYTES, add_and_read, read_next};
 use crate::cuts::line_feeds;
 use crate::insertion::add_parts;
 use crate::loading::{Loading, begin};
-use crate::read_fault::ReadFault;
-use crate::row_reader::RowReader;
 use crate::skipped::{Unreadable, WithSkipped};
-use crate::source::{Source, read_all};
-use crate::unread::Unread;
 use format_core::Format;
 use layer_core::{FeatureList, Geometry, Layer, MAX_FEATURES};
+use row_core::{ReadFault, RowReader, Source, Unread, read_all};
 use std::alloc::Global;
 use std::hash::RandomState;
 use std::thread::Threads;
@@ -105,49 +103,54 @@ impl<F: Format, R: Threads + Sync> LayerReader<'_, F, R> {
         self.layer_of_bytes(state, bytes)
     }
 
-    /// The features of a layer's CSV file without the rows whose geometry can't be read, and these
-    /// rows, in file order. They aren't in the layer: they don't count towards its greatest number
-    /// of features, and a later row may have the id of one.
+    /// The features of a layer's CSV file, and the rows that were skipped, in file order: where
+    /// `unreadable` is [`Unreadable::Skip`], those whose geometry can't be read. They aren't in the
+    /// layer: they don't count towards its greatest number of features, and a later row may have
+    /// the id of one.
     ///
     /// # Errors
-    /// Those of [`LayerReader::features_of_bytes`], except that of a geometry's text.
-    pub fn features_skipping(
+    /// Those of [`LayerReader::features_of_bytes`], except that of a geometry's text where such
+    /// rows are skipped.
+    pub fn load_features(
         &self,
+        unreadable: Unreadable,
         state: RandomState,
         bytes: &[u8],
     ) -> Result<WithSkipped<FeatureList<F::Geometry>>, ReadFault>
         ensures file { result ≢ Err ReadFault.Memory
-            → LoadsFile (F.reads self.now.format) Unreadable.Skip bytes.now
-            (skipping_or (λ features. features) result) }
+            → LoadsFile (F.reads self.now.format) unreadable bytes.now
+            (with_skipped_or unreadable (λ features. features) result) }
         ensures no_io { result ≢ Err ReadFault.Io }
     {
         let Loading {
             features,
             skipped,
             ..
-        } = self.load(Unreadable::Skip, state, bytes)?;
+        } = self.load(unreadable, state, bytes)?;
         Ok(WithSkipped {
             read: features,
             skipped,
         })
     }
 
-    /// The layer of a CSV file without the rows whose geometry can't be read, and these rows, as by
-    /// [`LayerReader::features_skipping`]. At most `threads` threads pack its tree.
+    /// The layer of a CSV file, and the rows that were skipped, as by
+    /// [`LayerReader::load_features`]. At most `threads` threads pack its tree.
     ///
     /// # Errors
-    /// Those of [`LayerReader::features_skipping`].
-    pub fn layer_skipping(
+    /// Those of [`LayerReader::load_features`].
+    pub fn load_layer(
         &self,
+        unreadable: Unreadable,
         state: RandomState,
         bytes: Vec<u8>,
     ) -> Result<WithSkipped<Layer<F::Geometry>>, ReadFault>
         ensures file { result ≢ Err ReadFault.Memory
-            → LoadsFile (F.reads self.now.format) Unreadable.Skip bytes.items
-            (skipping_or (λ layer. layer.list) result) }
+            → LoadsFile (F.reads self.now.format) unreadable bytes.items
+            (with_skipped_or unreadable (λ layer. layer.list) result) }
         ensures no_io { result ≢ Err ReadFault.Io }
     {
-        let WithSkipped { read, skipped } = self.features_skipping(state, bytes.as_slice())?;
+        let loaded = self.load_features(unreadable, state, bytes.as_slice())?;
+        let WithSkipped { read, skipped } = loaded;
         let threads = self.threads_for(bytes.as_slice());
         // The file's memory is freed before the tree is packed.
         drop(bytes);

@@ -1,7 +1,7 @@
 //! The features of the rows of a layer's file up to some row, and the rows that were skipped.
 
 ghost use Rattle.std.specs.Prelude.{◌≡◌, ◌+◌, ◌≤◌, IfOk};
-ghost use Rattle.file_core.specs.Rows.{most_rows};
+ghost use Rattle.row_core.specs.Rows.{most_rows};
 ghost use Rattle.file_core.specs.SkippedRows.{begun, loaded_of, rows_in};
 
 use crate::skipped::{SkippedRow, Unreadable};

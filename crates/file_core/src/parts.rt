@@ -4,12 +4,9 @@ ghost use Rattle.std.specs.Prelude.{◌≡◌, ◌++◌, IfSome};
 ghost use Rattle.file_core.specs.Parts.{IsBoth, IsOnePart, IsParts};
 
 use crate::batch::fill;
-use crate::cuts::{cut, ends_with_feed, is_plain, line_feeds};
-use crate::layer_row::ReadRow;
-use crate::row_reader::RowReader;
-use crate::rows::Rows;
-use crate::source::MAX_FILE_BYTES;
+use crate::cuts::{cut, line_feeds};
 use format_core::Format;
+use row_core::{MAX_FILE_BYTES, ReadRow, RowReader, Rows, ends_with_feed, is_plain};
 use std::alloc::Global;
 use std::thread;
 use std::thread::Threads;

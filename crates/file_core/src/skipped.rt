@@ -1,15 +1,15 @@
 //! The rows of a layer's file that are skipped, since their geometry can't be read.
 
-use crate::read_fault::ReadFault;
 use format_core::TextFault;
 use layer_core::Id;
+use row_core::ReadFault;
 
-/// How a layer is read that has a row whose geometry can't be read.
+/// How a layer is read that has rows whose geometry can't be read.
 #[derive(Clone, Copy, Debug, PartialEq, Eq)]
-pub(crate) enum Unreadable {
-    /// The row is a fault of the file.
+pub enum Unreadable {
+    /// The first such row is a fault of the file.
     Refuse,
-    /// The layer is read without the row.
+    /// The layer is read without these rows.
     Skip,
 }
 
@@ -24,7 +24,7 @@ pub struct SkippedRow {
 
 impl SkippedRow {
     ghost use Rattle.std.specs.Prelude.{◌≡◌};
-    ghost use Rattle.file_core.specs.TextFaults.{fault_of_text};
+    ghost use Rattle.row_core.specs.RowFaults.{fault_of_text};
 
     /// The fault of the file if it is read with this row.
     pub fn as_fault(&self) -> ReadFault

@@ -1,12 +1,13 @@
 //! Files of layers and of edits whose geometries are of any kind.
 
 use any_geometry_core::AnyGeometry;
-use file_core::{ReadFault, edits_of_bytes};
+use file_core::edits_of_bytes;
 use format_core::AnyFormat;
 use geom_core::Shape;
 use layer_core::{Geometry, Layer, LayerFault, Side};
 use layer_test_data::{answer_in, seen, whole};
 use plane_core::Rings;
+use row_core::ReadFault;
 use std::alloc::{AllocGlobal, Global};
 use std::random::RandomSource;
 use std::test::Fail;

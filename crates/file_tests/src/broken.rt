@@ -1,9 +1,9 @@
 //! Files that are truncated, or whose bytes aren't text.
 
-use file_core::ReadFault;
 use geom_core::Shape;
 use layer_core::{Layer, LayerFault};
 use layer_test_data::{fault_of, point, reads_as};
+use row_core::ReadFault;
 use std::alloc::AllocGlobal;
 use std::random::RandomSource;
 use std::test::Fail;

@@ -1,8 +1,9 @@
 //! Readers that fail, give few bytes at a time, or never end.
 
-use file_core::{FromRead, ReadFault, Source, read_all, read_edits};
+use file_core::read_edits;
 use layer_core::Layer;
 use layer_test_data::{has_features, point, reader, seen, state, whole};
+use row_core::{FromRead, ReadFault, Source, read_all};
 use std::alloc::AllocGlobal;
 use std::hash::RandomState;
 use std::io::{Error, ErrorKind, Read, Result as IoResult};

@@ -3,12 +3,13 @@
 ghost use Rattle.std.specs.Prelude.{◌≡◌, false};
 
 use crate::devices::{Device, Endless};
-use file_core::{Failed, FromRead, ReadFault, Source, edits_of_bytes};
+use file_core::edits_of_bytes;
 use geom_core::Shape;
 use layer_core::{Geometry, Layer, LayerFault};
 use layer_test_data::{
     fault_by, fault_of, layer_of, point, points_file, reader, reads_as, seen, state, whole,
 };
+use row_core::{Failed, FromRead, ReadFault, Source};
 use std::alloc::{AllocError, AllocGlobal, Global};
 use std::hash::RandomState;
 use std::random::RandomSource;

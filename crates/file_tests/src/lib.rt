@@ -1,5 +1,5 @@
-//! Tests of `format_core` and `file_core` from outside: worked examples of files, cuts between
-//! parts, refused allocations, and devices that fail.
+//! Tests of `format_core`, `row_core` and `file_core` from outside: worked examples of files, cuts
+//! between parts, refused allocations, and devices that fail.
 #![tactic(auto)]
 
 #[cfg(test)]
@@ -16,3 +16,7 @@ mod parts;
 mod refused_memory;
 #[cfg(test)]
 mod skipped;
+#[cfg(test)]
+mod skipped_parts;
+#[cfg(test)]
+mod skipping;

@@ -1,10 +1,10 @@
 //! Files that threads read in parts: wherever they are cut, the layer is the same as for one
 //! thread.
 
-use file_core::ReadFault;
 use geom_core::Shape;
 use layer_core::{Layer, LayerFault};
 use layer_test_data::{fault_by, finds, layer_by, point, points_file, seen};
+use row_core::ReadFault;
 use std::alloc::{AllocError, AllocGlobal, Global};
 use std::fmt::Write;
 use std::random::RandomSource;

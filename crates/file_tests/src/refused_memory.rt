@@ -1,9 +1,9 @@
 //! Loading that runs out of memory. With each allocation failing in turn, the same call with memory
 //! then has the same result as without the failure.
 
-use file_core::ReadFault;
 use layer_core::Layer;
 use layer_test_data::{answer_by, seen};
+use row_core::ReadFault;
 use std::alloc::AllocGlobal;
 use std::random::RandomSource;
 use std::test::Fail;

@@ -2,4 +2,10 @@ pub mod WayLemmas
 pub mod PartLemmas
 pub mod BoundaryLemmas
 pub mod SkeletonLemmas
-pub mod NearestLemmas
+pub mod PairLemmas
+pub mod BoxPointLemmas
+pub mod SearchLemmas
+pub mod SharedLemmas
+pub mod StartLemmas
+pub mod MeasuredLemmas
+pub mod DistanceLemmas

@@ -41,7 +41,7 @@ or_second : (b c : Bool) → (b || c) ≡ false → c ≡ false
 or_second true c h = cc
 or_second false c h = h
 
-off_all : (g : Figure) (p : Point) → is_on_skeleton g p ≡ false → IsOffAll (edges_of g) (points_of g) p
+pub off_all : (g : Figure) (p : Point) → is_on_skeleton g p ≡ false → IsOffAll (edges_of g) (points_of g) p
 off_all g p h = record {
   edges = λ e k. none_some (λ e. is_on e p) e (edges_of g) (or_first _ _ h) k;
   points = λ v k. none_some (λ v. is_at v p) v (points_of g) (or_second _ _ h) k;
@@ -86,7 +86,7 @@ must_be Exterior h = refl
 or_true : (b c : Bool) → b ≡ true → (b || c) ≡ true
 or_true b c h = ap (λ (t : Bool). t || c) h
 
-to_skeleton : (g : Figure) (p q : Point) → 0 < p.w → 0 < q.w → IsGeometry g → IsPointOf g p → ¬ (IsPointOf g q) → HasSkeletonPoint g p q
+pub to_skeleton : (g : Figure) (p q : Point) → 0 < p.w → 0 < q.w → IsGeometry g → IsPointOf g p → ¬ (IsPointOf g q) → HasSkeletonPoint g p q
 to_skeleton (Points vs) p q wide_p wide_q good in_p out_q = by_test (is_on_skeleton (Points vs) p)
     (λ on. record { point = p; way = way_first p q; on = on })
     (λ off. absurd (in_p (off_part-is (Points vs) p good (off_all (Points vs) p off))))

@@ -1,1 +1,3 @@
+pub mod Measured
+pub mod NearestPairs
 pub mod Skeletons

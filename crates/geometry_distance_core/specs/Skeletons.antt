@@ -1,7 +1,6 @@
 -- The edges and single points of a geometry, without the interior of its areas.
-use Rattle.std.specs.Prelude.{◌≡◌, Bool, ◌||◌, true, List}
+use Rattle.std.specs.Prelude.{◌≡◌, Bool, ◌||◌, true}
 use Rattle.std.specs.List.{list_any}
-use Rattle.plane_core.specs.declared.edge.Edge.{Edge}
 use Rattle.plane_core.specs.Points.{Point, is_on, is_at}
 use Rattle.plane_core.specs.Figures.{Figure, edges_of, points_of}
 use Rattle.plane_core.specs.PlaneMatrices.{SharePoint}
@@ -18,7 +17,3 @@ IsOnSkeleton g p = is_on_skeleton g p ≡ true
 -- no point is in both closed geometries
 abbrev pub AreApart : Figure → Figure → Type 0
 AreApart g h = ¬ (SharePoint (λ p. IsPointOf g p × IsPointOf h p))
-
--- the point is on one of the edges
-abbrev pub IsOnAny : List Edge → Point → Type 0
-IsOnAny es p = list_any (λ e. is_on e p) es ≡ true

@@ -1,8 +1,10 @@
-//! Distances of geometries of any kind that share no point, exactly.
+//! Distances of geometries of any kind, exactly.
 #![tactic(auto)]
 
 mod laws;
+mod measured;
 mod nearest;
+mod search;
 
 pub use laws::{skeleton_law, within_law};
-pub use nearest::edges_to_edges;
+pub use measured::{MeasuredGeometry, square_within};

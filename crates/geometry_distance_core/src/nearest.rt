@@ -1,33 +1,80 @@
-//! The least distance of two sets of edges.
+//! The least squared distance of the pairs of edges that were measured so far.
 
-ghost use Rattle.std.specs.Prelude.{◌<◌, length};
-ghost use Rattle.edge_distance_core.specs.Fractions.{IsSquareOf, IsOnEdge};
-ghost use Rattle.geometry_distance_core.specs.Skeletons.{IsOnAny};
+ghost use Rattle.std.specs.Prelude.{◌≡◌, ◌↔◌, IsTrue, None};
+ghost use Rattle.edge_index_core.specs.Bounds.{IsBoxOf};
+ghost use Rattle.geometry_distance_core.specs.NearestPairs.{Pairs, IsLeastOf, IsPast, IsZero};
+ghost use Rattle.geometry_distance_core.specs.NearestPairs.{AddsPairs, of_edges};
 
+use distance_core::{Distance, squared_distance};
 use edge_distance_core::{SquaredFraction, edge_to_edge, lesser};
+use edge_index_core::bounds_of;
+use geom_core::Shape;
 use plane_core::Edge;
 
-/// The squared distance of an edge and the nearest of some edges.
-fn edge_to_edges(e: &Edge, fs: &[Edge]) -> SquaredFraction
-    requires { 0 < length fs.now }
-    ensures { IsSquareOf result (IsOnEdge e.now) (IsOnAny fs.now) }
-{
-    let mut nearest = edge_to_edge(e, &fs[0]);
-    for f in fs {
-        nearest = lesser(nearest, edge_to_edge(e, f));
-    }
-    nearest
+/// The least squared distance of some pairs of points, if it is at most the square of a distance.
+#[derive(Clone, Copy, Debug)]
+pub(crate) struct Nearest {
+    pub(crate) distance: Distance,
+    pub(crate) square: Option<SquaredFraction>,
 }
 
-/// The squared distance of the nearest two of some edges and others.
-pub fn edges_to_edges(es: &[Edge], fs: &[Edge]) -> SquaredFraction
-    requires first { 0 < length es.now }
-    requires second { 0 < length fs.now }
-    ensures { IsSquareOf result (IsOnAny es.now) (IsOnAny fs.now) }
-{
-    let mut nearest = edge_to_edges(&es[0], fs);
-    for e in es {
-        nearest = lesser(nearest, edge_to_edges(e, fs));
+impl Nearest {
+    /// That of no pairs.
+    pub(crate) fn of_none(distance: Distance) -> Nearest
+        ensures distance { result.distance ≡ distance }
+        ensures square { result.square ≡ None }
+    {
+        Nearest {
+            distance,
+            square: None,
+        }
     }
-    nearest
+
+    /// Whether pairs with a squared distance of at least `square` make no difference.
+    pub(crate) fn is_past(&self, square: u128) -> bool
+        ensures { IsTrue result ↔ IsPast self.now square }
+    {
+        match &self.square {
+            Some(least) => least.is_at_most(square),
+            None => {
+                let units = u128::from(self.distance.units());
+                units * units < square
+            }
+        }
+    }
+
+    /// Whether two points are the same.
+    pub(crate) fn is_zero(&self) -> bool
+        ensures { IsTrue result ↔ IsZero self.now.square }
+    {
+        match &self.square {
+            Some(least) => least.numerator.is_zero(),
+            None => false,
+        }
+    }
+
+    /// That of these pairs and of others with this least squared distance.
+    fn with(self, square: SquaredFraction) -> Nearest
+        ensures { (pairs : Pairs) → IsLeastOf square pairs → AddsPairs pairs self result }
+    {
+        let distance = self.distance;
+        let square = match self.square {
+            Some(least) => Some(lesser(least, square)),
+            None if square.is_within(distance) => Some(square),
+            None => None,
+        };
+        Nearest { distance, square }
+    }
+
+    /// That of these pairs, and of a point of an edge, with its box, and a point of another.
+    pub(crate) fn with_edges(self, e: &Edge, bounds: &Shape, f: &Edge) -> Nearest
+        requires { IsBoxOf e.now bounds.now }
+        ensures { AddsPairs (of_edges e.now f.now) self result }
+    {
+        if self.is_past(squared_distance(bounds, &bounds_of(f))) {
+            self
+        } else {
+            self.with(edge_to_edge(e, f))
+        }
+    }
 }

@@ -1,5 +1,5 @@
-//! Tests of `geometry_distance_core` from outside: distances of rings, lines and points, by hand.
+//! Tests of `geometry_distance_core` from outside: distances of areas, lines and points, by hand.
 #![tactic(auto)]
 
 #[cfg(test)]
-mod rings;
+mod distances;

@@ -1,24 +1,27 @@
 -- The results of a join of files.
-use Rattle.std.proofs.Common.{◌≡◌, ℕ, List, Option, Some, None, Result, Ok, Err, IsSome, IsErrAnd, IsErrOf, IsSomeAnd, IfSome, IsTrue, Bool, true, false, IfErr, OnOk}
+use Rattle.std.proofs.Common.{◌≡◌, ℕ, List, Option, Some, None, Result, Ok, Err, IsSome, IsErrAnd, IsErrOf, IsSomeAnd, IfSome, IsTrue, Bool, true, false, IfErr, IfOk, OnOk}
 use Rattle.std.proofs.Common.{◌↔◌, ◌≢◌, All, get_or, refl, sym, subst, ◌∙◌, map}
 use Rattle.std.specs.Prelude.{⊤}
 use Rattle.layer_core.specs.declared.edit.Edit.{Edit as EditType}
 use Rattle.layer_core.specs.declared.fault.LayerFault.{LayerFault}
 use Rattle.format_core.specs.Formats.{Reading}
-use Rattle.file_core.specs.declared.read_fault.ReadFault.{ReadFault}
-use Rattle.file_core.specs.declared.read_fault.ReadFault.TheVariants.{Io}
+use Rattle.row_core.specs.declared.read_fault.ReadFault.{ReadFault}
+use Rattle.row_core.specs.declared.read_fault.ReadFault.TheVariants.{Io}
 use Rattle.layer_core.specs.Edits.{Layers, both, content_of, edits_give}
 use Rattle.layer_core.specs.Layers.{Feature, Contents, with_number}
 use Rattle.join_core.specs.declared.fault.Input.{Input}
 use Rattle.join_core.specs.declared.fault.Input.TheVariants.{First, Second, Left, Right, Edits, Layer, Window}
 use Rattle.join_core.specs.declared.fault.RunFault.{RunFault}
-use Rattle.join_core.specs.declared.fault.RunFault.TheVariants.{NoFile, Read, Wkt, Geometry, Edit, Join, TooManyToDraw, Write, Memory, NoKeys}
-use Rattle.join_core.specs.Inputs.{LayerFile, BlamesBytes, BlamesInput}
-use Rattle.join_core.specs.JoinRuns.{JoinFiles, EditFile, LayersGive, edits_fault, edit_refused, edited, ReportGives, no_layers, IsLateFault}
+use Rattle.join_core.specs.declared.fault.RunFault.TheVariants.{NoFile, Read, Wkt, Geometry, Edit, Join, TooManyToDraw, Write, NotStored, Memory, NoKeys}
+use Rattle.join_core.specs.Inputs.{BlamesBytes, BlamesInput}
+use Rattle.join_core.specs.JoinRuns.{JoinFiles, EditFile, LeftGives, RightGives, LayersGive, edits_fault, edit_refused, edited, ListReportGives, no_layers, IsLateFault}
 use Rattle.join_core.specs.JoinRuns.{IsJoinFault, AreEdited, IsEditsFault, unread, ended, EndsAt}
 use Rattle.join_core.specs.SourceStates.{FailedAt}
 use Rattle.filter_core.specs.Joins.{IsJoinList, StandIn}
 use Rattle.report_core.specs.Reports.{IsHeld}
+use Rattle.join_core.specs.declared.joins.output.JoinText.{JoinText}
+use Rattle.join_core.specs.declared.text.Text.{Text}
+use Rattle.join_core.specs.Texts.{bytes_of_text}
 use Rattle.report_core.specs.Written.{joined}
 use Rattle.filter_core.proofs.NumberLemmas.{contains_at}
 
@@ -46,7 +49,7 @@ handed_on J (Err x) e is h same gives =
 -- ---- the edits of a file
 
 -- a fault of the edits, if both layers are valid
-module _ {G : Type 0} (files : JoinFiles G) (l r : Contents G) (left : LayerFile files.reads files.left (Ok l)) (right : LayerFile files.reads files.right (Ok r)) where
+module _ {G : Type 0} (files : JoinFiles G) (l r : Contents G) (left : LeftGives files (Ok l)) (right : RightGives files (Ok r)) where
   edits_give_fault : (e : RunFault) → IsEditsFault files.reads files.edits (both l r) e → BlamesInput e → LayersGive files (Err e)
   edits_give_fault e (unread f blames) blame = edits_fault l r f left right (blames blame)
   edits_give_fault e (ended edits row f file ends) blame = edit_refused l r edits row f left right file (ends.refused blame)
@@ -108,18 +111,19 @@ none_blamed (Edit row f) late blame = late
 none_blamed (Join f) late blame = blame
 none_blamed TooManyToDraw late blame = late
 none_blamed Write late blame = blame
+none_blamed NotStored late blame = blame
 none_blamed Memory late blame = blame
 none_blamed NoKeys late blame = blame
 
-module _ {G : Type 0} (stands : G → G → Type 0) (name : List ℕ) (is_field : G → G → List ℕ → Type 0) (files : JoinFiles G) where
+module _ {G : Type 0} (AreListed : Layers G → List (ℕ × ℕ) → Type 0) (name : List ℕ) (is_field : G → G → List ℕ → Type 0) (files : JoinFiles G) where
   -- without layers there is no report
   pub no_report : {T : Type 0} (out : Result T RunFault) (e : RunFault) → IsErrAnd out (λ x. x ≡ e)
-      → (BlamesInput e → LayersGive files (Err e)) → IfErr out (λ x. BlamesInput x → ReportGives stands name is_field files (Err x))
-  no_report out e h fault = handed_on (ReportGives stands name is_field files) out e e h refl (λ blame. no_layers e (fault blame))
+      → (BlamesInput e → LayersGive files (Err e)) → IfErr out (λ x. BlamesInput x → ListReportGives AreListed name is_field files (Err x))
+  no_report out e h fault = handed_on (ListReportGives AreListed name is_field files) out e e h refl (λ blame. no_layers e (fault blame))
 
   -- the last step of a join, which finds the pairs and makes the report
   pub last_fault : {T : Type 0} (out : Result T RunFault)
-      → IfErr out IsLateFault → IfErr out (λ f. BlamesInput f → ReportGives stands name is_field files (Err f))
+      → IfErr out IsLateFault → IfErr out (λ f. BlamesInput f → ListReportGives AreListed name is_field files (Err f))
   last_fault (Ok x) err = tt
   last_fault (Err e) err = λ blame. absurd (none_blamed e err blame)
 
@@ -133,6 +137,7 @@ module _ {G : Type 0} (files : JoinFiles G) (layers : Layers G) (given : LayersG
   late_is_of_join (Join f) late = (late, (layers, given))
   late_is_of_join TooManyToDraw late = absurd late
   late_is_of_join Write late = absurd late
+  late_is_of_join NotStored late = absurd late
   late_is_of_join Memory late = (tt, (layers, given))
   late_is_of_join NoKeys late = absurd late
 
@@ -225,3 +230,29 @@ edits_io L R E out e y h (unread f blames) left right edits =
 edits_io L R E out e y h (ended list row f read ends) left right edits =
     failed_at L R E out (io_passed out Left L e e h refl (λ g q. absurd cc) y left) (io_passed out Right R e e h refl (λ g q. absurd cc) y right)
     (io_handed_on out Edits E e h edits) (is_join_kind out e e h refl tt)
+
+-- ---- a text with the rows that were skipped
+
+module _ (text : Result Text RunFault) (out : Result JoinText RunFault) where
+  pub made_ok : (P : List ℕ → Type 0) → IfOk text (λ t. P (bytes_of_text t)) → IfOk out (λ made. text ≡ Ok made.text)
+      → IfOk out (λ made. P (bytes_of_text made.text))
+  made_ok P given is = by out is
+    where
+      by : (r : Result JoinText RunFault) → IfOk r (λ made. text ≡ Ok made.text) → IfOk r (λ made. P (bytes_of_text made.text))
+      by (Ok made) is = subst (λ (t : Result Text RunFault). IfOk t (λ x. P (bytes_of_text x))) is given
+      by (Err f) is = tt
+
+  pub made_err : (P : RunFault → Type 0) → IfErr text P → IfErr out (λ f. text ≡ Err f) → IfErr out P
+  made_err P given is = by out is
+    where
+      by : (r : Result JoinText RunFault) → IfErr r (λ f. text ≡ Err f) → IfErr r P
+      by (Ok made) is = tt
+      by (Err f) is = subst (λ (t : Result Text RunFault). IfErr t P) is given
+
+  pub made_io : (i : Input) (P : Type 0) → IsErrOf text (Read i Io) ↔ P → IfOk out (λ made. text ≡ Ok made.text) → IfErr out (λ f. text ≡ Err f)
+      → IsErrOf out (Read i Io) ↔ P
+  made_io i P io ok err = by out ok err
+    where
+      by : (r : Result JoinText RunFault) → IfOk r (λ made. text ≡ Ok made.text) → IfErr r (λ f. text ≡ Err f) → IsErrOf r (Read i Io) ↔ P
+      by (Ok made) ok err = ((λ q. absurd cc), (λ p. absurd (let q = io.1 p in cc)))
+      by (Err f) ok err = ((λ q. io.0 (let is : f ≡ Read i Io = cc in cc)), (λ p. let q = io.1 p in let is : f ≡ Read i Io = cc in cc))

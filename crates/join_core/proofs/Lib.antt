@@ -6,8 +6,10 @@ pub mod JoinRunLemmas
 pub mod LayerRunLemmas
 pub mod LayersLemmas
 pub mod LineLemmas
+pub mod MarkLemmas
 pub mod ProductLemmas
 pub mod RelatingLemmas
 pub mod RunLemmas
+pub mod SkippedLemmas
 pub mod WindowLemmas
 pub mod WindowRunLemmas

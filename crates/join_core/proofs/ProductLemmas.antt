@@ -2,7 +2,7 @@
 use Rattle.std.proofs.Common.{◌≡◌, ◌<◌, ℕ, List, Result, Ok, Err, IsErrAnd, IsErrOf, IfErr, IfOk, map, refl, sym, subst}
 use Rattle.layer_core.specs.Edits.{Layers}
 use Rattle.draw_core.specs.Limits.{most_drawn}
-use Rattle.file_core.specs.declared.read_fault.ReadFault.{ReadFault}
+use Rattle.row_core.specs.declared.read_fault.ReadFault.{ReadFault}
 use Rattle.join_core.specs.declared.fault.Input.{Input}
 use Rattle.join_core.specs.declared.fault.RunFault.{RunFault}
 use Rattle.join_core.specs.declared.fault.RunFault.TheVariants.{Read, TooManyToDraw}
@@ -22,7 +22,7 @@ use Rattle.join_core.proofs.JoinRunLemmas.{no_report, last_fault, last_faults, i
 pub no_product : {G T : Type 0} (product : Product) (joining : Joining G) (files : JoinFiles G) (out : Result T RunFault) (e : RunFault)
     → IsErrAnd out (λ x. x ≡ e) → (BlamesInput e → LayersGive files (Err e))
     → IfErr out (λ x. BlamesInput x → ProductGives product joining files (Err x))
-no_product Report joining files = no_report joining.stands _ _ files
+no_product Report joining files = no_report (ArePairs joining.stands) _ _ files
 no_product Picture joining files = no_picture joining files
 
 pub is_product_fault : {T : Type 0} (product : Product) {G : Type 0} (files : JoinFiles G) (out : Result T RunFault) (e : RunFault) → IsErrAnd out (λ x. x ≡ e)
@@ -47,7 +47,7 @@ pub product_blamed : {G T : Type 0} (product : Product) (joining : Joining G) (f
     → LayersGive files (Ok layers) → (IsErrOf out TooManyToDraw → most_drawn < features_of layers) → IfErr out (IsLateProductFault product)
     → IfErr out (λ x. BlamesInput x → ProductGives product joining files (Err x))
 product_blamed Report joining files layers out given many late =
-    last_fault joining.stands _ _ files out late
+    last_fault (ArePairs joining.stands) _ _ files out late
 product_blamed Picture joining files layers out given many late = picture_blamed joining files layers out given many late
 
 pub late_faults : {T : Type 0} (product : Product) {G : Type 0} (files : JoinFiles G) (layers : Layers G) (out : Result T RunFault) → LayersGive files (Ok layers)

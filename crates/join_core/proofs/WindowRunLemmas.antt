@@ -9,7 +9,7 @@ use Rattle.format_core.specs.Formats.{ReadsBox}
 use Rattle.join_core.specs.declared.fault.Input.{Input}
 use Rattle.join_core.specs.declared.fault.Input.TheVariants.{Layer, Window}
 use Rattle.join_core.specs.declared.fault.RunFault.{RunFault}
-use Rattle.join_core.specs.declared.fault.RunFault.TheVariants.{NoFile, Read, Wkt, Geometry, Edit, Join, TooManyToDraw, Write, Memory, NoKeys}
+use Rattle.join_core.specs.declared.fault.RunFault.TheVariants.{NoFile, Read, Wkt, Geometry, Edit, Join, TooManyToDraw, Write, NotStored, Memory, NoKeys}
 use Rattle.join_core.specs.Jobs.{OnlyAt}
 use Rattle.join_core.specs.LayerRuns.{LayerGives, IsLayerRunFault}
 use Rattle.join_core.specs.Runs.{NoTextFault, RunEnds}
@@ -41,6 +41,7 @@ of_layer scale wkt file s spelled (Edit n e) is = ((s, spelled), is)
 of_layer scale wkt file s spelled (Join j) is = ((s, spelled), is)
 of_layer scale wkt file s spelled TooManyToDraw is = ((s, spelled), is)
 of_layer scale wkt file s spelled Write is = ((s, spelled), is)
+of_layer scale wkt file s spelled NotStored is = ((s, spelled), is)
 of_layer scale wkt file s spelled Memory is = ((s, spelled), is)
 of_layer scale wkt file s spelled NoKeys is = ((s, spelled), is)
 

@@ -22,3 +22,8 @@ pub record HasRows (writer : Writer (Vec ℕ Global)) (rows : List (List (List �
 abbrev pub AddsRow : Writer (Vec ℕ Global) → Writer (Vec ℕ Global) → List (List ℕ) → Type 0
 AddsRow old new row =
     (rows : List (List (List ℕ))) → HasRows old rows → HasRows new (rows ++ row ∷ [])
+
+-- more rows are written
+abbrev pub AddsRows : Writer (Vec ℕ Global) → Writer (Vec ℕ Global) → List (List (List ℕ)) → Type 0
+AddsRows old new more =
+    (rows : List (List (List ℕ))) → HasRows old rows → HasRows new (rows ++ more)

@@ -3,7 +3,7 @@ use Rattle.std.specs.Prelude.{ℕ, List, ◌++◌, codes}
 use Rattle.wkt_core.specs.FaultTexts.{wkt_text}
 use Rattle.wkt_any_core.specs.FaultTexts.{geometry_text}
 use Rattle.layer_core.specs.FaultTexts.{layer_text}
-use Rattle.file_core.specs.FaultTexts.{read_text, row_text}
+use Rattle.row_core.specs.FaultTexts.{read_text, row_text}
 use Rattle.parallel_core.specs.Faults.{join_text}
 use Rattle.join_core.specs.declared.fault.Input.{Input}
 use Rattle.join_core.specs.declared.fault.Input.TheVariants.{First, Second, Left, Right, Edits}
@@ -29,5 +29,6 @@ run_text (run.Edit n fault) = codes "edits: " ++ (row_text n ++ layer_text fault
 run_text (run.Join fault) = join_text fault
 run_text run.TooManyToDraw = codes "more than 100000 features to draw"
 run_text run.Write = codes "write failed"
+run_text run.NotStored = codes "skip: cannot be written"
 run_text run.Memory = codes "no memory"
 run_text run.NoKeys = codes "no random keys for hashing"

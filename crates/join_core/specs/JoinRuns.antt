@@ -1,27 +1,32 @@
 -- The results of a join of three files.
 use Rattle.std.specs.Prelude.{◌≡◌, ◌≢◌, ◌<◌, ◌≤◌, ⊤, ℕ, List, [], Option, Some, None, Result, Ok}
-use Rattle.std.specs.Prelude.{Err, IfSome, codes, length, take}
+use Rattle.std.specs.Prelude.{Err, IfSome, codes, length, map, take}
 use Rattle.layer_core.specs.declared.fault.LayerFault.{LayerFault}
 use Rattle.layer_core.specs.declared.fault.LayerFault.TheVariants.{Memory as no_memory}
 use Rattle.format_core.specs.Formats.{Reading}
-use Rattle.file_core.specs.declared.read_fault.ReadFault.{ReadFault}
-use Rattle.file_core.specs.declared.read_fault.ReadFault.TheVariants.{Io}
+use Rattle.row_core.specs.declared.read_fault.ReadFault.{ReadFault}
+use Rattle.row_core.specs.declared.read_fault.ReadFault.TheVariants.{Io}
 use Rattle.layer_core.specs.Layers.{Contents}
 use Rattle.layer_core.specs.Edits.{EditContent, Layers, both, edits_give}
 use Rattle.file_core.specs.EditFiles.{IsEditFile}
+use Rattle.file_core.specs.SkippedRows.{SkippedContent, skipped_content}
+use Rattle.file_core.specs.declared.skipped.Unreadable.{Unreadable}
+use Rattle.file_core.specs.declared.skipped.Unreadable.TheVariants.{Refuse}
 use Rattle.parallel_core.specs.Faults.{IsWant}
 use Rattle.join_core.specs.declared.fault.Input.TheVariants.{Left, Right, Edits}
 use Rattle.join_core.specs.declared.fault.RunFault.{RunFault}
 use Rattle.join_core.specs.declared.fault.RunFault.TheVariants.{Read, Edit, Join, Memory}
+use Rattle.join_core.specs.declared.joins.loaded.SkippedRows.{SkippedRows}
 use Rattle.join_core.specs.declared.joins.sources.JoinSources.{JoinSources}
-use Rattle.join_core.specs.Inputs.{LayerFile, GivesLayer, BlamesBytes, BlamesEdit}
+use Rattle.join_core.specs.Inputs.{LayerFileBy, GivesLayerBy, SkipsRows, BlamesBytes, BlamesEdit}
 use Rattle.join_core.specs.Joinings.{Joining, ArePairs}
 use Rattle.report_core.specs.Reports.{AreLettersBy, IsReportBy}
 
--- how the geometries of a join read, and the known bytes of its sources; there may be no file of
--- edits
+-- how the geometries of a join read, what becomes of rows whose geometry doesn't, and the known
+-- bytes of its sources; there may be no file of edits
 pub record JoinFiles (G : Type 0) : Type 1 where
   pub reads : Reading G
+  pub unreadable : Unreadable
   pub left : Option (List ℕ)
   pub right : Option (List ℕ)
   pub edits : Option (Option (List ℕ))
@@ -31,14 +36,28 @@ abbrev pub bytes_of : {E : Type 0} → (E → Option (List ℕ)) → Option E �
 bytes_of remaining None = None
 bytes_of remaining (Some e) = Some (remaining e)
 
-abbrev pub files_of : {G A B E : Type 0} → Reading G → (A → Option (List ℕ))
+-- the known bytes of the sources, which are read in this way
+abbrev pub files_by : {G A B E : Type 0} → Unreadable → Reading G → (A → Option (List ℕ))
     → (B → Option (List ℕ)) → (E → Option (List ℕ)) → JoinSources A B E → JoinFiles G
-files_of reads left_bytes right_bytes edits_bytes sources = record {
+files_by unreadable reads left_bytes right_bytes edits_bytes sources = record {
   reads = reads;
+  unreadable = unreadable;
   left = left_bytes sources.left;
   right = right_bytes sources.right;
   edits = bytes_of edits_bytes sources.edits;
 }
+
+-- the same of files in which no row is skipped
+abbrev pub files_of : {G A B E : Type 0} → Reading G → (A → Option (List ℕ))
+    → (B → Option (List ℕ)) → (E → Option (List ℕ)) → JoinSources A B E → JoinFiles G
+files_of = files_by Refuse
+
+-- the layer of the left file or of the right one, or its fault
+abbrev pub LeftGives : {G : Type 0} → JoinFiles G → Result (Contents G) ReadFault → Type 0
+LeftGives files = LayerFileBy files.reads files.unreadable files.left
+
+abbrev pub RightGives : {G : Type 0} → JoinFiles G → Result (Contents G) ReadFault → Type 0
+RightGives files = LayerFileBy files.reads files.unreadable files.right
 
 -- the edits or the fault of a file of edits; no edits without a file
 abbrev pub EditFile : {G : Type 0} → Reading G → Option (Option (List ℕ))
@@ -48,12 +67,14 @@ EditFile reads (Some known) answer = IfSome known (λ bytes. IsEditFile reads by
 
 -- a fault of reading two layers: one of the right file comes only if the left is valid, except that
 -- its source fails
-abbrev pub IsLayersFault : {G : Type 0} → Reading G → Option (List ℕ) → Option (List ℕ) → RunFault
-    → Type 0
-IsLayersFault reads left right (Read Left f) = BlamesBytes f → LayerFile reads left (Err f)
-IsLayersFault reads left right (Read Right f) =
-    (f ≢ Io → GivesLayer reads left) × (BlamesBytes f → LayerFile reads right (Err f))
-IsLayersFault reads left right _ = ⊥
+abbrev pub IsLayersFault : {G : Type 0} → Reading G → Unreadable → Option (List ℕ)
+    → Option (List ℕ) → RunFault → Type 0
+IsLayersFault reads unreadable left right (Read Left f) =
+    BlamesBytes f → LayerFileBy reads unreadable left (Err f)
+IsLayersFault reads unreadable left right (Read Right f) =
+    (f ≢ Io → GivesLayerBy reads unreadable left)
+    × (BlamesBytes f → LayerFileBy reads unreadable right (Err f))
+IsLayersFault reads unreadable left right _ = ⊥
 
 -- the fault of two layers if the right one has a fault: a failing right source comes before a fault
 -- of the left one
@@ -65,34 +86,54 @@ first_fault None right = Read Right right
 -- the edited layers, or the first fault of the left file, the right one, that of edits and the
 -- edits, in this order
 pub data LayersGive {G : Type 0} (files : JoinFiles G) : Result (Layers G) RunFault → Type 0 where
-  left_fault : (f : ReadFault) → LayerFile files.reads files.left (Err f)
-      → LayersGive files (Err (Read Left f))
-  right_fault : (l : Contents G) (f : ReadFault) → LayerFile files.reads files.left (Ok l)
-      → LayerFile files.reads files.right (Err f) → LayersGive files (Err (Read Right f))
-  edits_fault : (l r : Contents G) (f : ReadFault) → LayerFile files.reads files.left (Ok l)
-      → LayerFile files.reads files.right (Ok r)
+  left_fault : (f : ReadFault) → LeftGives files (Err f) → LayersGive files (Err (Read Left f))
+  right_fault : (l : Contents G) (f : ReadFault) → LeftGives files (Ok l)
+      → RightGives files (Err f) → LayersGive files (Err (Read Right f))
+  edits_fault : (l r : Contents G) (f : ReadFault) → LeftGives files (Ok l)
+      → RightGives files (Ok r)
       → EditFile files.reads files.edits (Err f) → LayersGive files (Err (Read Edits f))
   edit_refused : (l r : Contents G) (edits : List (EditContent G)) (row : ℕ)
-      (f : LayerFault) → LayerFile files.reads files.left (Ok l)
-      → LayerFile files.reads files.right (Ok r)
+      (f : LayerFault) → LeftGives files (Ok l) → RightGives files (Ok r)
       → EditFile files.reads files.edits (Ok edits)
       → edits_give 1 (both l r) edits ≡ Err (row, f) → LayersGive files (Err (Edit row f))
   edited : (l r : Contents G) (edits : List (EditContent G)) (layers : Layers G)
-      → LayerFile files.reads files.left (Ok l) → LayerFile files.reads files.right (Ok r)
+      → LeftGives files (Ok l) → RightGives files (Ok r)
       → EditFile files.reads files.edits (Ok edits)
       → edits_give 1 (both l r) edits ≡ Ok layers → LayersGive files (Ok layers)
 
--- the report of the edited layers' pairs, or the fault that there are no such layers; which two
--- geometries are a pair, the name of the last column and the fields in it are parameters
-pub data ReportGives {G : Type 0} (stands : G → G → Type 0) (name : List ℕ)
-    (is_field : G → G → List ℕ → Type 0) (files : JoinFiles G)
+-- the rows that are skipped of the left and of the right file
+pub record SkippedLists : Type 0 where
+  pub left : List SkippedContent
+  pub right : List SkippedContent
+
+abbrev pub skipped_lists : SkippedRows → SkippedLists
+skipped_lists rows = record {
+  left = map skipped_content rows.left.items;
+  right = map skipped_content rows.right.items;
+}
+
+-- exactly the rows that are skipped of the two files
+pub record AreRowsSkipped {G : Type 0} (files : JoinFiles G) (rows : SkippedLists) : Type 0 where
+  pub left : SkipsRows files.reads files.unreadable files.left rows.left
+  pub right : SkipsRows files.reads files.unreadable files.right rows.right
+
+-- the report of a list of pairs of the edited layers, or the fault that there are no such layers;
+-- which lists two layers have, the name of the last column and the fields in it are parameters
+pub data ListReportGives {G : Type 0} (AreListed : Layers G → List (ℕ × ℕ) → Type 0)
+    (name : List ℕ) (is_field : G → G → List ℕ → Type 0) (files : JoinFiles G)
     : Result (List ℕ) RunFault → Type 0 where
   no_layers : (f : RunFault) → LayersGive files (Err f)
-      → ReportGives stands name is_field files (Err f)
+      → ListReportGives AreListed name is_field files (Err f)
   reported : (layers : Layers G) (pairs : List (ℕ × ℕ)) (text : List ℕ)
-      → LayersGive files (Ok layers) → ArePairs stands layers pairs
+      → LayersGive files (Ok layers) → AreListed layers pairs
       → IsReportBy name is_field layers.left layers.right pairs text
-      → ReportGives stands name is_field files (Ok text)
+      → ListReportGives AreListed name is_field files (Ok text)
+
+-- the report of the edited layers' pairs, or that fault; which two geometries are a pair is a
+-- parameter
+abbrev pub ReportGives : {G : Type 0} → (G → G → Type 0) → List ℕ → (G → G → List ℕ → Type 0)
+    → JoinFiles G → Result (List ℕ) RunFault → Type 0
+ReportGives stands = ListReportGives (ArePairs stands)
 
 -- the report with matrices
 abbrev pub JoinGives : {G : Type 0} → Joining G → JoinFiles G → Result (List ℕ) RunFault → Type 0
@@ -138,16 +179,16 @@ pub data IsEditsFault {G : Type 0} (reads : Reading G) (file : Option (Option (L
 
 -- both layer files are valid
 abbrev pub GiveLayers : {G : Type 0} → JoinFiles G → Type 0
-GiveLayers files =
-    GivesLayer files.reads files.left × GivesLayer files.reads files.right
+GiveLayers files = GivesLayerBy files.reads files.unreadable files.left
+    × GivesLayerBy files.reads files.unreadable files.right
 
 -- the file of edits is valid too, and its edits are applied up to that of this row
 pub record AreMadeTo {G : Type 0} (files : JoinFiles G) (row : ℕ) : Type 0 where
   pub left : Contents G
   pub right : Contents G
   pub edits : List (EditContent G)
-  pub left_read : LayerFile files.reads files.left (Ok left)
-  pub right_read : LayerFile files.reads files.right (Ok right)
+  pub left_read : LeftGives files (Ok left)
+  pub right_read : RightGives files (Ok right)
   pub edits_read : EditFile files.reads files.edits (Ok edits)
   pub are_made : AreMade row (both left right) edits
 
@@ -156,7 +197,8 @@ pub record AreMadeTo {G : Type 0} (files : JoinFiles G) (row : ℕ) : Type 0 whe
 -- bytes
 abbrev pub IsJoinFault : {G : Type 0} → JoinFiles G → RunFault → Type 0
 IsJoinFault files (Read Left f) = ⊤
-IsJoinFault files (Read Right f) = f ≢ Io → GivesLayer files.reads files.left
+IsJoinFault files (Read Right f) =
+    f ≢ Io → GivesLayerBy files.reads files.unreadable files.left
 IsJoinFault files (Read Edits f) = GiveLayers files
 IsJoinFault files (Edit row f) = f ≡ no_memory → AreMadeTo files row
 IsJoinFault {G} files fault =

@@ -2,7 +2,7 @@
 use Rattle.std.specs.Prelude.{◌≡◌, ◌≢◌, ◌↔◌, ℕ, List, Option, Bool, Result, Ok, Err, IsTrue, IfErr}
 use Rattle.std.specs.Prelude.{OnOk, IsErrOf}
 use Rattle.std.specs.Io.KnownBytes.{Appends}
-use Rattle.file_core.specs.declared.read_fault.ReadFault.TheVariants.{Io}
+use Rattle.row_core.specs.declared.read_fault.ReadFault.TheVariants.{Io}
 use Rattle.wkt_core.specs.declared.fault.WktFault.{WktFault}
 use Rattle.join_core.specs.declared.fault.Input.{Input}
 use Rattle.join_core.specs.declared.fault.RunFault.{RunFault}

@@ -1,6 +1,6 @@
 -- Which sources of a join have failed.
 use Rattle.std.specs.Prelude.{◌≡◌, ◌↔◌, Bool, false, Result, IfSome, IsTrue, IsErrOf, IsSomeAnd}
-use Rattle.file_core.specs.declared.read_fault.ReadFault.TheVariants.{Io}
+use Rattle.row_core.specs.declared.read_fault.ReadFault.TheVariants.{Io}
 use Rattle.join_core.specs.declared.fault.Input.{Input}
 use Rattle.join_core.specs.declared.fault.Input.TheVariants.{Left, Right, Edits}
 use Rattle.join_core.specs.declared.fault.RunFault.{RunFault}

@@ -7,18 +7,21 @@ ghost use Rattle.join_core.specs.declared.fault.Input.{Input};
 ghost use Rattle.join_core.specs.Bounds.{ListsCorners, bounds_row, bounds_text};
 ghost use Rattle.join_core.specs.Jobs.{OnlyAt};
 ghost use Rattle.join_core.specs.LayerRuns.{LayerGives, IsLayerRunFault};
+ghost use Rattle.join_core.specs.Marks.{MarksLayer};
 ghost use Rattle.join_core.specs.Runs.{NoTextFault, RunEnds};
 
 use crate::csv_rows::{new_rows, push_row, rows_text};
 use crate::fault::RunFault;
-use crate::layer_run::{DEFAULT_WORKERS, LayerText, run_on_layer};
+use crate::layer_run::{DEFAULT_WORKERS, LayerText, run_marking, run_on_layer};
+use crate::marks::Marks;
 use crate::text::Text;
 use csv::Writer;
-use file_core::{LayerReader, Source};
+use file_core::LayerReader;
 use format_core::Format;
 use itoa::Buffer;
 use layer_core::{FeatureList, FeatureRef, Geometry};
 use report_core::Sink;
+use row_core::Source;
 use std::alloc::{AllocError, Global};
 use std::hash::RandomState;
 use std::thread::Threads;
@@ -55,6 +58,37 @@ pub fn run_bounds<R: Threads + Sync, F: Format, L: Source, S: Sink>(
         threads: DEFAULT_WORKERS,
     };
     run_on_layer(&reader, state, layer, &Corners, sink)
+}
+
+/// The same over a layer that `reader` reads, and sets `rows` to the numbers of its rows whose
+/// geometries have a property, from 1, after the header, in file order.
+pub fn run_bounds_marking<R, F, L, M, S>(
+    reader: &LayerReader<'_, F, R>,
+    state: RandomState,
+    layer: &mut L,
+    marks: &M,
+    rows: &mut Vec<u32>,
+    sink: &mut S,
+) -> Result<(), RunFault>
+where
+    R: Threads + Sync,
+    F: Format,
+    L: Source,
+    M: Marks<F::Geometry>,
+    S: Sink,
+    requires layer { L.has_failed layer.old ≡ false }
+    requires sink { S.has_failed sink.old ≡ false }
+    ensures runs { let reads = F.reads reader.now.format in
+        let corners = ListsCorners F.Geometry.box_of in
+        RunEnds (LayerGives corners reads (L.remaining layer.old)) NoTextFault
+        (IsLayerRunFault reads (L.remaining layer.old))
+        (OnlyAt Input.Layer (IsTrue (L.has_failed layer.new)))
+        S.written S.is_flushed S.has_failed sink.old sink.new result }
+    ensures marked { let reads = F.reads reader.now.format in
+        let file = L.remaining layer.old in
+        OnOk result (MarksLayer reads (M.is_marked marks.now) file rows.new.items) }
+{
+    run_marking(reader, state, layer, &Corners, marks, rows, sink)
 }
 
 /// The text of `run_bounds`: the corners of a layer's features.

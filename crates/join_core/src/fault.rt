@@ -3,10 +3,10 @@
 ghost use Rattle.std.specs.Prelude.{◌≡◌};
 ghost use Rattle.join_core.specs.declared.fault.RunFault.TheVariants as run_faults;
 
-use file_core::ReadFault;
 use layer_core::LayerFault;
 use parallel_core::JoinFault;
 use report_core::WriteFailed;
+use row_core::ReadFault;
 use std::alloc::AllocError;
 use thiserror::Error;
 use wkt_any_core::GeometryFault;
@@ -79,6 +79,9 @@ pub enum RunFault {
     /// Writing to the output failed.
     #[error("write failed")]
     Write,
+    /// The file of the rows that were skipped can't be written.
+    #[error("skip: cannot be written")]
+    NotStored,
     /// Memory ran out.
     #[error("no memory")]
     Memory,

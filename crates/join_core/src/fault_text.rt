@@ -3,16 +3,16 @@
 ghost use Rattle.std.specs.Prelude.{◌≡◌, ◌+◌, ◌≤◌, ◌↔◌, ◌++◌, false, length, IsTrue, IsErr, OnOk};
 ghost use Rattle.std.specs.Prelude.{OnErr};
 ghost use Rattle.std.specs.Io.KnownBytes.{Appends};
-ghost use Rattle.file_core.specs.FaultTexts.{read_text, row_text};
+ghost use Rattle.row_core.specs.FaultTexts.{read_text, row_text};
 ghost use Rattle.parallel_core.specs.Faults.{join_text};
 ghost use Rattle.join_core.specs.FaultTexts.{run_text};
 ghost use Rattle.join_core.specs.Lines.{run_line};
 ghost use Rattle.report_core.specs.Written.{AppendsPrefix};
 
 use crate::fault::RunFault;
-use file_core::ReadFault;
 use parallel_core::JoinFault;
 use report_core::{ROOM, ShortText, Sink, WriteFailed};
+use row_core::ReadFault;
 
 /// Writes the line of a fault: the program's name, the input at fault and the fault. It allocates
 /// no memory.
@@ -63,6 +63,7 @@ fn push_run_text(line: &mut ShortText, fault: &RunFault)
         RunFault::Join(fault) => push_join_text(line, fault),
         RunFault::TooManyToDraw => line.push("more than 100000 features to draw"),
         RunFault::Write => line.push("write failed"),
+        RunFault::NotStored => line.push("skip: cannot be written"),
         RunFault::Memory => line.push("no memory"),
         RunFault::NoKeys => line.push("no random keys for hashing"),
     }

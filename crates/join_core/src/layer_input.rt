@@ -1,37 +1,40 @@
-//! Reading a file or a source as a layer, with or without its tree.
+//! Reading a file or a source as a layer, or as its features alone.
 
 ghost use Rattle.std.specs.Prelude.{◌≡◌, ◌↔◌, false, IsTrue, IsErrOf};
 ghost use Rattle.join_core.specs.Inputs.{Builds, Reads, ReadsFeatures};
 
-use file_core::{LayerReader, ReadFault, Source, read_all};
+use file_core::{LayerReader, Unreadable, WithSkipped};
 use format_core::Format;
 use layer_core::{FeatureList, Layer};
+use row_core::{ReadFault, Source, read_all};
 use std::hash::RandomState;
 use std::thread::Threads;
 
-/// The layer of a file's bytes. `state` hashes the ids.
+/// The layer of a file's bytes, and the rows that were skipped. `state` hashes the ids.
 pub(crate) fn build_layer<F: Format, R: Threads + Sync>(
     reader: &LayerReader<'_, F, R>,
+    unreadable: Unreadable,
     state: RandomState,
     bytes: Vec<u8>,
-) -> Result<Layer<F::Geometry>, ReadFault>
-    ensures { Builds (F.reads reader.now.format) bytes.items result }
+) -> Result<WithSkipped<Layer<F::Geometry>>, ReadFault>
+    ensures { Builds (F.reads reader.now.format) unreadable bytes.items result }
 {
-    reader.layer_of_bytes(state, bytes)
+    reader.load_layer(unreadable, state, bytes)
 }
 
 /// Reads a source as a layer.
 pub(crate) fn read_layer<F: Format, R: Threads + Sync, S: Source>(
     reader: &LayerReader<'_, F, R>,
+    unreadable: Unreadable,
     state: RandomState,
     source: &mut S,
-) -> Result<Layer<F::Geometry>, ReadFault>
+) -> Result<WithSkipped<Layer<F::Geometry>>, ReadFault>
     requires { S.has_failed source.old ≡ false }
-    ensures reads { Reads (F.reads reader.now.format) (S.remaining source.old) result }
+    ensures reads { Reads (F.reads reader.now.format) unreadable (S.remaining source.old) result }
     ensures io { IsErrOf result ReadFault.Io ↔ IsTrue (S.has_failed source.new) }
 {
     let bytes = read_all(reader.alloc, source)?;
-    build_layer(reader, state, bytes)
+    build_layer(reader, unreadable, state, bytes)
 }
 
 /// Reads a source as the features of a layer.

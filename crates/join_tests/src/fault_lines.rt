@@ -1,9 +1,9 @@
 //! The lines of faults.
 
 use deliver_core::Refusal;
-use file_core::ReadFault;
 use join_core::{Input, JoinFault, RunFault, ToWrite, WriteFailed, fault_line};
 use layer_core::LayerFault;
+use row_core::ReadFault;
 use std::alloc::Global;
 use std::test::Fail;
 use wkt_any_core::GeometryFault;

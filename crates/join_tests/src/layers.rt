@@ -1,8 +1,9 @@
 //! Layers for tests.
 
-use file_core::{FromRead, LayerReader, ReadFault};
+use file_core::LayerReader;
 use geom_core::Shape;
 use layer_core::Layer;
+use row_core::{FromRead, ReadFault};
 use std::alloc::{AllocError, Global};
 use std::hash::RandomState;
 use std::random::RandomSource;

@@ -1,10 +1,11 @@
 //! Layers read from the bytes of files.
 
 use crate::layers::{has_features, seen};
-use file_core::{LayerReader, ReadFault};
+use file_core::LayerReader;
 use format_core::Format;
 use geom_core::Shape;
 use layer_core::Layer;
+use row_core::ReadFault;
 use std::alloc::{AllocError, AllocGlobal, Global};
 use std::fmt::Write;
 use std::hash::RandomState;

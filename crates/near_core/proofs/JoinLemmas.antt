@@ -7,6 +7,7 @@ use Rattle.filter_core.specs.Joins.{IsJoinList}
 use Rattle.filter_core.proofs.NumberLemmas.{contains_at}
 use Rattle.refine_core.specs.declared.refined.Refined.{Refined}
 use Rattle.refine_core.specs.Refinements.{AreRefined, none, kept, left_out, HoldsEachOnce, IsInOrder, IsPairIn, pairs_of}
+use Rattle.refine_core.proofs.RefinementLemmas.{all_pairs_refined, each_once}
 use Rattle.near_core.specs.Lists.{HasAnswer}
 
 -- the test of the order of pairs
@@ -82,6 +83,13 @@ module _ {A : Type 0} (stands : ℕ → ℕ → Type 0) (answers : ℕ → ℕ �
   refined_answers (kept {pair} {answer} {pairs} {refined} is right are) =
       All-cons (λ (r : Refined A). answers r.pair.0 r.pair.1 r.answer) (record { pair = pair; answer = answer }) refined right (refined_answers are)
   refined_answers (left_out isnt are) = refined_answers are
+
+  -- the refinement of a join list is a join list
+  pub refined_join_list : (near : ℕ → ℕ → Type 0) (pairs : List (ℕ × ℕ)) (refined : List (Refined A)) → ((i j : ℕ) → stands i j → near i j)
+      → AreRefined stands answers pairs refined → IsJoinList (IsPairIn near) pairs → IsJoinList (IsPairIn stands) (pairs_of refined)
+  refined_join_list near pairs refined is_near are list =
+      list_of_each_once stands (pairs_of refined) (each_once stands answers near pairs refined is_near are (listed_once near pairs list))
+      (all_pairs_refined stands answers (λ p q. before p q ≡ true) are (listed_in_order near pairs list))
 
 module _ {A T E : Type 0} (near stands : ℕ → ℕ → Type 0) (items : T → List (Refined A)) (pairs : List (ℕ × ℕ)) where
   -- what a refinement of a join list returns is a join list

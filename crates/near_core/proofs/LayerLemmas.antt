@@ -9,7 +9,7 @@ use Rattle.near_core.specs.Conditions.{left_of, right_of, wanted}
 use Rattle.near_core.specs.Near.{BoxesMeet, AreWanted}
 
 -- a fact of two layers, for two that are equal to them
-moved : (P : Contents GrownShape → Contents GrownShape → Type 0) (l r left right : Contents GrownShape) → l ≡ left → r ≡ right → P l r → P left right
+pub moved : (P : Contents GrownShape → Contents GrownShape → Type 0) (l r left right : Contents GrownShape) → l ≡ left → r ≡ right → P l r → P left right
 moved P l r left right l_is r_is fact =
     subst (λ (x : Contents GrownShape). P x right) l_is (subst (λ (y : Contents GrownShape). P l y) r_is fact)
 

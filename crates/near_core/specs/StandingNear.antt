@@ -45,7 +45,7 @@ halves m n h = omega (arith, h)
 other_halves : (m n : ℕ) → n ≤ m → n ≤ (m + 1) / 2 + (n + 1) / 2
 other_halves m n h = omega (arith, h)
 
-near_boxes : (g h : GrownShape) → AreNear g h → BoxesMeet g h
+pub near_boxes : (g h : GrownShape) → AreNear g h → BoxesMeet g h
 near_boxes g h near =
     let m = units_of g.distance in
     let n = units_of h.distance in

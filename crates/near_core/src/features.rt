@@ -66,6 +66,16 @@ impl<'a> Condition for NearFeatures<'a> {
         }
     }
 
+    fn fetch(&self, _left: u32, right: u32) -> bool {
+        // Both intervals of the shape are read, since they may lie in two cache lines.
+        match self.right.shape(right) {
+            Some(GrownShape { shape, .. }) => {
+                shape.x1() <= shape.x2() && shape.y1() <= shape.y2()
+            }
+            None => false,
+        }
+    }
+
     ghost stands_near = { λ c i j stands. standing_near (wanted c) (left_of c) (right_of c) i j
         stands };
 }

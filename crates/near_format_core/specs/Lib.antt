@@ -1,1 +1,2 @@
+pub mod AnyNearFormats
 pub mod NearFormats

@@ -1,6 +1,6 @@
 -- The distance of a match, as a field.
 use Rattle.std.proofs.Common.{◌≡◌, ℕ, ◌+◌, ◌*◌, ◌≤◌, ◌<◌, ◌^◌, List, ◌++◌, Result, Ok, Err, OnOk, refl, sym, ap, ◌∙◌, arith}
-use Rattle.std.specs.Prelude.{ℤ, pos, ◌*ℤ◌, ◌-ℤ◌, ◌≤ℤ◌, nat_abs}
+use Rattle.std.specs.Prelude.{pos, nat_abs}
 use Rattle.std.proofs.lemmas.Int.{ints}
 use Rattle.geom_core.specs.declared.span.Span.{Span}
 use Rattle.geom_core.specs.declared.shape.Shape.{Shape}
@@ -15,9 +15,7 @@ use Rattle.refine_core.specs.declared.refined.Refined.{Refined}
 use Rattle.report_core.specs.LastFields.{AddsField}
 use Rattle.number_core.specs.declared.scale.Scale.{Scale}
 use Rattle.number_core.specs.CanonicalNumbers.{number}
-use Rattle.near_core.specs.declared.grown.GrownShape.{GrownShape}
-use Rattle.near_core.specs.Near.{HasSquare}
-use Rattle.near_run_core.specs.DistanceTexts.{IsDistanceText}
+use Rattle.near_run_core.specs.DistanceTexts.{HasSquare, IsDistanceText}
 use Rattle.near_run_core.proofs.AmountLemmas.{number_field}
 
 -- two coordinates are at most the side of the plane apart
@@ -36,13 +34,13 @@ square_few a b n is =
     (is.least p q (omega arith) (omega arith) (has_lo a.x, has_lo a.y) (has_lo b.x, has_lo b.y))
     (square_bound (nat_abs (difference a.x.lo 1 b.x.lo 1)) (side a.x b.x)) (square_bound (nat_abs (difference a.y.lo 1 b.y.lo 1)) (side a.y b.y))
 
-module _ (left right : Contents GrownShape) (found : Refined ℕ) (has : HasSquare left right found) where
+module _ {G : Type 0} (shape_of : G → Shape) (left right : Contents G) (found : Refined ℕ) (has : HasSquare shape_of left right found) where
   pub match_few : found.answer < 2 ^ 126
-  match_few = square_few has.first.shape.shape has.second.shape.shape found.answer has.holds
+  match_few = square_few (shape_of has.first.shape) (shape_of has.second.shape) found.answer has.holds
 
   -- the rounded distance is added as the field, which needs no quotes
   pub distance_added : {T E : Type 0} (scale : Scale) (units : ℕ) (old new : List ℕ) (out : Result T E) → units < 2 ^ 64 → IsRoundedRoot found.answer units
-      → OnOk out (new ≡ old ++ number scale (pos units)) → OnOk out (AddsField (IsDistanceText scale) left right found.pair old new)
+      → OnOk out (new ≡ old ++ number scale (pos units)) → OnOk out (AddsField (IsDistanceText shape_of scale) left right found.pair old new)
   distance_added scale units old new (Err e) small rounded grown = tt
   distance_added scale units old new (Ok x) small rounded grown = record {
     first = has.first;

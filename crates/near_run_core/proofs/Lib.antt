@@ -1,3 +1,7 @@
 pub mod AmountLemmas
+pub mod AnyNearestLemmas
+pub mod AnyRunLemmas
 pub mod DistanceLemmas
+pub mod NearRunLemmas
+pub mod NearestLemmas
 pub mod RunLemmas

@@ -1,2 +1,7 @@
+pub mod AnyDistanceTexts
+pub mod AnyNearRuns
+pub mod AnyNearestRuns
+pub mod DistanceReports
 pub mod DistanceTexts
 pub mod NearRuns
+pub mod NearestRuns

@@ -1,9 +1,9 @@
 //! The distances of features, as the last field of a report.
 
 use crate::amount::push_amount;
+use crate::shaped::Shaped;
 use distance_core::{SquaredDistance, rounded_root};
 use layer_core::Layer;
-use near_core::GrownShape;
 use refine_core::Refined;
 use report_core::LastField;
 use std::alloc::AllocError;
@@ -15,16 +15,15 @@ pub struct DistanceField {
     pub scale: Scale,
 }
 
-impl LastField<GrownShape, Refined<SquaredDistance>> for DistanceField {
+impl<G: Shaped> LastField<G, Refined<SquaredDistance>> for DistanceField {
     ghost use Rattle.std.specs.Prelude.{codes};
-    ghost use Rattle.near_core.specs.Near.{HasSquare};
-    ghost use Rattle.near_run_core.specs.DistanceTexts.{IsDistanceText};
+    ghost use Rattle.near_run_core.specs.DistanceTexts.{HasSquare, IsDistanceText};
 
     ghost name_of = { λ _. codes "distance" };
 
-    ghost is_match = { HasSquare };
+    ghost is_match = { HasSquare G.shape_of };
 
-    ghost is_field = { λ field. IsDistanceText field.scale };
+    ghost is_field = { λ field. IsDistanceText G.shape_of field.scale };
 
     fn name(&self) -> &'static str {
         "distance"
@@ -34,14 +33,14 @@ impl LastField<GrownShape, Refined<SquaredDistance>> for DistanceField {
         &self,
         text: &mut Vec<u8>,
         found: &Refined<SquaredDistance>,
-        _left: &Layer<GrownShape>,
-        _right: &Layer<GrownShape>,
+        _left: &Layer<G>,
+        _right: &Layer<G>,
     ) -> Result<(), AllocError> {
         let units = rounded_root(found.answer);
         push_amount(text, units, self.scale)
     }
 
-    fn fetch(&self, _found: &Refined<SquaredDistance>, _right: &Layer<GrownShape>) -> bool {
+    fn fetch(&self, _found: &Refined<SquaredDistance>, _right: &Layer<G>) -> bool {
         true
     }
 }

@@ -1,7 +1,9 @@
-//! The description of a join by distance.
+//! The descriptions of joins by distance, and of searches for the nearest features.
 
 use near_core::{Distance, Nearness};
+use nearest_core::Query;
 use options_core::Options;
+use plane_core::Rings;
 use wkt_core::Scale;
 
 /// A join of two layers of boxes by distance, after edits.
@@ -15,4 +17,34 @@ pub struct NearJob {
     /// Whether the shapes of a pair may share a point.
     pub nearness: Nearness,
     pub options: Options,
+}
+
+/// The same of two layers of any geometry.
+#[derive(Clone, Copy, Debug, PartialEq, Eq)]
+pub struct AnyNearJob {
+    pub near: NearJob,
+    /// The rule for rings.
+    pub rings: Rings,
+}
+
+/// A search for the features of a layer of boxes that are nearest to each feature of another, after
+/// edits.
+#[derive(Clone, Copy, Debug, PartialEq, Eq)]
+pub struct NearestJob {
+    /// The number of decimals that coordinates of the layers and the edits may have, and distances
+    /// in the report.
+    pub scale: Scale,
+    /// How many right features are sought for each left one, and within which distance, in units of
+    /// the scale.
+    pub query: Query,
+    /// Of these, only the number of workers matters to the search.
+    pub options: Options,
+}
+
+/// The same of two layers of any geometry.
+#[derive(Clone, Copy, Debug, PartialEq, Eq)]
+pub struct AnyNearestJob {
+    pub nearest: NearestJob,
+    /// The rule for rings.
+    pub rings: Rings,
 }

@@ -4,7 +4,8 @@ ghost use Rattle.std.specs.Prelude.{◌≡◌, Ok, Err, false, IfOk, IfErr};
 ghost use Rattle.layer_core.specs.Edits.{both};
 ghost use Rattle.near_format_core.specs.NearFormats.{ReadsGrown};
 ghost use Rattle.join_core.specs.Inputs.{BlamesInput};
-ghost use Rattle.join_core.specs.JoinRuns.{files_of, IsJoinFault, IsLateFault};
+ghost use Rattle.join_core.specs.JoinRuns.{files_by, files_of, IsJoinFault, IsLateFault};
+ghost use Rattle.join_core.specs.JoinRuns.{AreRowsSkipped, skipped_lists};
 ghost use Rattle.join_core.specs.Runs.{NoTextFault, RunEnds};
 ghost use Rattle.join_core.specs.SourceStates.{AreFresh, HasFailed, TellsFailures};
 ghost use Rattle.join_core.specs.Texts.{bytes_of_text};
@@ -12,12 +13,17 @@ ghost use Rattle.near_run_core.specs.NearRuns.{IsNearReport, NearGives};
 
 use crate::distance_field::DistanceField;
 use crate::job::NearJob;
-use file_core::{LayerReader, Source};
-use join_core::{JoinSources, RunFault, Sink, Text, edited_layers, free_layers};
+use file_core::{LayerReader, Unreadable};
+use filter_core::meeting_layers;
+use join_core::{
+    JoinSources, JoinText, LoadedLayers, RunFault, Sink, Text, free_layers, load_edited,
+    with_skipped,
+};
 use layer_core::Layer;
-use near_core::{GrownShape, near_layers};
+use near_core::{GrownShape, NearFeatures};
 use near_format_core::NearFormat;
-use report_core::{ReportForm, report_by};
+use report_core::{RefiningForm, report_refining};
+use row_core::Source;
 use std::hash::RandomState;
 use std::sync::Wait;
 use std::thread::Threads;
@@ -53,74 +59,79 @@ where
         (HasFailed A.has_failed B.has_failed E.has_failed sources.new)
         S.written S.is_flushed S.has_failed sink.old sink.new result }
 {
-    let run = NearRun { rt, job };
-    let text = run.text(states, sources)?;
-    text.write(sink)?;
+    let made = near_text(rt, job, Unreadable::Refuse, states, sources)?;
+    made.text.write(sink)?;
     Ok(())
 }
 
-/// A job and the runtime that runs it.
-#[derive(Drop)]
-struct NearRun<'a, R> {
-    rt: &'a R,
-    job: &'a NearJob,
+/// The report of a join by distance as text, and the rows that were skipped, where `unreadable` is
+/// [`Unreadable::Skip`]. All else is as [`run_near`] says.
+pub fn near_text<R, A, B, E>(
+    rt: &R,
+    job: &NearJob,
+    unreadable: Unreadable,
+    states: (RandomState, RandomState),
+    sources: &mut JoinSources<A, B, E>,
+) -> Result<JoinText, RunFault>
+where
+    R: AllocGlobal + Threads + Wait + Sync,
+    A: Source,
+    B: Source,
+    E: Source,
+    requires { AreFresh A.has_failed B.has_failed E.has_failed sources.old }
+    ensures ok { let reads = ReadsGrown job.now.scale job.now.distance in
+        let files = files_by unreadable reads A.remaining B.remaining E.remaining sources.old in
+        IfOk result (λ made. NearGives job.now files (Ok (bytes_of_text made.text))) }
+    ensures skipped { let reads = ReadsGrown job.now.scale job.now.distance in
+        let files = files_by unreadable reads A.remaining B.remaining E.remaining sources.old in
+        IfOk result (λ made. AreRowsSkipped files (skipped_lists made.skipped)) }
+    ensures fault { let reads = ReadsGrown job.now.scale job.now.distance in
+        let files = files_by unreadable reads A.remaining B.remaining E.remaining sources.old in
+        IfErr result (λ f. BlamesInput f → NearGives job.now files (Err f)) }
+    ensures faults { let reads = ReadsGrown job.now.scale job.now.distance in
+        let files = files_by unreadable reads A.remaining B.remaining E.remaining sources.old in
+        IfErr result (IsJoinFault files) }
+    ensures io { TellsFailures A.has_failed B.has_failed E.has_failed sources.new result }
+{
+    let workers = job.options.workers();
+    let reader = LayerReader {
+        rt,
+        alloc: rt.alloc(),
+        format: NearFormat {
+            scale: job.scale,
+            distance: job.distance,
+        },
+        threads: workers,
+    };
+    let loaded = load_edited(&reader, unreadable, states, sources)?;
+    let LoadedLayers {
+        layers: (left, right),
+        skipped,
+    } = loaded;
+    let text = report(rt, job, &left, &right);
+    free_layers(rt, left, right, workers);
+    with_skipped(text, skipped)
 }
 
-impl<R: AllocGlobal + Threads + Wait + Sync> NearRun<'_, R> {
-    /// The text of the report, or the first fault.
-    fn text<A: Source, B: Source, E: Source>(
-        &self,
-        states: (RandomState, RandomState),
-        sources: &mut JoinSources<A, B, E>,
-    ) -> Result<Text, RunFault>
-        requires { AreFresh A.has_failed B.has_failed E.has_failed sources.old }
-        ensures ok { let job = self.now.job.now in
-            let reads = ReadsGrown job.scale job.distance in
-            let files = files_of reads A.remaining B.remaining E.remaining sources.old in
-            IfOk result (λ text. NearGives job files (Ok (bytes_of_text text))) }
-        ensures fault { let job = self.now.job.now in
-            let reads = ReadsGrown job.scale job.distance in
-            let files = files_of reads A.remaining B.remaining E.remaining sources.old in
-            IfErr result (λ f. BlamesInput f → NearGives job files (Err f)) }
-        ensures faults { let job = self.now.job.now in
-            let reads = ReadsGrown job.scale job.distance in
-            let files = files_of reads A.remaining B.remaining E.remaining sources.old in
-            IfErr result (IsJoinFault files) }
-        ensures io { TellsFailures A.has_failed B.has_failed E.has_failed sources.new result }
-    {
-        let workers = self.job.options.workers();
-        let reader = LayerReader {
-            rt: self.rt,
-            alloc: self.rt.alloc(),
-            format: NearFormat {
-                scale: self.job.scale,
-                distance: self.job.distance,
-            },
-            threads: workers,
-        };
-        let (left, right) = edited_layers(&reader, states, sources)?;
-        let text = self.report(&left, &right);
-        free_layers(self.rt, left, right, workers);
-        text
-    }
-
-    /// The report of two layers.
-    fn report(&self, left: &Layer<GrownShape>, right: &Layer<GrownShape>) -> Result<Text, RunFault>
-        ensures ok { let layers = both left.now.list right.now.list in
-            let is = IsNearReport self.now.job.now layers in
-            IfOk result (λ text. is (bytes_of_text text)) }
-        ensures err { IfErr result IsLateFault }
-    {
-        let options = &self.job.options;
-        let outcome = near_layers(self.rt, left, right, self.job.nearness, options)?;
-        let field = DistanceField {
-            scale: self.job.scale,
-        };
-        let form = ReportForm {
-            field: &field,
-            workers: options.workers(),
-        };
-        let texts = report_by(self.rt, &form, left, right, outcome.matches.as_slice())?;
-        Ok(Text::Report(texts))
-    }
+/// The report of two layers.
+fn report<R: AllocGlobal + Threads + Wait + Sync>(
+    rt: &R,
+    job: &NearJob,
+    left: &Layer<GrownShape>,
+    right: &Layer<GrownShape>,
+) -> Result<Text, RunFault>
+    ensures ok { let layers = both left.now.list right.now.list in
+        IfOk result (λ text. IsNearReport job.now layers (bytes_of_text text)) }
+    ensures err { IfErr result IsLateFault }
+{
+    let candidates = meeting_layers(rt, left, right, &job.options)?;
+    let condition = NearFeatures::new(left, right, job.nearness);
+    let field = DistanceField { scale: job.scale };
+    let form = RefiningForm {
+        condition: &condition,
+        field: &field,
+        workers: job.options.workers(),
+    };
+    let texts = report_refining(rt, &form, left, right, candidates.pairs())?;
+    Ok(Text::Report(texts))
 }

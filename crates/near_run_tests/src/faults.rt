@@ -1,9 +1,9 @@
 //! The faults of files, after which nothing is written.
 
 use crate::running::{Files, ends, within};
-use file_core::ReadFault;
 use join_core::{Input, RunFault};
 use layer_core::LayerFault;
+use row_core::ReadFault;
 use std::test::Fail;
 use wkt_core::WktFault;
 

@@ -3,7 +3,17 @@
 #![tactic(auto)]
 
 #[cfg(test)]
+mod any;
+#[cfg(test)]
+mod any_nearest;
+#[cfg(test)]
 mod faults;
+#[cfg(test)]
+mod nearest;
+#[cfg(test)]
+mod nearest_running;
+#[cfg(test)]
+mod prepared;
 #[cfg(test)]
 mod refused;
 #[cfg(test)]

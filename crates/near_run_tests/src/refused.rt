@@ -1,9 +1,11 @@
 //! A run with each allocation refused in turn.
 
-use crate::running::{Files, run, within};
-use file_core::ReadFault;
+use crate::nearest_running::{most, search, search_any};
+use crate::running::{Ended, Files, run, run_of_any, within};
 use join_core::{JoinFault, RunFault};
 use layer_core::LayerFault;
+use plane_core::Rings;
+use row_core::ReadFault;
 use std::random::RandomSource;
 use std::sync::Wait;
 use std::test::Fail;
@@ -28,20 +30,53 @@ fn is_want(fault: &RunFault) -> bool {
     )
 }
 
-/// Whether runs by `workers` workers write the report, or fail for want of memory and write
-/// nothing, until one succeeds.
+/// Whether a run wrote the report, if it ended otherwise than for want of memory with nothing
+/// written; `None` is a run that couldn't begin.
+fn has_reported(ended: Option<Ended>) -> Option<bool> {
+    let ended = ended?;
+    match ended.outcome {
+        Ok(()) => Some(ended.is(Ok(()), REPORT)),
+        Err(fault) if is_want(&fault) && ended.written.is_empty() => None,
+        Err(_) => Some(false),
+    }
+}
+
+/// Whether joins within 5 units by `workers` workers write the report, or fail for want of memory
+/// and write nothing, until one succeeds.
 fn reports_at_last<R: RandomSource + AllocGlobal + Threads + Wait + Sync>(
     rt: &R,
     workers: u32,
 ) -> bool {
     for _ in 0..10 {
-        let Some(ended) = run(rt, FILES, within(5), workers) else {
-            continue;
-        };
-        match ended.outcome {
-            Ok(()) => return ended.is(Ok(()), REPORT),
-            Err(fault) if is_want(&fault) && ended.written.is_empty() => {}
-            Err(_) => return false,
+        if let Some(reported) = has_reported(run(rt, FILES, within(5), workers)) {
+            return reported;
+        }
+    }
+    false
+}
+
+/// The same of searches for the nearest feature.
+fn finds_at_last<R: RandomSource + AllocGlobal + Threads + Wait + Sync>(
+    rt: &R,
+    workers: u32,
+) -> bool {
+    for _ in 0..10 {
+        if let Some(reported) = has_reported(search(rt, FILES, most(1), workers)) {
+            return reported;
+        }
+    }
+    false
+}
+
+/// The same of joins of layers of any geometry.
+fn reports_any_at_last<R: RandomSource + AllocGlobal + Threads + Wait + Sync>(
+    rt: &R,
+    workers: u32,
+) -> bool {
+    for _ in 0..10 {
+        let ended = run_of_any(rt, FILES, within(5), Rings::Proper, workers);
+        if let Some(reported) = has_reported(ended) {
+            return reported;
         }
     }
     false
@@ -58,5 +93,49 @@ fn refused_to_one_worker(rt: HostRuntime) -> Result<(), Fail> {
 #[test]
 fn refused_to_two_workers(rt: HostRuntime) -> Result<(), Fail> {
     assert!(rt; reports_at_last(&rt, 2));
+    Ok(())
+}
+
+/// Passes with each allocation failing in turn.
+#[test]
+fn search_refused_to_one_worker(rt: HostRuntime) -> Result<(), Fail> {
+    assert!(rt; finds_at_last(&rt, 1));
+    Ok(())
+}
+
+/// Passes with each allocation failing in turn.
+#[test]
+fn search_refused_to_two_workers(rt: HostRuntime) -> Result<(), Fail> {
+    assert!(rt; finds_at_last(&rt, 2));
+    Ok(())
+}
+
+/// The same of searches of layers of any geometry.
+fn finds_any_at_last<R: RandomSource + AllocGlobal + Threads + Wait + Sync>(
+    rt: &R,
+    workers: u32,
+) -> bool {
+    for _ in 0..10 {
+        let ended = search_any(rt, FILES, most(1), Rings::Proper, workers);
+        if let Some(reported) = has_reported(ended) {
+            return reported;
+        }
+    }
+    false
+}
+
+/// Passes with each allocation failing in turn.
+#[test]
+fn search_refused_to_any_geometry(rt: HostRuntime) -> Result<(), Fail> {
+    assert!(rt; finds_any_at_last(&rt, 1));
+    assert!(rt; finds_any_at_last(&rt, 2));
+    Ok(())
+}
+
+/// Passes with each allocation failing in turn.
+#[test]
+fn refused_to_any_geometry(rt: HostRuntime) -> Result<(), Fail> {
+    assert!(rt; reports_any_at_last(&rt, 1));
+    assert!(rt; reports_any_at_last(&rt, 2));
     Ok(())
 }

@@ -1,10 +1,13 @@
 //! Runs of joins by distance over files in memory.
 
-use file_core::FromRead;
+ghost use Rattle.join_core.specs.SourceStates.{AreFresh};
+
 use join_core::{JoinSources, RunFault, ToWrite};
 use near_core::{Distance, Nearness};
-use near_run_core::{NearJob, run_near};
+use near_run_core::{AnyNearJob, NearJob, run_any_near, run_near};
 use options_core::Options;
+use plane_core::Rings;
+use row_core::{FromRead, Source};
 use std::hash::RandomState;
 use std::random::RandomSource;
 use std::sync::Wait;
@@ -64,7 +67,26 @@ fn job_of(question: Question, workers: u32) -> Option<NearJob> {
 }
 
 /// The capacity reserved for a report before a run, so that writing it allocates no memory.
-const ROOM: usize = 200;
+pub(crate) const ROOM: usize = 200;
+
+/// The files, opened.
+pub(crate) type Opened<'a> = JoinSources<
+    FromRead<&'a [u8]>,
+    FromRead<&'a [u8]>,
+    FromRead<&'a [u8]>,
+>;
+
+/// Opens these files.
+pub(crate) fn opened<'a>(files: Files<'a>) -> Opened<'a>
+    ensures fresh { let has_failed = ⟦<FromRead<&'a [u8]> as Source>⟧.has_failed in
+        AreFresh has_failed has_failed has_failed result }
+{
+    JoinSources {
+        left: FromRead::new(files.left.as_bytes()),
+        right: FromRead::new(files.right.as_bytes()),
+        edits: files.edits.map(|edits| FromRead::new(edits.as_bytes())),
+    }
+}
 
 /// The run of a join of these files by `workers` workers, or `None` if there are no keys for
 /// hashing, no such job or no memory for the report.
@@ -76,13 +98,29 @@ pub(crate) fn run<R: RandomSource + AllocGlobal + Threads + Wait + Sync>(
 ) -> Option<Ended> {
     let job = job_of(question, workers)?;
     let states = (RandomState::new(rt).ok()?, RandomState::new(rt).ok()?);
-    let mut sources = JoinSources {
-        left: FromRead::new(files.left.as_bytes()),
-        right: FromRead::new(files.right.as_bytes()),
-        edits: files.edits.map(|edits| FromRead::new(edits.as_bytes())),
-    };
+    let mut sources = opened(files);
     let mut sink = ToWrite::new(Vec::with_capacity(rt.alloc(), ROOM).ok()?);
     let outcome = run_near(rt, &job, states, &mut sources, &mut sink);
+    Some(Ended {
+        outcome,
+        written: sink.into_inner(),
+    })
+}
+
+/// The same of layers of any geometry.
+pub(crate) fn run_of_any<R: RandomSource + AllocGlobal + Threads + Wait + Sync>(
+    rt: &R,
+    files: Files<'_>,
+    question: Question,
+    rings: Rings,
+    workers: u32,
+) -> Option<Ended> {
+    let near = job_of(question, workers)?;
+    let states = (RandomState::new(rt).ok()?, RandomState::new(rt).ok()?);
+    let mut sources = opened(files);
+    let mut sink = ToWrite::new(Vec::with_capacity(rt.alloc(), ROOM).ok()?);
+    let job = AnyNearJob { near, rings };
+    let outcome = run_any_near(rt, &job, states, &mut sources, &mut sink);
     Some(Ended {
         outcome,
         written: sink.into_inner(),

@@ -19,8 +19,9 @@ use Rattle.layer_core.specs.Layers.{Feature, Contents}
 use Rattle.layer_core.specs.LayerTrees.{indexed, entries_for, IsTreeOf}
 use Rattle.refine_core.specs.declared.refined.Refined.{Refined}
 use Rattle.nearest_core.specs.declared.neighbour.Neighbour.{Neighbour}
-use Rattle.nearest_core.specs.declared.query.Query.{Query}
+use Rattle.distance_core.specs.declared.query.Query.{Query}
 use Rattle.nearest_core.specs.Matches.{paired, AreRows, AreMatches, AreMatchesOf, IsEntryRow, IsRowOf, matches_or_none}
+use Rattle.nearest_core.specs.Boxes.{AreNearestBoxes}
 use Rattle.nearest_core.specs.Nearest.{AreNearest, AreNearestIn, IsNeighbour}
 use Rattle.nearest_core.specs.Searches.{neighbour_of, row_of}
 use Rattle.nearest_core.proofs.CountLemmas.{count_map}
@@ -31,17 +32,24 @@ measured : (shape : Shape) (fs : List (Feature Shape)) → AllZip (IsNeighbour s
 measured shape [] = tt
 measured shape (f ∷ fs) = (record { number = refl; square = square_from shape f.shape _ refl }, measured shape fs)
 
--- the nearest of a layer's tree are those of the layer
+-- the nearest of a layer's tree are those of the layer's boxes
+pub nearest_by_boxes : {G : Type 0} (box_of : G → Shape) (query : Query) (layer : Contents G) (shape : Shape) (tree root : Option Node) (found : List Neighbour)
+    → tree ≡ root → IsTreeOf box_of layer root → AreNearest query (row_of shape (entries_in tree)) found
+    → AreNearestBoxes box_of query layer shape found
+nearest_by_boxes box_of query layer shape tree root found is exact nearest =
+    nearest_there query (row_of shape (entries_in tree)) (row_of shape (entries_for box_of layer))
+    (λ p. ap (λ (t : Option Node). count_by p (row_of shape (entries_in t))) is
+    ∙ count_map p (neighbour_of shape) (entries_in root) ∙ sym (exact.same (λ e. p (neighbour_of shape e)))
+    ∙ sym (count_map p (neighbour_of shape) (entries_for box_of layer))) found nearest
+
+-- and those of a layer of boxes
 pub nearest_in_layer : (query : Query) (layer : Contents Shape) (shape : Shape) (tree root : Option Node) (found : List Neighbour)
     → tree ≡ root → IsTreeOf (λ s. s) layer root → AreNearest query (row_of shape (entries_in tree)) found
     → AreNearestIn query layer shape found
 nearest_in_layer query layer shape tree root found is exact nearest = record {
   row = row_of shape (entries_for (λ s. s) layer);
   measured = measured shape layer.features;
-  nearest = nearest_there query (row_of shape (entries_in tree)) (row_of shape (entries_for (λ s. s) layer))
-      (λ p. ap (λ (t : Option Node). count_by p (row_of shape (entries_in t))) is
-      ∙ count_map p (neighbour_of shape) (entries_in root) ∙ sym (exact.same (λ e. p (neighbour_of shape e)))
-      ∙ sym (count_map p (neighbour_of shape) (entries_for (λ s. s) layer))) found nearest;
+  nearest = nearest_by_boxes (λ s. s) query layer shape tree root found is exact nearest;
 }
 
 zip_append : {A B : Type 0} (R : A → B → Type 0) (xs : List A) (ys : List B) (vs : List A) (ws : List B)
@@ -65,7 +73,7 @@ rows_append {M = M} R xs ys a b h k = record {
 }
 
 -- the row of one more item
-rows_more : {A M : Type 0} (R : A → List M → Type 0) (xs : List A) (i : ℕ) (x : A) (a row : List M) → i < length xs → x ≡ get_or xs i x
+pub rows_more : {A M : Type 0} (R : A → List M → Type 0) (xs : List A) (i : ℕ) (x : A) (a row : List M) → i < length xs → x ≡ get_or xs i x
     → AreRows R (take i xs) a → R x row → AreRows R (take (i + 1) xs) (a ++ row)
 rows_more {A} {M} R xs i x a row within at h is =
     subst (λ (ys : List A). AreRows R ys (a ++ row)) (ap (λ (y : A). take i xs ++ y ∷ []) at ∙ sym (take_more xs i x within))
@@ -118,11 +126,11 @@ next_chunk xs size n =
     ∙ take-append-drop (n * size) ys
 
 -- the value that is used for results past the last one
-pub no_part : Result (Vec (Refined ℕ) Global) AllocError
+pub no_part : {M : Type 0} → Result (Vec M Global) AllocError
 no_part = Err (record {})
 
-module _ {A : Type 0} (R : A → List (Refined ℕ) → Type 0) (size : ℕ) (items : List A) (parts : List (Result (Vec (Refined ℕ) Global) AllocError))
-    (d : Result (Vec (Refined ℕ) Global) AllocError)
+module _ {A M : Type 0} (R : A → List M → Type 0) (size : ℕ) (items : List A) (parts : List (Result (Vec M Global) AllocError))
+    (d : Result (Vec M Global) AllocError)
     (each : (n : ℕ) → n < length parts → AreRows R (slice_chunk items size n) (matches_or_none (get_or parts n d))) where
   -- the first chunks
   so_far : (n : ℕ) → n ≤ length parts → AreRows R (take (n * size) items) (flat_map matches_or_none (take n parts))
@@ -143,7 +151,7 @@ module _ {A : Type 0} (R : A → List (Refined ℕ) → Type 0) (size : ℕ) (it
       (so_far (length parts) (omega arith)))
 
 -- the result of a thread for a chunk
-pub chunk_matched : {A : Type 0} (R : A → List (Refined ℕ) → Type 0) (items chunk : List A) (size n : ℕ) (part : Result (Vec (Refined ℕ) Global) AllocError)
+pub chunk_matched : {A M : Type 0} (R : A → List M → Type 0) (items chunk : List A) (size n : ℕ) (part : Result (Vec M Global) AllocError)
     → IsChunk items size (n * size) chunk → IsOk part
     → IfOk part (λ matches. AreRows R chunk matches.items)
     → AreRows R (slice_chunk items size n) (matches_or_none part)
@@ -161,8 +169,8 @@ if_ok (Ok t) P Q f p = f t p
 if_ok (Err e) P Q f p = tt
 
 -- the matches of one chunk more
-pub part_added : (old new : List (Refined ℕ)) (parts : List (Result (Vec (Refined ℕ) Global) AllocError)) (part : Result (Vec (Refined ℕ) Global) AllocError)
-    (matches : Vec (Refined ℕ) Global) → old ≡ flat_map matches_or_none parts → new ≡ old ++ matches.items → part ≡ Ok matches
+pub part_added : {M : Type 0} (old new : List M) (parts : List (Result (Vec M Global) AllocError)) (part : Result (Vec M Global) AllocError)
+    (matches : Vec M Global) → old ≡ flat_map matches_or_none parts → new ≡ old ++ matches.items → part ≡ Ok matches
     → new ≡ flat_map matches_or_none (parts ++ part ∷ [])
 part_added old new parts part matches so_far grown is =
     grown ∙ ap (λ ms. ms ++ matches.items) so_far ∙ ap (λ ms. flat_map matches_or_none parts ++ ms) (sym (ap matches_or_none is))

@@ -20,10 +20,10 @@ use Rattle.nearest_core.specs.declared.candidate.Item.{Item}
 use Rattle.nearest_core.specs.declared.candidate.Item.TheVariants.{Subtree, Feature}
 use Rattle.nearest_core.specs.declared.candidate.Candidate.{Candidate}
 use Rattle.nearest_core.specs.declared.neighbour.Neighbour.{Neighbour}
-use Rattle.nearest_core.specs.declared.query.Query.{Query}
+use Rattle.distance_core.specs.declared.query.Query.{Query}
 use Rattle.nearest_core.specs.Candidates.{IsItemNoLater, IsNoLater}
 use Rattle.nearest_core.specs.Nearest.{is_nearer, IsNear, Precedes, AreNearest}
-use Rattle.nearest_core.specs.Queries.{most_of, within_of, IsInReach}
+use Rattle.distance_core.specs.Queries.{most_of, within_of, IsInReach}
 use Rattle.nearest_core.specs.Searches.{stands_for, item_row, neighbour_of, row_of, IsCandidate, IsItemOf, Opens, EndsAt, IsFull, AreDistinct}
 use Rattle.nearest_core.specs.Squares.{square_of}
 use Rattle.nearest_core.proofs.CountLemmas.{count_none, count_every, count_some, contains_counted, count_two, count_flat, sum_none}

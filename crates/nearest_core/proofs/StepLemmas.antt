@@ -14,7 +14,7 @@ use Rattle.nearest_core.specs.declared.candidate.Item.{Item}
 use Rattle.nearest_core.specs.declared.candidate.Item.TheVariants.{Subtree, Feature}
 use Rattle.nearest_core.specs.declared.candidate.Candidate.{Candidate}
 use Rattle.nearest_core.specs.declared.neighbour.Neighbour.{Neighbour}
-use Rattle.nearest_core.specs.declared.query.Query.{Query}
+use Rattle.distance_core.specs.declared.query.Query.{Query}
 use Rattle.nearest_core.specs.Candidates.{IsNoLater}
 use Rattle.nearest_core.specs.Nearest.{is_nearer, IsNear, AreNearest}
 use Rattle.nearest_core.specs.Searches.{stands_for, item_work, neighbour_of, row_of, IsCandidate, EndsAt, AreDistinct, Visits, VisitsItem, work_of}

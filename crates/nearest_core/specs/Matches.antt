@@ -9,7 +9,7 @@ use Rattle.rtree_core.specs.declared.node.Entry.{Entry}
 use Rattle.layer_core.specs.Layers.{Feature, Contents}
 use Rattle.refine_core.specs.declared.refined.Refined.{Refined}
 use Rattle.nearest_core.specs.declared.neighbour.Neighbour.{Neighbour}
-use Rattle.nearest_core.specs.declared.query.Query.{Query}
+use Rattle.distance_core.specs.declared.query.Query.{Query}
 use Rattle.nearest_core.specs.Nearest.{AreNearestIn}
 
 -- a left feature with this number, and a right one: their numbers and squared distance
@@ -45,6 +45,6 @@ abbrev pub AreMatchesOf : Query → Contents Shape → List Entry → List (Refi
 AreMatchesOf query right lefts matches = AreRows (IsEntryRow query right) lefts matches
 
 -- the matches of a chunk, or none if its allocation failed
-abbrev pub matches_or_none : Result (Vec (Refined ℕ) Global) AllocError → List (Refined ℕ)
+abbrev pub matches_or_none : {M : Type 0} → Result (Vec M Global) AllocError → List M
 matches_or_none (Ok matches) = matches.items
 matches_or_none (Err refused) = []

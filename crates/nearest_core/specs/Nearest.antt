@@ -8,8 +8,8 @@ use Rattle.distance_core.specs.Distances.{IsSquaredDistance}
 use Rattle.distance_core.specs.ShapePoints.{HasPoint}
 use Rattle.layer_core.specs.Layers.{Feature, Contents}
 use Rattle.nearest_core.specs.declared.neighbour.Neighbour.{Neighbour}
-use Rattle.nearest_core.specs.declared.query.Query.{Query}
-use Rattle.nearest_core.specs.Queries.{most_of, within_of, IsInReach}
+use Rattle.distance_core.specs.declared.query.Query.{Query}
+use Rattle.distance_core.specs.Queries.{most_of, within_of, IsInReach}
 
 -- the feature is strictly nearer than this squared distance
 abbrev pub is_nearer : ℕ → Neighbour → Bool

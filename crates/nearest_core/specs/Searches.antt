@@ -11,8 +11,8 @@ use Rattle.nearest_core.specs.declared.candidate.Item.{Item}
 use Rattle.nearest_core.specs.declared.candidate.Item.TheVariants.{Subtree, Feature}
 use Rattle.nearest_core.specs.declared.candidate.Candidate.{Candidate}
 use Rattle.nearest_core.specs.declared.neighbour.Neighbour.{Neighbour}
-use Rattle.nearest_core.specs.declared.query.Query.{Query}
-use Rattle.nearest_core.specs.Queries.{most_of, within_of, IsInReach}
+use Rattle.distance_core.specs.declared.query.Query.{Query}
+use Rattle.distance_core.specs.Queries.{most_of, within_of, IsInReach}
 use Rattle.nearest_core.specs.Squares.{square_of}
 
 -- an entry as a neighbour of a shape

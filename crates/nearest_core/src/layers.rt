@@ -6,8 +6,7 @@ ghost use Rattle.layer_core.specs.LayerTrees.{entries_for};
 ghost use Rattle.nearest_core.specs.Matches.{AreMatches, AreMatchesOf, matches_or_none};
 
 use crate::matches::matches_of;
-use crate::query::Query;
-use distance_core::SquaredDistance;
+use distance_core::{Query, SquaredDistance};
 use layer_core::Layer;
 use refine_core::Refined;
 use rtree_core::Entry;

@@ -7,12 +7,10 @@ mod layers;
 mod matches;
 mod neighbour;
 mod of_layer;
-mod query;
 mod queue;
 mod search;
 
-pub use distance_core::{Distance, SquaredDistance};
+pub use distance_core::{Distance, Query, SquaredDistance};
 pub use layers::nearest_layers;
 pub use neighbour::Neighbour;
-pub use of_layer::nearest_of;
-pub use query::Query;
+pub use of_layer::{nearest_boxes, nearest_of};

@@ -5,9 +5,8 @@ ghost use Rattle.nearest_core.specs.Matches.{AreMatchesOf, paired};
 
 use crate::neighbour::Neighbour;
 use crate::of_layer::search_layer;
-use crate::query::Query;
 use crate::queue::Queue;
-use distance_core::SquaredDistance;
+use distance_core::{Query, SquaredDistance};
 use layer_core::Layer;
 use refine_core::Refined;
 use rtree_core::Entry;

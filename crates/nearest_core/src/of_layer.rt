@@ -1,14 +1,15 @@
 //! The nearest features of a layer to one shape.
 
 ghost use Rattle.std.specs.Prelude.{IfOk, OnOk};
+ghost use Rattle.nearest_core.specs.Boxes.{AreNearestBoxes};
 ghost use Rattle.nearest_core.specs.Nearest.{AreNearestIn};
 
 use crate::neighbour::Neighbour;
-use crate::query::Query;
 use crate::queue::Queue;
 use crate::search::search;
+use distance_core::Query;
 use geom_core::Shape;
-use layer_core::Layer;
+use layer_core::{Geometry, Layer};
 use std::alloc::{AllocError, Global};
 
 /// The features of a layer that are nearest to a shape, as a query asks for them: by their squared
@@ -42,4 +43,24 @@ pub(crate) fn search_layer<'a>(
     ensures { OnOk result (AreNearestIn query.now layer.now.list shape.now found.new.items) }
 {
     search(layer.tree(), shape, query, queue, found)
+}
+
+/// The features of a layer whose boxes are nearest to a shape, as a query asks for them: by the
+/// squared distances of the boxes, and then in layer order.
+///
+/// # Errors
+/// If an allocation fails.
+pub fn nearest_boxes<G: Geometry>(
+    alloc: Global,
+    layer: &Layer<G>,
+    shape: &Shape,
+    query: &Query,
+) -> Result<Vec<Neighbour>, AllocError>
+    ensures { IfOk result
+        (λ found. AreNearestBoxes G.box_of query.now layer.now.list shape.now found.items) }
+{
+    let mut queue = Queue::new(alloc);
+    let mut found = Vec::new(alloc);
+    search(layer.tree(), shape, query, &mut queue, &mut found)?;
+    Ok(found)
 }

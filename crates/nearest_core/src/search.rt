@@ -11,9 +11,8 @@ ghost use Rattle.nearest_core.specs.Searches.{IsCandidate, Visits, row_of, stand
 
 use crate::candidate::{Candidate, Item};
 use crate::neighbour::Neighbour;
-use crate::query::Query;
 use crate::queue::Queue;
-use distance_core::{SquaredDistance, squared_distance};
+use distance_core::{Query, SquaredDistance, squared_distance};
 use geom_core::Shape;
 use rtree_core::{Entry, Node, RTree};
 use std::alloc::AllocError;

@@ -22,13 +22,19 @@ some_if true z h = refl
 some_if false z h = h
 
 module _ (scale : Scale) where
-  pub value_in_range : (n : Numeral) → is_some (number_read scale n).value ≡ true → IsCoordinate (value scale n)
-  value_in_range n h =
+  -- the number of its units is at most this, where it was in range
+  pub units_in_range : (most : ℕ) (n : Numeral) → is_some (number_read most scale n).value ≡ true → units scale n ≤ most
+  units_in_range most n h =
       let test = some_if _ _ h in
-      in_range n.negative (units scale n) (grind (arith, nat_tests))
+      grind (arith, nat_tests)
 
-  pub in_range_value : (n : Numeral) → IsCoordinate (value scale n) → is_some (number_read scale n).value ≡ true
-  in_range_value n h =
-      let small : units scale n ≤ greatest_coordinate = range_in n.negative (units scale n) h in
-      let test : nat_le (units scale n) greatest_coordinate ≡ true = grind (arith, nat_tests) in
+  pub in_range_units : (most : ℕ) (n : Numeral) → units scale n ≤ most → is_some (number_read most scale n).value ≡ true
+  in_range_units most n small =
+      let test : nat_le (units scale n) most ≡ true = grind (arith, nat_tests) in
       rw test refl
+
+  pub value_in_range : (n : Numeral) → is_some (number_read greatest_coordinate scale n).value ≡ true → IsCoordinate (value scale n)
+  value_in_range n h = in_range n.negative (units scale n) (units_in_range greatest_coordinate n h)
+
+  pub in_range_value : (n : Numeral) → IsCoordinate (value scale n) → is_some (number_read greatest_coordinate scale n).value ≡ true
+  in_range_value n h = in_range_units greatest_coordinate n (range_in n.negative (units scale n) h)

@@ -10,6 +10,7 @@ use Rattle.std.proofs.lemmas.Bool.Decides.{nat_tests}
 use Rattle.number_core.specs.declared.number.Plain.{Plain}
 use Rattle.number_core.specs.declared.scale.Scale.{Scale}
 use Rattle.number_core.specs.Numbers.{IsDigit}
+use Rattle.number_core.specs.ScaleLimits.{greatest_range}
 use Rattle.number_core.specs.Scales.{digits_of}
 use Rattle.number_core.specs.Values.{kept}
 use Rattle.number_core.specs.NumberSteps.{digits_at, after_digits, sign_at, decimals_at, has_digit, rounds_up, IsCapped, IsPlainOf, ranged}
@@ -100,14 +101,14 @@ decimal_led count i sum next total rest after some l t =
     leads_on sum next t.digit total (kept (count - i) (digits_at rest)) (kept (count - (i + 1)) (digits_at after)) t.step
     (ap (λ k. kept k (digits_at rest)) e ∙ t.more (count - (i + 1))) l
 
-pub ranged_capped : (negative : Bool) (sum total : ℕ) → IsCapped sum total → ranged negative sum ≡ ranged negative total
-ranged_capped negative sum total (inl e) = ap (ranged negative) e
-ranged_capped negative sum total (inr h) = grind (arith, nat_tests)
+pub ranged_capped : (most : ℕ) (negative : Bool) (sum total : ℕ) → most ≤ greatest_range → IsCapped sum total → ranged most negative sum ≡ ranged most negative total
+ranged_capped most negative sum total few (inl e) = ap (ranged most negative) e
+ranged_capped most negative sum total few (inr h) = grind (arith, nat_tests)
 
-pub rounded_value : (negative up : Bool) (number next : ℕ) (value : Option ℤ) → value ≡ ranged negative next
+pub rounded_value : (most : ℕ) (negative up : Bool) (number next : ℕ) (value : Option ℤ) → most ≤ greatest_range → value ≡ ranged most negative next
     → ((total : ℕ) → IsCapped number total → IsCapped next (total + (if up then 1 else 0)))
-    → (total : ℕ) → IsCapped number total → value ≡ ranged negative (total + (if up then 1 else 0))
-rounded_value negative up number next value v step total h = v ∙ ranged_capped negative next _ (step total h)
+    → (total : ℕ) → IsCapped number total → value ≡ ranged most negative (total + (if up then 1 else 0))
+rounded_value most negative up number next value few v step total h = v ∙ ranged_capped most negative next _ few (step total h)
 
 -- ---- a number up to its exponent
 

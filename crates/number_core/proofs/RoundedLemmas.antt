@@ -11,7 +11,7 @@ use Rattle.std.proofs.lemmas.Int.Digits.{digits_value_more}
 use Rattle.std.proofs.lemmas.List.{length-append}
 use Rattle.std.proofs.lemmas.Nat.{pow-add}
 use Rattle.std.proofs.lemmas.Str.{digit_value_digit}
-use Rattle.geom_core.specs.Shapes.{greatest_coordinate}
+use Rattle.number_core.specs.ScaleLimits.{greatest_range}
 use Rattle.number_core.specs.Numbers.{IsDigit, Digits, Numeral}
 use Rattle.number_core.specs.declared.number.Plain.{Plain}
 use Rattle.number_core.specs.declared.number.ReadNumber.{ReadNumber}
@@ -183,10 +183,10 @@ nearest_none ds p q h less =
 
 pub capped_on : (r x y : ℕ) → IsCapped r x → IsCapped x y → IsCapped r y
 capped_on r x y (inl e) h = subst (λ n. IsCapped n y) (sym e) h
-capped_on r x y (inr h) (inl e) = inr (h.0, subst (λ n. greatest_coordinate < n) e h.1)
+capped_on r x y (inr h) (inl e) = inr (h.0, subst (λ n. greatest_range < n) e h.1)
 capped_on r x y (inr h) (inr k) = inr (h.0, k.1)
 
-beyond : (v m : ℕ) → 13 ≤ m → greatest_coordinate < suc v * 10 ^ m
+beyond : (v m : ℕ) → 13 ≤ m → greatest_range < suc v * 10 ^ m
 beyond v m h =
     let j = m - 13 in
     let more : m ≡ 13 + j = omega (arith, h) in
@@ -344,11 +344,11 @@ digit_before (d ∷ ds) es h = refl
 
 -- a number with a digit before its dot and no exponent is read as it is cut off, and rounded up by
 -- the digit after that
-pub plain_rounded : (scale : Scale) (text rest : List ℕ) (plain : Plain) (read : ReadNumber) → rounding_of scale ≡ Nearest → IsPlainOf scale text plain rest
+pub plain_rounded : (most : ℕ) (scale : Scale) (text rest : List ℕ) (plain : Plain) (read : ReadNumber) → rounding_of scale ≡ Nearest → IsPlainOf scale text plain rest
     → has_letter rest ≡ false
-    → ((total : ℕ) → IsCapped plain.units total → read.value ≡ ranged plain.negative (total + (if plain.up then 1 else 0))) → read.whole ≡ true
-    → ◌≡◌ {A = Option (ReadNumber × List ℕ)} (Some (read, rest)) (number_answer scale (number_at scale text))
-plain_rounded scale text rest plain read rounds h none v whole =
+    → ((total : ℕ) → IsCapped plain.units total → read.value ≡ ranged most plain.negative (total + (if plain.up then 1 else 0))) → read.whole ≡ true
+    → ◌≡◌ {A = Option (ReadNumber × List ℕ)} (Some (read, rest)) (number_answer most scale (number_at scale text))
+plain_rounded most scale text rest plain read rounds h none v whole =
     let unsigned = (sign_at text).1 in
     let ds = digits_at unsigned in
     let es = (decimals_at (after_digits unsigned)).0 in
@@ -359,7 +359,7 @@ plain_rounded scale text rest plain read rounds h none v whole =
     let total = digits_value 10 (ds ++ kept k es) in
     let worth : units scale n ≡ total + (if rounds_up k es then 1 else 0) =
     ap (λ r. units_by r k n) rounds ∙ plain_units ds es k (are_digits unsigned) (are_decimals (after_digits unsigned)) in
-    let same_value : read.value ≡ ranged (sign_at text).0 (units scale n) =
-    v total h.units ∙ ap₂ (λ b up. ranged b (total + (if up then 1 else 0))) h.negative h.up ∙ ap (ranged (sign_at text).0) (sym worth) in
+    let same_value : read.value ≡ ranged most (sign_at text).0 (units scale n) =
+    v total h.units ∙ ap₂ (λ b up. ranged most b (total + (if up then 1 else 0))) h.negative h.up ∙ ap (ranged most (sign_at text).0) (sym worth) in
     let same_whole : read.whole ≡ is_whole scale n = whole ∙ sym (ap (λ r. is_whole_by r k n) rounds) in
-    (λ i. Some (record { value = same_value i; whole = same_whole i }, h.after i)) ∙ sym (ap (number_answer scale) taken)
+    (λ i. Some (record { value = same_value i; whole = same_whole i }, h.after i)) ∙ sym (ap (number_answer most scale) taken)

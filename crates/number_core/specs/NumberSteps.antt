@@ -12,6 +12,7 @@ use Rattle.number_core.specs.declared.number.ReadNumber.{ReadNumber}
 use Rattle.number_core.specs.declared.scale.Rounding.{Rounding}
 use Rattle.number_core.specs.declared.scale.Rounding.TheVariants.{Exact, Nearest}
 use Rattle.number_core.specs.declared.scale.Scale.{Scale}
+use Rattle.number_core.specs.ScaleLimits.{greatest_range}
 use Rattle.number_core.specs.Scales.{digits_of, rounding_of}
 use Rattle.number_core.specs.Numbers.{Numeral}
 use Rattle.number_core.specs.Values.{kept, is_whole, signed, units}
@@ -99,10 +100,10 @@ unsigned_at rounding negative text =
 abbrev pub number_at : Scale → List ℕ → Option (Numeral × List ℕ)
 number_at scale text = unsigned_at (rounding_of scale) (sign_at text).0 (sign_at text).1
 
--- a sum that stopped growing once it exceeded the greatest coordinate
+-- a sum that stopped growing once it exceeded the greatest range
 abbrev pub IsCapped : ℕ → ℕ → Type 0
 IsCapped sum total =
-    (sum ≡ total) ⊎ ((greatest_coordinate < sum) × (greatest_coordinate < total))
+    (sum ≡ total) ⊎ ((greatest_range < sum) × (greatest_range < total))
 
 -- a sum that stopped at the greatest number of 64 bits
 abbrev pub IsSaturated : ℕ → ℕ → Type 0
@@ -131,21 +132,25 @@ pub record IsPlainOf (scale : Scale) (text : List ℕ) (plain : Plain) (rest : L
     pub up : plain.up ≡ rounds_up (digits_of scale) (decimals_at (after_digits (sign_at text).1)).0
     pub after : rest ≡ (decimals_at (after_digits (sign_at text).1)).1
 
--- the number with this sign and absolute value, if it is in range
-abbrev pub ranged : Bool → ℕ → Option ℤ
-ranged negative n = if nat_le n greatest_coordinate then Some (signed negative n) else None
+-- the number with this sign and absolute value, if this is at most the first number
+abbrev pub ranged : ℕ → Bool → ℕ → Option ℤ
+ranged most negative n = if nat_le n most then Some (signed negative n) else None
 
--- the result of reading a number
-abbrev pub number_read : Scale → Numeral → ReadNumber
-number_read scale n = record {
-  value = ranged n.negative (units scale n);
+-- the result of reading a number of at most so many units
+abbrev pub number_read : ℕ → Scale → Numeral → ReadNumber
+number_read most scale n = record {
+  value = ranged most n.negative (units scale n);
   whole = is_whole scale n;
 }
 
--- the same with the text after it, if there is a number
-abbrev pub number_answer : Scale → Option (Numeral × List ℕ) → Option (ReadNumber × List ℕ)
-number_answer scale None = None
-number_answer scale (Some p) = Some (number_read scale p.0, p.1)
+-- the result of reading a coordinate
+abbrev pub coordinate_read : Scale → Numeral → ReadNumber
+coordinate_read = number_read greatest_coordinate
+
+-- a number that was read with the text after it, if there is one
+abbrev pub number_answer : ℕ → Scale → Option (Numeral × List ℕ) → Option (ReadNumber × List ℕ)
+number_answer most scale None = None
+number_answer most scale (Some p) = Some (number_read most scale p.0, p.1)
 
 -- what was read, with the remaining text as a list
 abbrev pub answer_view : {A : Type 0} → Option (A × Bor (List ℕ)) → Option (A × List ℕ)

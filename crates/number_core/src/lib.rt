@@ -19,6 +19,6 @@ mod rounded;
 mod scale;
 
 pub use laws::{nearest_law, number_law, printed_law};
-pub use number::{ReadNumber, read_number};
+pub use number::{ReadNumber, read_number, read_number_to};
 pub use printer::push_number;
 pub use scale::{Rounding, Scale};

@@ -1,11 +1,14 @@
 //! Reading one number of a text.
 
-ghost use Rattle.std.specs.Prelude.{◌≡◌, ◌==◌, ◌+◌, ◌*◌, ℕ, suc, ◌∷◌, drop, false, IfSome, IfNone};
+ghost use Rattle.std.specs.Prelude.{◌≡◌, ◌==◌, ◌+◌, ◌*◌, ◌≤◌, ℕ, suc, ◌∷◌, drop, false};
+ghost use Rattle.std.specs.Prelude.{IfSome, IfNone};
 ghost use Rattle.std.specs.Prelude.{if◌then◌else◌};
 ghost use Rattle.std.specs.Char.{digit_value};
+ghost use Rattle.geom_core.specs.Shapes.{greatest_coordinate};
 ghost use Rattle.std.specs.List.{list_all};
 ghost use Rattle.std.specs.Str.Parse.{digits_value, digits_value_after};
 ghost use Rattle.number_core.specs.Numbers.{IsDigit};
+ghost use Rattle.number_core.specs.ScaleLimits.{greatest_range};
 ghost use Rattle.number_core.specs.Scales.{digits_of};
 ghost use Rattle.number_core.specs.Values.{kept};
 ghost use Rattle.number_core.specs.NumberSteps.{digits_at, after_digits, sign_at, decimals_at};
@@ -17,8 +20,9 @@ use crate::rounded::read_rounded;
 use crate::scale::{Rounding, Scale};
 use geom_core::LIMIT;
 
-/// The greatest absolute value of a coordinate.
-pub(crate) const LARGEST: u64 = LIMIT as u64;
+/// The greatest absolute value that a number may be read up to: no two points of the plane are
+/// this far apart.
+pub(crate) const LARGEST: u64 = 4_000_000_000_000;
 
 /// The number of digits that are read with one length check and no overflow check; their value
 /// fits.
@@ -46,31 +50,34 @@ pub(crate) struct Plain {
 }
 
 impl Plain {
-    ghost use Rattle.std.specs.Prelude.{◌≡◌, ◌+◌, ℕ, true, if◌then◌else◌};
+    ghost use Rattle.std.specs.Prelude.{◌≡◌, ◌+◌, ◌≤◌, ℕ, true, if◌then◌else◌};
+    ghost use Rattle.number_core.specs.ScaleLimits.{greatest_range};
     ghost use Rattle.number_core.specs.NumberSteps.{ranged, IsCapped};
 
-    /// The number as it is read without rounding.
+    /// The number as it is read without rounding, if it is at most `most` units.
     #[inline(always)]
-    fn exact(&self) -> ReadNumber
-        ensures value { result.value ≡ ranged self.now.negative self.now.units }
+    fn exact(&self, most: u64) -> ReadNumber
+        requires { most ≤ greatest_range }
+        ensures value { result.value ≡ ranged most self.now.negative self.now.units }
         ensures whole { result.whole ≡ self.now.whole }
     {
         ReadNumber {
-            value: signed_number(self.negative, self.units),
+            value: signed_number(self.negative, self.units, most),
             whole: self.whole,
         }
     }
 
-    /// The number rounded to the nearest unit.
+    /// The number rounded to the nearest unit, if it is at most `most` units.
     #[inline(always)]
-    fn rounded(&self) -> ReadNumber
-        ensures value { (total : ℕ) → IsCapped self.now.units total
-            → result.value ≡ ranged self.now.negative (total + (if self.now.up then 1 else 0)) }
+    fn rounded(&self, most: u64) -> ReadNumber
+        requires { most ≤ greatest_range }
+        ensures value { (total : ℕ) → IsCapped self.now.units total → result.value
+            ≡ ranged most self.now.negative (total + (if self.now.up then 1 else 0)) }
         ensures whole { result.whole ≡ true }
     {
         let units = rounded_up(self.units, self.up);
         ReadNumber {
-            value: signed_number(self.negative, units),
+            value: signed_number(self.negative, units, most),
             whole: true,
         }
     }
@@ -255,12 +262,13 @@ fn cut_off(negative: bool, whole_part: u64, scale: Scale, text: &[u8]) -> (Plain
     }
 }
 
-/// The number with this sign, if it is in range.
+/// The number with this sign, if it is at most `most` units.
 #[inline(always)]
-pub(crate) fn signed_number(negative: bool, magnitude: u64) -> Option<i64>
-    ensures { result ≡ ranged negative magnitude }
+pub(crate) fn signed_number(negative: bool, magnitude: u64, most: u64) -> Option<i64>
+    requires { most ≤ greatest_range }
+    ensures { result ≡ ranged most negative magnitude }
 {
-    if magnitude > LARGEST {
+    if magnitude > most {
         return None;
     }
     let number = magnitude as i64;
@@ -292,21 +300,32 @@ fn has_letter(text: &[u8]) -> bool
     matches!(text, [b'e' | b'E', ..])
 }
 
-/// Reads the number at the start of a text, and returns it with the text after it, or `None` if
-/// there is no number.
+/// Reads the coordinate at the start of a text, and returns it with the text after it, or `None`
+/// if there is no number.
 #[inline(always)]
 pub fn read_number(text: &[u8], scale: Scale) -> Option<(ReadNumber, &[u8])>
-    ensures { answer_view result ≡ number_answer scale (number_at scale text.now) }
+    ensures { answer_view result
+        ≡ number_answer greatest_coordinate scale (number_at scale text.now) }
+{
+    read_number_to(text, scale, LIMIT as u64)
+}
+
+/// Reads the number at the start of a text, in range if its absolute value is at most `most` units,
+/// and returns it with the text after it, or `None` if there is no number.
+#[inline(always)]
+pub fn read_number_to(text: &[u8], scale: Scale, most: u64) -> Option<(ReadNumber, &[u8])>
+    requires { most ≤ greatest_range }
+    ensures { answer_view result ≡ number_answer most scale (number_at scale text.now) }
 {
     let plain = read_plain(text, scale);
     match scale.rounding() {
         Rounding::Exact => match plain {
-            Some((number, rest)) => Some((number.exact(), rest)),
+            Some((number, rest)) => Some((number.exact(most), rest)),
             None => None,
         },
         Rounding::Nearest => match plain {
-            Some((number, rest)) if !has_letter(rest) => Some((number.rounded(), rest)),
-            _ => read_rounded(text, scale),
+            Some((number, rest)) if !has_letter(rest) => Some((number.rounded(most), rest)),
+            _ => read_rounded(text, scale, most),
         },
     }
 }

@@ -1,10 +1,11 @@
 //! Reading one number, rounded to the nearest unit of the scale.
 
-ghost use Rattle.std.specs.Prelude.{◌≡◌, ◌<◌, ◌+◌, ◌*◌, ◌^◌, ◌++◌, ℕ, length, get_or};
+ghost use Rattle.std.specs.Prelude.{◌≡◌, ◌<◌, ◌≤◌, ◌+◌, ◌*◌, ◌^◌, ◌++◌, ℕ, length, get_or};
 ghost use Rattle.std.specs.Prelude.{if◌then◌else◌};
 ghost use Rattle.std.specs.Str.Parse.{digits_value};
 ghost use Rattle.number_core.specs.declared.scale.Rounding.TheVariants.{Nearest};
 ghost use Rattle.number_core.specs.Numbers.{Digits};
+ghost use Rattle.number_core.specs.ScaleLimits.{greatest_range};
 ghost use Rattle.number_core.specs.Scales.{digits_of, rounding_of};
 ghost use Rattle.number_core.specs.Values.{kept, nearest};
 ghost use Rattle.number_core.specs.NumberSteps.{answer_view};
@@ -153,9 +154,10 @@ fn nearest_units(digits: &[u8], decimals: &[u8], scale: Scale, lowers: bool, amo
 /// text after it, or `None` if there is no number.
 #[cold]
 #[inline(never)]
-pub(crate) fn read_rounded(text: &[u8], scale: Scale) -> Option<(ReadNumber, &[u8])>
-    requires { rounding_of scale ≡ Nearest }
-    ensures { answer_view result ≡ number_answer scale (number_at scale text.now) }
+pub(crate) fn read_rounded(text: &[u8], scale: Scale, most: u64) -> Option<(ReadNumber, &[u8])>
+    requires nearest { rounding_of scale ≡ Nearest }
+    requires most { most ≤ greatest_range }
+    ensures { answer_view result ≡ number_answer most scale (number_at scale text.now) }
 {
     let (negative, unsigned) = sign(text);
     let (digits, rest) = split_digits(unsigned);
@@ -165,6 +167,6 @@ pub(crate) fn read_rounded(text: &[u8], scale: Scale) -> Option<(ReadNumber, &[u
     }
     let (lowers, exponent, rest) = split_exponent(rest);
     let units = nearest_units(digits, decimals, scale, lowers, amount(exponent));
-    let value = signed_number(negative, units);
+    let value = signed_number(negative, units, most);
     Some((ReadNumber { value, whole: true }, rest))
 }

@@ -14,8 +14,11 @@ pub mod OffLemmas
 pub mod OnePlaneMatrix
 pub mod OutlineLemmas
 pub mod PartScaleLemmas
+pub mod QuotientLemmas
+pub mod ReachLemmas
 pub mod Ring
 pub mod ScaleLemmas
 pub mod Signs
+pub mod SpotLemmas
 pub mod StoredLemmas
 pub mod TestLemmas

@@ -15,10 +15,10 @@ use Rattle.plane_core.specs.Places.{point_of, IsLie}
 use Rattle.plane_core.proofs.Ring.{one-times}
 use Rattle.plane_core.proofs.HeldLemmas.{held_below, held_way, held_turn, turn_below, abs_positive}
 
-held_x : (v : Vertex) → to_z w64 (of_z w64 v.x) ≡ v.x
+pub held_x : (v : Vertex) → to_z w64 (of_z w64 v.x) ≡ v.x
 held_x v = omega (arith, ints)
 
-held_y : (v : Vertex) → to_z w64 (of_z w64 v.y) ≡ v.y
+pub held_y : (v : Vertex) → to_z w64 (of_z w64 v.y) ≡ v.y
 held_y v = omega (arith, ints)
 
 -- a vertex and an edge

@@ -10,5 +10,6 @@ pub mod Places
 pub mod PlaneMatrices
 pub mod Points
 pub mod ProperRings
+pub mod Spots
 pub mod Stored
 pub mod Vertices

@@ -13,6 +13,7 @@ mod part;
 mod path;
 mod place;
 mod rings;
+mod spot;
 mod stored_paths;
 mod vertex;
 
@@ -23,4 +24,5 @@ pub use outline::{Kind, Outline, Scan, Standing};
 pub use part::Part;
 pub use place::{Lie, Place};
 pub use rings::Rings;
+pub use spot::Spot;
 pub use vertex::Vertex;

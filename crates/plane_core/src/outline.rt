@@ -12,6 +12,7 @@ ghost use Rattle.plane_core.specs.Outlines.{IsScan, inside, ends_part, rings_abo
 use crate::edge::Edge;
 use crate::part::Part;
 use crate::place::Place;
+use crate::spot::Spot;
 use crate::vertex::Vertex;
 
 /// The kind of a geometry, by its dimension.
@@ -66,8 +67,8 @@ impl Scan {
 
     /// The scan with one more edge.
     #[inline]
-    pub fn with(self, e: &Edge, p: &Place) -> Scan
-        ensures { let q = point_of p.now in
+    pub fn with(self, e: &Edge, p: &Spot) -> Scan
+        ensures { let q = point_of p.now.place in
             (es : List Edge) → IsScan es q self → IsScan (es ++ e.now ∷ []) q result }
     {
         let lie = p.lie_of(e);
@@ -80,8 +81,8 @@ impl Scan {
 }
 
 /// The scan of some edges.
-fn scan_of(edges: &[Edge], p: &Place) -> Scan
-    ensures { IsScan edges.now (point_of p.now) result }
+fn scan_of(edges: &[Edge], p: &Spot) -> Scan
+    ensures { IsScan edges.now (point_of p.now.place) result }
 {
     let mut scan = Scan::empty();
     for e in edges {
@@ -177,7 +178,8 @@ impl Outline {
         ensures part { result.part ≡ outline_part self.now (point_of p.now) }
         ensures above { result.above ≡ outline_above self.now (point_of p.now) }
     {
-        self.standing_by(p, scan_of(&self.edges, p))
+        let spot = Spot::of(p);
+        self.standing_by(p, scan_of(&self.edges, &spot))
     }
 
     /// The same, from a scan of all edges.

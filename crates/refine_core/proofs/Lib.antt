@@ -1,4 +1,4 @@
 mod ChunkLemmas
 mod GatherLemmas
 mod PartLemmas
-mod RefinementLemmas
+pub mod RefinementLemmas

@@ -35,6 +35,13 @@ pub trait Condition {
         ensures { let condition = self.now in
             IfOk result (IsDecision (stands condition) (answers condition) (left, right)) };
 
+    /// Reads what [`Condition::decide`] reads of the two features, so that the processor fetches it
+    /// before many pairs are decided one after another. It is false if nothing is fetched. It
+    /// affects time and memory only.
+    fn fetch(&self, _left: u32, _right: u32) -> bool {
+        false
+    }
+
     /// The filter misses no pair that satisfies the condition.
     ghost stands_near: { (c : Self) (left right : ℕ) → stands c left right → near c left right };
 }

@@ -15,3 +15,4 @@ pub use laws::refinement_law;
 pub use options_core::MAX_WORKERS;
 pub use refine::refine_pairs;
 pub use refined::{AsPair, Refined};
+pub use worker::refine_each;

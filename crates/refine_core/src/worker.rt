@@ -62,8 +62,12 @@ where
     Ok(Share { seat, parts })
 }
 
-/// Decides these pairs one after another.
-pub(crate) fn refine_each<C: Condition>(
+/// Decides these pairs one after another: those that satisfy the condition, in order, each with its
+/// answer.
+///
+/// # Errors
+/// If an allocation fails.
+pub fn refine_each<C: Condition>(
     alloc: Global,
     condition: &C,
     pairs: &[(u32, u32)],
@@ -75,13 +79,23 @@ where
         let answers = C.answers condition.now in
         IfOk result (λ refined. AreRefined stands answers pairs.now refined.items) }
 {
-    let mut refined = Vec::new(alloc);
+    let mut refined = Vec::with_capacity(alloc, count_fetched(condition, pairs))?;
     for pair in pairs {
         let (left, right) = *pair;
         let found = condition.decide(alloc, left, right)?;
         push_found(&mut refined, (left, right), found)?;
     }
     Ok(refined)
+}
+
+/// The number of pairs for which the condition fetches data. In this loop, which decides nothing,
+/// the processor fetches the data of many pairs at the same time.
+fn count_fetched<C: Condition>(condition: &C, pairs: &[(u32, u32)]) -> usize {
+    let mut count: usize = 0;
+    for (left, right) in pairs {
+        count = count.saturating_add(condition.fetch(*left, *right).into());
+    }
+    count
 }
 
 /// Adds a pair if it has an answer.

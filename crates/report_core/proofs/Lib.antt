@@ -1,4 +1,5 @@
 pub mod ColumnLemmas
+pub mod RefiningLemmas
 pub mod ReportChunkLemmas
 pub mod ReportLemmas
 pub mod WrittenLemmas

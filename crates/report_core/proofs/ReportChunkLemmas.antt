@@ -31,7 +31,7 @@ zip_append R (x ∷ xs) [] vs ws h k = absurd h
 zip_append R (x ∷ xs) (y ∷ ys) vs ws h k = (h.0, zip_append R xs ys vs ws h.1 k)
 
 -- the records of some items, and then those of others
-rows_append : {A : Type 0} (R : A → List (List ℕ) → Type 0) (ps qs : List A) (s t : List ℕ)
+pub rows_append : {A : Type 0} (R : A → List (List ℕ) → Type 0) (ps qs : List A) (s t : List ℕ)
     → AreRows R ps s → AreRows R qs t → AreRows R (ps ++ qs) (s ++ t)
 rows_append R ps qs s t a b = record {
   rows = a.rows ++ b.rows;
@@ -74,24 +74,31 @@ next_chunk xs size n =
     ∙ ap (λ z. take (n * size) ys ++ z) (sym (drop-take (n * size) size xs))
     ∙ take-append-drop (n * size) ys
 
-module _ {A : Type 0} (R : A → List (List ℕ) → Type 0) (size : ℕ) (items : List A) (parts : List (Result (Vec ℕ Global) AllocError)) (d : Result (Vec ℕ Global) AllocError)
-    (each : (n : ℕ) → n < length parts → AreRows R (slice_chunk items size n) (text_or_none (get_or parts n d))) where
+-- no records yet
+pub no_rows : {A : Type 0} (R : A → List (List ℕ) → Type 0) → AreRows R [] []
+no_rows R = record { rows = []; are_rows = tt; written = refl }
+
+-- a fact of items and their text that holds of concatenated ones
+module _ {X : Type 0} (Written : List X → List ℕ → Type 0) (nothing : Written [] [])
+    (joins : (ps qs : List X) (s t : List ℕ) → Written ps s → Written qs t → Written (ps ++ qs) (s ++ t))
+    (size : ℕ) (items : List X) (parts : List (Result (Vec ℕ Global) AllocError)) (d : Result (Vec ℕ Global) AllocError)
+    (each : (n : ℕ) → n < length parts → Written (slice_chunk items size n) (text_or_none (get_or parts n d))) where
   -- the first chunks
-  so_far : (n : ℕ) → n ≤ length parts → AreRows R (take (n * size) items) (flat_map text_or_none (take n parts))
-  so_far zero l = subst (λ k. AreRows R (take k items) []) (sym (zero-mul size)) (record { rows = []; are_rows = tt; written = refl })
+  so_far : (n : ℕ) → n ≤ length parts → Written (take (n * size) items) (flat_map text_or_none (take n parts))
+  so_far zero l = subst (λ k. Written (take k items) []) (sym (zero-mul size)) nothing
   so_far (suc n) l =
-      subst (λ ps. AreRows R ps (flat_map text_or_none (take (suc n) parts))) (next_chunk items size n ∙ ap (λ k. take k items) (sym (suc-mul n size)))
-      (subst (AreRows R (take (n * size) items ++ slice_chunk items size n))
+      subst (λ ps. Written ps (flat_map text_or_none (take (suc n) parts))) (next_chunk items size n ∙ ap (λ k. take k items) (sym (suc-mul n size)))
+      (subst (Written (take (n * size) items ++ slice_chunk items size n))
       (flat_map_more text_or_none [] (take n parts) (get_or parts n d)
       ∙ ap (flat_map text_or_none) (sym (take_more parts n d (omega arith)) ∙ ap (λ k. take k parts) (add-one n)))
-      (rows_append R (take (n * size) items) (slice_chunk items size n) (flat_map text_or_none (take n parts)) (text_or_none (get_or parts n d))
+      (joins (take (n * size) items) (slice_chunk items size n) (flat_map text_or_none (take n parts)) (text_or_none (get_or parts n d))
       (so_far n (omega arith)) (each n (omega arith))))
 
-  -- the records of all chunks are those of all items
-  pub chunks_joined : 0 < size → length parts ≡ length items / size + min 1 (length items % size) → AreRows R items (flat_map text_or_none parts)
+  -- the texts of all chunks are those of all items
+  pub chunks_joined : 0 < size → length parts ≡ length items / size + min 1 (length items % size) → Written items (flat_map text_or_none parts)
   chunks_joined p e =
-      subst (λ ps. AreRows R ps (flat_map text_or_none parts)) (take_all (length parts * size) items (covered (length parts) (length items) size p e))
-      (subst (λ ts. AreRows R (take (length parts * size) items) (flat_map text_or_none ts)) (take_all (length parts) parts (omega arith))
+      subst (λ ps. Written ps (flat_map text_or_none parts)) (take_all (length parts * size) items (covered (length parts) (length items) size p e))
+      (subst (λ ts. Written (take (length parts * size) items) (flat_map text_or_none ts)) (take_all (length parts) parts (omega arith))
       (so_far (length parts) (omega arith)))
 
 -- a fact of all elements is one of those of a chunk
@@ -109,13 +116,13 @@ columns_of_chunk {A = A} pair_of columns left right matches chunk size start is 
 }
 
 -- the result of a thread for a chunk
-pub chunk_written : {A : Type 0} (R : A → List (List ℕ) → Type 0) (items chunk : List A) (size n : ℕ) (part : Result (Vec ℕ Global) AllocError)
+pub chunk_written : {X : Type 0} (Written : List X → List ℕ → Type 0) (items chunk : List X) (size n : ℕ) (part : Result (Vec ℕ Global) AllocError)
     → IsChunk items size (n * size) chunk → IsOk part
-    → IfOk part (λ text. AreRows R chunk text.items)
-    → AreRows R (slice_chunk items size n) (text_or_none part)
-chunk_written R items chunk size n (Ok text) is ok rows =
-    subst (λ ps. AreRows R ps text.items) is.value rows
-chunk_written R items chunk size n (Err e) is ok rows = absurd cc
+    → IfOk part (λ text. Written chunk text.items)
+    → Written (slice_chunk items size n) (text_or_none part)
+chunk_written Written items chunk size n (Ok text) is ok rows =
+    subst (λ ps. Written ps text.items) is.value rows
+chunk_written Written items chunk size n (Err e) is ok rows = absurd cc
 
 -- one text more
 pub text_added : (old mid new : List (Vec ℕ Global)) (parts : List (Result (Vec ℕ Global) AllocError)) (part : Result (Vec ℕ Global) AllocError)

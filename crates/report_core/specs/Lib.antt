@@ -2,6 +2,7 @@ pub mod AnyMatches
 pub mod Columns
 pub mod CsvTexts
 pub mod LastFields
+pub mod RefinedReports
 pub mod ReportRows
 pub mod Reports
 pub mod ToWrite

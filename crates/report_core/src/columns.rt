@@ -67,6 +67,24 @@ impl Column {
         self.text.get(start..end)
     }
 
+    /// The number of bytes of the field at `number`, for which only its place is read.
+    fn len_at(&self, number: u32) -> usize {
+        let number = number as usize;
+        match (self.starts.get(number), self.starts.get(number + 1)) {
+            (Some(start), Some(end)) => end.saturating_sub(*start),
+            _ => 0,
+        }
+    }
+
+    /// Whether the field at `number` is in quotes. It reads the field's first byte, so that the
+    /// processor fetches the field.
+    pub(crate) fn is_quoted(&self, number: u32) -> bool {
+        match self.starts.get(number as usize) {
+            Some(start) => self.text.get(*start) == Some(&b'"'),
+            None => false,
+        }
+    }
+
     /// The average number of bytes of a field.
     fn likely_field(&self) -> usize {
         self.text.len().div_ceil(self.starts.len().max(1))
@@ -84,8 +102,8 @@ impl Columns {
 
     /// An estimate of the number of bytes of a pair's record.
     pub(crate) fn room_of(&self, pair: (u32, u32)) -> usize {
-        let left = self.left.at(pair.0).map_or(0, room_of_field);
-        let right = self.right.at(pair.1).map_or(0, room_of_field);
+        let left = self.left.len_at(pair.0);
+        let right = self.right.len_at(pair.1);
         LAST_AND_END.saturating_add(left).saturating_add(right)
     }
 
@@ -157,13 +175,6 @@ fn likely_room<G: Geometry>(layer: &Layer<G>) -> usize {
         room = room.saturating_add(feature.id.len()).saturating_add(1);
     }
     room
-}
-
-/// An estimate of the number of bytes of a field. It reads the field's first byte, so that the
-/// processor fetches the field; an estimate that is one byte off does no harm.
-fn room_of_field(field: &[u8]) -> usize {
-    let is_quoted = field.first() == Some(&b'"');
-    field.len().saturating_add(is_quoted.into())
 }
 
 /// Adds the field of the feature with this number, if there is one, to `text`.

@@ -6,6 +6,7 @@ mod csv_fields;
 mod last_field;
 mod matches;
 mod matrix_field;
+mod refining;
 mod report;
 mod short_text;
 mod sink;
@@ -13,6 +14,7 @@ mod to_write;
 
 pub use last_field::LastField;
 pub use matches::Match;
+pub use refining::{RefiningForm, report_refining};
 pub use report::{ReportForm, report_by, report_texts};
 pub use short_text::{ROOM, ShortText};
 pub use sink::{Sink, WriteFailed, write_text, write_texts};

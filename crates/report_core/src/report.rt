@@ -31,9 +31,9 @@ pub struct ReportForm<'a, F> {
 
 /// The fields of a report's records: the ids, and the last field.
 #[derive(Drop)]
-struct Fields<'a, F> {
-    ids: &'a Columns,
-    last: &'a F,
+pub(crate) struct Fields<'a, F> {
+    pub(crate) ids: &'a Columns,
+    pub(crate) last: &'a F,
 }
 
 /// The report of these matches, as texts to be concatenated: a CSV record `left,right,matrix`, then
@@ -170,7 +170,7 @@ fn whole_text<F: LastField<G, M>, G: Geometry, M: AsPair>(
 }
 
 /// The header, with this name of the last column.
-fn header_text(alloc: Global, name: &str) -> Result<Vec<u8>, AllocError>
+pub(crate) fn header_text(alloc: Global, name: &str) -> Result<Vec<u8>, AllocError>
     ensures { IfOk result (λ text. text.items ≡ header_line name.now) }
 {
     let mut text = Vec::new(alloc);
@@ -232,7 +232,7 @@ fn rows_text<F: LastField<G, M>, G: Geometry, M: AsPair>(
 }
 
 /// Adds the records of these matches.
-fn push_rows<F: LastField<G, M>, G: Geometry, M: AsPair>(
+pub(crate) fn push_rows<F: LastField<G, M>, G: Geometry, M: AsPair>(
     text: &mut Vec<u8>,
     left: &Layer<G>,
     right: &Layer<G>,
@@ -264,7 +264,8 @@ fn push_rows<F: LastField<G, M>, G: Geometry, M: AsPair>(
 }
 
 /// Reserves room for the records of a block of matches, if one begins at `place`. The lookups for
-/// it are spread over memory, so the processor fetches the data of many records at the same time.
+/// it are spread over memory. They are made in short loops, so that the processor fetches the data
+/// of many records at the same time.
 fn make_room<F: LastField<G, M>, G: Geometry, M: AsPair>(
     text: &mut Vec<u8>,
     right: &Layer<G>,
@@ -278,23 +279,36 @@ fn make_room<F: LastField<G, M>, G: Geometry, M: AsPair>(
     if place % BLOCK != 0 {
         return Ok(());
     }
-    let mut room: usize = 0;
-    for found in matches[place..].iter().take(BLOCK) {
-        room = room.saturating_add(room_of_record(right, fields, found));
-    }
-    text.reserve(room)
+    let rest = &matches[place..];
+    let block = &rest[..BLOCK.min(rest.len())];
+    let room = room_of_records(fields.ids, block);
+    let quoted = count_quoted(right, fields, block);
+    text.reserve(room.saturating_add(quoted))
 }
 
-/// An estimate of the number of bytes of a match's record.
-fn room_of_record<F: LastField<G, M>, G: Geometry, M: AsPair>(
+/// An estimate of the number of bytes of the records of a block, but for the quotes of their ids.
+fn room_of_records<M: AsPair>(ids: &Columns, block: &[M]) -> usize {
+    let mut room: usize = 0;
+    for found in block {
+        room = room.saturating_add(ids.room_of(found.as_pair()));
+    }
+    room
+}
+
+/// The number of matches of a block whose right id is in quotes. It reads what their records need
+/// of the right layer.
+fn count_quoted<F: LastField<G, M>, G: Geometry, M: AsPair>(
     right: &Layer<G>,
     fields: &Fields<'_, F>,
-    found: &M,
+    block: &[M],
 ) -> usize {
-    if !fields.last.fetch(found, right) {
-        return 0;
+    let mut count: usize = 0;
+    for found in block {
+        let is_quoted = fields.last.fetch(found, right)
+            && fields.ids.right.is_quoted(found.as_pair().1);
+        count = count.saturating_add(is_quoted.into());
     }
-    fields.ids.room_of(found.as_pair())
+    count
 }
 
 /// Adds two ids, given as CSV fields with their commas.
@@ -306,7 +320,7 @@ fn push_ids(text: &mut Vec<u8>, left: &[u8], right: &[u8]) -> Result<(), AllocEr
 }
 
 /// Adds these texts, or returns the error if an allocation failed for one of them.
-fn push_all(
+pub(crate) fn push_all(
     texts: &mut Vec<Vec<u8>>,
     parts: Vec<Result<Vec<u8>, AllocError>>,
 ) -> Result<(), AllocError>

@@ -1,3 +1,4 @@
+pub mod ApartLemmas
 pub mod IntervalLemmas
 pub mod LineLemmas
 pub mod PairLemmas

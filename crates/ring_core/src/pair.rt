@@ -59,10 +59,14 @@ fn do_run_along(e: &Edge, f: &Edge) -> bool
     is_first & is_last & (along_x | along_y)
 }
 
-/// Whether two edges share at most one point, which is an end of one of them.
+/// Whether two edges share at most one point, which is an end of one of them. Edges whose boxes
+/// don't meet share none.
 pub fn meet_properly(e: &Edge, f: &Edge) -> bool
     ensures { IsTrue result ↔ MeetProperly e.now f.now }
 {
+    if !e.is_box_meeting(f) {
+        return true;
+    }
     let is_crossing = do_cross_inside(e, f);
     let is_along = do_run_along(e, f);
     !(is_crossing | is_along)

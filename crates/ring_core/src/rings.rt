@@ -13,7 +13,7 @@ use rtree_core::RTree;
 use std::alloc::{AllocError, Global};
 
 /// The greatest number of edges that are compared pairwise without a tree.
-const FEW: usize = 16;
+const FEW: usize = 64;
 
 /// Whether an edge meets each of the others properly.
 fn meets_all(e: &Edge, others: &[Edge]) -> bool

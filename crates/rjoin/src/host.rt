@@ -1,7 +1,8 @@
 //! The files of the host.
 
-use command_core::{Inputs, NotOpened, is_standard_input};
-use file_core::FromRead;
+use crate::storing;
+use command_core::{Inputs, NotOpened, NotStored, Outputs, is_standard_input};
+use row_core::FromRead;
 use std::fs::OpenFile;
 use std::io::{Input, Read};
 use std::rt::Files;
@@ -47,6 +48,15 @@ impl<'a, R: Files + Input> Inputs for HostFiles<'a, R> {
                 Ok(FromRead::with_likely_len(HostFile::Named(file), len))
             }
             Err(_) => Err(NotOpened),
+        }
+    }
+}
+
+impl<'a, R: Files + AllocGlobal> Outputs for HostFiles<'a, R> {
+    fn store(&mut self, path: &str, bytes: &[u8]) -> Result<(), NotStored> {
+        match storing::store(self.rt, path, bytes) {
+            Ok(()) => Ok(()),
+            Err(_) => Err(NotStored),
         }
     }
 }

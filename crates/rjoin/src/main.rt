@@ -2,6 +2,7 @@
 #![tactic(auto)]
 
 mod host;
+mod storing;
 
 use crate::host::HostFiles;
 use command_core::run_program;
@@ -11,5 +12,6 @@ use std::process::ExitCode;
 fn main(rt: HostRuntime) -> ExitCode {
     let mut output = ToWrite::new(rt.stdout());
     let mut errors = ToWrite::new(rt.stderr());
-    ExitCode::from(run_program(&rt, &HostFiles { rt: &rt }, &mut output, &mut errors))
+    let mut files = HostFiles { rt: &rt };
+    ExitCode::from(run_program(&rt, &mut files, &mut output, &mut errors))
 }

@@ -2,10 +2,10 @@
 
 use crate::example::{LEFT, RIGHT};
 use crate::running::{Ended, Files, at_once, edited_example, make_job, run};
-use file_core::ReadFault;
 use join_core::{Input, MAX_DRAWN, Options, Product, RunFault, ToWrite};
 use layer_core::LayerFault;
 use relation_core::Relation;
+use row_core::ReadFault;
 use std::random::RandomSource;
 use std::sync::Wait;
 use std::test::Fail;

@@ -2,10 +2,10 @@
 
 use crate::example::{EDITED, LEFT, REPORT, RIGHT};
 use crate::running::{Files, at_once, edited_example, ends, example, join};
-use file_core::ReadFault;
 use join_core::{Input, Options, RunFault};
 use layer_core::LayerFault;
 use relation_core::Relation;
+use row_core::ReadFault;
 use std::random::RandomSource;
 use std::sync::Wait;
 use std::thread::Threads;

@@ -2,10 +2,10 @@
 
 use crate::example::EDITED;
 use crate::running::{edited_example, join};
-use file_core::ReadFault;
 use join_core::{JoinFault, Options, RunFault};
 use layer_core::LayerFault;
 use relation_core::Relation;
+use row_core::ReadFault;
 use std::random::RandomSource;
 use std::sync::Wait;
 use std::thread::Threads;

@@ -4,9 +4,9 @@ ghost use Rattle.std.specs.Prelude.{◌≡◌, false};
 ghost use Rattle.report_core.specs.ToWrite.{failed_of};
 
 use crate::example::{EDITS, LEFT, RIGHT};
-use file_core::FromRead;
 use join_core::{BoxCondition, JoinJob, JoinSources, Options, Product, RunFault, ToWrite};
 use relation_core::{JoinRelation, Relation};
+use row_core::FromRead;
 use std::hash::RandomState;
 use std::io;
 use std::io::{ErrorKind, Read, Write};

@@ -4,7 +4,7 @@ use Rattle.std.specs.Prelude.{ℤ, is_some}
 use Rattle.std.specs.List.{list_all, AllByRecursion}
 use Rattle.std.proofs.lemmas.Bool.{false≢true}
 use Rattle.number_core.specs.declared.scale.Scale.{Scale}
-use Rattle.number_core.specs.NumberSteps.{number_read}
+use Rattle.number_core.specs.NumberSteps.{coordinate_read}
 use Rattle.number_core.proofs.GoodLemmas.{value_in_range, in_range_value}
 use Rattle.wkt_core.specs.Grammar.{RawPoint}
 use Rattle.wkt_core.specs.Spelling.{HasGoodNumbers, AllNumbersGood}
@@ -26,7 +26,7 @@ module _ (scale : Scale) where
   point_good : (p : RawPoint) → (point_read scale p).whole ≡ true → is_some (point_read scale p).position ≡ true → HasGoodNumbers scale p
   point_good p w r =
       let whole = both_parts _ _ w in
-      let range = both_some (number_read scale p.x).value (number_read scale p.y).value r in (
+      let range = both_some (coordinate_read scale p.x).value (coordinate_read scale p.y).value r in (
         record { whole = whole.0; in_range = value_in_range scale p.x range.0 },
         record { whole = whole.1; in_range = value_in_range scale p.y range.1 },
       )
@@ -47,7 +47,7 @@ module _ (scale : Scale) where
   points_in_range (p ∷ ps) h =
       let x = in_range_value scale p.x h.0.0.in_range in
       let y = in_range_value scale p.y h.0.1.in_range in
-      rw (some_both (number_read scale p.x).value (number_read scale p.y).value x y) (points_in_range ps h.1)
+      rw (some_both (coordinate_read scale p.x).value (coordinate_read scale p.y).value x y) (points_in_range ps h.1)
 
   pub lists_good : (lists : List (List RawPoint)) → list_all (are_whole scale) lists ≡ true → list_all (are_in_range scale) lists ≡ true
       → AllNumbersGood scale lists

@@ -12,7 +12,7 @@ use Rattle.wkt_core.specs.declared.position.ReadPoint.{ReadPoint}
 use Rattle.wkt_core.specs.Grammar.{RawPoint}
 use Rattle.number_core.specs.Values.{value}
 use Rattle.wkt_core.specs.Spelling.{position}
-use Rattle.number_core.specs.NumberSteps.{number_read}
+use Rattle.number_core.specs.NumberSteps.{coordinate_read}
 use Rattle.wkt_core.specs.PointSteps.{position_from, point_read}
 use Rattle.wkt_core.specs.ReadLists.{are_in_range, are_whole, IsReadOf}
 use Rattle.wkt_core.specs.Walks.{way_of, IsKeptOf}
@@ -85,7 +85,7 @@ module _ (scale : Scale) (ps : List RawPoint) (p : RawPoint) (old marked new : R
       → IsReadOf scale new (ps ++ p ∷ [])
   more_within q e range step =
       let still : are_in_range scale (ps ++ p ∷ []) ≡ are_in_range scale ps = in_range_more (Some q) e ∙ and_true (are_in_range scale ps) in
-      let both = both_are (number_read scale p.x).value (number_read scale p.y).value q e in
+      let both = both_are (coordinate_read scale p.x).value (coordinate_read scale p.y).value q e in
       let x : value scale p.x ≡ q.x = if_some _ _ _ both.0 in
       let y : value scale p.y ≡ q.y = if_some _ _ _ both.1 in
       let here : position scale p ≡ q = λ i. record { x = x i; y = y i } in

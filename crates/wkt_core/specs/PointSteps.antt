@@ -6,7 +6,7 @@ use Rattle.wkt_core.specs.declared.position.ReadPoint.{ReadPoint}
 use Rattle.number_core.specs.declared.scale.Scale.{Scale}
 use Rattle.wkt_core.specs.Grammar.{RawPoint}
 use Rattle.wkt_core.specs.TokenSteps.{gap_at}
-use Rattle.number_core.specs.NumberSteps.{number_at, number_read}
+use Rattle.number_core.specs.NumberSteps.{number_at, coordinate_read}
 
 infixl 10 ◌>>=◌
 abbrev pub ◌>>=◌ : {A B : Type 0} → Option A → (A → Option B) → Option B
@@ -31,7 +31,7 @@ abbrev pub point_from : ReadNumber → ReadNumber → ReadPoint
 point_from x y = record { position = position_from x.value y.value; whole = x.whole && y.whole }
 
 abbrev pub point_read : Scale → RawPoint → ReadPoint
-point_read scale p = point_from (number_read scale p.x) (number_read scale p.y)
+point_read scale p = point_from (coordinate_read scale p.x) (coordinate_read scale p.y)
 
 abbrev pub point_answer : Scale → Option (RawPoint × List ℕ) → Option (ReadPoint × List ℕ)
 point_answer scale None = None

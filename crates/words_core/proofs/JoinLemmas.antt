@@ -12,8 +12,8 @@ use Rattle.relation_core.specs.declared.relation.Relation.{Relation}
 use Rattle.number_core.specs.ScaleLimits.{most_digits}
 use Rattle.number_core.specs.Scales.{digits_of}
 use Rattle.number_core.specs.declared.scale.Scale.{Scale}
-use Rattle.words_core.specs.Readings.{missing_text, number_at, share_input, shared_text, AllowsDisjointIn, AreOptionsIn, ArePathsIn, ForbidsDisjointIn, HasFormatFault, HasJoinFault, HasScaleFault, IsScaleIn}
-use Rattle.words_core.specs.Readings.{IsRangeFault, IsRelationFault, NeedsNoDisjoint, NeedsOneInput, NeedsOptions, NeedsPaths, NeedsRelation, NeedsScale, Says}
+use Rattle.words_core.specs.Readings.{missing_text, number_at, is_taken, share_input, shared_text, taken_text, text_in, AllowsDisjointIn, AreOptionsIn, ArePathsIn, ForbidsDisjointIn, HasFormatFault, HasJoinFault, HasScaleFault, IsScaleIn}
+use Rattle.words_core.specs.Readings.{IsRangeFault, IsRelationFault, NeedsNoDisjoint, NeedsOptions, NeedsPaths, NeedsRelation, NeedsScale, Says}
 use Rattle.words_core.specs.declared.words.LayerPaths.{LayerPaths}
 use Rattle.words_core.specs.declared.words.WordFault.{WordFault}
 use Rattle.words_core.specs.declared.words.WordFault.TheVariants as fault
@@ -99,28 +99,55 @@ pub paths_share : (rows : List Row) (left right : Text) (edits : Option Text) (f
 paths_share rows left right edits f is_left is_right are_edits shares says =
     needs_some (codes "LEFT") (first_of (codes "LEFT") rows) left f _ is_left
     (needs_some (codes "RIGHT") (first_of (codes "RIGHT") rows) right f _ is_right
-    (subst (λ (e : Option Text). NeedsOneInput left right e f ⊥) (sym are_edits)
-    (when_true (share_input left right edits) _ _ shares says)))
+    (when_true (share_input left right (first_of (codes "edits") rows)) _ _
+    (subst (λ (e : Option Text). share_input left right e ≡ true) (sym are_edits) shares) says))
 
--- at most one file is standard input, and then a further fault
+-- the list of skipped rows is no file of its own
+pub paths_taken : (rows : List Row) (left right : Text) (edits skip : Option Text) (f : WordFault)
+    → first_of (codes "LEFT") rows ≡ Some left → first_of (codes "RIGHT") rows ≡ Some right
+    → first_of (codes "edits") rows ≡ edits → first_of (codes "skip") rows ≡ skip
+    → share_input left right edits ≡ false → is_taken left right edits skip ≡ true
+    → Says taken_text f → NeedsPaths rows f ⊥
+paths_taken rows left right edits skip f is_left is_right are_edits is_skip alone taken says =
+    let e = first_of (codes "edits") rows in
+    let s = first_of (codes "skip") rows in
+    needs_some (codes "LEFT") (first_of (codes "LEFT") rows) left f _ is_left
+    (needs_some (codes "RIGHT") (first_of (codes "RIGHT") rows) right f _ is_right
+    (when_false (share_input left right e) _ _
+    (subst (λ (x : Option Text). share_input left right x ≡ false) (sym are_edits) alone)
+    (when_true (is_taken left right e s) _ _
+    (subst (λ (x : Option Text). is_taken left right e x ≡ true) (sym is_skip)
+    (subst (λ (x : Option Text). is_taken left right x skip ≡ true) (sym are_edits) taken)) says)))
+
+-- at most one file is standard input, the list of skipped rows is another, and then a further fault
 pub paths_passed : (rows : List Row) (paths : LayerPaths) (f : WordFault) (Then : Type 0)
     → ArePathsIn rows paths → Then → NeedsPaths rows f Then
 paths_passed rows paths f Then are rest =
-    needs_some (codes "LEFT") (first_of (codes "LEFT") rows) paths.left.now f _ are.left
-    (needs_some (codes "RIGHT") (first_of (codes "RIGHT") rows) paths.right.now f _ are.right
-    (subst (λ (e : Option Text). NeedsOneInput paths.left.now paths.right.now e f Then)
-    (sym are.edits) (when_false _ _ _ are.one_input rest)))
+    let e = first_of (codes "edits") rows in
+    let s = first_of (codes "skip") rows in
+    let left = paths.left.now in
+    let right = paths.right.now in
+    needs_some (codes "LEFT") (first_of (codes "LEFT") rows) left f _ are.left
+    (needs_some (codes "RIGHT") (first_of (codes "RIGHT") rows) right f _ are.right
+    (when_false (share_input left right e) _ _
+    (subst (λ (x : Option Text). share_input left right x ≡ false) (sym are.edits) are.one_input)
+    (when_false (is_taken left right e s) _ _
+    (subst (λ (x : Option Text). is_taken left right e x ≡ false) (sym are.skip)
+    (subst (λ (x : Option Text). is_taken left right x (text_in paths.skip) ≡ false) (sym are.edits)
+    are.free)) rest)))
 
-one_input_weaker : (b : Bool) (P Then : Type 0) → MatchBool b P ⊥ → MatchBool b P Then
-one_input_weaker true P Then h = h
-one_input_weaker false P Then h = absurd h
+both_weaker : (b c : Bool) (P Q Then : Type 0) → MatchBool b P (MatchBool c Q ⊥) → MatchBool b P (MatchBool c Q Then)
+both_weaker true c P Q Then h = h
+both_weaker false true P Q Then h = h
+both_weaker false false P Q Then h = absurd h
 
 pub paths_weaker : (rows : List Row) (f : WordFault) (Then : Type 0) → NeedsPaths rows f ⊥
     → NeedsPaths rows f Then
 paths_weaker rows f Then n =
     needs_weaker (codes "LEFT") (first_of (codes "LEFT") rows) f _ _
     (λ left. needs_weaker (codes "RIGHT") (first_of (codes "RIGHT") rows) f _ _
-    (λ right. one_input_weaker (share_input left right (first_of (codes "edits") rows)) _ Then)) n
+    (λ right. both_weaker (share_input left right (first_of (codes "edits") rows))
+    (is_taken left right (first_of (codes "edits") rows) (first_of (codes "skip") rows)) _ _ Then)) n
 
 -- ---- joins
 

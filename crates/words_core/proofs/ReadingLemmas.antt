@@ -128,10 +128,10 @@ met_is m r names rows =
 pub named : (rows : List Row) (f : WordFault) (known name : Text) → name ≡ known → HasCommandFault rows f known → HasCommandFault rows f name
 named rows f known name e h = subst (λ (n : Text). HasCommandFault rows f n) (sym e) h
 
-pub unnamed : (rows : List Row) (f : WordFault) (name : Text) → name ≢ codes "relate" → name ≢ codes "join" → name ≢ codes "near" → name ≢ codes "draw" → name ≢ codes "window"
-    → name ≢ codes "stats" → name ≢ codes "bounds" → (f ≢ fault.Memory → Says (missing_text (codes "COMMAND")) f) → f ≢ fault.Memory
+pub unnamed : (rows : List Row) (f : WordFault) (name : Text) → name ≢ codes "relate" → name ≢ codes "join" → name ≢ codes "near" → name ≢ codes "nearest" → name ≢ codes "draw"
+    → name ≢ codes "window" → name ≢ codes "stats" → name ≢ codes "bounds" → (f ≢ fault.Memory → Says (missing_text (codes "COMMAND")) f) → f ≢ fault.Memory
     → HasCommandFault rows f name
-unnamed rows f name relate join near draw window stats bounds says known = of_none name relate join near draw window stats bounds (says known)
+unnamed rows f name relate join near nearest draw window stats bounds says known = of_none name relate join near nearest draw window stats bounds (says known)
 
 is_simple_usage : is_simple program_usage ≡ true
 is_simple_usage = refl

@@ -8,7 +8,7 @@ use Rattle.clap.specs.declared.builder.command.Command.{Command}
 use Rattle.clap.specs.declared.builder.command.Command.TheViews.{out-Command as fields_of}
 use Rattle.words_core.specs.Tables.{argument_rule, shape_told}
 use Rattle.words_core.specs.Usage.{AddsRules, HasUsage, IsArgument, IsBegun, program_shape, program_usage, subcommand_shapes, with_rules}
-use Rattle.words_core.specs.declared.usage.Argument.{Argument}
+use Rattle.words_core.specs.declared.usage.arguments.Argument.{Argument}
 use Rattle.words_core.specs.declared.usage.Subcommand.{Subcommand}
 
 or_false : (b : Bool) → (b || false) ≡ b

@@ -1,21 +1,23 @@
 -- The number that a text spells at a scale, and the distance.
-use Rattle.std.specs.Prelude.{◌≡◌, ℕ, ℤ, pos, List}
+use Rattle.std.specs.Prelude.{◌≡◌, ◌≤◌, ℕ, ℤ, pos, nat_abs, IsTrue, List}
 use Rattle.distance_core.specs.declared.distance.Distance.{Distance}
+use Rattle.distance_core.specs.Limits.{greatest_distance}
 use Rattle.distance_core.specs.Units.{units_of}
 use Rattle.number_core.specs.declared.scale.Scale.{Scale}
 use Rattle.number_core.specs.Numbers.{Number, Numeral}
-use Rattle.number_core.specs.Values.{IsGood, value}
+use Rattle.number_core.specs.Values.{is_whole, value}
 
--- the whole text is a number of the grammar, whole at the scale and in the range of coordinates,
--- with this value in units of the scale
+-- the whole text is a number of the grammar, whole at the scale, with this value in its units
 pub record SpellsNumber (scale : Scale) (text : List ℕ) (z : ℤ) : Type 0 where
   pub numeral : Numeral
   pub written : Number scale numeral text
-  pub good : IsGood scale numeral
+  pub whole : IsTrue (is_whole scale numeral)
   pub same : value scale numeral ≡ z
 
+-- the text spells no number from -d to d, where d is the greatest distance
 abbrev pub SpellsNoNumber : Scale → List ℕ → Type 0
-SpellsNoNumber scale text = (z : ℤ) → ¬ (SpellsNumber scale text z)
+SpellsNoNumber scale text =
+    (z : ℤ) → nat_abs z ≤ greatest_distance → ¬ (SpellsNumber scale text z)
 
 -- the text spells the number of the units of this distance
 abbrev pub SpellsDistance : Scale → List ℕ → Distance → Type 0

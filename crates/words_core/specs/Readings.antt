@@ -24,9 +24,11 @@ use Rattle.relation_core.specs.declared.relation.Relation.{Relation}
 use Rattle.number_core.specs.ScaleLimits.{most_digits}
 use Rattle.number_core.specs.Scales.{digits_of, rounding_of}
 use Rattle.number_core.specs.declared.scale.Rounding.{Rounding}
-use Rattle.number_core.specs.declared.scale.Rounding.TheVariants.{Exact, Nearest}
+use Rattle.number_core.specs.declared.scale.Rounding.TheVariants as rounding
 use Rattle.number_core.specs.declared.scale.Scale.{Scale}
+use Rattle.distance_core.specs.Queries.{most_of, within_of}
 use Rattle.distance_core.specs.declared.distance.Distance.{Distance}
+use Rattle.distance_core.specs.declared.query.Query.{Query}
 use Rattle.distance_core.specs.declared.nearness.Nearness.{Nearness}
 use Rattle.distance_core.specs.declared.nearness.Nearness.TheVariants.{Apart, Within}
 use Rattle.options_core.specs.Options.{workers_of, batch_of, cut_of, AreWorkers, IsBatch, IsCut}
@@ -44,12 +46,13 @@ use Rattle.words_core.specs.declared.condition.Condition.{Condition}
 use Rattle.words_core.specs.declared.condition.Geometries.{Geometries}
 use Rattle.words_core.specs.declared.condition.Geometries.TheVariants.{Box, Any}
 use Rattle.words_core.specs.declared.words.Command.{Command}
-use Rattle.words_core.specs.declared.words.Command.TheVariants.{Relate, Join, Near, Window}
-use Rattle.words_core.specs.declared.words.Command.TheVariants.{Stats, Bounds}
+use Rattle.words_core.specs.declared.words.Command.TheVariants.{Relate, Join, Near, Nearest}
+use Rattle.words_core.specs.declared.words.Command.TheVariants.{Window, Stats, Bounds}
 use Rattle.words_core.specs.declared.words.JoinRequest.{JoinRequest}
 use Rattle.words_core.specs.declared.words.LayerPaths.{LayerPaths}
 use Rattle.words_core.specs.declared.words.LayerRequest.{LayerRequest}
 use Rattle.words_core.specs.declared.words.NearRequest.{NearRequest}
+use Rattle.words_core.specs.declared.words.NearestRequest.{NearestRequest}
 use Rattle.words_core.specs.declared.words.RelateRequest.{RelateRequest}
 use Rattle.words_core.specs.declared.words.WordFault.{WordFault}
 use Rattle.words_core.specs.declared.words.WordFault.TheVariants as fault
@@ -77,12 +80,17 @@ abbrev pub share_input : Text → Text → Option Text → Bool
 share_input left right edits = (is_dash left && is_dash right)
     || ((is_dash left || is_dash right) && option_map_or is_dash edits false)
 
+-- the list of skipped rows would be written to standard output or over a file of the join
+abbrev pub is_taken : Text → Text → Option Text → Option Text → Bool
+is_taken left right edits skip = option_map_or (λ path. is_dash path || bytes_eq path left
+    || bytes_eq path right || option_map_or (bytes_eq path) edits false) skip false
+
 -- ---- commands
 
 -- numbers are rounded where `--round` is given
 abbrev pub IsRoundingIn : List Row → Rounding → Type 0
-IsRoundingIn rows Nearest = first_of (codes "round") rows ≡ Some (codes "true")
-IsRoundingIn rows Exact = first_of (codes "round") rows ≢ Some (codes "true")
+IsRoundingIn rows rounding.Nearest = first_of (codes "round") rows ≡ Some (codes "true")
+IsRoundingIn rows rounding.Exact = first_of (codes "round") rows ≢ Some (codes "true")
 
 pub record IsScaleIn (rows : List Row) (scale : Scale) : Type 0 where
   pub digits : number_at (codes "scale") rows ≡ Some (digits_of scale)
@@ -137,12 +145,16 @@ pub record IsConditionIn (rows : List Row) (relation : Relation) (condition : Co
 abbrev pub text_in : Option (Bor Text) → Option Text
 text_in = option_map (λ text. text.now)
 
--- the paths of the files of a join, of which at most one is standard input
+-- the paths of the files of a join, of which at most one is standard input, and of the list of
+-- skipped rows, which is another file
 pub record ArePathsIn (rows : List Row) (paths : LayerPaths) : Type 0 where
   pub left : first_of (codes "LEFT") rows ≡ Some paths.left.now
   pub right : first_of (codes "RIGHT") rows ≡ Some paths.right.now
   pub edits : first_of (codes "edits") rows ≡ text_in paths.edits
   pub one_input : share_input paths.left.now paths.right.now (text_in paths.edits) ≡ false
+  pub skip : first_of (codes "skip") rows ≡ text_in paths.skip
+  pub free : is_taken paths.left.now paths.right.now (text_in paths.edits) (text_in paths.skip)
+      ≡ false
 
 pub record IsJoinIn (rows : List Row) (join : JoinRequest) : Type 0 where
   pub paths : ArePathsIn rows join.paths
@@ -167,6 +179,20 @@ pub record IsNearIn (rows : List Row) (near : NearRequest) : Type 0 where
   pub nearness : IsNearnessIn rows near.nearness
   pub options : AreOptionsIn rows near.options
   pub scale : IsScaleIn rows near.scale
+  pub geometries : AreGeometriesIn rows near.geometries
+
+-- the word of `--distance`, if one is given, spells this distance at the scale
+abbrev pub IsReachIn : List Row → Scale → Option Distance → Type 0
+IsReachIn rows scale None = first_of (codes "distance") rows ≡ None
+IsReachIn rows scale (Some distance) = IsDistanceIn rows scale distance
+
+pub record IsNearestIn (rows : List Row) (nearest : NearestRequest) : Type 0 where
+  pub paths : ArePathsIn rows nearest.paths
+  pub most : number_at (codes "most") rows ≡ Some (most_of nearest.query)
+  pub reach : IsReachIn rows nearest.scale (within_of nearest.query)
+  pub options : AreOptionsIn rows nearest.options
+  pub scale : IsScaleIn rows nearest.scale
+  pub geometries : AreGeometriesIn rows nearest.geometries
 
 -- ---- faults
 
@@ -305,11 +331,20 @@ abbrev pub NeedsOneInput : Text → Text → Option Text → WordFault → Type 
 NeedsOneInput left right edits f Then =
     MatchBool (share_input left right edits) (Says shared_text f) Then
 
--- a fault of the paths of two layers and of their edits, or the consequence if they have none
+abbrev pub taken_text : Text
+taken_text = codes "error: --skip needs a file of its own\n"
+
+abbrev pub NeedsFree : Text → Text → Option Text → Option Text → WordFault → Type 0 → Type 0
+NeedsFree left right edits skip f Then =
+    MatchBool (is_taken left right edits skip) (Says taken_text f) Then
+
+-- a fault of the paths of two layers, of their edits and of the list of skipped rows, or the
+-- consequence if they have none
 abbrev pub NeedsPaths : List Row → WordFault → Type 0 → Type 0
 NeedsPaths rows f Then =
     NeedsText (codes "LEFT") rows f (λ left. NeedsText (codes "RIGHT") rows f (λ right.
-    NeedsOneInput left right (first_of (codes "edits") rows) f Then))
+    NeedsOneInput left right (first_of (codes "edits") rows) f
+    (NeedsFree left right (first_of (codes "edits") rows) (first_of (codes "skip") rows) f Then)))
 
 abbrev pub HasJoinFault : List Row → WordFault → Type 0
 HasJoinFault rows f =
@@ -320,9 +355,44 @@ abbrev pub HasDistanceFault : List Row → Scale → WordFault → Type 0
 HasDistanceFault rows scale f = NeedsText (codes "distance") rows f (λ word.
     (f ≡ fault.Distance) × SpellsNoDistance scale word)
 
+-- a fault of the distance, or else of the kind of geometries
+abbrev pub HasLastNearFault : List Row → Scale → WordFault → Type 0
+HasLastNearFault rows scale f = HasDistanceFault rows scale f
+    ⊎ ((distance : Distance) × IsDistanceIn rows scale distance × HasGeometryFault rows f)
+
 abbrev pub HasNearFault : List Row → WordFault → Type 0
 HasNearFault rows f = NeedsPaths rows f (NeedsOptions rows f (NeedsScale rows f
-    ((scale : Scale) × IsScaleIn rows scale × HasDistanceFault rows scale f)))
+    ((scale : Scale) × IsScaleIn rows scale × HasLastNearFault rows scale f)))
+
+-- the word, if one is given, spells no distance at the scale
+abbrev pub IsNoReach : Option Text → Scale → Type 0
+IsNoReach None scale = ⊥
+IsNoReach (Some word) scale = SpellsNoDistance scale word
+
+-- the fault of the word of `--distance`, if one is given, or the consequence if it has none
+abbrev pub NeedsReach : List Row → Scale → WordFault → Type 0 → Type 0
+NeedsReach rows scale f Then =
+    (IsNoReach (first_of (codes "distance") rows) scale × (f ≡ fault.Distance))
+    ⊎ (((within : Option Distance) × IsReachIn rows scale within) × Then)
+
+-- a fault of the distance, or else that no features are sought
+abbrev pub HasQueryFault : List Row → Scale → WordFault → Type 0
+HasQueryFault rows scale f = NeedsReach rows scale f
+    (NeedsNumber (codes "most") rows f (λ most. (most ≡ 0) × (f ≡ fault.Most)))
+
+-- the number of features that are sought, and the distance, if one is given
+pub record IsQueryIn (rows : List Row) (scale : Scale) (query : Query) : Type 0 where
+  pub most : number_at (codes "most") rows ≡ Some (most_of query)
+  pub reach : IsReachIn rows scale (within_of query)
+
+-- a fault of these, or else of the kind of geometries
+abbrev pub HasLastNearestFault : List Row → Scale → WordFault → Type 0
+HasLastNearestFault rows scale f = HasQueryFault rows scale f
+    ⊎ ((query : Query) × IsQueryIn rows scale query × HasGeometryFault rows f)
+
+abbrev pub HasNearestFault : List Row → WordFault → Type 0
+HasNearestFault rows f = NeedsPaths rows f (NeedsOptions rows f (NeedsScale rows f
+    ((scale : Scale) × IsScaleIn rows scale × HasLastNearestFault rows scale f)))
 
 -- ---- the words
 
@@ -340,6 +410,7 @@ abbrev pub IsCommandIn : Text → List Row → Command → Type 0
 IsCommandIn name rows (Relate request) = (name ≡ codes "relate") × IsRelateIn rows request
 IsCommandIn name rows (Join join) = (name ≡ name_of join.product) × IsJoinIn rows join
 IsCommandIn name rows (Near near) = (name ≡ codes "near") × IsNearIn rows near
+IsCommandIn name rows (Nearest nearest) = (name ≡ codes "nearest") × IsNearestIn rows nearest
 IsCommandIn name rows (Window layer wkt) = (name ≡ codes "window")
     × (first_of (codes "WKT") rows ≡ Some wkt.now) × IsLayerIn rows layer
 IsCommandIn name rows (Stats layer) = (name ≡ codes "stats") × IsLayerIn rows layer
@@ -350,12 +421,13 @@ pub data HasCommandFault (rows : List Row) (f : WordFault) : Text → Type 0 whe
   of_relate : HasRelateFault rows f → HasCommandFault rows f (codes "relate")
   of_join : (product : Product) → HasJoinFault rows f → HasCommandFault rows f (name_of product)
   of_near : HasNearFault rows f → HasCommandFault rows f (codes "near")
+  of_nearest : HasNearestFault rows f → HasCommandFault rows f (codes "nearest")
   of_window : HasWindowFault rows f → HasCommandFault rows f (codes "window")
   of_stats : HasLayerFault rows f → HasCommandFault rows f (codes "stats")
   of_bounds : HasLayerFault rows f → HasCommandFault rows f (codes "bounds")
   of_none : (name : Text) → name ≢ codes "relate" → name ≢ codes "join" → name ≢ codes "near"
-      → name ≢ codes "draw" → name ≢ codes "window" → name ≢ codes "stats"
-      → name ≢ codes "bounds"
+      → name ≢ codes "nearest" → name ≢ codes "draw" → name ≢ codes "window"
+      → name ≢ codes "stats" → name ≢ codes "bounds"
       → Says (missing_text (codes "COMMAND")) f → HasCommandFault rows f name
 
 -- the matches of some command are this command

@@ -29,12 +29,19 @@ scale_rule = numeric_rule (codes "scale") (codes "0")
 abbrev pub required_rule : Text → Rule
 required_rule name = record (new_rule name) { long = Some name; required = true }
 
+-- `--name`, a text
+abbrev pub optional_rule : Text → Rule
+optional_rule name = record (new_rule name) { long = Some name }
+
 -- `--name`, which takes no value
 abbrev pub flag_rule : Text → Rule
 flag_rule name = record (new_rule name) { long = Some name; action = Some SetTrue }
 
 abbrev pub edits_rule : Rule
-edits_rule = record (new_rule (codes "edits")) { long = Some (codes "edits") }
+edits_rule = optional_rule (codes "edits")
+
+abbrev pub skip_rule : Rule
+skip_rule = optional_rule (codes "skip")
 
 -- `--geometry`, which is `box` by default
 abbrev pub geometry_rule : Rule
@@ -44,7 +51,7 @@ geometry_rule = record (new_rule (codes "geometry")) {
 }
 
 abbrev pub rings_rule : Rule
-rings_rule = record (new_rule (codes "rings")) { long = Some (codes "rings") }
+rings_rule = optional_rule (codes "rings")
 
 -- the rules of how numbers are written, which all commands have
 abbrev pub number_rules : List Rule
@@ -60,11 +67,16 @@ abbrev pub layer_rules : List Rule
 layer_rules = positional_rule (codes "LEFT") ∷ positional_rule (codes "RIGHT") ∷ []
 
 abbrev pub edit_rules : List Rule
-edit_rules = required_rule (codes "relation") ∷ edits_rule ∷ []
+edit_rules = required_rule (codes "relation") ∷ edits_rule ∷ skip_rule ∷ []
 
 abbrev pub distance_rules : List Rule
 distance_rules =
-    required_rule (codes "distance") ∷ flag_rule (codes "apart") ∷ edits_rule ∷ []
+    required_rule (codes "distance") ∷ flag_rule (codes "apart") ∷ edits_rule ∷ skip_rule ∷ []
+
+abbrev pub query_rules : List Rule
+query_rules =
+    numeric_rule (codes "most") (codes "1") ∷ optional_rule (codes "distance") ∷ edits_rule
+    ∷ skip_rule ∷ []
 
 abbrev pub option_rules : List Rule
 option_rules =
@@ -75,7 +87,10 @@ abbrev pub join_rules : List Rule
 join_rules = layer_rules ++ edit_rules ++ option_rules ++ format_rules
 
 abbrev pub near_rules : List Rule
-near_rules = layer_rules ++ distance_rules ++ option_rules ++ number_rules
+near_rules = layer_rules ++ distance_rules ++ option_rules ++ format_rules
+
+abbrev pub nearest_rules : List Rule
+nearest_rules = layer_rules ++ query_rules ++ option_rules ++ format_rules
 
 abbrev pub relate_rules : List Rule
 relate_rules = positional_rule (codes "A") ∷ positional_rule (codes "B") ∷ format_rules
@@ -95,6 +110,7 @@ subcommand_shapes =
     subcommand_shape (codes "relate") relate_rules
     ∷ subcommand_shape (codes "join") join_rules
     ∷ subcommand_shape (codes "near") near_rules
+    ∷ subcommand_shape (codes "nearest") nearest_rules
     ∷ subcommand_shape (codes "draw") join_rules
     ∷ subcommand_shape (codes "window") window_rules
     ∷ subcommand_shape (codes "stats") layer_only_rules
@@ -126,6 +142,10 @@ join_about = codes "Writes the pairs of features of two layers that stand in a r
 
 abbrev pub near_about : Text
 near_about = codes "Writes the pairs of features of two layers that are at most a distance apart"
+
+abbrev pub nearest_about : Text
+nearest_about =
+    codes "Writes for each feature of a layer the nearest ones of another, with distances"
 
 abbrev pub draw_about : Text
 draw_about =

@@ -74,6 +74,10 @@ in three rows of three: interior, boundary and exterior of the left one, each wi
 boundary and exterior of the right one. F means that the two share nothing, and 0, 1 or 2 that they
 share points, lines or areas. Neither --workers nor --batch nor --cut changes the report.
 
+A row whose geometry can't be read is a fault of its file. With --skip FILE such rows are left out:
+FILE then lists them as CSV, side,row,id,fault, and a line on standard error counts them. FILE is
+written before the report, whole or not at all, and replaces what is there.
+
 Exit status: 0 for success, 1 for a fault of a file, output, memory, threads or hashing keys, 2 for
 invalid arguments";
 
@@ -84,17 +88,23 @@ A layer is a CSV file such as             Edits are a CSV file such as
 
 The path - stands for standard input, for at most one of the files.
 
-Geometries are points, segments along an axis and rectangles.
+Geometries are points, segments along an axis and rectangles. With --geometry any they are points,
+polylines and polygons of any direction, and MULTI forms; rings that cross or run along each other
+are refused, and --rings even-odd accepts any closed rings, as rjoin relate --help describes.
 
 The distance of two features is the least distance of a point of the left one and a point of the
 right one, and 0 if they share a point. The report has the pairs whose distance is at most that of
 --distance, which is decided exactly, and with --apart only those that share no point.
 
 The number after --distance is read as a coordinate is, with --scale and --round, and is 0 to
-1000000000000 units of the last decimal.
+4000000000000 units of the last decimal.
 
 The report is CSV: left,right,distance, and for each pair the two ids and the distance, rounded to
 the nearest unit of the last decimal. Neither --workers nor --batch nor --cut changes the report.
+
+A row whose geometry can't be read is a fault of its file. With --skip FILE such rows are left out:
+FILE then lists them as CSV, side,row,id,fault, and a line on standard error counts them. FILE is
+written before the report, whole or not at all, and replaces what is there.
 
 For example,
   rjoin near data/stations.csv data/roads.csv --distance 5 --apart
@@ -108,9 +118,50 @@ writes
 Exit status: 0 for success, 1 for a fault of a file, output, memory, threads or hashing keys, 2 for
 invalid arguments";
 
+pub(crate) const NEAREST: &str = "\
+A layer is a CSV file such as             Edits are a CSV file such as
+  id,wkt                                    op,layer,id,wkt
+  mill,\"LINESTRING (10 0, 10 10)\"           insert,left,inn,POINT (4 4)
+
+The path - stands for standard input, for at most one of the files.
+
+Geometries are points, segments along an axis and rectangles. With --geometry any they are points,
+polylines and polygons of any direction, and MULTI forms; rings that cross or run along each other
+are refused, and --rings even-odd accepts any closed rings, as rjoin relate --help describes.
+
+The distance of two features is the least distance of a point of the left one and a point of the
+right one, and 0 if they share a point. For each left feature the report has as many of the nearest
+right ones as --most says, and all that are as far away as the last of these; with --distance only
+those that are at most so far away. Distances are compared exactly.
+
+The number after --distance is read as a coordinate is, with --scale and --round, and is 0 to
+4000000000000 units of the last decimal.
+
+The report is CSV: left,right,distance, and for each pair the two ids and the distance, rounded to
+the nearest unit of the last decimal. It is in the order of the left file, then by distance, then in
+the order of the right file. Neither --workers nor --batch nor --cut changes the report.
+
+A row whose geometry can't be read is a fault of its file. With --skip FILE such rows are left out:
+FILE then lists them as CSV, side,row,id,fault, and a line on standard error counts them. FILE is
+written before the report, whole or not at all, and replaces what is there.
+
+For example,
+  rjoin nearest data/stations.csv data/roads.csv --most 2
+writes
+  left,right,distance
+  mill,mill lane,0
+  mill,church path,5
+  church,church path,0
+  church,mill lane,5
+  junction,high street,0
+  junction,church path,1
+
+Exit status: 0 for success, 1 for a fault of a file, output, memory, threads or hashing keys, 2 for
+invalid arguments";
+
 pub(crate) const DRAW: &str = "\
-The layers are read, edited and joined as by rjoin join; its --help describes files, geometries and
-relations.
+The layers are read, edited and joined as by rjoin join; its --help describes files, geometries,
+relations and --skip.
 
 The picture is SVG 1.1, which browsers show: the second axis upwards, left features in blue and
 right ones in orange, those that occur in a pair highlighted by stronger lines and fills, each with

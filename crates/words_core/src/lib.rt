@@ -13,6 +13,6 @@ mod words;
 pub use condition::{Condition, Geometries};
 pub use standard_input::is_standard_input;
 pub use words::{
-    Command, JoinRequest, LayerPaths, LayerRequest, NearRequest, RelateRequest, WordFault,
-    read_words,
+    Command, JoinRequest, LayerPaths, LayerRequest, NearRequest, NearestRequest, RelateRequest,
+    WordFault, read_words,
 };

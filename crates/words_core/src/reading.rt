@@ -5,6 +5,7 @@ mod distance;
 mod geometries;
 mod join;
 mod near;
+mod nearest;
 mod options;
 mod paths;
 mod relation;
@@ -21,6 +22,7 @@ use clap::ArgMatches;
 use geometries::{read_geometries, read_scale};
 use join::read_join;
 use near::read_near;
+use nearest::read_nearest;
 use options_core::Product;
 use std::alloc::Global;
 
@@ -50,6 +52,7 @@ fn read_named<'a>(
         "relate" => read_relate(alloc, given),
         "join" => read_join(alloc, given, Product::Report),
         "near" => read_near(alloc, given),
+        "nearest" => read_nearest(alloc, given),
         "draw" => read_join(alloc, given, Product::Picture),
         "window" => read_window(alloc, given),
         "stats" => read_stats(alloc, given),

@@ -9,7 +9,7 @@ use crate::condition::{Condition, Geometries};
 use crate::reading::read_command;
 use crate::usage::usage;
 use clap::error::ErrorKind;
-use distance_core::{Distance, Nearness};
+use distance_core::{Distance, Nearness, Query};
 use number_core::Scale;
 use options_core::{OptionFault, Options, Product};
 use relation_core::{AllowsDisjoint, MaskFault};
@@ -31,6 +31,9 @@ pub struct LayerPaths<'a> {
     pub left: &'a str,
     pub right: &'a str,
     pub edits: Option<&'a str>,
+    /// The path at which the rows whose geometry can't be read are listed; without one, such a row
+    /// is a fault.
+    pub skip: Option<&'a str>,
 }
 
 /// Two layers to join after edits, how to read and join them, and what to write.
@@ -52,6 +55,19 @@ pub struct NearRequest<'a> {
     pub nearness: Nearness,
     pub options: Options,
     pub scale: Scale,
+    pub geometries: Geometries,
+}
+
+/// Two layers, how to read them after edits, and which features of the second are sought for each
+/// of the first.
+#[derive(Clone, Copy, Debug, PartialEq, Eq)]
+pub struct NearestRequest<'a> {
+    pub paths: LayerPaths<'a>,
+    /// Its distance is in units of the scale.
+    pub query: Query,
+    pub options: Options,
+    pub scale: Scale,
+    pub geometries: Geometries,
 }
 
 /// A layer, and how to read it.
@@ -73,6 +89,9 @@ pub enum Command<'a> {
     /// Write the pairs of features of two layers that are at most a distance apart, with their
     /// distances.
     Near(NearRequest<'a>),
+    /// Write for each feature of a layer those of another that are nearest to it, with their
+    /// distances.
+    Nearest(NearestRequest<'a>),
     /// Write the ids of a layer's features that meet the geometry of a text.
     Window {
         layer: LayerRequest<'a>,
@@ -103,8 +122,11 @@ pub enum WordFault {
     #[error("--scale must be 0 to 6")]
     Scale,
     /// The distance is no number of the scale, or out of range.
-    #[error("--distance must be a number of the scale, 0 to 1000000000000 units")]
+    #[error("--distance must be a number of the scale, 0 to 4000000000000 units")]
     Distance,
+    /// The number of nearest features is 0.
+    #[error("--most must be 1 to 4294967295")]
+    Most,
     /// The word of `--geometry` is neither `box` nor `any`.
     #[error("--geometry must be box or any")]
     Geometry,

@@ -123,6 +123,7 @@ fn joins(rt: HostRuntime) -> Result<(), Fail> {
                 left: "l.csv",
                 right: "q.csv",
                 edits: None,
+                skip: None,
             },
             condition,
             options,

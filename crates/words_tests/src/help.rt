@@ -1,7 +1,8 @@
 //! The help on commands and inputs, and the version.
 
 use crate::help_texts::{
-    OF_BOUNDS, OF_DRAW, OF_JOIN, OF_NEAR, OF_RELATE, OF_STATS, OF_THE_PROGRAM, OF_WINDOW,
+    OF_BOUNDS, OF_DRAW, OF_JOIN, OF_NEAR, OF_NEAREST, OF_RELATE, OF_STATS, OF_THE_PROGRAM,
+    OF_WINDOW,
 };
 use crate::words::parted;
 use std::alloc::Global;
@@ -16,6 +17,7 @@ const HELP: &[(&str, &str)] = &[
     ("rjoin|relate|--help", OF_RELATE),
     ("rjoin|join|--help", OF_JOIN),
     ("rjoin|near|--help", OF_NEAR),
+    ("rjoin|nearest|--help", OF_NEAREST),
     ("rjoin|draw|--help", OF_DRAW),
     ("rjoin|help|draw", OF_DRAW),
     ("rjoin|window|--help", OF_WINDOW),

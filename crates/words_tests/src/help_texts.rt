@@ -6,14 +6,15 @@ Joins two layers of geometries by a spatial relation
 Usage: rjoin <COMMAND>
 
 Commands:
-  relate  Writes the DE-9IM matrix of two geometries
-  join    Writes the pairs of features of two layers that stand in a relation
-  near    Writes the pairs of features of two layers that are at most a distance apart
-  draw    Writes a picture of two layers and of the pairs that stand in a relation, as SVG
-  window  Writes the ids of the features of a layer that meet a geometry
-  stats   Counts the features of a layer by kind, and the levels of its tree
-  bounds  Writes the corners of the features of a layer
-  help    Print this message or the help of the given subcommand(s)
+  relate   Writes the DE-9IM matrix of two geometries
+  join     Writes the pairs of features of two layers that stand in a relation
+  near     Writes the pairs of features of two layers that are at most a distance apart
+  nearest  Writes for each feature of a layer the nearest ones of another, with distances
+  draw     Writes a picture of two layers and of the pairs that stand in a relation, as SVG
+  window   Writes the ids of the features of a layer that meet a geometry
+  stats    Counts the features of a layer by kind, and the levels of its tree
+  bounds   Writes the corners of the features of a layer
+  help     Print this message or the help of the given subcommand(s)
 
 Options:
   -h, --help     Print help
@@ -87,6 +88,7 @@ Arguments:
 Options:
       --relation <relation>  Name of a relation, or mask of nine letters
       --edits <edits>        CSV file of edits, which are applied before the join
+      --skip <skip>          CSV file for rows whose geometry can't be read, which are left out
       --workers <workers>    Number of threads, 1 to 16 [default: 4]
       --batch <batch>        Pairs per batch, 1 to 4096 [default: 256]
       --cut <cut>            Rounds of cutting the trees into tasks, 0 to 8 [default: 2]
@@ -129,6 +131,10 @@ in three rows of three: interior, boundary and exterior of the left one, each wi
 boundary and exterior of the right one. F means that the two share nothing, and 0, 1 or 2 that they
 share points, lines or areas. Neither --workers nor --batch nor --cut changes the report.
 
+A row whose geometry can't be read is a fault of its file. With --skip FILE such rows are left out:
+FILE then lists them as CSV, side,row,id,fault, and a line on standard error counts them. FILE is
+written before the report, whole or not at all, and replaces what is there.
+
 Exit status: 0 for success, 1 for a fault of a file, output, memory, threads or hashing keys, 2 for
 invalid arguments
 ";
@@ -146,11 +152,14 @@ Options:
       --distance <distance>  Greatest distance of a pair, read as a coordinate is
       --apart                Leave out pairs that share a point
       --edits <edits>        CSV file of edits, which are applied before the join
+      --skip <skip>          CSV file for rows whose geometry can't be read, which are left out
       --workers <workers>    Number of threads, 1 to 16 [default: 4]
       --batch <batch>        Pairs per batch, 1 to 4096 [default: 256]
       --cut <cut>            Rounds of cutting the trees into tasks, 0 to 8 [default: 2]
       --scale <scale>        Decimals that a coordinate may have, 0 to 6 [default: 0]
       --round                Read each number as the nearest one of these decimals
+      --geometry <geometry>  Kind of the geometries, box or any [default: box]
+      --rings <rings>        Rings that --geometry any accepts, proper (the default) or even-odd
   -h, --help                 Print help
 
 A layer is a CSV file such as             Edits are a CSV file such as
@@ -159,17 +168,23 @@ A layer is a CSV file such as             Edits are a CSV file such as
 
 The path - stands for standard input, for at most one of the files.
 
-Geometries are points, segments along an axis and rectangles.
+Geometries are points, segments along an axis and rectangles. With --geometry any they are points,
+polylines and polygons of any direction, and MULTI forms; rings that cross or run along each other
+are refused, and --rings even-odd accepts any closed rings, as rjoin relate --help describes.
 
 The distance of two features is the least distance of a point of the left one and a point of the
 right one, and 0 if they share a point. The report has the pairs whose distance is at most that of
 --distance, which is decided exactly, and with --apart only those that share no point.
 
 The number after --distance is read as a coordinate is, with --scale and --round, and is 0 to
-1000000000000 units of the last decimal.
+4000000000000 units of the last decimal.
 
 The report is CSV: left,right,distance, and for each pair the two ids and the distance, rounded to
 the nearest unit of the last decimal. Neither --workers nor --batch nor --cut changes the report.
+
+A row whose geometry can't be read is a fault of its file. With --skip FILE such rows are left out:
+FILE then lists them as CSV, side,row,id,fault, and a line on standard error counts them. FILE is
+written before the report, whole or not at all, and replaces what is there.
 
 For example,
   rjoin near data/stations.csv data/roads.csv --distance 5 --apart
@@ -179,6 +194,70 @@ writes
   church,mill lane,5
   junction,church path,1
   junction,north road,5
+
+Exit status: 0 for success, 1 for a fault of a file, output, memory, threads or hashing keys, 2 for
+invalid arguments
+";
+
+pub(crate) const OF_NEAREST: &str = "\
+Writes for each feature of a layer the nearest ones of another, with distances
+
+Usage: rjoin nearest [OPTIONS] <LEFT> <RIGHT>
+
+Arguments:
+  <LEFT>   CSV file of the left layer
+  <RIGHT>  CSV file of the right layer
+
+Options:
+      --most <most>          Number of nearest features sought for each left one [default: 1]
+      --distance <distance>  Greatest distance of a pair, read as a coordinate is
+      --edits <edits>        CSV file of edits, which are applied before the join
+      --skip <skip>          CSV file for rows whose geometry can't be read, which are left out
+      --workers <workers>    Number of threads, 1 to 16 [default: 4]
+      --batch <batch>        Pairs per batch, 1 to 4096 [default: 256]
+      --cut <cut>            Rounds of cutting the trees into tasks, 0 to 8 [default: 2]
+      --scale <scale>        Decimals that a coordinate may have, 0 to 6 [default: 0]
+      --round                Read each number as the nearest one of these decimals
+      --geometry <geometry>  Kind of the geometries, box or any [default: box]
+      --rings <rings>        Rings that --geometry any accepts, proper (the default) or even-odd
+  -h, --help                 Print help
+
+A layer is a CSV file such as             Edits are a CSV file such as
+  id,wkt                                    op,layer,id,wkt
+  mill,\"LINESTRING (10 0, 10 10)\"           insert,left,inn,POINT (4 4)
+
+The path - stands for standard input, for at most one of the files.
+
+Geometries are points, segments along an axis and rectangles. With --geometry any they are points,
+polylines and polygons of any direction, and MULTI forms; rings that cross or run along each other
+are refused, and --rings even-odd accepts any closed rings, as rjoin relate --help describes.
+
+The distance of two features is the least distance of a point of the left one and a point of the
+right one, and 0 if they share a point. For each left feature the report has as many of the nearest
+right ones as --most says, and all that are as far away as the last of these; with --distance only
+those that are at most so far away. Distances are compared exactly.
+
+The number after --distance is read as a coordinate is, with --scale and --round, and is 0 to
+4000000000000 units of the last decimal.
+
+The report is CSV: left,right,distance, and for each pair the two ids and the distance, rounded to
+the nearest unit of the last decimal. It is in the order of the left file, then by distance, then in
+the order of the right file. Neither --workers nor --batch nor --cut changes the report.
+
+A row whose geometry can't be read is a fault of its file. With --skip FILE such rows are left out:
+FILE then lists them as CSV, side,row,id,fault, and a line on standard error counts them. FILE is
+written before the report, whole or not at all, and replaces what is there.
+
+For example,
+  rjoin nearest data/stations.csv data/roads.csv --most 2
+writes
+  left,right,distance
+  mill,mill lane,0
+  mill,church path,5
+  church,church path,0
+  church,mill lane,5
+  junction,high street,0
+  junction,church path,1
 
 Exit status: 0 for success, 1 for a fault of a file, output, memory, threads or hashing keys, 2 for
 invalid arguments
@@ -196,6 +275,7 @@ Arguments:
 Options:
       --relation <relation>  Name of a relation, or mask of nine letters
       --edits <edits>        CSV file of edits, which are applied before the join
+      --skip <skip>          CSV file for rows whose geometry can't be read, which are left out
       --workers <workers>    Number of threads, 1 to 16 [default: 4]
       --batch <batch>        Pairs per batch, 1 to 4096 [default: 256]
       --cut <cut>            Rounds of cutting the trees into tasks, 0 to 8 [default: 2]
@@ -205,8 +285,8 @@ Options:
       --rings <rings>        Rings that --geometry any accepts, proper (the default) or even-odd
   -h, --help                 Print help
 
-The layers are read, edited and joined as by rjoin join; its --help describes files, geometries and
-relations.
+The layers are read, edited and joined as by rjoin join; its --help describes files, geometries,
+relations and --skip.
 
 The picture is SVG 1.1, which browsers show: the second axis upwards, left features in blue and
 right ones in orange, those that occur in a pair highlighted by stronger lines and fills, each with

@@ -1,4 +1,5 @@
-//! Tests of the words of the command line, from outside: commands, conditions, distances, faults and help.
+//! Tests of the words of the command line, from outside: commands, conditions, distances, faults
+//! and help.
 #![tactic(auto)]
 
 #[cfg(test)]
@@ -10,6 +11,10 @@ mod help_texts;
 #[cfg(test)]
 mod near_words;
 #[cfg(test)]
+mod nearest_words;
+#[cfg(test)]
 mod refused;
+#[cfg(test)]
+mod skip_words;
 #[cfg(test)]
 mod words;

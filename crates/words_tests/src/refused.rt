@@ -14,7 +14,12 @@ const WORDS: &[(&str, &str)] = &[
     ("rjoin|near|l.csv|q.csv|--distance|5|--apart", ""),
     (
         "rjoin|near|l.csv|q.csv|--distance|far",
-        "--distance must be a number of the scale, 0 to 1000000000000 units",
+        "--distance must be a number of the scale, 0 to 4000000000000 units",
+    ),
+    ("rjoin|nearest|l.csv|q.csv|--most|3|--distance|5", ""),
+    (
+        "rjoin|nearest|l.csv|q.csv|--most|0",
+        "--most must be 1 to 4294967295",
     ),
     (
         "rjoin|join|l.csv|q.csv|--relation|disjoint|--geometry|any",

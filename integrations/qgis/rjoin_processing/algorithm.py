@@ -1,4 +1,4 @@
-"""What the three algorithms share: common parameters, the output of features left out, a run."""
+"""The base of all algorithms: common parameters, the output of features left out, a run."""
 from __future__ import annotations
 
 import tempfile

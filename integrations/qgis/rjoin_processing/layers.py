@@ -22,6 +22,8 @@ from .boxes import Box, NotABox, box_of
 from .shapes import Form, NotRead, shape_of
 from .wkb import Kind
 
+# How rjoin reads layers that have other geometries than boxes.
+SHAPES = ("--geometry", "any", "--rings", "even-odd")
 CHECK_EVERY = 1000
 NUMBERS_A_BOX = 4
 MOST_NAMED = 5
@@ -210,7 +212,7 @@ def format_words(layers: Sequence[Layer], decimals: int) -> List[str]:
     """The words of rjoin that say how it reads the files of the layers."""
     words = ["--scale", str(decimals), "--round"]
     if any(layer.has_shapes for layer in layers):
-        words += ["--geometry", "any", "--rings", "even-odd"]
+        words += SHAPES
     return words
 
 

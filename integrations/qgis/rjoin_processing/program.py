@@ -29,16 +29,14 @@ def find_program() -> str:
         raise ProgramError(str(fault)) from fault
 
 
-def check_relation(relation: str) -> None:
-    """Raises ProgramError where the program refuses the relation.
+def refusal(command: str, *words: str) -> str | None:
+    """The line by which the program refuses the words of a command on two layers, or None.
 
     Wrong words end with a status of their own before a file is opened, so empty files do for it.
     """
-    words = [find_program(), "join", os.devnull, os.devnull, f"--relation={relation}"]
-    ended = subprocess.run(words, stdin=subprocess.DEVNULL, capture_output=True, text=True,
-                           check=False)
-    if ended.returncode == WRONG_WORDS:
-        raise ProgramError(ended.stderr.strip())
+    ended = subprocess.run([find_program(), command, os.devnull, os.devnull, *words],
+                           stdin=subprocess.DEVNULL, capture_output=True, text=True, check=False)
+    return ended.stderr.strip() if ended.returncode == WRONG_WORDS else None
 
 
 def run(words: Sequence[str], output: Path, is_cancelled: Callable[[], bool]) -> None:

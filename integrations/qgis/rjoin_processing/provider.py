@@ -1,8 +1,9 @@
-"""The Processing provider with its three algorithms."""
+"""The Processing provider with its algorithms."""
 from __future__ import annotations
 
 from qgis.core import QgsProcessingProvider
 
+from .distance_algorithms import JoinNearest, JoinWithinDistance
 from .join_algorithm import JoinByRelation
 from .statistics_algorithm import LayerStatistics
 from .window_algorithm import FeaturesInWindow
@@ -21,5 +22,6 @@ class RjoinProvider(QgsProcessingProvider):
         return "rjoin: exact spatial joins"
 
     def loadAlgorithms(self) -> None:  # noqa: N802 - the name is QGIS's
-        for algorithm in (JoinByRelation, FeaturesInWindow, LayerStatistics):
+        for algorithm in (JoinByRelation, JoinWithinDistance, JoinNearest, FeaturesInWindow,
+                          LayerStatistics):
             self.addAlgorithm(algorithm())

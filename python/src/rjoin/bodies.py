@@ -36,7 +36,8 @@ class BoxBody:
 
     def dots(self, units: Units) -> Flags:
         """Which segments and rectangles are only a point."""
-        flat: Flags = (self.forms(units) > 0) & (units[:, :2] == units[:, 2:]).all(axis=1)
+        is_dot = (units[:, 0] == units[:, 2]) & (units[:, 1] == units[:, 3])
+        flat: Flags = (self.forms(units) > 0) & is_dot
         return flat
 
     def forms(self, units: Units) -> Units:
@@ -91,10 +92,11 @@ def shapes_of(boxes: Boxes) -> Optional[Outlines]:
     if not (boxes.status == Status.ANY).any():
         return None
     rows = np.flatnonzero(boxes.status <= Status.ANY)
-    shapes = outlines.outlines_of(boxes.binary, rows)
-    wrong = ~np.isfinite(shapes.points).all(axis=1)
-    if not wrong.any():
+    shapes = outlines.outlines_of(boxes.given, rows)
+    finite = np.isfinite(shapes.points)
+    if finite.all():
         return shapes
+    wrong = ~finite.all(axis=1)
     owners = np.repeat(rows, shapes.size)[wrong]
     boxes.status[owners] = Status.NOT_FINITE
     return shapes.chosen(boxes.status[rows] <= Status.ANY)

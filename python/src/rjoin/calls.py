@@ -16,7 +16,8 @@ an ImproperRingsWarning names the first one; `"proper"` refuses them.
 other: what happens to geometries of other types: `"error"` raises an InputError, `"skip"` leaves
 them out. With `"envelope"` all that are no point, axis-parallel segment or rectangle are replaced
 by their envelopes, and frames have a last column `exact`, which is False where a row rests on one.
-missing: what happens where a geometry is empty or not there: `"error"` or `"skip"`.
+missing: what happens where a geometry is empty or not there: `"error"` or `"skip"`, and for joins
+of frames `"keep"`, by which it is a row without a partner.
 What was left out is in no result; a LeftOutWarning tells of it, and `left_out` names each feature
 as a Notice. An EnvelopeWarning tells of envelopes, and `enveloped` names the features that they
 replace. These and `decimals` are in `attrs` of frames and series, and fields of Stats and Picture.
@@ -34,7 +35,6 @@ from rjoin.errors import ArgumentError, Notice
 from rjoin.picture import Picture
 
 if TYPE_CHECKING:
-    import geopandas
     import pandas
 
     from rjoin.joining import Reading
@@ -65,55 +65,6 @@ class Stats(NamedTuple):
     areas: int = 0
     vertices: Optional[int] = None
     decimals: Optional[int] = None
-
-
-def sjoin(left: "geopandas.GeoDataFrame", right: "geopandas.GeoDataFrame",
-          predicate: str = "intersects", how: str = "inner", *, scale: Optional[int] = None,
-          decimals: Decimals = None, rings: str = "even-odd", workers: Optional[int] = None,
-          lsuffix: str = "left", rsuffix: str = "right", matrix: bool = False,
-          other: str = "error", missing: str = "error",
-          incomplete: str = "error") -> "geopandas.GeoDataFrame":
-    """The left rows beside the fields of each right row that they stand in the relation to.
-
-    The columns and the index are those of geopandas.sjoin: the left columns, `index_right`, and the
-    right columns but for the geometry, with suffixes where both frames have a name. With `how`
-    as `"left"`, a left row without a partner is kept, with missing values. Rows come in the order
-    of the left frame and then of the right one. As there, a warning tells of two reference systems.
-
-    predicate: intersects, touches, crosses, within, contains, overlaps, equals, covers, covered_by,
-    contains_properly, or a DE-9IM mask.
-    workers: the program's threads, 1 to 16; 4 by default.
-    matrix: adds the column `matrix` with the nine letters of each pair.
-    incomplete: what a left join does where right features are left out, any of which may be the
-    partner of a left row without one: `"error"` raises an InputError, `"mark"` adds the column
-    `known`, which is False in these rows.
-    """
-    from rjoin import frames, joining
-    from rjoin.sources import Rules
-
-    reading = reading_of(predicate, scale, decimals, rings, workers)
-    suffixes = frames.Suffixes(lsuffix, rsuffix)
-    frames.check(left, right, how, suffixes, incomplete)
-    job = joining.job_of((("left", left), ("right", right)), reading, Rules(other, missing))
-    if how == "left" and incomplete == "error":
-        job.refuse_incomplete()
-    job.warn_of_crs(depth=1, unknown=True)
-    found = joining.joined(job, predicate, workers, matrix)
-    lefts, rights = job.positions(found)
-    if how == "left":
-        lefts, rights = frames.with_unmatched(lefts, rights, job.kept(0))
-    result = frames.joined(left, right, (lefts, rights), suffixes)
-    are_pairs = rights != frames.NOBODY
-    exact = None
-    if matrix:
-        frames.add_matrix(result, found["matrix"].to_numpy(), are_pairs)
-    if other == "envelope":
-        exact = job.are_exact(lefts, rights, predicate)
-        frames.add_column(result, "exact", exact)
-    if incomplete == "mark":
-        frames.add_column(result, "known", are_pairs | (not job.sources[1].left_out))
-    job.finish(result.attrs, depth=1, exact=exact)
-    return result
 
 
 def pairs(left: Any, right: Any, relation: str = "intersects", *, scale: Optional[int] = None,
@@ -211,13 +162,14 @@ def draw(left: Any, right: Any, relation: str = "intersects", *, scale: Optional
     return Picture(svg, **job.finish({}, depth=1))
 
 
-def reading_of(relation: str, scale: Optional[int], decimals: Decimals, rings: str,
+def reading_of(relation: Optional[str], scale: Optional[int], decimals: Decimals, rings: str,
                workers: Optional[int] = None, ids: str = "label") -> "Reading":
-    """How numbers and rings are read.
+    """How numbers and rings are read; without a relation, none is checked.
 
     Wrong arguments, and a missing program, are refused before a layer is looked at.
     """
-    relations.check(relation)
+    if relation is not None:
+        relations.check(relation)
     check_number("scale", scale, 0, MOST_DECIMALS)
     check_number("workers", workers, 1, MOST_WORKERS)
     if decimals != "auto":

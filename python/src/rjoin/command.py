@@ -3,17 +3,12 @@ from __future__ import annotations
 
 import argparse
 import csv
-import os
 import sys
-import tempfile
 import warnings
-from contextlib import contextmanager
-from itertools import count
 from pathlib import Path
-from typing import Any, Dict, Iterable, Iterator, List, Mapping, NamedTuple, Optional, Sequence
-from typing import TextIO, Tuple, Union
+from typing import Any, Iterator, List, NamedTuple, Optional, Sequence, TextIO, Tuple, Union
 
-from rjoin import signals
+from rjoin import outputs, signals
 from rjoin.errors import ArgumentError, EnvelopeWarning, LeftOutWarning, Notice, RjoinError
 from rjoin.found import VERSION
 
@@ -22,7 +17,6 @@ INTERRUPTED = 130
 COLUMNS = ("left", "right", "matrix", "exact", "geometry")
 # What is known to keep rows without geometries; FlatGeobuf drops them.
 TABLES = (".csv", ".dbf", ".geojson", ".gpkg", ".json")
-PACKAGE_KEY = "fid"
 HELP = """\
 LEFT and RIGHT are FILE or FILE:LAYER, of any kind that GDAL reads, or CSV with the header id,wkt.
 OUT gets a row for each pair: what identifies the two features, and the nine letters of DE-9IM. Its
@@ -135,7 +129,8 @@ def run(arguments: argparse.Namespace) -> Notices:
     notices = Notices(pairs.attrs["left_out"], pairs.attrs["enveloped"], inexact, len(pairs), found)
     if arguments.notices:
         write_notices(notices, arguments.notices, arguments.overwrite)
-    write(table(left, right, pairs, arguments), arguments.output, arguments.overwrite)
+    rows = table(left, right, pairs, arguments)
+    outputs.write(rows, arguments.output, arguments.overwrite)
     return notices
 
 
@@ -145,23 +140,14 @@ def check_outputs(arguments: argparse.Namespace) -> None:
     for path in [output, notices] if notices else [output]:
         if not path.parent.is_dir():
             raise ArgumentError(f"{path.parent} is no folder")
-        refuse_taken(path, arguments.overwrite)
+        outputs.refuse_taken(path, arguments.overwrite)
     if notices and notices.resolve() == output.resolve():
         raise ArgumentError("--output and --notices are the same file")
-    if not is_csv(output):
-        driver_of(output)
+    if not outputs.is_csv(output):
+        outputs.driver_of(output)
     if not arguments.geometry and output.suffix.lower() not in TABLES:
         raise ArgumentError(f"a file {output.suffix!r} needs geometries: add --geometry, or write "
                             f"one of {', '.join(TABLES)}")
-
-
-def refuse_taken(path: Path, overwrite: bool) -> None:
-    if path.exists() and not overwrite:
-        raise ArgumentError(f"{path} is there already; --overwrite replaces it")
-
-
-def is_csv(path: Path) -> bool:
-    return path.suffix.lower() == ".csv"
 
 
 def layer(text: str, side: str, field: Optional[str], rounds: bool) -> Any:
@@ -203,86 +189,12 @@ def table(left: Any, right: Any, pairs: Any, arguments: argparse.Namespace) -> A
     return geopandas.GeoDataFrame(rows, geometry=left.geometry.take(lefts).array, crs=left.crs)
 
 
-@contextmanager
-def placed(output: Path, overwrite: bool) -> Iterator[Path]:
-    """A path to write to; what was written there takes the output's place when all is written.
-
-    So do files that GDAL writes beside it.
-    """
-    try:
-        with tempfile.TemporaryDirectory(prefix=".rjoin-", dir=output.parent) as folder:
-            yield Path(folder, output.name)
-            written = sorted(Path(folder).iterdir())
-            for path in written:
-                refuse_taken(output.parent / path.name, overwrite)
-            for path in written:
-                os.replace(path, output.parent / path.name)
-    except OSError as fault:
-        raise RjoinError(f"{output} cannot be written: {fault.strerror or fault}") from fault
-
-
-def write(rows: Any, output: Path, overwrite: bool) -> None:
-    """Writes a file of the kind of its extension, and the files that belong to it."""
-    if is_csv(output):
-        with placed(output, overwrite) as path:
-            rows.to_csv(path, index=False, lineterminator="\n")
-        return
-    driver = driver_of(output)
-    options = key_option(driver, rows.columns)
-    with placed(output, overwrite) as path:
-        try:
-            if "geometry" in rows.columns:
-                rows.to_file(path, driver=driver, **options)
-            else:
-                write_table(rows, path, driver, options)
-        except Exception as fault:  # GDAL's faults have no common class
-            raise RjoinError(f"{output} cannot be written: {fault}") from fault
-
-
-def driver_of(output: Path) -> str:
-    """GDAL's name for the kind of file."""
-    from fiona.drvsupport import driver_from_extension
-
-    try:
-        return str(driver_from_extension(output))
-    except ValueError as fault:
-        raise ArgumentError(f"GDAL writes no files with the extension {output.suffix!r}") from fault
-
-
-def key_option(driver: str, names: Iterable[str]) -> Dict[str, str]:
-    """GDAL's option for a GeoPackage's key where a field has the name that the key has else.
-
-    GDAL would take the field for the key, and a feature may be in several pairs.
-    """
-    taken = {str(name).lower() for name in names}
-    if driver != "GPKG" or PACKAGE_KEY not in taken:
-        return {}
-    others = (f"{PACKAGE_KEY}_{number}" for number in count(2))
-    return {"FID": next(name for name in others if name not in taken)}
-
-
-def write_table(rows: Any, path: Path, driver: str, options: Mapping[str, str]) -> None:
-    """Writes rows without geometries."""
-    import fiona
-
-    fields = {str(name): field_type(rows[name].dtype.kind) for name in rows.columns}
-    schema = {"geometry": "None", "properties": fields}
-    values = rows.astype(object).where(rows.notna(), None)
-    with fiona.open(path, "w", driver=driver, schema=schema, **options) as output:
-        output.writerecords({"type": "Feature", "geometry": None, "properties": record}
-                            for record in values.to_dict("records"))
-
-
-def field_type(kind: str) -> str:
-    """The type of field for a kind of NumPy's types."""
-    return {"i": "int", "u": "int", "f": "float", "b": "bool", "M": "datetime"}.get(kind, "str")
-
-
 def write_notices(notices: Notices, path: Path, overwrite: bool) -> None:
-    with placed(path, overwrite) as part, open(part, "w", newline="", encoding="utf-8") as file:
-        rows = csv.writer(file, lineterminator="\n")
-        rows.writerow(("what", *Notice._fields))
-        rows.writerows(notices.rows())
+    with outputs.placed(path, overwrite) as part:
+        with open(part, "w", newline="", encoding="utf-8") as file:
+            rows = csv.writer(file, lineterminator="\n")
+            rows.writerow(("what", *Notice._fields))
+            rows.writerows(notices.rows())
 
 
 def tell(notices: Notices, warned: List[str], file: TextIO) -> None:

@@ -10,6 +10,7 @@ from __future__ import annotations
 
 import re
 from decimal import ROUND_HALF_UP, Decimal
+from typing import NamedTuple, Optional, Tuple
 
 import numpy as np
 from numpy.typing import NDArray
@@ -19,6 +20,45 @@ Units = NDArray[np.int64]
 
 MOST = 6
 LIMIT = 1_000_000_000_000
+COORDINATE = "coordinate"
+
+
+class Scale(NamedTuple):
+    """How coordinates are written: in units of 10^-decimals, and with a dot or as whole numbers.
+
+    rounds: as the nearest unit; else all of them are whole numbers of units. extra: how many more
+    decimals the whole numbers have that are written.
+    """
+
+    decimals: int
+    dots: bool
+    rounds: bool
+    extra: int = 0
+
+    @property
+    def without_extra(self) -> "Scale":
+        return self._replace(extra=0)
+
+    @property
+    def finer(self) -> int:
+        """How many of the units that are written one of the decimals has."""
+        return int(10 ** self.extra)
+
+    @property
+    def dots_before(self) -> int:
+        """How many decimals are written behind a dot."""
+        return self.decimals if self.dots else 0
+
+    @property
+    def words(self) -> Tuple[str, ...]:
+        """The options of the program: where all numbers are whole, they have been rounded."""
+        rounded = ("--round",) if self.rounds and self.dots else ()
+        return ("--scale", str(self.dots_before), *rounded)
+
+    def numbers(self, units: Units) -> Numbers:
+        """What the program has counted in the units of the whole numbers that are written."""
+        counted: Numbers = units / 10.0 ** (self.decimals + self.extra)
+        return counted
 
 
 class Unwritable(Exception):
@@ -32,21 +72,28 @@ class Unwritable(Exception):
 
 def is_exact(numbers: Numbers, decimals: int) -> NDArray[np.bool_]:
     """Which numbers have at most this many decimals; all whole numbers count, however great."""
+    exact: NDArray[np.bool_]
+    if decimals == 0:
+        exact = np.rint(numbers) == numbers
+        return exact
     power = 10.0 ** decimals
-    exact: NDArray[np.bool_] = np.rint(numbers * power) / power == numbers
+    exact = np.rint(numbers * power) / power == numbers
     return exact
 
 
-def fewest(corners: Numbers) -> int:
-    """The fewest decimals that write all numbers of a matrix, or Unwritable with the first row."""
+def fewest(corners: Numbers, name: str = COORDINATE) -> int:
+    """The fewest decimals that write all numbers of a matrix, or Unwritable with the first row.
+
+    name: what such a number is.
+    """
     numbers = corners.ravel()
-    rest = np.arange(numbers.size)
+    rest = np.flatnonzero(~is_exact(numbers, 0))
     for decimals in range(MOST + 1):
         rest = rest[~is_exact(numbers[rest], decimals)]
         if not rest.size:
             return decimals
     number = repr(float(numbers[rest[0]]))
-    raise Unwritable(int(rest[0]) // corners.shape[1], too_fine(number))
+    raise Unwritable(int(rest[0]) // corners.shape[1], too_fine(number, name))
 
 
 def count_of(number: str) -> int:
@@ -56,31 +103,51 @@ def count_of(number: str) -> int:
     return max(0, -int(exponent) - len(digits) + len(kept)) if kept else 0
 
 
-def too_fine(number: str) -> str:
+def too_fine(number: str, name: str = COORDINATE) -> str:
     """The fault of a number with more decimals than the program reads exactly."""
-    return (f"coordinate {number} has {count_of(number)} decimals, and {MOST} are the most: "
+    return (f"{name} {number} has {count_of(number)} decimals, and {MOST} are the most: "
             f"decimals={MOST} rounds it")
 
 
-def units(corners: Numbers, decimals: int) -> Units:
-    """The numbers of a matrix in units of the last decimal, or Unwritable with the first row."""
+def in_units(numbers: Numbers, scale: Scale, name: str = COORDINATE,
+             exact_at: Optional[int] = None) -> Units:
+    """The numbers of a matrix in units of the decimals, or Unwritable with the first row.
+
+    exact_at: decimals that are known to write all of them.
+    """
+    if scale.rounds:
+        return rounded(numbers, scale.decimals, name)
+    is_known = exact_at is not None and exact_at <= scale.decimals
+    return units(numbers, scale.decimals, name, is_known)
+
+
+def units(corners: Numbers, decimals: int, name: str = COORDINATE,
+          is_known: bool = False) -> Units:
+    """The numbers of a matrix in units of the last decimal, or Unwritable with the first row.
+
+    is_known: the decimals are known to write all numbers, and need not be looked at again.
+    """
     power = 10.0 ** decimals
-    refuse_great(np.abs(corners) > LIMIT / power, decimals)
-    wrong = np.flatnonzero(~is_exact(corners, decimals).all(axis=1))
-    if wrong.size:
-        raise Unwritable(int(wrong[0]), f"a coordinate has more than {decimals} decimals")
-    whole: Units = np.rint(corners * power).astype(np.int64)
+    most = LIMIT / power
+    if corners.max(initial=0.0) > most or corners.min(initial=0.0) < -most:
+        refuse_great(np.abs(corners) > most, decimals, name)
+    exact = None if is_known else is_exact(corners, decimals)
+    if exact is not None and not exact.all():
+        wrong = int((~exact.all(axis=1)).argmax())
+        raise Unwritable(wrong, f"a {name} has more than {decimals} decimals")
+    scaled = corners * power if decimals else corners
+    whole: Units = np.rint(scaled).astype(np.int64)
     return whole
 
 
-def refuse_great(great: NDArray[np.bool_], decimals: int) -> None:
+def refuse_great(great: NDArray[np.bool_], decimals: int, name: str) -> None:
     """Raises Unwritable with the first row that has a number out of the program's range."""
-    wrong = np.flatnonzero(great.any(axis=1))
-    if wrong.size:
-        raise Unwritable(int(wrong[0]), f"a coordinate is above {LIMIT} units of 10^-{decimals}")
+    if great.any():
+        wrong = int(great.any(axis=1).argmax())
+        raise Unwritable(wrong, f"a {name} is above {LIMIT} units of 10^-{decimals}")
 
 
-def rounded(numbers: Numbers, decimals: int) -> Units:
+def rounded(numbers: Numbers, decimals: int, name: str = COORDINATE) -> Units:
     """The numbers of a matrix in units, each the nearest one, half a unit away from zero.
 
     A number counts as the shortest decimal that reads as it, as the program's --round reads that
@@ -89,7 +156,7 @@ def rounded(numbers: Numbers, decimals: int) -> Units:
     """
     power = 10.0 ** decimals
     great = np.abs(numbers)
-    refuse_great(great > (LIMIT + 1) / power, decimals)
+    refuse_great(great > (LIMIT + 1) / power, decimals, name)
     scaled = great * power
     whole: Units = np.floor(scaled + 0.5).astype(np.int64)
     unclear = np.abs(scaled - np.floor(scaled) - 0.5) <= scaled * 2.0 ** -50
@@ -97,7 +164,7 @@ def rounded(numbers: Numbers, decimals: int) -> Units:
         values, places = np.unique(great[unclear], return_inverse=True)
         whole[unclear] = np.array([rounded_text(repr(value), decimals)
                                    for value in values.tolist()], np.int64)[places]
-    refuse_great(whole > LIMIT, decimals)
+    refuse_great(whole > LIMIT, decimals, name)
     return np.where(numbers < 0, -whole, whole)
 
 

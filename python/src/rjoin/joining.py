@@ -6,6 +6,7 @@ import re
 import tempfile
 import warnings
 from contextlib import contextmanager
+from copy import copy
 from itertools import chain
 from pathlib import Path
 from typing import Any, Callable, Dict, Iterator, List, NamedTuple, Optional, Sequence, Tuple
@@ -15,14 +16,19 @@ from xml.sax.saxutils import escape
 import numpy as np
 import pandas
 
-from rjoin import decimals, program, signals
+from rjoin import decimals, program, reports, signals
+from rjoin.decimals import Scale
 from rjoin.errors import EnvelopeWarning, ImproperRingsWarning, InputError, LeftOutWarning
 from rjoin.errors import Notice, RjoinError
 from rjoin.frames import NOBODY
-from rjoin.sources import NO_BOX, Flags, GeometrySource, Rows, Rules, Scale, Source, TextSource
+from rjoin.lengths import Length, Measure
+from rjoin.sheet import MOST_BYTES
+from rjoin.sources import NO_BOX, Flags, GeometrySource, Rows, Rules, Source, TextSource
 from rjoin.sources import single_source, source_of
 from rjoin.texts import NO_TEXT
 
+# Where envelopes don't stand in one of these, the features don't.
+BY_ENVELOPES = ("intersects", "dwithin")
 TITLE = re.compile(r"<title>(\d+)</title>")
 RIGHT_HALF = '<g class="right">'
 LETTERS = re.compile(rb"([F012]{9})\n")
@@ -32,10 +38,12 @@ ANY_COUNTS = ("features", "points", "lines", "areas", "vertices", "height")
 NOT_PROPER = ("rings cross or overlap",
               "a line without length, or a ring that is not closed or is flat")
 BY_EVEN_ODD = re.compile(r"rjoin: (first|second): even-odd rule for improper rings")
+DISTANCE = {"distance": "int64"}
 # A word of a command line has fewer bytes on Linux (MAX_ARG_STRLEN).
 MOST_WORD = 131_072
 
 Single = Union[GeometrySource, TextSource]
+Numbers = Union[Source, Length]
 Answer = TypeVar("Answer")
 
 
@@ -64,20 +72,42 @@ class Job:
     """
 
     def __init__(self, sources: Sequence[Source], reading: Reading,
-                 geometries: Sequence[Single] = ()) -> None:
+                 geometries: Sequence[Single] = (), measure: Optional[Measure] = None) -> None:
         self.sources = list(sources)
         self.reading = reading
         self.geometries = geometries
+        self.measure = measure
         self.overlooked: List[str] = []
         self.settle()
 
     def settle(self) -> None:
         """Finds the scale that all inputs have in common."""
         sources = [*self.sources, *self.geometries]
-        self.scale = scale_of(sources, self.reading)
+        lengths = self.measure.lengths if self.measure else []
+        self.scale = scale_of([*sources, *lengths], self.reading,
+                              self.measure is not None and self.measure.is_fine)
         for source in self.sources:
             source.leave_out_dots(self.scale)
+        while self.scale.extra and not all(map(self.fits, range(len(self.sources)))):
+            self.scale = self.scale._replace(extra=self.scale.extra - 1)
         self.widened = any(source.needs_any for source in sources)
+
+    def fits(self, place: int) -> bool:
+        """Whether the file of a frame is as small as the program needs it."""
+        return self.frame(place).size(self.scale) <= MOST_BYTES
+
+    def frame(self, place: int) -> GeometrySource:
+        """An input that is a frame."""
+        source = self.sources[place]
+        assert isinstance(source, GeometrySource)
+        return source
+
+    def of_some(self, place: int, flags: Flags) -> "Job":
+        """The same with some of the features of a frame, which have new ids."""
+        other = copy(self)
+        other.sources = list(self.sources)
+        other.sources[place] = self.frame(place).chosen(flags)
+        return other
 
     @property
     def words(self) -> List[str]:
@@ -174,10 +204,8 @@ class Job:
                 stacklevel=depth + 2)
 
     def kept(self, place: int) -> Rows:
-        """The rows, counted from 0, of an input's geometries that the program was given."""
-        source = self.sources[place]
-        assert isinstance(source, GeometrySource)
-        return source.rows
+        """The rows, counted from 0, of an input that aren't left out."""
+        return self.frame(place).kept_rows
 
     def identified(self, found: Any, ids: str) -> Any:
         """A report with labels or positions in place of its ids."""
@@ -186,29 +214,33 @@ class Job:
             found[column] = told.to_flat_index() if isinstance(told, pandas.MultiIndex) else told
         return found
 
-    def refuse_incomplete(self) -> None:
-        """Refuses a left join where a left row's only partner may have been left out."""
-        left_out = self.sources[1].left_out
+    def refuse_incomplete(self, place: int, otherwise: str = "") -> None:
+        """Refuses a join in which the partner of a row may be a feature that an input leaves out.
+
+        otherwise: how to be answered all the same, beside marks.
+        """
+        left_out = self.sources[place].left_out
         if left_out:
             first = left_out[0]
             raise InputError(
-                first.side, f"{first.reason}; {len(left_out)} features are left out here, so that "
-                "a left row without a partner may have one: take how='inner', or incomplete='mark'",
+                first.side, f"{first.reason}; {len(left_out)} features are left out here, any of "
+                f"which may be the partner of a row: take {otherwise}incomplete='mark'",
                 first.row, first.feature)
 
     def are_exact(self, lefts: Rows, rights: Rows, relation: str) -> Flags:
-        """Which rows of a result rest on no envelope; in a left join NOBODY may stand on the right.
+        """Which rows of a result rest on no envelope; NOBODY may stand on one side of a row.
 
-        A row with NOBODY says that no right feature stands in the relation. Where envelopes share
-        no point the features share none; of other relations envelopes say nothing.
+        A row with NOBODY says that no feature of that side stands in the relation. Where envelopes
+        share no point, or are further apart, the features are so too; of other relations envelopes
+        say nothing.
         """
-        left, right = self.sources
-        alone = rights == NOBODY
-        exact: Flags = left.are_exact(lefts)
-        exact[~alone] &= right.are_exact(rights[~alone])
-        exact[alone] &= not right.enveloped
-        if relation == "intersects":
-            exact[alone] = True
+        exact: Flags = np.ones(lefts.size, np.bool_)
+        for source, rows in zip(self.sources, (lefts, rights)):
+            there = rows != NOBODY
+            exact[there] &= source.are_exact(rows[there])
+            exact[~there] &= not source.enveloped
+        if relation in BY_ENVELOPES:
+            exact[(lefts == NOBODY) | (rights == NOBODY)] = True
         return exact
 
     def finish(self, attributes: Dict[Any, Any], depth: int,
@@ -243,10 +275,14 @@ class Job:
 
 
 def job_of(layers: Sequence[Tuple[str, Any]], reading: Reading, rules: Rules,
-           geometries: Sequence[Single] = ()) -> Job:
-    """The job of layers by their sides, beside geometries with coordinates of the same scale."""
+           geometries: Sequence[Single] = (), measure: Optional[Measure] = None) -> Job:
+    """The job of layers by their sides, beside geometries with coordinates of the same scale.
+
+    measure: what is measured between them, if anything is.
+    """
     rules = rules.checked()._replace(rounds=reading.rounds)
-    return Job([source_of(layer, side, rules) for side, layer in layers], reading, geometries)
+    sources = [source_of(layer, side, rules) for side, layer in layers]
+    return Job(sources, reading, geometries, measure)
 
 
 def single(geometry: Any, side: str, reading: Reading) -> Single:
@@ -258,13 +294,15 @@ def single(geometry: Any, side: str, reading: Reading) -> Single:
         return source
 
 
-def scale_of(sources: Sequence[Source], reading: Reading) -> Scale:
+def scale_of(sources: Sequence[Numbers], reading: Reading, is_fine: bool = False) -> Scale:
     """The scale that is given or that the inputs need.
 
-    Where all coordinates are numbers and not texts, the program is given whole numbers of units.
+    Where all coordinates are numbers and not texts, the program is given whole numbers of units;
+    these are as small as its range allows if the scale has to be fine.
     """
+    most = max(source.greatest() for source in sources) if is_fine or is_auto(reading) else 0.0
     if isinstance(reading.decimals, str):
-        number = decimals.most_in_range(max(source.greatest() for source in sources))
+        number = decimals.most_in_range(most)
     elif reading.decimals is not None:
         number = reading.decimals
     elif reading.scale is not None:
@@ -272,7 +310,12 @@ def scale_of(sources: Sequence[Source], reading: Reading) -> Scale:
     else:
         number = max(source.needed_decimals() for source in sources)
     dots = not all(source.may_count_units for source in sources)
-    return Scale(number, dots, reading.rounds)
+    extra = max(0, decimals.most_in_range(most) - number) if is_fine and not dots else 0
+    return Scale(number, dots, reading.rounds, extra)
+
+
+def is_auto(reading: Reading) -> bool:
+    return isinstance(reading.decimals, str)
 
 
 @contextmanager
@@ -307,38 +350,93 @@ def options(workers: Optional[int]) -> List[str]:
 
 def joined(job: Job, relation: str, workers: Optional[int], matrix: bool) -> Any:
     """The pairs as a frame with the columns left and right, ids of the report, and matrix."""
+    last = {"matrix": "category"}
+    return reported(job, ["join"], ["--relation", relation, *options(workers)], last, matrix)
+
+
+def within(job: Job, distance: Length, workers: Optional[int]) -> Any:
+    """The pairs at most a distance apart as a frame with the columns left and right, ids."""
+    words = [*distance.words(job.scale), *options(workers)]
+    return reported(job, ["near"], words, DISTANCE, wants_last=False)
+
+
+def nearest(job: Job, base: int, distance: Optional[Length], workers: Optional[int],
+            exclusive: bool = False) -> Any:
+    """The nearest features of the other layer to each of the base, of the layers 0 and 1.
+
+    A frame with the columns left and right, which are ids, and distance; in the order of the base.
+    exclusive: without features that are equal to that of the base.
+    """
+    if exclusive:
+        return nearest_others(job, base, distance, workers)
+    return nearest_of(job, base, distance, workers)
+
+
+def nearest_of(job: Job, base: int, distance: Optional[Length], workers: Optional[int],
+               most: int = 1) -> Any:
+    """As many nearest features as are asked for, and those that are as far away as the last."""
+    words = [*(distance.words(job.scale) if distance else []), *options(workers)]
+    if most > 1:
+        words += ["--most", str(most)]
+    found = reported(job, ["nearest"], words, DISTANCE, wants_last=True, turned=base == 1)
+    found["distance"] = job.scale.numbers(found["distance"].to_numpy())
+    return found
+
+
+def nearest_others(job: Job, base: int, distance: Optional[Length],
+                   workers: Optional[int]) -> Any:
+    """The nearest features that aren't equal to that of the base.
+
+    Features of the base that equal as many others, C, are asked for together: these and the nearest
+    others are the C + 1 nearest and those that are as far away as the last of them.
+    """
+    column, other = ("left", "right") if base == 0 else ("right", "left")
+    equal = joined(job, "equals", workers, matrix=False)
+    width = 1 + max(job.frame(place).count for place in (0, 1))
+    equal_keys = equal[column].to_numpy() * width + equal[other].to_numpy()
+    counts = np.bincount(equal[column], minlength=job.frame(base).count)
+    parts = []
+    for count in np.unique(counts).tolist():
+        flags = counts == count
+        part = nearest_of(job.of_some(base, flags), base, distance, workers, count + 1)
+        part[column] = np.flatnonzero(flags)[part[column]]
+        keys = part[column].to_numpy() * width + part[other].to_numpy()
+        parts.append(part[~np.isin(keys, equal_keys)])
+    if not parts:
+        return nearest_of(job, base, distance, workers)
+    return pandas.concat(parts, ignore_index=True).sort_values(column, kind="stable")
+
+
+def reported(job: Job, command: Sequence[str], words: Sequence[str], last: Dict[str, str],
+             wants_last: bool, turned: bool = False) -> Any:
+    """The report of a join as a frame with the columns left and right, and the last one if wanted.
+
+    turned: the right layer is the program's left one.
+    """
+    order = slice(None, None, -1 if turned else 1)
+
     def ask(folder: Path, paths: List[Path]) -> Any:
         report = folder / "report.csv"
-        with open(report, "wb") as output:
-            program.run(["join", *paths, "--relation", relation, *job.words,
-                         *options(workers)], output)
-        return read_report(report, job.sources, matrix)
-    return job.answer(ask)
-
-
-def read_report(path: Path, sources: Sequence[Source], matrix: bool) -> Any:
-    left, right = (kind_of(source) for source in sources)
-    columns = {"left": left, "right": right, "matrix": "category"}
-    with open(path, encoding="utf-8", errors="replace") as header:
-        if header.readline() != ",".join(columns) + "\n":
-            raise program.wrong_answer()
-    report = read_table(path, columns, list(columns)[:3 if matrix else 2])
-    if matrix:
-        report["matrix"] = report["matrix"].to_numpy(object)
-    return report
+        sides = {"left": "right", "right": "left"} if turned else {}
+        try:
+            with open(report, "wb") as output:
+                program.run([*command, *paths[order], *job.words, *words], output)
+        except program.InputFault as fault:
+            side = sides.get(fault.side, fault.side)
+            raise program.InputFault(side, fault.row, fault.reason) from fault
+        left, right = job.sources[order]
+        return reports.read(report, (kind_of(left), kind_of(right)), last, wants_last,
+                            (left.id_digits, right.id_digits))
+    found = job.answer(ask)
+    if turned:
+        found.columns = ["right", "left", *found.columns[2:]]
+        found = found[["left", "right", *found.columns[2:]]]
+    return found
 
 
 def kind_of(source: Source) -> str:
     """The type of the ids of an input in an answer."""
     return "str" if source.has_ids else "int64"
-
-
-def read_table(answer: Any, columns: Dict[str, str], wanted: Sequence[str]) -> Any:
-    """Some columns of an answer of the program, by their types; ids such as NA are texts."""
-    try:
-        return pandas.read_csv(answer, dtype=columns, keep_default_na=False, usecols=wanted)
-    except ValueError as fault:
-        raise program.wrong_answer() from fault
 
 
 def met(job: Job, geometry: Single) -> Any:
@@ -366,7 +464,8 @@ def met_by_join(job: Job, layer: Path, window: Path) -> Any:
 
 def ids_of(answer: bytes, column: str, source: Source) -> Any:
     """A column of ids of an answer, by the name `id`."""
-    return read_table(io.BytesIO(answer), {column: kind_of(source)}, [column])[column].rename("id")
+    table = reports.read_table(io.BytesIO(answer), {column: kind_of(source)}, [column])
+    return table[column].rename("id")
 
 
 def related(job: Job) -> str:

@@ -7,19 +7,19 @@ so on. A run is a line, a ring, or a single point.
 from __future__ import annotations
 
 import struct
-from typing import IO, Iterator, NamedTuple, Tuple
+from typing import IO, Iterator, NamedTuple, Tuple, Union
 
 import numpy as np
 from numpy.lib.stride_tricks import sliding_window_view
 
 from rjoin import sheet
-from rjoin.shapes import Binary, Bytes, Flags, Kind, Numbers, Places, words_at
+from rjoin.shapes import POINT_BYTES, Binary, Bytes, Flags, Kind, Numbers, Places, Simple
+from rjoin.shapes import words_at
 from rjoin.sheet import Columns, Units
 
 CHUNK = 1 << 16
 FEW = 64
 WORD = struct.Struct("<I")
-POINT_BYTES = 16
 PART_BYTES = 5  # the byte order and the type of a part
 
 HEADS = {
@@ -98,8 +98,26 @@ class Outlines(NamedTuple):
         return dots
 
 
-def outlines_of(binary: Binary, rows: Places) -> Outlines:
+def outlines_of(given: Union[Binary, Simple], rows: Places) -> Outlines:
     """The outlines of geometries that are not empty and of a Kind, by their rows."""
+    if isinstance(given, Simple):
+        return outlines_of_simple(given, rows)
+    return outlines_of_binary(given, rows)
+
+
+def outlines_of_simple(simple: Simple, rows: Places) -> Outlines:
+    leads = np.full(len(simple.points), OF_POINTS, np.uint8)
+    starts = np.cumsum(simple.size) - simple.size
+    leads[starts[rows]] = NONE
+    outlines = Outlines(simple.kind, simple.points, simple.size, leads)
+    if rows.size == simple.size.size:
+        return outlines
+    flags = np.zeros(simple.size.size, np.bool_)
+    flags[rows] = True
+    return outlines.chosen(flags)
+
+
+def outlines_of_binary(binary: Binary, rows: Places) -> Outlines:
     head = binary.head[rows]
     kind = words_at(binary.data, head + 1)
     runs = runs_of(binary.data, head, kind)
@@ -203,6 +221,8 @@ def leads_of(runs: Runs, starts: Places, kind: Places, count: int) -> Bytes:
 
 def without_void_points(outlines: Outlines) -> Outlines:
     """The same without the empty points of multipoints, which binary writes as NaN."""
+    if not (outlines.kind == Kind.MULTIPOINT).any():
+        return outlines
     void = np.isnan(outlines.points).all(axis=1)
     void &= np.repeat(outlines.kind == Kind.MULTIPOINT, outlines.size)
     if not void.any():

@@ -5,8 +5,9 @@ kind that have equally many points together. rjoin.outlines reads all points of 
 """
 from __future__ import annotations
 
+import ctypes
 import enum
-from typing import Iterator, List, NamedTuple, Tuple
+from typing import Iterator, List, NamedTuple, Optional, Tuple, Union
 
 import numpy as np
 import pandas
@@ -20,6 +21,9 @@ Flags = NDArray[np.bool_]
 Bytes = NDArray[np.uint8]
 
 CHUNK = 1 << 16
+POINT_BYTES = 16
+BYTES_AT = ctypes.PYFUNCTYPE(ctypes.py_object, ctypes.c_void_p, ctypes.c_ssize_t)(
+    ("PyBytes_FromStringAndSize", ctypes.pythonapi))
 
 
 class Status(enum.IntEnum):
@@ -47,6 +51,11 @@ class Kind(enum.IntEnum):
     MULTIPOLYGON = 6
 
 
+# By Shapely's numbers of types: points, lines, rings that stand alone, polygons; 0 for others, also
+# for the number -1 of None.
+KIND_OF_TYPE = np.array([Kind.POINT, Kind.LINE, Kind.LINE, Kind.POLYGON, 0, 0, 0, 0, 0], np.int64)
+
+
 class Binary(NamedTuple):
     """Geometries as well-known binary, one behind the other, and the place of each one's header.
 
@@ -57,17 +66,29 @@ class Binary(NamedTuple):
     head: Places
 
 
+class Simple(NamedTuple):
+    """Points, lines and polygons without holes, by their points.
+
+    kind: of each geometry its Kind; points: all of them, those of a geometry one behind the other;
+    size: of each geometry how many these are.
+    """
+
+    kind: Places
+    points: Numbers
+    size: Places
+
+
 class Boxes(NamedTuple):
     """Geometries by their envelopes.
 
     corners: least x, least y, greatest x and greatest y a row; NaN where there is no envelope or
     where it was not asked for.
-    status: the Status of each.
+    status: the Status of each. given: all their points.
     """
 
     corners: Numbers
     status: Bytes
-    binary: Binary
+    given: Union[Binary, Simple]
 
 
 class Bodies(NamedTuple):
@@ -91,6 +112,9 @@ def boxes_of(geometries: Objects, all_envelopes: bool = False) -> Boxes:
     A collection with a single part counts as that part. Of a geometry that is no box, the corners
     are those of its envelope; of several parts only with `all_envelopes`.
     """
+    simple = simple_of(geometries)
+    if simple is not None:
+        return boxes_of_simple(simple)
     texts = binary_of(geometries)
     lengths = np.fromiter(map(len, texts), np.int64, len(texts))
     data = np.frombuffer(b"".join([*texts, bytes(32)]), np.uint8)
@@ -100,16 +124,58 @@ def boxes_of(geometries: Objects, all_envelopes: bool = False) -> Boxes:
     status[bodies.points == 0] = Status.EMPTY
     status[lengths == 0] = Status.MISSING
     compound = np.flatnonzero(~bodies.whole & (status == Status.ANY))
-    without = np.array([geometry.is_empty for geometry in geometries[compound]], np.bool_)
+    without = are_empty(geometries[compound])
     status[compound[without]] = Status.EMPTY
     status[(status == Status.ANY) & (bodies.kind > Kind.MULTIPOLYGON)] = Status.OTHER
     if all_envelopes:
         compound = compound[~without]
-        bounds = [geometry.bounds or (np.nan,) * 4 for geometry in geometries[compound]]
-        corners[compound] = np.reshape(np.array(bounds, np.float64), (-1, 4))
+        corners[compound] = bounds_of(geometries[compound])
         finite = np.isfinite(corners[compound]).all(axis=1)
         status[compound[~finite]] = Status.NOT_FINITE
     return Boxes(corners, status, Binary(data, bodies.head))
+
+
+def simple_of(geometries: Objects) -> Optional[Simple]:
+    """Geometries by their points, where Shapely 2 is there and all are of one part."""
+    import shapely
+
+    if not hasattr(shapely, "get_coordinates"):
+        return None
+    kind = KIND_OF_TYPE[shapely.get_type_id(geometries)]
+    if not kind.all() or shapely.get_num_interior_rings(geometries).any():
+        return None
+    size = shapely.get_num_coordinates(geometries).astype(np.int64)
+    return Simple(kind, shapely.get_coordinates(geometries), size)
+
+
+def boxes_of_simple(simple: Simple) -> Boxes:
+    start = POINT_BYTES * (np.cumsum(simple.size) - simple.size)
+    all_of_them = np.ones(simple.size.size, np.bool_)
+    bodies = Bodies(start, simple.kind, simple.size, start, all_of_them, all_of_them)
+    data = simple.points.reshape(-1).view(np.uint8)
+    corners, status = read_boxes(data, bodies, simple.size > 0)
+    status[simple.size == 0] = Status.EMPTY
+    return Boxes(corners, status, simple)
+
+
+def are_empty(geometries: Objects) -> Flags:
+    import shapely
+
+    if hasattr(shapely, "is_empty"):
+        flags: Flags = shapely.is_empty(geometries)
+        return flags
+    return np.array([geometry.is_empty for geometry in geometries], np.bool_)
+
+
+def bounds_of(geometries: Objects) -> Numbers:
+    """The corners of envelopes, a row each; NaN where there is none."""
+    import shapely
+
+    if hasattr(shapely, "bounds"):
+        corners: Numbers = shapely.bounds(geometries)
+        return corners
+    bounds = [geometry.bounds or (np.nan,) * 4 for geometry in geometries]
+    return np.reshape(np.array(bounds, np.float64), (-1, 4))
 
 
 def binary_of(geometries: Objects) -> List[bytes]:
@@ -119,17 +185,42 @@ def binary_of(geometries: Objects) -> List[bytes]:
     present = ~pandas.isna(geometries)
     there = geometries[present]
     if hasattr(shapely, "to_wkb"):
-        written = shapely.to_wkb(there, output_dimension=2, byte_order=1)
+        written = list(shapely.to_wkb(there, output_dimension=2, byte_order=1))
     else:
-        from shapely.geos import WKBWriter, lgeos
-
-        writer = WKBWriter(lgeos, output_dimension=2, big_endian=False)
-        written = map(writer.write, there)
+        written = written_by_geos(there)
     if there.size == geometries.size:
-        return list(written)
+        return written
     texts = np.full(geometries.size, b"", object)
-    texts[present] = list(written)
+    texts[present] = written
     return list(texts)
+
+
+def written_by_geos(geometries: Objects) -> List[bytes]:
+    """Geometries of Shapely 1.8 as two-dimensional little-endian well-known binary.
+
+    GEOS writes each; Shapely's own call for one takes twice the time.
+    """
+    from shapely.geos import WKBWriter, lgeos
+
+    writer = WKBWriter(lgeos, output_dimension=2, big_endian=False)
+    pointers = [geometry.__geom__ for geometry in geometries]
+    if None in pointers:
+        return list(map(writer.write, geometries))
+    library = ctypes.PyDLL(lgeos._lgeos._name)
+    write = library.GEOSWKBWriter_write_r
+    write.restype, write.argtypes = ctypes.c_void_p, (ctypes.c_void_p,) * 4
+    free = library.GEOSFree_r
+    free.restype, free.argtypes = None, (ctypes.c_void_p,) * 2
+    size = ctypes.c_size_t()
+    handle, maker, place = lgeos.geos_handle, writer._writer, ctypes.addressof(size)
+    texts = []
+    for pointer in pointers:
+        text = write(handle, maker, pointer, place)
+        if not text:
+            raise MemoryError("GEOS writes no binary of a geometry")
+        texts.append(BYTES_AT(text, size.value))
+        free(handle, text)
+    return texts
 
 
 def words_at(data: Bytes, places: Places) -> Places:
@@ -156,19 +247,53 @@ def bodies_of(data: Bytes, start: Places) -> Bodies:
     return Bodies(start, kind, count, begin, ~compound & ~(polygon & (items > 1)), ~compound)
 
 
+class Points(NamedTuple):
+    """The points of geometries that have equally many, as two matrices of x and y.
+
+    axis: that along which the points of a geometry stand; it is the shorter one, since NumPy goes
+    along the longer one faster.
+    """
+
+    x: Numbers
+    y: Numbers
+    axis: int
+
+    def chosen(self, flags: Flags) -> "Points":
+        """Those of some of the geometries."""
+        return Points(self.x.compress(flags, 1 - self.axis), self.y.compress(flags, 1 - self.axis),
+                      self.axis)
+
+    def corners(self) -> Numbers:
+        """The least x and y and the greatest x and y of each geometry, a row each."""
+        return np.stack([self.x.min(self.axis), self.y.min(self.axis), self.x.max(self.axis),
+                         self.y.max(self.axis)], axis=1)
+
+    def steps(self) -> Tuple[Numbers, Numbers]:
+        """From each point to the next one, along x and along y."""
+        return np.diff(self.x, axis=self.axis), np.diff(self.y, axis=self.axis)
+
+    def are_closed(self) -> Flags:
+        """Which geometries end at their first point."""
+        closed: Flags = np.ones(self.x.shape[1 - self.axis], np.bool_)
+        for values in (self.x, self.y):
+            closed &= values.take(0, self.axis) == values.take(-1, self.axis)
+        return closed
+
+
 def read_boxes(data: Bytes, bodies: Bodies, chosen: Flags) -> Tuple[Numbers, Bytes]:
     """The corners and the status of the chosen geometries; the others are ANY, without corners."""
     corners = np.full((chosen.size, 4), np.nan)
     status = np.full(chosen.size, Status.ANY, np.uint8)
     for kind, count, rows in groups(bodies, chosen):
         points = points_at(data, bodies.start[rows], count)
-        least, greatest = points.min(axis=1), points.max(axis=1)
-        corners[rows, :2], corners[rows, 2:] = least, greatest
+        corners[rows] = theirs = points.corners()
         box = SHAPE_TESTS[Kind(kind)](points) & bodies.plain[rows]
         status[rows[box]] = Status.BOX
-        status[rows[~(np.isfinite(least) & np.isfinite(greatest)).all(axis=1)]] = Status.NOT_FINITE
+        finite = np.isfinite(theirs)
+        if not finite.all():
+            status[rows[~finite.all(axis=1)]] = Status.NOT_FINITE
         if kind == Kind.POINT:
-            status[rows[np.isnan(least).all(axis=1)]] = Status.EMPTY
+            status[rows[np.isnan(theirs).all(axis=1)]] = Status.EMPTY
     return corners, status
 
 
@@ -184,55 +309,63 @@ def groups(bodies: Bodies, chosen: Flags) -> Iterator[Tuple[int, int, Places]]:
         yield int(kind[first]), int(count[first]), rows[first:end]
 
 
-def points_at(data: Bytes, places: Places, count: int) -> Numbers:
-    """The points, `count` of them a row, that begin at these places."""
-    points = sliding_window_view(data, 16 * count)[places].view("<f8")
-    return points.reshape(-1, count, 2)
+def points_at(data: Bytes, places: Places, count: int) -> Points:
+    """The points, `count` of each geometry, that begin at these places."""
+    rows = sliding_window_view(data, POINT_BYTES * count)[places].view("<f8")
+    if count > places.size:
+        return Points(rows[:, 0::2], rows[:, 1::2], axis=1)
+    columns = np.ascontiguousarray(rows.T)
+    return Points(columns[0::2], columns[1::2], axis=0)
 
 
-def is_point(points: Numbers) -> Flags:
-    return np.ones(len(points), np.bool_)
+def is_point(points: Points) -> Flags:
+    return np.ones(points.x.shape[1 - points.axis], np.bool_)
 
 
-def is_segment(points: Numbers) -> Flags:
+def is_segment(points: Points) -> Flags:
     """Which rows of points go straight along an axis, without a way back; a point may repeat."""
-    along_x, along_y = np.diff(points[..., 0], axis=1), np.diff(points[..., 1], axis=1)
-    flat, upright = (along_y == 0).all(axis=1), (along_x == 0).all(axis=1)
-    segment: Flags = (flat & goes_one_way(along_x)) | (upright & goes_one_way(along_y))
+    along_x, along_y = points.steps()
+    flat, upright = ((steps == 0).all(points.axis) for steps in (along_y, along_x))
+    segment: Flags = ((flat & goes_one_way(along_x, points.axis))
+                      | (upright & goes_one_way(along_y, points.axis)))
     return segment
 
 
-def goes_one_way(steps: Numbers) -> Flags:
-    up, down = (steps >= 0).all(axis=1), (steps <= 0).all(axis=1)
-    one_way: Flags = (up | down) & (steps != 0).any(axis=1)
+def goes_one_way(steps: Numbers, axis: int) -> Flags:
+    up, down = (steps >= 0).all(axis), (steps <= 0).all(axis)
+    one_way: Flags = (up | down) & (steps != 0).any(axis)
     return one_way
 
 
-def is_rectangle(points: Numbers) -> Flags:
+def is_rectangle(points: Points) -> Flags:
     """Which closed rings go once round a rectangle with sides along the axes; a point may repeat.
 
     Every step goes along an axis, and the headings turn four times, always to the same hand.
     """
-    along_x, along_y = np.diff(points[..., 0], axis=1), np.diff(points[..., 1], axis=1)
-    straight = ((along_x == 0) | (along_y == 0)).all(axis=1)
-    closed = (points[:, 0] == points[:, -1]).all(axis=1)
+    along_x, along_y = points.steps()
+    rectangle: Flags = ((along_x == 0) | (along_y == 0)).all(points.axis) & points.are_closed()
+    if not rectangle.all():
+        along_x, along_y = points.chosen(rectangle).steps()
     heading = np.where(along_y == 0, np.where(along_x > 0, 0, 2), np.where(along_y > 0, 1, 3))
+    heading = heading.astype(np.int8)
     still = (along_x == 0) & (along_y == 0)
     if still.any():
-        heading = carried_over(heading, still)
-    turns = (np.roll(heading, -1, axis=1) - heading) & 3
-    round_once = ((turns & 1).sum(axis=1) == 4) & ~(turns == 2).any(axis=1)
-    one_hand = ~(turns == 1).any(axis=1) | ~(turns == 3).any(axis=1)
-    rectangle: Flags = straight & closed & round_once & one_hand
+        heading = carried_over(heading, still, points.axis)
+    turns = (np.roll(heading, -1, points.axis) - heading) & 3
+    sides, back = (turns & 1).sum(points.axis), (turns == 2).any(points.axis)
+    one_hand = ~(turns == 1).any(points.axis) | ~(turns == 3).any(points.axis)
+    rectangle[rectangle] = (sides == 4) & ~back & one_hand
     return rectangle
 
 
-def carried_over(heading: Places, still: Flags) -> Places:
+def carried_over(heading: Places, still: Flags, axis: int) -> Places:
     """The headings of rings, those of steps without a length replaced by the heading before."""
-    steps = heading.shape[1]
-    place = np.where(np.hstack([still, still]), 0, np.arange(2 * steps))
-    np.maximum.accumulate(place, axis=1, out=place)
-    return np.take_along_axis(np.hstack([heading, heading]), place, axis=1)[:, steps:]
+    steps = heading.shape[axis]
+    numbers = np.arange(2 * steps).reshape((-1, 1) if axis == 0 else (1, -1))
+    place = np.where(np.concatenate([still, still], axis), 0, numbers)
+    np.maximum.accumulate(place, axis=axis, out=place)
+    twice = np.concatenate([heading, heading], axis)
+    return np.take_along_axis(twice, place, axis).take(np.arange(steps, 2 * steps), axis)
 
 
 SHAPE_TESTS = {Kind.POINT: is_point, Kind.LINE: is_segment, Kind.POLYGON: is_rectangle}

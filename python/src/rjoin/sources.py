@@ -5,6 +5,7 @@ import csv
 import io
 import os
 from abc import ABC, abstractmethod
+from copy import copy
 from importlib.util import find_spec
 from itertools import repeat
 from pathlib import Path
@@ -16,6 +17,7 @@ from numpy.typing import NDArray
 
 from rjoin import decimals, files, sheet, texts
 from rjoin.bodies import AnyBody, BoxBody, shapes_of
+from rjoin.decimals import Scale
 from rjoin.errors import ArgumentError, InputError, Notice
 from rjoin.shapes import Objects, Status, boxes_of
 
@@ -39,47 +41,27 @@ class Rules(NamedTuple):
 
     other: geometries of other types raise an `error` or are left out (`skip`); with `envelope`, all
     that are no boxes are replaced by their envelopes. missing: those that are empty or not there
-    raise an `error` or are left out (`skip`). rounds: numbers will be rounded, so that none has
-    too many decimals.
+    raise an `error` or are left out (`skip`), or are rows without a partner (`keep`), where the
+    call `keeps` rows. rounds: numbers will be rounded, so that none has too many decimals.
     """
 
     other: str = "error"
     missing: str = "error"
     rounds: bool = False
+    keeps: bool = False
 
     def checked(self) -> "Rules":
         if self.other not in ("error", "envelope", "skip"):
             raise ArgumentError(f"other must be 'error', 'envelope' or 'skip', not {self.other!r}")
-        if self.missing not in ("error", "skip"):
-            raise ArgumentError(f"missing must be 'error' or 'skip', not {self.missing!r}")
+        known = ("'error', 'skip' or 'keep'", "'error' or 'skip'")[not self.keeps]
+        if self.missing not in ("error", "skip") and (self.missing, self.keeps) != ("keep", True):
+            raise ArgumentError(f"missing must be {known}, not {self.missing!r}")
         return self
 
     @property
     def refuse_all(self) -> bool:
         """Whether the program, which refuses all that it doesn't read, may read texts itself."""
         return self.other == self.missing == "error"
-
-
-class Scale(NamedTuple):
-    """How coordinates are written: in units of 10^-decimals, and with a dot or as whole numbers.
-
-    rounds: as the nearest unit; else all of them are whole numbers of units.
-    """
-
-    decimals: int
-    dots: bool
-    rounds: bool
-
-    @property
-    def dots_before(self) -> int:
-        """How many decimals are written behind a dot."""
-        return self.decimals if self.dots else 0
-
-    @property
-    def words(self) -> Tuple[str, ...]:
-        """The options of the program: where all numbers are whole, they have been rounded."""
-        rounded = ("--round",) if self.rounds and self.dots else ()
-        return ("--scale", str(self.dots_before), *rounded)
 
 
 class Source(ABC):
@@ -91,6 +73,8 @@ class Source(ABC):
 
     has_ids = False
     may_count_units = False
+    # How many digits all ids in reports have, if they are padded.
+    id_digits: Optional[int] = None
 
     def __init__(self, side: str) -> None:
         self.side = side
@@ -160,27 +144,36 @@ class GeometrySource(Source):
         else:
             self.body = BoxBody(boxes.corners, self.is_envelope).chosen(kept)
         self.counted: Optional[Tuple[Scale, Units]] = None
+        self.exact_at: Optional[int] = None
 
     def kept(self, status: NDArray[np.uint8], rules: Rules) -> Flags:
         """The rows that the program is given; the others and the envelopes are noticed."""
         absent = (status == Status.EMPTY) | (status == Status.MISSING)
         kept = status == Status.BOX
-        enveloped = np.zeros_like(kept)
-        skipped = absent if rules.missing == "skip" else np.zeros_like(kept)
+        none = np.zeros_like(kept)
+        enveloped = none
+        skipped = absent if rules.missing == "skip" else none
+        alone = absent if rules.missing == "keep" else none
         if rules.other == "envelope":
             enveloped = (status == Status.ANY) | (status == Status.OTHER)
         else:
             kept = kept | (status == Status.ANY)
         if rules.other == "skip":
             skipped = skipped | (~kept & ~absent)
-        wrong = np.flatnonzero(~kept & ~enveloped & ~skipped)
+        wrong = np.flatnonzero(~kept & ~enveloped & ~skipped & ~alone)
         if wrong.size:
             raise self.fault(int(wrong[0]), REASONS[Status(status[wrong[0]])])
         self.left_out = self.notices(np.flatnonzero(skipped), status)
         self.enveloped = self.notices(np.flatnonzero(enveloped), status)
         self.is_envelope = enveloped
+        self.absent: Rows = np.flatnonzero(alone)
         given: Flags = kept | enveloped
         return given
+
+    @property
+    def kept_rows(self) -> Rows:
+        """The rows, counted from 0, that aren't left out."""
+        return np.union1d(self.rows, self.absent) if self.absent.size else self.rows
 
     def are_exact(self, rows: Rows) -> Flags:
         exact: Flags = ~self.is_envelope[rows]
@@ -200,7 +193,8 @@ class GeometrySource(Source):
 
     def needed_decimals(self) -> int:
         try:
-            return decimals.fewest(self.body.numbers)
+            self.exact_at = decimals.fewest(self.body.numbers)
+            return self.exact_at
         except decimals.Unwritable as number:
             raise self.error(self.body.owner(number.row) + 1, number.reason) from number
 
@@ -208,11 +202,12 @@ class GeometrySource(Source):
         return float(np.abs(self.body.numbers).max(initial=0.0))
 
     def units(self, scale: Scale) -> Units:
-        """The numbers in units, which the last scale's calls have in common."""
+        """The numbers in units of the decimals, which the last scale's calls have in common."""
+        scale = scale.without_extra
         if self.counted is None or self.counted[0] != scale:
-            count = decimals.rounded if scale.rounds else decimals.units
             try:
-                self.counted = scale, count(self.body.numbers, scale.decimals)
+                units = decimals.in_units(self.body.numbers, scale, exact_at=self.exact_at)
+                self.counted = scale, units
             except decimals.Unwritable as number:
                 raise self.error(self.body.owner(number.row) + 1, number.reason) from number
         return self.counted[1]
@@ -235,22 +230,40 @@ class GeometrySource(Source):
         """The text of the only geometry."""
         file = io.BytesIO()
         units = self.units(scale)
-        self.body.write(file, units, sheet.columns_of(units, scale.dots_before, len(self.body)))
+        self.body.write(file, units, self.columns(scale))
         _, _, text = file.getvalue().decode().partition(",")
         return text.strip('"\n')
 
+    @property
+    def count(self) -> int:
+        """How many features the program is given."""
+        return len(self.body)
+
+    def chosen(self, flags: Flags) -> "GeometrySource":
+        """The same with some of the features that the program is given."""
+        other = copy(self)
+        other.rows, other.body, other.counted = self.rows[flags], self.body.chosen(flags), None
+        return other
+
+    def columns(self, scale: Scale) -> sheet.Columns:
+        return sheet.columns_of(self.units(scale), scale.dots_before, self.count, scale.extra)
+
+    def size(self, scale: Scale) -> int:
+        """The bytes of the layer's file."""
+        return len(sheet.HEADER) + self.body.size(self.units(scale), self.columns(scale))
+
     def write(self, folder: Path, scale: Scale) -> Path:
-        units = self.units(scale)
-        columns = sheet.columns_of(units, scale.dots_before, len(self.body))
-        size = len(sheet.HEADER) + self.body.size(units, columns)
+        columns, size = self.columns(scale), self.size(scale)
+        self.id_digits = columns.id.digits
         if size > sheet.MOST_BYTES:
-            raise InputError(self.side, f"{len(self.body)} features with coordinates of this "
+            raise InputError(self.side, f"{self.count} features with coordinates of this "
                              f"length take {size} bytes, and the program reads "
                              f"{sheet.MOST_BYTES}: take fewer decimals or join the layer in parts")
+        units = self.units(scale)
         path = folder / f"{self.side}.csv"
         with open(path, "wb") as file:
             file.write(sheet.HEADER)
-            self.body.write(file, units, columns)
+            self.body.write(file, units * scale.finer if scale.extra else units, columns)
         return path
 
     def positions(self, ids: Any) -> Rows:

@@ -16,6 +16,7 @@ Boxes = NDArray[np.int64]
 HEADER = b"id,x1,y1,x2,y2\n"
 FIELD_ENDS = np.frombuffer(b",,,,\n", dtype=np.uint8)  # behind the fields of a row
 ROWS_AT_ONCE = 16_384  # whose numbers stay in the processor's cache
+OUTWARDS = (-1, -1, 1, 1)  # of the corners of a box
 
 
 @dataclass(frozen=True)
@@ -73,3 +74,11 @@ def boxes_of(text: Bytes, ends: Places) -> Boxes:
         part = np.ascontiguousarray(ends[begin:begin + ROWS_AT_ONCE].T)
         boxes[begin:begin + ROWS_AT_ONCE] = numbers_in(text, part[:-1] + 1, part[1:]).T
     return boxes
+
+
+def grown(boxes: Boxes, growth: int) -> Boxes:
+    """The boxes, grown by so many units on each side."""
+    if growth == 0:
+        return boxes
+    wide: Boxes = boxes + np.multiply(OUTWARDS, growth)
+    return wide

@@ -4,34 +4,31 @@ features of each block.
 from __future__ import annotations
 
 from dataclasses import dataclass, replace
-from typing import Iterator, Optional, Sequence
+from typing import Optional
 
 import numpy as np
 
-from rjoin_cluster.answers import NO_FEATURES, Boxes, Features, read_answer
+from rjoin_cluster.answers import Boxes, Features, grown
 from rjoin_cluster.faults import RunFailed
-from rjoin_cluster.ids import bucket_of, hashes_of, share_ends, stacked
+from rjoin_cluster.ids import bucket_of, hashes_of, share_ends
 from rjoin_cluster.layout import Layout, save_rows
-from rjoin_cluster.program import HEADER, MOST_BYTES, MOST_FEATURES, Program, RowFault
+from rjoin_cluster.parts import MOST_PART, features_of
+from rjoin_cluster.program import Program, RowFault
 from rjoin_cluster.records import (
     BYTE_ORDER_MARK,
-    RETURN,
     WINDOW,
     Bytes,
+    Places,
     Segment,
-    record_ends,
     scan,
     scan_ends,
+    second_fields,
 )
 from rjoin_cluster.sides import Side
+from rjoin_cluster.skipping import Skipped
 
-MOST_PART = MOST_BYTES - len(HEADER)
+MOST_GEOMETRY = MOST_PART - len("0000000,\n")
 END_BYTES = 2**18
-
-# Put before the first block, so that a second byte order mark stays part of the header.
-NO_MARK = b"\n"
-
-FULL = "layer is full"  # as rjoin says it
 
 
 @dataclass(frozen=True)
@@ -68,12 +65,15 @@ class Extent:
 
 @dataclass(frozen=True)
 class ReadJob:
-    """A block that is to be read, and which part of its features is wanted as a sample."""
+    """A block that is to be read."""
 
     layout: Layout
     program: Program
     block: Extent
-    share: float
+    share: float  # which part of its features is wanted as a sample
+    growth: int  # of boxes
+    keeps_fields: bool  # the places of geometries, which are to travel as the file has them
+    skips: bool  # records whose geometry can't be read
 
     def __str__(self) -> str:
         return str(self.block)
@@ -88,7 +88,12 @@ class BlockRead:
     greatest: int  # absolute value of a coordinate
     below_zero: bool
     sample: Boxes
+    skipped: Skipped
     fault: Optional[RowFault]
+
+    @property
+    def records(self) -> int:
+        return self.rows + self.skipped.rows.size
 
 
 def header_begin(path: str) -> int:
@@ -116,16 +121,24 @@ def scan_segment(extent: Extent) -> Segment:
 
 def read_block(job: ReadJob) -> BlockRead:
     """Reads the features of a block and keeps their boxes, ids and the hashes of these."""
-    features, fault = features_of(job.program, job.block)
-    keep(job.layout, job.block, features)
-    boxes = features.boxes
+    text = job.block.read()
+    read = features_of(job.program, job.block.number, text, job.skips)
+    boxes, ids, fault = grown(read.features.boxes, job.growth), read.features.ids, read.fault
+    keep(job.layout, job.block, Features(ids, boxes))
+    if job.keeps_fields and fault is None:
+        fields = np.delete(fields_of(job.block, text), read.skipped.rows - 1, axis=0)
+        if len(fields) != len(boxes):
+            raise RunFailed(f"rjoin bounds: {len(boxes)} features of {len(fields)} records")
+        save_rows(job.layout.fields(job.block.side, job.block.number), [fields])
+        fault = too_long(fields)
     least, greatest = int(boxes.min(initial=0)), int(boxes.max(initial=0))
     return BlockRead(
         len(boxes),
-        features.ids.shape[1],
+        ids.shape[1],
         max(-least, greatest),
         least < 0,
         sample_of(boxes, job.share, job.block.number),
+        read.skipped,
         fault,
     )
 
@@ -140,80 +153,24 @@ def keep(layout: Layout, block: Extent, features: Features) -> None:
     save_rows(path, [share_ends(hashes), hashes.take(order), rows])
 
 
+def fields_of(block: Extent, text: Bytes) -> Places:
+    """Where the geometry of each feature begins and ends in the file."""
+    fields = second_fields(text) + block.begin
+    return fields if block.number else fields[1:]  # without the header
+
+
+def too_long(fields: Places) -> Optional[RowFault]:
+    """The fault of the first geometry that doesn't fit in a run with the id that it gets there."""
+    rows = np.flatnonzero(fields[:, 1] - fields[:, 0] > MOST_GEOMETRY)
+    if not rows.size:
+        return None
+    text = f"a geometry of more than {MOST_GEOMETRY} bytes"
+    return RowFault(int(rows[0]) + 1, text, "rjoin-cluster")
+
+
 def sample_of(boxes: Boxes, share: float, seed: int) -> Boxes:
     if share >= 1 or not len(boxes):
         return boxes
     random = np.random.default_rng(seed)
     rows = random.integers(len(boxes), size=random.binomial(len(boxes), share))
     return boxes.take(rows, axis=0)
-
-
-def features_of(program: Program, block: Extent) -> tuple[Features, Optional[RowFault]]:
-    """The features of a block, or those before its first fault."""
-    text = block.read()
-    before = HEADER if block.number else NO_MARK
-    if text.size <= MOST_PART and likely_records(text) < MOST_FEATURES:
-        features, fault = read_part(program, before, text)
-        if fault is None or fault.text != FULL:
-            return features, fault
-    return features_of_parts(program, before, text)
-
-
-def features_of_parts(
-    program: Program, before: bytes, text: Bytes
-) -> tuple[Features, Optional[RowFault]]:
-    """The same, of a block that is more than a run takes."""
-    read = []
-    rows = 0
-    fault = None
-    for part in parts_of_runs(text):
-        features, fault = read_part(program, before, part)
-        before = HEADER
-        read.append(features)
-        if fault is not None:
-            fault = RowFault(fault.row + rows, fault.text, fault.teller)
-            break
-        rows += len(features.boxes)
-    return together(read), fault
-
-
-def likely_records(text: Bytes) -> int:
-    """How many records a block has, if all of it is as its beginning."""
-    first = text[:WINDOW]
-    return int(np.count_nonzero(first <= RETURN)) * text.size // max(first.size, 1)
-
-
-def together(parts: Sequence[Features]) -> Features:
-    if len(parts) == 1:
-        return parts[0]
-    boxes = np.concatenate([NO_FEATURES.boxes, *(part.boxes for part in parts)])
-    return Features(stacked([part.ids for part in parts]), boxes)
-
-
-def parts_of_runs(text: Bytes) -> Iterator[Bytes]:
-    """A block in parts that a run takes."""
-    ends = record_ends(text)
-    begins = np.append(0, ends)
-    done = 0
-    while done < ends.size:
-        within = int(np.searchsorted(ends, begins[done] + MOST_PART, side="right"))
-        behind = max(done + 1, min(within, done + MOST_FEATURES))
-        yield text[begins[done]:begins[behind]]
-        done = behind
-
-
-def read_part(program: Program, before: bytes, part: Bytes) -> tuple[Features, Optional[RowFault]]:
-    """The features of a part of a file, of which these bytes are to be read before it."""
-    if part.size > MOST_PART:
-        return NO_FEATURES, RowFault(1, f"longer than {MOST_PART} bytes", "rjoin-cluster")
-    answer = program.bounds([before, part.data])
-    if not isinstance(answer, RowFault):
-        return read_answer(answer), None
-    if answer.row == 0:
-        return NO_FEATURES, answer
-    records = answer.row - 1 + int(before != HEADER)
-    end = int(record_ends(part)[records - 1]) if records else 0
-    good = program.bounds([before, part[:end].data])
-    if isinstance(good, RowFault):
-        raise RunFailed(f"rjoin bounds: a fault in row {good.row}, where there was none before")
-    return read_answer(good), answer

@@ -79,4 +79,9 @@ def joined(words: argparse.Namespace) -> dict[str, Any]:
     from rjoin_cluster.progress import Progress
     from rjoin_cluster.request import request_of
 
-    return join(request_of(words), Progress(sys.stderr.isatty() and not words.verbose))
+    progress = Progress(sys.stderr.isatty() and not words.verbose)
+    figures = join(request_of(words), progress)
+    if words.skip is not None:
+        counts = ", ".join(f"{side} {figures[side]['skipped']}" for side in ("left", "right"))
+        progress.tell(f"rjoin-cluster: rows skipped: {counts}")
+    return figures

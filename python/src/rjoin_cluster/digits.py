@@ -59,6 +59,11 @@ def numbers_before(text: Bytes, ends: range, digits: int) -> Places:
     return number_of_digits((words ^ ZEROS) & KEEPS_LAST[digits])
 
 
+def numbers_ending(text: Bytes, ends: Places, digits: int) -> Places:
+    """The same, of places at any distance from each other."""
+    return number_of_digits(digits_before(text, ends) & KEEPS_LAST[digits])
+
+
 def numbers_in(text: Bytes, begins: Places, ends: Places) -> Places:
     """The numbers that stand between these places of a text: of at most 16 digits, with a minus
     sign where they are below 0. None ends within the first 16 bytes. Anything else is a ValueError.

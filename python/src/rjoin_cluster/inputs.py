@@ -29,13 +29,14 @@ class Input:
             raise JoinFault(f"{report}: is the {self.side.value} layer")
 
 
-def find_inputs(left: str, right: str) -> tuple[Input, Input]:
+def find_inputs(left: str, right: str) -> dict[Side, Input]:
     """Both files, once it is known that they can be opened, and then that they can be read."""
     opened: list[int] = []
     try:
         for side, path in ((Side.LEFT, left), (Side.RIGHT, right)):
             opened.append(open_file(side, path))
-        return found(Side.LEFT, left, opened[0]), found(Side.RIGHT, right, opened[1])
+        ones = found(Side.LEFT, left, opened[0])
+        return {Side.LEFT: ones, Side.RIGHT: found(Side.RIGHT, right, opened[1])}
     finally:
         for number in opened:
             os.close(number)

@@ -7,10 +7,12 @@ from pathlib import Path
 from typing import Any
 
 from rjoin_cluster.cluster import Needs, check_workers, connected
+from rjoin_cluster.commands import JOIN
+from rjoin_cluster.conditions import reach_of
 from rjoin_cluster.engine import Engine
 from rjoin_cluster.faults import JoinFault
 from rjoin_cluster.inputs import find_inputs
-from rjoin_cluster.outputs import new_folder, new_report
+from rjoin_cluster.outputs import new_folder, new_reports
 from rjoin_cluster.progress import Progress
 from rjoin_cluster.request import Request
 from rjoin_cluster.steps import Steps
@@ -21,21 +23,27 @@ def join(request: Request, progress: Progress) -> dict[str, Any]:
     started = time.perf_counter()
     if request.place.dashboard and find_spec("bokeh") is None:
         raise JoinFault("--dashboard: the Python module bokeh, which draws it, is not installed")
-    request.program.check_words(request.relation)
+    request.condition.check(request.program)
+    if request.skip is not None:
+        request.program.check_has(JOIN, "--skip")
+    reach = reach_of(request.condition, request.program)
     inputs = find_inputs(request.left, request.right)
-    for file in inputs:
-        file.check_not(request.report)
-    with new_report(request.report) as report, new_folder(request.folder) as layout:
+    written = [path for path in (request.report, request.skip) if path is not None]
+    for file in inputs.values():
+        for path in written:
+            file.check_not(path)
+    with new_reports(*written) as (report, *skipped), new_folder(request.folder) as layout:
         version = request.program.version()
         with connected(request.place, layout) as watch:
             if request.place.dashboard:
                 progress.tell(f"dashboard: {watch.client.dashboard_link}")
-            files = tuple((file.path, file.bytes) for file in inputs)
+            files = tuple((file.path, file.bytes) for file in inputs.values())
             check_workers(watch, Needs(layout, request.program, version, files))
             engine = Engine(watch.client, Path(layout.folder).name, progress, watch)
-            figures = Steps(request, inputs, layout, engine).report_into(report)
+            steps = Steps(request, reach, inputs, layout, engine)
+            figures = steps.report_into(report, skipped[0] if skipped else None)
             figures["workers"] = engine.workers()
-        for file in inputs:
+        for file in inputs.values():
             file.check_unchanged()
     figures["seconds"]["all"] = round(time.perf_counter() - started, 3)
     return figures

@@ -7,11 +7,12 @@ from typing import Optional, Sequence
 import numpy as np
 
 from rjoin_cluster.blocks import BlockRead
+from rjoin_cluster.box_layers import Numerals
 from rjoin_cluster.digits import digits_in
 from rjoin_cluster.program import RowFault
 from rjoin_cluster.records import Places
-from rjoin_cluster.runs import Numerals
 from rjoin_cluster.sides import Side
+from rjoin_cluster.skipping import Skipped, all_skipped
 from rjoin_cluster.tiles import Sample
 
 
@@ -46,12 +47,29 @@ class Layer:
         return Sample(boxes, self.rows / max(len(boxes), 1))
 
     @property
+    def skipped(self) -> Skipped:
+        """The records that were left out, by their rows in the file."""
+        records = np.cumsum([0, *(block.records for block in self.blocks)])
+        return all_skipped(
+            [block.skipped.behind(row) for block, row in zip(self.blocks, records.tolist())]
+        )
+
+    @property
     def fault(self) -> Optional[RowFault]:
         """The fault that ended the reading, with its row in the file."""
         last = self.blocks[-1].fault
         if last is None or last.row == 0:
             return last
-        return RowFault(last.row + self.rows - self.blocks[-1].rows, last.text, last.teller)
+        before = sum(block.records for block in self.blocks[:-1])
+        return RowFault(last.row + before, last.text, last.teller)
+
+    def row_of(self, number: int) -> int:
+        """The row of a feature in the file; features are numbered from 0, without what was left
+        out.
+        """
+        rows = self.skipped.rows
+        features_before = rows - np.arange(1, rows.size + 1)
+        return number + 1 + int(np.searchsorted(features_before, number, side="right"))
 
 
 @dataclass(frozen=True)

@@ -27,6 +27,10 @@ class Layout:
     def boxes(self, side: Side, block: int) -> Path:
         return self.file(f"boxes-{side.value}-{block}.rows")
 
+    def fields(self, side: Side, block: int) -> Path:
+        """Where the geometry of each feature begins and ends in the layer's file."""
+        return self.file(f"fields-{side.value}-{block}.rows")
+
     def ids(self, side: Side, block: int) -> Path:
         return self.file(f"ids-{side.value}-{block}.rows")
 
@@ -35,6 +39,10 @@ class Layout:
 
     def pieces(self, side: Side, group: int) -> Path:
         return self.file(f"pieces-{side.value}-{group}.rows")
+
+    def texts(self, side: Side, group: int) -> Path:
+        """The records of the features of a group's pieces, in their order."""
+        return self.file(f"texts-{side.value}-{group}.bytes")
 
     def piece_ends(self, side: Side) -> Path:
         return self.file(f"piece-ends-{side.value}.npy")

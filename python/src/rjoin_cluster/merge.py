@@ -6,16 +6,18 @@ report.
 from __future__ import annotations
 
 from dataclasses import dataclass
-from typing import Sequence
+from typing import NamedTuple, Optional, Sequence
 
 import numpy as np
 from numpy.typing import NDArray
 
+from rjoin_cluster.conditions import Reach
 from rjoin_cluster.digits import put
 from rjoin_cluster.ids import FILL, IdTable, as_elements, load_ids, widened
 from rjoin_cluster.layout import Layout, load_rows, mapped, save_array, save_bytes
+from rjoin_cluster.nearest import Search
 from rjoin_cluster.records import Bytes, Places
-from rjoin_cluster.runs import KEY_STEP, MATRIX, RunDone, pair_type
+from rjoin_cluster.runs import KEY_STEP, RunDone, pair_type
 from rjoin_cluster.sides import Side
 
 LEAST_PAIRS = 500_000
@@ -30,12 +32,21 @@ class PartJob:
     """A part of the report, by its number."""
 
     layout: Layout
+    reach: Reach
+    search: Optional[Search]  # where nearest features are joined
     number: int
     right_features: int
     id_width: int  # of right ids
 
     def __str__(self) -> str:
         return f"part {self.number}"
+
+
+class PartDone(NamedTuple):
+    """What is in a part of the report."""
+
+    pairs: int
+    bytes: int
 
 
 def plan_parts(layout: Layout, runs: Sequence[RunDone], workers: int) -> int:
@@ -64,15 +75,15 @@ def range_borders(runs: Sequence[RunDone], pairs: int) -> Places:
     return np.concatenate([[0], inner, [behind]]) if keys.size else np.zeros(1, dtype=np.int64)
 
 
-def write_part(job: PartJob) -> int:
-    """Writes a part of the report, and answers how many bytes it has."""
+def write_part(job: PartJob) -> PartDone:
+    """Writes a part of the report, and answers what is in it."""
     pairs = pairs_of(job)
     left = left_ids(job, pairs["rank"] // job.right_features)
-    right = np.ascontiguousarray(pairs["right"]).view(np.uint8).reshape(len(pairs), -1)
+    fields = [left, table_of(pairs["right"]), table_of(pairs["last"])]
     chunks = [slice(begin, begin + ROWS_AT_ONCE) for begin in range(0, len(pairs), ROWS_AT_ONCE)]
-    text = [rows_text([left[some], right[some]], pairs["matrix"][some]) for some in chunks]
+    text = [rows_text([field[some] for field in fields]) for some in chunks]
     save_bytes(job.layout.report_part(job.number), text)
-    return sum(map(len, text))
+    return PartDone(len(pairs), sum(map(len, text)))
 
 
 def pairs_of(job: PartJob) -> NDArray[np.void]:
@@ -83,7 +94,8 @@ def pairs_of(job: PartJob) -> NDArray[np.void]:
     begins = np.maximum(before - 1, 0) * KEY_STEP
     ends = np.minimum(behind * KEY_STEP, mapped(layout.run_sizes()))
     counts = np.maximum(ends - begins, 0)
-    pairs = np.empty(counts.sum(), dtype=pair_type(job.id_width))
+    kind = pair_type(job.reach.width, job.id_width, job.search is not None)
+    pairs = np.empty(counts.sum(), dtype=kind)
     done = 0
     for run in np.flatnonzero(counts).tolist():
         rows = pairs[done:done + counts[run]]
@@ -92,7 +104,11 @@ def pairs_of(job: PartJob) -> NDArray[np.void]:
     ranks = np.ascontiguousarray(pairs["rank"])
     order = np.argsort(ranks, kind="stable")
     begin, end = np.searchsorted(ranks, borders, sorter=order)
-    return pairs.take(order[begin:end])
+    own = order[begin:end]
+    if job.search is None:
+        return pairs.take(own)
+    runs = np.repeat(np.arange(counts.size), counts)
+    return job.search.settled(pairs.take(own), runs.take(own))
 
 
 def left_ids(job: PartJob, numbers: Places) -> IdTable:
@@ -111,18 +127,22 @@ def left_ids(job: PartJob, numbers: Places) -> IdTable:
     return ids
 
 
-def rows_text(ids: Sequence[IdTable], matrices: NDArray[np.void]) -> bytes:
-    """Rows of CSV: ids, which are fields already, and a matrix. What fills up the tables of ids is
+def table_of(elements: NDArray[np.void]) -> IdTable:
+    """Texts that are one element each, as a table of their bytes."""
+    return np.ascontiguousarray(elements).view(np.uint8).reshape(len(elements), -1)
+
+
+def rows_text(fields: Sequence[IdTable]) -> bytes:
+    """Rows of CSV, of tables that have the fields of a column each. What fills up the tables is
     left out.
     """
-    width = sum(table.shape[1] + 1 for table in ids) + MATRIX + 1
-    text = np.empty((matrices.size, width), dtype=np.uint8)
+    width = sum(table.shape[1] + 1 for table in fields)
+    text = np.empty((len(fields[0]), width), dtype=np.uint8)
     at = 0
-    for table in ids:
+    for table in fields:
         put(text, at, as_elements(table))
         at += table.shape[1] + 1
         text[:, at - 1] = ord(",")
-    put(text, at, matrices)
     text[:, -1] = ord("\n")
     kept: Bytes = text[text != FILL]
     return kept.tobytes()

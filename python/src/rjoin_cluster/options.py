@@ -3,15 +3,17 @@ from __future__ import annotations
 
 import argparse
 import os
+from typing import Any
 
 from rjoin_cluster import __version__
+from rjoin_cluster.commands import JOIN, NEAR, NEAREST
 
 BLOCK_BYTES = 32 * 2**20
 MOST_SECONDS = 10**6
 
 EPILOG = """\
-The report is that of one run of rjoin join over both files, which may have any number of features
-and bytes; the limits of a run are those of each tile. It appears whole, or not at all.
+The report is that of one run of rjoin {command} over both files, which may have any number of
+features and bytes; the limits of a run are those of each tile. It appears whole, or not at all.
 
 Exit status: 0 for success, 1 for a fault, with a line on standard error, 2 for invalid arguments,
 129, 130 and 143 where it was interrupted"""
@@ -24,27 +26,66 @@ def parser() -> argparse.ArgumentParser:
     )
     outer.add_argument("--version", action="version", version=f"%(prog)s {__version__}")
     inner = outer.add_subparsers(dest="command", required=True, metavar="COMMAND")
-    join_parser = inner.add_parser(
-        "join",
-        help="joins two layers by a relation",
-        epilog=EPILOG,
-        formatter_class=argparse.RawDescriptionHelpFormatter,
-    )
-    join_parser.add_argument("left", metavar="LEFT", help="CSV file of the left layer")
-    join_parser.add_argument("right", metavar="RIGHT", help="CSV file of the right layer")
-    join_parser.add_argument(
+    by_relation = add_command(inner, JOIN, "joins two layers by a relation")
+    by_relation.add_argument(
         "--relation", required=True, help="name of a relation, or mask of nine letters"
     )
-    join_parser.add_argument(
-        "--scale", default="0", help="decimals that a coordinate may have, 0 to 6"
+    near = add_command(inner, NEAR, "joins two layers by a distance")
+    near.add_argument("--apart", action="store_true", help="only pairs that share no point")
+    nearest = add_command(inner, NEAREST, "finds the nearest right features of each left one")
+    nearest.add_argument(
+        "--most",
+        default="1",
+        metavar="N",
+        help="how many for each left feature, beside those as far as the last (default: 1)",
     )
-    join_parser.add_argument(
+    for command in (near, nearest):
+        command.add_argument(
+            "--distance", required=True, metavar="D", help="greatest distance of a pair"
+        )
+    for command in (by_relation, near, nearest):
+        add_reading_options(command)
+        add_cluster_options(command)
+        add_tls_options(command)
+        add_output_options(command)
+    return outer
+
+
+def add_command(commands: Any, name: str, text: str) -> argparse.ArgumentParser:
+    """A command with the files that it reads and writes."""
+    command: argparse.ArgumentParser = commands.add_parser(
+        name,
+        help=text,
+        epilog=EPILOG.format(command=name),
+        formatter_class=argparse.RawDescriptionHelpFormatter,
+    )
+    command.add_argument("left", metavar="LEFT", help="CSV file of the left layer")
+    command.add_argument("right", metavar="RIGHT", help="CSV file of the right layer")
+    command.add_argument(
         "--out", required=True, metavar="REPORT", help="file that the pairs are written to"
     )
-    add_cluster_options(join_parser)
-    add_tls_options(join_parser)
-    add_telling_options(join_parser)
-    return outer
+    return command
+
+
+def add_reading_options(options: argparse.ArgumentParser) -> None:
+    """Options of the program, which checks their values."""
+    options.add_argument(
+        "--scale", default="0", metavar="K", help="decimals that a coordinate may have, 0 to 6"
+    )
+    options.add_argument(
+        "--round", action="store_true", help="read numbers as the nearest ones of K decimals"
+    )
+    options.add_argument(
+        "--geometry", metavar="KIND", help="box, the default, or any: points, lines and polygons"
+    )
+    options.add_argument(
+        "--rings", metavar="RULE", help="rule for rings of any geometry: proper or even-odd"
+    )
+    options.add_argument(
+        "--skip",
+        metavar="FILE",
+        help="leave out rows whose geometry cannot be read, and list them in FILE",
+    )
 
 
 def add_cluster_options(options: argparse.ArgumentParser) -> None:
@@ -104,7 +145,7 @@ def add_tls_options(options: argparse.ArgumentParser) -> None:
         )
 
 
-def add_telling_options(options: argparse.ArgumentParser) -> None:
+def add_output_options(options: argparse.ArgumentParser) -> None:
     options.add_argument(
         "--json", action="store_true", help="write figures of the join as JSON to standard output"
     )

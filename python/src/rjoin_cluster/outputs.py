@@ -5,7 +5,7 @@ import os
 import shutil
 import time
 import uuid
-from contextlib import contextmanager, suppress
+from contextlib import ExitStack, contextmanager, suppress
 from pathlib import Path
 from typing import BinaryIO, Iterator, Optional
 
@@ -67,6 +67,15 @@ def new_report(path: str) -> Iterator[Report]:
         report.finish()
     finally:
         report.remove()
+
+
+@contextmanager
+def new_reports(*paths: str) -> Iterator[list[Report]]:
+    """Several reports, of which the last one gets its name first."""
+    if len({os.path.realpath(path) for path in paths}) < len(paths):
+        raise JoinFault(f"{paths[-1]}: is the report")
+    with ExitStack() as stack:
+        yield [stack.enter_context(new_report(path)) for path in paths]
 
 
 @contextmanager

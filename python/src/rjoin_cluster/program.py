@@ -14,6 +14,7 @@ from typing import IO, Iterator, Optional, Sequence, Union
 import numpy as np
 
 from rjoin_cluster.faults import JoinFault, ProgramFault, RunFailed
+from rjoin_cluster.reading import Reading
 from rjoin_cluster.records import Bytes
 
 MOST_FEATURES = 1_000_000
@@ -127,24 +128,31 @@ def find_program(path: Optional[str]) -> str:
 
 @dataclass(frozen=True)
 class Program:
-    """The program rjoin at a path, with the decimals of all coordinates that it is to read."""
+    """The program rjoin at a path, and how it is to read the layers."""
 
     path: str
-    scale: str
+    reading: Reading
 
     def version(self) -> str:
         return bytes(self.run(["--version"], []).output).decode().strip()
 
-    def check_words(self, relation: str) -> None:
-        """Joins two empty layers, so that rjoin itself judges relation and scale."""
-        words = [f"--relation={relation}", f"--scale={self.scale}"]
-        ended = self.run(["join", *words], [[HEADER], [HEADER]])
+    def check_has(self, command: str, option: str = "") -> None:
+        """Ends the join where the program lacks the command, or an option of it."""
+        ended = self.run([command, "--help"], [])
+        if ended.status != 0:
+            raise JoinFault(f"{self.path}: this version has no command {command}")
+        if option.encode() not in bytes(ended.output):
+            raise JoinFault(f"{self.path}: this version has no {option} for {command}")
+
+    def check_words(self, words: Sequence[str]) -> None:
+        """Runs a command on two empty layers, so that rjoin itself judges its options."""
+        ended = self.run(words, [[HEADER], [HEADER]])
         if ended.status != 0:
             raise ProgramFault(ended.errors.rstrip("\n"), ended.status)
 
     def bounds(self, layer: Sequence[Text]) -> Union[Bytes, RowFault]:
         """The CSV text of the ids and corners of a layer, in units, or its first fault."""
-        ended = self.run(["bounds", f"--scale={self.scale}"], [layer])
+        ended = self.run(["bounds", *self.reading.words()], [layer])
         if ended.status == 0:
             return ended.output
         if ended.errors == HEADER_FAULT:
@@ -154,11 +162,13 @@ class Program:
             raise RunFailed(f"rjoin bounds: status {ended.status}: {ended.errors.strip()}")
         return RowFault(int(told.group(1)), told.group(2))
 
-    def join(self, left: Sequence[Text], right: Sequence[Text], relation: str) -> Bytes:
-        """The report of two layers in whole units."""
-        ended = self.run(["join", f"--relation={relation}", "--workers=1"], [left, right])
+    def report(
+        self, words: Sequence[str], left: Sequence[Text], right: Sequence[Text], reading: Reading
+    ) -> Bytes:
+        """The report of a command for two layers that are read in this way."""
+        ended = self.run([*words, *reading.words(), "--workers=1"], [left, right])
         if ended.status != 0:
-            raise RunFailed(f"rjoin join: status {ended.status}: {ended.errors.strip()}")
+            raise RunFailed(f"rjoin {words[0]}: status {ended.status}: {ended.errors.strip()}")
         return ended.output
 
     def run(self, words: Sequence[str], layers: Sequence[Sequence[Text]]) -> Ended:

@@ -213,3 +213,13 @@ def field_ends(part: Bytes) -> Places:
     is_end |= part == FEED
     is_end |= part == RETURN
     return outside(np.flatnonzero(is_end), runs, quoted_behind(runs, State.FREE), State.FREE)
+
+
+def second_fields(part: Bytes) -> Places:
+    """Where the second field of each record begins and ends, in a text that begins between records
+    and whose records have two fields each.
+    """
+    ends = field_ends(part)
+    commas = np.flatnonzero(part[ends] == COMMA)
+    behind = np.append(ends, part.size)[commas + 1]
+    return np.stack([ends[commas] + 1, behind], axis=1)

@@ -6,9 +6,12 @@ import os
 from dataclasses import dataclass
 from typing import Optional
 
+from rjoin_cluster.commands import JOIN, NEAR, NEAREST
+from rjoin_cluster.conditions import Condition
 from rjoin_cluster.faults import JoinFault
 from rjoin_cluster.inputs import not_in_blocks
 from rjoin_cluster.program import Program, find_program
+from rjoin_cluster.reading import Reading
 from rjoin_cluster.sides import Side
 
 
@@ -40,27 +43,50 @@ class Request:
 
     left: str
     right: str
-    relation: str
+    condition: Condition
     report: str
+    skip: Optional[str]  # the list of rows that are left out, as their geometry can't be read
     program: Program
     place: Place
     folder: str  # that all workers share
     tiles: Optional[int]  # the least number, as far as the data can be cut
     block_bytes: int
 
+    @property
+    def has_texts(self) -> bool:
+        """Whether geometries travel as the files have them: boxes that are joined are written anew
+        from their corners, which takes less time.
+        """
+        return self.condition.command != JOIN or not self.program.reading.is_of_boxes
+
 
 def request_of(words: argparse.Namespace) -> Request:
     return Request(
         layer_path(Side.LEFT, words.left),
         layer_path(Side.RIGHT, words.right),
-        words.relation,
+        condition_of(words),
         words.out,
-        Program(find_program(words.program), words.scale),
+        words.skip,
+        Program(find_program(words.program), reading_of(words)),
         place_of(words),
         words.folder or os.path.dirname(os.path.abspath(words.out)),
         words.tiles,
         words.block,
     )
+
+
+def condition_of(words: argparse.Namespace) -> Condition:
+    if words.command == JOIN:
+        return Condition(JOIN, (f"--relation={words.relation}",))
+    distance = f"--distance={words.distance}"
+    if words.command == NEAR:
+        apart = ("--apart",) if words.apart else ()
+        return Condition(NEAR, (distance, *apart), words.distance)
+    return Condition(NEAREST, (distance, f"--most={words.most}"), words.distance)
+
+
+def reading_of(words: argparse.Namespace) -> Reading:
+    return Reading(words.scale, words.round, words.geometry, words.rings)
 
 
 def layer_path(side: Side, word: str) -> str:

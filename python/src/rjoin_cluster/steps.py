@@ -1,10 +1,9 @@
 """The steps of a join, each of which is a set of tasks, and what they leave to the next one."""
 from __future__ import annotations
 
-from typing import Any, Sequence
+from typing import Any, Optional, Sequence
 
 from rjoin_cluster.blocks import (
-    MOST_PART,
     BlockRead,
     Extent,
     ReadJob,
@@ -12,6 +11,7 @@ from rjoin_cluster.blocks import (
     read_block,
     scan_segment,
 )
+from rjoin_cluster.conditions import Reach
 from rjoin_cluster.doubles import DoublesJob, first_double
 from rjoin_cluster.engine import Engine
 from rjoin_cluster.faults import JoinFault, ProgramFault
@@ -19,25 +19,29 @@ from rjoin_cluster.ids import SHARES
 from rjoin_cluster.inputs import Input
 from rjoin_cluster.layers import Layer, Layers
 from rjoin_cluster.layout import Layout, save_array
-from rjoin_cluster.merge import PartJob, plan_parts, write_part
+from rjoin_cluster.merge import PartDone, PartJob, plan_parts, write_part
+from rjoin_cluster.nearest import Search
 from rjoin_cluster.outputs import Report
-from rjoin_cluster.pieces import DealJob, Range, deal_blocks, save_ends
+from rjoin_cluster.parts import MOST_PART
+from rjoin_cluster.pieces import Cargo, DealJob, Dealt, Range, deal_blocks, load_lengths, save_ends
+from rjoin_cluster.plan import (
+    MOST_RECORDS_BYTES,
+    TILE_FEATURES,
+    Plan,
+    ranges,
+    ranges_of_records,
+)
 from rjoin_cluster.program import RowFault
-from rjoin_cluster.records import Places, block_begins
+from rjoin_cluster.records import block_begins
 from rjoin_cluster.request import Request
-from rjoin_cluster.runs import REPORT_HEADER, RunDone, RunJob, join_tile
+from rjoin_cluster.runs import RunDone, RunJob, join_tile
 from rjoin_cluster.sides import Side
-from rjoin_cluster.tiles import Tiles, Want, make_tiles
+from rjoin_cluster.skipping import skipped_header
+from rjoin_cluster.tiles import Tiles, make_tiles
 
-TILE_FEATURES = 400_000
-LEAST_TILE_FEATURES = 200_000
-TILES_PER_WORKER = 4
 SAMPLE_BOXES = 200_000
 SAMPLE_PER_TILE = 500
 HASHES_PER_TASK = 4_000_000
-MOST_GROUPS = 400
-GROUP_FEATURES = 3_000_000
-GROUPS_PER_WORKER = 2
 MOST_RANK = 2**63 - 1
 COPY_BYTES = 2**24
 
@@ -51,42 +55,52 @@ class Steps:
     """The steps of one join."""
 
     def __init__(
-        self, request: Request, inputs: Sequence[Input], layout: Layout, engine: Engine
+        self,
+        request: Request,
+        reach: Reach,
+        inputs: dict[Side, Input],
+        layout: Layout,
+        engine: Engine,
     ) -> None:
         self.request = request
+        self.reach = reach
         self.inputs = inputs
         self.layout = layout
         self.engine = engine
 
-    def report_into(self, report: Report) -> dict[str, Any]:
-        """Writes the report, and answers the figures of the join."""
+    def report_into(self, report: Report, skipped: Optional[Report]) -> dict[str, Any]:
+        """Writes the report and the list of skipped rows, and answers the figures of the join."""
         layers = self.read(self.cut())
         self.check_ids(layers)
-        tiles = self.make_tiles(layers)
-        dealt = {side: self.deal(layers[side]) for side in Side}
-        runs = self.join_tiles(layers, tiles, dealt)
+        if skipped is not None:
+            self.list_skipped(layers, skipped)
+        plan = Plan(layers, self.inputs, self.engine.workers(), self.request.has_texts)
+        tiles = self.make_tiles(plan)
+        dealt = {side: self.deal(plan, layers[side]) for side in Side}
+        runs = self.join_tiles(plan, tiles, dealt)
         written = self.merge(layers, runs, report)
         return {
             **{side.value: self.layer_figures(layers[side], dealt[side]) for side in Side},
             "tiles": tiles.count,
             "runs": len(runs),
-            "pairs": sum(run.pairs for run in runs),
-            "report_bytes": written,
+            "pairs": written.pairs,
+            "report_bytes": written.bytes,
             "seconds": self.engine.seconds,
         }
 
-    def layer_figures(self, layer: Layer, dealt: Places) -> dict[str, int]:
-        file = next(file for file in self.inputs if file.side is layer.side)
-        counts = {"blocks": len(layer.blocks), "features": layer.rows, "dealt": int(dealt.sum())}
-        return {"bytes": file.bytes, **counts}
+    def layer_figures(self, layer: Layer, dealt: Dealt) -> dict[str, int]:
+        features = {"features": layer.rows, "dealt": int(dealt.features.sum())}
+        size, skipped = self.inputs[layer.side].bytes, len(layer.skipped.texts)
+        return {"bytes": size, "blocks": len(layer.blocks), "skipped": skipped, **features}
 
     def cut(self) -> list[ReadJob]:
         """The blocks of both files, the left ones first."""
-        segments = [segment for file in self.inputs for segment in self.segments(file)]
+        files = self.inputs.values()
+        segments = [segment for file in files for segment in self.segments(file)]
         found = self.engine.all("cutting", scan_segment, segments)
         share = self.share_of_sample(sum(scanned.line_feeds for scanned in found))
         jobs = []
-        for file in self.inputs:
+        for file in files:
             scans = [
                 scanned for segment, scanned in zip(segments, found) if segment.side is file.side
             ]
@@ -95,8 +109,20 @@ class Steps:
             for number, (begin, end) in enumerate(zip(begins, [*begins[1:], file.bytes])):
                 behind = min(end, begin + MOST_BEHIND + self.request.block_bytes)
                 block = Extent(file.side, file.path, number, begin, behind)
-                jobs.append(ReadJob(self.layout, self.request.program, block, share))
+                jobs.append(self.read_job(block, share))
         return jobs
+
+    def read_job(self, block: Extent, share: float) -> ReadJob:
+        request = self.request
+        return ReadJob(
+            self.layout,
+            request.program,
+            block,
+            share,
+            self.reach.growth,
+            request.has_texts,
+            request.skip is not None,
+        )
 
     def segments(self, file: Input) -> list[Extent]:
         """Parts of a file of one length; a file without a record has one that is empty."""
@@ -136,80 +162,98 @@ class Steps:
         found = self.engine.all("checking", first_double, jobs)
         for side in sides:
             doubles = [number for job, number in zip(jobs, found) if job.side is side]
-            faults = [RowFault(n + 1, "id is already there") for n in doubles if n is not None]
+            rows = [layers[side].row_of(number) for number in doubles if number is not None]
+            faults = [RowFault(row, "id is already there") for row in rows]
             faults += [fault for fault in [layers[side].fault] if fault is not None]
             if faults:
                 raise fault_line(side, min(faults, key=lambda fault: fault.row))
         if layers.left.rows * layers.right.rows > MOST_RANK:
             raise JoinFault(f"more than {MOST_RANK} pairs of a left and a right feature")
 
+    def list_skipped(self, layers: Layers, report: Report) -> None:
+        report.write(skipped_header(self.request.program))
+        for side in Side:
+            skipped = layers[side].skipped
+            for row, text in zip(skipped.rows.tolist(), skipped.texts):
+                report.write(f"{side.value},{row}".encode() + text)
+
     def doubles_jobs(self, layer: Layer) -> list[DoublesJob]:
         save_array(self.layout.firsts(layer.side), layer.firsts)
         parts = min(SHARES, 1 + layer.rows // HASHES_PER_TASK)
         return [DoublesJob(self.layout, layer.side, part, parts) for part in range(parts)]
 
-    def make_tiles(self, layers: Layers) -> Tiles:
+    def make_tiles(self, plan: Plan) -> Tiles:
+        left, right = plan.layers.left.sample, plan.layers.right.sample
         with self.engine.phase("tiles"):
-            tiles = make_tiles(layers.left.sample, layers.right.sample, self.wanted_tiles(layers))
+            tiles = make_tiles(left, right, plan.tiles(self.request.tiles))
             save_array(self.layout.tiles(), tiles.nodes)
         return tiles
 
-    def wanted_tiles(self, layers: Layers) -> Want:
-        features = min(TILE_FEATURES, layers.numerals.most_features // 2)
-        if self.request.tiles is not None:
-            return Want(self.request.tiles, features)
-        filled = (layers.left.rows + layers.right.rows) // LEAST_TILE_FEATURES
-        return Want(min(filled, self.engine.workers() * TILES_PER_WORKER), features)
+    def cargo(self, layer: Layer) -> Cargo:
+        """Only ids of the right side travel with the pairs: those of the left one are read in the
+        end.
+        """
+        return Cargo(layer.id_width if layer.side is Side.RIGHT else 0, self.request.has_texts)
 
-    def deal(self, layer: Layer) -> Places:
-        """Deals all features of a side, and answers how many each tile got."""
-        blocks, id_width = len(layer.blocks), layer.id_width if layer.side is Side.RIGHT else 0
-        groups = ranges(blocks, self.blocks_of_group(layer))
+    def deal(self, plan: Plan, layer: Layer) -> Dealt:
+        """Deals all features of a side, and answers what each tile got."""
+        groups = ranges(len(layer.blocks), plan.blocks_of_group(layer))
+        path, cargo = self.inputs[layer.side].path, self.cargo(layer)
         jobs = [
-            DealJob(self.layout, layer.side, number, group.begin, group.end, id_width)
+            DealJob(self.layout, layer.side, path, number, group.begin, group.end, cargo)
             for number, group in enumerate(groups)
         ]
         return save_ends(self.layout, layer.side, self.engine.all("dealing", deal_blocks, jobs))
 
-    def blocks_of_group(self, layer: Layer) -> int:
-        """How many blocks are dealt together, as far as a worker's memory takes them. Each run
-        reads of each group, so that there should be few, but enough for some workers.
-        """
-        blocks = len(layer.blocks)
-        share = blocks // (GROUPS_PER_WORKER * max(1, self.engine.workers()))
-        fitting = GROUP_FEATURES * blocks // max(1, layer.rows)
-        return max(1, min(max(1 + blocks // MOST_GROUPS, share), fitting))
-
-    def join_tiles(self, layers: Layers, tiles: Tiles, dealt: dict[Side, Places]) -> list[RunDone]:
+    def join_tiles(self, plan: Plan, tiles: Tiles, dealt: dict[Side, Dealt]) -> list[RunDone]:
         """Joins each tile in one run, or each part of its left list with each of its right one."""
-        most = layers.numerals.most_features
+        request, layers = self.request, plan.layers
         parts = [
             (tile, ones, others)
             for tile in range(tiles.count)
-            for ones in ranges(int(dealt[Side.LEFT][tile]), most)
-            for others in ranges(int(dealt[Side.RIGHT][tile]), most)
+            for ones in self.parts(plan, layers.left, tile, dealt[Side.LEFT])
+            for others in self.parts(plan, layers.right, tile, dealt[Side.RIGHT])
         ]
-        program, relation, regions = self.request.program, self.request.relation, tiles.regions()
-        same = (self.layout, program, relation, layers.numerals)
-        right = (layers.right.rows, layers.right.id_width)
+        numerals = None if request.has_texts else layers.numerals
+        cargo = {side: self.cargo(layers[side]) for side in Side}
+        same = (self.layout, request.program, request.condition, self.reach, numerals, cargo)
+        regions = tiles.regions()
         jobs = [
-            RunJob(*same, number, tile, regions[tile], ones, others, *right)
+            RunJob(*same, number, tile, regions[tile], ones, others, layers.right.rows)
             for number, (tile, ones, others) in enumerate(parts)
         ]
         return self.engine.all("joining", join_tile, jobs)
 
-    def merge(self, layers: Layers, runs: Sequence[RunDone], report: Report) -> int:
-        """Writes the report, and answers how many bytes it has."""
+    def parts(self, plan: Plan, layer: Layer, tile: int, dealt: Dealt) -> list[Range]:
+        """The features of a tile, in parts that a run takes."""
+        features = int(dealt.features[tile])
+        if self.request.has_texts and dealt.bytes[tile] > MOST_RECORDS_BYTES:
+            lengths = load_lengths(self.layout, layer.side, tile, features, self.cargo(layer))
+            return list(ranges_of_records(lengths))
+        return ranges(features, plan.most_features)
+
+    def merge(self, layers: Layers, runs: Sequence[RunDone], report: Report) -> PartDone:
+        """Writes the report, and answers what is in it."""
         with self.engine.phase("merging"):
             count = plan_parts(self.layout, runs, self.engine.workers())
         right = layers.right
-        jobs = [PartJob(self.layout, part, right.rows, right.id_width) for part in range(count)]
-        sizes = self.engine.all("merging", write_part, jobs)
+        same = (self.layout, self.reach, self.search(right))
+        jobs = [PartJob(*same, part, right.rows, right.id_width) for part in range(count)]
+        done = self.engine.all("merging", write_part, jobs)
         with self.engine.phase("writing"):
-            report.write(REPORT_HEADER)
+            report.write(self.reach.header)
             for part in range(count):
                 self.move_part(part, report)
-        return len(REPORT_HEADER) + sum(sizes)
+        size = len(self.reach.header) + sum(part.bytes for part in done)
+        return PartDone(sum(part.pairs for part in done), size)
+
+    def search(self, right: Layer) -> Optional[Search]:
+        request = self.request
+        if not request.condition.is_nearest:
+            return None
+        paths = {side: file.path for side, file in self.inputs.items()}
+        same = (self.layout, request.program, request.condition, self.reach)
+        return Search(*same, paths, right.rows)
 
     def move_part(self, number: int, report: Report) -> None:
         path = self.layout.report_part(number)
@@ -222,9 +266,3 @@ class Steps:
 def fault_line(side: Side, fault: RowFault) -> ProgramFault:
     row = f"row {fault.row}: " if fault.row else ""
     return ProgramFault(f"{fault.teller}: {side.value}: {row}{fault.text}")
-
-
-def ranges(count: int, most: int) -> list[Range]:
-    """The numbers below count in as few ranges of about one length as have at most so many."""
-    parts = -(-count // most)
-    return [Range(count * part // parts, count * (part + 1) // parts) for part in range(parts)]

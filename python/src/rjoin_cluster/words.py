@@ -20,6 +20,13 @@ def words_at(text: Bytes, places: Places) -> Words:
     return overlapping[places]
 
 
+def put_words(text: Bytes, places: Places, words: Words) -> None:
+    """Writes eight bytes at each place, all of which lie in the text."""
+    if places.size:
+        overlapping: Words = np.ndarray(text.size - WORD + 1, "<u8", text.data, strides=1)
+        overlapping[places] = words
+
+
 def filled_behind(words: Words, counts: Places) -> Words:
     """The words with 255 for all but so many of their first bytes: none below 0, all above 8."""
     return words | FILLS_BEHIND.take(counts, mode="clip")

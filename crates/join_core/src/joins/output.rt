@@ -1,6 +1,6 @@
 //! The output made of the pairs of two layers.
 
-ghost use Rattle.std.specs.Prelude.{◌≡◌, ◌<◌, true, false, All, IfOk, IfErr, map};
+ghost use Rattle.std.specs.Prelude.{◌≡◌, ◌<◌, true, false, All, Ok, Err, IfOk, IfErr, map};
 ghost use Rattle.layer_core.specs.Edits.{both};
 ghost use Rattle.draw_core.specs.Drawings.{drawing_by};
 ghost use Rattle.draw_core.specs.Limits.{most_drawn};
@@ -8,6 +8,7 @@ ghost use Rattle.join_core.specs.DrawRuns.{features_of};
 ghost use Rattle.join_core.specs.Products.{IsFew, IsLateProductFault, IsMadeOf};
 ghost use Rattle.join_core.specs.Texts.{bytes_of_text};
 
+use super::loaded::SkippedRows;
 use crate::fault::RunFault;
 use crate::text::Text;
 use draw_core::{Drawn, can_be_drawn, picture};
@@ -15,6 +16,28 @@ use layer_core::{Geometry, Layer};
 use options_core::Product;
 use report_core::{Match, report_texts};
 use std::thread::Threads;
+
+/// The output of a join as text, and the rows of its layers' files that were skipped.
+#[derive(Drop)]
+pub struct JoinText {
+    pub text: Text,
+    pub skipped: SkippedRows,
+}
+
+/// The text with these skipped rows, or why there is none.
+pub fn with_skipped(
+    text: Result<Text, RunFault>,
+    skipped: SkippedRows,
+) -> Result<JoinText, RunFault>
+    ensures ok { IfOk result (λ made. text ≡ Ok made.text) }
+    ensures skipped { IfOk result (λ made. made.skipped ≡ skipped) }
+    ensures err { IfErr result (λ fault. text ≡ Err fault) }
+{
+    match text {
+        Ok(text) => Ok(JoinText { text, skipped }),
+        Err(fault) => Err(fault),
+    }
+}
 
 /// How the output of a join is made.
 #[derive(Drop)]

@@ -7,26 +7,29 @@ ghost use Rattle.draw_core.specs.Limits.{most_drawn};
 ghost use Rattle.join_core.specs.DrawRuns.{features_of};
 ghost use Rattle.join_core.specs.Inputs.{BlamesInput};
 ghost use Rattle.join_core.specs.Joinings.{box_joining};
-ghost use Rattle.join_core.specs.JoinRuns.{files_of, IsJoinFault, JoinGives};
+ghost use Rattle.join_core.specs.JoinRuns.{files_by, files_of, IsJoinFault, JoinGives};
+ghost use Rattle.join_core.specs.JoinRuns.{AreRowsSkipped, skipped_lists};
 ghost use Rattle.join_core.specs.Products.{ProductGives, IsProduct, IsProductFault};
 ghost use Rattle.join_core.specs.Products.{IsLateProductFault};
 ghost use Rattle.join_core.specs.Runs.{NoTextFault, RunEnds};
 ghost use Rattle.join_core.specs.SourceStates.{AreFresh, HasFailed, TellsFailures};
 ghost use Rattle.join_core.specs.Texts.{bytes_of_text};
 
-use super::edited::edited_layers;
+use super::edited::load_edited;
 use super::job::{BoxCondition, JoinJob};
 use super::layers::free_layers;
-use super::output::{Output, can_be_made};
+use super::loaded::LoadedLayers;
+use super::output::{JoinText, Output, can_be_made, with_skipped};
 use super::sources::JoinSources;
 use crate::fault::RunFault;
 use crate::text::Text;
-use file_core::{LayerReader, Source};
+use file_core::{LayerReader, Unreadable};
 use filter_core::join_layers;
 use layer_core::Layer;
 use options_core::{Options, Product};
 use relation_core::JoinRelation;
 use report_core::Sink;
+use row_core::Source;
 use std::hash::RandomState;
 use std::sync::Wait;
 use std::thread::Threads;
@@ -64,9 +67,81 @@ impl JoinJob<BoxCondition> {
             (HasFailed A.has_failed B.has_failed E.has_failed sources.new)
             S.written S.is_flushed S.has_failed sink.old sink.new result }
     {
-        let run = JoinRun { rt, job: self };
-        run.write(states, sources, sink)
+        let made = join_text(rt, self, Unreadable::Refuse, states, sources)?;
+        made.text.write(sink)?;
+        Ok(())
     }
+}
+
+/// The product of a join as text, and the rows that were skipped, where `unreadable` is
+/// [`Unreadable::Skip`]. All else is as [`JoinJob::run`] says.
+pub fn join_text<R: AllocGlobal + Threads + Wait + Sync, A: Source, B: Source, E: Source>(
+    rt: &R,
+    job: &JoinJob<BoxCondition>,
+    unreadable: Unreadable,
+    states: (RandomState, RandomState),
+    sources: &mut JoinSources<A, B, E>,
+) -> Result<JoinText, RunFault>
+    requires { AreFresh A.has_failed B.has_failed E.has_failed sources.old }
+    ensures ok { let joining = box_joining job.now.condition.relation in
+        let reads = ReadsBox job.now.condition.scale in
+        let files = files_by unreadable reads A.remaining B.remaining E.remaining sources.old in
+        let gives = ProductGives job.now.product joining files in
+        IfOk result (λ made. gives (Ok (bytes_of_text made.text))) }
+    ensures skipped { let reads = ReadsBox job.now.condition.scale in
+        let files = files_by unreadable reads A.remaining B.remaining E.remaining sources.old in
+        IfOk result (λ made. AreRowsSkipped files (skipped_lists made.skipped)) }
+    ensures fault { let joining = box_joining job.now.condition.relation in
+        let reads = ReadsBox job.now.condition.scale in
+        let files = files_by unreadable reads A.remaining B.remaining E.remaining sources.old in
+        let gives = ProductGives job.now.product joining files in
+        IfErr result (λ f. BlamesInput f → gives (Err f)) }
+    ensures faults { let reads = ReadsBox job.now.condition.scale in
+        let files = files_by unreadable reads A.remaining B.remaining E.remaining sources.old in
+        IfErr result (IsProductFault job.now.product files) }
+    ensures io { TellsFailures A.has_failed B.has_failed E.has_failed sources.new result }
+{
+    let workers = job.options.workers();
+    let reader = LayerReader {
+        rt,
+        alloc: rt.alloc(),
+        format: job.condition.scale,
+        threads: workers,
+    };
+    let loaded = load_edited(&reader, unreadable, states, sources)?;
+    let LoadedLayers {
+        layers: (left, right),
+        skipped,
+    } = loaded;
+    let text = product(rt, job, &left, &right);
+    free_layers(rt, left, right, workers);
+    with_skipped(text, skipped)
+}
+
+/// The product of two layers.
+fn product<R: AllocGlobal + Threads + Wait + Sync>(
+    rt: &R,
+    job: &JoinJob<BoxCondition>,
+    left: &Layer,
+    right: &Layer,
+) -> Result<Text, RunFault>
+    ensures ok { let joining = box_joining job.now.condition.relation in
+        let layers = both left.now.list right.now.list in
+        IfOk result (λ text. IsProduct job.now.product joining layers (bytes_of_text text)) }
+    ensures many { let layers = both left.now.list right.now.list in
+        IsErrOf result RunFault.TooManyToDraw → most_drawn < features_of layers }
+    ensures err { IfErr result (IsLateProductFault job.now.product) }
+{
+    if !can_be_made(job.product, left, right) {
+        return Err(RunFault::TooManyToDraw);
+    }
+    let outcome = join_layers(rt, left, right, &job.condition.relation, &job.options)?;
+    let output = Output {
+        rt,
+        product: job.product,
+        workers: job.options.workers(),
+    };
+    output.text(left, right, outcome.pairs())
 }
 
 /// Writes the report of a join of two layers of boxes, after the edits of both. All else is as
@@ -98,101 +173,4 @@ pub fn run_join<R: AllocGlobal + Threads + Wait + Sync, A: Source, B: Source, E:
         product: Product::Report,
     };
     job.run(rt, states, sources, sink)
-}
-
-/// A job and the runtime that runs it.
-#[derive(Drop)]
-struct JoinRun<'a, R> {
-    rt: &'a R,
-    job: &'a JoinJob<BoxCondition>,
-}
-
-impl<R: AllocGlobal + Threads + Wait + Sync> JoinRun<'_, R> {
-    /// Makes the text and writes it. After a fault of an input, nothing is written.
-    fn write<A: Source, B: Source, E: Source, S: Sink>(
-        &self,
-        states: (RandomState, RandomState),
-        sources: &mut JoinSources<A, B, E>,
-        sink: &mut S,
-    ) -> Result<(), RunFault>
-        requires sources { AreFresh A.has_failed B.has_failed E.has_failed sources.old }
-        requires sink { S.has_failed sink.old ≡ false }
-        ensures { let job = self.now.job.now in
-            let joining = box_joining job.condition.relation in
-            let reads = ReadsBox job.condition.scale in
-            let files = files_of reads A.remaining B.remaining E.remaining sources.old in
-            RunEnds (ProductGives job.product joining files) NoTextFault
-            (IsProductFault job.product files)
-            (HasFailed A.has_failed B.has_failed E.has_failed sources.new)
-            S.written S.is_flushed S.has_failed sink.old sink.new result }
-    {
-        let text = self.text(states, sources)?;
-        text.write(sink)?;
-        Ok(())
-    }
-
-    /// The text of the product, or the first fault.
-    fn text<A: Source, B: Source, E: Source>(
-        &self,
-        states: (RandomState, RandomState),
-        sources: &mut JoinSources<A, B, E>,
-    ) -> Result<Text, RunFault>
-        requires { AreFresh A.has_failed B.has_failed E.has_failed sources.old }
-        ensures ok { let job = self.now.job.now in
-            let joining = box_joining job.condition.relation in
-            let reads = ReadsBox job.condition.scale in
-            let files = files_of reads A.remaining B.remaining E.remaining sources.old in
-            let gives = ProductGives job.product joining files in
-            IfOk result (λ text. gives (Ok (bytes_of_text text))) }
-        ensures fault { let job = self.now.job.now in
-            let joining = box_joining job.condition.relation in
-            let reads = ReadsBox job.condition.scale in
-            let files = files_of reads A.remaining B.remaining E.remaining sources.old in
-            let gives = ProductGives job.product joining files in
-            IfErr result (λ f. BlamesInput f → gives (Err f)) }
-        ensures faults { let job = self.now.job.now in
-            let reads = ReadsBox job.condition.scale in
-            let files = files_of reads A.remaining B.remaining E.remaining sources.old in
-            IfErr result (IsProductFault job.product files) }
-        ensures io { TellsFailures A.has_failed B.has_failed E.has_failed sources.new result }
-    {
-        let workers = self.job.options.workers();
-        let reader = LayerReader {
-            rt: self.rt,
-            alloc: self.rt.alloc(),
-            format: self.job.condition.scale,
-            threads: workers,
-        };
-        let (left, right) = edited_layers(&reader, states, sources)?;
-        let text = self.product(&left, &right);
-        free_layers(self.rt, left, right, workers);
-        text
-    }
-
-    /// The product of two layers.
-    fn product(&self, left: &Layer, right: &Layer) -> Result<Text, RunFault>
-        ensures ok { let job = self.now.job.now in
-            let joining = box_joining job.condition.relation in
-            let layers = both left.now.list right.now.list in
-            IfOk result (λ text. IsProduct job.product joining layers (bytes_of_text text)) }
-        ensures many { let layers = both left.now.list right.now.list in
-            IsErrOf result RunFault.TooManyToDraw → most_drawn < features_of layers }
-        ensures err { IfErr result (IsLateProductFault self.now.job.now.product) }
-    {
-        let JoinJob {
-            condition,
-            options,
-            product,
-        } = self.job;
-        if !can_be_made(*product, left, right) {
-            return Err(RunFault::TooManyToDraw);
-        }
-        let outcome = join_layers(self.rt, left, right, &condition.relation, options)?;
-        let output = Output {
-            rt: self.rt,
-            product: *product,
-            workers: options.workers(),
-        };
-        output.text(left, right, outcome.pairs())
-    }
 }

@@ -6,7 +6,7 @@ ghost use Rattle.words_core.specs.Readings.{IsDistanceIn, IsNearnessIn, found_in
 
 use super::arguments::{optional, required};
 use super::distance::distance_of;
-use super::geometries::read_scale;
+use super::geometries::{read_geometries, read_scale};
 use super::options::read_options;
 use super::paths::read_paths;
 use crate::words::{Command, NearRequest, WordFault};
@@ -15,7 +15,8 @@ use distance_core::{Distance, Nearness};
 use number_core::Scale;
 use std::alloc::Global;
 
-/// Reads a join by distance. A fault of the distance comes after all others.
+/// Reads a join by distance. A fault of the distance comes after all others but that of the kind of
+/// geometries.
 pub fn read_near<'a>(alloc: Global, given: &ArgMatches<'a>) -> Result<Command<'a>, WordFault>
     ensures ok { IfOk result (IsCommandIn (codes "near") (found_in given.now)) }
     ensures err { IfErr result (λ f. f ≢ WordFault.Memory → HasNearFault (found_in given.now) f) }
@@ -24,12 +25,14 @@ pub fn read_near<'a>(alloc: Global, given: &ArgMatches<'a>) -> Result<Command<'a
     let options = read_options(alloc, given)?;
     let scale = read_scale(alloc, given)?;
     let distance = read_distance(alloc, given, scale)?;
+    let geometries = read_geometries(alloc, given)?;
     Ok(Command::Near(NearRequest {
         paths,
         distance,
         nearness: read_nearness(given),
         options,
         scale,
+        geometries,
     }))
 }
 

@@ -1,8 +1,8 @@
 //! Reading the paths of two layers and of their edits.
 
 ghost use Rattle.std.specs.Prelude.{◌≡◌, ◌≢◌, IfOk, IfErr};
-ghost use Rattle.words_core.specs.Readings.{ArePathsIn, NeedsPaths, Says, found_in, share_input};
-ghost use Rattle.words_core.specs.Readings.{shared_text, text_in};
+ghost use Rattle.words_core.specs.Readings.{ArePathsIn, NeedsPaths, Says, found_in, is_taken};
+ghost use Rattle.words_core.specs.Readings.{share_input, text_in};
 
 use super::arguments::{optional, required};
 use crate::standard_input::is_standard_input;
@@ -10,7 +10,8 @@ use crate::words::{LayerPaths, WordFault};
 use clap::ArgMatches;
 use std::alloc::{AllocError, Global};
 
-/// Reads the paths, of which at most one may be standard input.
+/// Reads the paths. At most one of the files may be standard input, and the list of skipped rows
+/// has to be another file.
 pub fn read_paths<'a>(alloc: Global, given: &ArgMatches<'a>) -> Result<LayerPaths<'a>, WordFault>
     ensures ok { IfOk result (ArePathsIn (found_in given.now)) }
     ensures err { IfErr result (λ f. f ≢ WordFault.Memory → NeedsPaths (found_in given.now) f ⊥) }
@@ -19,23 +20,45 @@ pub fn read_paths<'a>(alloc: Global, given: &ArgMatches<'a>) -> Result<LayerPath
     let right = required(alloc, given, "RIGHT")?;
     let edits = optional(given, "edits");
     if shares_input(left, right, edits) {
-        return Err(shared_input(alloc));
+        return Err(usage_fault(
+            alloc,
+            "error: only one of LEFT, RIGHT and --edits can be -\n",
+        ));
     }
-    Ok(LayerPaths { left, right, edits })
+    let skip = optional(given, "skip");
+    if is_taken(left, right, edits, skip) {
+        return Err(usage_fault(alloc, "error: --skip needs a file of its own\n"));
+    }
+    Ok(LayerPaths {
+        left,
+        right,
+        edits,
+        skip,
+    })
 }
 
-/// The fault of two files that are both standard input, which can be read only once.
-fn shared_input(alloc: Global) -> WordFault
-    ensures { result ≢ WordFault.Memory → Says shared_text result }
+/// The fault of words that this text refuses.
+fn usage_fault(alloc: Global, text: &str) -> WordFault
+    ensures { result ≢ WordFault.Memory → Says text.now result }
 {
-    let text = String::from_str(
-        alloc,
-        "error: only one of LEFT, RIGHT and --edits can be -\n",
-    );
-    match text {
+    match String::from_str(alloc, text) {
         Ok(text) => WordFault::Usage { text, help: false },
         Err(AllocError) => WordFault::Memory,
     }
+}
+
+/// Whether the list of skipped rows would be written to standard output or over a file of the join.
+fn is_taken(left: &str, right: &str, edits: Option<&str>, skip: Option<&str>) -> bool
+    ensures { result ≡ is_taken left.now right.now (text_in edits.entry) (text_in skip.entry) }
+{
+    let Some(path) = skip else {
+        return false;
+    };
+    let is_edits = match edits {
+        Some(edits) => path == edits,
+        None => false,
+    };
+    is_standard_input(path) || path == left || path == right || is_edits
 }
 
 /// Whether at least two of the files of a join are standard input.

@@ -5,7 +5,9 @@ from typing import Sequence
 
 import pya
 
-from .join import ENVELOPE, ERROR, RELATIONS, SKIP, JoinError, Request, join_layers, layer_names
+from .conditions import RELATIONS
+from .join import Request, join_layers
+from .layers import CELL, ENVELOPE, ERROR, FLAT, SKIP, JoinError, Reading, layer_names
 from .program import ProgramError, staleness
 
 TITLE = "Join layers by relation"
@@ -16,8 +18,14 @@ CHOICES = {
 }
 
 
+MODES = {
+    "All below the cell, through its instances": FLAT,
+    "Those of each cell by themselves": CELL,
+}
+
+
 class JoinDialog(pya.QDialog):
-    """Asks for two layers, a relation, the treatment of other shapes, and whether to merge."""
+    """Asks for two layers, a relation or a spacing, and how their shapes are read."""
 
     def __init__(self, parent: pya.QWidget, layers: Sequence[str]) -> None:
         super().__init__(parent)
@@ -28,8 +36,13 @@ class JoinDialog(pya.QDialog):
         self.right.currentIndex = min(1, len(layers) - 1)
         self.relation = self._choice("Relation, or a mask of nine letters", RELATIONS)
         self.relation.editable = True
+        self.space = pya.QLineEdit(self)
+        self.space.toolTip = "Shapes that share no point and are closer than that"
+        self.form.addRow("Or a spacing in micrometres", self.space)
+        self.mode = self._choice("Shapes", list(MODES))
         self.others = self._choice("Shapes that rjoin doesn't read", list(CHOICES))
         self.merged = pya.QCheckBox("Merge the shapes of each layer first", self)
+        self.merged.checked = True
         self.merged.toolTip = "Else each shape counts as it is drawn: of metal that is cut up, " \
             "each piece by itself"
         self.form.addRow(self.merged)
@@ -40,9 +53,12 @@ class JoinDialog(pya.QDialog):
         self.form.addRow(self.buttons)
 
     def request(self) -> Request:
-        """What the user has chosen."""
-        return Request(self.left.currentText, self.right.currentText, self.relation.currentText,
-                       CHOICES[self.others.currentText], self.merged.checked)
+        """The request of the user; a spacing goes before the relation."""
+        space = self.space.text.strip()
+        return Request(self.left.currentText, self.right.currentText,
+                       "" if space else self.relation.currentText, space,
+                       Reading(CHOICES[self.others.currentText], self.merged.checked,
+                               MODES[self.mode.currentText]))
 
     def _choice(self, label: str, texts: Sequence[str]) -> pya.QComboBox:
         box = pya.QComboBox(self)
@@ -73,7 +89,7 @@ def run() -> None:
 def show(view: pya.LayoutView, request: Request) -> int:
     """Joins, puts the pairs into the view and opens the marker browser; answers their number."""
     cellview = view.active_cellview()
-    database = join_layers(cellview.layout(), cellview.cell, request)
+    database = join_layers(cellview.layout(), cellview.cell, request).database()
     index = view.add_rdb(database)
     view.show_rdb(index, view.active_cellview_index())
     return int(database.num_items())

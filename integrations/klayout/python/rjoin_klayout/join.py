@@ -1,278 +1,197 @@
-"""Joins two layers below a cell and puts the pairs into a report database."""
+"""Joins two layers below a cell and reports the pairs."""
 from __future__ import annotations
 
 import csv
 import tempfile
-from dataclasses import dataclass, field
 from pathlib import Path
-from typing import Dict, Iterator, List, NamedTuple, Optional, Set
+from typing import Dict, Iterator, List, NamedTuple, Sequence, Tuple
 
 import pya
 
 from . import program
-from .shapes import (
-    Figure,
-    Geometry,
-    NotRead,
-    envelope_of,
-    geometry_of,
-    geometry_of_merged,
-    has_area,
-    merged_areas,
+from .conditions import Condition, Place, Relation, Row, Space
+from .layers import (
+    CELL,
+    ENVELOPE,
+    MODES,
+    OTHERS,
+    JoinError,
+    Layer,
+    Reading,
+    layer_index,
+    read_layer,
 )
+from .report import Category, Report, Side, marker_of, text_value
 
-RELATIONS = ("intersects", "touches", "crosses", "within", "contains", "overlaps", "equals",
-             "covers", "covered_by", "contains_properly")
-ERROR, ENVELOPE, SKIP = OTHERS = ("error", "envelope", "skip")
-REPORT = ["left", "right", "matrix"]
-EXACT, INEXACT = "exact: true", "exact: false"
-
-
-class JoinError(Exception):
-    """The join can't be done as it was asked for."""
+EXACT, INEXACT = text_value("exact: true"), text_value("exact: false")
 
 
 class Request(NamedTuple):
     """What is to be joined.
 
-    A layer is named as KLayout names it: `1/0`, `METAL`, `METAL (1/0)`. The relation is a name
-    or a mask of nine letters. `others` is the treatment of shapes that rjoin doesn't read. `merged`
-    has the shapes of each layer merged first, so that it doesn't matter how an area is drawn.
+    A layer is named as KLayout names it: `1/0`, `METAL`, `METAL (1/0)`. The condition is either a
+    relation, by its name or a mask of nine letters, or a spacing, in micrometres.
     """
 
     left: str
     right: str
-    relation: str
-    others: str = ERROR
-    merged: bool = False
+    relation: str = ""
+    space: str = ""
+    reading: Reading = Reading()
 
-    def title(self) -> str:
-        return f"{self.left} {self.relation} {self.right}{', merged' * self.merged}"
-
-
-class Placed(NamedTuple):
-    """A shape as it lies in the top cell, and where it comes from, unless it is a merged one."""
-
-    geometry: Geometry
-    cell: str
-    trans: Optional[pya.ICplxTrans]
-
-    def origin(self) -> str:
-        """The cell that the shape is drawn in, and how that lies in the top cell."""
-        return f"{self.cell} {self.trans or 'merged'}"
+    def condition(self) -> Condition:
+        if bool(self.relation) == bool(self.space):
+            raise JoinError("one of relation and space is needed")
+        return Space(self.space) if self.space else Relation(self.relation)
 
 
-class LeftOut(NamedTuple):
-    """A shape that doesn't take part."""
+def join_layers(layout: pya.Layout, cell: pya.Cell, request: Request) -> Report:
+    """The pairs, and the shapes that were left out.
 
-    placed: Placed
-    reason: str
-
-
-class Pair(NamedTuple):
-    """Two shapes, by their numbers, with the letters of their DE-9IM matrix."""
-
-    left: int
-    right: int
-    matrix: str
-
-
-@dataclass
-class Layer:
-    """The flattened shapes of a layer; the number of one is its place in `shapes`.
-
-    `envelopes` has the numbers of those whose bounding box stands in for them.
+    Raises JoinError or ProgramError where the join can't be done.
     """
-
-    name: str
-    shapes: List[Placed] = field(default_factory=list)
-    left_out: List[LeftOut] = field(default_factory=list)
-    envelopes: Set[int] = field(default_factory=set)
-
-    def has_boxes_alone(self) -> bool:
-        return all(placed.geometry.is_box() for placed in self.shapes)
-
-
-def join_layers(layout: pya.Layout, cell: pya.Cell, request: Request) -> pya.ReportDatabase:
-    """A report database of the pairs, and of the shapes that were left out.
-
-    Raises JoinError or ProgramError before a database is made.
-    """
-    if request.others not in OTHERS:
-        raise JoinError(f"others must be one of {', '.join(OTHERS)}")
-    program.check_relation(request.relation)
-    left, right = (read_layer(layout, cell, name, request.others, request.merged)
-                   for name in (request.left, request.right))
-    with tempfile.TemporaryDirectory(prefix="rjoin-") as name:
-        folder = Path(name)
-        paths = folder / "left.csv", folder / "right.csv"
-        for path, layer in zip(paths, (left, right)):
-            write_layer(path, layer)
-        report = folder / "report.csv"
-        words = ["join", *map(str, paths), f"--relation={request.relation}"]
-        if not (left.has_boxes_alone() and right.has_boxes_alone()):
-            words += ["--geometry", "any", "--rings", "even-odd"]
-        program.run(words, report)
-        return _Report(layout, cell, request, left, right).of(_pairs(report))
+    for name, value, choices in (("others", request.reading.others, OTHERS),
+                                 ("mode", request.reading.mode, MODES)):
+        if value not in choices:
+            raise JoinError(f"{name} must be one of {', '.join(choices)}")
+    condition = request.condition()
+    condition.check()
+    join = _Join(layout, cell, request, condition)
+    with tempfile.TemporaryDirectory(prefix="rjoin-") as folder:
+        for one in _cells(layout, cell, request):
+            join.add(one, Path(folder))
+    join.report.description = join.description()
+    return join.report
 
 
-def read_layer(layout: pya.Layout, cell: pya.Cell, name: str, others: str, merged: bool
-               ) -> Layer:
-    """The shapes of a layer below a cell, through all instances and arrays of them."""
-    layer = Layer(name)
-    areas = pya.Region()
-    iterator = cell.begin_shapes_rec(layer_index(layout, name))
-    while not iterator.at_end():
-        shape, trans = iterator.shape(), iterator.trans()
-        if merged and has_area(shape):
-            areas.insert(shape.polygon.transformed(trans))
-        else:
-            _add(layer, shape, iterator.cell().name, trans, others)
-        iterator.next()
-    for polygon in merged_areas(areas):
-        _add_merged(layer, polygon, cell.name)
-    return layer
+def _cells(layout: pya.Layout, cell: pya.Cell, request: Request) -> Iterator[pya.Cell]:
+    """The cell alone, or with all that it calls."""
+    yield cell
+    if request.reading.mode == CELL:
+        yield from map(layout.cell, cell.called_cells())
 
 
-def _add(layer: Layer, shape: pya.Shape, cell: str, trans: pya.ICplxTrans, others: str) -> None:
-    if shape.is_text():
-        point = Geometry(envelope_of(shape, trans))
-        layer.left_out.append(LeftOut(Placed(point, cell, trans), "a text"))
-        return
-    try:
-        layer.shapes.append(Placed(geometry_of(shape, trans), cell, trans))
-    except NotRead as reason:
-        placed = Placed(Geometry(envelope_of(shape, trans)), cell, trans)
-        _add_other(layer, placed, f"{reason}: {shape}", str(reason), others)
+def _placements(layout: pya.Layout, top: pya.Cell) -> Dict[int, pya.DCplxTrans]:
+    """A place in the top cell for each cell below it."""
+    found = {top.cell_index(): pya.DCplxTrans()}
+    for index in layout.each_cell_top_down():
+        if index not in found:
+            continue
+        for instance in layout.cell(index).each_inst():
+            found.setdefault(instance.cell_index, found[index] * instance.dcplx_trans)
+    return found
 
 
-def _add_merged(layer: Layer, polygon: pya.Polygon, cell: str) -> None:
-    layer.shapes.append(Placed(geometry_of_merged(polygon), cell, None))
+class _Join:
+    """A join, cell by cell, and its report."""
 
-
-def _add_other(layer: Layer, placed: Placed, told: str, reason: str, others: str) -> None:
-    """Takes the bounding box of a shape, or leaves it out, or ends the run."""
-    if others == ERROR:
-        raise JoinError(f"layer {layer.name}, cell {placed.cell}: not a shape that rjoin reads, "
-                        f"but {told}. Choose to take bounding boxes, or to leave such shapes out.")
-    if others == ENVELOPE and not placed.geometry.bbox().empty():
-        layer.envelopes.add(len(layer.shapes))
-        layer.shapes.append(placed)
-    else:
-        layer.left_out.append(LeftOut(placed, reason))
-
-
-def layer_index(layout: pya.Layout, name: str) -> int:
-    """The index of the layer that is named, as KLayout writes it, by its name or its numbers.
-
-    LayerInfo.from_string isn't used: it takes what it cannot read for any layer.
-    """
-    for index in layout.layer_indexes():
-        info = layout.get_info(index)
-        numbers = f"{info.layer}/{info.datatype}"
-        if name and name in (str(info), info.name, "" if info.is_named() else numbers):
-            return int(index)
-    raise JoinError(f"the layout has no layer {name!r}")
-
-
-def layer_names(layout: pya.Layout) -> List[str]:
-    """The layers of a layout, by number."""
-    infos = [layout.get_info(index) for index in layout.layer_indexes()]
-    return [str(info) for info in sorted(infos, key=lambda i: (i.layer, i.datatype, i.name))]
-
-
-def write_layer(path: Path, layer: Layer) -> None:
-    """Writes the geometries in database units, with their numbers as ids."""
-    with open(path, "w", encoding="ascii", newline="\n") as file:
-        file.write("id,wkt\n")
-        for number, placed in enumerate(layer.shapes):
-            file.write(f'{number},"{placed.geometry.wkt()}"\n')
-
-
-def _pairs(report: Path) -> Iterator[Pair]:
-    with open(report, encoding="ascii", newline="") as file:
-        rows = csv.reader(file)
-        if next(rows, None) != REPORT:
-            raise program.ProgramError(f"{program.find_program()} wrote no report")
-        for left, right, matrix in rows:
-            yield Pair(int(left), int(right), matrix)
-
-
-class _Report:
-    """Makes the report database of a join."""
-
-    def __init__(self, layout: pya.Layout, cell: pya.Cell, request: Request, left: Layer,
-                 right: Layer) -> None:
-        self.dbu = layout.dbu
-        self.left = left
-        self.right = right
+    def __init__(self, layout: pya.Layout, top: pya.Cell, request: Request, condition: Condition
+                 ) -> None:
+        self.layout = layout
         self.request = request
-        self.counts = {EXACT: 0, INEXACT: 0}
-        title = request.title()
-        self.database = pya.ReportDatabase(title)
-        self.database.generator = "rjoin"
-        self.database.top_cell_name = cell.name
-        self.cell_id = self.database.create_cell(cell.name).rdb_id()
-        self.pairs = self.database.create_category(title)
-        self.letters: Dict[str, int] = {}
+        self.condition = condition
+        title = f"{request.left} {condition.title} {request.right}"
+        if request.reading.merged:
+            title += ", merged"
+        if request.reading.mode == CELL:
+            title += ", by cells"
+        self.report = Report(title, top.name)
+        self.about = Place(title, condition.about)
+        self.pairs = 0
+        self.replaced = {request.left: 0, request.right: 0}
+        self.left_out = {request.left: 0, request.right: 0}
+        self.placements = _placements(layout, top) if request.reading.mode == CELL else {}
 
-    def of(self, pairs: Iterator[Pair]) -> pya.ReportDatabase:
-        """The database with all pairs, and what was left out."""
-        for pair in pairs:
-            self._add_pair(pair)
-        for layer in (self.left, self.right):
-            self._add_left_out(layer)
-        self.database.description = self._description()
-        return self.database
+    def add(self, cell: pya.Cell, folder: Path) -> None:
+        """Joins the layers of a cell."""
+        layers = self._read(cell)
+        for layer in layers:
+            self.condition.check_layer(layer)
+        if cell.cell_index() in self.placements:
+            self.report.add_cell(cell.name, self.placements[cell.cell_index()])
+        if all(layer.count() for layer in layers):
+            self._add_pairs(cell, layers, self._run(layers, folder))
+        for layer in layers[:1] if layers[0] is layers[1] else layers:
+            self._add_left_out(cell, layer)
 
-    def _description(self) -> str:
-        text = f"Pairs of shapes, layer {self.left.name} {self.request.relation} layer "
-        text += f"{self.right.name}{', merged' * self.request.merged}"
-        if self.request.others == ENVELOPE:
-            text += (f"; pairs that rest on a bounding box: {self.counts[INEXACT]} of "
-                     f"{sum(self.counts.values())}")
-        for layer in (self.left, self.right):
-            if layer.envelopes:
-                text += f"; layer {layer.name}: {len(layer.envelopes)} shapes by bounding boxes"
-            if layer.left_out:
-                text += f"; layer {layer.name}: {len(layer.left_out)} shapes left out"
+    def _read(self, cell: pya.Cell) -> List[Layer]:
+        """The two layers, which are one where both names are of the same."""
+        request = self.request
+        left = read_layer(self.layout, cell, request.left, request.reading)
+        if layer_index(self.layout, request.left) == layer_index(self.layout, request.right):
+            return [left, left]
+        return [left, read_layer(self.layout, cell, request.right, request.reading)]
+
+    def _run(self, layers: Sequence[Layer], folder: Path) -> Iterator[Row]:
+        """The rows of the program's report."""
+        left, right = layers
+        paths = folder / "left.csv", folder / "right.csv"
+        left.write(paths[0])
+        if right is left:
+            paths = paths[0], paths[0]
+        else:
+            right.write(paths[1])
+        command, *words = self.condition.words(layers, self.layout.dbu)
+        if any(layer.first_shape() for layer in layers):
+            words += ["--geometry", "any", "--rings", "even-odd"]
+        report = folder / "report.csv"
+        program.run([command, *map(str, paths), *words], report)
+        return _rows(report, self.condition.column)
+
+    def _add_pairs(self, cell: pya.Cell, layers: Sequence[Layer], rows: Iterator[Row]) -> None:
+        left, right = (Side(layer, title, self.layout.dbu)
+                       for layer, title in zip(layers, ("left", "right")))
+        has_exact = self.request.reading.others == ENVELOPE
+        places: Dict[str, Tuple[Category, str]] = {}
+        for row in self.condition.kept(rows, layers, self.layout.dbu):
+            place = places.get(row.text)
+            if place is None:
+                place = places[row.text] = self._place_of(row.text)
+            category, more = place
+            if has_exact:
+                by_box = row.left in left.layer.envelopes or row.right in right.layer.envelopes
+                self.report.inexact += by_box
+                more += INEXACT if by_box else EXACT
+            one, other = left.values(row.left), right.values(row.right)
+            self.report.add(category, cell.name,
+                            one.marker + other.marker + one.origin + other.origin + more)
+            self.pairs += 1
+
+    def _place_of(self, text: str) -> Tuple[Category, str]:
+        """The category of a pair by its matrix or distance, and the values that show these."""
+        places = [self.about, *self.condition.places(text)]
+        values = map(text_value, self.condition.values(text, self.layout.dbu))
+        return self.report.category(*places), "".join(values)
+
+    def _add_left_out(self, cell: pya.Cell, layer: Layer) -> None:
+        self.replaced[layer.name] += len(layer.envelopes)
+        self.left_out[layer.name] += len(layer.left_out)
+        parent = Place(f"left out of layer {layer.name}", "shapes that take no part, by reason")
+        for gone in layer.left_out:
+            category = self.report.category(parent, Place(gone.reason, ""))
+            self.report.add(category, cell.name, marker_of(gone.placed, self.layout.dbu)
+                            + text_value(gone.placed.origin()))
+
+    def description(self) -> str:
+        """The description of the whole join."""
+        text = f"Pairs of shapes, layer {self.request.left} {self.condition.title} layer "
+        text += f"{self.request.right}{', merged' * self.request.reading.merged}"
+        if self.request.reading.others == ENVELOPE:
+            text += (f"; pairs that rest on a bounding box: {self.report.inexact} of "
+                     f"{self.pairs}")
+        for name, count in self.replaced.items():
+            if count:
+                text += f"; layer {name}: {count} shapes by bounding boxes"
+        for name, count in self.left_out.items():
+            if count:
+                text += f"; layer {name}: {count} shapes left out"
         return text
 
-    def _add_pair(self, pair: Pair) -> None:
-        category = self.letters.get(pair.matrix)
-        if category is None:
-            category = self.database.create_category(self.pairs, pair.matrix).rdb_id()
-            self.letters[pair.matrix] = category
-        item = self.database.create_item(self.cell_id, category)
-        left, right = self.left.shapes[pair.left], self.right.shapes[pair.right]
-        item.add_value(self._marker(left.geometry.figure))
-        item.add_value(self._marker(right.geometry.figure))
-        item.add_value(f"left: {left.origin()}")
-        item.add_value(f"right: {right.origin()}")
-        if self.request.others == ENVELOPE:
-            by_box = pair.left in self.left.envelopes or pair.right in self.right.envelopes
-            exact = INEXACT if by_box else EXACT
-            self.counts[exact] += 1
-            item.add_value(exact)
 
-    def _add_left_out(self, layer: Layer) -> None:
-        if not layer.left_out:
-            return
-        parent = self.database.create_category(f"left out of layer {layer.name}")
-        reasons: Dict[str, int] = {}
-        for gone in layer.left_out:
-            if gone.reason not in reasons:
-                category = self.database.create_category(parent, gone.reason)
-                reasons[gone.reason] = category.rdb_id()
-            item = self.database.create_item(self.cell_id, reasons[gone.reason])
-            item.add_value(self._marker(gone.placed.geometry.figure))
-            item.add_value(gone.placed.origin())
-
-    def _marker(self, figure: Figure) -> object:
-        """What the marker browser draws: a line for a segment, in micrometres."""
-        scaled = figure.to_dtype(self.dbu)
-        if isinstance(figure, pya.Box) and (figure.width() == 0) != (figure.height() == 0):
-            return pya.DEdge(scaled.p1, scaled.p2)
-        if isinstance(figure, pya.Path) and figure.num_points() == 2:
-            return pya.DEdge(*scaled.each_point())
-        return pya.RdbItemValue(scaled)
+def _rows(report: Path, column: str) -> Iterator[Row]:
+    with open(report, encoding="ascii", newline="") as file:
+        rows = csv.reader(file)
+        if next(rows, None) != ["left", "right", column]:
+            raise program.ProgramError(f"{program.find_program()} wrote no report")
+        for left, right, text in rows:
+            yield Row(int(left), int(right), text)

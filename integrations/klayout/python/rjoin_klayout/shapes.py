@@ -1,12 +1,23 @@
 """The geometry of a shape of a layout, in database units of the top cell, as rjoin reads it."""
 from __future__ import annotations
 
-from typing import Iterator, List, NamedTuple, Tuple, Union
+import struct
+import tempfile
+from pathlib import Path
+from typing import Iterator, List, NamedTuple, Tuple, Union, cast
 
 import pya
 
 TRIANGLE = 3
 Figure = Union[pya.Box, pya.Path, pya.Polygon]
+
+# The least and the greatest coordinates of a box.
+Bounds = Tuple[int, int, int, int]
+
+# A rectangle in a GDS2 stream: the records BOUNDARY, LAYER, DATATYPE, XY with five points, and
+# ENDEL. Its first point is the least corner, and the third one the greatest.
+BOUNDARY = b"\x00\x04\x08\x00"
+RECTANGLE = struct.Struct(">20x2i8x2i16x4x")
 
 
 class NotRead(ValueError):
@@ -65,9 +76,10 @@ def _polygon(polygon: pya.Polygon) -> Geometry:
     return Geometry(polygon, tuple(areas))
 
 
-def geometry_of_merged(polygon: pya.Polygon) -> Geometry:
-    """The geometry of a merged area."""
-    return Geometry(polygon.bbox()) if polygon.is_box() else Geometry(polygon, (polygon,))
+def geometry_of_merged(text: str) -> Geometry:
+    """The geometry of a merged area, by its text."""
+    polygon = pya.Polygon.from_s(text)
+    return Geometry(polygon, (polygon,))
 
 
 def areas_of(polygon: pya.Polygon) -> List[pya.Polygon]:
@@ -75,16 +87,55 @@ def areas_of(polygon: pya.Polygon) -> List[pya.Polygon]:
     cut lines lead to its holes."""
     if polygon.num_points() == TRIANGLE:
         return [polygon] if polygon.area() > 0 else []
-    merged = merged_areas(pya.Region(polygon))
+    merged = list(merged_areas(pya.Region(polygon)).each())
     is_same = len(merged) == 1 and (
         merged[0].area() == polygon.area() and merged[0].holes() == polygon.holes())
     return [polygon] if is_same else merged
 
 
-def merged_areas(region: pya.Region) -> List[pya.Polygon]:
+def merged_areas(region: pya.Region) -> pya.Region:
     """The merged areas of a region; those that meet at a corner alone stay apart."""
     region.min_coherence = True
-    return list(region.merged().each())
+    merged = region.merged()
+    merged.merged_semantics = False  # so that it isn't merged again
+    return merged
+
+
+def texts_of(polygons: pya.Region) -> List[str]:
+    """The texts of a region's polygons, as KLayout writes them: `(0,0;0,9;9,0)`, and with holes
+    `(0,0;0,9;9,0/1,1;3,1;1,3)`."""
+    count = polygons.count()
+    return [f"({text})" for text in polygons.to_s(count)[1:-1].split(");(")] if count else []
+
+
+def merged_wkt(text: str) -> str:
+    """The well-known text of a merged area."""
+    rings = text[1:-1].replace(",", " ").replace(";", ",").split("/")
+    return f"POLYGON({','.join(map(_closed, rings))})"
+
+
+def _closed(points: str) -> str:
+    """A ring, whose last point is its first."""
+    return f"({points},{points.partition(',')[0]})"
+
+
+def bounds_of(rectangles: pya.Region) -> List[Bounds]:
+    """The bounds of a region's rectangles.
+
+    They are read from a GDS2 stream, which KLayout writes in less time than it answers calls for
+    each of them.
+    """
+    layout = pya.Layout()
+    layout.create_cell("TOP").shapes(layout.layer(1, 0)).insert(rectangles)
+    options = pya.SaveLayoutOptions()
+    options.format = "GDS2"
+    with tempfile.TemporaryDirectory(prefix="rjoin-") as folder:
+        path = Path(folder, "rectangles.gds")
+        layout.write(str(path), options)
+        stream = path.read_bytes()
+    start = stream.find(BOUNDARY)
+    records = memoryview(stream)[start:start + rectangles.count() * RECTANGLE.size]
+    return cast(List[Bounds], list(RECTANGLE.iter_unpack(records)))
 
 
 def envelope_of(shape: pya.Shape, trans: pya.ICplxTrans) -> pya.Box:

@@ -5,9 +5,6 @@ use Rattle.arrangement_core.proofs.rounds.mark_edges.Goals as goal
 pub mark_some-requires-clause-own : goal.mark_some-requires-clause-own
 mark_some-requires-clause-own c = all_back (IsOwn c.args.pair.now.first.now) _ _ _ c.split_at.ensures.by_index.0 c.requires.own
 
-pub mark_some-requires-clause-seen : goal.mark_some-requires-clause-seen
-mark_some-requires-clause-seen c = rw c.no_work-work.ensures tt
-
 pub mark_some-requires-2-clause-own : goal.mark_some-requires-2-clause-own
 mark_some-requires-2-clause-own c = all_front (IsOwn c.args.pair.now.first.now) _ _ _ c.split_at.ensures.by_index.0 c.requires.own
 

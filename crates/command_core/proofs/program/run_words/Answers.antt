@@ -7,4 +7,4 @@ pub returns-in-Ok : goal.returns-in-Ok
 returns-in-Ok g c = words_done_as (map (λ word. word.now) c.deref.result.now) _ (search (rules, map_of_items)) (search rules)
 
 pub returns-in-Err : goal.returns-in-Err
-returns-in-Err g c = record { read = Err Memory; reading = λ known. absurd (known refl); done = search rules }
+returns-in-Err g c = record { read = Err Memory; reading = λ known. absurd (known refl); done = (refl, search rules) }

@@ -15,7 +15,7 @@ scan_nodes-loop-node-init t c = adds_nothing _ _ _
 pub scan_nodes-loop-node-preserved-then-not-is_over : goal.scan_nodes-loop-node-preserved-then-not-is_over
 scan_nodes-loop-node-preserved-then-not-is_over t c =
     let es = c.args.edges.now in
-    let p = c.args.p.now in
+    let p = c.args.p.now.place in
     let nodes = c.args.nodes.now in
     let n = c.node-item.result in
     let i = c.loop-node.node-index in
@@ -27,7 +27,7 @@ scan_nodes-loop-node-preserved-then-not-is_over t c =
 
 pub scan_nodes-loop-node-preserved : goal.scan_nodes-loop-node-preserved
 scan_nodes-loop-node-preserved t c =
-    adds_more_node c.args.edges.now (point_of c.args.p.now) c.args.nodes.now c.loop-node.node-index c.node-item.result _ _ _ c.loop-node-test.true c.node-item.is
+    adds_more_node c.args.edges.now (point_of c.args.p.now.place) c.args.nodes.now c.loop-node.node-index c.node-item.result _ _ _ c.loop-node-test.true c.node-item.is
     c.loop-node.invariant (search rules)
 
 pub scan_nodes-scan_node-grown-requires : goal.scan_nodes-scan_node-grown-requires
@@ -56,8 +56,8 @@ scan_node-scan_nodes-requires t c =
 
 pub scan_node-returns-then-leaf : goal.scan_node-returns-then-leaf
 scan_node-returns-then-leaf t c =
-    subst (λ (xs : List Entry). AddsScan c.args.edges.now (point_of c.args.p.now) xs c.args.scan c.scan_entries.result) c.entries-entries.ensures.entries c.scan_entries.ensures
+    subst (λ (xs : List Entry). AddsScan c.args.edges.now (point_of c.args.p.now.place) xs c.args.scan c.scan_entries.result) c.entries-entries.ensures.entries c.scan_entries.ensures
 
 pub scan_node-returns-else-leaf : goal.scan_node-returns-else-leaf
 scan_node-returns-else-leaf t c =
-    subst (λ (xs : List Entry). AddsScan c.args.edges.now (point_of c.args.p.now) xs c.args.scan c.scan_nodes.result) (sym c.children-children.ensures.entries) c.scan_nodes.ensures
+    subst (λ (xs : List Entry). AddsScan c.args.edges.now (point_of c.args.p.now.place) xs c.args.scan c.scan_nodes.result) (sym c.children-children.ensures.entries) c.scan_nodes.ensures

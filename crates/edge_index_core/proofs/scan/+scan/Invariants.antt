@@ -7,7 +7,7 @@ use Rattle.edge_index_core.specs.Scans.{AddsScan}
 use Rattle.edge_index_core.proofs.scan.+scan.Given as goal
 
 abbrev pub invariant-scan_nodes-loop-node : goal.invariant-scan_nodes-loop-node
-invariant-scan_nodes-loop-node l = AddsScan l.edges (point_of l.p) (flat_map entries_of (take l.node-index l.nodes)) l.fn.scan l.grown
+invariant-scan_nodes-loop-node l = AddsScan l.edges (point_of l.p.place) (flat_map entries_of (take l.node-index l.nodes)) l.fn.scan l.grown
 
 abbrev pub decreases-scan_nodes : goal.decreases-scan_nodes
 decreases-scan_nodes l = (top_level l.nodes.now + top_level l.nodes.now) + 1

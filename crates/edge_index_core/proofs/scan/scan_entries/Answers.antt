@@ -13,7 +13,7 @@ loop-entry-preserved-then-not-is_over c =
     let xs = c.args.entries.now in
     let i = c.loop-entry.entry-index in
     let x = c.entry-item.result in
-    adds_more_missed c.args.edges.now (point_of c.args.p.now) xs i x _ _ (place_wide c.args.p.now) c.loop-entry-test.true c.entry-item.is c.loop-entry.invariant
+    adds_more_missed c.args.edges.now (point_of c.args.p.now.place) xs i x _ _ (place_wide c.args.p.now.place) c.loop-entry-test.true c.entry-item.is c.loop-entry.invariant
     (subst (IsEntryIn c.args.edges.now) (sym c.entry-item.is) (c.requires i x c.loop-entry-test.true))
     (sym c.is_over_box-is_over.ensures ∙ c.if-not-is_over.true)
 
@@ -24,5 +24,5 @@ loop-entry-preserved c =
     let i = c.loop-entry.entry-index in
     let x = c.entry-item.result in
     let entry = subst (IsEntryIn es) (sym c.entry-item.is) (c.requires i x c.loop-entry-test.true) in
-    adds_more_met es (point_of c.args.p.now) xs i x c.index-edges-entry.result _ _ _ c.loop-entry-test.true c.entry-item.is c.loop-entry.invariant
+    adds_more_met es (point_of c.args.p.now.place) xs i x c.index-edges-entry.result _ _ _ c.loop-entry-test.true c.entry-item.is c.loop-entry.invariant
     entry.within c.index-edges-entry.is c.with-grown.ensures

@@ -1,11 +1,11 @@
 use Rattle.std.proofs.Common.{◌≡◌, ◌∙◌, ◌+◌, [], Err, length, ap, sym, arith, refl}
 use Rattle.std.proofs.lemmas.List.Elements.{All-cons, All-nil, All-push}
 use Rattle.std.proofs.lemmas.Result.{err_from_is_err_and}
-use Rattle.file_core.specs.declared.unread.Unread.TheVariants.{Rows}
-use Rattle.file_core.specs.Batches.{HasId}
-use Rattle.file_core.specs.Cuts.{IsClosed}
-use Rattle.file_core.specs.LayerRows.{content_of}
-use Rattle.file_core.specs.Rows.{rows_left}
+use Rattle.row_core.specs.declared.unread.Unread.TheVariants.{Rows}
+use Rattle.row_core.specs.LayerRows.{HasId}
+use Rattle.row_core.specs.Cuts.{IsClosed}
+use Rattle.row_core.specs.LayerRows.{content_of}
+use Rattle.row_core.specs.Rows.{rows_left, rows_read}
 use Rattle.file_core.proofs.BatchLemmas.{say-push, says-any, batch-refused, batch-ended, batch-faulty}
 use Rattle.file_core.proofs.batch.fill.Goals as goal
 
@@ -51,7 +51,7 @@ returns-in_err-row-clause-batch g c =
     let reads = rw c.in-Some.is at c.in_ok-next.ensures in
     let fault = c.in_err-row.field-0.0 in
     let p = err_from_is_err_and c.from_residual-in_err-row.result c.from_residual-in_err-row.ensures.1 in
-    let at : c.in-Some.number ≡ c.args.rows.now.count + 1 + length c.loop.read.items =
+    let at : c.in-Some.number ≡ rows_read c.args.rows.now + 1 + length c.loop.read.items =
     omega (arith, reads.numbered, c.loop.invariant.counted, c.loop.read.ok.0) in
     rw (p.1, p.2)
     (batch-faulty (g.F.Format.reads c.args.reader.format) (Rows c.args.rows.now) _ c.loop.read.items (rows_left c.loop.rows) c.loop.invariant.rows

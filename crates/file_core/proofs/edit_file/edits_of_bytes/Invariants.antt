@@ -1,9 +1,9 @@
 use Rattle.std.proofs.Common.{◌+◌, ◌≤◌, List, Result, length, map}
-use Rattle.file_core.specs.declared.read_fault.ReadFault.{ReadFault}
+use Rattle.row_core.specs.declared.read_fault.ReadFault.{ReadFault}
 use Rattle.file_core.specs.EditFiles.{IsEditFile, EditsRowGives}
 use Rattle.layer_core.specs.Edits.{EditContent, content_of}
-use Rattle.file_core.specs.Limits.{most_file_bytes}
-use Rattle.file_core.specs.Rows.{IsReading, RowsGive, rows_left}
+use Rattle.row_core.specs.Limits.{most_file_bytes}
+use Rattle.row_core.specs.Rows.{IsReading, RowsGive, rows_left, rows_read}
 use Rattle.file_core.proofs.edit_file.edits_of_bytes.Given as goal
 
 -- the remaining rows have the result of the file, and each row so far gave an edit
@@ -11,7 +11,7 @@ abbrev pub invariant-loop-edits : goal.invariant-loop-edits
 invariant-loop-edits g l =
     IsReading l.rows
     × (length l.edits.items + length (rows_left l.rows) ≤ most_file_bytes)
-    × ((answer : Result (List (EditContent _)) ReadFault) → RowsGive (EditsRowGives (g.F.Format.reads l.fn.format)) (l.rows.count + 1) (map content_of l.edits.items)
+    × ((answer : Result (List (EditContent _)) ReadFault) → RowsGive (EditsRowGives (g.F.Format.reads l.fn.format)) (rows_read l.rows + 1) (map content_of l.edits.items)
     (rows_left l.rows) answer → IsEditFile (g.F.Format.reads l.fn.format) l.bytes answer)
 
 abbrev pub decreases-loop-edits : goal.decreases-loop-edits

@@ -1,7 +1,7 @@
 use Rattle.std.proofs.Common.{Err, ap, []}
 use Rattle.std.proofs.lemmas.Result.{err_from_is_err_and}
 use Rattle.file_core.specs.EditFiles.{EditsRowGives, edit_columns}
-use Rattle.file_core.proofs.FileLemmas.{file-unread}
+use Rattle.row_core.proofs.FileLemmas.{file-unread}
 use Rattle.file_core.proofs.edit_file.read_edits.Goals as goal
 
 pub returns-in_err-bytes-clause-file : goal.returns-in_err-bytes-clause-file

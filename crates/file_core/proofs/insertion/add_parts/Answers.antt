@@ -1,7 +1,8 @@
 use Rattle.std.proofs.Common.{◌∙◌, ap, arith, length-append}
 use Rattle.std.specs.Vec.Iter.{into_iter_items}
 use Rattle.std.proofs.lemmas.Result.{err_from_is_err_and}
-use Rattle.file_core.specs.Batches.{HasId, all_rows, if_loaded, with_rows}
+use Rattle.file_core.specs.Batches.{all_rows, if_loaded, with_rows}
+use Rattle.row_core.specs.LayerRows.{HasId}
 use Rattle.file_core.specs.SkippedRows.{loaded_of}
 use Rattle.file_core.proofs.BatchLemmas.{with_rows-append, with_rows-next}
 use Rattle.file_core.proofs.PartLemmas.{All-front, All-back}

@@ -1,6 +1,7 @@
 use Rattle.std.proofs.Common.{◌≡◌, All}
 use Rattle.std.specs.Vec.Iter.{into_iter_items}
-use Rattle.file_core.specs.Batches.{CanNumber, HasId, all_rows, with_rows}
+use Rattle.file_core.specs.Batches.{CanNumber, all_rows, with_rows}
+use Rattle.row_core.specs.LayerRows.{HasId}
 use Rattle.file_core.specs.SkippedRows.{loaded_of}
 use Rattle.file_core.proofs.insertion.add_parts.Given as goal
 

@@ -2,8 +2,9 @@ use Rattle.std.proofs.Common.{◌∙◌, ◌+◌, ap, arith, length}
 use Rattle.std.specs.Vec.Iter.{into_iter_items}
 use Rattle.std.proofs.lemmas.List.Elements.{All-tail}
 use Rattle.std.proofs.lemmas.Result.{err_from_is_err_and}
-use Rattle.file_core.specs.Batches.{HasId, if_loaded, with_rows}
-use Rattle.file_core.specs.LayerRows.{content_of}
+use Rattle.file_core.specs.Batches.{if_loaded, with_rows}
+use Rattle.row_core.specs.LayerRows.{HasId}
+use Rattle.row_core.specs.LayerRows.{content_of}
 use Rattle.file_core.specs.SkippedRows.{loaded_of, rows_in}
 use Rattle.file_core.proofs.LoadedLemmas.{loaded_with-next}
 use Rattle.file_core.proofs.insertion.add_rows.Goals as goal

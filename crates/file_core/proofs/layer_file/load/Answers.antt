@@ -1,10 +1,10 @@
 use Rattle.std.proofs.Common.{◌≡◌, ◌≢◌, ◌≤◌, ◌∙◌, ◌+◌, suc, Bool, true, Result, Ok, Err, ap, subst, sym, arith}
 use Rattle.std.proofs.lemmas.Result.{err_from_is_err_and}
-use Rattle.file_core.specs.declared.read_fault.ReadFault.{ReadFault}
+use Rattle.row_core.specs.declared.read_fault.ReadFault.{ReadFault}
 use Rattle.file_core.specs.Batches.{all_rows}
-use Rattle.file_core.specs.Rows.{RowsGive}
+use Rattle.row_core.specs.Rows.{RowsGive}
 use Rattle.file_core.specs.SkippedRows.{Loaded, LoadsRow, loaded_of, loaded_or, rows_in}
-use Rattle.file_core.specs.Unread.{count_unread, records_unread}
+use Rattle.row_core.specs.Unread.{count_unread, records_unread}
 use Rattle.file_core.proofs.BatchLemmas.{most_rounds, batch-counted, batch-few, batch-goes-on, batch-last, batch-refuses, batch-smaller}
 use Rattle.file_core.proofs.LoadedLemmas.{loaded_or-err}
 use Rattle.file_core.proofs.layer_file.load.Goals as goal

@@ -1,9 +1,9 @@
 use Rattle.std.proofs.Common.{◌≡◌, Result}
-use Rattle.file_core.specs.declared.read_fault.ReadFault.{ReadFault}
-use Rattle.file_core.specs.declared.unread.Unread.{Unread}
+use Rattle.row_core.specs.declared.read_fault.ReadFault.{ReadFault}
+use Rattle.row_core.specs.declared.unread.Unread.{Unread}
 use Rattle.file_core.specs.Batches.{CanNumber, IsBatch, all_rows}
 use Rattle.file_core.specs.SkippedRows.{Loaded, LoadsFile, loaded_of, rows_in}
-use Rattle.file_core.specs.Unread.{count_unread}
+use Rattle.row_core.specs.Unread.{count_unread}
 use Rattle.file_core.proofs.BatchLemmas.{Gives, most_rounds}
 use Rattle.file_core.proofs.layer_file.load.Given as goal
 

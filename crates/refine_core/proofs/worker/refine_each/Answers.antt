@@ -4,7 +4,7 @@ use Rattle.refine_core.proofs.RefinementLemmas.{pair_more}
 use Rattle.refine_core.proofs.worker.refine_each.Goals as goal
 
 pub loop-pair-init : goal.loop-pair-init
-loop-pair-init g c = rw c.new-refined.ensures.items none
+loop-pair-init g c = rw c.in_ok-refined.ensures.items none
 
 pub loop-pair-preserved : goal.loop-pair-preserved
 loop-pair-preserved g c =

@@ -1,5 +1,5 @@
 use Rattle.options_core.specs.declared.product.Product.TheVariants.{Report, Picture}
-use Rattle.words_core.specs.Readings.{of_relate, of_join, of_near, of_window, of_stats, of_bounds}
+use Rattle.words_core.specs.Readings.{of_relate, of_join, of_near, of_nearest, of_window, of_stats, of_bounds}
 use Rattle.words_core.proofs.ReadingLemmas.{fault_weaker, named, unnamed}
 use Rattle.words_core.proofs.reading.read_named.Goals as goal
 
@@ -14,6 +14,10 @@ returns-in-join-clause-err c =
 pub returns-in-near-clause-err : goal.returns-in-near-clause-err
 returns-in-near-clause-err c =
     fault_weaker _ _ _ (λ f h. named _ f _ _ c.in-near.is (of_near h)) (search)
+
+pub returns-in-nearest-clause-err : goal.returns-in-nearest-clause-err
+returns-in-nearest-clause-err c =
+    fault_weaker _ _ _ (λ f h. named _ f _ _ c.in-nearest.is (of_nearest h)) (search)
 
 pub returns-in-draw-clause-err : goal.returns-in-draw-clause-err
 returns-in-draw-clause-err c =
@@ -34,5 +38,5 @@ returns-in-bounds-clause-err c =
 pub returns-in_default-clause-err : goal.returns-in_default-clause-err
 returns-in_default-clause-err c =
     unnamed _ _ _ c.in_default.not-relate c.in_default.not-join c.in_default.not-near
-    c.in_default.not-draw c.in_default.not-window c.in_default.not-stats
-    c.in_default.not-bounds (search)
+    c.in_default.not-nearest c.in_default.not-draw c.in_default.not-window
+    c.in_default.not-stats c.in_default.not-bounds (search)

@@ -1,8 +1,9 @@
 use Rattle.std.proofs.Common.{Err, ap}
 use Rattle.std.proofs.lemmas.Result.{err_from_is_err_and}
-use Rattle.file_core.specs.LayerFiles.{LayerRowGives, layer_columns}
+use Rattle.file_core.specs.LayerFiles.{LayerRowGives}
+use Rattle.row_core.specs.LayerRows.{layer_columns}
 use Rattle.layer_core.specs.Layers.{empty}
-use Rattle.file_core.proofs.FileLemmas.{file-unread}
+use Rattle.row_core.proofs.FileLemmas.{file-unread}
 use Rattle.file_core.proofs.layer_file.LayerReader.read_layer.Goals as goal
 
 pub returns-in_err-bytes-clause-file : goal.returns-in_err-bytes-clause-file

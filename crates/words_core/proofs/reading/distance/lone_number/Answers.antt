@@ -17,8 +17,8 @@ pub returns-then-is_empty-clause-none : goal.returns-then-is_empty-clause-none
 returns-then-is_empty-clause-none c = none_spelled _ _ _ _ _ c.in_ok-number.ensures
 
 pub returns-else-number-clause-none : goal.returns-else-number-clause-none
-returns-else-number-clause-none c = λ z s.
-    let parts = spelled_parts _ _ _ _ _ z c.in_ok-number.ensures s in
+returns-else-number-clause-none c = λ z few s.
+    let parts = spelled_parts _ _ _ _ _ z few c.in_ok-number.ensures s in
     elim c.else-number.branch [
       | else-number-via-then-number+else-is_empty w ↦ let e = ap length parts.2 in absurd (grind (arith, nat_tests, e))
       | else-number-via-else-number w ↦ absurd (false≢true (sym w.if-number.false ∙ parts.1))

@@ -1,3 +1,4 @@
+use Rattle.std.proofs.Common.{inl, inr}
 use Rattle.words_core.specs.Readings.{found_in}
 use Rattle.words_core.proofs.JoinLemmas.{options_passed, options_weaker, paths_passed, paths_weaker, scale_passed, scale_refused}
 use Rattle.words_core.proofs.ReadingLemmas.{fault_as}
@@ -27,4 +28,12 @@ returns-in_err-distance-clause-err c =
     paths_passed (found_in c.args.given.now) c.in_ok-paths.paths _ _ c.in_ok-paths.ensures.ok
     (options_passed _ c.in_ok-options.options _ _ c.in_ok-options.ensures.ok
     (scale_passed _ c.in_ok-scale.scale _ _ c.in_ok-scale.ensures.ok c.in_ok-scale.ensures.few
-    (c.in_ok-scale.scale, c.in_ok-scale.ensures.ok, c.in_err-distance.ensures.err known))))
+    (c.in_ok-scale.scale, c.in_ok-scale.ensures.ok, inl (c.in_err-distance.ensures.err known)))))
+
+pub returns-in_err-geometries-clause-err : goal.returns-in_err-geometries-clause-err
+returns-in_err-geometries-clause-err c =
+    fault_as _ _ _ c.from_residual-in_err-geometries.ensures.1 (λ known.
+    paths_passed (found_in c.args.given.now) c.in_ok-paths.paths _ _ c.in_ok-paths.ensures.ok
+    (options_passed _ c.in_ok-options.options _ _ c.in_ok-options.ensures.ok
+    (scale_passed _ c.in_ok-scale.scale _ _ c.in_ok-scale.ensures.ok c.in_ok-scale.ensures.few
+    (c.in_ok-scale.scale, c.in_ok-scale.ensures.ok, inr (c.in_ok-distance.distance, c.in_ok-distance.ensures.ok, c.in_err-geometries.ensures.err known)))))

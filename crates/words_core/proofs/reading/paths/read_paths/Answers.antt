@@ -1,10 +1,17 @@
 use Rattle.std.proofs.Common.{sym, ◌∙◌}
 use Rattle.words_core.specs.Readings.{found_in}
-use Rattle.words_core.proofs.JoinLemmas.{paths_share}
+use Rattle.words_core.proofs.JoinLemmas.{paths_share, paths_taken}
 use Rattle.words_core.proofs.reading.paths.read_paths.Goals as goal
 
 pub returns-then-shares_input-clause-err : goal.returns-then-shares_input-clause-err
 returns-then-shares_input-clause-err c = λ known.
     paths_share (found_in c.args.given.now) _ _ _ _ c.in_ok-left.ensures.ok
     c.in_ok-right.ensures.ok c.optional-edits.ensures
-    (sym c.shares_input.ensures ∙ c.if-shares_input.true) (c.shared_input.ensures known)
+    (sym c.shares_input.ensures ∙ c.if-shares_input.true) (c.usage_fault.ensures known)
+
+pub returns-then-is_taken-clause-err : goal.returns-then-is_taken-clause-err
+returns-then-is_taken-clause-err c = λ known.
+    paths_taken (found_in c.args.given.now) _ _ _ _ _ c.in_ok-left.ensures.ok
+    c.in_ok-right.ensures.ok c.optional-edits.ensures c.optional-skip.ensures
+    (sym c.shares_input.ensures ∙ c.if-shares_input.false)
+    (sym c.is_taken.ensures ∙ c.if-is_taken.true) (c.usage_fault-then-is_taken.ensures known)

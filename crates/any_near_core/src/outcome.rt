@@ -1,0 +1,14 @@
+//! The results of a join of any geometry by distance.
+
+use deliver_core::Outcome;
+use edge_distance_core::SquaredFraction;
+use refine_core::Refined;
+
+/// The near pairs of two layers, each with the square of its distance.
+#[derive(Drop)]
+pub struct AnyNearOutcome {
+    /// The pairs whose grown boxes meet, with the marks of their delivery.
+    pub candidates: Outcome,
+    /// Those of them that are near, in the same order.
+    pub matches: Vec<Refined<SquaredFraction>>,
+}

@@ -1,0 +1,9 @@
+pub mod BoxLemmas
+pub mod FoundLemmas
+pub mod FractionLemmas
+pub mod ListLemmas
+pub mod MatchLemmas
+pub mod MeasureLemmas
+pub mod NearestLemmas
+pub mod OrderLemmas
+pub mod PigeonLemmas

@@ -1,0 +1,24 @@
+use Rattle.std.proofs.Common.{List, arith, inr, subst, All}
+use Rattle.std.proofs.lemmas.List.{take_all}
+use Rattle.distance_core.specs.Units.{units_of}
+use Rattle.nearest_core.specs.declared.neighbour.Neighbour.{Neighbour}
+use Rattle.any_nearest_core.specs.Candidates.{candidates_of}
+use Rattle.any_nearest_core.specs.Measurements.{IsNumberWithin}
+use Rattle.any_nearest_core.proofs.MeasureLemmas.{greatest_more}
+use Rattle.any_nearest_core.proofs.bound.greatest_of.Goals as goal
+
+pub loop-feature-preserved : goal.loop-feature-preserved
+loop-feature-preserved c = record {
+  low = omega (arith, c.greater-greatest.ensures, c.rounded_up.ensures.low, c.loop-feature.invariant.low);
+  within = greatest_more c.args.layer.now.list c.args.from.now c.args.features.now _ _ _ c.in-Some-2.square (units_of c.loop-feature.greatest) _ (units_of c.rounded_up.result)
+      (units_of c.args.limit) c.loop-feature-test.true c.loop-feature.invariant.within
+      c.in_ok-square.ensures c.in-Some-2.is
+      c.rounded_up.ensures.within (omega (arith, c.greater-greatest.ensures)) (omega (arith, c.greater-greatest.ensures));
+}
+
+pub returns : goal.returns
+returns c = record {
+  low = c.loop-feature.invariant.low;
+  all = inr (subst (λ (ns : List Neighbour). All (IsNumberWithin c.args.layer.now.list c.args.from.now (units_of c.loop-feature.greatest)) (candidates_of ns))
+      (take_all _ c.args.features.now c.loop-feature-test.false) c.loop-feature.invariant.within);
+}

@@ -1,0 +1,6 @@
+pub mod Candidates
+pub mod Cuts
+pub mod Matches
+pub mod Measurements
+pub mod Nearest
+pub mod Orders

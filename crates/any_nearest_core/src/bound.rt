@@ -1,0 +1,90 @@
+//! A distance within which all features lie that a query asks for.
+
+ghost use Rattle.std.specs.Prelude.{◌≡◌, ◌≤◌, IfOk, max};
+ghost use Rattle.distance_core.specs.Units.{units_of};
+ghost use Rattle.any_nearest_core.specs.Candidates.{candidates_of};
+ghost use Rattle.any_nearest_core.specs.Measurements.{IsBound, IsGreatest, IsSquareIn};
+ghost use Rattle.any_nearest_core.specs.Nearest.{AreDistinct};
+
+use crate::limit::limit_for;
+use crate::measure::square_of;
+use any_geometry_core::AnyGeometry;
+use distance_core::{Distance, Query};
+use edge_distance_core::SquaredFraction;
+use geometry_distance_core::MeasuredGeometry;
+use layer_core::Layer;
+use nearest_core::Neighbour;
+use std::alloc::{AllocError, Global};
+
+/// A distance from a geometry within which all features of a layer lie that are nearest to it and
+/// asked for: the greatest distance of as many of some features as are asked for, or the query's
+/// own.
+pub(crate) fn bound_of(
+    alloc: Global,
+    layer: &Layer<AnyGeometry>,
+    some: &[Neighbour],
+    from: &MeasuredGeometry,
+    query: &Query,
+) -> Result<Distance, AllocError>
+    requires { AreDistinct (candidates_of some.now) }
+    ensures { IfOk result (λ d. IsBound query.now layer.now.list from.now (units_of d)) }
+{
+    let limit = limit_for(query);
+    let most = query.most() as usize;
+    if some.len() < most {
+        return Ok(limit);
+    }
+    greatest_of(alloc, layer, &some[..most], from, limit)
+}
+
+/// A distance, `limit` at most, that is at least that of each of some features from a geometry, or
+/// `limit`.
+fn greatest_of(
+    alloc: Global,
+    layer: &Layer<AnyGeometry>,
+    features: &[Neighbour],
+    from: &MeasuredGeometry,
+    limit: Distance,
+) -> Result<Distance, AllocError>
+    ensures { IfOk result (λ d. IsGreatest layer.now.list from.now (units_of limit)
+        (candidates_of features.now) (units_of d)) }
+{
+    let Some(mut greatest) = Distance::new(0) else {
+        return Ok(limit);
+    };
+    for feature in features {
+        let Some(square) = square_of(alloc, layer, feature.number, from, limit)? else {
+            return Ok(limit);
+        };
+        greatest = greater(greatest, rounded_up(&square, limit));
+    }
+    Ok(greatest)
+}
+
+/// The greater of two distances.
+fn greater(first: Distance, second: Distance) -> Distance
+    ensures { units_of result ≡ max (units_of first) (units_of second) }
+{
+    if first.units() <= second.units() {
+        second
+    } else {
+        first
+    }
+}
+
+/// A distance that is at least the root of a square, and at most a unit and a half more, or `limit`
+/// if that is less.
+fn rounded_up(square: &SquaredFraction, limit: Distance) -> Distance
+    requires { IsSquareIn (units_of limit) square.now }
+    ensures low { units_of result ≤ units_of limit }
+    ensures within { IsSquareIn (units_of result) square.now }
+{
+    let root = square.rounded_root();
+    if root >= limit.units() {
+        return limit;
+    }
+    match Distance::new(root + 1) {
+        Some(distance) => distance,
+        None => limit,
+    }
+}

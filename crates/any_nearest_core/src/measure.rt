@@ -1,0 +1,69 @@
+//! The distances of features of a layer from a geometry.
+
+ghost use Rattle.std.specs.Prelude.{IfOk, OnOk, ◌≡◌};
+ghost use Rattle.distance_core.specs.Units.{units_of};
+ghost use Rattle.any_nearest_core.specs.Candidates.{candidates_of};
+ghost use Rattle.any_nearest_core.specs.Measurements.{AreMeasured, IsMeasuredAs, with_measured};
+
+use crate::neighbour::AnyNeighbour;
+use any_geometry_core::AnyGeometry;
+use distance_core::Distance;
+use edge_distance_core::SquaredFraction;
+use geometry_distance_core::{MeasuredGeometry, square_within};
+use layer_core::Layer;
+use nearest_core::Neighbour;
+use std::alloc::{AllocError, Global};
+
+/// The square of the distance of the feature with this number from a geometry, if it is at most so
+/// far away.
+pub(crate) fn square_of(
+    alloc: Global,
+    layer: &Layer<AnyGeometry>,
+    number: u32,
+    from: &MeasuredGeometry,
+    distance: Distance,
+) -> Result<Option<SquaredFraction>, AllocError>
+    ensures { let units = units_of distance in
+        IfOk result (IsMeasuredAs layer.now.list from.now units number) }
+{
+    let Some(shape) = layer.shape(number) else {
+        return Ok(None);
+    };
+    let geometry = MeasuredGeometry::new(alloc, shape.geometry())?;
+    Ok(square_within(from, &geometry, distance))
+}
+
+/// Those of the candidates that are at most so far from a geometry, measured, in no particular
+/// order.
+pub(crate) fn measured_within(
+    alloc: Global,
+    layer: &Layer<AnyGeometry>,
+    candidates: &[Neighbour],
+    from: &MeasuredGeometry,
+    distance: Distance,
+) -> Result<Vec<AnyNeighbour>, AllocError>
+    ensures { let units = units_of distance in let numbers = candidates_of candidates.now in
+        IfOk result (λ found. AreMeasured layer.now.list from.now units numbers found.items) }
+{
+    let mut found = Vec::new(alloc);
+    for candidate in candidates {
+        let number = candidate.number;
+        let measured = square_of(alloc, layer, number, from, distance)?;
+        push_measured(&mut found, number, measured)?;
+    }
+    Ok(found)
+}
+
+/// Adds a feature, if its distance was measured.
+fn push_measured(
+    found: &mut Vec<AnyNeighbour>,
+    number: u32,
+    measured: Option<SquaredFraction>,
+) -> Result<(), AllocError>
+    ensures { OnOk result (found.new.items ≡ with_measured found.old.items number measured) }
+{
+    if let Some(square) = measured {
+        found.push(AnyNeighbour { square, number })?;
+    }
+    Ok(())
+}

@@ -1,0 +1,110 @@
+-- The list of the rows that a command skips: when it is stored, and what is said of it.
+use Rattle.std.specs.Prelude.{◌≡◌, ◌≢◌, ⊤, ℕ, List, ◌++◌, Option, Some, None, Result, codes}
+use Rattle.std.specs.Prelude.{decimal}
+use Rattle.std.specs.Prelude.{IfErr, IsErrOf, IsSome, MatchOption, OnOk, length}
+use Rattle.std.specs.Borrow.{Bor}
+use Rattle.number_core.specs.declared.scale.Scale.{Scale}
+use Rattle.any_relation_core.specs.AnyRelations.{rings_of}
+use Rattle.format_core.specs.Formats.{ReadsAny, ReadsBox}
+use Rattle.near_format_core.specs.NearFormats.{ReadsGrown}
+use Rattle.near_format_core.specs.AnyNearFormats.{ReadsGrownAny}
+use Rattle.near_run_core.specs.declared.job.NearJob.{NearJob}
+use Rattle.near_run_core.specs.declared.job.NearestJob.{NearestJob}
+use Rattle.join_core.specs.declared.fault.RunFault.{RunFault}
+use Rattle.join_core.specs.declared.fault.RunFault.TheVariants.{Memory, NotStored, Write}
+use Rattle.join_core.specs.JoinRuns.{AreRowsSkipped, SkippedLists}
+use Rattle.join_core.specs.Lines.{line_of}
+use Rattle.join_core.specs.SkippedTexts.{skipped_text}
+use Rattle.words_core.specs.declared.condition.Condition.{Condition}
+use Rattle.words_core.specs.declared.condition.Condition.TheVariants.{Boxes, Any}
+use Rattle.words_core.specs.declared.condition.Geometries.{Geometries}
+use Rattle.words_core.specs.declared.condition.Geometries.TheVariants as kinds
+use Rattle.words_core.specs.declared.words.Command.{Command}
+use Rattle.words_core.specs.declared.words.Command.TheVariants.{Join, Near, Nearest}
+use Rattle.command_core.specs.declared.notes.SkippedCounts.{SkippedCounts}
+use Rattle.command_core.specs.JoinResults.{files_read, known_bytes}
+use Rattle.command_core.specs.NearResults.{job_of}
+use Rattle.command_core.specs.NearestResults.{nearest_job_of}
+use Rattle.command_core.specs.Opening.{Files, JoinBytes}
+use Rattle.command_core.specs.Storing.{Stored, Stores}
+
+-- the path of the list of skipped rows, if a command asks for it
+abbrev pub skip_of : Command → Option (Bor (List ℕ))
+skip_of (Join join) = join.paths.skip
+skip_of (Near near) = near.paths.skip
+skip_of (Nearest nearest) = nearest.paths.skip
+skip_of _ = None
+
+-- the rows that a join by this condition skips, given the bytes of its files
+abbrev pub ConditionSkips : Condition → Scale → Option (Bor (List ℕ)) → JoinBytes → SkippedLists
+    → Type 0
+ConditionSkips (Boxes relation) scale skip bytes =
+    AreRowsSkipped (files_read skip (ReadsBox scale) bytes)
+ConditionSkips (Any relation) scale skip bytes =
+    AreRowsSkipped (files_read skip (ReadsAny scale (rings_of relation)) bytes)
+
+-- the rows that a join by distance skips, with geometries of this kind
+abbrev pub KindSkips : Geometries → NearJob → Option (Bor (List ℕ)) → JoinBytes → SkippedLists
+    → Type 0
+KindSkips kinds.Box job skip bytes =
+    AreRowsSkipped (files_read skip (ReadsGrown job.scale job.distance) bytes)
+KindSkips (kinds.Any rings) job skip bytes =
+    AreRowsSkipped (files_read skip (ReadsGrownAny job.scale rings job.distance) bytes)
+
+-- the rows that a search for the nearest features skips, with geometries of this kind
+abbrev pub NearestKindSkips : Geometries → NearestJob → Option (Bor (List ℕ)) → JoinBytes
+    → SkippedLists → Type 0
+NearestKindSkips kinds.Box job skip bytes =
+    AreRowsSkipped (files_read skip (ReadsBox job.scale) bytes)
+NearestKindSkips (kinds.Any rings) job skip bytes =
+    AreRowsSkipped (files_read skip (ReadsAny job.scale rings) bytes)
+
+-- the rows that a command skips, as far as the content of its files is known
+abbrev pub CommandSkips : Option Files → Command → SkippedLists → Type 0
+CommandSkips known (Join join) =
+    ConditionSkips join.condition join.scale join.paths.skip (known_bytes known join.paths)
+CommandSkips known (Near near) =
+    KindSkips near.geometries (job_of near) near.paths.skip (known_bytes known near.paths)
+CommandSkips known (Nearest nearest) = NearestKindSkips nearest.geometries
+    (nearest_job_of nearest) nearest.paths.skip (known_bytes known nearest.paths)
+CommandSkips known _ = λ rows. ⊤
+
+-- the list of these rows is stored at this path, if there is one
+abbrev pub StoresList : Option (Bor (List ℕ)) → Stored → Stored → SkippedLists → Type 0
+StoresList skip old new rows =
+    MatchOption skip (new ≡ old) (λ path. Stores old new path.now (skipped_text rows))
+
+-- why the list is not stored: there is no memory for it, or its file can't be written
+abbrev pub IsStoreFault : Option (Bor (List ℕ)) → RunFault → Type 0
+IsStoreFault skip Memory = IsSome skip
+IsStoreFault skip NotStored = IsSome skip
+IsStoreFault skip _ = ⊥
+
+-- when the list of these rows is stored: before the output is written, and not after another fault
+pub record StoresFirst {T : Type 0} (skip : Option (Bor (List ℕ)))
+    (old new : Stored) (rows : SkippedLists) (result : Result T RunFault)
+    : Type 0 where
+  pub ok : OnOk result (StoresList skip old new rows)
+  pub partly : IsErrOf result Write → StoresList skip old new rows
+  pub untouched : IfErr result (λ f. f ≢ Write → new ≡ old)
+
+-- the list of the rows that a command skips is stored, if it asks for the list
+pub record SkipEnds {T : Type 0} (known : Option Files) (command : Command)
+    (old new : Stored) (rows : SkippedLists) (result : Result T RunFault)
+    : Type 0 where
+  pub ok : OnOk result (CommandSkips known command rows)
+  pub partly : IsErrOf result Write → CommandSkips known command rows
+  pub stored : StoresFirst (skip_of command) old new rows result
+
+abbrev pub counts_of : SkippedLists → SkippedCounts
+counts_of rows = record { left = length rows.left; right = length rows.right }
+
+-- how many rows were skipped, if the list of them is asked for
+abbrev pub counts_for : Option (Bor (List ℕ)) → SkippedLists → Option SkippedCounts
+counts_for None rows = None
+counts_for (Some path) rows = Some (counts_of rows)
+
+-- the line of these numbers
+abbrev pub skipped_line : SkippedCounts → List ℕ
+skipped_line counts = line_of (codes "rows skipped: left " ++ (decimal counts.left
+    ++ (codes ", right " ++ decimal counts.right)))

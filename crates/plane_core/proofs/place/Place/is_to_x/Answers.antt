@@ -1,7 +1,0 @@
-use Rattle.plane_core.proofs.TestLemmas.{to_test}
-use Rattle.plane_core.proofs.place.Place.is_to_x.Goals as goal
-
-pub returns : goal.returns
-returns c =
-    let p = c.args.self.now in
-    to_test c.run_from.result p.x p.w c.args.v.now.x p.positive c.run_from.ensures.bound c.run_from.ensures.value

@@ -1,0 +1,13 @@
+use Rattle.std.proofs.Common.{◌≡◌, ◌-◌, ◌≤◌, false, length}
+use Rattle.std.specs.Io.KnownBytes.{Consumes}
+use Rattle.row_core.specs.Limits.{most_file_bytes}
+use Rattle.row_core.proofs.source.read_all.Given as goal
+
+abbrev pub invariant-loop-count : goal.invariant-loop-count
+invariant-loop-count g l =
+    (g.S.Source.has_failed l.source ≡ false)
+    × Consumes (g.S.Source.remaining l.initial.source) (g.S.Source.remaining l.source) l.all.items
+    × (length l.all.items ≤ most_file_bytes)
+
+abbrev pub decreases-loop-count : goal.decreases-loop-count
+decreases-loop-count g l = most_file_bytes - length l.all.items

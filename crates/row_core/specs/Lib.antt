@@ -1,0 +1,10 @@
+pub mod Cuts
+pub mod FaultTexts
+pub mod Fields
+pub mod LayerRows
+pub mod Limits
+pub mod Records
+pub mod RowFaults
+pub mod Rows
+pub mod Sources
+pub mod Unread

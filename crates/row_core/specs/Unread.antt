@@ -1,0 +1,49 @@
+-- The part of a layer's file that isn't read yet.
+use Rattle.std.specs.Prelude.{◌≡◌, ◌≤◌, ◌+◌, ℕ, List, [], ◌∷◌, ◌++◌, length, Ok}
+use Rattle.csv.specs.Reading.{default_config, records, strip_bom}
+use Rattle.csv.specs.declared.parser.State.TheVariants.{StartRecord}
+use Rattle.row_core.specs.declared.unread.Unread.{Unread}
+use Rattle.row_core.specs.declared.unread.Unread.TheVariants.{Text, Rows}
+use Rattle.row_core.specs.Cuts.{EndsBetween, IsPlain}
+use Rattle.row_core.specs.LayerRows.{layer_columns}
+use Rattle.row_core.specs.Limits.{most_file_bytes}
+use Rattle.row_core.specs.Records.{Record, records_of}
+use Rattle.row_core.specs.Rows.{AreRows, IsHeader, IsReading, most_rows, rows_left, rows_read}
+
+-- the remaining rows
+abbrev pub records_unread : Unread → List Record
+records_unread (Text text count) = records default_config text.now
+records_unread (Rows rows) = rows_left rows
+
+-- the number of rows read
+abbrev pub count_unread : Unread → ℕ
+count_unread (Text text count) = count
+count_unread (Rows rows) = rows_read rows
+
+-- the rows can be read without change, and can be numbered
+abbrev pub IsUnread : Unread → Type 0
+IsUnread (Text text count) =
+    IsPlain text.now × (count + length (records default_config text.now) ≤ most_rows)
+IsUnread (Rows rows) = IsReading rows
+
+-- all rows of a file
+pub record IsUnreadFile (bytes : List ℕ) (unread : Unread) : Type 0 where
+  pub rows : AreRows layer_columns bytes (Ok (records_unread unread))
+  pub none_read : count_unread unread ≡ 0
+  pub reading : IsUnread unread
+
+-- the line has a header of these columns as its only record, even if a mark precedes it
+pub record IsHeaderLine (columns : List (List ℕ)) (line : List ℕ) : Type 0 where
+  pub header : Record
+  pub headed : IsHeader columns header
+  pub records : records_of line ≡ header ∷ []
+  pub ends : EndsBetween StartRecord (strip_bom line)
+  pub long : 3 ≤ length line
+
+-- a file whose first line consists of the header alone, and whose rest is plain
+pub record IsHeaded (bytes rest : List ℕ) : Type 0 where
+  pub line : List ℕ
+  pub whole : line ++ rest ≡ bytes
+  pub few : length bytes ≤ most_file_bytes
+  pub headed : IsHeaderLine layer_columns line
+  pub plain : IsPlain rest

@@ -1,0 +1,21 @@
+//! The rows of CSV files of layers and of edits, one after another, and the sources that the files
+//! are read from.
+#![tactic(auto)]
+
+mod ends;
+mod fields;
+mod layer_row;
+mod read_fault;
+mod row_reader;
+mod rows;
+mod source;
+mod unread;
+
+pub use ends::{ends_with_feed, is_plain};
+pub use fields::{four_fields, id_in, side_in};
+pub use layer_row::{ReadRow, read_row};
+pub use read_fault::ReadFault;
+pub use row_reader::RowReader;
+pub use rows::Rows;
+pub use source::{Failed, FromRead, MAX_FILE_BYTES, Source, read_all};
+pub use unread::Unread;

@@ -1,0 +1,31 @@
+//! Reading the fields of a row that a row of a layer and one of edits share.
+
+ghost use Rattle.std.specs.Prelude.{◌≡◌, ◌≢◌, Ok, Err, IfOk, IfErr};
+ghost use Rattle.row_core.specs.RowFaults.{HasTextFault};
+
+use crate::read_fault::ReadFault;
+use format_core::Format;
+use std::alloc::Global;
+
+/// A reader of rows: the allocator, and the format of their geometries.
+#[derive(Clone, Copy)]
+pub struct RowReader<F> {
+    pub alloc: Global,
+    pub format: F,
+}
+
+impl<F: Format> RowReader<F> {
+    /// The geometry of the row with this number.
+    #[inline(always)]
+    pub fn geometry(self, number: u32, text: &[u8]) -> Result<F::Geometry, ReadFault>
+        ensures reads { IfOk result (λ shape. F.reads self.format text.now (Ok shape)) }
+        ensures fault { IfErr result (λ fault. fault ≢ ReadFault.Memory
+            → HasTextFault (F.reads self.format) number text.now fault) }
+        ensures no_io { result ≢ Err ReadFault.Io }
+    {
+        match self.format.read(self.alloc, text)? {
+            Ok(shape) => Ok(shape),
+            Err(fault) => Err(ReadFault::of_text(number, fault)),
+        }
+    }
+}

@@ -1,0 +1,182 @@
+"""The conditions by which two layers are joined: a relation, or a spacing that is too small."""
+from __future__ import annotations
+
+import re
+from abc import ABC, abstractmethod
+from decimal import ROUND_CEILING, Decimal
+from typing import Iterator, List, NamedTuple, Optional, Sequence
+
+from . import program
+from .layers import JoinError, Layer
+
+RELATIONS = ("intersects", "touches", "crosses", "within", "contains", "overlaps", "equals",
+             "covers", "covered_by", "contains_properly")
+NUMBER = re.compile(r"\d+(\.\d*)?|\.\d+")
+MOST_DECIMALS = 6
+LIMIT = 1_000_000_000_000
+DIMENSIONS = {"0": "points", "1": "lines", "2": "an area"}
+PARTS = ("interior", "boundary")
+
+
+class Row(NamedTuple):
+    """A row of a report: the numbers of two shapes, and the text of the last column."""
+
+    left: int
+    right: int
+    text: str
+
+
+class Place(NamedTuple):
+    """A category of the report database, with its description."""
+
+    name: str
+    about: str
+
+
+class Condition(ABC):
+    """A question to rjoin about two layers, and the places of its pairs in the database.
+
+    `title` names it between two layers, `column` is the last one of the program's report.
+    """
+
+    title: str
+    about: str
+    column: str
+
+    @abstractmethod
+    def words(self, layers: Sequence[Layer], dbu: float) -> List[str]:
+        """The command of rjoin, and its options."""
+
+    @abstractmethod
+    def check(self) -> None:
+        """Raises ProgramError where the program refuses the condition."""
+
+    def check_layer(self, _layer: Layer) -> None:
+        """Refuses a layer with a shape that the program doesn't read."""
+
+    def kept(self, rows: Iterator[Row], _layers: Sequence[Layer], _dbu: float) -> Iterator[Row]:
+        """The pairs of the report that belong to the answer."""
+        return rows
+
+    def places(self, _text: str) -> List[Place]:
+        """The categories of a pair below that of the join."""
+        return []
+
+    def values(self, _text: str, _dbu: float) -> List[str]:
+        """More texts of a pair."""
+        return []
+
+
+class Relation(Condition):
+    """Pairs in a relation, or whose matrix fits a mask of nine letters."""
+
+    column = "matrix"
+
+    def __init__(self, name: str) -> None:
+        self.title = name
+        self.about = f"the left shape {name.replace('_', ' ')} the right one" if (
+            name in RELATIONS) else f"the matrix fits {name}"
+
+    def check(self) -> None:
+        refusal = program.refusal("join", *self._asked())
+        if refusal is not None:
+            raise program.ProgramError(refusal)
+
+    def words(self, layers: Sequence[Layer], dbu: float) -> List[str]:
+        return ["join", *self._asked()]
+
+    def places(self, text: str) -> List[Place]:
+        return [Place(text, explained(text))]
+
+    def _asked(self) -> List[str]:
+        return [f"--relation={self.title}"]
+
+
+def explained(matrix: str) -> str:
+    """The meaning of the letters of a matrix for interiors and boundaries."""
+    shared = []
+    for row, left in enumerate(PARTS):
+        for column, right in enumerate(PARTS):
+            letter = matrix[3 * row + column]
+            if letter in DIMENSIONS:
+                shared.append(f"{left} and {right} share {DIMENSIONS[letter]}")
+    return "left and right: " + ("; ".join(shared) or "no common point")
+
+
+class Space(Condition):
+    """Pairs that share no point and are closer than a spacing, which is in micrometres."""
+
+    column = "distance"
+
+    def __init__(self, text: str) -> None:
+        if not NUMBER.fullmatch(text) or Decimal(text) == 0:
+            raise JoinError(f"space must be a number of micrometres above 0, not {text!r}")
+        self.space = Decimal(text)
+        self.title = f"closer than {self.space:f} um to"
+        self.about = f"shapes that share no point and are closer than {self.space:f} um"
+
+    def check(self) -> None:
+        refusal = program.refusal(*self._asked("1"))
+        if refusal is not None:
+            raise program.ProgramError(refusal)
+
+    def check_layer(self, layer: Layer) -> None:
+        shape = layer.first_shape()
+        if shape is None or program.refusal(*self._asked("1"), "--geometry=any") is None:
+            return
+        raise JoinError(
+            f"layer {layer.name}, cell {shape.cell}: neither a box nor a segment along an axis, "
+            f"which are all that this version of rjoin near reads: {shape.geometry.figure}")
+
+    def words(self, layers: Sequence[Layer], dbu: float) -> List[str]:
+        limit = self._limit(dbu)
+        decimals = _decimals(max(limit, *(layer.reach for layer in layers)))
+        up = limit.quantize(Decimal(1).scaleb(-decimals), ROUND_CEILING)
+        return [*self._asked(f"{up:f}"), "--scale", str(decimals)]
+
+    def kept(self, rows: Iterator[Row], layers: Sequence[Layer], dbu: float) -> Iterator[Row]:
+        """Those that are closer: the report has those too that are as far apart as the spacing, and
+        its distance is rounded. Where that is about the spacing, the gap decides of boxes, and the
+        rounded distance of others. Of a layer with itself each pair is kept once."""
+        left, right = layers
+        limit = self._limit(dbu)
+        surely = limit - Decimal(1).scaleb(-_decimals(max(limit, left.reach, right.reach)))
+        for row in rows:
+            if left is right and row.left >= row.right:
+                continue
+            distance = Decimal(row.text)
+            if distance <= surely or _is_closer(left.box(row.left), right.box(row.right), distance,
+                                                limit):
+                yield row
+
+    def values(self, text: str, dbu: float) -> List[str]:
+        distance = Decimal(text) * Decimal(str(dbu))
+        return [f"distance: {distance.normalize():f} um"]
+
+    def _limit(self, dbu: float) -> Decimal:
+        """The spacing in database units."""
+        return self.space / Decimal(str(dbu))
+
+    def _asked(self, distance: str) -> List[str]:
+        return ["near", f"--distance={distance}", "--apart"]
+
+
+def _decimals(reach: Decimal) -> int:
+    """As many decimals as the program's range allows for numbers up to this one."""
+    return max((decimals for decimals in range(MOST_DECIMALS + 1)
+                if reach.scaleb(decimals) <= LIMIT), default=0)
+
+
+def _is_closer(one: Optional[Sequence[int]], other: Optional[Sequence[int]], distance: Decimal,
+               limit: Decimal) -> bool:
+    """Whether two shapes are closer than a limit, where their rounded distance is about that."""
+    if one is None or other is None:
+        return distance < limit
+    return _squared_gap(one, other) < limit * limit
+
+
+def _squared_gap(one: Sequence[int], other: Sequence[int]) -> int:
+    """The squared distance of two boxes, by their least and greatest coordinates."""
+    across = max(other[0] - one[2], one[0] - other[2], 0)
+    up = max(other[1] - one[3], one[1] - other[3], 0)
+    return across * across + up * up

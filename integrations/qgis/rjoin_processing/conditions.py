@@ -1,0 +1,226 @@
+"""The conditions by which two layers are joined: words for rjoin, and the fields of its pairs."""
+from __future__ import annotations
+
+from abc import ABC, abstractmethod
+from collections import defaultdict
+from typing import Any, Iterable, Iterator, List, NamedTuple, Sequence, Tuple
+
+from qgis.core import (
+    QgsFeature,
+    QgsField,
+    QgsLineString,
+    QgsProcessingException,
+    QgsProcessingFeedback,
+)
+from qgis.PyQt.QtCore import QVariant
+
+from . import decimals as units
+from . import program
+from .answers import Meaning, Partner, Partners
+from .layers import Layer, common_decimals
+
+INTERSECTS = "intersects"
+
+
+class Row(NamedTuple):
+    """A row of a report: the numbers of two features, and the text of the last column."""
+
+    left: int
+    right: int
+    text: str
+
+
+class Condition(ABC):
+    """A question to rjoin about two layers, and the fields that a pair gets.
+
+    `title` names the condition, and `column` is the last one of the report.
+    """
+
+    title: str
+    column: str
+    meaning: Meaning
+
+    @abstractmethod
+    def check(self) -> None:
+        """Raises ProgramError where the program refuses the condition."""
+
+    def decimals(self, layers: List[Layer], given: int | None, feedback: QgsProcessingFeedback
+                 ) -> int:
+        """The decimals of a run."""
+        return common_decimals(layers, given, feedback)
+
+    @abstractmethod
+    def commands(self) -> List[List[str]]:
+        """The words of one run of the program or of several; the paths follow the first word."""
+
+    @abstractmethod
+    def fields(self) -> List[QgsField]:
+        """The fields that a pair gets."""
+
+    @abstractmethod
+    def partners(self, rows: Iterator[Row], left: Layer, right: Layer) -> Partners:
+        """The pairs of a report."""
+
+
+class Relations(Condition):
+    """Pairs that stand in one of some relations, or whose matrix fits a mask."""
+
+    column = "matrix"
+
+    def __init__(self, names: Sequence[str]) -> None:
+        self.title = " or ".join(names)
+        # Every relation that rjoin joins by has the two share a point.
+        self.names = [INTERSECTS] if INTERSECTS in names else list(names)
+        self.meaning = Meaning(lonely_is_exact=INTERSECTS in names)
+
+    def check(self) -> None:
+        for name in self.names:
+            refusal = program.refusal("join", f"--relation={name}")
+            if refusal is not None:
+                raise program.ProgramError(refusal)
+
+    def commands(self) -> List[List[str]]:
+        return [["join", f"--relation={name}"] for name in self.names]
+
+    def fields(self) -> List[QgsField]:
+        return [QgsField("matrix", QVariant.String, len=9)]
+
+    def partners(self, rows: Iterator[Row], left: Layer, right: Layer) -> Partners:
+        found: Partners = defaultdict(list)
+        for row in rows:
+            found[row.left].append(Partner(row.right, (row.text,)))
+        return found
+
+
+def distance_field() -> QgsField:
+    return QgsField("distance", QVariant.Double)
+
+
+class Distances(Condition):
+    """Pairs that a command gives with their distances, perhaps within a greatest distance."""
+
+    command: str
+    column = "distance"
+
+    def __init__(self, distance: float | None) -> None:
+        self.distance = distance
+
+    def check(self) -> None:
+        refusal = program.refusal(*self._asked(distance="0"))
+        if refusal is not None:
+            raise program.ProgramError(refusal)
+
+    def decimals(self, layers: List[Layer], given: int | None, feedback: QgsProcessingFeedback
+                 ) -> int:
+        """Those given, else as many as the range of the numbers allows, to which distances are
+        rounded then; but no fewer than write all numbers exactly."""
+        decimals = common_decimals(layers, given, feedback)
+        reach = [] if self.distance is None else [self.distance]
+        if given is None:
+            decimals = _finest(reach, layers, decimals)
+        elif list(units.rounded_places(reach, decimals)):
+            raise QgsProcessingException(
+                f"Distance: {units.text(reach[0])} has more than {decimals} decimals")
+        _check_limit(reach, layers, decimals)
+        feedback.pushInfo(f"Decimals of the distances: {decimals}")
+        return decimals
+
+    def commands(self) -> List[List[str]]:
+        return [self._asked(None if self.distance is None else units.text(self.distance))]
+
+    def fields(self) -> List[QgsField]:
+        return [distance_field()]
+
+    def partners(self, rows: Iterator[Row], left: Layer, right: Layer) -> Partners:
+        found: Partners = defaultdict(list)
+        for row in rows:
+            found[row.left].append(Partner(row.right, (float(row.text),)))
+        return found
+
+    def _asked(self, distance: str | None) -> List[str]:
+        return [self.command] if distance is None else [self.command, f"--distance={distance}"]
+
+
+def _finest(reach: Sequence[float], layers: Sequence[Layer], least: int) -> int:
+    """As many decimals as the range allows, but no fewer than write the distance exactly."""
+    try:
+        fewest = units.fewest_decimals(reach, least)
+    except units.CoordinateError as fault:
+        raise QgsProcessingException(f"Distance: {fault}; give the parameter Decimals (DECIMALS) "
+                                     "to round to") from fault
+    most = min(units.most_decimals(numbers)
+               for numbers in (reach, *(layer.coordinates for layer in layers)))
+    return max(fewest, most)
+
+
+def _check_limit(reach: Sequence[float], layers: Iterable[Layer], decimals: int) -> None:
+    """Ends the run where a number is out of range with the decimals of the distance."""
+    try:
+        for numbers in (reach, *(layer.coordinates for layer in layers)):
+            units.check_limit(numbers, decimals)
+    except units.CoordinateError as fault:
+        raise QgsProcessingException(
+            f"With the decimals of the distance, {decimals}, {fault}") from fault
+
+
+class Within(Distances):
+    """Pairs at most a distance apart, perhaps but for those that share a point."""
+
+    command = "near"
+
+    def __init__(self, distance: float, apart: bool) -> None:
+        super().__init__(distance)
+        self.apart = apart
+        self.title = f"distance, at most {units.text(distance)}"
+        self.meaning = Meaning(lonely_is_exact=not apart)
+
+    def _asked(self, distance: str | None) -> List[str]:
+        return super()._asked(distance) + ["--apart"] * self.apart
+
+
+LINE_ENDS = ("feature_x", "feature_y", "nearest_x", "nearest_y")
+
+
+class Nearest(Distances):
+    """The nearest features of each, with those that tie with the last.
+
+    Where a layer is joined with itself, a feature isn't among its own nearest: it is at no
+    distance, and so one more of the others has to be found.
+    """
+
+    command = "nearest"
+    meaning = Meaning(lonely_is_exact=True, needs_all=True)
+
+    def __init__(self, most: int, distance: float | None, is_same: bool) -> None:
+        super().__init__(distance)
+        self.most = most + is_same
+        self.is_same = is_same
+        self.title = "distance, the nearest"
+
+    def fields(self) -> List[QgsField]:
+        """As native:joinbynearest has them."""
+        return [QgsField("n", QVariant.Int), distance_field(),
+                *(QgsField(name, QVariant.Double) for name in LINE_ENDS)]
+
+    def partners(self, rows: Iterator[Row], left: Layer, right: Layer) -> Partners:
+        found: Partners = defaultdict(list)
+        for row in rows:
+            one, other = left.features[row.left], right.features[row.right]
+            if self.is_same and one.id() == other.id():
+                continue
+            partners = found[row.left]
+            partners.append(Partner(row.right, (
+                len(partners) + 1, float(row.text), *_line_between(one, other))))
+        return found
+
+    def _asked(self, distance: str | None) -> List[str]:
+        return [*super()._asked(distance), f"--most={self.most}"]
+
+
+def _line_between(one: QgsFeature, other: QgsFeature) -> Tuple[Any, ...]:
+    """The ends of a shortest line between two features, as QGIS rounds them."""
+    shortest = one.geometry().shortestLine(other.geometry())
+    line = shortest.constGet()  # lives as long as the geometry
+    if not isinstance(line, QgsLineString) or line.numPoints() < 2:
+        return (None,) * len(LINE_ENDS)
+    return line.xAt(0), line.yAt(0), line.xAt(1), line.yAt(1)

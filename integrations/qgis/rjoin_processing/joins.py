@@ -1,0 +1,325 @@
+"""The base of the algorithms that join two layers: parameters, the run and its output."""
+from __future__ import annotations
+
+import csv
+from pathlib import Path
+from typing import Any, Dict, Iterator, List
+
+from qgis.core import (
+    QgsCoordinateReferenceSystem,
+    QgsFeature,
+    QgsField,
+    QgsFields,
+    QgsProcessing,
+    QgsProcessingContext,
+    QgsProcessingException,
+    QgsProcessingFeatureSource,
+    QgsProcessingFeedback,
+    QgsProcessingOutputNumber,
+    QgsProcessingParameterBoolean,
+    QgsProcessingParameterEnum,
+    QgsProcessingParameterFeatureSink,
+    QgsProcessingParameterFeatureSource,
+    QgsProcessingParameterField,
+    QgsProcessingParameterString,
+    QgsProcessingUtils,
+    QgsWkbTypes,
+)
+
+from . import joined, program
+from .algorithm import (
+    OTHERS,
+    WORKERS,
+    Output,
+    RjoinAlgorithm,
+    Steps,
+    check_program,
+    faults_shown,
+    with_fields,
+)
+from .answers import JoinFields, Partners
+from .conditions import Condition, Row
+from .layers import (
+    CHECK_EVERY,
+    Layer,
+    Others,
+    attributes_of,
+    format_words,
+    read_layer,
+    tell,
+    write_layer,
+)
+
+ONE_FOR_EACH_PAIR = 0
+PAIRS_ALONE = 1
+FIRST_PARTNER_ALONE = 2
+INCOMPLETE_STOPS = 0
+INCOMPLETE_IS_MARKED = 1
+NON_MATCHING = "NON_MATCHING"
+
+JOIN_HELP = """
+<p>Both layers must have the same reference system, since reprojected coordinates have to be \
+rounded; reproject the join layer first where they differ.</p>
+<h3>Base features without a partner</h3>
+<p>A join feature that is left out may be the partner of a base feature that has none in the \
+output. Where join features are left out, such base features stop the run unless they are \
+discarded, or kept with <i>false</i> in the field <i>known</i>.</p>"""
+
+
+class JoinAlgorithm(RjoinAlgorithm):
+    """Joins two layers by a condition, with the fields of both for each pair."""
+
+    def initAlgorithm(self, _configuration: Any = None) -> None:  # noqa: N802
+        vector = [QgsProcessing.TypeVectorAnyGeometry]
+        self.addParameter(QgsProcessingParameterFeatureSource("INPUT", "Base layer", vector))
+        self.addParameter(QgsProcessingParameterFeatureSource("JOIN", "Join layer", vector))
+        self.add_condition_parameters()
+        self._add_output_parameters()
+        self.add_common_parameters()
+        self.add_workers()
+        self.addParameter(QgsProcessingParameterFeatureSink("OUTPUT", "Joined layer"))
+        self.addParameter(QgsProcessingParameterFeatureSink(
+            NON_MATCHING, "Base features without a partner", optional=True, createByDefault=False))
+        self.add_left_out("INPUT_LEFT_OUT", "Base features left out, with the reason")
+        self.add_left_out("JOIN_LEFT_OUT", "Join features left out, with the reason")
+        for name, title in (("PAIRS", "Number of pairs"),
+                            ("JOINED_COUNT", "Number of base features with a partner"),
+                            ("UNJOINABLE_COUNT", "Number of base features without a partner")):
+            self.addOutput(QgsProcessingOutputNumber(name, title))
+
+    def add_condition_parameters(self) -> None:
+        """Adds the parameters of the condition."""
+        raise NotImplementedError
+
+    def condition_of(self, parameters: Dict[str, Any], context: QgsProcessingContext) -> Condition:
+        """The condition that the parameters give."""
+        raise NotImplementedError
+
+    def _add_output_parameters(self) -> None:
+        self.addParameter(QgsProcessingParameterEnum(
+            "METHOD", "Output",
+            ["A base feature with the fields of both layers for each pair",
+             "The pairs alone, as a table of two ids",
+             "A base feature with the fields of its first partner alone"],
+            defaultValue=ONE_FOR_EACH_PAIR))
+        self.addParameter(QgsProcessingParameterField(
+            "JOIN_FIELDS", "Fields to add (all unless given)", parentLayerParameterName="JOIN",
+            allowMultiple=True, optional=True))
+        self.addParameter(QgsProcessingParameterBoolean(
+            "DISCARD_NONMATCHING", "Discard base features without a partner", False))
+        self.addParameter(QgsProcessingParameterEnum(
+            "INCOMPLETE", "Base features without a partner where join features are left out",
+            ["Stop with an error", "Keep them, marked in the field known"],
+            defaultValue=INCOMPLETE_STOPS))
+        self.addParameter(QgsProcessingParameterString(
+            "PREFIX", "Prefix of added fields", optional=True))
+        self.addParameter(QgsProcessingParameterField(
+            "INPUT_ID", "Id of the base layer in a table of pairs (feature id unless given)",
+            parentLayerParameterName="INPUT", optional=True))
+        self.addParameter(QgsProcessingParameterField(
+            "JOIN_ID", "Id of the join layer in a table of pairs (feature id unless given)",
+            parentLayerParameterName="JOIN", optional=True))
+
+    def processAlgorithm(self, parameters: Dict[str, Any],  # noqa: N802 - the name is QGIS's
+                         context: QgsProcessingContext, feedback: QgsProcessingFeedback
+                         ) -> Dict[str, Any]:
+        with faults_shown() as folder:
+            return _Run(self, parameters, context, feedback).run(folder)
+
+
+class _Run:
+    """One run of an algorithm."""
+
+    def __init__(self, algorithm: JoinAlgorithm, parameters: Dict[str, Any],
+                 context: QgsProcessingContext, feedback: QgsProcessingFeedback) -> None:
+        self.algorithm = algorithm
+        self.parameters = parameters
+        self.context = context
+        self.steps = Steps(4, feedback)
+        self.condition = algorithm.condition_of(parameters, context)
+        self.left = algorithm.source_of(parameters, "INPUT", context)
+        self.right = algorithm.source_of(parameters, "JOIN", context)
+        self.others = Others(algorithm.parameterAsEnum(parameters, OTHERS, context))
+        self.method = algorithm.parameterAsEnum(parameters, "METHOD", context)
+        self.incomplete = algorithm.parameterAsEnum(parameters, "INCOMPLETE", context)
+        self.keeps_lonely = self.method != PAIRS_ALONE and not algorithm.parameterAsBoolean(
+            parameters, "DISCARD_NONMATCHING", context)
+        self.shows_incomplete = (self.keeps_lonely or bool(parameters.get(NON_MATCHING))
+                                 or self.condition.meaning.needs_all)
+        self.system = QgsCoordinateReferenceSystem()
+
+    def run(self, folder: Path) -> Dict[str, Any]:
+        """Joins the layers; no output is made before the pairs are known."""
+        check_program(self.steps.feedback)
+        self.system = _common_system(self.left, self.right, self.steps.feedback)
+        self.condition.check()
+        left = self._read(self.left, "INPUT")
+        right = self._read(self.right, "JOIN")
+        self._check_complete(right)
+        partners = self._join(folder, left, right)
+        if self.method == FIRST_PARTNER_ALONE:
+            partners = {number: found[:1] for number, found in partners.items()}
+        results = self._write(left, right, partners)
+        results.update(self.algorithm.write_left_out(
+            self.parameters, "INPUT_LEFT_OUT", self.context, self.left, left))
+        results.update(self.algorithm.write_left_out(
+            self.parameters, "JOIN_LEFT_OUT", self.context, self.right, right))
+        results["PAIRS"] = sum(map(len, partners.values()))
+        results["JOINED_COUNT"] = len(partners)
+        results["UNJOINABLE_COUNT"] = len(left.features) - len(partners)
+        return results
+
+    def _read(self, source: QgsProcessingFeatureSource, name: str) -> Layer:
+        feedback = self.steps.begin(f"Reading {source.sourceName()}")
+        rules = self.algorithm.rules_of(self.parameters, name, self.context)
+        layer = read_layer(source, rules, feedback)
+        self.steps.check_cancelled()
+        tell(layer, bool(self.parameters.get(f"{name}_LEFT_OUT")), feedback)
+        return layer
+
+    def _check_complete(self, right: Layer) -> None:
+        """Stops where a feature that was left out may change a row."""
+        if not (right.left_out and self.shows_incomplete and self.incomplete == INCOMPLETE_STOPS):
+            return
+        if self.condition.meaning.needs_all:
+            raise QgsProcessingException(
+                f"{right.name}: features left out: {len(right.left_out)}, each of which may be "
+                "nearer than those that are found. Keep the rows, marked in the field known.")
+        raise QgsProcessingException(
+            f"{right.name}: features left out: {len(right.left_out)}, each of which may be the "
+            "partner of a base feature without one. Discard base features without a partner, "
+            "or keep them, marked in the field known.")
+
+    def _join(self, folder: Path, left: Layer, right: Layer) -> Partners:
+        feedback = self.steps.begin(f"Joining by {self.condition.title}")
+        given = self.algorithm.given_decimals(self.parameters, self.context)
+        decimals = self.condition.decimals([left, right], given, feedback)
+        paths = folder / "left.csv", folder / "right.csv"
+        for path, layer in zip(paths, (left, right)):
+            write_layer(path, layer, decimals)
+            feedback.setProgress(40 if layer is left else 80)
+        workers = self.algorithm.parameterAsInt(self.parameters, WORKERS, self.context)
+        found = []
+        for number, (command, *words) in enumerate(self.condition.commands()):
+            report = folder / f"report{number}.csv"
+            program.run([command, *map(str, paths), *words, *format_words([left, right], decimals),
+                         "--workers", str(workers)], report, feedback.isCanceled)
+            found.append(self.condition.partners(_rows(report, self.condition.column), left, right))
+        return joined.merged(found)
+
+    def _write(self, left: Layer, right: Layer, partners: Partners) -> Dict[str, Any]:
+        feedback = self.steps.begin("Writing the output")
+        added = JoinFields(left, right, self.condition.fields(), self.condition.meaning,
+                           self.others == Others.ENVELOPE,
+                           self.shows_incomplete and self.incomplete == INCOMPLETE_IS_MARKED)
+        if self.method == PAIRS_ALONE:
+            output, features = self._pairs_alone(added, partners)
+        else:
+            output, features = self._joined(added, partners)
+        count = sum(map(len, partners.values()))
+        if added.has_exact:
+            inexact = sum(not added.is_exact(number, partner)
+                          for number, found in partners.items() for partner in found)
+            feedback.pushInfo("Pairs that rest on an envelope, where the field exact is false: "
+                              f"{inexact} of {count}")
+        output.add(_shown(features, max(1, count), feedback))
+        self.steps.check_cancelled()
+        return {**output.result(), **self._write_lonely(added, partners)}
+
+    def _write_lonely(self, added: JoinFields, partners: Partners) -> Dict[str, Any]:
+        output = self.algorithm.sink_of(
+            self.parameters, NON_MATCHING, self.context,
+            with_fields(self.left.fields(), added.flags()), self.system, self.left.wkbType())
+        output.add(joined.lonely_features(added, partners))
+        return output.result()
+
+    def _joined(self, added: JoinFields, partners: Partners
+                ) -> tuple[Output, Iterator[QgsFeature]]:
+        names = self.algorithm.parameterAsFields(self.parameters, "JOIN_FIELDS", self.context)
+        places = _places(self.right.fields(), names)
+        prefix = self.algorithm.parameterAsString(self.parameters, "PREFIX", self.context)
+        right = QgsFields()
+        for place in places:
+            right.append(self.right.fields()[place])
+        fields = with_fields(QgsProcessingUtils.combineFields(self.left.fields(), right, prefix),
+                             added.fields())
+        nothing = [None] * (len(places) + len(added.of_values)) if self.keeps_lonely else None
+        return self._output(fields, self.left.wkbType()), joined.joined_features(
+            added, attributes_of(added.right, places), partners, nothing)
+
+    def _pairs_alone(self, added: JoinFields, partners: Partners
+                     ) -> tuple[Output, Iterator[QgsFeature]]:
+        left_id = self.algorithm.parameterAsString(self.parameters, "INPUT_ID", self.context)
+        right_id = self.algorithm.parameterAsString(self.parameters, "JOIN_ID", self.context)
+        fields = QgsFields()
+        for field in (_id_field(self.left.fields(), left_id, "left"),
+                      _id_field(self.right.fields(), right_id, "right"), *added.fields()):
+            fields.append(field)
+        return self._output(fields, QgsWkbTypes.NoGeometry), joined.pair_features(
+            added, _ids(added.left, self.left.fields(), left_id),
+            _ids(added.right, self.right.fields(), right_id), partners)
+
+    def _output(self, fields: QgsFields, kind: int) -> Output:
+        return self.algorithm.sink_of(self.parameters, "OUTPUT", self.context, fields, self.system,
+                                      kind)
+
+
+def _common_system(left: QgsProcessingFeatureSource, right: QgsProcessingFeatureSource,
+                   feedback: QgsProcessingFeedback) -> QgsCoordinateReferenceSystem:
+    """The reference system of both layers, or of the one that has one."""
+    one, other = left.sourceCrs(), right.sourceCrs()
+    if one.isValid() and other.isValid() and one != other:
+        raise QgsProcessingException(
+            f"The layers have the reference systems {one.authid()} and {other.authid()}. "
+            "Reproject the join layer first, and give the number of decimals to round to.")
+    system = one if one.isValid() else other
+    if one.isValid() != other.isValid():
+        feedback.pushWarning("One layer has no reference system; that of the other is taken: "
+                             f"{system.authid()}")
+    return system
+
+
+def _rows(report: Path, column: str) -> Iterator[Row]:
+    """The rows of a report, in its order."""
+    with open(report, encoding="ascii", newline="") as file:
+        rows = csv.reader(file)
+        if next(rows, None) != ["left", "right", column]:
+            raise program.ProgramError(f"{program.find_program()} wrote no report")
+        for left, right, text in rows:
+            yield Row(int(left), int(right), text)
+
+
+def _places(fields: QgsFields, names: List[str]) -> List[int]:
+    """The places of named fields, or of all of them."""
+    if not names:
+        return list(range(fields.count()))
+    places = [fields.lookupField(name) for name in names]
+    if -1 in places:
+        raise QgsProcessingException(f"the join layer has no field {names[places.index(-1)]}")
+    return places
+
+
+def _id_field(fields: QgsFields, name: str, title: str) -> QgsField:
+    if not name:
+        return joined.feature_id_field(title)
+    field = QgsField(fields[_places(fields, [name])[0]])
+    field.setName(title)
+    return field
+
+
+def _ids(layer: Layer, fields: QgsFields, name: str) -> List[Any]:
+    if not name:
+        return [feature.id() for feature in layer.features]
+    (place,) = _places(fields, [name])
+    return [feature.attribute(place) for feature in layer.features]
+
+
+def _shown(features: Iterator[QgsFeature], count: int, feedback: QgsProcessingFeedback
+           ) -> Iterator[QgsFeature]:
+    """Passes features on until the user cancels, and shows the progress."""
+    for number, feature in enumerate(features):
+        if number % CHECK_EVERY == 0:
+            if feedback.isCanceled():
+                return
+            feedback.setProgress(min(100.0, 100 * number / count))
+        yield feature

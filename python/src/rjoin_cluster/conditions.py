@@ -1,0 +1,75 @@
+"""The condition that a pair satisfies, by the command of the program that decides it."""
+from __future__ import annotations
+
+from dataclasses import dataclass
+from typing import Optional
+
+from rjoin_cluster.answers import read_answer
+from rjoin_cluster.commands import NEAREST
+from rjoin_cluster.program import HEADER, Program, RowFault
+
+MATRIX = "matrix"
+MATRIX_LETTERS = 9
+DISTANCE = "distance"
+MOST_DISTANCE = 4 * 10**12  # units; the program takes none that is greater
+
+
+@dataclass(frozen=True)
+class Condition:
+    """A command of the program for two layers, and its options, without those of reading."""
+
+    command: str
+    words: tuple[str, ...]
+    distance: Optional[str] = None  # the greatest, where the command has one
+
+    @property
+    def is_nearest(self) -> bool:
+        """Whether a pair depends on the other right features, and not on its own two alone."""
+        return self.command == NEAREST
+
+    def check(self, program: Program) -> None:
+        """Ends the join where the program doesn't take the command or an option."""
+        program.check_has(self.command)
+        if program.reading.geometry is not None:
+            program.check_has(self.command, "--geometry")
+        program.check_words([self.command, *self.words, *program.reading.words()])
+
+
+@dataclass(frozen=True)
+class Reach:
+    """By how many units boxes are grown on each side, so that those of a pair meet, and the last
+    column of a report: its name, and the most bytes of its fields.
+    """
+
+    growth: int
+    column: str
+    width: int
+
+    @property
+    def is_distance(self) -> bool:
+        return self.column == DISTANCE
+
+    @property
+    def header(self) -> bytes:
+        return f"left,right,{self.column}\n".encode()
+
+
+def reach_of(condition: Condition, program: Program) -> Reach:
+    """The reach of a condition that the program takes. A distance is printed with as many decimals
+    as the scale has, and is at most that of the condition.
+    """
+    if condition.distance is None:
+        return Reach(0, MATRIX, MATRIX_LETTERS)
+    units = units_of(condition.distance, program)
+    digits = max(len(str(units)), int(program.reading.scale) + 1)
+    return Reach((units + 1) // 2, DISTANCE, digits + len("."))
+
+
+def units_of(distance: str, program: Program) -> int:
+    """The distance in units, as the program reads it, or the greatest of all where it can't be a
+    coordinate.
+    """
+    answer = program.bounds([HEADER, f"distance,POINT ({distance} 0)\n".encode()])
+    if isinstance(answer, RowFault):
+        return MOST_DISTANCE
+    return int(read_answer(answer).boxes[0, 0])

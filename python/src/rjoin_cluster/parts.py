@@ -1,0 +1,132 @@
+"""The features of a block, as runs of rjoin read them: all at once, or a part after the other where
+a block is more than a run takes.
+"""
+from __future__ import annotations
+
+from dataclasses import dataclass
+from typing import Iterator, Optional, Sequence
+
+import numpy as np
+
+from rjoin_cluster.answers import NO_FEATURES, Features, read_answer
+from rjoin_cluster.faults import RunFailed
+from rjoin_cluster.ids import stacked
+from rjoin_cluster.program import HEADER, MOST_BYTES, MOST_FEATURES, Program, RowFault
+from rjoin_cluster.records import RETURN, WINDOW, Bytes, record_ends
+from rjoin_cluster.skipping import FAULTS as GEOMETRY_FAULTS
+from rjoin_cluster.skipping import NOTHING, Skipped, all_skipped, skipped_in, without
+
+MOST_PART = MOST_BYTES - len(HEADER)
+
+# Put before the first block, so that a second byte order mark stays part of the header.
+NO_MARK = b"\n"
+
+FULL = "layer is full"  # as rjoin says it
+
+
+@dataclass(frozen=True)
+class PartRead:
+    """The features of a part of a block, the records that were left out, and the first fault, which
+    ended the reading.
+    """
+
+    features: Features
+    skipped: Skipped = NOTHING
+    fault: Optional[RowFault] = None
+
+    @property
+    def records(self) -> int:
+        return len(self.features.boxes) + self.skipped.rows.size
+
+
+def features_of(program: Program, number: int, text: Bytes, skips: bool) -> PartRead:
+    """The features of the block of this number, or those before its first fault."""
+    before = HEADER if number else NO_MARK
+    if text.size <= MOST_PART and likely_records(text) < MOST_FEATURES:
+        read = read_part(program, before, text, skips)
+        if read.fault is None or read.fault.text != FULL:
+            return read
+    return features_of_parts(program, before, text, skips)
+
+
+def features_of_parts(program: Program, before: bytes, text: Bytes, skips: bool) -> PartRead:
+    """The same, of a block that is more than a run takes."""
+    features, skipped = [], []
+    rows = 0
+    fault = None
+    for part in parts_of_runs(text):
+        read = read_part(program, before, part, skips)
+        before = HEADER
+        features.append(read.features)
+        skipped.append(read.skipped.behind(rows))
+        if read.fault is not None:
+            fault = RowFault(read.fault.row + rows, read.fault.text, read.fault.teller)
+            break
+        rows += read.records
+    return PartRead(together(features), all_skipped(skipped), fault)
+
+
+def likely_records(text: Bytes) -> int:
+    """How many records a block has, if all of it is as its beginning."""
+    first = text[:WINDOW]
+    return int(np.count_nonzero(first <= RETURN)) * text.size // max(first.size, 1)
+
+
+def together(parts: Sequence[Features]) -> Features:
+    if len(parts) == 1:
+        return parts[0]
+    boxes = np.concatenate([NO_FEATURES.boxes, *(part.boxes for part in parts)])
+    return Features(stacked([part.ids for part in parts]), boxes)
+
+
+def parts_of_runs(text: Bytes) -> Iterator[Bytes]:
+    """A block in parts that a run takes."""
+    ends = record_ends(text)
+    begins = np.append(0, ends)
+    done = 0
+    while done < ends.size:
+        within = int(np.searchsorted(ends, begins[done] + MOST_PART, side="right"))
+        behind = max(done + 1, min(within, done + MOST_FEATURES))
+        yield text[begins[done]:begins[behind]]
+        done = behind
+
+
+def read_part(program: Program, before: bytes, part: Bytes, skips: bool) -> PartRead:
+    """The features of a part of a file, of which these bytes are to be read before it."""
+    if part.size > MOST_PART:
+        fault = RowFault(1, f"longer than {MOST_PART} bytes", "rjoin-cluster")
+        return PartRead(NO_FEATURES, fault=fault)
+    answer = program.bounds([before, part.data])
+    if not isinstance(answer, RowFault):
+        return PartRead(read_answer(answer))
+    if skips and answer.text in GEOMETRY_FAULTS:
+        return read_skipping(program, before, part)
+    if answer.row == 0:
+        return PartRead(NO_FEATURES, fault=answer)
+    good = program.bounds([before, before_row(answer.row, before, part).data])
+    if isinstance(good, RowFault):
+        raise RunFailed(f"rjoin bounds: a fault in row {good.row}, where there was none before")
+    return PartRead(read_answer(good), fault=answer)
+
+
+def read_skipping(program: Program, before: bytes, part: Bytes) -> PartRead:
+    """The same, without the records whose geometry can't be read, up to the first other fault."""
+    fault = None
+    skipped = skipped_in(program, [before, part.data])
+    if isinstance(skipped, RowFault):
+        fault = skipped
+        part = before_row(fault.row, before, part)
+        skipped = skipped_in(program, [before, part.data])
+    if isinstance(skipped, RowFault):
+        raise RunFailed(f"rjoin join: a fault in row {skipped.row}, where there was none before")
+    records = skipped.rows - 1 + int(before != HEADER)
+    answer = program.bounds([before, *without(part, records)])
+    if isinstance(answer, RowFault):
+        raise RunFailed(f"rjoin bounds: {answer.text}, where there was no fault before")
+    return PartRead(read_answer(answer), skipped, fault)
+
+
+def before_row(row: int, before: bytes, part: Bytes) -> Bytes:
+    """What stands before a row of a part; the first block has the header before its rows."""
+    records = row - 1 + int(before != HEADER)
+    return part[:int(record_ends(part)[records - 1])] if records else part[:0]

@@ -1,0 +1,94 @@
+"""The reports of runs, whose ids are numbers of one width, as arrays."""
+from __future__ import annotations
+
+from typing import Protocol
+
+import numpy as np
+
+from rjoin_cluster.conditions import Reach
+from rjoin_cluster.digits import Texts, numbers_before, numbers_ending
+from rjoin_cluster.faults import RunFailed
+from rjoin_cluster.ids import as_elements, id_table, widened
+from rjoin_cluster.records import COMMA, FEED, Bytes, Places
+from rjoin_cluster.words import WORD
+
+PADDING = np.zeros(WORD, dtype=np.uint8)
+
+
+class ReportRows(Protocol):
+    """The rows of a report below its header."""
+
+    count: int
+
+    def some(self, begin: int, end: int) -> tuple[Places, Places, Texts]:
+        """The left and right numbers and the last fields of these rows."""
+
+
+def rows_of(report: Bytes, reach: Reach, left_digits: int, right_digits: int) -> ReportRows:
+    """The rows of a report whose ids have so many digits."""
+    if bytes(report[: len(reach.header)]) != reach.header:
+        raise RunFailed("a report with another header than expected")
+    if reach.is_distance:
+        return UnevenRows(report, reach, left_digits, right_digits)
+    return EvenRows(report, reach, left_digits, right_digits)
+
+
+class EvenRows:
+    """Rows whose last fields have one width too, as matrices have."""
+
+    def __init__(self, report: Bytes, reach: Reach, left_digits: int, right_digits: int) -> None:
+        self.report = report
+        self.reach = reach
+        self.left_digits = left_digits
+        self.right_digits = right_digits
+        self.width = left_digits + right_digits + reach.width + len(",,\n")
+        self.count, more = divmod(report.size - len(reach.header), self.width)
+        if more:
+            raise RunFailed("a report of another form than expected")
+
+    def some(self, begin: int, end: int) -> tuple[Places, Places, Texts]:
+        behind_left = self.places(begin, end, self.left_digits)
+        behind_right = self.places(begin, end, self.left_digits + 1 + self.right_digits)
+        lasts: Texts = np.ndarray(
+            end - begin, f"V{self.reach.width}", self.report, behind_right.start + 1, (self.width,)
+        )
+        return (
+            numbers_before(self.report, behind_left, self.left_digits),
+            numbers_before(self.report, behind_right, self.right_digits),
+            lasts,
+        )
+
+    def places(self, begin: int, end: int, column: int) -> range:
+        """Where this column of the rows lies in the report."""
+        first = len(self.reach.header) + column
+        return range(first + begin * self.width, first + end * self.width, self.width)
+
+
+class UnevenRows:
+    """Rows whose last fields have various widths, as distances have."""
+
+    def __init__(self, report: Bytes, reach: Reach, left_digits: int, right_digits: int) -> None:
+        self.report = report
+        self.width = reach.width
+        self.left_digits = left_digits
+        self.right_digits = right_digits
+        self.ends = np.flatnonzero(report == FEED)  # of the header, and then of each row
+        self.count = self.ends.size - 1
+        if self.ends[-1] != report.size - 1:
+            raise RunFailed("a report whose last row has no end")
+
+    def some(self, begin: int, end: int) -> tuple[Places, Places, Texts]:
+        first = int(self.ends[begin]) + 1 - WORD  # before a number some bytes are looked at
+        text = np.concatenate([self.report[first:self.ends[end] + 1], PADDING])
+        ends = self.ends[begin:end + 1] - first
+        behind_left = ends[:-1] + 1 + self.left_digits
+        behind_right = behind_left + 1 + self.right_digits
+        lengths = ends[1:] - behind_right - 1
+        commas = text.take(np.concatenate([behind_left, behind_right]), mode="clip") == COMMA
+        if not commas.all() or lengths.min(initial=1) < 1 or lengths.max(initial=1) > self.width:
+            raise RunFailed("a report of another form than expected")
+        return (
+            numbers_ending(text, behind_left, self.left_digits),
+            numbers_ending(text, behind_right, self.right_digits),
+            as_elements(widened(id_table(text, behind_right + 1, lengths), self.width)),
+        )
