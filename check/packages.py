@@ -267,7 +267,8 @@ def completion_offers_what_the_help_lists(it: Tried) -> None:
         expect(completions(it, name, "--relation", "") == RELATIONS == listed - {"disjoint"}, name)
     expect(completions(it, "join", "par") == {"parcels.csv"}, completions(it, "join", "par"))
     expect(completions(it, "join", "--edits", "road") == {"roads.csv"}, completions(it, "join", "--edits", "road"))
-    expect(completions(it, "join", "--workers", "") == set(), completions(it, "join", "--workers", ""))
+    expect(completions(it, "join", "--workers", "") == {"auto"}, completions(it, "join", "--workers", ""))
+    expect(completions(it, "join", "--batch", "") == set(), completions(it, "join", "--batch", ""))
 
 
 def proved_names_program_toolchain_and_commit(it: Tried) -> None:

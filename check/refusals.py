@@ -494,6 +494,7 @@ class Calls:
     kind: str
     least: int
     most: int
+    under: list[str] = field(default_factory=list)
 
 
 def thread_limits() -> list[Calls]:
@@ -509,6 +510,8 @@ def thread_limits() -> list[Calls]:
         words, threads = [command, "half.csv", *rest], 4 * rounds
         limits.append(Calls(f"{command} of a long file", words, "thread", threads, threads))
     limits.append(Calls("one worker", [*join, "--workers", "1"], "thread", 1, 1))
+    one_processor = ["taskset", "-c", str(min(os.sched_getaffinity(0)))]
+    limits.append(Calls("a worker for one processor", [*join, "--workers", "auto"], "thread", 1, 1, one_processor))
     for workers in (2, 4, 16):
         limits.append(Calls(f"{workers} workers", [*join, "--workers", str(workers)], "thread", workers, workers + 8))
     limits.append(Calls("48,000 pairs by one", [*crowd, "--workers", "1"], "thread", 1, 1))
@@ -543,7 +546,7 @@ def wait_limits() -> list[Calls]:
 def counted(shim: str, program: str, calls: Calls) -> Tally:
     """Sees that a command makes at least and at most so many calls of a kind: the last of the one is met, and one more
     than the other isn't."""
-    way, words = "once" if calls.kind == "thread" else "short", [program, *calls.words]
+    way, words = "once" if calls.kind == "thread" else "short", [*calls.under, program, *calls.words]
     tally = Tally()
     for at, is_met in ((calls.least, True), (calls.most + 1, False)):
         tally.runs += 1

@@ -16,7 +16,8 @@ _rjoin() {
     --geometry) offered="box any" ;;
     --rings) offered="proper even-odd" ;;
     --edits | --skip) _filedir && return ;;
-    --distance | --most | --workers | --batch | --cut) return ;;
+    --workers) offered="auto" ;;
+    --distance | --most | --batch | --cut) return ;;
     *)
         if [[ $cword -eq 1 && $cur == -* ]]; then
             offered=$(_parse_help "$program")

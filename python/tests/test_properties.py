@@ -260,8 +260,8 @@ def test_workers_are_those_that_are_given(name: str, real: str, tmp_path: Path,
     monkeypatch.setenv("RJOIN", str(program))
     call = calls_of((["POINT (0 0)"], ["POINT (0 0)"]))[name]
     call()
-    for workers in (1, 3, 16):
+    for workers in (1, 3, 16, "auto"):
         call(workers=workers)
     words = [line for line in (tmp_path / "words").read_text().splitlines() if "join" in line]
     assert [line.rpartition("--workers ")[2] if "--workers" in line else "" for line in words
-            if line.startswith("join ")] == ["", "1", "3", "16"]
+            if line.startswith("join ")] == ["", "1", "3", "16", "auto"]

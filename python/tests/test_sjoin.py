@@ -243,8 +243,8 @@ def test_wrong_arguments_are_refused_before_anything_is_read(town: Any) -> None:
     left, right = town["parcels"], town["roads"]
     wrong: Tuple[Tuple[str, Any], ...] = (
         ("scale", 7), ("scale", -1), ("scale", 1.5), ("scale", "2"), ("workers", 0),
-        ("workers", 17), ("workers", True), ("how", "outer"), ("other", "box"),
-        ("missing", "envelope"))
+        ("workers", 17), ("workers", True), ("workers", "AUTO"), ("workers", "2"),
+        ("how", "outer"), ("other", "box"), ("missing", "envelope"))
     for name, value in wrong:
         with pytest.raises(rjoin.ArgumentError, match=name):
             rjoin.sjoin(left, right, **{name: value})

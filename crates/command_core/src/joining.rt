@@ -19,6 +19,7 @@ use crate::notes::SkippedCounts;
 use crate::opening::{hash_states, open_sources};
 use crate::outputs::Outputs;
 use crate::skipping::{counts_for, unreadable_for, write_made};
+use crate::workers::options_for;
 use any_run_core::{AnyCondition, any_join_text};
 use join_core::{
     BoxCondition, JoinJob, JoinSources, JoinText, MarkedRows, RunFault, Sink, join_text,
@@ -90,12 +91,8 @@ fn request_text<R: AllocGlobal + Threads + Wait + Sync, F: Source>(
     ensures io { TellsFailures F.has_failed F.has_failed F.has_failed sources.new result }
 {
     let unreadable = unreadable_for(join.paths.skip);
-    let JoinRequest {
-        scale,
-        options,
-        product,
-        ..
-    } = *join;
+    let JoinRequest { scale, product, .. } = *join;
+    let options = options_for(rt, join.options, join.workers);
     match join.condition {
         Condition::Boxes(relation) => {
             let condition = BoxCondition { scale, relation };

@@ -17,6 +17,7 @@ mod program;
 mod relating;
 mod skipping;
 mod word_fault;
+mod workers;
 
 pub use command::{FAILED, run_command};
 pub use inputs::{Inputs, NotOpened};
@@ -25,5 +26,5 @@ pub use program::{run_program, run_words};
 pub use word_fault::{word_line, word_status};
 pub use words_core::{
     Command, Condition, Geometries, JoinRequest, LayerPaths, LayerRequest, NearRequest,
-    NearestRequest, RelateRequest, WordFault, is_standard_input, read_words,
+    NearestRequest, RelateRequest, WordFault, Workers, is_standard_input, read_words,
 };

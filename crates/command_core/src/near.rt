@@ -19,6 +19,7 @@ use crate::notes::SkippedCounts;
 use crate::opening::{hash_states, open_sources};
 use crate::outputs::Outputs;
 use crate::skipping::{counts_for, unreadable_for, write_made};
+use crate::workers::options_for;
 use join_core::{JoinSources, JoinText, MarkedRows, RunFault, Sink};
 use near_run_core::{AnyNearJob, NearJob, any_near_text, near_text};
 use row_core::Source;
@@ -91,7 +92,7 @@ fn request_text<R: AllocGlobal + Threads + Wait + Sync, F: Source>(
         scale: near.scale,
         distance: near.distance,
         nearness: near.nearness,
-        options: near.options,
+        options: options_for(rt, near.options, near.workers),
     };
     match near.geometries {
         Geometries::Box => near_text(rt, &job, unreadable, states, sources),

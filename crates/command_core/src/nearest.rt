@@ -21,6 +21,7 @@ use crate::notes::SkippedCounts;
 use crate::opening::{hash_states, open_sources};
 use crate::outputs::Outputs;
 use crate::skipping::{counts_for, unreadable_for, write_made};
+use crate::workers::options_for;
 use join_core::{JoinSources, JoinText, MarkedRows, RunFault, Sink};
 use near_run_core::{AnyNearestJob, NearestJob, any_nearest_text, nearest_text};
 use row_core::Source;
@@ -93,7 +94,7 @@ fn request_text<R: AllocGlobal + Threads + Wait + Sync, F: Source>(
     let job = NearestJob {
         scale: nearest.scale,
         query: nearest.query,
-        options: nearest.options,
+        options: options_for(rt, nearest.options, nearest.workers),
     };
     match nearest.geometries {
         Geometries::Box => nearest_text(rt, &job, unreadable, states, sources),

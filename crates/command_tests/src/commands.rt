@@ -253,6 +253,46 @@ const SIDES_STAY: [Run; 2] = [
     ),
 ];
 
+/// Commands with a worker for each processor, however many there are.
+const WORKERS_BY_PROCESSORS: [Run; 6] = [
+    (
+        "join|right.csv|left.csv|--relation|touches|--workers|auto",
+        0,
+        "left,right,matrix\nx,a,FF20F1FF2\nx,b,FF2101FF2\n",
+        "",
+    ),
+    (
+        "join|right.csv|left.csv|--workers=auto|--relation|touches|--geometry|any",
+        0,
+        "left,right,matrix\nx,a,FF20F1FF2\nx,b,FF2101FF2\n",
+        "",
+    ),
+    (
+        "near|left.csv|right.csv|--distance|0|--workers|auto|--edits|edits.csv",
+        0,
+        "left,right,distance\nb,x,0\nb,y,0\n",
+        "",
+    ),
+    (
+        "near|left.csv|right.csv|--workers|auto|--distance|0|--geometry|any",
+        0,
+        "left,right,distance\na,x,0\nb,x,0\n",
+        "",
+    ),
+    (
+        "nearest|left.csv|right.csv|--workers|auto",
+        0,
+        "left,right,distance\na,x,0\nb,x,0\n",
+        "",
+    ),
+    (
+        "nearest|left.csv|right.csv|--geometry|any|--workers|auto",
+        0,
+        "left,right,distance\na,x,0\nb,x,0\n",
+        "",
+    ),
+];
+
 const GEOMETRIES_IN_ORDER: [Run; 4] = [
     (
         "relate|LINESTRING (1 0, 3 0)|POLYGON ((0 0, 4 0, 4 4, 0 4, 0 0))",
@@ -278,6 +318,10 @@ const GEOMETRIES_IN_ORDER: [Run; 4] = [
 /// The command for a picture of FILES after their edits: the left point is deleted, and the right
 /// one is inserted.
 const PICTURE_WORDS: &str = "draw|left.csv|right.csv|--relation|intersects|--edits|edits.csv";
+
+/// The same with a worker for each processor.
+const PICTURE_BY_PROCESSORS: &str =
+    "draw|left.csv|right.csv|--relation|intersects|--edits|edits.csv|--workers|auto";
 
 /// The end of the picture: the cover goes from (0, 0) to (4, 4), so the corner of the frame is
 /// (-1, 5).
@@ -339,6 +383,11 @@ fn sides_stay(rt: HostRuntime) -> Result<(), Fail> {
 }
 
 #[test]
+fn workers_by_processors(rt: HostRuntime) -> Result<(), Fail> {
+    check(&rt, &FILES, &WORKERS_BY_PROCESSORS)
+}
+
+#[test]
 fn geometries_in_order(rt: HostRuntime) -> Result<(), Fail> {
     check(&rt, &FILES, &GEOMETRIES_IN_ORDER)
 }
@@ -346,5 +395,6 @@ fn geometries_in_order(rt: HostRuntime) -> Result<(), Fail> {
 #[test]
 fn picture_after_edits(rt: HostRuntime) -> Result<(), Fail> {
     assert!(rt; writes(&rt, &FILES, PICTURE_WORDS, "<svg ", PICTURE_END)?);
+    assert!(rt; writes(&rt, &FILES, PICTURE_BY_PROCESSORS, "<svg ", PICTURE_END)?);
     Ok(())
 }

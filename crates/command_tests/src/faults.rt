@@ -82,7 +82,7 @@ const PICTURE_FAULTS: [Run; 6] = [
     ),
 ];
 
-const COMMAND_WORDS: [Run; 3] = [
+const COMMAND_WORDS: [Run; 4] = [
     (
         "join|l.csv|q.csv|--relation|touches",
         1,
@@ -100,6 +100,13 @@ const COMMAND_WORDS: [Run; 3] = [
         2,
         "",
         "rjoin: --workers must be 1 to 16\n",
+    ),
+    (
+        "join|l.csv|q.csv|--relation|touches|--workers|AUTO",
+        2,
+        "",
+        "error: invalid value 'AUTO' for '--workers <workers>': invalid digit found in string\n\n\
+        For more information, try '--help'.\n",
     ),
 ];
 

@@ -12,25 +12,26 @@ use Rattle.relation_core.specs.declared.relation.Relation.{Relation}
 use Rattle.number_core.specs.ScaleLimits.{most_digits}
 use Rattle.number_core.specs.Scales.{digits_of}
 use Rattle.number_core.specs.declared.scale.Scale.{Scale}
-use Rattle.words_core.specs.Readings.{missing_text, number_at, is_taken, share_input, shared_text, taken_text, text_in, AllowsDisjointIn, AreOptionsIn, ArePathsIn, ForbidsDisjointIn, HasFormatFault, HasJoinFault, HasScaleFault, IsScaleIn}
+use Rattle.words_core.specs.Readings.{missing_text, number_at, is_taken, share_input, shared_text, taken_text, text_in, workers_at, AllowsDisjointIn, AreOptionsIn, ArePathsIn, ForbidsDisjointIn, HasFormatFault, HasJoinFault, HasScaleFault, IsScaleIn}
 use Rattle.words_core.specs.Readings.{IsRangeFault, IsRelationFault, NeedsNoDisjoint, NeedsOptions, NeedsPaths, NeedsRelation, NeedsScale, Says}
 use Rattle.words_core.specs.declared.words.LayerPaths.{LayerPaths}
 use Rattle.words_core.specs.declared.words.WordFault.{WordFault}
 use Rattle.words_core.specs.declared.words.WordFault.TheVariants as fault
+use Rattle.words_core.specs.declared.words.Workers.{Workers}
 use Rattle.words_core.proofs.ReadingLemmas.{needs_none, needs_some, needs_weaker}
 
 -- ---- options
 
 -- the consequences of a fault of `Options::new`
 pub options_refused : (rows : List Row) (workers batch cut : ℕ) (reason : OptionFault)
-    (f : WordFault) → number_at (codes "workers") rows ≡ Some workers
+    (f : WordFault) → workers_at rows ≡ Some workers
     → number_at (codes "batch") rows ≡ Some batch → number_at (codes "cut") rows ≡ Some cut
     → (reason ≡ range.Workers → ¬ (AreWorkers workers))
     → (reason ≡ range.Batch → AreWorkers workers × ¬ (IsBatch batch))
     → (reason ≡ range.Cut → AreWorkers workers × IsBatch batch × ¬ (IsCut cut))
     → f ≡ fault.Options reason → NeedsOptions rows f ⊥
 options_refused rows workers batch cut reason f w b c is_workers is_batch is_cut e =
-    needs_some (codes "workers") (number_at (codes "workers") rows) workers f _ w
+    needs_some (codes "workers") (workers_at rows) workers f _ w
     (needs_some (codes "batch") (number_at (codes "batch") rows) batch f _ b
     (needs_some (codes "cut") (number_at (codes "cut") rows) cut f _ c
     (inl (subst (λ (g : WordFault). IsRangeFault workers batch cut g) (sym e)
@@ -45,11 +46,11 @@ options_refused rows workers batch cut reason f w b c is_workers is_batch is_cut
     by range.Cut x y z = z refl
 
 -- options that are in range, and then a further fault
-pub options_passed : (rows : List Row) (options : Options) (f : WordFault) (Then : Type 0)
-    → AreOptionsIn rows options → Then → NeedsOptions rows f Then
-options_passed rows options f Then are rest =
-    needs_some (codes "workers") (number_at (codes "workers") rows) (workers_of options) f _
-    are.workers
+pub options_passed : (rows : List Row) (options : Options) (workers : Workers) (f : WordFault)
+    (Then : Type 0) → AreOptionsIn rows options workers → Then → NeedsOptions rows f Then
+options_passed rows options workers f Then are rest =
+    needs_some (codes "workers") (workers_at rows) (workers_of options) f _
+    are.count
     (needs_some (codes "batch") (number_at (codes "batch") rows) (batch_of options) f _ are.batch
     (needs_some (codes "cut") (number_at (codes "cut") rows) (cut_of options) f _ are.cut
     (inr (are.ranges.0, are.ranges.1, are.ranges.2, rest))))
@@ -57,7 +58,7 @@ options_passed rows options f Then are rest =
 pub options_weaker : (rows : List Row) (f : WordFault) (Then : Type 0) → NeedsOptions rows f ⊥
     → NeedsOptions rows f Then
 options_weaker rows f Then n =
-    needs_weaker (codes "workers") (number_at (codes "workers") rows) f _ _
+    needs_weaker (codes "workers") (workers_at rows) f _ _
     (λ w. needs_weaker (codes "batch") (number_at (codes "batch") rows) f _ _
     (λ b. needs_weaker (codes "cut") (number_at (codes "cut") rows) f _ _
     (λ c h. elim h [

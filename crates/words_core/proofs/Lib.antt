@@ -1,3 +1,4 @@
+pub mod AutoLemmas
 pub mod DistanceLemmas
 pub mod GeometryLemmas
 pub mod JoinLemmas

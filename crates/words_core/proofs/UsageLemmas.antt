@@ -9,6 +9,7 @@ use Rattle.clap.specs.declared.builder.command.Command.TheViews.{out-Command as 
 use Rattle.words_core.specs.Tables.{argument_rule, shape_told}
 use Rattle.words_core.specs.Usage.{AddsRules, HasUsage, IsArgument, IsBegun, program_shape, program_usage, subcommand_shapes, with_rules}
 use Rattle.words_core.specs.declared.usage.arguments.Argument.{Argument}
+use Rattle.words_core.specs.declared.usage.workers.WorkersValue.{WorkersValue}
 use Rattle.words_core.specs.declared.usage.Subcommand.{Subcommand}
 
 or_false : (b : Bool) → (b || false) ≡ b
@@ -35,13 +36,13 @@ adds_then rules more old mid new first second = record {
     with_all a rs = record a { top = record a.top { rules = rs } }
 
 -- the next of the arguments is added, and then the others
-pub adds_next : (arguments : List Argument) (i : ℕ) (d : Argument) (old mid new : Command) (arg : Arg) → i < length arguments → AddsArg old arg mid
-    → IsArgument (argument_rule (get_or arguments i d)) arg → AddsRules mid (map argument_rule (drop (i + 1) arguments)) new
-    → AddsRules old (map argument_rule (drop i arguments)) new
-adds_next arguments i d old mid new arg within added is others =
-    let first = argument_rule (get_or arguments i d) in
+pub adds_next : (value : WorkersValue) (arguments : List Argument) (i : ℕ) (d : Argument) (old mid new : Command) (arg : Arg) → i < length arguments → AddsArg old arg mid
+    → IsArgument (argument_rule value (get_or arguments i d)) arg → AddsRules mid (map (argument_rule value) (drop (i + 1) arguments)) new
+    → AddsRules old (map (argument_rule value) (drop i arguments)) new
+adds_next value arguments i d old mid new arg within added is others =
+    let first = argument_rule value (get_or arguments i d) in
     let left : drop i arguments ≡ get_or arguments i d ∷ drop (i + 1) arguments = rw add-one (drop-cons arguments i d within) in
-    rw left (adds_then (first ∷ []) (map argument_rule (drop (i + 1) arguments)) old mid new (adds_one first old mid arg added is) others)
+    rw left (adds_then (first ∷ []) (map (argument_rule value) (drop (i + 1) arguments)) old mid new (adds_one first old mid arg added is) others)
 
 abbrev pub with_subcommands : App → List Shape → App
 with_subcommands usage [] = usage
@@ -53,12 +54,12 @@ pub record LeavesUsage (command : Command) (shapes : List Shape) (usage : App) :
   pub local : (fields_of command).has_globals ≡ false
 
 -- the next of the commands is added
-pub adds_command : (commands : List Subcommand) (i : ℕ) (d : Subcommand) (usage : App) (old sub new : Command) → i < length commands
-    → HasUsage (record { top = shape_told (get_or commands i d); subs = [] }) sub → AddsSubcommand old sub new
-    → LeavesUsage old (map shape_told (drop i commands)) usage → LeavesUsage new (map shape_told (drop (i + 1) commands)) usage
-adds_command commands i d usage old sub new within is added leaves =
-    let first = shape_told (get_or commands i d) in
-    let rest = map shape_told (drop (i + 1) commands) in
+pub adds_command : (value : WorkersValue) (commands : List Subcommand) (i : ℕ) (d : Subcommand) (usage : App) (old sub new : Command) → i < length commands
+    → HasUsage (record { top = shape_told value (get_or commands i d); subs = [] }) sub → AddsSubcommand old sub new
+    → LeavesUsage old (map (shape_told value) (drop i commands)) usage → LeavesUsage new (map (shape_told value) (drop (i + 1) commands)) usage
+adds_command value commands i d usage old sub new within is added leaves =
+    let first = shape_told value (get_or commands i d) in
+    let rest = map (shape_told value) (drop (i + 1) commands) in
     let left : drop i commands ≡ get_or commands i d ∷ drop (i + 1) commands = rw add-one (drop-cons commands i d within) in
     let grown : app_of new ≡ with_subcommand (app_of old) first = added.shape is.local ∙ ap (λ (a : App). with_subcommand (app_of old) a.top) is.shape in
     let before : with_subcommands (with_subcommand (app_of old) first) rest ≡ usage = rw left at leaves.shape in
@@ -68,12 +69,12 @@ adds_command commands i d usage old sub new within is added leaves =
     }
 
 -- all commands are left to add
-pub leaves_all : (about : Text) (begun : Command) (shapes : List Shape) → IsBegun program_shape about begun → shapes ≡ subcommand_shapes
-    → LeavesUsage begun shapes program_usage
-leaves_all about begun shapes is same = record { shape = ap₂ with_subcommands is.shape same; local = is.local }
+pub leaves_all : (value : WorkersValue) (about : Text) (begun : Command) (shapes : List Shape) → IsBegun program_shape about begun
+    → shapes ≡ subcommand_shapes value → LeavesUsage begun shapes (program_usage value)
+leaves_all value about begun shapes is same = record { shape = ap₂ with_subcommands is.shape same; local = is.local }
 
 -- no command is left
-pub leaves_none : (commands : List Subcommand) (i : ℕ) (usage : App) (command : Command) → length commands ≤ i
-    → LeavesUsage command (map shape_told (drop i commands)) usage → HasUsage usage command
-leaves_none commands i usage command past leaves =
-    record { shape = sym (at_drop_all (λ left. with_subcommands (app_of command) (map shape_told left)) commands i past) ∙ leaves.shape; local = leaves.local }
+pub leaves_none : (value : WorkersValue) (commands : List Subcommand) (i : ℕ) (usage : App) (command : Command) → length commands ≤ i
+    → LeavesUsage command (map (shape_told value) (drop i commands)) usage → HasUsage usage command
+leaves_none value commands i usage command past leaves =
+    record { shape = sym (at_drop_all (λ left. with_subcommands (app_of command) (map (shape_told value) left)) commands i past) ∙ leaves.shape; local = leaves.local }

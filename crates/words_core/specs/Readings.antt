@@ -31,6 +31,7 @@ use Rattle.distance_core.specs.declared.distance.Distance.{Distance}
 use Rattle.distance_core.specs.declared.query.Query.{Query}
 use Rattle.distance_core.specs.declared.nearness.Nearness.{Nearness}
 use Rattle.distance_core.specs.declared.nearness.Nearness.TheVariants.{Apart, Within}
+use Rattle.options_core.specs.Limits.{most_workers}
 use Rattle.options_core.specs.Options.{workers_of, batch_of, cut_of, AreWorkers, IsBatch, IsCut}
 use Rattle.options_core.specs.declared.options.Options.{Options}
 use Rattle.options_core.specs.declared.options.OptionFault.TheVariants as range
@@ -41,7 +42,7 @@ use Rattle.plane_core.specs.declared.rings.Rings.TheVariants.{Proper, EvenOdd}
 use Rattle.words_core.specs.Conditions.{ForbidsDisjoint, HoldsForDisjoint, geometries_of}
 use Rattle.words_core.specs.Conditions.{relation_of}
 use Rattle.words_core.specs.Distances.{SpellsDistance, SpellsNoDistance}
-use Rattle.words_core.specs.Usage.{program_usage}
+use Rattle.words_core.specs.Usage.{usage_of}
 use Rattle.words_core.specs.declared.condition.Condition.{Condition}
 use Rattle.words_core.specs.declared.condition.Geometries.{Geometries}
 use Rattle.words_core.specs.declared.condition.Geometries.TheVariants.{Box, Any}
@@ -56,6 +57,8 @@ use Rattle.words_core.specs.declared.words.NearestRequest.{NearestRequest}
 use Rattle.words_core.specs.declared.words.RelateRequest.{RelateRequest}
 use Rattle.words_core.specs.declared.words.WordFault.{WordFault}
 use Rattle.words_core.specs.declared.words.WordFault.TheVariants as fault
+use Rattle.words_core.specs.declared.words.Workers.{Workers}
+use Rattle.words_core.specs.declared.words.Workers.TheVariants.{Exact, Auto}
 
 -- ---- values
 
@@ -124,8 +127,23 @@ pub record IsLayerIn (rows : List Row) (layer : LayerRequest) : Type 0 where
   pub scale : IsScaleIn rows layer.scale
   pub geometries : AreGeometriesIn rows layer.geometries
 
-pub record AreOptionsIn (rows : List Row) (options : Options) : Type 0 where
-  pub workers : number_at (codes "workers") rows ≡ Some (workers_of options)
+-- the word of `--workers` is `auto`
+abbrev pub is_auto : List Row → Bool
+is_auto rows = option_map_or (bytes_eq (codes "auto")) (first_of (codes "workers") rows) false
+
+-- the number of workers, of which `auto` asks for the limit at most
+abbrev pub workers_at : List Row → Option ℕ
+workers_at rows =
+    if is_auto rows then Some most_workers else number_at (codes "workers") rows
+
+-- the number of workers is meant as the word says
+abbrev pub AreMeant : List Row → Workers → Type 0
+AreMeant rows Auto = is_auto rows ≡ true
+AreMeant rows Exact = is_auto rows ≡ false
+
+pub record AreOptionsIn (rows : List Row) (options : Options) (workers : Workers) : Type 0 where
+  pub count : workers_at rows ≡ Some (workers_of options)
+  pub meant : AreMeant rows workers
   pub batch : number_at (codes "batch") rows ≡ Some (batch_of options)
   pub cut : number_at (codes "cut") rows ≡ Some (cut_of options)
   pub ranges : AreWorkers (workers_of options) × IsBatch (batch_of options)
@@ -160,7 +178,7 @@ pub record IsJoinIn (rows : List Row) (join : JoinRequest) : Type 0 where
   pub paths : ArePathsIn rows join.paths
   pub relation : IsRelationIn rows (relation_of join.condition)
   pub geometries : AreGeometriesIn rows (geometries_of join.condition)
-  pub options : AreOptionsIn rows join.options
+  pub options : AreOptionsIn rows join.options join.workers
   pub scale : IsScaleIn rows join.scale
 
 -- pairs that share a point are left out where `--apart` is given
@@ -177,7 +195,7 @@ pub record IsNearIn (rows : List Row) (near : NearRequest) : Type 0 where
   pub paths : ArePathsIn rows near.paths
   pub distance : IsDistanceIn rows near.scale near.distance
   pub nearness : IsNearnessIn rows near.nearness
-  pub options : AreOptionsIn rows near.options
+  pub options : AreOptionsIn rows near.options near.workers
   pub scale : IsScaleIn rows near.scale
   pub geometries : AreGeometriesIn rows near.geometries
 
@@ -190,7 +208,7 @@ pub record IsNearestIn (rows : List Row) (nearest : NearestRequest) : Type 0 whe
   pub paths : ArePathsIn rows nearest.paths
   pub most : number_at (codes "most") rows ≡ Some (most_of nearest.query)
   pub reach : IsReachIn rows nearest.scale (within_of nearest.query)
-  pub options : AreOptionsIn rows nearest.options
+  pub options : AreOptionsIn rows nearest.options nearest.workers
   pub scale : IsScaleIn rows nearest.scale
   pub geometries : AreGeometriesIn rows nearest.geometries
 
@@ -265,7 +283,8 @@ IsRangeFault workers batch cut _ = ⊥
 -- a fault of the three numbers, or the consequence if they have none
 abbrev pub NeedsOptions : List Row → WordFault → Type 0 → Type 0
 NeedsOptions rows f Then =
-    NeedsNumber (codes "workers") rows f (λ workers. NeedsNumber (codes "batch") rows f (λ batch.
+    Needs (codes "workers") (workers_at rows) f (λ workers.
+    NeedsNumber (codes "batch") rows f (λ batch.
     NeedsNumber (codes "cut") rows f (λ cut. IsRangeFault workers batch cut f
     ⊎ (AreWorkers workers × IsBatch batch × IsCut cut × Then))))
 
@@ -458,10 +477,10 @@ HasFault (first ∷ more) met f =
 
 -- the errors of `clap` for the words, and its matches
 unfoldable pub refusals_of : List Text → Kinds
-refusals_of words = fault_of program_usage words
+refusals_of words = fault_of (usage_of words) words
 
 unfoldable pub met_in : List Text → Met
-met_in words = subcommand_of program_usage words
+met_in words = subcommand_of (usage_of words) words
 
 -- the words are read as this command, or as this fault, unless memory ran out
 abbrev pub ReadAs : List Text → Result Command WordFault → Type 0

@@ -1,5 +1,7 @@
 -- The `clap` definition of the program: the commands, and the rules for their arguments.
 use Rattle.std.specs.Prelude.{◌≡◌, List, [], ◌∷◌, ◌++◌, Some, codes, true, false, pos, option_map}
+use Rattle.std.specs.Prelude.{◌&&◌, ◌||◌, Bool, if◌then◌else◌}
+use Rattle.std.specs.Str.{bytes_eq}
 use Rattle.clap.specs.Words.{App, Rule, Shape, Text, app_of, new_rule, rule_of}
 use Rattle.clap.specs.declared.builder.command.Command.TheViews.{out-Command as fields_of}
 use Rattle.clap.specs.Simple.{new_shape, on_top}
@@ -7,6 +9,8 @@ use Rattle.clap.specs.declared.builder.action.ArgAction.TheVariants.{SetTrue}
 use Rattle.clap.specs.declared.builder.arg.Arg.{Arg}
 use Rattle.clap.specs.declared.builder.command.Command.{Command}
 use Rattle.clap.specs.declared.builder.value_parser.ValueParser.TheVariants.{Signed}
+use Rattle.words_core.specs.declared.usage.workers.WorkersValue.{WorkersValue}
+use Rattle.words_core.specs.declared.usage.workers.WorkersValue.TheVariants.{Number, Text as AnyText}
 
 -- ---- arguments
 
@@ -37,6 +41,15 @@ optional_rule name = record (new_rule name) { long = Some name }
 abbrev pub flag_rule : Text → Rule
 flag_rule name = record (new_rule name) { long = Some name; action = Some SetTrue }
 
+-- `--name`, any text, and its default
+abbrev pub default_rule : Text → Text → Rule
+default_rule name default = record (new_rule name) { long = Some name; defaults = default ∷ [] }
+
+-- `--workers`, which is 4 by default
+abbrev pub workers_rule : WorkersValue → Rule
+workers_rule Number = numeric_rule (codes "workers") (codes "4")
+workers_rule AnyText = default_rule (codes "workers") (codes "4")
+
 abbrev pub edits_rule : Rule
 edits_rule = optional_rule (codes "edits")
 
@@ -45,10 +58,7 @@ skip_rule = optional_rule (codes "skip")
 
 -- `--geometry`, which is `box` by default
 abbrev pub geometry_rule : Rule
-geometry_rule = record (new_rule (codes "geometry")) {
-  long = Some (codes "geometry");
-  defaults = codes "box" ∷ [];
-}
+geometry_rule = default_rule (codes "geometry") (codes "box")
 
 abbrev pub rings_rule : Rule
 rings_rule = optional_rule (codes "rings")
@@ -78,19 +88,19 @@ query_rules =
     numeric_rule (codes "most") (codes "1") ∷ optional_rule (codes "distance") ∷ edits_rule
     ∷ skip_rule ∷ []
 
-abbrev pub option_rules : List Rule
-option_rules =
-    numeric_rule (codes "workers") (codes "4") ∷ numeric_rule (codes "batch") (codes "256")
+abbrev pub option_rules : WorkersValue → List Rule
+option_rules value =
+    workers_rule value ∷ numeric_rule (codes "batch") (codes "256")
     ∷ numeric_rule (codes "cut") (codes "2") ∷ []
 
-abbrev pub join_rules : List Rule
-join_rules = layer_rules ++ edit_rules ++ option_rules ++ format_rules
+abbrev pub join_rules : WorkersValue → List Rule
+join_rules value = layer_rules ++ edit_rules ++ option_rules value ++ format_rules
 
-abbrev pub near_rules : List Rule
-near_rules = layer_rules ++ distance_rules ++ option_rules ++ format_rules
+abbrev pub near_rules : WorkersValue → List Rule
+near_rules value = layer_rules ++ distance_rules ++ option_rules value ++ format_rules
 
-abbrev pub nearest_rules : List Rule
-nearest_rules = layer_rules ++ query_rules ++ option_rules ++ format_rules
+abbrev pub nearest_rules : WorkersValue → List Rule
+nearest_rules value = layer_rules ++ query_rules ++ option_rules value ++ format_rules
 
 abbrev pub relate_rules : List Rule
 relate_rules = positional_rule (codes "A") ∷ positional_rule (codes "B") ∷ format_rules
@@ -105,13 +115,13 @@ layer_only_rules = positional_rule (codes "LAYER") ∷ format_rules
 abbrev pub subcommand_shape : Text → List Rule → Shape
 subcommand_shape name rules = record (new_shape name) { rules = rules }
 
-abbrev pub subcommand_shapes : List Shape
-subcommand_shapes =
+abbrev pub subcommand_shapes : WorkersValue → List Shape
+subcommand_shapes value =
     subcommand_shape (codes "relate") relate_rules
-    ∷ subcommand_shape (codes "join") join_rules
-    ∷ subcommand_shape (codes "near") near_rules
-    ∷ subcommand_shape (codes "nearest") nearest_rules
-    ∷ subcommand_shape (codes "draw") join_rules
+    ∷ subcommand_shape (codes "join") (join_rules value)
+    ∷ subcommand_shape (codes "near") (near_rules value)
+    ∷ subcommand_shape (codes "nearest") (nearest_rules value)
+    ∷ subcommand_shape (codes "draw") (join_rules value)
     ∷ subcommand_shape (codes "window") window_rules
     ∷ subcommand_shape (codes "stats") layer_only_rules
     ∷ subcommand_shape (codes "bounds") layer_only_rules ∷ []
@@ -123,11 +133,34 @@ program_shape = record (new_shape (codes "rjoin")) {
   subcommand_required = true;
 }
 
-abbrev pub program_usage : App
-program_usage = record {
+abbrev pub program_usage : WorkersValue → App
+program_usage value = record {
   top = record program_shape { is_leaf = false };
-  subs = subcommand_shapes;
+  subs = subcommand_shapes value;
 }
+
+-- ---- the value of `--workers`
+
+-- before a word `--`, `--workers=auto` stands among these words, or `auto` behind `--workers`,
+-- which may be the word before them
+abbrev pub auto_follows : Bool → Text → Bool
+auto_follows is_named word =
+    bytes_eq word (codes "--workers=auto") || (is_named && bytes_eq word (codes "auto"))
+
+unfoldable pub has_auto : Bool → List Text → Bool
+has_auto is_named [] = false
+has_auto is_named (word ∷ rest) =
+    if bytes_eq word (codes "--") then false
+    else (if auto_follows is_named word then true
+    else has_auto (bytes_eq word (codes "--workers")) rest)
+
+-- the words give `--workers` any text where it is `auto`, and else a number
+abbrev pub workers_value : List Text → WorkersValue
+workers_value words = if has_auto false words then AnyText else Number
+
+-- the usage by which the words are read
+abbrev pub usage_of : List Text → App
+usage_of words = program_usage (workers_value words)
 
 -- ---- the descriptions of the commands
 

@@ -14,5 +14,5 @@ pub use condition::{Condition, Geometries};
 pub use standard_input::is_standard_input;
 pub use words::{
     Command, JoinRequest, LayerPaths, LayerRequest, NearRequest, NearestRequest, RelateRequest,
-    WordFault, read_words,
+    WordFault, Workers, read_words,
 };

@@ -1,6 +1,7 @@
 //! The `clap` definition of the program: commands, options and help.
 
 mod arguments;
+mod workers;
 
 ghost use Rattle.std.specs.Prelude.{◌≡◌, [], codes, map, IfOk};
 ghost use Rattle.clap.specs.Simple.{new_shape};
@@ -12,6 +13,7 @@ ghost use Rattle.words_core.specs.Usage.{nearest_rules, program_about, program_s
 ghost use Rattle.words_core.specs.Usage.{program_usage, relate_about, relate_rules, stats_about};
 ghost use Rattle.words_core.specs.Usage.{subcommand_shape, subcommand_shapes, window_about};
 ghost use Rattle.words_core.specs.Usage.{window_rules};
+ghost use Rattle.words_core.specs.declared.usage.workers.WorkersValue.{WorkersValue};
 
 use crate::help;
 use arguments::{
@@ -20,6 +22,7 @@ use arguments::{
 };
 use clap::Command;
 use std::alloc::{AllocError, Global};
+pub use workers::{WorkersValue, workers_value};
 
 /// A command, or an error if an allocation fails.
 type Built<'a> = Result<Command<'a>, AllocError>;
@@ -33,15 +36,15 @@ struct Subcommand {
     arguments: &'static [Argument],
 }
 
-/// The `clap` definition of the program.
-pub fn usage<'a>(alloc: Global) -> Result<Command<'a>, AllocError>
-    ensures { IfOk result (HasUsage program_usage) }
+/// The `clap` definition of the program, in which `--workers` takes such a value.
+pub fn usage<'a>(alloc: Global, value: WorkersValue) -> Result<Command<'a>, AllocError>
+    ensures { IfOk result (HasUsage (program_usage value)) }
 {
     let table = subcommands();
     let subcommands = table.as_slice();
     let mut program = program_begun(alloc);
     for subcommand in subcommands {
-        let command = declared_command(alloc, subcommand)?;
+        let command = declared_command(alloc, subcommand, value)?;
         program = program.subcommand(command)?;
     }
     Ok(program)
@@ -49,7 +52,7 @@ pub fn usage<'a>(alloc: Global) -> Result<Command<'a>, AllocError>
 
 /// The commands of the program.
 fn subcommands() -> [Subcommand; 8]
-    ensures { map shape_told result ≡ subcommand_shapes }
+    ensures { (value : WorkersValue) → map (shape_told value) result ≡ subcommand_shapes value }
 {
     [
         relate(),
@@ -64,7 +67,8 @@ fn subcommands() -> [Subcommand; 8]
 }
 
 fn relate() -> Subcommand
-    ensures shape { shape_told result ≡ subcommand_shape (codes "relate") relate_rules }
+    ensures shape { (value : WorkersValue)
+        → shape_told value result ≡ subcommand_shape (codes "relate") relate_rules }
     ensures about { about_told result ≡ relate_about }
 {
     Subcommand {
@@ -76,7 +80,8 @@ fn relate() -> Subcommand
 }
 
 fn join() -> Subcommand
-    ensures shape { shape_told result ≡ subcommand_shape (codes "join") join_rules }
+    ensures shape { (value : WorkersValue)
+        → shape_told value result ≡ subcommand_shape (codes "join") (join_rules value) }
     ensures about { about_told result ≡ join_about }
 {
     Subcommand {
@@ -88,7 +93,8 @@ fn join() -> Subcommand
 }
 
 fn near() -> Subcommand
-    ensures shape { shape_told result ≡ subcommand_shape (codes "near") near_rules }
+    ensures shape { (value : WorkersValue)
+        → shape_told value result ≡ subcommand_shape (codes "near") (near_rules value) }
     ensures about { about_told result ≡ near_about }
 {
     Subcommand {
@@ -100,7 +106,8 @@ fn near() -> Subcommand
 }
 
 fn nearest() -> Subcommand
-    ensures shape { shape_told result ≡ subcommand_shape (codes "nearest") nearest_rules }
+    ensures shape { (value : WorkersValue)
+        → shape_told value result ≡ subcommand_shape (codes "nearest") (nearest_rules value) }
     ensures about { about_told result ≡ nearest_about }
 {
     Subcommand {
@@ -112,7 +119,8 @@ fn nearest() -> Subcommand
 }
 
 fn draw() -> Subcommand
-    ensures shape { shape_told result ≡ subcommand_shape (codes "draw") join_rules }
+    ensures shape { (value : WorkersValue)
+        → shape_told value result ≡ subcommand_shape (codes "draw") (join_rules value) }
     ensures about { about_told result ≡ draw_about }
 {
     Subcommand {
@@ -124,7 +132,8 @@ fn draw() -> Subcommand
 }
 
 fn window() -> Subcommand
-    ensures shape { shape_told result ≡ subcommand_shape (codes "window") window_rules }
+    ensures shape { (value : WorkersValue)
+        → shape_told value result ≡ subcommand_shape (codes "window") window_rules }
     ensures about { about_told result ≡ window_about }
 {
     Subcommand {
@@ -136,7 +145,8 @@ fn window() -> Subcommand
 }
 
 fn stats() -> Subcommand
-    ensures shape { shape_told result ≡ subcommand_shape (codes "stats") layer_only_rules }
+    ensures shape { (value : WorkersValue)
+        → shape_told value result ≡ subcommand_shape (codes "stats") layer_only_rules }
     ensures about { about_told result ≡ stats_about }
 {
     Subcommand {
@@ -148,7 +158,8 @@ fn stats() -> Subcommand
 }
 
 fn bounds() -> Subcommand
-    ensures shape { shape_told result ≡ subcommand_shape (codes "bounds") layer_only_rules }
+    ensures shape { (value : WorkersValue)
+        → shape_told value result ≡ subcommand_shape (codes "bounds") layer_only_rules }
     ensures about { about_told result ≡ bounds_about }
 {
     Subcommand {
@@ -173,20 +184,25 @@ fn program_begun<'a>(alloc: Global) -> Command<'a>
 }
 
 /// The `clap` definition of a command.
-fn declared_command<'a>(alloc: Global, command: &Subcommand) -> Built<'a>
-    ensures { IfOk result (HasUsage (record { top = shape_told command.now; subs = [] })) }
+fn declared_command<'a>(alloc: Global, command: &Subcommand, value: WorkersValue) -> Built<'a>
+    ensures { IfOk result (HasUsage (record { top = shape_told value command.now; subs = [] })) }
 {
     let begun = begun(alloc, command.name, command.about, command.help);
-    with_arguments(alloc, begun, command.arguments)
+    with_arguments(alloc, begun, command.arguments, value)
 }
 
 /// The command with these arguments added.
-fn with_arguments<'a>(alloc: Global, command: Command<'a>, arguments: &[Argument]) -> Built<'a>
-    ensures { IfOk result (AddsRules command.entry (map argument_rule arguments.now)) }
+fn with_arguments<'a>(
+    alloc: Global,
+    command: Command<'a>,
+    arguments: &[Argument],
+    value: WorkersValue,
+) -> Built<'a>
+    ensures { IfOk result (AddsRules command.entry (map (argument_rule value) arguments.now)) }
 {
     let mut command = command;
     for argument in arguments {
-        let arg = declared_argument(alloc, *argument);
+        let arg = declared_argument(alloc, *argument, value);
         command = command.arg(arg)?;
     }
     Ok(command)

@@ -7,7 +7,7 @@ ghost use Rattle.words_core.specs.declared.words.WordFault.TheVariants as word_f
 
 use crate::condition::{Condition, Geometries};
 use crate::reading::read_command;
-use crate::usage::usage;
+use crate::usage::{usage, workers_value};
 use clap::error::ErrorKind;
 use distance_core::{Distance, Nearness, Query};
 use number_core::Scale;
@@ -36,6 +36,15 @@ pub struct LayerPaths<'a> {
     pub skip: Option<&'a str>,
 }
 
+/// How the number of workers of the options is meant.
+#[derive(Clone, Copy, Debug, PartialEq, Eq)]
+pub enum Workers {
+    /// That many.
+    Exact,
+    /// One for each processor that the system has for the process, and at most that many.
+    Auto,
+}
+
 /// Two layers to join after edits, how to read and join them, and what to write.
 #[derive(Clone, Copy, Debug, PartialEq, Eq)]
 pub struct JoinRequest<'a> {
@@ -43,6 +52,7 @@ pub struct JoinRequest<'a> {
     pub paths: LayerPaths<'a>,
     pub condition: Condition,
     pub options: Options,
+    pub workers: Workers,
     pub scale: Scale,
 }
 
@@ -54,6 +64,7 @@ pub struct NearRequest<'a> {
     pub distance: Distance,
     pub nearness: Nearness,
     pub options: Options,
+    pub workers: Workers,
     pub scale: Scale,
     pub geometries: Geometries,
 }
@@ -66,6 +77,7 @@ pub struct NearestRequest<'a> {
     /// Its distance is in units of the scale.
     pub query: Query,
     pub options: Options,
+    pub workers: Workers,
     pub scale: Scale,
     pub geometries: Geometries,
 }
@@ -177,7 +189,7 @@ impl From<AllocError> for WordFault {
 pub fn read_words<'a>(alloc: Global, words: &'a [&'a str]) -> Result<Command<'a>, WordFault>
     ensures { ReadAs (map (λ word. word.now) words.now) result }
 {
-    let program = usage(alloc)?;
+    let program = usage(alloc, workers_value(words))?;
     match program.try_get_matches_from(words) {
         Ok(matches) => read_command(alloc, &matches),
         Err(error) => Err(usage_fault(alloc, &error)),

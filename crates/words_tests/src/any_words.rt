@@ -9,7 +9,8 @@ use relation_core::{AllowsDisjoint, JoinRelation, Mask, Relation};
 use std::alloc::Global;
 use std::test::Fail;
 use words_core::{
-    Command, Condition, Geometries, JoinRequest, LayerPaths, LayerRequest, WordFault, read_words,
+    Command, Condition, Geometries, JoinRequest, LayerPaths, LayerRequest, WordFault, Workers,
+    read_words,
 };
 
 const PROPER: Geometries = Geometries::Any(Rings::Proper);
@@ -127,6 +128,7 @@ fn joins(rt: HostRuntime) -> Result<(), Fail> {
             },
             condition,
             options,
+            workers: Workers::Exact,
             scale,
         };
         let join = Command::Join(wanted(Product::Report));

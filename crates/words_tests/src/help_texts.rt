@@ -89,7 +89,7 @@ Options:
       --relation <relation>  Name of a relation, or mask of nine letters
       --edits <edits>        CSV file of edits, which are applied before the join
       --skip <skip>          CSV file for rows whose geometry can't be read, which are left out
-      --workers <workers>    Number of threads, 1 to 16 [default: 4]
+      --workers <workers>    Number of threads, 1 to 16, or auto for one per processor [default: 4]
       --batch <batch>        Pairs per batch, 1 to 4096 [default: 256]
       --cut <cut>            Rounds of cutting the trees into tasks, 0 to 8 [default: 2]
       --scale <scale>        Decimals that a coordinate may have, 0 to 6 [default: 0]
@@ -153,7 +153,7 @@ Options:
       --apart                Leave out pairs that share a point
       --edits <edits>        CSV file of edits, which are applied before the join
       --skip <skip>          CSV file for rows whose geometry can't be read, which are left out
-      --workers <workers>    Number of threads, 1 to 16 [default: 4]
+      --workers <workers>    Number of threads, 1 to 16, or auto for one per processor [default: 4]
       --batch <batch>        Pairs per batch, 1 to 4096 [default: 256]
       --cut <cut>            Rounds of cutting the trees into tasks, 0 to 8 [default: 2]
       --scale <scale>        Decimals that a coordinate may have, 0 to 6 [default: 0]
@@ -213,7 +213,7 @@ Options:
       --distance <distance>  Greatest distance of a pair, read as a coordinate is
       --edits <edits>        CSV file of edits, which are applied before the join
       --skip <skip>          CSV file for rows whose geometry can't be read, which are left out
-      --workers <workers>    Number of threads, 1 to 16 [default: 4]
+      --workers <workers>    Number of threads, 1 to 16, or auto for one per processor [default: 4]
       --batch <batch>        Pairs per batch, 1 to 4096 [default: 256]
       --cut <cut>            Rounds of cutting the trees into tasks, 0 to 8 [default: 2]
       --scale <scale>        Decimals that a coordinate may have, 0 to 6 [default: 0]
@@ -276,7 +276,7 @@ Options:
       --relation <relation>  Name of a relation, or mask of nine letters
       --edits <edits>        CSV file of edits, which are applied before the join
       --skip <skip>          CSV file for rows whose geometry can't be read, which are left out
-      --workers <workers>    Number of threads, 1 to 16 [default: 4]
+      --workers <workers>    Number of threads, 1 to 16, or auto for one per processor [default: 4]
       --batch <batch>        Pairs per batch, 1 to 4096 [default: 256]
       --cut <cut>            Rounds of cutting the trees into tasks, 0 to 8 [default: 2]
       --scale <scale>        Decimals that a coordinate may have, 0 to 6 [default: 0]

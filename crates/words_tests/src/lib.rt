@@ -18,3 +18,5 @@ mod refused;
 mod skip_words;
 #[cfg(test)]
 mod words;
+#[cfg(test)]
+mod workers;

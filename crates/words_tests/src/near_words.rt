@@ -6,7 +6,7 @@ use number_core::{Rounding, Scale};
 use options_core::Options;
 use plane_core::Rings;
 use std::test::Fail;
-use words_core::{Command, Geometries, LayerPaths, NearRequest};
+use words_core::{Command, Geometries, LayerPaths, NearRequest, Workers};
 
 /// Words after the files at scale 0, and the units of the distance that they ask for.
 const DISTANCES: &[(&str, u64)] = &[
@@ -61,6 +61,7 @@ fn near(scale: Scale, units: u64) -> Result<NearRequest<'static>, Fail> {
         distance: Distance::new(units).ok_or("a distance")?,
         nearness: Nearness::Within,
         options: Options::new(4, 256, 2)?,
+        workers: Workers::Exact,
         scale,
         geometries: Geometries::Box,
     })

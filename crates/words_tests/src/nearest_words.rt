@@ -6,7 +6,7 @@ use number_core::{Rounding, Scale};
 use options_core::Options;
 use plane_core::Rings;
 use std::test::Fail;
-use words_core::{Command, Geometries, LayerPaths, NearestRequest};
+use words_core::{Command, Geometries, LayerPaths, NearestRequest, Workers};
 
 /// Words after the files at scale 0, the number of features that they ask for, and the units of the
 /// distance, if they have one.
@@ -49,6 +49,7 @@ fn nearest(scale: Scale, most: u32, units: Option<u64>) -> Result<NearestRequest
         },
         query: Query::new(most, within).ok_or("a query")?,
         options: Options::new(4, 256, 2)?,
+        workers: Workers::Exact,
         scale,
         geometries: Geometries::Box,
     })

@@ -7,7 +7,7 @@ use options_core::{Options, Product};
 use plane_core::Rings;
 use relation_core::{JoinRelation, Relation};
 use std::test::Fail;
-use words_core::{Command, Condition, Geometries, JoinRequest, LayerPaths, NearRequest};
+use words_core::{Command, Condition, Geometries, JoinRequest, LayerPaths, NearRequest, Workers};
 
 /// The files of a join after these edits, with this list of skipped rows.
 fn paths(edits: Option<&'static str>, skip: &'static str) -> LayerPaths<'static> {
@@ -45,6 +45,7 @@ fn lists_of_joins(rt: HostRuntime) -> Result<(), Fail> {
             paths: paths(edits, skip),
             condition,
             options,
+            workers: Workers::Exact,
             scale,
         };
         let join = Command::Join(wanted(Product::Report));
@@ -63,6 +64,7 @@ fn list_of_a_join_by_distance(rt: HostRuntime) -> Result<(), Fail> {
         distance: Distance::new(5).ok_or("a distance")?,
         nearness: Nearness::Within,
         options: Options::new(4, 256, 2)?,
+        workers: Workers::Exact,
         scale: Scale::new(0).ok_or("a scale")?,
         geometries: Geometries::Any(Rings::Proper),
     });

@@ -8,7 +8,7 @@ use std::alloc::Global;
 use std::test::Fail;
 use words_core::{
     Command, Condition, Geometries, JoinRequest, LayerPaths, LayerRequest, RelateRequest,
-    WordFault, read_words,
+    WordFault, Workers, read_words,
 };
 
 /// Words that don't fit the usage, with `|` between them.
@@ -32,6 +32,9 @@ const USAGE_FAULTS: &[&str] = &[
     "rjoin|draw|l.csv|q.csv|--relation|touches|--geometry|any|--geometry|any",
     "rjoin|bounds|l.csv|POINT (0 0)",
     "rjoin|bounds|l.csv|--workers|2",
+    "rjoin|stats|l.csv|--workers|auto",
+    "rjoin|near|l.csv|q.csv|--workers|auto",
+    "rjoin|nearest|l.csv|q.csv|--workers|auto|--workers|auto",
     "rjoin|join|l.csv|q.csv",
     "rjoin|join|l.csv|--relation|touches",
     "rjoin|join|l.csv|q.csv|--relation|disjoint|--workers|x",
@@ -316,6 +319,7 @@ fn joins(rt: HostRuntime) -> Result<(), Fail> {
             },
             condition,
             options,
+            workers: Workers::Exact,
             scale,
         };
         let join = Command::Join(wanted(Product::Report));

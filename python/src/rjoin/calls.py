@@ -45,6 +45,7 @@ RINGS = ("even-odd", "proper")
 
 
 Decimals = Union[int, str, None]
+Workers = Union[int, str, None]
 
 
 class Stats(NamedTuple):
@@ -68,7 +69,7 @@ class Stats(NamedTuple):
 
 
 def pairs(left: Any, right: Any, relation: str = "intersects", *, scale: Optional[int] = None,
-          decimals: Decimals = None, rings: str = "even-odd", workers: Optional[int] = None,
+          decimals: Decimals = None, rings: str = "even-odd", workers: Workers = None,
           ids: str = "label", other: str = "error", missing: str = "error") -> "pandas.DataFrame":
     """The pairs that stand in a relation, as a frame with the columns left, right and matrix.
 
@@ -163,7 +164,7 @@ def draw(left: Any, right: Any, relation: str = "intersects", *, scale: Optional
 
 
 def reading_of(relation: Optional[str], scale: Optional[int], decimals: Decimals, rings: str,
-               workers: Optional[int] = None, ids: str = "label") -> "Reading":
+               workers: Workers = None, ids: str = "label") -> "Reading":
     """How numbers and rings are read; without a relation, none is checked.
 
     Wrong arguments, and a missing program, are refused before a layer is looked at.
@@ -171,7 +172,8 @@ def reading_of(relation: Optional[str], scale: Optional[int], decimals: Decimals
     if relation is not None:
         relations.check(relation)
     check_number("scale", scale, 0, MOST_DECIMALS)
-    check_number("workers", workers, 1, MOST_WORKERS)
+    if workers != "auto":
+        check_number("workers", workers, 1, MOST_WORKERS, "'auto' or None")
     if decimals != "auto":
         check_number("decimals", decimals, 0, MOST_DECIMALS, "'auto' or None")
     if scale is not None and decimals is not None:

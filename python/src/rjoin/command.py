@@ -75,7 +75,8 @@ def parser() -> argparse.ArgumentParser:
     known.add_argument("--rings", choices=("even-odd", "proper"), default="even-odd",
                        help="treatment of polygons whose rings cross, overlap or are flat: read "
                             "them by the even-odd rule, or refuse them")
-    known.add_argument("--workers", metavar="N", type=int, help="threads, 1 to 16")
+    known.add_argument("--workers", metavar="N", type=workers,
+                       help="threads, 1 to 16; with auto, one per processor, and 16 at most")
     known.add_argument("--other", choices=("error", "envelope", "skip"), default="error",
                        help="treatment of geometries that are no points, lines or polygons; "
                             "envelope replaces all that are no point, axis-parallel segment or "
@@ -91,6 +92,11 @@ def parser() -> argparse.ArgumentParser:
 
 def decimals(text: str) -> Union[int, str]:
     """The value of --decimals."""
+    return text if text == "auto" else int(text)
+
+
+def workers(text: str) -> Union[int, str]:
+    """The value of --workers."""
     return text if text == "auto" else int(text)
 
 

@@ -9,8 +9,8 @@ from contextlib import contextmanager
 from copy import copy
 from itertools import chain
 from pathlib import Path
-from typing import Any, Callable, Dict, Iterator, List, NamedTuple, Optional, Sequence, Tuple
-from typing import TypeVar, Union
+from typing import TYPE_CHECKING, Any, Callable, Dict, Iterator, List, NamedTuple, Optional
+from typing import Sequence, Tuple, TypeVar, Union
 from xml.sax.saxutils import escape
 
 import numpy as np
@@ -26,6 +26,9 @@ from rjoin.sheet import MOST_BYTES
 from rjoin.sources import NO_BOX, Flags, GeometrySource, Rows, Rules, Source, TextSource
 from rjoin.sources import single_source, source_of
 from rjoin.texts import NO_TEXT
+
+if TYPE_CHECKING:
+    from rjoin.calls import Workers
 
 # Where envelopes don't stand in one of these, the features don't.
 BY_ENVELOPES = ("intersects", "dwithin")
@@ -344,23 +347,23 @@ def faults_without_rows() -> Iterator[None]:
         raise InputError(fault.side, fault.reason) from fault
 
 
-def options(workers: Optional[int]) -> List[str]:
+def options(workers: Workers) -> List[str]:
     return [] if workers is None else ["--workers", str(workers)]
 
 
-def joined(job: Job, relation: str, workers: Optional[int], matrix: bool) -> Any:
+def joined(job: Job, relation: str, workers: Workers, matrix: bool) -> Any:
     """The pairs as a frame with the columns left and right, ids of the report, and matrix."""
     last = {"matrix": "category"}
     return reported(job, ["join"], ["--relation", relation, *options(workers)], last, matrix)
 
 
-def within(job: Job, distance: Length, workers: Optional[int]) -> Any:
+def within(job: Job, distance: Length, workers: Workers) -> Any:
     """The pairs at most a distance apart as a frame with the columns left and right, ids."""
     words = [*distance.words(job.scale), *options(workers)]
     return reported(job, ["near"], words, DISTANCE, wants_last=False)
 
 
-def nearest(job: Job, base: int, distance: Optional[Length], workers: Optional[int],
+def nearest(job: Job, base: int, distance: Optional[Length], workers: Workers,
             exclusive: bool = False) -> Any:
     """The nearest features of the other layer to each of the base, of the layers 0 and 1.
 
@@ -372,7 +375,7 @@ def nearest(job: Job, base: int, distance: Optional[Length], workers: Optional[i
     return nearest_of(job, base, distance, workers)
 
 
-def nearest_of(job: Job, base: int, distance: Optional[Length], workers: Optional[int],
+def nearest_of(job: Job, base: int, distance: Optional[Length], workers: Workers,
                most: int = 1) -> Any:
     """As many nearest features as are asked for, and those that are as far away as the last."""
     words = [*(distance.words(job.scale) if distance else []), *options(workers)]
@@ -384,7 +387,7 @@ def nearest_of(job: Job, base: int, distance: Optional[Length], workers: Optiona
 
 
 def nearest_others(job: Job, base: int, distance: Optional[Length],
-                   workers: Optional[int]) -> Any:
+                   workers: Workers) -> Any:
     """The nearest features that aren't equal to that of the base.
 
     Features of the base that equal as many others, C, are asked for together: these and the nearest

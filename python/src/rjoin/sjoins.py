@@ -8,7 +8,7 @@ from __future__ import annotations
 import warnings
 from typing import TYPE_CHECKING, Any, Dict, NamedTuple, Optional, Tuple
 
-from rjoin.calls import Decimals, reading_of
+from rjoin.calls import Decimals, Workers, reading_of
 from rjoin.errors import ArgumentError
 
 if TYPE_CHECKING:
@@ -29,7 +29,7 @@ OVERRIDDEN = ("predicate={!r} was given beside op={!r}. The value of `predicate`
 def sjoin(left: "geopandas.GeoDataFrame", right: "geopandas.GeoDataFrame",
           predicate: str = "intersects", how: str = "inner", *, distance: Optional[float] = None,
           on_attribute: Any = None, op: Optional[str] = None, scale: Optional[int] = None,
-          decimals: Decimals = None, rings: str = "even-odd", workers: Optional[int] = None,
+          decimals: Decimals = None, rings: str = "even-odd", workers: Workers = None,
           lsuffix: str = "left", rsuffix: str = "right", matrix: bool = False,
           other: str = "error", missing: str = "error",
           incomplete: str = "error") -> "geopandas.GeoDataFrame":
@@ -49,7 +49,8 @@ def sjoin(left: "geopandas.GeoDataFrame", right: "geopandas.GeoDataFrame",
     on_attribute: a column, or a list or tuple of columns, of both frames, whose values have to be
     equal too.
     op: the predicate, as GeoPandas had it before 1.
-    workers: the program's threads, 1 to 16; 4 by default.
+    workers: the program's threads, 1 to 16; 4 by default; with `"auto"` one per processor that the
+    system has for the program, and 16 at most.
     matrix: adds the column `matrix` with the nine letters of each pair.
     incomplete: what a left or right join does where features of the other side are left out, any of
     which may be the partner of a row without one: `"error"` raises an InputError, `"mark"` adds the
@@ -85,7 +86,7 @@ def sjoin_nearest(left: "geopandas.GeoDataFrame", right: "geopandas.GeoDataFrame
                   rsuffix: str = "right", distance_col: Optional[str] = None,
                   exclusive: bool = False, *, scale: Optional[int] = None,
                   decimals: Decimals = None, rings: str = "even-odd",
-                  workers: Optional[int] = None, other: str = "error", missing: str = "error",
+                  workers: Workers = None, other: str = "error", missing: str = "error",
                   incomplete: str = "error") -> "geopandas.GeoDataFrame":
     """The rows of one frame beside the fields of the nearest row of the other, or of several that
     are equally near.

@@ -46,7 +46,7 @@ fn read_request<'a>(
     let word = required(alloc, given, "relation")?;
     let relation = read_relation(alloc, word)?;
     let named = named_condition(given, relation)?;
-    let options = read_options(alloc, given)?;
+    let (options, workers) = read_options(alloc, given)?;
     let scale = read_scale(alloc, given)?;
     match named {
         Some(condition) => Ok(JoinRequest {
@@ -54,6 +54,7 @@ fn read_request<'a>(
             paths,
             condition,
             options,
+            workers,
             scale,
         }),
         None => Err(geometry_fault(alloc, given)),

@@ -22,7 +22,7 @@ pub fn read_near<'a>(alloc: Global, given: &ArgMatches<'a>) -> Result<Command<'a
     ensures err { IfErr result (λ f. f ≢ WordFault.Memory → HasNearFault (found_in given.now) f) }
 {
     let paths = read_paths(alloc, given)?;
-    let options = read_options(alloc, given)?;
+    let (options, workers) = read_options(alloc, given)?;
     let scale = read_scale(alloc, given)?;
     let distance = read_distance(alloc, given, scale)?;
     let geometries = read_geometries(alloc, given)?;
@@ -31,6 +31,7 @@ pub fn read_near<'a>(alloc: Global, given: &ArgMatches<'a>) -> Result<Command<'a
         distance,
         nearness: read_nearness(given),
         options,
+        workers,
         scale,
         geometries,
     }))

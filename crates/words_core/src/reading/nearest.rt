@@ -25,7 +25,7 @@ pub fn read_nearest<'a>(alloc: Global, given: &ArgMatches<'a>) -> Result<Command
         → HasNearestFault (found_in given.now) f) }
 {
     let paths = read_paths(alloc, given)?;
-    let options = read_options(alloc, given)?;
+    let (options, workers) = read_options(alloc, given)?;
     let scale = read_scale(alloc, given)?;
     let query = read_query(alloc, given, scale)?;
     let geometries = read_geometries(alloc, given)?;
@@ -33,6 +33,7 @@ pub fn read_nearest<'a>(alloc: Global, given: &ArgMatches<'a>) -> Result<Command
         paths,
         query,
         options,
+        workers,
         scale,
         geometries,
     }))

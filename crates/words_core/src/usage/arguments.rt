@@ -1,9 +1,11 @@
 //! The arguments of the commands, and their `clap` definitions.
 
 ghost use Rattle.words_core.specs.Tables.{argument_rule};
-ghost use Rattle.words_core.specs.Usage.{IsArgument, flag_rule, geometry_rule, numeric_rule};
-ghost use Rattle.words_core.specs.Usage.{optional_rule, positional_rule, required_rule};
+ghost use Rattle.words_core.specs.Usage.{IsArgument, default_rule, flag_rule, geometry_rule};
+ghost use Rattle.words_core.specs.Usage.{numeric_rule, optional_rule, positional_rule};
+ghost use Rattle.words_core.specs.Usage.{required_rule, workers_rule};
 
+use super::workers::WorkersValue;
 use clap::{Arg, ArgAction, value_parser};
 use std::alloc::Global;
 
@@ -36,6 +38,7 @@ pub(crate) enum Argument {
         name: &'static str,
         help: &'static str,
     },
+    Workers,
     Geometry,
 }
 
@@ -61,7 +64,7 @@ pub(crate) const JOIN_ARGUMENTS: [Argument; 12] = [
     RELATION,
     EDITS,
     SKIP,
-    WORKERS,
+    Argument::Workers,
     BATCH,
     CUT,
     SCALE,
@@ -77,7 +80,7 @@ pub(crate) const NEAR_ARGUMENTS: [Argument; 13] = [
     APART,
     EDITS,
     SKIP,
-    WORKERS,
+    Argument::Workers,
     BATCH,
     CUT,
     SCALE,
@@ -93,7 +96,7 @@ pub(crate) const NEAREST_ARGUMENTS: [Argument; 13] = [
     REACH,
     EDITS,
     SKIP,
-    WORKERS,
+    Argument::Workers,
     BATCH,
     CUT,
     SCALE,
@@ -130,12 +133,6 @@ const LEFT: Argument = Argument::Positional {
 const RIGHT: Argument = Argument::Positional {
     name: "RIGHT",
     help: "CSV file of the right layer",
-};
-
-const WORKERS: Argument = Argument::Number {
-    name: "workers",
-    help: "Number of threads, 1 to 16",
-    default: "4",
 };
 
 const BATCH: Argument = Argument::Number {
@@ -203,9 +200,13 @@ const RINGS: Argument = Argument::Optional {
     help: "Rings that --geometry any accepts, proper (the default) or even-odd",
 };
 
-/// The `clap` definition of an argument.
-pub(crate) fn declared_argument<'a>(alloc: Global, argument: Argument) -> Arg<'a>
-    ensures { IsArgument (argument_rule argument) result }
+/// The `clap` definition of an argument, where `--workers` takes such a value.
+pub(crate) fn declared_argument<'a>(
+    alloc: Global,
+    argument: Argument,
+    value: WorkersValue,
+) -> Arg<'a>
+    ensures { IsArgument (argument_rule value argument) result }
 {
     match argument {
         Argument::Positional { name, help } => positional(alloc, name, help),
@@ -217,6 +218,7 @@ pub(crate) fn declared_argument<'a>(alloc: Global, argument: Argument) -> Arg<'a
         Argument::Required { name, help } => required(alloc, name, help),
         Argument::Optional { name, help } => optional(alloc, name, help),
         Argument::Flag { name, help } => flag(alloc, name, help),
+        Argument::Workers => workers(alloc, value),
         Argument::Geometry => geometry(alloc),
     }
 }
@@ -263,11 +265,33 @@ fn flag<'a>(alloc: Global, name: &'a str, help: &'a str) -> Arg<'a>
         .action(ArgAction::SetTrue)
 }
 
+fn workers<'a>(alloc: Global, value: WorkersValue) -> Arg<'a>
+    ensures { IsArgument (workers_rule value) result }
+{
+    let help = "Number of threads, 1 to 16, or auto for one per processor";
+    match value {
+        WorkersValue::Number => numeric(alloc, "workers", help, "4"),
+        WorkersValue::Text => defaulted(alloc, "workers", help, "4"),
+    }
+}
+
 fn geometry<'a>(alloc: Global) -> Arg<'a>
     ensures { IsArgument geometry_rule result }
 {
-    Arg::new(alloc, "geometry")
-        .long("geometry")
-        .help("Kind of the geometries, box or any")
-        .default_value("box")
+    defaulted(
+        alloc,
+        "geometry",
+        "Kind of the geometries, box or any",
+        "box",
+    )
+}
+
+/// An option with a text as its value, which has a default.
+fn defaulted<'a>(alloc: Global, name: &'a str, help: &'a str, default: &'a str) -> Arg<'a>
+    ensures { IsArgument (default_rule name.entry.now default.entry.now) result }
+{
+    Arg::new(alloc, name)
+        .long(name)
+        .help(help)
+        .default_value(default)
 }

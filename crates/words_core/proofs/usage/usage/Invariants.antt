@@ -6,4 +6,4 @@ use Rattle.words_core.proofs.usage.usage.Given as goal
 
 -- with the commands that are left the program has its usage
 abbrev pub invariant-loop-subcommand : goal.invariant-loop-subcommand
-invariant-loop-subcommand l = LeavesUsage l.program (map shape_told (drop l.subcommand-index l.subcommands)) program_usage
+invariant-loop-subcommand l = LeavesUsage l.program (map (shape_told l.value) (drop l.subcommand-index l.subcommands)) (program_usage l.value)

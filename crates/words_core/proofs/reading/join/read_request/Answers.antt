@@ -39,5 +39,5 @@ returns-in_err-scale-clause-err c =
     fault_as _ _ _ c.from_residual-in_err-scale.ensures.1 (λ known.
     join_passes (found_in c.args.given.now) c.in_ok-paths.paths _ c.in_ok-paths.ensures.ok
     _ c.in_ok-word.ensures.ok _ c.in_ok-relation.ensures.ok c.in_ok-named.ensures.forbids
-    (options_passed _ c.in_ok-options.options _ _ c.in_ok-options.ensures.ok
+    (options_passed _ _ _ _ _ c.in_ok-options.ensures.ok
     (scale_refused (found_in c.args.given.now) _ _ (c.in_err-scale.ensures.err known))))

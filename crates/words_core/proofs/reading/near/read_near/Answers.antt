@@ -19,14 +19,14 @@ pub returns-in_err-scale-clause-err : goal.returns-in_err-scale-clause-err
 returns-in_err-scale-clause-err c =
     fault_as _ _ _ c.from_residual-in_err-scale.ensures.1 (λ known.
     paths_passed (found_in c.args.given.now) c.in_ok-paths.paths _ _ c.in_ok-paths.ensures.ok
-    (options_passed _ c.in_ok-options.options _ _ c.in_ok-options.ensures.ok
+    (options_passed _ _ _ _ _ c.in_ok-options.ensures.ok
     (scale_refused (found_in c.args.given.now) _ _ (c.in_err-scale.ensures.err known))))
 
 pub returns-in_err-distance-clause-err : goal.returns-in_err-distance-clause-err
 returns-in_err-distance-clause-err c =
     fault_as _ _ _ c.from_residual-in_err-distance.ensures.1 (λ known.
     paths_passed (found_in c.args.given.now) c.in_ok-paths.paths _ _ c.in_ok-paths.ensures.ok
-    (options_passed _ c.in_ok-options.options _ _ c.in_ok-options.ensures.ok
+    (options_passed _ _ _ _ _ c.in_ok-options.ensures.ok
     (scale_passed _ c.in_ok-scale.scale _ _ c.in_ok-scale.ensures.ok c.in_ok-scale.ensures.few
     (c.in_ok-scale.scale, c.in_ok-scale.ensures.ok, inl (c.in_err-distance.ensures.err known)))))
 
@@ -34,6 +34,6 @@ pub returns-in_err-geometries-clause-err : goal.returns-in_err-geometries-clause
 returns-in_err-geometries-clause-err c =
     fault_as _ _ _ c.from_residual-in_err-geometries.ensures.1 (λ known.
     paths_passed (found_in c.args.given.now) c.in_ok-paths.paths _ _ c.in_ok-paths.ensures.ok
-    (options_passed _ c.in_ok-options.options _ _ c.in_ok-options.ensures.ok
+    (options_passed _ _ _ _ _ c.in_ok-options.ensures.ok
     (scale_passed _ c.in_ok-scale.scale _ _ c.in_ok-scale.ensures.ok c.in_ok-scale.ensures.few
     (c.in_ok-scale.scale, c.in_ok-scale.ensures.ok, inr (c.in_ok-distance.distance, c.in_ok-distance.ensures.ok, c.in_err-geometries.ensures.err known)))))
