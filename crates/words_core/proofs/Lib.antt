@@ -1,6 +1,4 @@
-pub mod AutoLemmas
 pub mod DistanceLemmas
 pub mod GeometryLemmas
 pub mod JoinLemmas
 pub mod ReadingLemmas
-pub mod UsageLemmas

@@ -22,9 +22,8 @@ use Rattle.relation_core.specs.declared.mask.MaskFault.TheVariants as mask
 use Rattle.relation_core.specs.declared.relation.Relation.{Relation}
 use Rattle.words_core.specs.Readings.{found_in, hint_names, hint_of, is_near, missing_text, number_at, number_of, text_in, IsNoRelation, Needs, Says}
 use Rattle.words_core.specs.Readings.{of_none, HasCommandFault, HasFault, HasMetFault, IsMetAs, IsUsageFault, Met, ReadAs, met_in, refusals_of}
-use Rattle.words_core.specs.Usage.{HasUsage, program_usage, usage_of, workers_value}
-use Rattle.words_core.specs.declared.usage.workers.WorkersValue.{WorkersValue}
-use Rattle.words_core.specs.declared.usage.workers.WorkersValue.TheVariants.{Number, Text as AnyText}
+use Rattle.usage_core.specs.Usage.{HasUsage, usage_of}
+use Rattle.usage_core.proofs.UsageLemmas.{is_free_usage, is_simple_usage}
 use Rattle.words_core.specs.declared.words.Command.{Command}
 use Rattle.words_core.specs.declared.words.WordFault.{WordFault}
 use Rattle.words_core.specs.declared.words.WordFault.TheVariants as fault
@@ -135,14 +134,6 @@ pub unnamed : (rows : List Row) (f : WordFault) (name : Text) → name ≢ codes
     → HasCommandFault rows f name
 unnamed rows f name relate join near nearest draw window stats bounds says known = of_none name relate join near nearest draw window stats bounds (says known)
 
-is_simple_usage : (value : WorkersValue) → is_simple (program_usage value) ≡ true
-is_simple_usage Number = refl
-is_simple_usage AnyText = refl
-
-is_free_usage : (value : WorkersValue) → is_simple_and_free (program_usage value) ≡ true
-is_free_usage Number = refl
-is_free_usage AnyText = refl
-
 -- the words fit the usage
 pub read_of_matches : (words : List Text) (usage : ClapCommand) (m : ArgMatches) (result : Result Command WordFault) → HasUsage (usage_of words) usage
     → HasMatchesOf (app_of usage) words m → (is_simple_and_free (app_of usage) ≡ true → fault_of (app_of usage) words ≡ [])
@@ -151,10 +142,10 @@ unfolding refusals_of met_in
 read_of_matches words usage m result is matches kinds ok err = by result ok err
   where
     met : subcommand_rows_of m ≡ subcommand_of (usage_of words) words
-    met = (matches (ap is_simple is.shape ∙ is_simple_usage (workers_value words))).1 ∙ ap (λ a. subcommand_of a words) is.shape
+    met = (matches (ap is_simple is.shape ∙ is_simple_usage words)).1 ∙ ap (λ a. subcommand_of a words) is.shape
 
     none : fault_of (usage_of words) words ≡ []
-    none = ap (λ a. fault_of a words) (sym is.shape) ∙ kinds (ap is_simple_and_free is.shape ∙ is_free_usage (workers_value words))
+    none = ap (λ a. fault_of a words) (sym is.shape) ∙ kinds (ap is_simple_and_free is.shape ∙ is_free_usage words)
 
     by : (r : Result Command WordFault) → IfOk r (IsMetAs (subcommand_rows_of m)) → IfErr r (λ f. f ≢ fault.Memory → HasMetFault (subcommand_rows_of m) f) → ReadAs words r
     by (Ok command) h _ = (none, subst (λ (found : Met). IsMetAs found command) met h)
@@ -167,7 +158,7 @@ pub read_of_error : (words : List Text) (usage : ClapCommand) (e : Error) (f : W
     → (f ≢ fault.Memory → IsUsageFault (kind_of e) f) → f ≢ fault.Memory → HasFault (refusals_of words) (met_in words) f
 unfolding refusals_of met_in
 read_of_error words usage e f is kinds memory told known =
-    by (fault_of (usage_of words) words) (subst (λ (a : App). HasKind (fault_of a words) e) is.shape (kinds (ap is_simple_and_free is.shape ∙ is_free_usage (workers_value words))))
+    by (fault_of (usage_of words) words) (subst (λ (a : App). HasKind (fault_of a words) e) is.shape (kinds (ap is_simple_and_free is.shape ∙ is_free_usage words)))
   where
     by : (ks : Kinds) → HasKind ks e → HasFault ks (subcommand_of (usage_of words) words) f
     by ks (inl out) = absurd (known (memory out))

@@ -1,5 +1,3 @@
 pub mod Conditions
 pub mod Distances
 pub mod Readings
-pub mod Tables
-pub mod Usage

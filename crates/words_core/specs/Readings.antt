@@ -39,10 +39,10 @@ use Rattle.options_core.specs.declared.product.Product.{Product}
 use Rattle.options_core.specs.declared.product.Product.TheVariants.{Report, Picture}
 use Rattle.plane_core.specs.declared.rings.Rings.{Rings}
 use Rattle.plane_core.specs.declared.rings.Rings.TheVariants.{Proper, EvenOdd}
+use Rattle.usage_core.specs.Usage.{usage_of}
 use Rattle.words_core.specs.Conditions.{ForbidsDisjoint, HoldsForDisjoint, geometries_of}
 use Rattle.words_core.specs.Conditions.{relation_of}
 use Rattle.words_core.specs.Distances.{SpellsDistance, SpellsNoDistance}
-use Rattle.words_core.specs.Usage.{usage_of}
 use Rattle.words_core.specs.declared.condition.Condition.{Condition}
 use Rattle.words_core.specs.declared.condition.Geometries.{Geometries}
 use Rattle.words_core.specs.declared.condition.Geometries.TheVariants.{Box, Any}

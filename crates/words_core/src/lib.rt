@@ -1,13 +1,10 @@
-//! The words of the command line as a library: the `clap` definition, and reading the words as a
-//! command or a fault.
+//! The words of the command line read as a command or a fault, by what `clap` finds in them.
 #![tactic(auto)]
 
 mod condition;
-mod help;
 mod hint;
 mod reading;
 mod standard_input;
-mod usage;
 mod words;
 
 pub use condition::{Condition, Geometries};

@@ -7,7 +7,6 @@ ghost use Rattle.words_core.specs.declared.words.WordFault.TheVariants as word_f
 
 use crate::condition::{Condition, Geometries};
 use crate::reading::read_command;
-use crate::usage::{usage, workers_value};
 use clap::error::ErrorKind;
 use distance_core::{Distance, Nearness, Query};
 use number_core::Scale;
@@ -15,6 +14,7 @@ use options_core::{OptionFault, Options, Product};
 use relation_core::{AllowsDisjoint, MaskFault};
 use std::alloc::{AllocError, Global};
 use thiserror::Error;
+use usage_core::usage_of;
 
 /// Two geometries given as texts, and how to read them.
 #[derive(Clone, Copy, Debug, PartialEq, Eq)]
@@ -189,7 +189,7 @@ impl From<AllocError> for WordFault {
 pub fn read_words<'a>(alloc: Global, words: &'a [&'a str]) -> Result<Command<'a>, WordFault>
     ensures { ReadAs (map (λ word. word.now) words.now) result }
 {
-    let program = usage(alloc, workers_value(words))?;
+    let program = usage_of(alloc, words)?;
     match program.try_get_matches_from(words) {
         Ok(matches) => read_command(alloc, &matches),
         Err(error) => Err(usage_fault(alloc, &error)),

@@ -1,13 +1,9 @@
-//! Tests of the words of the command line, from outside: commands, conditions, distances, faults
-//! and help.
+//! Tests of the words of the command line, from outside: commands, conditions, distances, numbers
+//! of workers, and faults.
 #![tactic(auto)]
 
 #[cfg(test)]
 mod any_words;
-#[cfg(test)]
-mod help;
-#[cfg(test)]
-mod help_texts;
 #[cfg(test)]
 mod near_words;
 #[cfg(test)]

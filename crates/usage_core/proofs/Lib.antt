@@ -1,0 +1,2 @@
+pub mod AutoLemmas
+pub mod UsageLemmas
