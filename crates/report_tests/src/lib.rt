@@ -4,6 +4,10 @@
 #[cfg(test)]
 mod matching;
 #[cfg(test)]
+mod parity;
+#[cfg(test)]
+mod refining;
+#[cfg(test)]
 mod refused;
 #[cfg(test)]
 mod reports;
