@@ -1,7 +1,6 @@
 pub mod DecisionLemmas
 pub mod HeldLemmas
 pub mod JoinLemmas
-pub mod PreparedLemmas
 pub mod RefinedLayers
 pub mod RelatedLemmas
 pub mod SyncLemmas

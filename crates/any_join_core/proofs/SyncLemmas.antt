@@ -7,8 +7,8 @@ use Rattle.rtree_core.proofs.node.Below.TheLaws.TheKnot as knot
 use Rattle.rtree_core.specs.contracts.tree.RTree as RTree
 use Rattle.edge_index_core.specs.contracts.indexed.IndexedOutline as IndexedOutline
 use Rattle.arrangement_core.specs.contracts.prepared.PreparedGeometry as PreparedGeometry
-use Rattle.any_join_core.specs.contracts.prepared.PreparedFeature as PreparedFeature
-use Rattle.any_join_core.specs.contracts.prepared.PreparedLayer as PreparedLayer
+use Rattle.any_geometry_core.specs.contracts.geometry.AnyGeometry as AnyGeometry
+use Rattle.prepared_core.proofs.SyncLemmas.{layer_sync}
 use Rattle.any_join_core.specs.contracts.features.RelatedFeatures as RelatedFeatures
 
 tree_sync : IsSync RTree.the_row
@@ -20,11 +20,8 @@ indexed_sync = search (sendable, crosses, tree_sync) depth 60 fits 20000
 prepared_sync : (κ : NamedLft) → IsSync (PreparedGeometry.the_row κ)
 prepared_sync κ = search (sendable, crosses, indexed_sync) depth 60 fits 20000
 
-feature_sync : (κ : NamedLft) → IsSync (PreparedFeature.the_row κ)
-feature_sync κ = search (sendable, crosses, prepared_sync) depth 60 fits 20000
-
-layer_sync : (κ : NamedLft) → IsSync (PreparedLayer.the_row κ)
-layer_sync κ = search (sendable, crosses, knot.crosses, feature_sync) depth 60 fits 20000
+geometry_sync : IsSync AnyGeometry.the_row
+geometry_sync = search (sendable, crosses) depth 60 fits 20000
 
 pub related_sync : (κ : NamedLft) → IsSync (RelatedFeatures.the_row κ)
-related_sync κ = search (sendable, crosses, layer_sync) depth 60 fits 20000
+related_sync κ = search (sendable, crosses, layer_sync, prepared_sync, geometry_sync) depth 60 fits 20000

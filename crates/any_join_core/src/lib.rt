@@ -14,4 +14,4 @@ pub use join::join_any;
 pub use matching::{PreparedPair, matrix_of, related};
 pub use often_core::Side;
 pub use outcome::AnyOutcome;
-pub use prepared::PreparedLayer;
+pub use prepared::{ForMatrices, PreparedLayer};

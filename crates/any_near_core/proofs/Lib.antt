@@ -1,6 +1,5 @@
 pub mod LayerLemmas
 pub mod NearLemmas
-pub mod PreparedLemmas
 pub mod SyncLemmas
 pub mod TouchLemmas
 pub mod WantedLemmas

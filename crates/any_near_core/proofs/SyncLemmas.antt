@@ -7,8 +7,8 @@ use Rattle.rtree_core.proofs.node.Below.TheLaws.TheKnot as knot
 use Rattle.rtree_core.specs.contracts.tree.RTree as RTree
 use Rattle.edge_index_core.specs.contracts.indexed.IndexedOutline as IndexedOutline
 use Rattle.geometry_distance_core.specs.contracts.measured.MeasuredGeometry as MeasuredGeometry
-use Rattle.any_near_core.specs.contracts.prepared.PreparedFeature as PreparedFeature
-use Rattle.any_near_core.specs.contracts.prepared.PreparedLayer as PreparedLayer
+use Rattle.prepared_core.proofs.SyncLemmas.{layer_sync}
+use Rattle.any_near_core.specs.contracts.grown.GrownGeometry as GrownGeometry
 use Rattle.any_near_core.specs.contracts.features.NearGeometries as NearGeometries
 
 tree_sync : IsSync RTree.the_row
@@ -20,11 +20,8 @@ indexed_sync = search (sendable, crosses, tree_sync) depth 60 fits 20000
 measured_sync : (κ : NamedLft) → IsSync (MeasuredGeometry.the_row κ)
 measured_sync κ = search (sendable, crosses, indexed_sync) depth 60 fits 20000
 
-feature_sync : (κ : NamedLft) → IsSync (PreparedFeature.the_row κ)
-feature_sync κ = search (sendable, crosses, measured_sync) depth 60 fits 20000
-
-layer_sync : (κ : NamedLft) → IsSync (PreparedLayer.the_row κ)
-layer_sync κ = search (sendable, crosses, knot.crosses, feature_sync) depth 60 fits 20000
+geometry_sync : IsSync GrownGeometry.the_row
+geometry_sync = search (sendable, crosses) depth 60 fits 20000
 
 pub near_sync : (κ : NamedLft) → IsSync (NearGeometries.the_row κ)
-near_sync κ = search (sendable, crosses, layer_sync) depth 60 fits 20000
+near_sync κ = search (sendable, crosses, layer_sync, measured_sync, geometry_sync) depth 60 fits 20000

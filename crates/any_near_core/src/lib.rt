@@ -19,4 +19,4 @@ pub use join::near_any_layers;
 pub use laws::{one_distance_law, touching_law};
 pub use often_core::Side;
 pub use outcome::AnyNearOutcome;
-pub use prepared::PreparedLayer;
+pub use prepared::{ForDistances, PreparedLayer};

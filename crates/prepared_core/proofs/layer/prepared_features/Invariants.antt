@@ -1,0 +1,5 @@
+use Rattle.prepared_core.specs.Prepared.{ArePrepared}
+use Rattle.prepared_core.proofs.layer.prepared_features.Given as goal
+
+abbrev pub invariant-loop-number : goal.invariant-loop-number
+invariant-loop-number g l = ArePrepared g.M.Preparation.form_of l.layer.list l.features.items

@@ -1,0 +1,10 @@
+//! Layers of a join whose large geometries are prepared, so that each is prepared once for all the
+//! pairs that it occurs in.
+#![tactic(auto)]
+
+mod layer;
+mod preparation;
+
+pub use layer::PreparedLayer;
+pub use often_core::Side;
+pub use preparation::{Preparation, Prepare};

@@ -1,0 +1,24 @@
+//! What is computed once of a geometry that occurs in many pairs.
+
+use std::alloc::{AllocError, Global};
+
+/// Which geometries of a type `G` are large, and what the prepared form of each is, of a type `P`.
+pub trait Preparation<G, P> {
+    /// The prepared form of a geometry, as contracts see it.
+    ghost form_of: { G → P };
+
+    /// The number of vertices of a geometry. One that has many is large.
+    fn vertex_count(geometry: &G) -> usize;
+}
+
+/// How a geometry is prepared. Its form may borrow from it.
+pub trait Prepare<'a, G, P>: Preparation<G, P> {
+    ghost use Rattle.std.specs.Prelude.{◌≡◌, IfOk};
+
+    /// The prepared form of a geometry.
+    ///
+    /// # Errors
+    /// If an allocation fails.
+    fn prepare(alloc: Global, geometry: &'a G) -> Result<P, AllocError>
+        ensures { IfOk result (λ form. form ≡ Self.form_of geometry.now) };
+}
