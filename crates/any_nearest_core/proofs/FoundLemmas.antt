@@ -81,7 +81,7 @@ module _ (query : Query) (layer : Contents AnyGeometry) (left : AnyGeometry) (sh
   pub nearest_found : (found : List AnyNeighbour) → IsBound query layer (figure_of left) units → AllPairs IsNoLater sorted
       → IsCut (most_of query) sorted found → AreNearestIn query layer (figure_of left) found
   nearest_found found bound ordered cut =
-      nearest_kept query layer (figure_of left) units sorted bound
+      nearest_kept query layer left (figure_of left) refl units sorted bound
       (All-permutation (IsNeighbour layer (figure_of left)) ms sorted perm m.measured)
       (All-permutation (λ n. IsSquareIn units n.square) ms sorted perm m.within) all_known all_distinct ordered found cut
 

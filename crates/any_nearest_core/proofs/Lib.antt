@@ -7,3 +7,4 @@ pub mod MeasureLemmas
 pub mod NearestLemmas
 pub mod OrderLemmas
 pub mod PigeonLemmas
+pub mod ReachLemmas

@@ -20,8 +20,8 @@ use Rattle.any_geometry_core.specs.declared.geometry.AnyGeometry.{AnyGeometry}
 use Rattle.any_geometry_core.specs.AnyGeometries.{figure_of}
 use Rattle.any_nearest_core.specs.declared.neighbour.AnyNeighbour.{AnyNeighbour}
 use Rattle.any_nearest_core.specs.Candidates.{candidates_of}
-use Rattle.any_nearest_core.specs.Measurements.{IsBound, IsGreatest, IsSquareIn, IsNumberBeyond, IsNumberWithin, IsMeasuredAs, AreMeasured, with_measured}
-use Rattle.any_nearest_core.specs.Nearest.{AreDistinct, HasPoints, IsNeighbour, limit_of, numbers_of}
+use Rattle.any_nearest_core.specs.Measurements.{limit_of, IsBound, IsGreatest, IsSquareIn, IsNumberBeyond, IsNumberWithin, IsMeasuredAs, AreMeasured, with_measured}
+use Rattle.any_nearest_core.specs.Nearest.{AreDistinct, HasPoints, IsNeighbour, numbers_of}
 use Rattle.any_nearest_core.proofs.FractionLemmas.{within_by}
 use Rattle.any_nearest_core.proofs.PigeonLemmas.{distinct_take}
 

@@ -5,22 +5,24 @@ use Rattle.std.proofs.lemmas.List.{get_or-take, length-map, length-take-le, take
 use Rattle.std.proofs.lemmas.List.Elements.{All-take}
 use Rattle.plane_core.specs.Figures.{Figure}
 use Rattle.distance_core.specs.declared.query.Query.{Query}
-use Rattle.distance_core.specs.Queries.{most_of}
+use Rattle.distance_core.specs.Queries.{most_of, within_of}
 use Rattle.distance_core.specs.Distances.{AreWithin}
 use Rattle.distance_core.specs.ShapePoints.{IsPointOf}
 use Rattle.edge_distance_core.specs.declared.fraction.SquaredFraction.{SquaredFraction}
 use Rattle.edge_distance_core.specs.Fractions.{IsSquareOf, IsNoMore}
 use Rattle.layer_core.specs.Layers.{Feature, Contents, with_number}
 use Rattle.any_geometry_core.specs.declared.geometry.AnyGeometry.{AnyGeometry}
+use Rattle.any_geometry_core.specs.AnyGeometries.{figure_of}
 use Rattle.any_nearest_core.specs.declared.neighbour.AnyNeighbour.{AnyNeighbour}
 use Rattle.any_nearest_core.specs.Cuts.{IsCut}
-use Rattle.any_nearest_core.specs.Measurements.{IsBound, HasEnough, IsSquareIn}
-use Rattle.any_nearest_core.specs.Nearest.{HasPoints, IsNearerNumber, AreDistinct, IsNear, IsNeighbour, AreNearestIn, numbers_of, limit_of}
+use Rattle.any_nearest_core.specs.Measurements.{limit_of, IsBound, HasEnough, IsSquareIn}
+use Rattle.any_nearest_core.specs.Nearest.{HasPoints, IsNearerNumber, AreDistinct, IsNear, IsNeighbour, AreNearestIn, numbers_of}
 use Rattle.any_nearest_core.specs.Orders.{IsLess, IsNoLater, Precedes}
 use Rattle.any_nearest_core.proofs.FractionLemmas.{wider, within_by, less_of_nearer, nearer_of_less, nearer_of_beyond, within_of_nearer}
 use Rattle.any_nearest_core.proofs.ListLemmas.{IsAt, item_at, mapped_at, mapped_from, contains_take}
 use Rattle.any_nearest_core.proofs.OrderLemmas.{no_more_of, no_more_chain, no_more_less, less_no_more, never_both}
 use Rattle.any_nearest_core.proofs.PigeonLemmas.{no_more, distinct_take, distinct_at}
+use Rattle.any_nearest_core.proofs.ReachLemmas.{reach_from_limit, beyond_reach}
 
 abbrev number_of : AnyNeighbour → ℕ
 number_of n = n.number
@@ -48,7 +50,7 @@ abbrev pub IsKnown : Contents AnyGeometry → Figure → ℕ → List AnyNeighbo
 IsKnown layer g units ms = (k : ℕ) (f : Feature AnyGeometry) → with_number k layer ≡ Some f
     → Contains (numbers_of ms) k ⊎ ¬ (AreWithin units (IsPointOf g) (HasPoints f.shape))
 
-module _ (query : Query) (layer : Contents AnyGeometry) (g : Figure) (units : ℕ) (ms : List AnyNeighbour)
+module _ (query : Query) (layer : Contents AnyGeometry) (left : AnyGeometry) (g : Figure) (g_is : figure_of left ≡ g) (units : ℕ) (ms : List AnyNeighbour)
     (bound : IsBound query layer g units) (measured : All (IsNeighbour layer g) ms) (within : All (λ n. IsSquareIn units n.square) ms)
     (known : IsKnown layer g units ms) (distinct : AreDistinct (numbers_of ms)) (ordered : AllPairs IsNoLater ms) where
   -- the squares of the neighbours at two places
@@ -122,8 +124,9 @@ module _ (query : Query) (layer : Contents AnyGeometry) (g : Figure) (units : �
     near_by top b top_in low least = record {
       feature = here.feature;
       held = here.held;
-      in_reach = (within_by g here.feature.shape here.feature.shape a.item.square (limit_of query) here.square).0
-          (wider units (limit_of query) a.item.square bound.low (square_at i a inside));
+      in_reach = reach_from_limit (within_of query) g here.feature.shape
+          ((within_by g here.feature.shape here.feature.shape a.item.square (limit_of query) here.square).0
+          (wider units (limit_of query) a.item.square bound.low (square_at i a inside)));
       few_nearer = few_before top b top_in low least;
     }
 
@@ -182,7 +185,8 @@ module _ (query : Query) (layer : Contents AnyGeometry) (g : Figure) (units : �
     ]
       where
         all_beyond : ¬ (AreWithin units (IsPointOf g) (HasPoints near.feature.shape)) → (units ≡ limit_of query) ⊎ HasEnough query layer g units → ⊥
-        all_beyond beyond (inl limit) = beyond (subst (λ (u : ℕ). AreWithin u (IsPointOf g) (HasPoints near.feature.shape)) (sym limit) near.in_reach)
+        all_beyond beyond (inl limit) =
+            beyond_reach (within_of query) left g g_is near.feature.shape (subst (λ (u : ℕ). ¬ (AreWithin u (IsPointOf g) (HasPoints near.feature.shape))) limit beyond) near.in_reach
         all_beyond beyond (inr enough) =
             let few = near.few_nearer enough.numbers enough.distinct (λ j d inside.
             let o = enough.within j d inside in

@@ -2,8 +2,11 @@
 use Rattle.std.specs.Prelude.{◌≡◌, ℕ, ◌*◌, ◌≤◌, ◌⊎◌, List, [], ◌∷◌, ◌++◌, length, All}
 use Rattle.std.specs.Prelude.{Contains, count_by, Option, None, Some, nat_eq}
 use Rattle.plane_core.specs.Figures.{Figure}
+use Rattle.distance_core.specs.declared.distance.Distance.{Distance}
 use Rattle.distance_core.specs.declared.query.Query.{Query}
-use Rattle.distance_core.specs.Queries.{most_of}
+use Rattle.distance_core.specs.Limits.{greatest_distance}
+use Rattle.distance_core.specs.Units.{units_of}
+use Rattle.distance_core.specs.Queries.{most_of, within_of}
 use Rattle.distance_core.specs.Distances.{AreWithin}
 use Rattle.distance_core.specs.ShapePoints.{IsPointOf}
 use Rattle.edge_distance_core.specs.declared.fraction.SquaredFraction.{SquaredFraction}
@@ -11,8 +14,16 @@ use Rattle.edge_distance_core.specs.Fractions.{numerator_of}
 use Rattle.layer_core.specs.Layers.{Feature, Contents, with_number}
 use Rattle.any_geometry_core.specs.declared.geometry.AnyGeometry.{AnyGeometry}
 use Rattle.any_nearest_core.specs.declared.neighbour.AnyNeighbour.{AnyNeighbour}
-use Rattle.any_nearest_core.specs.Nearest.{HasPoints, IsNeighbour, AreDistinct}
-use Rattle.any_nearest_core.specs.Nearest.{limit_of, numbers_of}
+use Rattle.any_nearest_core.specs.Nearest.{HasPoints, IsNeighbour, AreDistinct, numbers_of}
+
+abbrev pub limit_in : Option Distance → ℕ
+limit_in None = greatest_distance
+limit_in (Some distance) = units_of distance
+
+-- the distance up to which features are measured, in units: that of the query, or where it has
+-- none the greatest distance, which no two geometries are further apart (`greatest_law`)
+abbrev pub limit_of : Query → ℕ
+limit_of query = limit_in (within_of query)
 
 -- the fraction is at most the square of a distance
 abbrev pub IsSquareIn : ℕ → SquaredFraction → Type 0

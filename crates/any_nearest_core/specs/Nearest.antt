@@ -1,11 +1,10 @@
 -- The features of a layer of any geometry that are nearest to a geometry.
-use Rattle.std.specs.Prelude.{◌≡◌, ◌↔◌, ℕ, ◌*◌, ◌<◌, ◌≤◌, List, map, Option, None, Some, All}
+use Rattle.std.specs.Prelude.{⊤, ◌≡◌, ◌↔◌, ℕ, ◌*◌, ◌<◌, ◌≤◌, List, map, Option, None, Some, All}
 use Rattle.std.specs.Prelude.{AllPairs, Contains, count_by, length, nat_eq}
 use Rattle.plane_core.specs.Points.{Point}
 use Rattle.plane_core.specs.Figures.{Figure}
 use Rattle.distance_core.specs.declared.distance.Distance.{Distance}
 use Rattle.distance_core.specs.declared.query.Query.{Query}
-use Rattle.distance_core.specs.Limits.{greatest_distance}
 use Rattle.distance_core.specs.Units.{units_of}
 use Rattle.distance_core.specs.Queries.{most_of, within_of}
 use Rattle.distance_core.specs.Distances.{scaled_square, scale_of, AreWithin}
@@ -17,17 +16,13 @@ use Rattle.any_geometry_core.specs.AnyGeometries.{figure_of}
 use Rattle.any_nearest_core.specs.declared.neighbour.AnyNeighbour.{AnyNeighbour}
 use Rattle.any_nearest_core.specs.Orders.{Precedes}
 
-abbrev pub limit_in : Option Distance → ℕ
-limit_in None = greatest_distance
-limit_in (Some distance) = units_of distance
-
--- the distance within which neighbours are sought, in units: where the query has none, the greatest
--- there is, which no two points of the plane are further apart
-abbrev pub limit_of : Query → ℕ
-limit_of query = limit_in (within_of query)
-
 abbrev pub HasPoints : AnyGeometry → Point → Type 0
 HasPoints h = IsPointOf (figure_of h)
+
+-- the geometry is at most the distance from g, if there is one
+abbrev pub IsInReach : Option Distance → Figure → AnyGeometry → Type 0
+IsInReach None g h = ⊤
+IsInReach (Some distance) g h = AreWithin (units_of distance) (IsPointOf g) (HasPoints h)
 
 -- of two geometries the first is strictly nearer to g than the second: one of its points is nearer
 -- to a point of g than any point of the second is to any point of g
@@ -58,7 +53,7 @@ pub record IsNear (query : Query) (layer : Contents AnyGeometry) (g : Figure) (n
     : Type 0 where
   pub feature : Feature AnyGeometry
   pub held : with_number number layer ≡ Some feature
-  pub in_reach : AreWithin (limit_of query) (IsPointOf g) (HasPoints feature.shape)
+  pub in_reach : IsInReach (within_of query) g feature.shape
   pub few_nearer : (others : List ℕ) → AreDistinct others
       → All (IsNearerNumber layer g feature.shape) others → length others < most_of query
 

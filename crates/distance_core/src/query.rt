@@ -39,6 +39,13 @@ impl Query {
         self.most
     }
 
+    /// The greatest distance that neighbours may have, if there is one.
+    pub fn within(&self) -> Option<Distance>
+        ensures { result ≡ within_of self.now }
+    {
+        self.within
+    }
+
     /// Whether features may be so far away.
     pub fn reaches(&self, square: SquaredDistance) -> bool
         ensures { IsTrue result ↔ IsInReach (within_of self.now) square }

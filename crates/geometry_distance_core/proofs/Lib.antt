@@ -9,3 +9,4 @@ pub mod SharedLemmas
 pub mod StartLemmas
 pub mod MeasuredLemmas
 pub mod DistanceLemmas
+pub mod RangeLemmas

@@ -1,7 +1,9 @@
-//! The laws that tie the distance of geometries to that of their edges and single points.
+//! The laws of the distance of geometries: by their edges and single points, by its square, and how
+//! great it can be.
 
 ghost use Rattle.std.specs.Prelude.{ℕ, ◌≤◌, ◌*◌, ◌↔◌};
 ghost use Rattle.plane_core.specs.Figures.{Figure, IsGeometry};
+ghost use Rattle.distance_core.specs.Limits.{greatest_distance};
 ghost use Rattle.distance_core.specs.Distances.{AreWithin};
 ghost use Rattle.distance_core.specs.ShapePoints.{IsPointOf};
 ghost use Rattle.edge_distance_core.specs.declared.fraction.SquaredFraction.{SquaredFraction};
@@ -22,4 +24,10 @@ pub fn within_law()
         → IsSquareOf square (IsPointOf g) (IsPointOf h)
         → (numerator_of square ≤ (units * units) * square.denominator)
         ↔ AreWithin units (IsPointOf g) (IsPointOf h) }
+{}
+
+/// No two closed geometries are further apart than the greatest distance.
+pub fn greatest_law()
+    ensures { (g h : Figure) → IsGeometry g → IsGeometry h
+        → AreWithin greatest_distance (IsPointOf g) (IsPointOf h) }
 {}

@@ -6,5 +6,5 @@ mod measured;
 mod nearest;
 mod search;
 
-pub use laws::{skeleton_law, within_law};
+pub use laws::{greatest_law, skeleton_law, within_law};
 pub use measured::{MeasuredGeometry, square_within};
