@@ -168,3 +168,16 @@ fn of_empty_layers(rt: HostRuntime) -> Result<(), Fail> {
     assert!(rt; gives(&rt, (&[], ORIGIN), (1, None), &[])?);
     Ok(())
 }
+
+/// Two opposite corners of the plane, whose distance is the root of 8 * 10^24, which is between
+/// 2,828,427,124,746 and the next number.
+#[test]
+fn of_opposite_corners(rt: HostRuntime) -> Result<(), Fail> {
+    let low: &[TextRow<'_>] = &[("low", "POINT (-1000000000000 -1000000000000)")];
+    let high: &[TextRow<'_>] = &[("high", "POINT (1000000000000 1000000000000)")];
+    let rows = &[(0, 0, (8_000_000_000_000_000_000_000_000, 1))];
+    assert!(rt; gives(&rt, (low, high), (1, None), rows)?);
+    assert!(rt; gives(&rt, (low, high), (1, Some(2_828_427_124_747)), rows)?);
+    assert!(rt; gives(&rt, (low, high), (1, Some(2_828_427_124_746)), &[])?);
+    Ok(())
+}
