@@ -1,8 +1,8 @@
 -- The matches of a join of any geometry, as a report takes them.
 use Rattle.std.proofs.Common.{◌≡◌, List, All, Result, Ok, Err, IfOk, OnOk, subst, sym}
-use Rattle.join_core.specs.declared.fault.RunFault.{RunFault}
-use Rattle.join_core.specs.declared.joins.loaded.SkippedRows.{SkippedRows}
-use Rattle.join_core.specs.declared.joins.output.JoinText.{JoinText}
+use Rattle.run_core.specs.declared.fault.RunFault.{RunFault}
+use Rattle.run_core.specs.declared.loaded.SkippedRows.{SkippedRows}
+use Rattle.run_core.specs.declared.loaded.JoinText.{JoinText}
 use Rattle.relation_core.specs.declared.matrix.Matrix.{Matrix}
 use Rattle.layer_core.specs.Layers.{Contents}
 use Rattle.refine_core.specs.declared.refined.Refined.{Refined}

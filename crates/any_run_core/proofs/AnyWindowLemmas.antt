@@ -3,14 +3,14 @@ use Rattle.std.proofs.Common.{◌≡◌, ℕ, List, Option, Bool, true, false, R
 use Rattle.std.proofs.lemmas.Result.{IfErr-weaker}
 use Rattle.any_geometry_core.specs.declared.geometry.AnyGeometry.{AnyGeometry}
 use Rattle.format_core.specs.Formats.{Reading}
-use Rattle.join_core.specs.declared.fault.Input.{Input}
-use Rattle.join_core.specs.declared.fault.Input.TheVariants.{First, Second, Left, Right, Edits, Layer, Window}
-use Rattle.join_core.specs.declared.fault.RunFault.{RunFault}
-use Rattle.join_core.specs.declared.fault.RunFault.TheVariants.{NoFile, Read, Wkt, Geometry, Edit, Join, TooManyToDraw, Write, NotStored, Memory, NoKeys}
-use Rattle.join_core.specs.Jobs.{OnlyAt}
-use Rattle.join_core.specs.LayerRuns.{LayerGives, IsLayerRunFault}
-use Rattle.join_core.specs.Runs.{NoTextFault, RunEnds}
-use Rattle.join_core.proofs.RunLemmas.{ends_as, not_begun}
+use Rattle.run_core.specs.declared.fault.Input.{Input}
+use Rattle.run_core.specs.declared.fault.Input.TheVariants.{First, Second, Left, Right, Edits, Layer, Window}
+use Rattle.run_core.specs.declared.fault.RunFault.{RunFault}
+use Rattle.run_core.specs.declared.fault.RunFault.TheVariants.{NoFile, Read, Wkt, Geometry, Edit, Join, TooManyToDraw, Write, NotStored, Memory, NoKeys}
+use Rattle.layer_run_core.specs.Jobs.{OnlyAt}
+use Rattle.layer_run_core.specs.LayerRuns.{LayerGives, IsLayerRunFault}
+use Rattle.run_core.specs.Runs.{NoTextFault, RunEnds}
+use Rattle.run_core.proofs.RunLemmas.{ends_as, not_begun}
 use Rattle.any_run_core.specs.AnyWindows.{AnyWindowGives, text_fault, looked_up, IsAnyWindowList, IsAnyWindowFault, IsUnread}
 
 -- a fault of a layer's run is one of a window whose text was read

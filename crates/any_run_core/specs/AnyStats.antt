@@ -8,7 +8,7 @@ use Rattle.plane_core.specs.Figures.{dim_of}
 use Rattle.plane_core.specs.Vertices.{vertices_of}
 use Rattle.any_geometry_core.specs.declared.geometry.AnyGeometry.{AnyGeometry}
 use Rattle.any_geometry_core.specs.AnyGeometries.{figure_of}
-use Rattle.join_core.specs.StatsTexts.{count_line}
+use Rattle.layer_run_core.specs.StatsTexts.{count_line}
 
 -- the vertices of all features
 abbrev pub vertices_in : List (Feature AnyGeometry) → ℕ

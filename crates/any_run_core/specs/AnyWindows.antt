@@ -6,11 +6,11 @@ use Rattle.format_core.specs.declared.text_fault.TextFault.TheVariants as text
 use Rattle.format_core.specs.Formats.{Reading}
 use Rattle.layer_core.specs.Layers.{Contents}
 use Rattle.wkt_any_core.specs.declared.fault.GeometryFault.{GeometryFault}
-use Rattle.join_core.specs.declared.fault.Input.TheVariants as input
-use Rattle.join_core.specs.declared.fault.RunFault.{RunFault}
-use Rattle.join_core.specs.declared.fault.RunFault.TheVariants.{Geometry, Memory}
-use Rattle.join_core.specs.LayerRuns.{LayerGives, IsLayerRunFault}
-use Rattle.join_core.specs.Windows.{IsMeetingList}
+use Rattle.run_core.specs.declared.fault.Input.TheVariants as input
+use Rattle.run_core.specs.declared.fault.RunFault.{RunFault}
+use Rattle.run_core.specs.declared.fault.RunFault.TheVariants.{Geometry, Memory}
+use Rattle.layer_run_core.specs.LayerRuns.{LayerGives, IsLayerRunFault}
+use Rattle.layer_run_core.specs.Windows.{IsMeetingList}
 use Rattle.any_run_core.specs.Intersections.{Intersect}
 
 -- the list of the features that share a point with a window

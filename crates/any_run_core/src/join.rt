@@ -7,15 +7,15 @@ ghost use Rattle.format_core.specs.Formats.{ReadsAny};
 ghost use Rattle.layer_core.specs.Edits.{both};
 ghost use Rattle.draw_core.specs.Limits.{most_drawn};
 ghost use Rattle.join_core.specs.DrawRuns.{features_of};
-ghost use Rattle.join_core.specs.ImproperRings.{AreRingsImproper};
-ghost use Rattle.join_core.specs.Inputs.{BlamesInput};
-ghost use Rattle.join_core.specs.JoinRuns.{AreRowsSkipped, files_by, files_of, skipped_lists};
-ghost use Rattle.join_core.specs.Marks.{AreRowsMarked, marked_lists};
+ghost use Rattle.run_core.specs.ImproperRings.{AreRingsImproper};
+ghost use Rattle.run_core.specs.Inputs.{BlamesInput};
+ghost use Rattle.run_core.specs.EditedLayers.{AreRowsSkipped, files_by, files_of, skipped_lists};
+ghost use Rattle.run_core.specs.Marks.{AreRowsMarked, marked_lists};
 ghost use Rattle.join_core.specs.Products.{ProductGives, IsProduct, IsProductFault};
 ghost use Rattle.join_core.specs.Products.{IsLateProductFault};
-ghost use Rattle.join_core.specs.Runs.{NoTextFault, RunEnds};
-ghost use Rattle.join_core.specs.SourceStates.{AreFresh, HasFailed, TellsFailures};
-ghost use Rattle.join_core.specs.Texts.{bytes_of_text};
+ghost use Rattle.run_core.specs.Runs.{NoTextFault, RunEnds};
+ghost use Rattle.run_core.specs.SourceStates.{AreFresh, HasFailed, TellsFailures};
+ghost use Rattle.run_core.specs.Texts.{bytes_of_text};
 ghost use Rattle.any_run_core.specs.AnyJoinings.{any_joining};
 
 use any_geometry_core::AnyGeometry;
@@ -23,12 +23,14 @@ use any_join_core::join_any;
 use any_relation_core::AnyRelation;
 use file_core::{LayerReader, Unreadable};
 use format_core::AnyFormat;
-use join_core::{
-    ImproperRings, JoinJob, JoinSources, JoinText, LoadedLayers, MarkedRows, Output, RunFault,
-    Sink, Text, can_be_made, free_layers, load_marked, with_skipped,
-};
+use join_core::{JoinJob, Output, can_be_made};
 use layer_core::Layer;
+use report_core::Sink;
 use row_core::Source;
+use run_core::{
+    ImproperRings, JoinSources, JoinText, LoadedLayers, MarkedRows, RunFault, Text, free_layers,
+    load_marked, with_skipped,
+};
 use std::hash::RandomState;
 use std::sync::Wait;
 use std::thread::Threads;

@@ -2,22 +2,24 @@
 
 ghost use Rattle.std.specs.Prelude.{◌≡◌, ◌++◌, false, IfOk, IsTrue, OnOk};
 ghost use Rattle.format_core.specs.Formats.{ReadsAny};
-ghost use Rattle.join_core.specs.declared.fault.Input.{Input};
-ghost use Rattle.join_core.specs.ImproperRings.{AreRingsImproper};
-ghost use Rattle.join_core.specs.Jobs.{OnlyAt};
-ghost use Rattle.join_core.specs.LayerRuns.{LayerGives, IsLayerRunFault};
-ghost use Rattle.join_core.specs.Marks.{MarksLayer};
-ghost use Rattle.join_core.specs.Runs.{NoTextFault, RunEnds};
-ghost use Rattle.join_core.specs.StatsTexts.{count_line};
+ghost use Rattle.run_core.specs.declared.fault.Input.{Input};
+ghost use Rattle.run_core.specs.ImproperRings.{AreRingsImproper};
+ghost use Rattle.layer_run_core.specs.Jobs.{OnlyAt};
+ghost use Rattle.layer_run_core.specs.LayerRuns.{LayerGives, IsLayerRunFault};
+ghost use Rattle.run_core.specs.Marks.{MarksLayer};
+ghost use Rattle.run_core.specs.Runs.{NoTextFault, RunEnds};
+ghost use Rattle.layer_run_core.specs.StatsTexts.{count_line};
 ghost use Rattle.any_run_core.specs.AnyStats.{AreAnyCounts, any_stats_text, vertices_in};
 
 use any_geometry_core::AnyGeometry;
 use file_core::LayerReader;
 use format_core::AnyFormat;
 use itoa::Buffer;
-use join_core::{DEFAULT_WORKERS, ImproperRings, LayerText, RunFault, Sink, Text, run_marking};
 use layer_core::{FeatureList, Stats};
+use layer_run_core::{DEFAULT_WORKERS, LayerText, run_marking};
+use report_core::Sink;
 use row_core::Source;
+use run_core::{ImproperRings, RunFault, Text};
 use std::alloc::{AllocError, Global};
 use std::hash::RandomState;
 use std::thread::Threads;

@@ -2,11 +2,11 @@
 
 ghost use Rattle.std.specs.Prelude.{◌≡◌, Ok, false, IfOk, IfErr, IsTrue, OnOk};
 ghost use Rattle.format_core.specs.Formats.{ReadsAny};
-ghost use Rattle.join_core.specs.declared.fault.Input.{Input};
-ghost use Rattle.join_core.specs.ImproperRings.{AreRingsImproper};
-ghost use Rattle.join_core.specs.Jobs.{OnlyAt};
-ghost use Rattle.join_core.specs.Marks.{MarksLayer};
-ghost use Rattle.join_core.specs.Runs.{NoTextFault, RunEnds};
+ghost use Rattle.run_core.specs.declared.fault.Input.{Input};
+ghost use Rattle.run_core.specs.ImproperRings.{AreRingsImproper};
+ghost use Rattle.layer_run_core.specs.Jobs.{OnlyAt};
+ghost use Rattle.run_core.specs.Marks.{MarksLayer};
+ghost use Rattle.run_core.specs.Runs.{NoTextFault, RunEnds};
 ghost use Rattle.any_run_core.specs.AnyWindows.{AnyWindowGives, IsAnyWindowFault, IsUnread};
 
 use crate::intersection::intersect;
@@ -14,8 +14,10 @@ use any_geometry_core::AnyGeometry;
 use arrangement_core::PreparedGeometry;
 use file_core::LayerReader;
 use format_core::{AnyFormat, Format, TextFault};
-use join_core::{ImproperRings, Input, Meeting, RunFault, Sink, Window, run_marking};
+use layer_run_core::{Meeting, Window, run_marking};
+use report_core::Sink;
 use row_core::Source;
+use run_core::{ImproperRings, Input, RunFault};
 use std::alloc::{AllocError, Global};
 use std::hash::RandomState;
 use std::marker::Model;

@@ -6,12 +6,12 @@ use Rattle.report_core.specs.Written.{AppendsPrefix}
 use Rattle.wkt_core.specs.declared.fault.WktFault.{WktFault}
 use Rattle.number_core.specs.declared.scale.Scale.{Scale}
 use Rattle.plane_core.specs.declared.rings.Rings.{Rings}
-use Rattle.join_core.specs.declared.fault.Input.{Input}
-use Rattle.join_core.specs.declared.fault.RunFault.{RunFault}
-use Rattle.join_core.specs.declared.fault.RunFault.TheVariants as run
+use Rattle.run_core.specs.declared.fault.Input.{Input}
+use Rattle.run_core.specs.declared.fault.RunFault.{RunFault}
+use Rattle.run_core.specs.declared.fault.RunFault.TheVariants as run
 use Rattle.join_core.specs.Relating.{RelateGives, IsMatrixLine, HasFirstFault, IsTextFault}
-use Rattle.join_core.specs.Runs.{Ends}
-use Rattle.join_core.proofs.RunLemmas.{ends_as, not_begun}
+use Rattle.run_core.specs.Runs.{Ends}
+use Rattle.run_core.proofs.RunLemmas.{ends_as, not_begun}
 use Rattle.words_core.specs.declared.words.Command.{Command}
 use Rattle.words_core.specs.declared.words.Command.TheVariants.{Relate}
 use Rattle.words_core.specs.declared.condition.Geometries.{Geometries}

@@ -9,17 +9,18 @@ use Rattle.layer_core.specs.Edits.{Layers}
 use Rattle.any_relation_core.specs.AnyRelations.{rings_of}
 use Rattle.format_core.specs.Formats.{ReadsAny, ReadsBox}
 use Rattle.any_run_core.specs.AnyJoinings.{any_joining}
-use Rattle.join_core.specs.declared.fault.Input.{Input}
-use Rattle.join_core.specs.declared.fault.Input.TheVariants.{Left, Right, Edits}
-use Rattle.join_core.specs.declared.fault.RunFault.{RunFault}
-use Rattle.join_core.specs.declared.fault.RunFault.TheVariants as run
+use Rattle.run_core.specs.declared.fault.Input.{Input}
+use Rattle.run_core.specs.declared.fault.Input.TheVariants.{Left, Right, Edits}
+use Rattle.run_core.specs.declared.fault.RunFault.{RunFault}
+use Rattle.run_core.specs.declared.fault.RunFault.TheVariants as run
 use Rattle.join_core.specs.DrawRuns.{DrawGives, no_layers as draw_no_layers, too_many, drawn}
-use Rattle.join_core.specs.Inputs.{BlamesInput}
+use Rattle.run_core.specs.Inputs.{BlamesInput}
 use Rattle.join_core.specs.Joinings.{Joining, box_joining}
-use Rattle.join_core.specs.JoinRuns.{JoinFiles, LayersGive, left_fault, right_fault, edits_fault, edit_refused, edited, ListReportGives, no_layers, reported}
-use Rattle.join_core.specs.JoinRuns.{IsJoinFault}
+use Rattle.run_core.specs.EditedLayers.{JoinFiles, LayersGive, left_fault, right_fault, edits_fault, edit_refused, edited}
+use Rattle.run_core.specs.ReportRuns.{ListReportGives, no_layers, reported}
+use Rattle.run_core.specs.EditedLayers.{IsJoinFault}
 use Rattle.join_core.specs.Products.{ProductGives, IsProductFault}
-use Rattle.join_core.specs.Runs.{Ends}
+use Rattle.run_core.specs.Runs.{Ends}
 use Rattle.options_core.specs.declared.product.Product.{Product}
 use Rattle.options_core.specs.declared.product.Product.TheVariants.{Report, Picture}
 use Rattle.words_core.specs.declared.condition.Condition.{Condition}
@@ -42,7 +43,7 @@ use Rattle.command_core.specs.NearResults.{NearRequestGives, IsNearRequestFault,
 use Rattle.command_core.specs.NearestResults.{NearestKindGives, NearestRequestGives, IsNearestKindFault, IsNearestRequestFault, nearest_job_of}
 use Rattle.command_core.specs.Opening.{AfterOpening, Files, IsAt, IsMissing, AreEditsAt, AreEditsMissing, AreOpened, IsFirstMissing, no_left, no_right, no_edits}
 use Rattle.command_core.specs.Opening.{JoinBytes}
-use Rattle.join_core.proofs.RunLemmas.{ends_as, not_begun}
+use Rattle.run_core.proofs.RunLemmas.{ends_as, not_begun}
 use Rattle.command_core.specs.Skipping.{IsStoreFault}
 use Rattle.command_core.proofs.KnownLemmas.{condition_untold, fault_known, join_untold, stored_untold, untold}
 use Rattle.command_core.proofs.CommandLemmas.{IsNoFile, OpensFiles, found_missing, refused_ends, input_opened, err_is}

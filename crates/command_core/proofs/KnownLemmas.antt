@@ -9,13 +9,13 @@ use Rattle.format_core.specs.Formats.{Reading, ReadsAny, ReadsBox}
 use Rattle.row_core.specs.declared.read_fault.ReadFault.{ReadFault}
 use Rattle.options_core.specs.declared.product.Product.{Product}
 use Rattle.options_core.specs.declared.product.Product.TheVariants.{Report, Picture}
-use Rattle.join_core.specs.declared.fault.Input.TheVariants as input
-use Rattle.join_core.specs.declared.fault.RunFault.{RunFault}
-use Rattle.join_core.specs.declared.fault.RunFault.TheVariants as run
-use Rattle.join_core.specs.JoinRuns.{EditFile, LayersGive, edited, left_fault, right_fault, edits_fault, edit_refused, AreRowsSkipped, IsJoinFault, SkippedLists}
-use Rattle.join_core.specs.LayerRuns.{IsLayerRunFault}
+use Rattle.run_core.specs.declared.fault.Input.TheVariants as input
+use Rattle.run_core.specs.declared.fault.RunFault.{RunFault}
+use Rattle.run_core.specs.declared.fault.RunFault.TheVariants as run
+use Rattle.run_core.specs.EditedLayers.{EditFile, LayersGive, edited, left_fault, right_fault, edits_fault, edit_refused, AreRowsSkipped, IsJoinFault, SkippedLists}
+use Rattle.layer_run_core.specs.LayerRuns.{IsLayerRunFault}
 use Rattle.join_core.specs.Products.{IsProductFault}
-use Rattle.join_core.specs.WindowRuns.{IsWindowFault}
+use Rattle.layer_run_core.specs.WindowRuns.{IsWindowFault}
 use Rattle.any_run_core.specs.AnyWindows.{IsAnyWindowFault}
 use Rattle.words_core.specs.declared.condition.Condition.{Condition}
 use Rattle.words_core.specs.declared.condition.Condition.TheVariants.{Boxes, Any}
@@ -28,8 +28,8 @@ use Rattle.near_format_core.specs.AnyNearFormats.{ReadsGrownAny}
 use Rattle.near_run_core.specs.declared.job.NearJob.{NearJob}
 use Rattle.near_run_core.specs.declared.job.NearestJob.{NearestJob}
 use Rattle.near_run_core.specs.AnyNearRuns.{IsGrownImproper}
-use Rattle.join_core.specs.ImproperRings.{AreRingsImproper}
-use Rattle.join_core.specs.Marks.{AreRowsMarked, MarkedLists, MarksLayer}
+use Rattle.run_core.specs.ImproperRings.{AreRingsImproper}
+use Rattle.run_core.specs.Marks.{AreRowsMarked, MarkedLists, MarksLayer}
 use Rattle.command_core.specs.ImproperRows.{ConditionRows, KindRows, NearestKindRows}
 use Rattle.command_core.specs.Skipping.{ConditionSkips, KindSkips, NearestKindSkips}
 use Rattle.command_core.specs.LayerResults.{IsLayerFaultOf, IsWindowFaultOf}

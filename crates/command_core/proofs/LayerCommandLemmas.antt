@@ -9,16 +9,16 @@ use Rattle.any_geometry_core.specs.AnyGeometries.{box_of}
 use Rattle.format_core.specs.Formats.{Reading, ReadsAny, ReadsBox}
 use Rattle.row_core.specs.declared.read_fault.ReadFault.{ReadFault}
 use Rattle.layer_core.specs.Layers.{Contents}
-use Rattle.join_core.specs.declared.fault.Input.{Input}
-use Rattle.join_core.specs.declared.fault.Input.TheVariants as input
-use Rattle.join_core.specs.declared.fault.RunFault.{RunFault}
-use Rattle.join_core.specs.declared.fault.RunFault.TheVariants as run
-use Rattle.join_core.specs.Inputs.{BlamesInput}
-use Rattle.join_core.specs.Runs.{NoTextFault, RunEnds}
-use Rattle.join_core.specs.Bounds.{ListsCorners}
-use Rattle.join_core.specs.LayerRuns.{LayerGives, layer_fault, made}
-use Rattle.join_core.specs.StatsTexts.{AreCounts}
-use Rattle.join_core.specs.WindowRuns.{WindowGives, text_fault, looked_up, HasWindowFault}
+use Rattle.run_core.specs.declared.fault.Input.{Input}
+use Rattle.run_core.specs.declared.fault.Input.TheVariants as input
+use Rattle.run_core.specs.declared.fault.RunFault.{RunFault}
+use Rattle.run_core.specs.declared.fault.RunFault.TheVariants as run
+use Rattle.run_core.specs.Inputs.{BlamesInput}
+use Rattle.run_core.specs.Runs.{NoTextFault, RunEnds}
+use Rattle.layer_run_core.specs.Bounds.{ListsCorners}
+use Rattle.layer_run_core.specs.LayerRuns.{LayerGives, layer_fault, made}
+use Rattle.layer_run_core.specs.StatsTexts.{AreCounts}
+use Rattle.layer_run_core.specs.WindowRuns.{WindowGives, text_fault, looked_up, HasWindowFault}
 use Rattle.any_run_core.specs.AnyStats.{AreAnyCounts}
 use Rattle.any_run_core.specs.AnyWindows.{AnyWindowGives, text_fault as any_text_fault, looked_up as any_looked_up}
 use Rattle.words_core.specs.declared.condition.Geometries.{Geometries}
@@ -30,7 +30,7 @@ use Rattle.command_core.specs.Commands.{CommandGives, IsCommandText, BlamesComma
 use Rattle.command_core.specs.Commands.{OrNoLayer}
 use Rattle.command_core.specs.LayerResults.{GivesCorners, GivesCounts, GivesWindow, IsLayerFaultOf, IsWindowFaultOf}
 use Rattle.command_core.specs.Opening.{AfterOpening, Files, IsAt, IsMissing, IsLayerUnready, bytes_at, no_file, no_keys}
-use Rattle.join_core.proofs.RunLemmas.{ends_as}
+use Rattle.run_core.proofs.RunLemmas.{ends_as}
 use Rattle.command_core.proofs.KnownLemmas.{told_at, layer_untold, window_untold}
 use Rattle.command_core.proofs.CommandLemmas.{IsNoFile, found_missing, refused_ends, input_opened, err_is}
 

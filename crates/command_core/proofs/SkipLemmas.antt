@@ -3,11 +3,11 @@ use Rattle.std.proofs.Common.{◌≡◌, ◌≢◌, ◌↔◌, ◌++◌, ◌∷�
 use Rattle.std.proofs.Common.{ap, append_assoc, codes, decimal, refl, subst, sym, ◌∙◌}
 use Rattle.std.specs.Io.KnownBytes.{Appends}
 use Rattle.report_core.specs.Written.{AppendsPrefix}
-use Rattle.join_core.specs.Lines.{line_of}
+use Rattle.run_core.specs.Lines.{line_of}
 use Rattle.std.specs.Borrow.{Bor}
-use Rattle.join_core.specs.declared.fault.RunFault.{RunFault}
-use Rattle.join_core.specs.declared.fault.RunFault.TheVariants as run
-use Rattle.join_core.specs.JoinRuns.{SkippedLists}
+use Rattle.run_core.specs.declared.fault.RunFault.{RunFault}
+use Rattle.run_core.specs.declared.fault.RunFault.TheVariants as run
+use Rattle.run_core.specs.EditedLayers.{SkippedLists}
 use Rattle.words_core.specs.declared.words.Command.{Command}
 use Rattle.words_core.specs.declared.words.LayerPaths.{LayerPaths}
 use Rattle.command_core.specs.Opening.{Files, bytes_at, IsFirstMissing, no_left, no_right, no_edits}
@@ -16,7 +16,7 @@ use Rattle.command_core.specs.Commands.{HasImproper}
 use Rattle.command_core.specs.declared.notes.SkippedCounts.{SkippedCounts}
 use Rattle.command_core.specs.Endings.{AreNotes, IsLineOn}
 use Rattle.command_core.proofs.WordLemmas.{two_pieces}
-use Rattle.join_core.specs.Marks.{no_rows as no_rows_marked}
+use Rattle.run_core.specs.Marks.{no_rows as no_rows_marked}
 use Rattle.words_core.specs.declared.words.LayerRequest.{LayerRequest}
 use Rattle.command_core.specs.ImproperRows.{CommandRows, LayerRows, RequestRows, RowLists, rows_in}
 use Rattle.command_core.specs.Skipping.{CommandSkips, SkipEnds, StoresFirst, counts_for, skip_of, skipped_line}

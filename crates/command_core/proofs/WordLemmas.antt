@@ -2,7 +2,7 @@
 use Rattle.std.proofs.Common.{◌≡◌, ℕ, Bool, List, [], ◌∷◌, ◌++◌, Option, Result, OnOk, OnErr, ap, map, subst, append_assoc, codes, ◌∙◌}
 use Rattle.std.specs.Io.KnownBytes.{Appends}
 use Rattle.report_core.specs.Written.{AppendsPrefix}
-use Rattle.join_core.specs.Lines.{line_of}
+use Rattle.run_core.specs.Lines.{line_of}
 use Rattle.command_core.specs.Endings.{WordsAreDone}
 use Rattle.command_core.specs.Opening.{Files}
 use Rattle.command_core.specs.Storing.{Stored}

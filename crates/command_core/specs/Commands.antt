@@ -7,12 +7,12 @@ use Rattle.relate_any_core.specs.TextMatrices.{HasTextFault, IsRelated}
 use Rattle.relate_any_core.specs.declared.improper.Improper.{Improper}
 use Rattle.relate_any_core.specs.declared.texts.Related.{Related}
 use Rattle.relate_any_core.specs.declared.texts.TextFault.TheVariants as texts
-use Rattle.join_core.specs.declared.fault.Input.TheVariants as input
-use Rattle.join_core.specs.declared.fault.RunFault.{RunFault}
-use Rattle.join_core.specs.declared.fault.RunFault.TheVariants as run
-use Rattle.join_core.specs.Inputs.{BlamesInput}
+use Rattle.run_core.specs.declared.fault.Input.TheVariants as input
+use Rattle.run_core.specs.declared.fault.RunFault.{RunFault}
+use Rattle.run_core.specs.declared.fault.RunFault.TheVariants as run
+use Rattle.run_core.specs.Inputs.{BlamesInput}
 use Rattle.join_core.specs.Relating.{RelateGives, IsTextFault}
-use Rattle.join_core.specs.Runs.{Ends}
+use Rattle.run_core.specs.Runs.{Ends}
 use Rattle.command_core.specs.JoinResults.{JoinRequestGives, IsJoinRequestFault, PathsGive}
 use Rattle.command_core.specs.JoinResults.{known_bytes}
 use Rattle.command_core.specs.LayerResults.{GivesCorners, GivesCounts, GivesWindow}

@@ -4,9 +4,9 @@ use Rattle.std.specs.Prelude.{MatchResult, MatchOption}
 use Rattle.std.specs.Prelude.{IsTrue, OnOk, [], ◌∷◌, ◌++◌, ◌||◌, codes, if◌then◌else◌}
 use Rattle.std.specs.Bool.{MatchBool}
 use Rattle.std.specs.Io.KnownBytes.{Appends}
-use Rattle.join_core.specs.declared.fault.RunFault.{RunFault}
-use Rattle.join_core.specs.declared.fault.RunFault.TheVariants.{Write}
-use Rattle.join_core.specs.Lines.{run_line}
+use Rattle.run_core.specs.declared.fault.RunFault.{RunFault}
+use Rattle.run_core.specs.declared.fault.RunFault.TheVariants.{Write}
+use Rattle.run_core.specs.Lines.{run_line}
 use Rattle.report_core.specs.Written.{AppendsPrefix}
 use Rattle.relate_any_core.specs.declared.improper.Improper.{Improper}
 use Rattle.words_core.specs.declared.words.Command.{Command}
@@ -16,8 +16,8 @@ use Rattle.command_core.specs.Commands.{CommandEnds, HasImproper, none_improper}
 use Rattle.command_core.specs.ImproperRows.{CommandRows, rows_in, rows_line}
 use Rattle.command_core.specs.Skipping.{SkipEnds, counts_for, skip_of, skipped_line}
 use Rattle.command_core.specs.Storing.{Stored}
-use Rattle.join_core.specs.JoinRuns.{SkippedLists}
-use Rattle.join_core.specs.Marks.{marked_lists, no_rows}
+use Rattle.run_core.specs.EditedLayers.{SkippedLists}
+use Rattle.run_core.specs.Marks.{marked_lists, no_rows}
 use Rattle.command_core.specs.Opening.{Files}
 use Rattle.words_core.specs.Readings.{IsUngiven, ReadAs}
 use Rattle.command_core.specs.WordFaults.{word_status_of, word_fault_line}

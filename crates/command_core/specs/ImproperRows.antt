@@ -10,9 +10,9 @@ use Rattle.near_format_core.specs.AnyNearFormats.{ReadsGrownAny}
 use Rattle.near_run_core.specs.declared.job.NearJob.{NearJob}
 use Rattle.near_run_core.specs.declared.job.NearestJob.{NearestJob}
 use Rattle.near_run_core.specs.AnyNearRuns.{IsGrownImproper}
-use Rattle.join_core.specs.ImproperRings.{AreRingsImproper}
-use Rattle.join_core.specs.Lines.{line_of}
-use Rattle.join_core.specs.Marks.{AreRowsMarked, MarkedLists, MarksLayer, marked_lists, no_rows}
+use Rattle.run_core.specs.ImproperRings.{AreRingsImproper}
+use Rattle.run_core.specs.Lines.{line_of}
+use Rattle.run_core.specs.Marks.{AreRowsMarked, MarkedLists, MarksLayer, marked_lists, no_rows}
 use Rattle.words_core.specs.declared.condition.Condition.{Condition}
 use Rattle.words_core.specs.declared.condition.Condition.TheVariants.{Boxes, Any}
 use Rattle.words_core.specs.declared.condition.Geometries.{Geometries}

@@ -7,11 +7,11 @@ use Rattle.file_core.specs.declared.skipped.Unreadable.{Unreadable}
 use Rattle.file_core.specs.declared.skipped.Unreadable.TheVariants.{Refuse, Skip}
 use Rattle.options_core.specs.declared.product.Product.{Product}
 use Rattle.any_relation_core.specs.AnyRelations.{rings_of}
-use Rattle.join_core.specs.declared.fault.Input.TheVariants.{Left, Right, Edits}
-use Rattle.join_core.specs.declared.fault.RunFault.{RunFault}
-use Rattle.join_core.specs.declared.fault.RunFault.TheVariants.{NotStored}
+use Rattle.run_core.specs.declared.fault.Input.TheVariants.{Left, Right, Edits}
+use Rattle.run_core.specs.declared.fault.RunFault.{RunFault}
+use Rattle.run_core.specs.declared.fault.RunFault.TheVariants.{NotStored}
 use Rattle.join_core.specs.Joinings.{box_joining}
-use Rattle.join_core.specs.JoinRuns.{JoinFiles}
+use Rattle.run_core.specs.EditedLayers.{JoinFiles}
 use Rattle.join_core.specs.Products.{ProductGives, IsProductFault}
 use Rattle.any_run_core.specs.AnyJoinings.{any_joining}
 use Rattle.words_core.specs.declared.condition.Condition.{Condition}

@@ -3,11 +3,11 @@ use Rattle.std.specs.Prelude.{ℕ, List, Option, Result}
 use Rattle.number_core.specs.declared.scale.Scale.{Scale}
 use Rattle.any_geometry_core.specs.AnyGeometries.{box_of}
 use Rattle.format_core.specs.Formats.{ReadsAny, ReadsBox}
-use Rattle.join_core.specs.declared.fault.RunFault.{RunFault}
-use Rattle.join_core.specs.Bounds.{ListsCorners}
-use Rattle.join_core.specs.LayerRuns.{LayerGives, IsLayerRunFault}
-use Rattle.join_core.specs.StatsTexts.{AreCounts}
-use Rattle.join_core.specs.WindowRuns.{WindowGives, IsWindowFault}
+use Rattle.run_core.specs.declared.fault.RunFault.{RunFault}
+use Rattle.layer_run_core.specs.Bounds.{ListsCorners}
+use Rattle.layer_run_core.specs.LayerRuns.{LayerGives, IsLayerRunFault}
+use Rattle.layer_run_core.specs.StatsTexts.{AreCounts}
+use Rattle.layer_run_core.specs.WindowRuns.{WindowGives, IsWindowFault}
 use Rattle.any_run_core.specs.AnyStats.{AreAnyCounts}
 use Rattle.any_run_core.specs.AnyWindows.{AnyWindowGives, IsAnyWindowFault}
 use Rattle.words_core.specs.declared.condition.Geometries.{Geometries}

@@ -1,8 +1,8 @@
 -- The results and the faults of a join by distance, by the bytes of its files.
 use Rattle.std.specs.Prelude.{ℕ, List, Option, Result}
 use Rattle.std.specs.Borrow.{Bor}
-use Rattle.join_core.specs.declared.fault.RunFault.{RunFault}
-use Rattle.join_core.specs.JoinRuns.{IsJoinFault}
+use Rattle.run_core.specs.declared.fault.RunFault.{RunFault}
+use Rattle.run_core.specs.EditedLayers.{IsJoinFault}
 use Rattle.near_format_core.specs.NearFormats.{ReadsGrown}
 use Rattle.near_format_core.specs.AnyNearFormats.{ReadsGrownAny}
 use Rattle.near_run_core.specs.NearRuns.{NearGives}

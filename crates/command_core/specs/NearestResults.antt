@@ -2,8 +2,8 @@
 use Rattle.std.specs.Prelude.{ℕ, List, Option, Result}
 use Rattle.std.specs.Borrow.{Bor}
 use Rattle.format_core.specs.Formats.{ReadsAny, ReadsBox}
-use Rattle.join_core.specs.declared.fault.RunFault.{RunFault}
-use Rattle.join_core.specs.JoinRuns.{IsJoinFault}
+use Rattle.run_core.specs.declared.fault.RunFault.{RunFault}
+use Rattle.run_core.specs.EditedLayers.{IsJoinFault}
 use Rattle.near_run_core.specs.AnyNearestRuns.{AnyNearestGives}
 use Rattle.near_run_core.specs.NearestRuns.{NearestGives}
 use Rattle.near_run_core.specs.declared.job.NearestJob.{NearestJob}

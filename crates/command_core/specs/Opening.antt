@@ -1,12 +1,12 @@
 -- The results of opening a file, and the known content of the files of a join.
 use Rattle.std.specs.Prelude.{◌≡◌, ⊤, ℕ, List, Option, Some, None, Result, Ok, Err, IfSome}
 use Rattle.std.specs.Borrow.{Bor}
-use Rattle.join_core.specs.declared.fault.Input.{Input}
-use Rattle.join_core.specs.declared.fault.Input.TheVariants.{Left, Right, Edits, Layer}
-use Rattle.join_core.specs.declared.fault.RunFault.{RunFault}
-use Rattle.join_core.specs.declared.fault.RunFault.TheVariants.{NoFile, NoKeys}
-use Rattle.join_core.specs.declared.joins.sources.JoinSources.{JoinSources}
-use Rattle.join_core.specs.JoinRuns.{bytes_of}
+use Rattle.run_core.specs.declared.fault.Input.{Input}
+use Rattle.run_core.specs.declared.fault.Input.TheVariants.{Left, Right, Edits, Layer}
+use Rattle.run_core.specs.declared.fault.RunFault.{RunFault}
+use Rattle.run_core.specs.declared.fault.RunFault.TheVariants.{NoFile, NoKeys}
+use Rattle.run_core.specs.declared.sources.JoinSources.{JoinSources}
+use Rattle.run_core.specs.EditedLayers.{bytes_of}
 use Rattle.words_core.specs.declared.words.LayerPaths.{LayerPaths}
 
 -- the content at each path: bytes, or `None` if nothing can be opened there

@@ -10,11 +10,11 @@ use Rattle.near_format_core.specs.NearFormats.{ReadsGrown}
 use Rattle.near_format_core.specs.AnyNearFormats.{ReadsGrownAny}
 use Rattle.near_run_core.specs.declared.job.NearJob.{NearJob}
 use Rattle.near_run_core.specs.declared.job.NearestJob.{NearestJob}
-use Rattle.join_core.specs.declared.fault.RunFault.{RunFault}
-use Rattle.join_core.specs.declared.fault.RunFault.TheVariants.{Memory, NotStored, Write}
-use Rattle.join_core.specs.JoinRuns.{AreRowsSkipped, SkippedLists}
-use Rattle.join_core.specs.Lines.{line_of}
-use Rattle.join_core.specs.SkippedTexts.{skipped_text}
+use Rattle.run_core.specs.declared.fault.RunFault.{RunFault}
+use Rattle.run_core.specs.declared.fault.RunFault.TheVariants.{Memory, NotStored, Write}
+use Rattle.run_core.specs.EditedLayers.{AreRowsSkipped, SkippedLists}
+use Rattle.run_core.specs.Lines.{line_of}
+use Rattle.run_core.specs.SkippedTexts.{skipped_text}
 use Rattle.words_core.specs.declared.condition.Condition.{Condition}
 use Rattle.words_core.specs.declared.condition.Condition.TheVariants.{Boxes, Any}
 use Rattle.words_core.specs.declared.condition.Geometries.{Geometries}

@@ -2,7 +2,7 @@
 //! fault line.
 
 ghost use Rattle.std.specs.Prelude.{◌≡◌, false, OnOk};
-ghost use Rattle.join_core.specs.JoinRuns.{SkippedLists};
+ghost use Rattle.run_core.specs.EditedLayers.{SkippedLists};
 ghost use Rattle.command_core.specs.Commands.{CommandEnds};
 ghost use Rattle.command_core.specs.Endings.{AreNoNotes, AreNotes, CommandIsDone};
 ghost use Rattle.command_core.specs.Skipping.{SkipEnds};
@@ -15,7 +15,8 @@ use crate::nearest::execute_nearest;
 use crate::notes::{Notes, tell};
 use crate::outputs::Outputs;
 use crate::relating::execute_relate;
-use join_core::{RunFault, Sink, fault_line};
+use report_core::Sink;
+use run_core::{RunFault, fault_line};
 use std::random::RandomSource;
 use std::sync::Wait;
 use std::thread::Threads;

@@ -3,8 +3,8 @@
 ghost use Rattle.std.specs.Prelude.{◌≡◌, ◌↔◌, false, IsErr, IsTrue};
 ghost use Rattle.command_core.specs.Endings.{IsToldOfRings, improper_text};
 
-use join_core::{Sink, WriteFailed, write_text};
 use relate_any_core::Improper;
+use report_core::{Sink, WriteFailed, write_text};
 
 /// Writes one line for each geometry with improper rings: the even-odd rule was applied to it.
 ///

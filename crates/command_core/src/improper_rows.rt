@@ -6,7 +6,8 @@ ghost use Rattle.command_core.specs.ImproperRows.{first_rows, how_many, rows_lin
 
 use arrayvec::ArrayString;
 use itoa::Buffer;
-use join_core::{MarkedRows, Sink, WriteFailed, write_text};
+use report_core::{Sink, WriteFailed, write_text};
+use run_core::MarkedRows;
 use std::alloc::Global;
 
 /// The rows of a command's layers whose geometries have improper rings, by their numbers.
@@ -20,7 +21,7 @@ pub struct ImproperRows {
 
 impl ImproperRows {
     ghost use Rattle.std.specs.Prelude.{◌≡◌, []};
-    ghost use Rattle.join_core.specs.Marks.{marked_lists, no_rows};
+    ghost use Rattle.run_core.specs.Marks.{marked_lists, no_rows};
 
     /// No rows.
     pub fn none(alloc: Global) -> ImproperRows

@@ -1,11 +1,11 @@
 //! Joins of two layers of boxes or of any geometry, after a file of edits.
 
 ghost use Rattle.std.specs.Prelude.{◌≡◌, Ok, Err, false, IfOk, IfErr, OnOk};
-ghost use Rattle.join_core.specs.Inputs.{BlamesInput};
-ghost use Rattle.join_core.specs.JoinRuns.{SkippedLists, skipped_lists};
-ghost use Rattle.join_core.specs.Marks.{marked_lists, no_rows};
-ghost use Rattle.join_core.specs.SourceStates.{AreFresh, TellsFailures};
-ghost use Rattle.join_core.specs.Texts.{bytes_of_text};
+ghost use Rattle.run_core.specs.Inputs.{BlamesInput};
+ghost use Rattle.run_core.specs.EditedLayers.{SkippedLists, skipped_lists};
+ghost use Rattle.run_core.specs.Marks.{marked_lists, no_rows};
+ghost use Rattle.run_core.specs.SourceStates.{AreFresh, TellsFailures};
+ghost use Rattle.run_core.specs.Texts.{bytes_of_text};
 ghost use Rattle.command_core.specs.Commands.{CommandEnds};
 ghost use Rattle.command_core.specs.JoinResults.{JoinRequestGives, IsConditionFault};
 ghost use Rattle.command_core.specs.ImproperRows.{ConditionRows};
@@ -21,10 +21,10 @@ use crate::outputs::Outputs;
 use crate::skipping::{counts_for, unreadable_for, write_made};
 use crate::workers::options_for;
 use any_run_core::{AnyCondition, any_join_text};
-use join_core::{
-    BoxCondition, JoinJob, JoinSources, JoinText, MarkedRows, RunFault, Sink, join_text,
-};
+use join_core::{BoxCondition, JoinJob, join_text};
+use report_core::Sink;
 use row_core::Source;
+use run_core::{JoinSources, JoinText, MarkedRows, RunFault};
 use std::hash::RandomState;
 use std::random::RandomSource;
 use std::sync::Wait;

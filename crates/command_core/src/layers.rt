@@ -11,10 +11,9 @@ use crate::opening::open_layer;
 use any_run_core::{run_any_stats, run_any_window};
 use file_core::LayerReader;
 use format_core::AnyFormat;
-use join_core::{
-    DEFAULT_WORKERS, ImproperRings, RunFault, Sink, run_bounds, run_bounds_marking, run_stats,
-    run_window,
-};
+use layer_run_core::{DEFAULT_WORKERS, run_bounds, run_bounds_marking, run_stats, run_window};
+use report_core::Sink;
+use run_core::{ImproperRings, RunFault};
 use std::random::RandomSource;
 use std::thread::Threads;
 use words_core::{Geometries, LayerRequest};

@@ -7,8 +7,8 @@ ghost use Rattle.command_core.specs.Skipping.{skipped_line};
 use crate::improper::tell_improper;
 use crate::improper_rows::{ImproperRows, tell_rows};
 use itoa::Buffer;
-use join_core::{ShortText, Sink, WriteFailed};
 use relate_any_core::Improper;
+use report_core::{ShortText, Sink, WriteFailed};
 use std::alloc::Global;
 
 /// How many rows of the left and of the right file were skipped.

@@ -1,13 +1,13 @@
 //! Opening the files of a command, and random keys for hashing the ids of their features.
 
 ghost use Rattle.std.specs.Prelude.{◌≡◌, false, IfOk, IfErr, IfSome};
-ghost use Rattle.join_core.specs.JoinRuns.{bytes_of};
-ghost use Rattle.join_core.specs.SourceStates.{AreFresh};
+ghost use Rattle.run_core.specs.EditedLayers.{bytes_of};
+ghost use Rattle.run_core.specs.SourceStates.{AreFresh};
 ghost use Rattle.command_core.specs.Opening.{IsAt, IsMissing, AreEditsAt, AreEditsMissing};
 ghost use Rattle.command_core.specs.Opening.{AreOpened, IsFirstMissing, IsLayerUnready, bytes_in};
 
 use crate::inputs::Inputs;
-use join_core::{Input, JoinSources, RunFault};
+use run_core::{Input, JoinSources, RunFault};
 use std::hash::RandomState;
 use std::random::RandomSource;
 use words_core::LayerPaths;

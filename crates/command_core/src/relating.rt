@@ -4,13 +4,15 @@ ghost use Rattle.std.specs.Prelude.{◌≡◌, ◌≢◌, Option, Ok, Err, false
 ghost use Rattle.command_core.specs.Commands.{AreImproper, BlamesCommand, CommandEnds};
 ghost use Rattle.command_core.specs.Commands.{GeometriesGive, IsRelateFault, none_improper};
 ghost use Rattle.command_core.specs.Opening.{Files};
-ghost use Rattle.join_core.specs.Runs.{Ends};
+ghost use Rattle.run_core.specs.Runs.{Ends};
 ghost use Rattle.relate_any_core.specs.TextMatrices.{IsRelated};
 ghost use Rattle.words_core.specs.declared.words.Command.TheVariants.{Relate};
 ghost use Rattle.words_core.specs.declared.condition.Geometries.TheVariants.{Any};
 
-use join_core::{Input, RunFault, Sink, matrix_line, run_relate, write_text};
+use join_core::{matrix_line, run_relate};
 use relate_any_core::{Improper, Related, TextFault, relate_texts};
+use report_core::{Sink, write_text};
+use run_core::{Input, RunFault};
 use std::alloc::Global;
 use wkt_any_core::Rings;
 use words_core::{Geometries, RelateRequest};

@@ -1,16 +1,17 @@
 //! Writing the output of a join, and before it the list of the rows that were skipped.
 
 ghost use Rattle.std.specs.Prelude.{◌≡◌, ◌≢◌, false, IfErr, OnErr, OnOk};
-ghost use Rattle.join_core.specs.JoinRuns.{skipped_lists};
-ghost use Rattle.join_core.specs.Runs.{Ends};
-ghost use Rattle.join_core.specs.Texts.{bytes_of_text};
+ghost use Rattle.run_core.specs.EditedLayers.{skipped_lists};
+ghost use Rattle.run_core.specs.Runs.{Ends};
+ghost use Rattle.run_core.specs.Texts.{bytes_of_text};
 ghost use Rattle.command_core.specs.JoinResults.{unreadable_for};
 ghost use Rattle.command_core.specs.Skipping.{IsStoreFault, StoresFirst, StoresList, counts_for};
 
 use crate::notes::{Notes, SkippedCounts};
 use crate::outputs::{NotStored, Outputs};
 use file_core::Unreadable;
-use join_core::{JoinText, RunFault, Sink, SkippedRows, skipped_text};
+use report_core::Sink;
+use run_core::{JoinText, RunFault, SkippedRows, skipped_text};
 use std::alloc::Global;
 
 /// What becomes of rows whose geometry can't be read: they are skipped where the list of them is

@@ -7,8 +7,8 @@ ghost use Rattle.relation_core.specs.FaultTexts.{mask_text};
 ghost use Rattle.report_core.specs.Written.{AppendsPrefix};
 ghost use Rattle.command_core.specs.WordFaults.{word_status_of, word_fault_line};
 
-use join_core::{ShortText, Sink, WriteFailed, write_text};
 use relation_core::{AllowsDisjoint, MaskFault};
+use report_core::{ShortText, Sink, WriteFailed, write_text};
 use words_core::WordFault;
 
 /// The exit status: 0 for help, 1 if memory ran out, otherwise 2.

@@ -1,7 +1,9 @@
 //! The limits that the help tells.
 
 use crate::words::{parted, shown};
-use join_core::{DEFAULT_WORKERS, MAX_BATCH, MAX_CUT, MAX_DRAWN, MAX_WORKERS};
+use draw_core::MAX_DRAWN;
+use layer_run_core::DEFAULT_WORKERS;
+use options_core::{MAX_BATCH, MAX_CUT, MAX_WORKERS};
 use std::alloc::Global;
 use std::test::Fail;
 

@@ -2,7 +2,7 @@
 
 use crate::shelf::Shelf;
 use command_core::run_words;
-use join_core::ToWrite;
+use report_core::ToWrite;
 use std::alloc::{AllocError, Global};
 use std::process::Abort;
 use std::random::RandomSource;

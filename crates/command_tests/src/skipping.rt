@@ -3,7 +3,7 @@
 use crate::runs::given_words;
 use crate::shelf::Shelf;
 use command_core::run_words;
-use join_core::ToWrite;
+use report_core::ToWrite;
 use std::process::Abort;
 use std::random::RandomSource;
 use std::sync::Wait;

@@ -1,8 +1,9 @@
 //! The lines of faults of words, and the status that they end with.
 
 use command_core::{NotOpened, WordFault, read_words, word_line, word_status};
-use join_core::{OptionFault, ToWrite};
+use options_core::OptionFault;
 use relation_core::MaskFault;
+use report_core::ToWrite;
 use std::alloc::Global;
 use std::test::Fail;
 

@@ -1,16 +1,16 @@
 -- The results of a picture of files.
 use Rattle.std.proofs.Common.{◌≡◌, ◌<◌, ℕ, List, Result, Ok, Err, IsErrAnd, IsErrOf, IfErr, refl, sym, subst}
 use Rattle.layer_core.specs.Edits.{Layers}
-use Rattle.layer_core.specs.Layers.{Contents}
 use Rattle.draw_core.specs.Limits.{most_drawn}
 use Rattle.draw_core.specs.Pictures.{picture_of}
-use Rattle.join_core.specs.declared.fault.RunFault.{RunFault}
-use Rattle.join_core.specs.declared.fault.RunFault.TheVariants.{TooManyToDraw}
-use Rattle.join_core.specs.Inputs.{BlamesInput}
-use Rattle.join_core.specs.Joinings.{Joining, ArePairs}
-use Rattle.join_core.specs.JoinRuns.{JoinFiles, LayersGive, IsJoinFault}
+use Rattle.run_core.specs.declared.fault.RunFault.{RunFault}
+use Rattle.run_core.specs.declared.fault.RunFault.TheVariants.{TooManyToDraw}
+use Rattle.run_core.specs.Inputs.{BlamesInput}
+use Rattle.join_core.specs.Joinings.{Joining}
+use Rattle.run_core.specs.ReportRuns.{ArePairs}
+use Rattle.run_core.specs.EditedLayers.{JoinFiles, LayersGive, IsJoinFault}
 use Rattle.join_core.specs.DrawRuns.{features_of, DrawGives, no_layers, too_many, IsLateDrawFault, IsDrawFault}
-use Rattle.join_core.proofs.JoinRunLemmas.{handed_on, none_blamed, late_is_of_join}
+use Rattle.run_core.proofs.EditedLayersLemmas.{handed_on, none_blamed, late_is_of_join}
 
 -- without layers there is no picture
 pub no_picture : {G T : Type 0} (joining : Joining G) (files : JoinFiles G) (out : Result T RunFault) (e : RunFault) → IsErrAnd out (λ x. x ≡ e)

@@ -1,15 +1,4 @@
-pub mod BoundsLemmas
-pub mod CsvLemmas
 pub mod DrawRunLemmas
-pub mod EditsLemmas
 pub mod JoinRunLemmas
-pub mod LayerRunLemmas
-pub mod LayersLemmas
-pub mod LineLemmas
-pub mod MarkLemmas
 pub mod ProductLemmas
 pub mod RelatingLemmas
-pub mod RunLemmas
-pub mod SkippedLemmas
-pub mod WindowLemmas
-pub mod WindowRunLemmas

@@ -3,20 +3,23 @@ use Rattle.std.proofs.Common.{◌≡◌, ◌<◌, ℕ, List, Result, Ok, Err, Is
 use Rattle.layer_core.specs.Edits.{Layers}
 use Rattle.draw_core.specs.Limits.{most_drawn}
 use Rattle.row_core.specs.declared.read_fault.ReadFault.{ReadFault}
-use Rattle.join_core.specs.declared.fault.Input.{Input}
-use Rattle.join_core.specs.declared.fault.RunFault.{RunFault}
-use Rattle.join_core.specs.declared.fault.RunFault.TheVariants.{Read, TooManyToDraw}
+use Rattle.run_core.specs.declared.fault.Input.{Input}
+use Rattle.run_core.specs.declared.fault.RunFault.{RunFault}
+use Rattle.run_core.specs.declared.fault.RunFault.TheVariants.{Read, TooManyToDraw}
 use Rattle.options_core.specs.declared.product.Product.{Product}
 use Rattle.options_core.specs.declared.product.Product.TheVariants.{Report, Picture}
-use Rattle.join_core.specs.declared.text.Text.{Text}
+use Rattle.run_core.specs.declared.text.Text.{Text}
 use Rattle.join_core.specs.DrawRuns.{features_of, drawn, DrawGives}
-use Rattle.join_core.specs.Inputs.{BlamesInput}
-use Rattle.join_core.specs.JoinRuns.{JoinFiles, LayersGive, reported, IsJoinFault}
-use Rattle.join_core.specs.Joinings.{Joining, ArePairs}
+use Rattle.run_core.specs.Inputs.{BlamesInput}
+use Rattle.run_core.specs.EditedLayers.{JoinFiles, LayersGive, IsJoinFault}
+use Rattle.run_core.specs.ReportRuns.{reported}
+use Rattle.join_core.specs.Joinings.{Joining}
+use Rattle.run_core.specs.ReportRuns.{ArePairs}
 use Rattle.join_core.specs.Products.{ProductGives, IsFew, IsMadeOf, IsProduct, IsProductFault, IsLateProductFault}
-use Rattle.join_core.specs.Texts.{bytes_of_text}
+use Rattle.run_core.specs.Texts.{bytes_of_text}
 use Rattle.join_core.proofs.DrawRunLemmas.{no_picture, picture_blamed, late_draw_faults, is_draw_fault}
-use Rattle.join_core.proofs.JoinRunLemmas.{no_report, last_fault, last_faults, is_join_fault}
+use Rattle.run_core.proofs.ReportRunLemmas.{no_report, last_fault}
+use Rattle.run_core.proofs.EditedLayersLemmas.{last_faults, is_join_fault}
 
 -- without layers there is no product
 pub no_product : {G T : Type 0} (product : Product) (joining : Joining G) (files : JoinFiles G) (out : Result T RunFault) (e : RunFault)

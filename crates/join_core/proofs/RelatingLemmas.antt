@@ -4,10 +4,10 @@ use Rattle.geom_core.specs.declared.shape.Shape.{Shape}
 use Rattle.wkt_core.specs.declared.fault.WktFault.{WktFault}
 use Rattle.number_core.specs.declared.scale.Scale.{Scale}
 use Rattle.wkt_core.specs.Readings.{Reads}
-use Rattle.join_core.specs.declared.fault.Input.{Input}
-use Rattle.join_core.specs.declared.fault.Input.TheVariants.{First, Second}
-use Rattle.join_core.specs.declared.fault.RunFault.{RunFault}
-use Rattle.join_core.specs.declared.fault.RunFault.TheVariants.{Wkt}
+use Rattle.run_core.specs.declared.fault.Input.{Input}
+use Rattle.run_core.specs.declared.fault.Input.TheVariants.{First, Second}
+use Rattle.run_core.specs.declared.fault.RunFault.{RunFault}
+use Rattle.run_core.specs.declared.fault.RunFault.TheVariants.{Wkt}
 use Rattle.join_core.specs.Relating.{HasFirstFault}
 
 -- the text has no other result

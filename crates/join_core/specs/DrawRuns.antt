@@ -3,10 +3,11 @@ use Rattle.std.specs.Prelude.{◌+◌, ◌≤◌, ◌<◌, ⊤, ℕ, List, Resul
 use Rattle.layer_core.specs.Edits.{Layers}
 use Rattle.draw_core.specs.Limits.{most_drawn}
 use Rattle.draw_core.specs.Pictures.{picture_of}
-use Rattle.join_core.specs.declared.fault.RunFault.{RunFault}
-use Rattle.join_core.specs.declared.fault.RunFault.TheVariants.{TooManyToDraw}
-use Rattle.join_core.specs.JoinRuns.{JoinFiles, LayersGive, IsLateFault, IsJoinFault}
-use Rattle.join_core.specs.Joinings.{Joining, ArePairs}
+use Rattle.run_core.specs.declared.fault.RunFault.{RunFault}
+use Rattle.run_core.specs.declared.fault.RunFault.TheVariants.{TooManyToDraw}
+use Rattle.run_core.specs.EditedLayers.{JoinFiles, LayersGive, IsLateFault, IsJoinFault}
+use Rattle.join_core.specs.Joinings.{Joining}
+use Rattle.run_core.specs.ReportRuns.{ArePairs}
 
 -- the number of features of two layers
 abbrev pub features_of : {G : Type 0} → Layers G → ℕ

@@ -1,15 +1,12 @@
 -- What a join asks of two geometries, and how it shows them.
-use Rattle.std.specs.Prelude.{ℕ, List}
 use Rattle.geom_core.specs.declared.shape.Shape.{Shape}
 use Rattle.relation_core.specs.declared.join_relation.JoinRelation.{JoinRelation}
 use Rattle.relation_core.specs.declared.matrix.Matrix.{Matrix}
 use Rattle.relation_core.specs.JoinRelations.{relation_of}
 use Rattle.relation_core.specs.Matrices.{IsMatrix}
 use Rattle.relation_core.specs.Relations.{Holds}
-use Rattle.layer_core.specs.Edits.{Layers}
 use Rattle.draw_core.specs.Drawings.{Drawing}
 use Rattle.draw_core.specs.Outlines.{box_drawing}
-use Rattle.filter_core.specs.Joins.{IsJoinList, StandIn}
 
 -- which two geometries are a pair, which matrix is theirs, and how each is drawn
 pub record Joining (G : Type 0) : Type 1 where
@@ -21,10 +18,6 @@ abbrev pub joining_by : {G : Type 0} → (G → G → Type 0) → (G → G → M
     → Joining G
 joining_by stands is_matrix drawing =
     record { stands = stands; is_matrix = is_matrix; drawing = drawing }
-
--- exactly the pairs of two layers, in order
-abbrev pub ArePairs : {G : Type 0} → (G → G → Type 0) → Layers G → List (ℕ × ℕ) → Type 0
-ArePairs stands layers pairs = IsJoinList (StandIn stands layers.left layers.right) pairs
 
 -- boxes that stand in a relation, with the matrix by cells
 abbrev pub box_joining : JoinRelation → Joining Shape

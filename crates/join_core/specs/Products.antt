@@ -6,12 +6,14 @@ use Rattle.draw_core.specs.Limits.{most_drawn}
 use Rattle.draw_core.specs.Drawings.{Drawing}
 use Rattle.draw_core.specs.Pictures.{picture_of}
 use Rattle.report_core.specs.Reports.{IsReport}
-use Rattle.join_core.specs.declared.fault.RunFault.{RunFault}
+use Rattle.run_core.specs.declared.fault.RunFault.{RunFault}
 use Rattle.options_core.specs.declared.product.Product.{Product}
 use Rattle.options_core.specs.declared.product.Product.TheVariants.{Report, Picture}
 use Rattle.join_core.specs.DrawRuns.{DrawGives, IsDrawFault, IsLateDrawFault, features_of}
-use Rattle.join_core.specs.JoinRuns.{JoinFiles, JoinGives, IsJoinFault, IsLateFault}
-use Rattle.join_core.specs.Joinings.{Joining, ArePairs}
+use Rattle.run_core.specs.EditedLayers.{JoinFiles, IsJoinFault, IsLateFault}
+use Rattle.join_core.specs.JoinRuns.{JoinGives}
+use Rattle.join_core.specs.Joinings.{Joining}
+use Rattle.run_core.specs.ReportRuns.{ArePairs}
 
 -- the result of a job with this product
 abbrev pub ProductGives : {G : Type 0} → Product → Joining G → JoinFiles G

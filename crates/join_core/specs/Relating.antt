@@ -6,10 +6,10 @@ use Rattle.relation_core.specs.Matrices.{IsMatrix, letters_of}
 use Rattle.wkt_core.specs.declared.fault.WktFault.{WktFault}
 use Rattle.number_core.specs.declared.scale.Scale.{Scale}
 use Rattle.wkt_core.specs.Readings.{Reads}
-use Rattle.join_core.specs.declared.fault.Input.{Input}
-use Rattle.join_core.specs.declared.fault.Input.TheVariants.{First, Second}
-use Rattle.join_core.specs.declared.fault.RunFault.{RunFault}
-use Rattle.join_core.specs.declared.fault.RunFault.TheVariants.{Wkt}
+use Rattle.run_core.specs.declared.fault.Input.{Input}
+use Rattle.run_core.specs.declared.fault.Input.TheVariants.{First, Second}
+use Rattle.run_core.specs.declared.fault.RunFault.{RunFault}
+use Rattle.run_core.specs.declared.fault.RunFault.TheVariants.{Wkt}
 
 -- the letters of the matrix of the shapes that the two texts spell, and a line feed
 pub record IsMatrixLine (scale : Scale) (a b line : List ℕ) : Type 0 where

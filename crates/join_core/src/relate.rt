@@ -3,13 +3,13 @@
 ghost use Rattle.std.specs.Prelude.{◌≡◌, ◌↔◌, ◌++◌, ◌∷◌, [], Err, false, IfOk, IfErr};
 ghost use Rattle.relation_core.specs.Matrices.{letters_of};
 ghost use Rattle.wkt_core.specs.declared.fault.WktFault.{WktFault};
-ghost use Rattle.join_core.specs.declared.fault.Input.{Input};
+ghost use Rattle.run_core.specs.declared.fault.Input.{Input};
 ghost use Rattle.join_core.specs.Relating.{RelateGives, HasFirstFault, IsMatrixLine, IsTextFault};
-ghost use Rattle.join_core.specs.Runs.{RunEnds};
+ghost use Rattle.run_core.specs.Runs.{RunEnds};
 
-use crate::fault::{Input, RunFault};
 use relation_core::{Matrix, relate};
 use report_core::{Sink, write_text};
+use run_core::{Input, RunFault};
 use wkt_core::Scale;
 
 /// Letters of a matrix and a line feed.

@@ -1,9 +1,11 @@
 //! The lines of faults.
 
 use deliver_core::Refusal;
-use join_core::{Input, JoinFault, RunFault, ToWrite, WriteFailed, fault_line};
 use layer_core::LayerFault;
+use parallel_core::JoinFault;
+use report_core::{ToWrite, WriteFailed};
 use row_core::ReadFault;
+use run_core::{Input, RunFault, fault_line};
 use std::alloc::Global;
 use std::test::Fail;
 use wkt_any_core::GeometryFault;

@@ -2,8 +2,10 @@
 //! loop.
 
 use crate::layers::{edited, seen};
-use join_core::{OpenGate, Options, join};
+use filter_core::join;
 use layer_core::{FeatureRef, Layer};
+use options_core::Options;
+use parallel_core::OpenGate;
 use relation_core::{JoinRelation, Relation};
 use std::alloc::{AllocError, Global};
 use std::random::RandomSource;

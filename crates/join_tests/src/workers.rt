@@ -1,9 +1,11 @@
 //! The deliveries of a join's workers, checked by the marks of its outcome and by a gate.
 
 use crate::layers::{points, seen};
-use deliver_core::Mark;
-use join_core::{Gate, JoinFault, OpenGate, Options, Outcome, join};
+use deliver_core::{Mark, Outcome};
+use filter_core::join;
 use layer_core::Layer;
+use options_core::Options;
+use parallel_core::{Gate, JoinFault, OpenGate};
 use relation_core::{JoinRelation, Relation};
 use std::random::RandomSource;
 use std::sync::Wait;

@@ -9,10 +9,11 @@ use Rattle.filter_core.proofs.NumberLemmas.{held_by_number}
 use Rattle.refine_core.specs.declared.refined.Refined.{Refined}
 use Rattle.refine_core.specs.Refinements.{pairs_of}
 use Rattle.report_core.specs.Reports.{IsReportBy}
-use Rattle.join_core.specs.declared.fault.RunFault.{RunFault}
-use Rattle.join_core.specs.declared.text.Text.{Text}
-use Rattle.join_core.specs.JoinRuns.{JoinFiles, LayersGive, reported}
-use Rattle.join_core.specs.Texts.{bytes_of_text}
+use Rattle.run_core.specs.declared.fault.RunFault.{RunFault}
+use Rattle.run_core.specs.declared.text.Text.{Text}
+use Rattle.run_core.specs.EditedLayers.{JoinFiles, LayersGive}
+use Rattle.run_core.specs.ReportRuns.{reported}
+use Rattle.run_core.specs.Texts.{bytes_of_text}
 use Rattle.distance_core.specs.declared.query.Query.{Query}
 use Rattle.edge_distance_core.specs.declared.fraction.SquaredFraction.{SquaredFraction}
 use Rattle.any_geometry_core.specs.declared.geometry.AnyGeometry.{AnyGeometry}

@@ -10,12 +10,12 @@ use Rattle.report_core.specs.LastFields.{AddsField}
 use Rattle.report_core.specs.Reports.{IsReportBy}
 use Rattle.number_core.specs.declared.scale.Scale.{Scale}
 use Rattle.number_core.specs.CanonicalNumbers.{number}
-use Rattle.join_core.specs.declared.fault.RunFault.{RunFault}
-use Rattle.join_core.specs.declared.joins.output.JoinText.{JoinText}
-use Rattle.join_core.specs.declared.text.Text.{Text}
-use Rattle.join_core.specs.JoinRuns.{JoinFiles, LayersGive, reported}
-use Rattle.join_core.specs.Joinings.{ArePairs}
-use Rattle.join_core.specs.Texts.{bytes_of_text}
+use Rattle.run_core.specs.declared.fault.RunFault.{RunFault}
+use Rattle.run_core.specs.declared.loaded.JoinText.{JoinText}
+use Rattle.run_core.specs.declared.text.Text.{Text}
+use Rattle.run_core.specs.EditedLayers.{JoinFiles, LayersGive}
+use Rattle.run_core.specs.ReportRuns.{reported, ArePairs}
+use Rattle.run_core.specs.Texts.{bytes_of_text}
 use Rattle.edge_distance_core.specs.declared.fraction.SquaredFraction.{SquaredFraction}
 use Rattle.edge_distance_core.specs.Fractions.{numerator_of}
 use Rattle.edge_distance_core.specs.FractionRoots.{IsRoundedFractionRoot}

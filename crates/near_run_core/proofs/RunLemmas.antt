@@ -7,10 +7,11 @@ use Rattle.layer_core.specs.Edits.{Layers}
 use Rattle.refine_core.specs.declared.refined.Refined.{Refined}
 use Rattle.refine_core.specs.Refinements.{pairs_of}
 use Rattle.report_core.specs.Reports.{IsReportBy}
-use Rattle.join_core.specs.declared.fault.RunFault.{RunFault}
-use Rattle.join_core.specs.declared.text.Text.{Text}
-use Rattle.join_core.specs.JoinRuns.{JoinFiles, LayersGive, ListReportGives, reported}
-use Rattle.join_core.specs.Texts.{bytes_of_text}
+use Rattle.run_core.specs.declared.fault.RunFault.{RunFault}
+use Rattle.run_core.specs.declared.text.Text.{Text}
+use Rattle.run_core.specs.EditedLayers.{JoinFiles, LayersGive}
+use Rattle.run_core.specs.ReportRuns.{ListReportGives, reported}
+use Rattle.run_core.specs.Texts.{bytes_of_text}
 use Rattle.near_run_core.specs.DistanceReports.{IsDistanceReport}
 use Rattle.near_run_core.specs.DistanceTexts.{IsDistanceText}
 

@@ -3,10 +3,10 @@ use Rattle.std.specs.Prelude.{ℕ, List, Result, codes}
 use Rattle.layer_core.specs.Edits.{Layers}
 use Rattle.plane_core.specs.declared.rings.Rings.{Rings}
 use Rattle.report_core.specs.Reports.{IsReportBy}
-use Rattle.join_core.specs.declared.fault.RunFault.{RunFault}
-use Rattle.join_core.specs.ImproperRings.{AreRingsImproper}
-use Rattle.join_core.specs.JoinRuns.{JoinFiles, ReportGives}
-use Rattle.join_core.specs.Joinings.{ArePairs}
+use Rattle.run_core.specs.declared.fault.RunFault.{RunFault}
+use Rattle.run_core.specs.ImproperRings.{AreRingsImproper}
+use Rattle.run_core.specs.EditedLayers.{JoinFiles}
+use Rattle.run_core.specs.ReportRuns.{ReportGives, ArePairs}
 use Rattle.any_near_core.specs.declared.grown.GrownGeometry.{GrownGeometry}
 use Rattle.any_near_core.specs.Near.{AreWanted}
 use Rattle.near_run_core.specs.declared.job.NearJob.{NearJob}

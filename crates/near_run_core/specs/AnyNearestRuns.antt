@@ -9,8 +9,9 @@ use Rattle.edge_distance_core.specs.declared.fraction.SquaredFraction.{SquaredFr
 use Rattle.any_geometry_core.specs.declared.geometry.AnyGeometry.{AnyGeometry}
 use Rattle.any_geometry_core.specs.AnyGeometries.{figure_of}
 use Rattle.any_nearest_core.specs.Matches.{AreMatches}
-use Rattle.join_core.specs.declared.fault.RunFault.{RunFault}
-use Rattle.join_core.specs.JoinRuns.{JoinFiles, ListReportGives}
+use Rattle.run_core.specs.declared.fault.RunFault.{RunFault}
+use Rattle.run_core.specs.EditedLayers.{JoinFiles}
+use Rattle.run_core.specs.ReportRuns.{ListReportGives}
 use Rattle.near_run_core.specs.declared.job.NearestJob.{NearestJob}
 use Rattle.near_run_core.specs.AnyDistanceTexts.{IsDistanceTextBy}
 

@@ -1,9 +1,9 @@
 -- The results of a join by distance of three files.
 use Rattle.std.specs.Prelude.{ℕ, List, Result, codes}
 use Rattle.layer_core.specs.Edits.{Layers}
-use Rattle.join_core.specs.declared.fault.RunFault.{RunFault}
-use Rattle.join_core.specs.JoinRuns.{JoinFiles, ReportGives}
-use Rattle.join_core.specs.Joinings.{ArePairs}
+use Rattle.run_core.specs.declared.fault.RunFault.{RunFault}
+use Rattle.run_core.specs.EditedLayers.{JoinFiles}
+use Rattle.run_core.specs.ReportRuns.{ReportGives, ArePairs}
 use Rattle.near_core.specs.declared.grown.GrownShape.{GrownShape}
 use Rattle.near_core.specs.Near.{AreWanted}
 use Rattle.near_run_core.specs.declared.job.NearJob.{NearJob}

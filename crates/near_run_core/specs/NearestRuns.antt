@@ -6,8 +6,9 @@ use Rattle.refine_core.specs.declared.refined.Refined.{Refined}
 use Rattle.refine_core.specs.Refinements.{pairs_of}
 use Rattle.nearest_core.specs.Matches.{AreMatches}
 use Rattle.distance_core.specs.declared.query.Query.{Query}
-use Rattle.join_core.specs.declared.fault.RunFault.{RunFault}
-use Rattle.join_core.specs.JoinRuns.{JoinFiles, ListReportGives}
+use Rattle.run_core.specs.declared.fault.RunFault.{RunFault}
+use Rattle.run_core.specs.EditedLayers.{JoinFiles}
+use Rattle.run_core.specs.ReportRuns.{ListReportGives}
 use Rattle.near_run_core.specs.declared.job.NearestJob.{NearestJob}
 use Rattle.near_run_core.specs.DistanceReports.{IsDistanceReport}
 use Rattle.near_run_core.specs.DistanceTexts.{IsDistanceText}

@@ -3,14 +3,14 @@
 ghost use Rattle.std.specs.Prelude.{◌≡◌, Ok, Err, false, IfOk, IfErr, OnOk};
 ghost use Rattle.layer_core.specs.Edits.{both};
 ghost use Rattle.format_core.specs.Formats.{ReadsAny};
-ghost use Rattle.join_core.specs.ImproperRings.{AreRingsImproper};
-ghost use Rattle.join_core.specs.Inputs.{BlamesInput};
-ghost use Rattle.join_core.specs.JoinRuns.{files_by, files_of, IsJoinFault, IsLateFault};
-ghost use Rattle.join_core.specs.JoinRuns.{AreRowsSkipped, skipped_lists};
-ghost use Rattle.join_core.specs.Marks.{AreRowsMarked, marked_lists};
-ghost use Rattle.join_core.specs.Runs.{NoTextFault, RunEnds};
-ghost use Rattle.join_core.specs.SourceStates.{AreFresh, HasFailed, TellsFailures};
-ghost use Rattle.join_core.specs.Texts.{bytes_of_text};
+ghost use Rattle.run_core.specs.ImproperRings.{AreRingsImproper};
+ghost use Rattle.run_core.specs.Inputs.{BlamesInput};
+ghost use Rattle.run_core.specs.EditedLayers.{files_by, files_of, IsJoinFault, IsLateFault};
+ghost use Rattle.run_core.specs.EditedLayers.{AreRowsSkipped, skipped_lists};
+ghost use Rattle.run_core.specs.Marks.{AreRowsMarked, marked_lists};
+ghost use Rattle.run_core.specs.Runs.{NoTextFault, RunEnds};
+ghost use Rattle.run_core.specs.SourceStates.{AreFresh, HasFailed, TellsFailures};
+ghost use Rattle.run_core.specs.Texts.{bytes_of_text};
 ghost use Rattle.near_run_core.specs.AnyNearestRuns.{IsAnyNearestReport, AnyNearestGives};
 
 use crate::any_distance_field::AnyDistanceField;
@@ -19,13 +19,13 @@ use any_near_core::AnyGeometry;
 use any_nearest_core::nearest_any_layers;
 use file_core::{LayerReader, Unreadable};
 use format_core::AnyFormat;
-use join_core::{
-    ImproperRings, JoinSources, JoinText, LoadedLayers, MarkedRows, RunFault, Sink, Text,
-    free_layers, load_marked, with_skipped,
-};
 use layer_core::Layer;
-use report_core::{ReportForm, report_by};
+use report_core::{ReportForm, Sink, report_by};
 use row_core::Source;
+use run_core::{
+    ImproperRings, JoinSources, JoinText, LoadedLayers, MarkedRows, RunFault, Text, free_layers,
+    load_marked, with_skipped,
+};
 use std::hash::RandomState;
 use std::sync::Wait;
 use std::thread::Threads;
@@ -37,11 +37,12 @@ use std::thread::Threads;
 /// distance is that of the two geometries, rounded to the nearest unit of the scale, and half a
 /// unit up.
 ///
-/// `states` hash the ids of the two layers. The files are read as for a join by a relation
-/// ([`JoinJob::run`](join_core::JoinJob::run)).
+/// `states` hash the ids of the two layers, which are read and edited as by
+/// [`load_edited`](run_core::load_edited).
 ///
 /// # Errors
-/// Those of a report's join by a relation.
+/// The first fault of the files and the edits, as there; then nothing is written. After these, lack
+/// of memory or of threads, or a fault of the output.
 pub fn run_any_nearest<R, A, B, E, S>(
     rt: &R,
     job: &AnyNearestJob,

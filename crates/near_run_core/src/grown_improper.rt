@@ -1,12 +1,12 @@
 //! Geometries of a join by distance that have improper rings.
 
 use any_near_core::GrownGeometry;
-use join_core::{Marks, is_improper, may_be_improper};
 use plane_core::Rings;
+use run_core::{Marks, is_improper, may_be_improper};
 use std::alloc::{AllocError, Global};
 
 /// The property of a geometry that has improper rings
-/// ([`ImproperRings`](join_core::ImproperRings)).
+/// ([`ImproperRings`](run_core::ImproperRings)).
 #[derive(Clone, Copy, Debug, PartialEq, Eq)]
 pub(crate) struct GrownImproper {
     /// The rule by which geometries were read.

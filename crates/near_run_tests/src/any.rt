@@ -1,10 +1,10 @@
 //! Reports of layers of any geometry, and their faults.
 
 use crate::running::{Files, Question, run_of_any, within};
-use join_core::{Input, RunFault};
 use near_core::Nearness;
 use plane_core::Rings;
 use row_core::ReadFault;
+use run_core::{Input, RunFault};
 use std::random::RandomSource;
 use std::sync::Wait;
 use std::test::Fail;

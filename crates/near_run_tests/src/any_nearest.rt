@@ -2,9 +2,9 @@
 
 use crate::nearest_running::{Sought, most, search_any};
 use crate::running::Files;
-use join_core::{Input, RunFault};
 use plane_core::Rings;
 use row_core::ReadFault;
+use run_core::{Input, RunFault};
 use std::random::RandomSource;
 use std::sync::Wait;
 use std::test::Fail;

@@ -1,9 +1,9 @@
 //! The faults of files, after which nothing is written.
 
 use crate::running::{Files, ends, within};
-use join_core::{Input, RunFault};
 use layer_core::LayerFault;
 use row_core::ReadFault;
+use run_core::{Input, RunFault};
 use std::test::Fail;
 use wkt_core::WktFault;
 

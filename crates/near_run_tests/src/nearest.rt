@@ -2,8 +2,8 @@
 
 use crate::nearest_running::{Sought, finds, most};
 use crate::running::Files;
-use join_core::{Input, RunFault};
 use row_core::ReadFault;
+use run_core::{Input, RunFault};
 use std::test::Fail;
 use wkt_core::WktFault;
 

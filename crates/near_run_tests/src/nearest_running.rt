@@ -1,11 +1,12 @@
 //! Searches for the nearest features over files in memory.
 
 use crate::running::{Ended, Files, ROOM, opened};
-use join_core::{RunFault, ToWrite};
 use near_run_core::{AnyNearestJob, NearestJob, run_any_nearest, run_nearest};
 use nearest_core::{Distance, Query};
 use options_core::Options;
 use plane_core::Rings;
+use report_core::ToWrite;
+use run_core::RunFault;
 use std::hash::RandomState;
 use std::random::RandomSource;
 use std::sync::Wait;

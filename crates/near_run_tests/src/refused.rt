@@ -2,10 +2,11 @@
 
 use crate::nearest_running::{most, search, search_any};
 use crate::running::{Ended, Files, run, run_of_any, within};
-use join_core::{JoinFault, RunFault};
 use layer_core::LayerFault;
+use parallel_core::JoinFault;
 use plane_core::Rings;
 use row_core::ReadFault;
+use run_core::RunFault;
 use std::random::RandomSource;
 use std::sync::Wait;
 use std::test::Fail;

@@ -1,13 +1,14 @@
 //! Runs of joins by distance over files in memory.
 
-ghost use Rattle.join_core.specs.SourceStates.{AreFresh};
+ghost use Rattle.run_core.specs.SourceStates.{AreFresh};
 
-use join_core::{JoinSources, RunFault, ToWrite};
 use near_core::{Distance, Nearness};
 use near_run_core::{AnyNearJob, NearJob, run_any_near, run_near};
 use options_core::Options;
 use plane_core::Rings;
+use report_core::ToWrite;
 use row_core::{FromRead, Source};
+use run_core::{JoinSources, RunFault};
 use std::hash::RandomState;
 use std::random::RandomSource;
 use std::sync::Wait;

@@ -6,7 +6,7 @@ mod storing;
 
 use crate::host::HostFiles;
 use command_core::run_program;
-use join_core::ToWrite;
+use report_core::ToWrite;
 use std::process::ExitCode;
 
 fn main(rt: HostRuntime) -> ExitCode {

@@ -3,9 +3,10 @@
 use crate::device::{has_front, make_device};
 use crate::example::{EDITED, REPORT, RIGHT};
 use crate::running::{Files, at_once, edited_example, ends, example, make_job, run};
-use join_core::{Input, Options, Product, RunFault};
+use options_core::{Options, Product};
 use relation_core::Relation;
 use row_core::ReadFault;
+use run_core::{Input, RunFault};
 use std::random::RandomSource;
 use std::sync::Wait;
 use std::thread::Threads;

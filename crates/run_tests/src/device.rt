@@ -3,7 +3,8 @@
 ghost use Rattle.std.specs.Prelude.{◌≡◌, false};
 ghost use Rattle.report_core.specs.ToWrite.{failed_of};
 
-use join_core::{RunFault, ToWrite};
+use report_core::ToWrite;
+use run_core::RunFault;
 use std::alloc::Global;
 use std::io;
 use std::io::{ErrorKind, Write};

@@ -2,10 +2,13 @@
 
 use crate::example::{LEFT, RIGHT};
 use crate::running::{Ended, Files, at_once, edited_example, make_job, run};
-use join_core::{Input, MAX_DRAWN, Options, Product, RunFault, ToWrite};
+use draw_core::MAX_DRAWN;
 use layer_core::LayerFault;
+use options_core::{Options, Product};
 use relation_core::Relation;
+use report_core::ToWrite;
 use row_core::ReadFault;
+use run_core::{Input, RunFault};
 use std::random::RandomSource;
 use std::sync::Wait;
 use std::test::Fail;

@@ -2,10 +2,11 @@
 
 use crate::example::{EDITED, LEFT, REPORT, RIGHT};
 use crate::running::{Files, at_once, edited_example, ends, example, join};
-use join_core::{Input, Options, RunFault};
 use layer_core::LayerFault;
+use options_core::Options;
 use relation_core::Relation;
 use row_core::ReadFault;
+use run_core::{Input, RunFault};
 use std::random::RandomSource;
 use std::sync::Wait;
 use std::thread::Threads;

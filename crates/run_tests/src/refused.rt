@@ -2,10 +2,12 @@
 
 use crate::example::EDITED;
 use crate::running::{edited_example, join};
-use join_core::{JoinFault, Options, RunFault};
 use layer_core::LayerFault;
+use options_core::Options;
+use parallel_core::JoinFault;
 use relation_core::Relation;
 use row_core::ReadFault;
+use run_core::RunFault;
 use std::random::RandomSource;
 use std::sync::Wait;
 use std::thread::Threads;

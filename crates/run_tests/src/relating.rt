@@ -5,7 +5,9 @@ ghost use Rattle.report_core.specs.ToWrite.{failed_of};
 
 use crate::device::{has_front, make_device};
 use crate::running::Ended;
-use join_core::{Input, RunFault, Sink, ToWrite, WriteFailed, fault_line, run_relate};
+use join_core::run_relate;
+use report_core::{Sink, ToWrite, WriteFailed};
+use run_core::{Input, RunFault, fault_line};
 use std::io;
 use std::io::{ErrorKind, Write};
 use wkt_core::{Scale, WktFault};

@@ -4,9 +4,12 @@ ghost use Rattle.std.specs.Prelude.{◌≡◌, false};
 ghost use Rattle.report_core.specs.ToWrite.{failed_of};
 
 use crate::example::{EDITS, LEFT, RIGHT};
-use join_core::{BoxCondition, JoinJob, JoinSources, Options, Product, RunFault, ToWrite};
+use join_core::{BoxCondition, JoinJob, run_join};
+use options_core::{Options, Product};
 use relation_core::{JoinRelation, Relation};
+use report_core::ToWrite;
 use row_core::FromRead;
+use run_core::{JoinSources, RunFault};
 use std::hash::RandomState;
 use std::io;
 use std::io::{ErrorKind, Read, Write};
@@ -69,6 +72,20 @@ pub struct Files<'a> {
     pub edits: Option<Reading<'a>>,
 }
 
+/// A text of these as a source.
+type ReadingSource<'a> = FromRead<Reading<'a>>;
+
+impl<'a> Files<'a> {
+    /// The files as sources.
+    fn sources(&self) -> JoinSources<ReadingSource<'a>, ReadingSource<'a>, ReadingSource<'a>> {
+        JoinSources {
+            left: FromRead::new(self.left),
+            right: FromRead::new(self.right),
+            edits: self.edits.map(|edits| FromRead::new(edits)),
+        }
+    }
+}
+
 /// The files of the example.
 pub fn example() -> Files<'static> {
     Files {
@@ -114,11 +131,7 @@ pub fn run<R: Threads + Wait + Sync + RandomSource + AllocGlobal, W: Write>(
     requires { failed_of sink.old ≡ false }
 {
     let states = (RandomState::new(rt).ok()?, RandomState::new(rt).ok()?);
-    let mut sources = JoinSources {
-        left: FromRead::new(files.left),
-        right: FromRead::new(files.right),
-        edits: files.edits.map(|edits| FromRead::new(edits)),
-    };
+    let mut sources = files.sources();
     Some(job.run(rt, states, &mut sources, sink))
 }
 
@@ -151,9 +164,20 @@ pub fn join<R: Threads + Wait + Sync + RandomSource + AllocGlobal>(
     relation: Relation,
     options: &Options,
 ) -> Option<Ended> {
-    let job = make_job(relation, *options, Product::Report)?;
+    let scale = Scale::new(0)?;
+    let relation = JoinRelation::new(relation).ok()?;
+    let states = (RandomState::new(rt).ok()?, RandomState::new(rt).ok()?);
     let mut sink = ToWrite::new(Vec::with_capacity(rt.alloc(), ROOM).ok()?);
-    let outcome = run(rt, files, &job, &mut sink)?;
+    let mut sources = files.sources();
+    let outcome = run_join(
+        rt,
+        states,
+        scale,
+        &mut sources,
+        &relation,
+        options,
+        &mut sink,
+    );
     Some(Ended::new(outcome, sink.into_inner()))
 }
 

@@ -2,8 +2,10 @@
 
 use crate::example::{LEFT, RIGHT};
 use crate::running::{Files, at_once, join};
-use join_core::{Options, ToWrite, fault_line};
+use options_core::Options;
 use relation_core::Relation;
+use report_core::ToWrite;
+use run_core::fault_line;
 use std::alloc::AllocError;
 use std::random::RandomSource;
 use std::sync::Wait;

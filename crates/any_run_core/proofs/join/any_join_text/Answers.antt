@@ -1,12 +1,13 @@
 use Rattle.std.proofs.Common.{List, ℕ, Ok, Err, IfOk, IfErr, OnOk, subst}
 use Rattle.format_core.specs.Formats.{ReadsAny}
-use Rattle.join_core.specs.ImproperRings.{AreRingsImproper}
-use Rattle.join_core.specs.Inputs.{BlamesInput}
-use Rattle.join_core.specs.Marks.{AreRowsMarked, marked_lists}
-use Rattle.join_core.specs.JoinRuns.{AreRowsSkipped, files_by, skipped_lists}
+use Rattle.run_core.specs.ImproperRings.{AreRingsImproper}
+use Rattle.run_core.specs.Inputs.{BlamesInput}
+use Rattle.run_core.specs.Marks.{AreRowsMarked, marked_lists}
+use Rattle.run_core.specs.EditedLayers.{AreRowsSkipped, files_by, skipped_lists}
 use Rattle.join_core.specs.Products.{ProductGives, IsProductFault, IsLateProductFault}
-use Rattle.join_core.specs.Texts.{bytes_of_text}
-use Rattle.join_core.proofs.JoinRunLemmas.{io_handed_on, io_before, made_err, made_io, made_ok}
+use Rattle.run_core.specs.Texts.{bytes_of_text}
+use Rattle.run_core.proofs.SourceLemmas.{io_handed_on, io_before}
+use Rattle.run_core.proofs.ReportRunLemmas.{made_err, made_io, made_ok}
 use Rattle.join_core.proofs.ProductLemmas.{no_product, is_product_fault, product_given, product_blamed, late_faults, late_reads_none}
 use Rattle.any_run_core.specs.AnyJoinings.{any_joining}
 use Rattle.any_run_core.proofs.AnyJoinLemmas.{holds_on_ok, rows_handed}

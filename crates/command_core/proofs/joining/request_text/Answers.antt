@@ -2,13 +2,13 @@ use Rattle.std.proofs.Common.{Ok, Err, IfOk, IfErr, OnOk, subst}
 use Rattle.file_core.specs.declared.skipped.Unreadable.{Unreadable}
 use Rattle.any_relation_core.specs.AnyRelations.{rings_of}
 use Rattle.format_core.specs.Formats.{ReadsAny, ReadsBox}
-use Rattle.join_core.specs.ImproperRings.{AreRingsImproper}
-use Rattle.join_core.specs.Marks.{AreRowsMarked, marked_lists}
-use Rattle.join_core.specs.Inputs.{BlamesInput}
+use Rattle.run_core.specs.ImproperRings.{AreRingsImproper}
+use Rattle.run_core.specs.Marks.{AreRowsMarked, marked_lists}
+use Rattle.run_core.specs.Inputs.{BlamesInput}
 use Rattle.join_core.specs.Joinings.{box_joining}
-use Rattle.join_core.specs.JoinRuns.{AreRowsSkipped, files_by, skipped_lists}
+use Rattle.run_core.specs.EditedLayers.{AreRowsSkipped, files_by, skipped_lists}
 use Rattle.join_core.specs.Products.{ProductGives, IsProductFault}
-use Rattle.join_core.specs.Texts.{bytes_of_text}
+use Rattle.run_core.specs.Texts.{bytes_of_text}
 use Rattle.any_run_core.specs.AnyJoinings.{any_joining}
 use Rattle.command_core.proofs.SkipLemmas.{on_ok}
 use Rattle.command_core.proofs.joining.request_text.Goals as goal

@@ -2,10 +2,10 @@ use Rattle.std.proofs.Common.{Ok, Err, IfOk, IfErr, OnOk, subst}
 use Rattle.file_core.specs.declared.skipped.Unreadable.{Unreadable}
 use Rattle.near_format_core.specs.NearFormats.{ReadsGrown}
 use Rattle.near_format_core.specs.AnyNearFormats.{ReadsGrownAny}
-use Rattle.join_core.specs.Marks.{AreRowsMarked, marked_lists}
-use Rattle.join_core.specs.Inputs.{BlamesInput}
-use Rattle.join_core.specs.JoinRuns.{AreRowsSkipped, files_by, IsJoinFault, skipped_lists}
-use Rattle.join_core.specs.Texts.{bytes_of_text}
+use Rattle.run_core.specs.Marks.{AreRowsMarked, marked_lists}
+use Rattle.run_core.specs.Inputs.{BlamesInput}
+use Rattle.run_core.specs.EditedLayers.{AreRowsSkipped, files_by, IsJoinFault, skipped_lists}
+use Rattle.run_core.specs.Texts.{bytes_of_text}
 use Rattle.near_run_core.specs.NearRuns.{NearGives}
 use Rattle.near_run_core.specs.AnyNearRuns.{AnyNearGives, IsGrownImproper}
 use Rattle.command_core.specs.NearResults.{job_of}

@@ -1,5 +1,5 @@
-use Rattle.join_core.specs.JoinRuns.{skipped_lists}
-use Rattle.join_core.specs.Marks.{marked_lists}
+use Rattle.run_core.specs.EditedLayers.{skipped_lists}
+use Rattle.run_core.specs.Marks.{marked_lists}
 use Rattle.command_core.specs.ImproperRows.{NearestKindRows}
 use Rattle.words_core.specs.declared.words.Command.TheVariants.{Nearest}
 use Rattle.command_core.specs.NearestResults.{IsNearestKindFault, nearest_job_of}

@@ -1,11 +1,11 @@
 use Rattle.std.proofs.Common.{Ok, Err, IfOk, IfErr, OnOk, subst}
 use Rattle.file_core.specs.declared.skipped.Unreadable.{Unreadable}
 use Rattle.format_core.specs.Formats.{ReadsAny, ReadsBox}
-use Rattle.join_core.specs.ImproperRings.{AreRingsImproper}
-use Rattle.join_core.specs.Marks.{AreRowsMarked, marked_lists}
-use Rattle.join_core.specs.Inputs.{BlamesInput}
-use Rattle.join_core.specs.JoinRuns.{AreRowsSkipped, files_by, IsJoinFault, skipped_lists}
-use Rattle.join_core.specs.Texts.{bytes_of_text}
+use Rattle.run_core.specs.ImproperRings.{AreRingsImproper}
+use Rattle.run_core.specs.Marks.{AreRowsMarked, marked_lists}
+use Rattle.run_core.specs.Inputs.{BlamesInput}
+use Rattle.run_core.specs.EditedLayers.{AreRowsSkipped, files_by, IsJoinFault, skipped_lists}
+use Rattle.run_core.specs.Texts.{bytes_of_text}
 use Rattle.near_run_core.specs.NearestRuns.{NearestGives}
 use Rattle.near_run_core.specs.AnyNearestRuns.{AnyNearestGives}
 use Rattle.command_core.specs.NearestResults.{nearest_job_of}

@@ -1,5 +1,5 @@
 use Rattle.std.proofs.Common.{◌≡◌, ◌++◌, ◌∷◌, [], ap, codes, rules, ◌∙◌}
-use Rattle.join_core.specs.Lines.{line_of}
+use Rattle.run_core.specs.Lines.{line_of}
 use Rattle.command_core.specs.WordFaults.{word_fault_line}
 use Rattle.command_core.proofs.WordLemmas.{one_piece, two_pieces, ok_as, err_as}
 use Rattle.command_core.proofs.word_fault.word_line.Goals as goal

@@ -1,7 +1,9 @@
 use Rattle.std.proofs.Common.{List, ℕ, Ok, refl}
 use Rattle.near_format_core.specs.AnyNearFormats.{ReadsGrownAny}
-use Rattle.join_core.specs.JoinRuns.{files_by, IsLateFault}
-use Rattle.join_core.proofs.JoinRunLemmas.{io_handed_on, io_before, made_err, made_io, made_ok, no_report, is_join_fault, last_fault, last_faults}
+use Rattle.run_core.specs.EditedLayers.{files_by, IsLateFault}
+use Rattle.run_core.proofs.SourceLemmas.{io_handed_on, io_before}
+use Rattle.run_core.proofs.ReportRunLemmas.{made_err, made_io, made_ok, no_report, last_fault}
+use Rattle.run_core.proofs.EditedLayersLemmas.{is_join_fault, last_faults}
 use Rattle.near_run_core.specs.AnyNearRuns.{AnyNearGives}
 use Rattle.near_run_core.proofs.AnyRunLemmas.{any_report_given, holds_on_ok}
 use Rattle.near_run_core.proofs.any_run.any_near_text.Goals as goal

@@ -1,7 +1,9 @@
 use Rattle.std.proofs.Common.{List, ℕ, Ok, refl}
 use Rattle.format_core.specs.Formats.{ReadsBox}
-use Rattle.join_core.specs.JoinRuns.{files_by, IsLateFault}
-use Rattle.join_core.proofs.JoinRunLemmas.{io_handed_on, io_before, made_err, made_io, made_ok, no_report, is_join_fault, last_fault, last_faults}
+use Rattle.run_core.specs.EditedLayers.{files_by, IsLateFault}
+use Rattle.run_core.proofs.SourceLemmas.{io_handed_on, io_before}
+use Rattle.run_core.proofs.ReportRunLemmas.{made_err, made_io, made_ok, no_report, last_fault}
+use Rattle.run_core.proofs.EditedLayersLemmas.{is_join_fault, last_faults}
 use Rattle.near_run_core.specs.NearestRuns.{NearestGives}
 use Rattle.near_run_core.proofs.RunLemmas.{report_given}
 use Rattle.near_run_core.proofs.nearest_run.NearestRun.text.Goals as goal

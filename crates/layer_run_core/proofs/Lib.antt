@@ -1,0 +1,4 @@
+pub mod BoundsLemmas
+pub mod LayerRunLemmas
+pub mod WindowLemmas
+pub mod WindowRunLemmas

@@ -1,0 +1,6 @@
+pub mod Bounds
+pub mod Jobs
+pub mod LayerRuns
+pub mod StatsTexts
+pub mod WindowRuns
+pub mod Windows

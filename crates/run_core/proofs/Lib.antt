@@ -1,0 +1,10 @@
+pub mod CsvLemmas
+pub mod EditedLayersLemmas
+pub mod EditsLemmas
+pub mod LayersLemmas
+pub mod LineLemmas
+pub mod MarkLemmas
+pub mod ReportRunLemmas
+pub mod RunLemmas
+pub mod SkippedLemmas
+pub mod SourceLemmas

@@ -1,0 +1,14 @@
+use Rattle.std.proofs.Common.{refl}
+use Rattle.run_core.proofs.EditedLayersLemmas.{edits_handed_on, edits_made, edits_ended}
+use Rattle.run_core.proofs.edited.edit_layers.Goals as goal
+
+pub returns-in_err-edit_list-clause-fault : goal.returns-in_err-edit_list-clause-fault
+returns-in_err-edit_list-clause-fault g c =
+    let fault = c.in_err-edit_list.ensures.fault in
+    edits_handed_on _ _ _ c.from_residual.result _ fault.0 c.from_residual.ensures.1 fault.1 fault.2
+
+pub returns-clause-ok : goal.returns-clause-ok
+returns-clause-ok g c = edits_made _ _ _ _ _ _ _ refl c.in_ok-edit_list.ensures.ok (search)
+
+pub returns-clause-fault : goal.returns-clause-fault
+returns-clause-fault g c = edits_ended _ _ _ _ _ _ refl c.in_ok-edit_list.ensures.ok (search)

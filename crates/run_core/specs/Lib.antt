@@ -1,0 +1,12 @@
+pub mod CsvWriting
+pub mod EditedLayers
+pub mod FaultTexts
+pub mod ImproperRings
+pub mod Inputs
+pub mod Lines
+pub mod Marks
+pub mod ReportRuns
+pub mod Runs
+pub mod SkippedTexts
+pub mod SourceStates
+pub mod Texts
