@@ -31,21 +31,24 @@ pub fn given_words(alloc: Global, words: &str) -> Result<Vec<String>, AllocError
     Ok(given)
 }
 
+/// The capacity reserved for the text on standard error, so that writing it allocates no memory.
+const ROOM: usize = 512;
+
 /// Runs the words over the files.
 fn run_on<R: RandomSource + AllocGlobal + Threads + Wait + Sync>(
     rt: &R,
     files: &[(&str, &str)],
     words: &[String],
-) -> Ended {
+) -> Result<Ended, AllocError> {
     let mut output = ToWrite::new(Vec::new(rt.alloc()));
-    let mut errors = ToWrite::new(Vec::new(rt.alloc()));
+    let mut errors = ToWrite::new(Vec::with_capacity(rt.alloc(), ROOM)?);
     let mut shelf = Shelf::new(rt.alloc(), files);
     let status = run_words(rt, words, &mut shelf, &mut output, &mut errors);
-    Ended {
+    Ok(Ended {
         status,
         written: output.into_inner(),
         said: errors.into_inner(),
-    }
+    })
 }
 
 /// Whether a run has the expected status, output and text on standard error.
@@ -55,7 +58,7 @@ pub fn ends<R: RandomSource + AllocGlobal + Threads + Wait + Sync>(
     run: &(&str, u8, &str, &str),
 ) -> Result<bool, Fail> {
     let (words, status, written, said) = *run;
-    let ended = run_on(rt, files, given_words(rt.alloc(), words)?.as_slice());
+    let ended = run_on(rt, files, given_words(rt.alloc(), words)?.as_slice())?;
     Ok(
         ended.status == status
             && ended.written.as_slice() == written.as_bytes()
@@ -74,7 +77,9 @@ pub fn attempt<R: RandomSource + AllocGlobal + Threads + Wait + Sync>(
     let Ok(words) = given_words(rt.alloc(), words) else {
         return None;
     };
-    let ended = run_on(rt, files, words.as_slice());
+    let Ok(ended) = run_on(rt, files, words.as_slice()) else {
+        return None;
+    };
     if ended.status == 1 && written.as_bytes().starts_with(ended.written.as_slice()) {
         return None;
     }
@@ -93,7 +98,7 @@ pub fn writes<R: RandomSource + AllocGlobal + Threads + Wait + Sync>(
     front: &str,
     end: &str,
 ) -> Result<bool, Fail> {
-    let ended = run_on(rt, files, given_words(rt.alloc(), words)?.as_slice());
+    let ended = run_on(rt, files, given_words(rt.alloc(), words)?.as_slice())?;
     Ok(
         ended.status == 0
             && ended.said.is_empty()

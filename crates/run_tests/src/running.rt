@@ -72,20 +72,6 @@ pub struct Files<'a> {
     pub edits: Option<Reading<'a>>,
 }
 
-/// A text of these as a source.
-type ReadingSource<'a> = FromRead<Reading<'a>>;
-
-impl<'a> Files<'a> {
-    /// The files as sources.
-    fn sources(&self) -> JoinSources<ReadingSource<'a>, ReadingSource<'a>, ReadingSource<'a>> {
-        JoinSources {
-            left: FromRead::new(self.left),
-            right: FromRead::new(self.right),
-            edits: self.edits.map(|edits| FromRead::new(edits)),
-        }
-    }
-}
-
 /// The files of the example.
 pub fn example() -> Files<'static> {
     Files {
@@ -131,7 +117,11 @@ pub fn run<R: Threads + Wait + Sync + RandomSource + AllocGlobal, W: Write>(
     requires { failed_of sink.old ≡ false }
 {
     let states = (RandomState::new(rt).ok()?, RandomState::new(rt).ok()?);
-    let mut sources = files.sources();
+    let mut sources = JoinSources {
+        left: FromRead::new(files.left),
+        right: FromRead::new(files.right),
+        edits: files.edits.map(|edits| FromRead::new(edits)),
+    };
     Some(job.run(rt, states, &mut sources, sink))
 }
 
@@ -168,7 +158,11 @@ pub fn join<R: Threads + Wait + Sync + RandomSource + AllocGlobal>(
     let relation = JoinRelation::new(relation).ok()?;
     let states = (RandomState::new(rt).ok()?, RandomState::new(rt).ok()?);
     let mut sink = ToWrite::new(Vec::with_capacity(rt.alloc(), ROOM).ok()?);
-    let mut sources = files.sources();
+    let mut sources = JoinSources {
+        left: FromRead::new(files.left),
+        right: FromRead::new(files.right),
+        edits: files.edits.map(|edits| FromRead::new(edits)),
+    };
     let outcome = run_join(
         rt,
         states,
