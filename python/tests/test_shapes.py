@@ -310,6 +310,12 @@ def test_rings_that_are_not_proper_are_read_by_the_even_odd_rule_or_refused() ->
             assert [warning.filename for warning in caught] == [__file__]
             with pytest.raises(rjoin.InputError, match=f"left: row 2 .*{reason}"):
                 rjoin.pairs(rows, points, rings="proper")
+        with pytest.warns(rjoin.ImproperRingsWarning, match="left: 2 features: rings cross, "
+                          "overlap or are flat: row 2 .feature 'b'., row 3 .feature 'c'.; the "):
+            rjoin.pairs(given, points)
+        with pytest.warns(rjoin.ImproperRingsWarning,
+                          match="right: 12 features: .*, row 5 .feature 4. and 7 more"):
+            rjoin.pairs(points, geopandas.GeoSeries([layer["b"]] * 12))
         with pytest.warns(rjoin.ImproperRingsWarning):
             found = rjoin.pairs(given.iloc[1:2], points, "contains")
         assert found["right"].tolist() == [2]

@@ -12,7 +12,7 @@ with more is an InputError: nothing is rounded.
 decimals: the number of decimals that coordinates are rounded to, 0 to 6, a half away from zero;
 `"auto"` takes 6, or as many as the program's range allows. The result has the number as `decimals`.
 rings: `"even-odd"` reads polygons whose rings cross, overlap or are flat by the even-odd rule, and
-an ImproperRingsWarning names the first one; `"proper"` refuses them.
+an ImproperRingsWarning says how many there are and names the first five; `"proper"` refuses them.
 other: what happens to geometries of other types: `"error"` raises an InputError, `"skip"` leaves
 them out. With `"envelope"` all that are no point, axis-parallel segment or rectangle are replaced
 by their envelopes, and frames have a last column `exact`, which is False where a row rests on one.

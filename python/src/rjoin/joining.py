@@ -9,8 +9,8 @@ from contextlib import contextmanager
 from copy import copy
 from itertools import chain
 from pathlib import Path
-from typing import TYPE_CHECKING, Any, Callable, Dict, Iterator, List, NamedTuple, Optional
-from typing import Sequence, Tuple, TypeVar, Union
+from typing import TYPE_CHECKING, Any, Callable, Dict, Iterator, List, Mapping, NamedTuple
+from typing import Optional, Sequence, Tuple, TypeVar, Union
 from xml.sax.saxutils import escape
 
 import numpy as np
@@ -40,7 +40,11 @@ ANY_COUNTS = ("features", "points", "lines", "areas", "vertices", "height")
 # The faults of rings that the even-odd rule reads; a line without length has one of them too.
 NOT_PROPER = ("rings cross or overlap",
               "a line without length, or a ring that is not closed or is flat")
+IMPROPER = "rings cross, overlap or are flat"
 BY_EVEN_ODD = re.compile(r"rjoin: (first|second): even-odd rule for improper rings")
+# The rows of a layer that have such rings: how many, and the first of them.
+IMPROPER_ROWS = re.compile(r"rjoin: (left|right|layer): even-odd rule for (\d+) features? "
+                           r"with improper rings: rows? (\d+(?:, \d+)*)")
 DISTANCE = {"distance": "int64"}
 # A word of a command line has fewer bytes on Linux (MAX_ARG_STRLEN).
 MOST_WORD = 131_072
@@ -70,8 +74,8 @@ class Job:
     """The layers of a run and geometries beside them, and how the program is to read them.
 
     widened: the program is to read any geometry, since a source has more than boxes, as texts and
-    rounded boxes show only when it reads them. overlooked: the faults of rings because of which the
-    even-odd rule is taken.
+    rounded boxes show only when it reads them. overlooked: the inputs whose rings the
+    even-odd rule reads, by their sides, as warnings describe them.
     """
 
     def __init__(self, sources: Sequence[Source], reading: Reading,
@@ -80,7 +84,7 @@ class Job:
         self.reading = reading
         self.geometries = geometries
         self.measure = measure
-        self.overlooked: List[str] = []
+        self.overlooked: Dict[str, str] = {}
         self.settle()
 
     def settle(self) -> None:
@@ -178,8 +182,30 @@ class Job:
         """Whether rings are now read by the even-odd rule, since some are not proper."""
         if self.overlooked or self.reading.rings == "proper" or fault.reason not in NOT_PROPER:
             return False
-        self.overlooked.append(str(self.named(fault)))
+        self.overlooked[fault.side] = str(self.named(fault))
         return True
+
+    def note_rings(self, notes: str, sides: Mapping[str, str]) -> None:
+        """Takes down the features with improper rings of which the program wrote.
+
+        sides: those of the call, by those of the program, where they differ.
+        """
+        for told, count, rows in IMPROPER_ROWS.findall(notes):
+            side = sides.get(told, told)
+            if int(count) > 1 or side not in self.overlooked:
+                self.overlooked[side] = self.with_improper_rings(side, int(count), rows)
+
+    def with_improper_rings(self, side: str, count: int, rows: str) -> str:
+        """The features of an input with improper rings, of which the first are in these rows."""
+        if all(source.side != side for source in self.sources):
+            return f"{side}: {IMPROPER}"
+        faults = [self.named(program.InputFault(side, int(row), IMPROPER))
+                  for row in rows.split(", ")]
+        if count == 1:
+            return str(faults[0])
+        named = ", ".join(f"row {fault.row} (feature {fault.feature!r})" for fault in faults)
+        more = f" and {count - len(faults)} more" if count > len(faults) else ""
+        return f"{side}: {count} features: {IMPROPER}: {named}{more}"
 
     def named(self, fault: program.InputFault) -> InputError:
         """The program's fault of an input as an InputError, which names the feature."""
@@ -273,8 +299,9 @@ class Job:
     def warn_of_rings(self, depth: int) -> None:
         """Warns of rings that were read by the even-odd rule, as `finish` does."""
         if self.overlooked:
-            warnings.warn(f"{'; '.join(self.overlooked)}; the even-odd rule is taken for all "
-                          "rings that are not proper", ImproperRingsWarning, stacklevel=depth + 2)
+            described = "; ".join(self.overlooked.values())
+            warnings.warn(f"{described}; the even-odd rule is taken for all rings that are not "
+                          "proper", ImproperRingsWarning, stacklevel=depth + 2)
 
 
 def job_of(layers: Sequence[Tuple[str, Any]], reading: Reading, rules: Rules,
@@ -423,10 +450,11 @@ def reported(job: Job, command: Sequence[str], words: Sequence[str], last: Dict[
         sides = {"left": "right", "right": "left"} if turned else {}
         try:
             with open(report, "wb") as output:
-                program.run([*command, *paths[order], *job.words, *words], output)
+                answer = program.run([*command, *paths[order], *job.words, *words], output)
         except program.InputFault as fault:
             side = sides.get(fault.side, fault.side)
             raise program.InputFault(side, fault.row, fault.reason) from fault
+        job.note_rings(answer.notes, sides)
         left, right = job.sources[order]
         return reports.read(report, (kind_of(left), kind_of(right)), last, wants_last,
                             (left.id_digits, right.id_digits))
@@ -450,6 +478,7 @@ def met(job: Job, geometry: Single) -> Any:
             if len(text.encode()) >= MOST_WORD:
                 return met_by_join(job, paths[0], geometry.write(folder, job.scale))
         answer = program.run(["window", *job.words, "--", *paths, text])
+        job.note_rings(answer.notes, {})
         return ids_of(answer.output, "id", job.sources[0])
     return job.answer(ask)
 
@@ -462,6 +491,7 @@ def met_by_join(job: Job, layer: Path, window: Path) -> Any:
     except program.InputFault as fault:
         row = fault.row if fault.side == "left" else None
         raise program.InputFault(sides[fault.side], row, fault.reason) from fault
+    job.note_rings(answer.notes, sides)
     return ids_of(answer.output, "left", job.sources[0])
 
 
@@ -480,8 +510,8 @@ def related(job: Job) -> str:
     letters = LETTERS.fullmatch(answer.output)
     if not letters:
         raise program.wrong_answer()
-    job.overlooked = [f"{side}: rings cross, overlap or are flat"
-                      for side in BY_EVEN_ODD.findall(answer.notes)]
+    job.overlooked = {side: f"{side}: {IMPROPER}"
+                      for side in BY_EVEN_ODD.findall(answer.notes)}
     return letters[1].decode()
 
 
@@ -499,6 +529,7 @@ def word_of(geometry: Single, scale: Scale) -> str:
 def counted(job: Job) -> Dict[str, Any]:
     """The counts of the only layer by their names."""
     answer = job.answer(lambda _, paths: program.run(["stats", *paths, *job.words]))
+    job.note_rings(answer.notes, {})
     names = ANY_COUNTS if job.widened else BOX_COUNTS
     counts = re.fullmatch("".join(rf"{name} (\d+)\n" for name in names),
                           answer.output.decode(errors="replace"))
@@ -514,6 +545,7 @@ def drawn(job: Job, relation: str) -> str:
     """The picture, in which features have their labels as titles."""
     answer = job.answer(lambda _, paths: program.run(
         ["draw", *paths, "--relation", relation, *job.words]))
+    job.note_rings(answer.notes, {})
     left, border, right = answer.output.decode(errors="replace").partition(RIGHT_HALF)
     if not border or not left.startswith("<svg ") or not right.endswith("</svg>\n"):
         raise program.wrong_answer()
