@@ -36,7 +36,7 @@ fn bounds_of_run(edges: &[Edge]) -> Shape
 }
 
 /// The boxes of the runs of edges.
-pub(crate) fn run_boxes(alloc: Global, edges: &[Edge]) -> Result<Vec<Shape>, AllocError>
+pub fn run_boxes(alloc: Global, edges: &[Edge]) -> Result<Vec<Shape>, AllocError>
     ensures { IfOk result (λ boxes. AreRunBoxes edges.now boxes.items) }
 {
     let mut boxes = Vec::with_capacity(alloc, edges.len().div_ceil(RUN))?;

@@ -3,3 +3,4 @@ pub mod IntervalLemmas
 pub mod LineLemmas
 pub mod PairLemmas
 pub mod RingLemmas
+pub mod RunLemmas

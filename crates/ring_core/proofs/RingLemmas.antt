@@ -55,7 +55,7 @@ all_later es e i within is proper k d lt =
     (subst (MeetProperly (get_or es i d)) (sym (rest_at es (i + 1) k d few)) (proper i (i + 1 + k) d (omega arith) (omega arith)))
 
 -- edges whose boxes don't meet share no point
-by_boxes : (e f : Edge) (s t : Shape) → IsBoxOf e s → IsBoxOf f t → (Meets t s → MeetProperly e f) → MeetProperly e f
+pub by_boxes : (e f : Edge) (s t : Shape) → IsBoxOf e s → IsBoxOf f t → (Meets t s → MeetProperly e f) → MeetProperly e f
 by_boxes e f s t es ft h = record {
   one_place = λ p q a b. (h (shared_meets f e t s p ft es (turned p a))).one_place p q a b;
   at_end = λ p a. (h (shared_meets f e t s p ft es (turned p a))).at_end p a;

@@ -165,17 +165,40 @@ fn edges_without_length(rt: HostRuntime) {
     check_edges(&rt, &e, &edge(1, 2, 1, 2), true);
 }
 
-/// There are enough edges for a comparison by their boxes.
+/// Checks whether the edges of a zigzag of some steps, and one more edge, are proper.
+fn check_zigzag(
+    rt: &(impl Abort + AllocGlobal),
+    steps: u32,
+    last: Edge,
+    is_wanted: bool,
+) -> Result<(), Fail> {
+    let edges = zigzag(rt.alloc(), steps, last)?;
+    assert!(rt; is_proper(rt.alloc(), &edges)? == is_wanted);
+    Ok(())
+}
+
+/// Few enough edges for a comparison by the boxes of their runs, and so many that they need a tree.
 #[test]
 fn many_edges(rt: HostRuntime) -> Result<(), Fail> {
-    let above = edge(0, 5, 200, 5);
-    assert!(&rt; is_proper(rt.alloc(), &zigzag(rt.alloc(), 200, above)?)?);
-    let at_vertex = edge(50, 2, 50, -1);
-    assert!(&rt; is_proper(rt.alloc(), &zigzag(rt.alloc(), 200, at_vertex)?)?);
-    let through = edge(40, 2, 41, -1);
-    assert!(&rt; !is_proper(rt.alloc(), &zigzag(rt.alloc(), 200, through)?)?);
-    let along = edge(199, 1, 200, 0);
-    assert!(&rt; !is_proper(rt.alloc(), &zigzag(rt.alloc(), 200, along)?)?);
+    for steps in [200u32, 2_000] {
+        check_zigzag(&rt, steps, edge(0, 5, 200, 5), true)?;
+        check_zigzag(&rt, steps, edge(50, 2, 50, -1), true)?;
+        check_zigzag(&rt, steps, edge(40, 2, 41, -1), false)?;
+        check_zigzag(&rt, steps, edge(199, 1, 200, 0), false)?;
+    }
+    Ok(())
+}
+
+/// Edges that cross within a run, in the next run, and as the first and the last of all.
+#[test]
+fn crossing_edges_in_runs(rt: HostRuntime) -> Result<(), Fail> {
+    for steps in [16u32, 17, 20, 23, 24, 1_023, 1_024] {
+        let last = steps as i32;
+        check_zigzag(&rt, steps, edge(last - 1, 2, last, -1), false)?;
+        check_zigzag(&rt, steps, edge(last - 8, 2, last - 7, -1), false)?;
+        check_zigzag(&rt, steps, edge(0, 2, 1, -1), false)?;
+        check_zigzag(&rt, steps, edge(last, 2, last + 1, -1), true)?;
+    }
     Ok(())
 }
 
