@@ -28,6 +28,8 @@ use Rattle.noding_core.proofs.PathLemmas.{edge_length}
 use Rattle.noding_core.proofs.FlipLemmas.{flip, is_on-flip, is_below-flip, is_at_or_below-flip, forward_or_flipped}
 use Rattle.noding_core.proofs.PassLemmas.{at_or_below_off}
 use Rattle.noding_core.proofs.OffPartLemmas.{off_part-same}
+use Rattle.noding_core.proofs.BoxApartLemmas.{less_of}
+use Rattle.noding_core.proofs.NearLemmas.{or_four}
 use Rattle.noding_core.proofs.BoxLemmas.{HoldsVertex, HoldsAll, left_exterior, right_exterior, low_exterior, high_outside}
 use Rattle.noding_core.proofs.OrderLemmas.{wide_z}
 use Rattle.noding_core.proofs.TestLemmas.{by_test, clash}
@@ -95,15 +97,6 @@ and_left false u h = cc
 and_right : (t u : Bool) → (t && u) ≡ true → u ≡ true
 and_right true u h = h
 and_right false u h = cc
-
-pub less_of : (m n : ℤ) → int_lt m n ≡ true → m <ℤ n
-less_of m n h = grind (arith, ints)
-
-pub or_four : {P : Type 0} (t u v w : Bool) → (t || u || v || w) ≡ true → (t ≡ true → P) → (u ≡ true → P) → (v ≡ true → P) → (w ≡ true → P) → P
-or_four true u v w h f g k l = f refl
-or_four false true v w h f g k l = g refl
-or_four false false true w h f g k l = k refl
-or_four false false false w h f g k l = l h
 
 pub columns_of : (e : Edge) (p : Point) → is_on e p ≡ true → is_between e.a.x e.b.x p.w p.x ≡ true
 columns_of e p h = and_right _ _ (and_left _ _ h)

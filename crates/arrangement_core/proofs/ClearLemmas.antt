@@ -171,7 +171,7 @@ pass_beside e f p q wp wq on_p on_q (High h) =
 abbrev AreBeside : Edge → Figure → Type 0
 AreBeside e g = (f : Edge) → IsAmong f (edges_of g) → do_boxes_meet e f ≡ false
 
-no_points : (g : Figure) → kind_of g ≢ Dots → (v : Vertex) → IsAmong v (points_of g) → ⊥
+pub no_points : (g : Figure) → kind_of g ≢ Dots → (v : Vertex) → IsAmong v (points_of g) → ⊥
 no_points (Points vs) some v h = some refl
 no_points (Lines paths) some v h = h
 no_points (Areas rings) some v h = h
@@ -193,7 +193,7 @@ part_beside (Areas rings) e p q good some off wp wq on_p on_q =
     (rings_parity (λ f. is_below f p) (λ f. is_below f q) (passes e p q) rings good.1 (λ f one. pass_beside e f p q wp wq on_p on_q (beside e f (off f one))))
     ∙ sym (off_part-is (Areas rings) q good (off_beside (Areas rings) e q some off wq on_q))
 
-above_off : (g : Figure) (p : Point) → IsGeometry g → 0 < p.w → IsOffAll (edges_of g) (points_of g) p → part_above g p ≡ part_of g p
+pub above_off : (g : Figure) (p : Point) → IsGeometry g → 0 < p.w → IsOffAll (edges_of g) (points_of g) p → part_above g p ≡ part_of g p
 above_off g p good wide off =
     above_part-is g p
     ∙ off_part-same g (λ f. is_at_or_below f p) (λ f. is_below f p) (λ f one. below_same f p (edge_length g f good one) wide (off.edges f one))

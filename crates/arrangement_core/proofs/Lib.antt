@@ -1,4 +1,5 @@
 pub mod ApartLemmas
+pub mod AroundLemmas
 pub mod BeyondLemmas
 pub mod ClearLemmas
 pub mod EndLemmas
@@ -6,3 +7,4 @@ pub mod KnownLemmas
 pub mod OuterLemmas
 pub mod RoundLemmas
 pub mod ShownLemmas
+pub mod WalkLemmas

@@ -1,8 +1,6 @@
 -- Where a matrix has all that edges in the exterior of the other geometry can show, those beyond its box add nothing.
 use Rattle.std.proofs.Common.{◌≡◌, ◌≤◌, arith, inl, inr, refl, sym, subst, true, false, List, All}
-use Rattle.std.specs.Prelude.{ℕ, ℤ, ◌<ℤ◌, ◌≤ℤ◌, int_lt, ◌&&◌, ◌⊎◌, Bool, if◌then◌else◌, count_by}
-use Rattle.std.specs.Int.{int_min, int_max}
-use Rattle.std.proofs.lemmas.Int.{ints, clamps}
+use Rattle.std.specs.Prelude.{ℕ, ◌⊎◌, Bool, if◌then◌else◌, count_by}
 use Rattle.std.specs.List.{list_any, flat_map}
 use Rattle.std.proofs.lemmas.List.Elements.{All-weaker}
 use Rattle.geom_core.specs.declared.shape.Shape.{Shape}
@@ -10,8 +8,6 @@ use Rattle.relation_core.specs.declared.extent.Extent.{Extent}
 use Rattle.relation_core.specs.declared.extent.Extent.TheVariants.{Line, Area}
 use Rattle.relation_core.specs.declared.part.Parts.{Parts}
 use Rattle.relation_core.specs.declared.matrix.Matrix.{Matrix}
-use Rattle.geom_core.specs.Shapes.{x1, y1, x2, y2}
-use Rattle.plane_core.specs.Boxes.{does_reach, do_overlap, do_boxes_meet}
 use Rattle.plane_core.specs.declared.part.Part.{Part}
 use Rattle.plane_core.specs.declared.part.Part.TheVariants.{Interior, Boundary, Exterior}
 use Rattle.plane_core.specs.declared.vertex.Vertex.{Vertex}
@@ -40,12 +36,11 @@ use Rattle.noding_core.proofs.AmongLemmas.{among_left}
 use Rattle.noding_core.proofs.NodeLemmas.{all_among, IsWide, gap_order, none_in_gap}
 use Rattle.noding_core.proofs.PathLemmas.{IsOffEnds, ends_none}
 use Rattle.noding_core.proofs.ArrangementLemmas.{before_middle, middle_before}
-use Rattle.noding_core.proofs.TestLemmas.{by_test, clash, first_holds, second_holds}
+use Rattle.noding_core.proofs.TestLemmas.{by_test, clash}
 use Rattle.noding_core.proofs.TurnLemmas.{entry-transposed}
 use Rattle.arrangement_core.proofs.ShownLemmas.{in_above, any_among, one_of_three}
-use Rattle.arrangement_core.proofs.BeyondLemmas.{holds_all, less_of, lies_beyond, or_four}
-use Rattle.noding_core.proofs.BoxLemmas.{HoldsVertex}
-use Rattle.noding_core.proofs.NearLemmas.{reach_le}
+use Rattle.arrangement_core.proofs.BeyondLemmas.{holds_all, lies_beyond}
+use Rattle.noding_core.proofs.BoxApartLemmas.{boxes_off}
 use Rattle.noding_core.proofs.TurnLemmas.{get_among}
 use Rattle.noding_core.proofs.ExistLemmas.{HasNodeList, nodes_exist}
 use Rattle.arrangement_core.proofs.KnownLemmas.{adds_none, gap_point}
@@ -142,33 +137,6 @@ outer_adds_none m own other vs s t e all_long bounded other_bounded shown one be
     on p of_p = any_among (λ f. is_on f p) own.edges.items e one of_p.on
 
 -- no edge of the other geometry is near it
-off_below : (a b c d limit : ℤ) → (int_lt a limit && int_lt b limit) ≡ true → limit ≤ℤ c → limit ≤ℤ d → do_overlap a b c d ≡ true → ⊥
-off_below a b c d limit h lc ld meet =
-    plain (less_of _ _ (first_holds _ _ h)) (less_of _ _ (second_holds (int_lt a limit) _ h)) (reach_le a b c d (first_holds (does_reach a b c d) _ meet))
-  where
-    plain : a <ℤ limit → b <ℤ limit → int_min c d ≤ℤ int_max a b → ⊥
-    plain la lb le = omega (arith, ints, clamps)
-
-off_above : (a b c d limit : ℤ) → (int_lt limit a && int_lt limit b) ≡ true → c ≤ℤ limit → d ≤ℤ limit → do_overlap a b c d ≡ true → ⊥
-off_above a b c d limit h lc ld meet =
-    plain (less_of _ _ (first_holds _ _ h)) (less_of _ _ (second_holds (int_lt limit a) _ h)) (reach_le c d a b (second_holds (does_reach a b c d) _ meet))
-  where
-    plain : limit <ℤ a → limit <ℤ b → int_min a b ≤ℤ int_max c d → ⊥
-    plain la lb le = omega (arith, ints, clamps)
-
-boxes_off : (s : Shape) (e f : Edge) → HoldsVertex s f.a → HoldsVertex s f.b → is_beyond s e ≡ true → do_boxes_meet e f ≡ false
-boxes_off s e f a b beyond = by_test (do_boxes_meet e f) (λ meet. absurd (apart meet)) (λ off. off)
-  where
-    apart : do_boxes_meet e f ≡ true → ⊥
-    apart meet =
-        let x = first_holds (do_overlap e.a.x e.b.x f.a.x f.b.x) (do_overlap e.a.y e.b.y f.a.y f.b.y) meet in
-        let y = second_holds (do_overlap e.a.x e.b.x f.a.x f.b.x) (do_overlap e.a.y e.b.y f.a.y f.b.y) meet in
-        or_four (int_lt e.a.x (x1 s) && int_lt e.b.x (x1 s)) (int_lt (x2 s) e.a.x && int_lt (x2 s) e.b.x) (int_lt e.a.y (y1 s) && int_lt e.b.y (y1 s)) (int_lt (y2 s) e.a.y && int_lt (y2 s) e.b.y) beyond
-        (λ k. off_below e.a.x e.b.x f.a.x f.b.x (x1 s) k a.left b.left x)
-        (λ k. off_above e.a.x e.b.x f.a.x f.b.x (x2 s) k a.right b.right x)
-        (λ k. off_below e.a.y e.b.y f.a.y f.b.y (y1 s) k a.low b.low y)
-        (λ k. off_above e.a.y e.b.y f.a.y f.b.y (y2 s) k a.high b.high y)
-
 pub none_found : (o : Outline) (s : Shape) (e : Edge) (near : List Edge) → IsBounded o s → is_beyond s e ≡ true → All (IsFound e near) o.edges.items
 none_found o s e near b beyond = λ i d lt.
     let one = subst (IsAmong _) b.outline.edges (get_among o.edges.items i d lt) in

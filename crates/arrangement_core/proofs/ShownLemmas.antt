@@ -1,10 +1,10 @@
 -- Places that can add nothing to a matrix.
-use Rattle.std.proofs.Common.{◌≡◌, ◌≤◌, ◌<◌, ◌+◌, ◌-◌, inl, inr, arith, refl, sym, subst, ap, ◌∙◌, true, false, suc, zero, List, [], ◌∷◌, map, take, get_or, length, All}
-use Rattle.std.specs.Prelude.{ℕ, ℤ, pos, neg_ℤ, nat_abs, ◌*ℤ◌, ◌<ℤ◌, ◌⊎◌, Bool, not, ◌&&◌, ◌||◌, ◌↔◌, count_by, if◌then◌else◌}
-use Rattle.std.specs.List.{list_any, list_all, slice_index_or}
-use Rattle.std.specs.Ordering.{int_eq, int_cmp, is_eq, is_lt, ordering_then}
+use Rattle.std.proofs.Common.{◌≡◌, ◌≤◌, ◌<◌, ◌-◌, inl, inr, arith, refl, sym, subst, ap, ◌∙◌, true, false, suc, zero, List, [], ◌∷◌, map, get_or, length, All}
+use Rattle.std.specs.Prelude.{ℕ, ℤ, pos, neg_ℤ, nat_abs, ◌<ℤ◌, ◌⊎◌, Bool, not, ◌&&◌, ◌||◌, ◌↔◌, count_by, if◌then◌else◌}
+use Rattle.std.specs.List.{list_any, list_all}
+use Rattle.std.specs.Ordering.{int_eq}
 use Rattle.std.proofs.lemmas.Int.{ints}
-use Rattle.std.proofs.lemmas.List.Elements.{All-head, All-tail, All-cons, All-nil, All-weaker}
+use Rattle.std.proofs.lemmas.List.Elements.{All-weaker}
 use Rattle.relation_core.specs.declared.extent.Extent.{Extent}
 use Rattle.relation_core.specs.declared.extent.Extent.TheVariants.{Point as Dot, Line, Area}
 use Rattle.relation_core.specs.declared.part.Parts.{Parts}
@@ -19,21 +19,21 @@ use Rattle.plane_core.specs.declared.outline.Kind.TheVariants.{Points as Dots, L
 use Rattle.plane_core.specs.declared.outline.Outline.{Outline}
 use Rattle.plane_core.specs.Boxes.{do_boxes_meet}
 use Rattle.plane_core.specs.Points.{Point, at, run, side, is_on, is_below, is_at_or_below, is_at, turn_of, IsBefore, IsSamePlace}
-use Rattle.plane_core.specs.Places.{node_point, place_order}
+use Rattle.plane_core.specs.Places.{node_point}
 use Rattle.plane_core.specs.Figures.{HasLength, is_odd}
 use Rattle.plane_core.specs.Outlines.{part_by, above_by, outline_part, outline_above}
 use Rattle.plane_core.specs.PlaneMatrices.{entry, pick}
 use Rattle.plane_core.proofs.FormLemmas.{by_zero}
-use Rattle.plane_core.proofs.ScaleLemmas.{is_below-scaled}
+use Rattle.plane_core.proofs.ScaleLemmas.{is_below-scaled, is_at_or_below-scaled}
 use Rattle.plane_core.proofs.PartScaleLemmas.{scaled_same, is_on-same_place, is_at-same_place}
 use Rattle.arrangement_core.specs.declared.course.Course.{Course}
 use Rattle.noding_core.specs.Nodes.{IsAmong, IsPointOf, AreNodesOf, Meeting, IsGapOf, middle}
 use Rattle.noding_core.specs.Marks.{rank}
-use Rattle.noding_core.specs.Growth.{Mark, HasGrownBy, mark_at, mark_above, mark_beside, mark_in, piece_marks, transposed}
+use Rattle.noding_core.specs.Growth.{HasGrownBy, mark_at, mark_above, mark_beside, mark_in, piece_marks, transposed}
 use Rattle.noding_core.specs.ReadOffs.{outline_edges, AreEdgesOf, IsOneOf}
-use Rattle.arrangement_core.specs.Shown.{AreShown, all_parts, parts_above, rest_by, rest_parts, IsOnEdge, IsOnCourse, is_along, IsUncrossed, AreCuts, IsRepeated, IsGap, AreFacesShown, IsFaceShown}
+use Rattle.arrangement_core.specs.Shown.{AreShown, all_parts, parts_above, rest_by, rest_parts, IsOnCourse, is_along, IsUncrossed, AreCuts, AreFacesShown, IsFaceShown}
 use Rattle.noding_core.proofs.OrderLemmas.{up_to_before, before_up_to}
-use Rattle.noding_core.proofs.LineLemmas.{IsForward, within_from_on, on_from_within}
+use Rattle.noding_core.proofs.LineLemmas.{IsForward, on_level, within_from_on, on_from_within}
 use Rattle.noding_core.proofs.FlipLemmas.{flip, is_on-flip, turn_of-turned, forward_or_flipped, is_at-itself, first_level}
 use Rattle.noding_core.proofs.TestLemmas.{by_test, clash, first_holds, second_holds, not_true}
 use Rattle.noding_core.proofs.AmongLemmas.{among_left, among_right, none_any}
@@ -41,8 +41,7 @@ use Rattle.noding_core.proofs.NodeLemmas.{all_among, IsWide, gap_first, gap_seco
 use Rattle.noding_core.proofs.PieceLemmas.{level_mix, line_shared}
 use Rattle.noding_core.proofs.ArrangementLemmas.{before_middle, middle_before, middle_wide}
 use Rattle.noding_core.proofs.GatherLemmas.{boxes_meet}
-use Rattle.noding_core.proofs.GrowthLemmas.{grown_none, grown_more, grown-trans, level_not, piece_both}
-use Rattle.noding_core.proofs.ReadOffLemmas.{order_before, map_among}
+use Rattle.noding_core.proofs.GrowthLemmas.{grown_none, grown-trans, level_not, piece_both}
 
 -- the parts of a geometry by its kind
 pub one_of_two : (t : Bool) (b : Bool) → pick (if t then Interior else Exterior) (record { interior = true; boundary = b; exterior = true }) ≡ true
@@ -158,11 +157,14 @@ piece_shown m i own other e p ei line faces = by_zero (run e) (λ some. by_slope
         (grown_none (mark_above own other p) m (faces some _ _ (in_above own.kind own.edges.items p) (in_above other.kind other.edges.items p))))
     by_slope (inr flat) = subst (λ (t : Bool). HasGrownBy (mark_at own other Line p ∷ (if t then [] else mark_above own other p ∷ [])) m m) (sym (level (run e) flat)) on
 
--- a node at the place of the one before it
+-- a point at the place of another
 is_below-same_place : (e : Edge) (p q : Point) → 0 < p.w → 0 < q.w → IsSamePlace p q → is_below e p ≡ is_below e q
 is_below-same_place e p q wp wq h = sym (is_below-scaled e q.w p wq) ∙ ap (is_below e) (scaled_same p q h) ∙ is_below-scaled e p.w q wp
 
-part_by-same_place : (k : Kind) (ends : List Vertex) (es : List Edge) (p q : Point) → 0 < p.w → 0 < q.w → IsSamePlace p q → part_by k ends es p ≡ part_by k ends es q
+pub is_at_or_below-same_place : (e : Edge) (p q : Point) → 0 < p.w → 0 < q.w → IsSamePlace p q → is_at_or_below e p ≡ is_at_or_below e q
+is_at_or_below-same_place e p q wp wq h = sym (is_at_or_below-scaled e q.w p wq) ∙ ap (is_at_or_below e) (scaled_same p q h) ∙ is_at_or_below-scaled e p.w q wp
+
+pub part_by-same_place : (k : Kind) (ends : List Vertex) (es : List Edge) (p q : Point) → 0 < p.w → 0 < q.w → IsSamePlace p q → part_by k ends es p ≡ part_by k ends es q
 part_by-same_place Dots ends es p q wp wq h = λ i. if list_any (λ v. is_at-same_place v p q wp wq h i) ends then Interior else Exterior
 part_by-same_place Polylines ends es p q wp wq h = λ i.
     if is_odd (count_by (λ v. is_at-same_place v p q wp wq h i) ends) then Boundary
@@ -171,51 +173,18 @@ part_by-same_place Rings ends es p q wp wq h = λ i.
     if list_any (λ e. is_on-same_place e p q wp wq h i) es then Boundary
     else (if is_odd (count_by (λ e. is_below-same_place e p q wp wq h i) es) then Interior else Exterior)
 
-mark_same : (own other : Outline) (p q : Point) → 0 < p.w → 0 < q.w → IsSamePlace p q → mark_at own other Dot p ≡ mark_at own other Dot q
+pub mark_same : (own other : Outline) (p q : Point) → 0 < p.w → 0 < q.w → IsSamePlace p q → mark_at own other Dot p ≡ mark_at own other Dot q
 mark_same own other p q wp wq h = λ i. record {
   first = part_by-same_place own.kind own.ends.items own.edges.items p q wp wq h i;
   second = part_by-same_place other.kind other.ends.items other.edges.items p q wp wq h i;
   extent = Dot;
 }
 
-node_wide : (n : Node) → 0 < (node_point n).w
+pub node_wide : (n : Node) → 0 < (node_point n).w
 node_wide n = plain n.place.w n.place.positive
   where
     plain : (w : ℤ) → pos 0 <ℤ w → 0 < nat_abs w
     plain w h = omega (arith, ints)
-
-take_among : {A : Type 0} (xs : List A) (i j : ℕ) (x : A) → j < i → j < length xs → x ≡ get_or xs j x → IsAmong x (take i xs)
-take_among [] i j x lt in_ e = absurd (none in_)
-  where
-    none : j < 0 → ⊥
-    none h = omega arith
-take_among (y ∷ ys) zero j x lt in_ e = absurd (none lt)
-  where
-    none : j < 0 → ⊥
-    none h = omega arith
-take_among (y ∷ ys) (suc i) zero x lt in_ e = inl e
-take_among (y ∷ ys) (suc i) (suc j) x lt in_ e = inr (take_among ys i j x (omega arith) (omega arith) e)
-
-pub grown_repeated : (own other : Outline) (ns : List Node) (i : ℕ) (old grown new : Matrix) → i < length ns → IsRepeated ns i
-    → new ≡ grown → HasGrownBy (map (λ (n : Node). mark_at own other Dot (node_point n)) (take i ns)) old grown
-    → HasGrownBy (map (λ (n : Node). mark_at own other Dot (node_point n)) (take (i + 1) ns)) old new
-grown_repeated own other ns i old grown new lt r is h =
-    let f : Node → Mark = λ n. mark_at own other Dot (node_point n) in
-    let one : IsAmong (f r.before) (map f (take i ns)) = map_among f (take i ns) r.before (take_among ns i (i - 1) r.before (less i r.later) (omega (arith, r.later)) r.before_is) in
-    let same : f r.before ≡ f r.here = mark_same own other (node_point r.before) (node_point r.here) (node_wide r.before) (node_wide r.here) r.same in
-    let up : rank (f r.here).extent ≤ rank (entry grown (f r.here).first (f r.here).second) =
-    subst (λ (k : Mark). rank k.extent ≤ rank (entry grown k.first k.second)) same (h.reached (f r.before) one) in
-    subst (λ (m : Matrix). HasGrownBy (map f (take (i + 1) ns)) old m) (sym is) (grown_more f ns i r.here old grown grown lt r.here_is h (grown_none (f r.here) grown up))
-  where
-    less : (i : ℕ) → 0 < i → i - 1 < i
-    less i h = omega arith
-
-pub grown_new : (own other : Outline) (ns : List Node) (i : ℕ) (n : Node) (old grown mid new : Matrix) → i < length ns → n ≡ get_or ns i n
-    → new ≡ mid → HasGrownBy (map (λ (n : Node). mark_at own other Dot (node_point n)) (take i ns)) old grown → HasGrownBy (mark_at own other Dot (node_point n) ∷ []) grown mid
-    → HasGrownBy (map (λ (n : Node). mark_at own other Dot (node_point n)) (take (i + 1) ns)) old new
-grown_new own other ns i n old grown mid new lt at_i is h k =
-    let f : Node → Mark = λ n. mark_at own other Dot (node_point n) in
-    subst (λ (m : Matrix). HasGrownBy (map f (take (i + 1) ns)) old m) (sym is) (grown_more f ns i n old grown mid lt at_i h k)
 
 -- a point of an edge is on an edge
 pub any_among : {A : Type 0} (q : A → Bool) (xs : List A) (x : A) → IsAmong x xs → q x ≡ true → list_any q xs ≡ true
@@ -230,7 +199,7 @@ any_among q (y ∷ ys) x (inr k) h = right (q y) (list_any q ys) (any_among q ys
     right true u h = refl
     right false u h = h
 
-index_among : {A : Type 0} (xs : List A) (i : ℕ) (x : A) → i < length xs → x ≡ get_or xs i x → IsAmong x xs
+pub index_among : {A : Type 0} (xs : List A) (i : ℕ) (x : A) → i < length xs → x ≡ get_or xs i x → IsAmong x xs
 index_among [] i x lt h = absurd (none lt)
   where
     none : i < 0 → ⊥
@@ -249,13 +218,11 @@ point_marked own other vs i v p old new is items lt at_i place h =
     node_marked own other (at v) Interior old new (interior_point own v is (subst (IsAmong v) items (index_among vs i v lt at_i)))
     (subst (λ (p : Point). HasGrownBy (mark_in Interior other p ∷ []) old new) place h)
 
-pub nodes_on : (own : Outline) (c : Course) (ns : List Node) → IsAmong c.edge own.edges.items → All (IsPointOf c.edge) (map node_point ns) → All (λ n. IsOnCourse own c (node_point n)) ns
-nodes_on own c [] one h = All-nil (λ n. IsOnCourse own c (node_point n))
-nodes_on own c (n ∷ ns) one h =
-    let here = All-head (IsPointOf c.edge) (node_point n) (map node_point ns) h in
-    All-cons (λ n. IsOnCourse own c (node_point n)) n ns
-    (record { own = any_among (λ f. is_on f (node_point n)) own.edges.items c.edge one here.on; on = here.on })
-    (nodes_on own c ns one (All-tail (IsPointOf c.edge) (node_point n) (map node_point ns) h))
+-- a node of the edge
+pub node_on : (own other : Outline) (c : Course) (ns : List Point) (p : Point) → AreCuts own other c.edge ns → IsAmong p ns → IsOnCourse own c p
+node_on own other c ns p cuts one =
+    let of_p = all_among (IsPointOf c.edge) p ns cuts.nodes.points one in
+    record { own = any_among (λ f. is_on f p) own.edges.items c.edge cuts.one.one of_p.on; on = of_p.on }
 
 -- the middle of a gap
 forward_on : (f : Edge) (k l : Point) → IsForward f → 0 < k.w → 0 < l.w → is_on f k ≡ true → is_on f l ≡ true → IsBefore k l → is_on f (middle k l) ≡ true
@@ -275,13 +242,7 @@ middle_on e k l long of_k of_l before = elim (forward_or_flipped e long) [
   | inr fw ↦ sym (is_on-flip e (middle k l)) ∙ forward_on (flip e) k l fw of_k.wide of_l.wide (is_on-flip e k ∙ of_k.on) (is_on-flip e l ∙ of_l.on) before
 ]
 
-on_level : (e : Edge) (p : Point) → is_on e p ≡ true → side e p ≡ pos 0
-on_level e p h = zero_of (side e p) (first_holds _ _ (first_holds _ _ h))
-  where
-    zero_of : (z : ℤ) → int_eq z (pos 0) ≡ true → z ≡ pos 0
-    zero_of z h = grind (arith, ints)
-
-gap_of : (ns : List Node) (i : ℕ) (k l : Node) → 1 ≤ i → i < length ns → k ≡ get_or ns (i - 1) k → l ≡ get_or ns i l → IsBefore (node_point k) (node_point l) → IsGapOf (node_point k) (node_point l) (map node_point ns)
+pub gap_of : (ns : List Node) (i : ℕ) (k l : Node) → 1 ≤ i → i < length ns → k ≡ get_or ns (i - 1) k → l ≡ get_or ns i l → IsBefore (node_point k) (node_point l) → IsGapOf (node_point k) (node_point l) (map node_point ns)
 gap_of ns zero k l one lt ek el before = absurd (none one)
   where
     none : 1 ≤ 0 → ⊥
@@ -303,6 +264,9 @@ gap_of ns (suc j) k l one lt ek el before = next ns j lt (subst (λ (i : ℕ). k
     next (m ∷ n ∷ ns) zero lt ek el = inl (ap node_point ek, ap node_point el, subst (λ (p : Point). IsBefore p (node_point n)) (ap node_point ek) (subst (λ (p : Point). IsBefore (node_point k) p) (ap node_point el) before))
     next (m ∷ n ∷ ns) (suc j) lt ek el = inr (next (n ∷ ns) j (omega arith) ek el)
 
+pub cuts_long : (own other : Outline) (e : Edge) (ns : List Point) → AreCuts own other e ns → HasLength e
+cuts_long own other e ns cuts = all_among HasLength e cuts.edges cuts.one.edges.long (cuts.one.edges.first e cuts.one.one)
+
 pub gap_middle : (own other : Outline) (e : Edge) (ns : List Point) (p q : Point) → AreCuts own other e ns → IsGapOf p q ns → IsUncrossed other e (middle p q)
 gap_middle own other e ns p q cuts gap = record { on = on_e; along = along }
   where
@@ -310,10 +274,10 @@ gap_middle own other e ns p q cuts gap = record { on = on_e; along = along }
     m = middle p q
 
     of_p : IsPointOf e p
-    of_p = all_among (IsPointOf e) p ns cuts.points (gap_first p q ns gap)
+    of_p = all_among (IsPointOf e) p ns cuts.nodes.points (gap_first p q ns gap)
 
     of_q : IsPointOf e q
-    of_q = all_among (IsPointOf e) q ns cuts.points (gap_second p q ns gap)
+    of_q = all_among (IsPointOf e) q ns cuts.nodes.points (gap_second p q ns gap)
 
     before : IsBefore p q
     before = gap_order p q ns gap
@@ -322,13 +286,13 @@ gap_middle own other e ns p q cuts gap = record { on = on_e; along = along }
     wm = middle_wide p q of_p.wide of_q.wide
 
     on_e : is_on e m ≡ true
-    on_e = middle_on e p q cuts.long of_p of_q before
+    on_e = middle_on e p q (cuts_long own other e ns cuts) of_p of_q before
 
     parallel : (f : Edge) → IsAmong f other.edges.items → is_on f m ≡ true → turn_of e f ≡ pos 0
     parallel f one_f on_f = by_zero (turn_of e f)
-        (λ some. absurd (none_in_gap p q m ns wm (All-weaker (IsPointOf e) IsWide (λ n h. h.wide) ns cuts.points) cuts.ascend
+        (λ some. absurd (none_in_gap p q m ns wm (All-weaker (IsPointOf e) IsWide (λ n h. h.wide) ns cuts.nodes.points) cuts.nodes.ascend
         (record { gap = gap; after = before_middle p q before; before = middle_before p q before })
-        (cuts.meetings f m one_f wm on_e on_f some)))
+        (cuts.nodes.nodes m wm on_e (Meeting e f (cuts.one.edges.first e cuts.one.one) (cuts.one.edges.second f one_f) on_e on_f some))))
         (λ flat. flat)
 
     turned_zero : (a b : ℤ) → b ≡ neg_ℤ a → a ≡ pos 0 → b ≡ pos 0
@@ -342,34 +306,11 @@ gap_middle own other e ns p q cuts gap = record { on = on_e; along = along }
         let turn = parallel f one_f on_f in
         let back : turn_of f e ≡ pos 0 = turned_zero _ _ (turn_of-turned e f) turn in
         all_three (do_boxes_meet e f) (turn_of e f) (side e (at f.a)) (boxes_meet e f m wm on_e on_f) turn
-        (line_shared f e m (at f.a) (cuts.others_long f one_f) wm back (on_level f m on_f) (first_level f) (on_level e m on_e))
-
-pub gap_at : (own other : Outline) (e : Edge) (ns : List Node) (i : ℕ) (k l : Node) → AreCuts own other e (map node_point ns) → 1 ≤ i → i < length ns → k ≡ get_or ns (i - 1) k → l ≡ get_or ns i l
-    → IsGap own other e (node_point k) (node_point l)
-gap_at own other e ns i k l cuts one lt ek el = record {
-  on = λ less. any_among (λ f. is_on f (middle p q)) own.edges.items e cuts.one (here less).on;
-  uncrossed = here;
-}
-  where
-    p : Point
-    p = node_point k
-
-    q : Point
-    q = node_point l
-
-    here : is_lt (place_order p q) ≡ true → IsUncrossed other e (middle p q)
-    here less = gap_middle own other e (map node_point ns) p q cuts (gap_of ns i k l one lt ek el (order_before p q less))
+        (line_shared f e m (at f.a) (all_among HasLength f cuts.edges cuts.one.edges.long (cuts.one.edges.second f one_f)) wm back (on_level f m on_f) (first_level f) (on_level e m on_e))
 
 -- the nodes that an edge has among all edges cut it
 pub cuts_of : (own other : Outline) (es : List Edge) (vs : List Vertex) (e : Edge) (ns : List Point) → IsOneOf own other es e → AreNodesOf es vs e ns → AreCuts own other e ns
-cuts_of own other es vs e ns one nodes = record {
-  one = one.one;
-  long = all_among HasLength e es one.edges.long (one.edges.first e one.one);
-  others_long = λ f one_f. all_among HasLength f es one.edges.long (one.edges.second f one_f);
-  points = nodes.points;
-  ascend = nodes.ascend;
-  meetings = λ f p one_f wide on_e on_f turning. nodes.nodes p wide on_e (Meeting e f (one.edges.first e one.one) (one.edges.second f one_f) on_e on_f turning);
-}
+cuts_of own other es vs e ns one nodes = record { edges = es; points = vs; one = one; nodes = nodes }
 
 pub cuts_at : (own other : Outline) (es : List Edge) (vs : List Vertex) (e : Edge) (ns xs : List Node) → IsOneOf own other es e → AreNodesOf es vs e (map node_point ns) → xs ≡ ns → AreCuts own other e (map node_point xs)
 cuts_at own other es vs e ns xs one nodes is = subst (λ (l : List Node). AreCuts own other e (map node_point l)) (sym is) (cuts_of own other es vs e (map node_point ns) one nodes)
@@ -388,22 +329,6 @@ edges_of_second a b es long is =
 
 pub one_at : (own other : Outline) (es ds : List Edge) (i : ℕ) (e : Edge) → AreEdgesOf own other es → ds ≡ own.edges.items → i < length ds → e ≡ get_or ds i e → IsOneOf own other es e
 one_at own other es ds i e edges is lt at_i = record { edges = edges; one = subst (IsAmong e) is (index_among ds i e lt at_i) }
-
--- nodes of one place
-pub same_order : (p q : Point) → is_eq (place_order p q) ≡ true → IsSamePlace p q
-same_order p q h = plain (p.x *ℤ pos q.w) (q.x *ℤ pos p.w) (p.y *ℤ pos q.w) (q.y *ℤ pos p.w) h
-  where
-    first : (a b c d : ℤ) → is_eq (ordering_then (int_cmp a b) (int_cmp c d)) ≡ true → a ≡ b
-    first a b c d h = grind (arith, ints)
-
-    second : (a b c d : ℤ) → is_eq (ordering_then (int_cmp a b) (int_cmp c d)) ≡ true → c ≡ d
-    second a b c d h = grind (arith, ints)
-
-    plain : (a b c d : ℤ) → is_eq (ordering_then (int_cmp a b) (int_cmp c d)) ≡ true → (a ≡ b) × (c ≡ d)
-    plain a b c d h = (first a b c d h, second a b c d h)
-
-pub repeated : (ns : List Node) (i : ℕ) (k l : Node) → 0 < i → k ≡ slice_index_or ns (i - 1) k → l ≡ slice_index_or ns i l → is_eq (place_order (node_point k) (node_point l)) ≡ true → IsRepeated ns i
-repeated ns i k l later ek el h = record { later = later; before = k; here = l; before_is = ek; here_is = el; same = same_order (node_point k) (node_point l) h }
 
 -- faces
 no_boundary : (k : Kind) → (parts_above k).boundary ≡ true → ⊥
@@ -458,8 +383,7 @@ piece_beside a b e p f s j old mid new t ef es ej vertical slanted h k = piece_b
 pub row_shown : (m : Matrix) (i : Part) (row : Parts Extent) (ps qs : Parts Bool) (x : Extent) (t : Bool) → row ≡ pick i m.rows → ps ≡ qs → (t ≡ true ↔ AreShown row ps x) → t ≡ true → AreShown (pick i m.rows) qs x
 row_shown m i row ps qs x t is e h holds = subst (λ (r : Parts Extent). AreShown r qs x) is (shown_at row ps qs x t e h holds)
 
--- a node, by its standing in the other geometry
-pub node_standing : (own other : Outline) (p : Point) (i j : Part) (old new : Matrix) → i ≡ outline_part own p → j ≡ outline_part other p
-    → HasGrownBy (record { first = i; second = j; extent = Dot } ∷ []) old new → HasGrownBy (mark_at own other Dot p ∷ []) old new
-node_standing own other p i j old new ei ej h =
-    node_marked own other p i old new ei (subst (λ (k : Part). HasGrownBy (record { first = i; second = k; extent = Dot } ∷ []) old new) ej h)
+-- a place, by its part in the other geometry
+pub place_standing : (other : Outline) (p : Point) (i j : Part) (old new : Matrix) → j ≡ outline_part other p
+    → HasGrownBy (record { first = i; second = j; extent = Dot } ∷ []) old new → HasGrownBy (mark_in i other p ∷ []) old new
+place_standing other p i j old new e h = subst (λ (k : Part). HasGrownBy (record { first = i; second = k; extent = Dot } ∷ []) old new) e h

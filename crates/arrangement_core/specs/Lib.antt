@@ -1,3 +1,4 @@
+pub mod Around
 pub mod Beyond
 pub mod Ends
 pub mod Known

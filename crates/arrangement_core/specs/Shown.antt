@@ -1,26 +1,25 @@
 -- What a point can add to a matrix, by the parts in which it may lie.
-use Rattle.std.specs.Prelude.{◌≡◌, ◌≢◌, ℕ, ◌≤◌, ◌<◌, ◌-◌, pos, Bool, true, false, ◌&&◌, not}
-use Rattle.std.specs.Prelude.{List, All, count_by}
-use Rattle.std.specs.Ordering.{int_eq, is_lt}
-use Rattle.std.specs.List.{list_any, list_all, slice_index_or}
+use Rattle.std.specs.Prelude.{◌≡◌, ◌≢◌, ◌≤◌, pos, Bool, true, false, ◌&&◌, not, List, count_by}
+use Rattle.std.specs.Ordering.{int_eq}
+use Rattle.std.specs.List.{list_any, list_all}
 use Rattle.relation_core.specs.declared.extent.Extent.{Extent}
 use Rattle.relation_core.specs.declared.part.Parts.{Parts}
 use Rattle.relation_core.specs.declared.matrix.Matrix.{Matrix}
 use Rattle.plane_core.specs.declared.part.Part.{Part}
 use Rattle.plane_core.specs.declared.edge.Edge.{Edge}
-use Rattle.plane_core.specs.declared.node.Node.{Node}
+use Rattle.plane_core.specs.declared.vertex.Vertex.{Vertex}
 use Rattle.plane_core.specs.declared.outline.Kind.{Kind}
 use Rattle.plane_core.specs.declared.outline.Kind.TheVariants.{Points as Dots}
 use Rattle.plane_core.specs.declared.outline.Kind.TheVariants.{Lines as Polylines, Areas as Rings}
 use Rattle.plane_core.specs.declared.outline.Outline.{Outline}
 use Rattle.plane_core.specs.Boxes.{do_boxes_meet}
-use Rattle.plane_core.specs.Points.{Point, at, run, is_on, is_at, side, turn_of, IsSamePlace}
-use Rattle.plane_core.specs.Places.{node_point, place_order}
-use Rattle.plane_core.specs.Figures.{HasLength, is_odd}
+use Rattle.plane_core.specs.Points.{Point, at, run, is_on, is_at, side, turn_of, IsBefore}
+use Rattle.plane_core.specs.Figures.{is_odd}
 use Rattle.plane_core.specs.PlaneMatrices.{pick, entry}
 use Rattle.arrangement_core.specs.declared.course.Course.{Course}
-use Rattle.noding_core.specs.Nodes.{IsAmong, IsPlaceOf, IsPointOf, Ascend, middle}
+use Rattle.noding_core.specs.Nodes.{IsAmong, IsUpTo, IsGapOf, AreNodesOf}
 use Rattle.noding_core.specs.Marks.{rank}
+use Rattle.noding_core.specs.ReadOffs.{IsOneOf}
 
 -- each entry of a row at these parts is at least an extent
 abbrev pub AreShown : Parts Extent → Parts Bool → Extent → Type 0
@@ -73,15 +72,19 @@ pub record IsUncrossed (other : Outline) (e : Edge) (p : Point) : Type 0 where
 abbrev pub IsKnownApart : Outline → Course → Type 0
 IsKnownApart o c = c.is_apart ≡ true → list_all (λ f. not (is_along c.edge f)) o.edges.items ≡ true
 
--- nodes of an edge of a geometry in order, including those where it meets an edge of the other one
+-- the nodes of an edge of a geometry, in order, among edges that include those of both, and points
 pub record AreCuts (own other : Outline) (e : Edge) (ns : List Point) : Type 0 where
-  pub one : IsAmong e own.edges.items
-  pub long : HasLength e
-  pub others_long : (f : Edge) → IsAmong f other.edges.items → HasLength f
-  pub points : All (IsPointOf e) ns
-  pub ascend : Ascend ns
-  pub meetings : (f : Edge) (p : Point) → IsAmong f other.edges.items → 0 < p.w
-      → is_on e p ≡ true → is_on f p ≡ true → turn_of e f ≢ pos 0 → IsPlaceOf p ns
+  pub edges : List Edge
+  pub points : List Vertex
+  pub one : IsOneOf own other edges e
+  pub nodes : AreNodesOf edges points e ns
+
+-- a node of the edge and the next one
+pub record AreNext (own other : Outline) (e : Edge) (k l : Point) : Type 0 where
+  pub nodes : List Point
+  pub cuts : AreCuts own other e nodes
+  pub order : IsUpTo k l
+  pub gap : IsBefore k l → IsGapOf k l nodes
 
 -- all parts that can lie just above a point share areas
 abbrev pub AreFacesShown : Matrix → Kind → Kind → Type 0
@@ -92,18 +95,3 @@ AreFacesShown m own other =
 -- the same, unless the edge is vertical and no face lies above it
 abbrev pub IsFaceShown : Matrix → Kind → Kind → Edge → Type 0
 IsFaceShown m own other e = run e ≢ pos 0 → AreFacesShown m own other
-
--- a node at the same place as the one before it
-pub record IsRepeated (ns : List Node) (i : ℕ) : Type 0 where
-  pub later : 0 < i
-  pub before : Node
-  pub here : Node
-  pub before_is : before ≡ slice_index_or ns (i - 1) before
-  pub here_is : here ≡ slice_index_or ns i here
-  pub same : IsSamePlace (node_point before) (node_point here)
-
--- if two nodes differ, the middle between them is on an edge of the one geometry, and the edge
--- crosses no edge of the other there
-pub record IsGap (own other : Outline) (e : Edge) (k l : Point) : Type 0 where
-  pub on : is_lt (place_order k l) ≡ true → IsOnEdge own (middle k l)
-  pub uncrossed : is_lt (place_order k l) ≡ true → IsUncrossed other e (middle k l)

@@ -1,6 +1,6 @@
 //! How an edge of one geometry lies to the other geometry.
 
-ghost use Rattle.std.specs.Prelude.{◌≡◌, pos, not, true, All};
+ghost use Rattle.std.specs.Prelude.{◌≡◌, pos, not, true, All, IfSome};
 ghost use Rattle.std.specs.List.{list_all};
 ghost use Rattle.std.specs.Ordering.{int_eq};
 ghost use Rattle.plane_core.specs.declared.outline.Outline.{Outline};
@@ -8,7 +8,7 @@ ghost use Rattle.plane_core.specs.Points.{at, side, turn_of, is_on};
 ghost use Rattle.plane_core.specs.Places.{point_of};
 ghost use Rattle.plane_core.specs.Outlines.{outline_part, outline_above};
 ghost use Rattle.noding_core.specs.Near.{IsFound};
-ghost use Rattle.arrangement_core.specs.Lying.{IsKnownIn};
+ghost use Rattle.arrangement_core.specs.Lying.{IsKnownIn, LiesOff};
 ghost use Rattle.arrangement_core.specs.Shown.{is_along, IsKnownApart};
 
 use edge_index_core::IndexedOutline;
@@ -73,14 +73,23 @@ pub(crate) fn course_of(e: &Edge, part: Option<Part>, near: &[Edge]) -> Course
 }
 
 /// The part of the other geometry in which a point of an edge lies, and the part just above it,
-/// looked up unless they are known.
-pub(crate) fn standing_of(other: &IndexedOutline, course: &Course, p: &Place) -> Standing
+/// looked up unless they are known of the edge, or of the point off the boundary.
+pub(crate) fn standing_of(
+    other: &IndexedOutline,
+    course: &Course,
+    off: Option<Part>,
+    p: &Place,
+) -> Standing
     requires known { IsKnownIn other.now course.now }
     requires on { is_on course.now.edge (point_of p.now) ≡ true }
+    requires off { IfSome off (LiesOff other.now (point_of p.now)) }
     ensures part { result.part ≡ outline_part other.now (point_of p.now) }
     ensures above { result.above ≡ outline_above other.now (point_of p.now) }
 {
-    match course.part {
+    if let Some(part) = course.part {
+        return Standing { part, above: part };
+    }
+    match off {
         Some(part) => Standing { part, above: part },
         None => other.standing_at(p),
     }

@@ -8,10 +8,12 @@ mod ends;
 mod known;
 mod marks;
 mod matrices;
+mod near;
 mod pair;
 mod prepared;
 mod rounds;
 mod shown;
+mod walk;
 mod work;
 
 pub use prepared::{PreparedGeometry, relate, relate_prepared, relate_within};

@@ -2,24 +2,30 @@
 
 ghost use Rattle.std.specs.Prelude.{◌≡◌, ◌++◌, All, OnOk, IfOk, IfSome, true};
 ghost use Rattle.plane_core.specs.Figures.{HasLength};
+ghost use Rattle.arrangement_core.specs.Around.{HasNear};
 ghost use Rattle.arrangement_core.specs.Beyond.{IsBounded};
 ghost use Rattle.edge_index_core.specs.Beyond.{is_beyond};
-ghost use Rattle.noding_core.specs.Near.{IsFound};
-ghost use Rattle.arrangement_core.specs.Lying.{IsSeen, IsKnownIn};
-ghost use Rattle.arrangement_core.specs.Shown.{IsKnownApart};
+ghost use Rattle.arrangement_core.specs.Lying.{IsSeen, IsCourseIn, AreNear};
 ghost use Rattle.noding_core.specs.ReadOffs.{points_by, outline_edges, outline_points, IsOwn};
 ghost use Rattle.noding_core.specs.ReadOffs.{IsOneOf, IsEdgeMarked, AreMarked};
 
 use crate::beyond::is_edge_shown;
 use crate::course::{Course, course_of};
 use crate::known::{adds_none_near, part_seen, seen_along};
-use crate::marks::mark_noded;
+use crate::near::push_second;
 use crate::pair::Pair;
+use crate::walk::mark_noded;
 use crate::work::Work;
 use noding_core::{gather_nodes, push_near};
 use plane_core::{Edge, Kind, Outline, Part, Vertex};
 use relation_core::Matrix;
 use std::alloc::{AllocError, Global};
+
+/// As many edges as are near most edges, both of the own and of the other geometry.
+const USUALLY_NEAR: usize = 16;
+
+/// As many nodes as most edges have.
+const USUAL_NODES: usize = 8;
 
 /// Adds the points of a geometry, if it consists of points.
 fn push_points(points: &mut Vec<Vertex>, a: &Outline) -> Result<(), AllocError>
@@ -57,20 +63,21 @@ fn mark_near_edge(
 ) -> Result<Matrix, AllocError>
     requires one { let a = pair.now.first.now in let b = pair.now.second.now in
         IsOneOf a b (outline_edges a b) course.now.edge }
-    requires found { let near = work.old.near.items in
-        All (IsFound course.now.edge near) pair.now.second.now.edges.items }
-    requires apart { IsKnownApart pair.now.second.now course.now }
-    requires known { IsKnownIn pair.now.second.now course.now }
+    requires bounded { IsBounded pair.now.second.now pair.now.second_box }
+    requires near { AreNear pair.now.second.now course.now.edge work.old.near.items }
+    requires course { IsCourseIn pair.now.second.now course.now }
     ensures marked { let a = pair.now.first.now in let b = pair.now.second.now in
         let marked = IsEdgeMarked a b (outline_edges a b) points.now course.now.edge in
         IfOk result (λ m. marked matrix m) }
     ensures seen { work.new.seen ≡ work.old.seen }
 {
+    let others = work.near.as_slice().len();
     push_near(&mut work.near, &course.edge, pair.first)?;
     let near = work.near.as_slice();
     gather_nodes(&mut work.nodes, &course.edge, near, points)?;
     let nodes = work.nodes.as_slice();
-    let marked = mark_noded(matrix, pair, course, nodes);
+    let (second, _) = near.split_at(others);
+    let marked = mark_noded(matrix, pair, course, second, nodes);
     Ok(marked)
 }
 
@@ -86,13 +93,14 @@ pub(crate) fn mark_edge(
     requires bounded { IsBounded pair.now.second.now pair.now.second_box }
     requires one { let a = pair.now.first.now in let b = pair.now.second.now in
         IsOneOf a b (outline_edges a b) e.now }
+    requires near { HasNear pair.now.first.now pair.now.second.now pair.now.second_around.now }
     requires seen { IfSome work.old.seen (IsSeen pair.now.second.now) }
     ensures marked { let a = pair.now.first.now in let b = pair.now.second.now in
         IfOk result (λ m. IsEdgeMarked a b (outline_edges a b) points.now e.now matrix m) }
     ensures seen { IfSome work.new.seen (IsSeen pair.now.second.now) }
 {
     work.near.clear();
-    push_near(&mut work.near, e, pair.second)?;
+    push_second(&mut work.near, e, pair)?;
     work.seen = seen_along(pair, e, &work.near, work.seen);
     let course = course_of(e, part_seen(work.seen), &work.near);
     if adds_none_near(&matrix, pair, &course, &work.near) {
@@ -130,15 +138,15 @@ pub(crate) fn mark_outer_edge(
     mark_near_edge(work, matrix, pair, points, &course)
 }
 
-/// Empty lists, and no vertex.
-pub(crate) fn no_work(alloc: Global) -> Work
-    ensures { result.seen ≡ None }
+/// Empty lists with room for what most edges need, and no vertex.
+pub(crate) fn no_work(alloc: Global) -> Result<Work, AllocError>
+    ensures { IfOk result (λ work. work.seen ≡ None) }
 {
-    Work {
-        near: Vec::new(alloc),
-        nodes: Vec::new(alloc),
+    Ok(Work {
+        near: Vec::with_capacity(alloc, USUALLY_NEAR)?,
+        nodes: Vec::with_capacity(alloc, USUAL_NODES)?,
         seen: None,
-    }
+    })
 }
 
 /// A matrix that shows some edges of the first geometry.
@@ -152,6 +160,7 @@ pub(crate) fn mark_some(
     requires long { All HasLength (outline_edges pair.now.first.now pair.now.second.now) }
     requires own { All (IsOwn pair.now.first.now) edges.now }
     requires bounded { IsBounded pair.now.second.now pair.now.second_box }
+    requires near { HasNear pair.now.first.now pair.now.second.now pair.now.second_around.now }
     requires seen { IfSome work.old.seen (IsSeen pair.now.second.now) }
     ensures marked { let a = pair.now.first.now in let b = pair.now.second.now in
         let marked = AreMarked a b (outline_edges a b) points.now edges.now in

@@ -105,11 +105,15 @@ pub fn relate_prepared(
 ) -> Result<Matrix, AllocError>
     ensures { IfOk result (λ m. IsPlaneMatrix a.now b.now m) }
 {
+    let first_around = a.outline.edges_around(alloc, &b.bounds)?;
+    let second_around = b.outline.edges_around(alloc, &a.bounds)?;
     let pair = Pair {
         first: &a.outline,
         first_box: a.bounds,
+        first_around: &first_around,
         second: &b.outline,
         second_box: b.bounds,
+        second_around: &second_around,
     };
     let matrix = read_off(alloc, &pair)?;
     Ok(matrix)

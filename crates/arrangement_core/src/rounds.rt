@@ -3,7 +3,9 @@
 
 ghost use Rattle.std.specs.Prelude.{◌≡◌, ◌≤◌, length, All, IfOk};
 ghost use Rattle.plane_core.specs.Figures.{HasLength};
+ghost use Rattle.edge_index_core.specs.Around.{AreAround};
 ghost use Rattle.edge_index_core.specs.Beyond.{is_beyond};
+ghost use Rattle.arrangement_core.specs.Around.{HasNear};
 ghost use Rattle.arrangement_core.specs.Beyond.{IsBounded, is_around};
 ghost use Rattle.noding_core.specs.Growth.{outside};
 ghost use Rattle.noding_core.specs.ReadOffs.{outline_edges, IsOwn, AreMarked, AreSomeMarked};
@@ -48,6 +50,7 @@ fn mark_edges(
     requires long { All HasLength (outline_edges pair.now.first.now pair.now.second.now) }
     requires own { All (IsOwn pair.now.first.now) edges.now }
     requires bounded { IsBounded pair.now.second.now pair.now.second_box }
+    requires near { HasNear pair.now.first.now pair.now.second.now pair.now.second_around.now }
     ensures { let a = pair.now.first.now in let b = pair.now.second.now in
         let marked = AreMarked a b (outline_edges a b) points.now edges.now in
         IfOk result (λ m. marked matrix m) }
@@ -62,22 +65,24 @@ fn mark_edges(
 
 /// A matrix that shows the edges of the first geometry around the box of the second.
 fn mark_around(
-    alloc: Global,
     work: &mut Work,
     matrix: Matrix,
     pair: &Pair,
     points: &[Vertex],
 ) -> Result<Matrix, AllocError>
     requires long { All HasLength (outline_edges pair.now.first.now pair.now.second.now) }
-    requires bounded { IsBounded pair.now.second.now pair.now.second_box }
+    requires first { IsBounded pair.now.first.now pair.now.first_box }
+    requires second { IsBounded pair.now.second.now pair.now.second_box }
+    requires first_around { let edges = pair.now.first.now.edges.items in
+        AreAround pair.now.second_box edges pair.now.first_around.now }
+    requires second_around { let edges = pair.now.second.now.edges.items in
+        AreAround pair.now.first_box edges pair.now.second_around.now }
     ensures { let a = pair.now.first.now in let b = pair.now.second.now in
         let es = outline_edges a b in let box = pair.now.second_box in
         let marked = AreSomeMarked a b es points.now (is_around box) a.edges.items in
         IfOk result (λ m. marked matrix m) }
 {
-    let around = pair.first.edges_around(alloc, &pair.second_box)?;
-    let edges = around.as_slice();
-    let grown = mark_edges(work, matrix, pair, points, edges)?;
+    let grown = mark_edges(work, matrix, pair, points, pair.first_around)?;
     Ok(grown)
 }
 
@@ -127,7 +132,8 @@ fn outer_start(pair: &Pair) -> usize
 }
 
 /// A matrix that shows the edges of the first geometry that lie beyond the box of the second,
-/// beginning where few of them are likely to show all.
+/// beginning where few of them are likely to show all. It is unchanged if it has all that they can
+/// add.
 fn mark_outer(
     work: &mut Work,
     matrix: Matrix,
@@ -142,6 +148,9 @@ fn mark_outer(
         let marked = AreSomeMarked a b es points.now (is_beyond box) a.edges.items in
         IfOk result (λ m. marked matrix m) }
 {
+    if is_outer_shown(&matrix, pair.first.outline(), &pair.second_box) {
+        return Ok(matrix);
+    }
     let own_edges = pair.first.edges();
     let start = outer_start(pair);
     let (before, after) = own_edges.split_at(start);
@@ -151,23 +160,22 @@ fn mark_outer(
 }
 
 /// The matrix with all edges of two geometries.
-fn mark_both(
-    alloc: Global,
-    work: &mut Work,
-    pair: &Pair,
-    points: &[Vertex],
-) -> Result<Matrix, AllocError>
+fn mark_both(work: &mut Work, pair: &Pair, points: &[Vertex]) -> Result<Matrix, AllocError>
     requires long { All HasLength (outline_edges pair.now.first.now pair.now.second.now) }
     requires first { IsBounded pair.now.first.now pair.now.first_box }
     requires second { IsBounded pair.now.second.now pair.now.second_box }
+    requires first_around { let edges = pair.now.first.now.edges.items in
+        AreAround pair.now.second_box edges pair.now.first_around.now }
+    requires second_around { let edges = pair.now.second.now.edges.items in
+        AreAround pair.now.first_box edges pair.now.second_around.now }
     ensures { let a = pair.now.first.now in let b = pair.now.second.now in
         IfOk result (λ m. AreAllMarked a b points.now outside m) }
 {
     let turned = pair.turned();
     let start = outside();
-    let around_first = mark_around(alloc, work, start, pair, points)?;
+    let around_first = mark_around(work, start, pair, points)?;
     let across = transposed(&around_first);
-    let around_both = mark_around(alloc, work, across, &turned, points)?;
+    let around_both = mark_around(work, across, &turned, points)?;
     let second = mark_outer(work, around_both, &turned, points)?;
     let back = transposed(&second);
     let all = mark_outer(work, back, pair, points)?;
@@ -179,12 +187,16 @@ pub(crate) fn read_off(alloc: Global, pair: &Pair) -> Result<Matrix, AllocError>
     requires long { All HasLength (outline_edges pair.now.first.now pair.now.second.now) }
     requires first { IsBounded pair.now.first.now pair.now.first_box }
     requires second { IsBounded pair.now.second.now pair.now.second_box }
+    requires first_around { let edges = pair.now.first.now.edges.items in
+        AreAround pair.now.second_box edges pair.now.first_around.now }
+    requires second_around { let edges = pair.now.second.now.edges.items in
+        AreAround pair.now.first_box edges pair.now.second_around.now }
     ensures { IfOk result (λ m. IsReadOffBy pair.now.first.now pair.now.second.now m) }
 {
     let point_list = all_points(alloc, pair.first.outline(), pair.second.outline())?;
     let points = point_list.as_slice();
-    let mut work = no_work(alloc);
-    let marked = mark_both(alloc, &mut work, pair, points)?;
+    let mut work = no_work(alloc)?;
+    let marked = mark_both(&mut work, pair, points)?;
     let with_first = mark_points(marked, pair.first, pair.second);
     let turned = transposed(&with_first);
     let with_second = mark_points(turned, pair.second, pair.first);

@@ -7,13 +7,14 @@ ghost use Rattle.plane_core.specs.Outlines.{outline_part, outline_above, IsScan}
 ghost use Rattle.edge_index_core.specs.Around.{AreAround};
 ghost use Rattle.edge_index_core.specs.Indexes.{IsIndexOf};
 ghost use Rattle.edge_index_core.specs.Runs.{AreRunBoxes};
+ghost use Rattle.edge_index_core.specs.Starts.{AreWithin};
 ghost use Rattle.edge_index_core.specs.Trees.{IsTreeOf};
 
 use crate::around::{find_around, runs_around, scan_around};
 use crate::entries::entries_of;
 use crate::runs::{run_boxes, scan_runs};
 use crate::scan::scan_node;
-use crate::starts::Starts;
+use crate::starts::{Starts, outermost, side_beyond};
 use geom_core::Shape;
 use plane_core::{Edge, Outline, Place, Scan, Spot, Standing};
 use rtree_core::{Node, RTree};
@@ -38,16 +39,17 @@ pub(crate) enum EdgeIndex {
     Tree(RTree),
 }
 
-/// An outline that finds its edges by their boxes. In contracts its value is the outline.
+/// An outline that finds its edges by their boxes. Its outermost edges are known if it has an
+/// index, and else are sought where they are needed. In contracts its value is the outline.
 #[derive(Drop)]
 pub struct IndexedOutline {
     outline: Outline,
     index: EdgeIndex,
-    starts: Starts,
+    starts: Option<Starts>,
 }
 
 impl Model for IndexedOutline {
-    ghost use Rattle.std.specs.Prelude.{length};
+    ghost use Rattle.std.specs.Prelude.{length, IfSome};
     ghost use Rattle.plane_core.specs.declared.outline.Outline.{Outline};
     ghost use Rattle.edge_index_core.specs.Starts.{AreWithin};
     ghost use Rattle.edge_index_core.specs.Indexes.{IsIndexOf};
@@ -57,7 +59,7 @@ impl Model for IndexedOutline {
     ghost view = { λ i. i.outline };
 
     ghost invariant = { λ i. IsIndexOf i.outline.edges.items i.index
-        × AreWithin (length i.outline.edges.items) i.starts };
+        × IfSome i.starts (AreWithin (length i.outline.edges.items)) };
 }
 
 /// How edges are found, by their number.
@@ -74,6 +76,16 @@ fn index_of(alloc: Global, edges: &[Edge]) -> Result<EdgeIndex, AllocError>
     let entries = entries_of(alloc, edges)?;
     let tree = RTree::pack(alloc, entries)?;
     Ok(EdgeIndex::Tree(tree))
+}
+
+/// The outermost edges of an outline, if it has an index.
+fn starts_of(outline: &Outline, index: &EdgeIndex) -> Option<Starts>
+    ensures { IfSome result (AreWithin (length outline.now.edges.items)) }
+{
+    match index {
+        EdgeIndex::None => None,
+        EdgeIndex::Runs(_) | EdgeIndex::Tree(_) => Some(Starts::of(outline)),
+    }
 }
 
 /// The scan of the edges below the root of a tree at a point.
@@ -101,7 +113,7 @@ impl IndexedOutline {
         ensures { IfOk result (λ i. i ≡ outline) }
     {
         let index = index_of(alloc, &outline.edges)?;
-        let starts = Starts::of(&outline);
+        let starts = starts_of(&outline, &index);
         Ok(IndexedOutline {
             outline,
             index,
@@ -113,11 +125,10 @@ impl IndexedOutline {
     pub fn plain(outline: Outline) -> IndexedOutline
         ensures { result ≡ outline }
     {
-        let starts = Starts::of(&outline);
         IndexedOutline {
             outline,
             index: EdgeIndex::None,
-            starts,
+            starts: None,
         }
     }
 
@@ -160,7 +171,11 @@ impl IndexedOutline {
     pub fn start(&self, own: &Shape, other: &Shape) -> usize
         ensures { result ≤ length self.now.edges.items }
     {
-        self.starts.beyond(own, other)
+        let side = side_beyond(own, other);
+        match &self.starts {
+            Some(starts) => starts.at(side),
+            None => outermost(&self.outline.edges, side),
+        }
     }
 
     /// Edges of the outline, in order, among them all that don't lie on one side of a box.

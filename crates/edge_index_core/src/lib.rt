@@ -15,4 +15,4 @@ pub use beyond::is_beyond;
 pub use bounds::bounds_of;
 pub use entries::entries_of;
 pub use indexed::IndexedOutline;
-pub use runs::first_run;
+pub use runs::{first_run, run_boxes};

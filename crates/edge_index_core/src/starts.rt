@@ -6,6 +6,14 @@ ghost use Rattle.edge_index_core.specs.Starts.{AreWithin};
 use geom_core::Shape;
 use plane_core::{Edge, Kind, Outline};
 
+/// A side of a box.
+#[derive(Clone, Copy)]
+pub(crate) enum Side {
+    Low,
+    Left,
+    Right,
+}
+
 /// The index of an edge that ends at the lowest vertex, of one that ends at the leftmost, and of
 /// one that ends at the rightmost; 0 if there are no edges.
 #[derive(Clone, Copy, Drop)]
@@ -32,6 +40,30 @@ fn least_by<F: Fn(&Edge) -> i64>(edges: &[Edge], number: F) -> usize
     place
 }
 
+/// The index of an edge that ends at the outermost vertex on a side, or 0 if there are no edges.
+pub(crate) fn outermost(edges: &[Edge], side: Side) -> usize
+    ensures { result ≤ length edges.now }
+{
+    match side {
+        Side::Low => least_by(edges, |e| e.b.y),
+        Side::Left => least_by(edges, |e| e.b.x),
+        Side::Right => least_by(edges, |e| -e.b.x),
+    }
+}
+
+/// The side on which a box extends beyond another, or the lower one.
+pub(crate) fn side_beyond(own: &Shape, other: &Shape) -> Side {
+    if own.y1() < other.y1() {
+        Side::Low
+    } else if own.x1() < other.x1() {
+        Side::Left
+    } else if other.x2() < own.x2() {
+        Side::Right
+    } else {
+        Side::Low
+    }
+}
+
 impl Starts {
     /// The outermost edges of rings; of other geometries the first edge, at which none begins.
     pub(crate) fn of(outline: &Outline) -> Starts
@@ -52,24 +84,20 @@ impl Starts {
         ensures { AreWithin (length edges.now) result }
     {
         Starts {
-            low: least_by(edges, |e| e.b.y),
-            left: least_by(edges, |e| e.b.x),
-            right: least_by(edges, |e| -e.b.x),
+            low: outermost(edges, Side::Low),
+            left: outermost(edges, Side::Left),
+            right: outermost(edges, Side::Right),
         }
     }
 
-    /// The edge that ends at the vertex where the box of all edges extends beyond another box.
-    pub(crate) fn beyond(&self, own: &Shape, other: &Shape) -> usize
+    /// The edge that ends at the outermost vertex on a side.
+    pub(crate) fn at(&self, side: Side) -> usize
         ensures { (n : ℕ) → AreWithin n self.now → result ≤ n }
     {
-        if own.y1() < other.y1() {
-            self.low
-        } else if own.x1() < other.x1() {
-            self.left
-        } else if other.x2() < own.x2() {
-            self.right
-        } else {
-            self.low
+        match side {
+            Side::Low => self.low,
+            Side::Left => self.left,
+            Side::Right => self.right,
         }
     }
 }

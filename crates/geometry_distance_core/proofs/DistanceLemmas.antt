@@ -20,7 +20,7 @@ use Rattle.geometry_distance_core.specs.declared.nearest.Nearest.{Nearest}
 use Rattle.geometry_distance_core.specs.NearestPairs.{Pairs, IsLeastOf, IsFound, IsZero, IsNearest}
 use Rattle.geometry_distance_core.specs.Skeletons.{is_on_skeleton, IsOnSkeleton, AreApart}
 use Rattle.geometry_distance_core.specs.Measured.{of_skeletons, HasStartInArea}
-use Rattle.geometry_distance_core.proofs.WayLemmas.{on_way_wide}
+use Rattle.noding_core.proofs.WayLemmas.{on_way_wide}
 use Rattle.geometry_distance_core.proofs.BoundaryLemmas.{far_way}
 use Rattle.geometry_distance_core.proofs.SkeletonLemmas.{skeleton_in, to_skeleton, apart_least}
 use Rattle.geometry_distance_core.proofs.SearchLemmas.{and_left, and_right, and_both}

@@ -1,5 +1,3 @@
-pub mod WayLemmas
-pub mod PartLemmas
 pub mod BoundaryLemmas
 pub mod SkeletonLemmas
 pub mod PairLemmas

@@ -42,8 +42,8 @@ use Rattle.noding_core.proofs.TestLemmas.{by_test, clash}
 use Rattle.distance_core.specs.ShapePoints.{IsPointOf}
 use Rattle.geometry_distance_core.specs.Measured.{HasStartIn, HasStartInArea, starts_in, is_within}
 use Rattle.geometry_distance_core.specs.Skeletons.{is_on_skeleton, IsOnSkeleton, AreApart}
-use Rattle.geometry_distance_core.proofs.WayLemmas.{IsOnWay, IsMet, on_way_wide}
-use Rattle.geometry_distance_core.proofs.BoundaryLemmas.{MeetsSome, met_or_same}
+use Rattle.noding_core.proofs.WayLemmas.{IsOnWay, IsMet, on_way_wide}
+use Rattle.noding_core.proofs.MetLemmas.{MeetsSome, met_or_same}
 use Rattle.geometry_distance_core.proofs.SkeletonLemmas.{some_any, off_all, skeleton_in}
 
 -- ---- the points between two points of an edge are on it

@@ -17,8 +17,9 @@ use Rattle.noding_core.specs.Nodes.{IsAmong}
 use Rattle.noding_core.proofs.TestLemmas.{by_test, clash}
 use Rattle.noding_core.proofs.OffPartLemmas.{IsOffAll, off_part-is}
 use Rattle.geometry_distance_core.specs.Skeletons.{is_on_skeleton, IsOnSkeleton, AreApart}
-use Rattle.geometry_distance_core.proofs.WayLemmas.{IsOnWay, way_first, on_way_wide}
-use Rattle.geometry_distance_core.proofs.BoundaryLemmas.{met_or_same, far_way}
+use Rattle.noding_core.proofs.WayLemmas.{IsOnWay, way_first, on_way_wide}
+use Rattle.noding_core.proofs.MetLemmas.{met_or_same}
+use Rattle.geometry_distance_core.proofs.BoundaryLemmas.{far_way}
 
 -- tests of lists
 pub some_any : {X : Type 0} (t : X → Bool) (x : X) (xs : List X) → IsAmong x xs → t x ≡ true → list_any t xs ≡ true

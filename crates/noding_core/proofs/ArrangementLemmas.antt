@@ -46,20 +46,20 @@ second_part g h noded a = record {
 }
 
 -- an edge taken from the one end or the other
-record IsTaken (e f : Edge) : Type 0 where
-  on : (p : Point) → is_on f p ≡ is_on e p
-  turn : (d : Edge) → turn_of e d ≡ pos 0 → turn_of f d ≡ pos 0
+pub record IsTaken (e f : Edge) : Type 0 where
+  pub on : (p : Point) → is_on f p ≡ is_on e p
+  pub turn : (d : Edge) → turn_of e d ≡ pos 0 → turn_of f d ≡ pos 0
 
-straight : (e : Edge) → IsTaken e e
+pub straight : (e : Edge) → IsTaken e e
 straight e = record { on = λ p. refl; turn = λ d h. h }
 
-turned : (e : Edge) → IsTaken e (flip e)
+pub turned : (e : Edge) → IsTaken e (flip e)
 turned e = record { on = is_on-flip e; turn = λ d h. zero _ _ _ _ (turn_of-turned d (flip e)) (turn_of-flip d e) (turn_of-turned d e) h }
   where
     zero : (a b c d : ℤ) → a ≡ neg_ℤ b → b ≡ neg_ℤ c → d ≡ neg_ℤ c → d ≡ pos 0 → a ≡ pos 0
     zero a b c d h k l m = omega (arith, ints)
 
-forward_piece : (es : List Edge) (vs : List Vertex) (e f : Edge) (k l : Point) (ns : List Point) → IsForward f → IsTaken e f → IsAmong e es → AreNodesOf es vs e ns → IsGapOf k l ns → IsPieceOf es vs f k l
+pub forward_piece : (es : List Edge) (vs : List Vertex) (e f : Edge) (k l : Point) (ns : List Point) → IsForward f → IsTaken e f → IsAmong e es → AreNodesOf es vs e ns → IsGapOf k l ns → IsPieceOf es vs f k l
 forward_piece es vs e f k l ns fw taken one are gap = record {
   forward = fw;
   wide_k = of_k.wide;

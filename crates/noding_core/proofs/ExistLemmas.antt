@@ -13,7 +13,7 @@ use Rattle.plane_core.proofs.FormLemmas.{by_zero}
 use Rattle.plane_core.proofs.CrossingLemmas.{no_meeting, meeting_up, meeting_down, crossing_of}
 use Rattle.noding_core.specs.Nodes.{IsAmong, IsNode, IsPlaceOf, IsUpTo, Ascend, IsPointOf, AreNodesOf}
 use Rattle.noding_core.specs.Nodes.IsNode.{FirstEnd, LastEnd, Meeting, Single}
-use Rattle.noding_core.proofs.OrderLemmas.{same_refl, same_trans, up_to_or_after, before_up_to, same_before}
+use Rattle.noding_core.proofs.OrderLemmas.{same_refl, same_trans, up_to_or_after, up_to_trans}
 use Rattle.noding_core.proofs.OffPartLemmas.{first_on, last_on}
 use Rattle.noding_core.proofs.ReadOffLemmas.{by_bool}
 use Rattle.noding_core.proofs.GatherLemmas.{at_first, at_same, on_there, parallel_both, meeting_same}
@@ -29,11 +29,6 @@ record Grows (e : Edge) (ns : List Point) (Q : List Point → Type 0) : Type 0 w
   lined : IsLined e new
   kept : (q : Point) → IsPlaceOf q ns → IsPlaceOf q new
   more : Q new
-
-up_to_trans : (p q r : Point) → 0 < p.w → 0 < q.w → 0 < r.w → IsUpTo p q → IsUpTo q r → IsUpTo p r
-up_to_trans p q r wp wq wr (inl b) h = inl (before_up_to p q r wp wq wr b h)
-up_to_trans p q r wp wq wr (inr s) (inl b) = inl (same_before p q r wp wq s b)
-up_to_trans p q r wp wq wr (inr s) (inr t) = inr (same_trans p q r wp wq wr s t)
 
 all_from : (e : Edge) (p n : Point) (ns : List Point) → 0 < p.w → 0 < n.w → All (IsPointOf e) ns → IsUpTo p n → All (IsUpTo n) ns → All (IsUpTo p) ns
 all_from e p n ns wp wn on le h = λ i d lt. up_to_trans p n _ wp wn (on i d lt).wide le (h i d lt)

@@ -5,7 +5,7 @@ use Rattle.std.proofs.lemmas.Int.{ints}
 use Rattle.std.specs.Ordering.{int_eq}
 use Rattle.std.proofs.lemmas.List.{take_more, take_all, append-nil, map-append}
 use Rattle.relation_core.specs.declared.extent.Extent.{Extent}
-use Rattle.relation_core.specs.declared.extent.Extent.TheVariants.{Line, Area}
+use Rattle.relation_core.specs.declared.extent.Extent.TheVariants.{Point as Dot, Line, Area}
 use Rattle.relation_core.specs.declared.part.Parts.{Parts}
 use Rattle.relation_core.specs.declared.matrix.Matrix.{Matrix}
 use Rattle.plane_core.specs.declared.part.Part.{Part}
@@ -19,7 +19,7 @@ use Rattle.plane_core.specs.Outlines.{outline_part, outline_above}
 use Rattle.plane_core.specs.PlaneMatrices.{entry, pick}
 use Rattle.noding_core.specs.Nodes.{IsAmong}
 use Rattle.noding_core.specs.Marks.{rank}
-use Rattle.noding_core.specs.Growth.{Mark, HasGrownBy, with_part, mark_at, mark_above, piece_marks, gap_marks, gaps_marks}
+use Rattle.noding_core.specs.Growth.{Mark, HasGrownBy, with_part, mark_at, mark_above, piece_marks, gap_marks, gaps_marks, edge_marks}
 use Rattle.noding_core.proofs.AmongLemmas.{among_left, among_right, among_either}
 
 level_zero : (z : ℤ) → int_eq z (pos 0) ≡ true → z ≡ pos 0
@@ -179,27 +179,79 @@ gaps_step a b e (m ∷ n ∷ ns) (suc j) k l lt ek el =
     less : suc (suc j) < length (m ∷ n ∷ ns) → suc j < length (n ∷ ns)
     less h = omega arith
 
-pub grown_gap : (a b : Outline) (e : Edge) (ns : List Node) (i : ℕ) (k l : Node) (old mid new : Matrix) → 1 ≤ i → i < length ns
+-- the same marks in another order
+pub grown_same : (xs ys : List Mark) (a b : Matrix) → ((k : Mark) → IsAmong k xs → IsAmong k ys) → ((k : Mark) → IsAmong k ys → IsAmong k xs) → HasGrownBy xs a b → HasGrownBy ys a b
+grown_same xs ys a b there back h = record {
+  kept = h.kept;
+  reached = λ k one. h.reached k (back k one);
+  sound = λ i j. elim (h.sound i j) [ inl e ↦ inl e | inr one ↦ inr (there _ one) ];
+}
+
+four_turned : (ps gs qs xs : List Mark) (k : Mark) → IsAmong k ((ps ++ gs) ++ (qs ++ xs)) → IsAmong k ((ps ++ xs) ++ (gs ++ qs))
+four_turned ps gs qs xs k one = elim (among_either k (ps ++ gs) (qs ++ xs) one) [
+  | inl first ↦ elim (among_either k ps gs first) [
+    | inl p ↦ among_left k (ps ++ xs) (gs ++ qs) (among_left k ps xs p)
+    | inr g ↦ among_right k (ps ++ xs) (gs ++ qs) (among_left k gs qs g)
+  ]
+  | inr last ↦ elim (among_either k qs xs last) [
+    | inl q ↦ among_right k (ps ++ xs) (gs ++ qs) (among_right k gs qs q)
+    | inr x ↦ among_left k (ps ++ xs) (gs ++ qs) (among_right k ps xs x)
+  ]
+]
+
+four_back : (ps gs qs xs : List Mark) (k : Mark) → IsAmong k ((ps ++ xs) ++ (gs ++ qs)) → IsAmong k ((ps ++ gs) ++ (qs ++ xs))
+four_back ps gs qs xs k one = elim (among_either k (ps ++ xs) (gs ++ qs) one) [
+  | inl first ↦ elim (among_either k ps xs first) [
+    | inl p ↦ among_left k (ps ++ gs) (qs ++ xs) (among_left k ps gs p)
+    | inr x ↦ among_right k (ps ++ gs) (qs ++ xs) (among_right k qs xs x)
+  ]
+  | inr last ↦ elim (among_either k gs qs last) [
+    | inl g ↦ among_left k (ps ++ gs) (qs ++ xs) (among_right k ps gs g)
+    | inr q ↦ among_right k (ps ++ gs) (qs ++ xs) (among_left k qs xs q)
+  ]
+]
+
+-- the first node, and one more node with the gap before it
+pub grown_first : (a b : Outline) (e : Edge) (ns : List Node) (n : Node) (old new : Matrix) → 0 < length ns → n ≡ get_or ns 0 n
+    → HasGrownBy (mark_at a b Dot (node_point n) ∷ []) old new → HasGrownBy (edge_marks a b (record { edge = e; nodes = map node_point (take 1 ns) })) old new
+grown_first a b e [] n old new some is h = absurd (none some)
+  where
+    none : 0 < 0 → ⊥
+    none h = omega arith
+grown_first a b e (m ∷ ns) n old new some is h = subst (λ (x : Node). HasGrownBy (mark_at a b Dot (node_point x) ∷ []) old new) is h
+
+pub grown_next : (a b : Outline) (e : Edge) (ns : List Node) (i : ℕ) (k l : Node) (old mid new : Matrix) → 1 ≤ i → i < length ns
     → k ≡ get_or ns (i - 1) k → l ≡ get_or ns i l
-    → HasGrownBy (gaps_marks a b e (map node_point (take i ns))) old mid → HasGrownBy (gap_marks a b e (node_point k) (node_point l)) mid new
-    → HasGrownBy (gaps_marks a b e (map node_point (take (i + 1) ns))) old new
-grown_gap a b e ns zero k l old mid new one lt ek el h g = absurd (none one)
+    → HasGrownBy (edge_marks a b (record { edge = e; nodes = map node_point (take i ns) })) old mid
+    → HasGrownBy (gap_marks a b e (node_point k) (node_point l) ++ mark_at a b Dot (node_point l) ∷ []) mid new
+    → HasGrownBy (edge_marks a b (record { edge = e; nodes = map node_point (take (i + 1) ns) })) old new
+grown_next a b e ns zero k l old mid new one lt ek el h g = absurd (none one)
   where
     none : 1 ≤ 0 → ⊥
     none h = omega arith
-grown_gap a b e ns (suc j) k l old mid new one lt ek el h g =
+grown_next a b e ns (suc j) k l old mid new one lt ek el h g =
     let back : suc j - 1 ≡ j = omega arith in
     let more : suc j + 1 ≡ suc (suc j) = omega arith in
-    let step = gaps_step a b e ns j k l lt (subst (λ (i : ℕ). k ≡ get_or ns i k) back ek) el in
-    subst (λ (i : ℕ). HasGrownBy (gaps_marks a b e (map node_point (take i ns))) old new) (sym more)
-    (grown_as _ _ old new (sym step) (grown-trans _ _ old mid new h g))
+    let f : Point → Mark = mark_at a b Dot in
+    let ps : List Point = map node_point (take (suc j) ns) in
+    let gap : List Mark = gap_marks a b e (node_point k) (node_point l) in
+    let points : map node_point (take (suc j + 1) ns) ≡ ps ++ node_point l ∷ [] =
+    ap (map node_point) (take_more ns (suc j) l lt) ∙ map-append node_point (take (suc j) ns) (get_or ns (suc j) l ∷ []) ∙ ap (λ (x : Node). ps ++ node_point x ∷ []) (sym el) in
+    let nodes : map f (map node_point (take (suc j + 1) ns)) ≡ map f ps ++ f (node_point l) ∷ [] = ap (map f) points ∙ map-append f ps (node_point l ∷ []) in
+    let gaps : gaps_marks a b e (map node_point (take (suc j + 1) ns)) ≡ gaps_marks a b e ps ++ gap =
+    ap (λ (i : ℕ). gaps_marks a b e (map node_point (take i ns))) more ∙ gaps_step a b e ns j k l lt (subst (λ (i : ℕ). k ≡ get_or ns i k) back ek) el in
+    subst (λ (xs : List Mark). HasGrownBy (xs ++ gaps_marks a b e (map node_point (take (suc j + 1) ns))) old new) (sym nodes)
+    (subst (λ (ys : List Mark). HasGrownBy ((map f ps ++ f (node_point l) ∷ []) ++ ys) old new) (sym gaps)
+    (grown_same ((map f ps ++ gaps_marks a b e ps) ++ (gap ++ f (node_point l) ∷ [])) ((map f ps ++ f (node_point l) ∷ []) ++ (gaps_marks a b e ps ++ gap)) old new
+    (four_turned (map f ps) (gaps_marks a b e ps) gap (f (node_point l) ∷ [])) (four_back (map f ps) (gaps_marks a b e ps) gap (f (node_point l) ∷ []))
+    (grown-trans (map f ps ++ gaps_marks a b e ps) (gap ++ f (node_point l) ∷ []) old mid new h g)))
 
 pub grown_whole : {A : Type 0} (f : A → Mark) (xs : List A) (i : ℕ) (a b : Matrix) → length xs ≤ i → HasGrownBy (map f (take i xs)) a b → HasGrownBy (map f xs) a b
 grown_whole f xs i a b h k = grown_as (map f (take i xs)) (map f xs) a b (ap (map f) (take_all i xs h)) k
 
-pub grown_gaps : (a b : Outline) (e : Edge) (ns : List Node) (i : ℕ) (old new : Matrix) → length ns ≤ i
-    → HasGrownBy (gaps_marks a b e (map node_point (take i ns))) old new → HasGrownBy (gaps_marks a b e (map node_point ns)) old new
-grown_gaps a b e ns i old new h k = subst (λ (xs : List Node). HasGrownBy (gaps_marks a b e (map node_point xs)) old new) (take_all i ns h) k
+pub grown_nodes : (a b : Outline) (e : Edge) (ns : List Node) (i : ℕ) (old new : Matrix) → length ns ≤ i
+    → HasGrownBy (edge_marks a b (record { edge = e; nodes = map node_point (take i ns) })) old new → HasGrownBy (edge_marks a b (record { edge = e; nodes = map node_point ns })) old new
+grown_nodes a b e ns i old new h k = subst (λ (xs : List Node). HasGrownBy (edge_marks a b (record { edge = e; nodes = map node_point xs })) old new) (take_all i ns h) k
 
 -- what raises an entry
 pub raised_then : (m : Matrix) (k : Mark) (row changed : Parts Extent) (rows : Parts (Parts Extent)) (known : Extent) (r s : ℕ)

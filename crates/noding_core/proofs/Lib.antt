@@ -1,15 +1,19 @@
 pub mod AmongLemmas
 pub mod ArrangementLemmas
+pub mod AsideLemmas
+pub mod BoxApartLemmas
 pub mod BoxLemmas
 pub mod CrossLemmas
 pub mod ExistLemmas
 pub mod FaceLemmas
 pub mod FlipLemmas
+pub mod GapLemmas
 pub mod GatherLemmas
 pub mod GrowthLemmas
 pub mod LawLemmas
 pub mod LineLemmas
 pub mod MatrixLemmas
+pub mod MetLemmas
 pub mod NearLemmas
 pub mod NodeLemmas
 pub mod OffPartLemmas
@@ -26,3 +30,5 @@ pub mod SortLemmas
 pub mod TestLemmas
 pub mod TopmostLemmas
 pub mod TurnLemmas
+pub mod WayEdgeLemmas
+pub mod WayLemmas

@@ -65,6 +65,9 @@ up_to_y p q e (inr h) = plain _ _ h.1
 on_side : (s a b z c d y : ℤ) → (int_eq s (pos 0) && (int_le a z && int_le z b || int_le b z && int_le z a) && (int_le c y && int_le y d || int_le d y && int_le y c)) ≡ true → s ≡ pos 0
 on_side s a b z c d y h = grind (arith, ints)
 
+pub on_level : (e : Edge) (p : Point) → is_on e p ≡ true → side e p ≡ pos 0
+on_level e p h = on_side (side e p) (pos p.w *ℤ e.a.x) (pos p.w *ℤ e.b.x) p.x (pos p.w *ℤ e.a.y) (pos p.w *ℤ e.b.y) p.y h
+
 on_low : (s a b z c d y : ℤ) → a ≤ℤ b → (int_eq s (pos 0) && (int_le a z && int_le z b || int_le b z && int_le z a) && (int_le c y && int_le y d || int_le d y && int_le y c)) ≡ true → a ≤ℤ z
 on_low s a b z c d y h k = grind (arith, ints)
 

@@ -4,6 +4,7 @@ use Rattle.std.specs.Prelude.{ℤ, ◌≤ℤ◌, int_le, Bool, ◌||◌}
 use Rattle.std.specs.Int.{int_min, int_max}
 use Rattle.std.specs.List.{flat_map, Contains}
 use Rattle.std.proofs.lemmas.Int.{ints, clamps}
+use Rattle.std.proofs.lemmas.List.{take-append-drop}
 use Rattle.std.proofs.lemmas.List.Elements.{All-nil, All-append, All-more, All-contains, Contains-append_left, Contains-push}
 use Rattle.geom_core.specs.declared.shape.Shape.{Shape}
 use Rattle.geom_core.specs.Cells.{Meets, IsIn}
@@ -22,13 +23,15 @@ use Rattle.edge_index_core.proofs.EntryLemmas.{tree_holds}
 use Rattle.edge_index_core.proofs.RunLemmas.{run_off}
 use Rattle.edge_index_core.proofs.ScanLemmas.{nodes_more}
 use Rattle.noding_core.specs.Gathered.{Extends}
-use Rattle.noding_core.specs.Near.{IsFound, IsEntryFound}
+use Rattle.noding_core.specs.Near.{IsFound, IsEntryFound, AddsAmong}
 use Rattle.noding_core.specs.Nodes.{IsAmong, IsNode, AreNodesOf}
 use Rattle.noding_core.specs.Nodes.IsNode.{FirstEnd, LastEnd, Meeting, Single}
+use Rattle.noding_core.proofs.AmongLemmas.{among_left, among_right, among_either}
 use Rattle.noding_core.proofs.NodeLemmas.{all_among}
 use Rattle.noding_core.proofs.OffPartLemmas.{first_on, last_on}
 use Rattle.noding_core.proofs.GatherLemmas.{boxes_meet, extends-refl}
 use Rattle.noding_core.proofs.TestLemmas.{by_test, clash, true_le, first_holds, second_holds}
+use Rattle.noding_core.proofs.TurnLemmas.{get_among}
 
 -- what is found stays found
 found_kept : (e : Edge) (ns ms : List Edge) (f : Edge) → Extends ns ms → IsFound e ns f → IsFound e ms f
@@ -47,7 +50,7 @@ found_more e ns ms f fs i lt is kept h k =
     All-more (IsFound e ms) fs i f lt (all_found_kept e ns ms (take i fs) kept h) (subst (IsFound e ms) is k)
 
 -- boxes that share nothing
-or_four : {P : Type 0} (t u v w : Bool) → (t || u || v || w) ≡ true → (t ≡ true → P) → (u ≡ true → P) → (v ≡ true → P) → (w ≡ true → P) → P
+pub or_four : {P : Type 0} (t u v w : Bool) → (t || u || v || w) ≡ true → (t ≡ true → P) → (u ≡ true → P) → (v ≡ true → P) → (w ≡ true → P) → P
 or_four true u v w h f g k l = f refl
 or_four false true v w h f g k l = g refl
 or_four false false true w h f g k l = k refl
@@ -169,3 +172,27 @@ near_nodes e es ns vs ps found h = record {
   last_end = h.last_end;
   nodes = λ p wide on node. h.nodes p wide on (near_node e es ns vs p wide on found node);
 }
+
+-- what is added is among some edges
+pub adds-none : (es ns : List Edge) → AddsAmong es ns ns
+adds-none es ns f one = inl one
+
+pub adds-trans : (es ns ms ls : List Edge) → AddsAmong es ns ms → AddsAmong es ms ls → AddsAmong es ns ls
+adds-trans es ns ms ls h k f one = elim (k f one) [ inl old ↦ h f old | inr own ↦ inr own ]
+
+pub adds_pushed : (es ns ms : List Edge) (i : ℕ) (d g : Edge) → i < length es → g ≡ get_or es i d → ms ≡ ns ++ g ∷ [] → AddsAmong es ns ms
+adds_pushed es ns ms i d g lt is pushed f one = elim (among_either f ns (g ∷ []) (subst (IsAmong f) pushed one)) [
+  | inl old ↦ inl old
+  | inr new ↦ elim new [
+    | inl here ↦ inr (subst (λ (x : Edge). IsAmong x es) (sym (here ∙ is)) (get_among es i d lt))
+    | inr none ↦ absurd none
+  ]
+]
+
+-- those of a run are among all
+pub adds_run : (es done rest run ns ms : List Edge) → es ≡ done ++ rest → run ≡ take run_len rest → AddsAmong run ns ms → AddsAmong es ns ms
+adds_run es done rest run ns ms whole is h f one = elim (h f one) [
+  | inl old ↦ inl old
+  | inr own ↦ inr (subst (IsAmong f) (sym whole) (among_right f done rest
+      (subst (IsAmong f) (take-append-drop run_len rest) (among_left f (take run_len rest) (drop run_len rest) (subst (IsAmong f) is own)))))
+]

@@ -180,6 +180,11 @@ pub before_up_to : (p q r : Point) → 0 < p.w → 0 < q.w → 0 < r.w → IsBef
 before_up_to p q r wp wq wr h (inl k) = before_trans p q r wp wq wr h k
 before_up_to p q r wp wq wr h (inr k) = before_same p q r wq wr h k
 
+pub up_to_trans : (p q r : Point) → 0 < p.w → 0 < q.w → 0 < r.w → IsUpTo p q → IsUpTo q r → IsUpTo p r
+up_to_trans p q r wp wq wr (inl b) h = inl (before_up_to p q r wp wq wr b h)
+up_to_trans p q r wp wq wr (inr s) (inl b) = inl (same_before p q r wp wq s b)
+up_to_trans p q r wp wq wr (inr s) (inr t) = inr (same_trans p q r wp wq wr s t)
+
 -- not after
 pub up_to_or_after : (p q : Point) → IsUpTo p q ⊎ IsBefore q p
 up_to_or_after p q = elim (order p q) [

@@ -266,18 +266,6 @@ marked_none a b es vs start = record { noded = []; are_noded = tt; grown = grown
 pub marked_whole : (a b : Outline) (es : List Edge) (vs : List Vertex) (ds : List Edge) (i : ℕ) (start new : Matrix) → length ds ≤ i → AreMarked a b es vs (take i ds) start new → AreMarked a b es vs ds start new
 marked_whole a b es vs ds i start new h k = subst (λ (done : List Edge). AreMarked a b es vs done start new) (take_all i ds h) k
 
--- an edge's nodes and gaps
-twice : (f : Point → Mark) (ns : List Node) → map (λ (n : Node). f (node_point n)) ns ≡ map f (map node_point ns)
-twice f [] = refl
-twice f (n ∷ ns) = ap (λ (xs : List Mark). f (node_point n) ∷ xs) (twice f ns)
-
-pub noded_marked : (a b : Outline) (e : Edge) (ns : List Node) (old mid new : Matrix)
-    → HasGrownBy (map (λ (n : Node). mark_at a b Dot (node_point n)) ns) old mid → HasGrownBy (gaps_marks a b e (map node_point ns)) mid new
-    → HasGrownBy (edge_marks a b (record { edge = e; nodes = map node_point ns })) old new
-noded_marked a b e ns old mid new h k =
-    grown-trans (map (mark_at a b Dot) (map node_point ns)) (gaps_marks a b e (map node_point ns)) old mid new
-    (grown_as (map (λ (n : Node). mark_at a b Dot (node_point n)) ns) (map (mark_at a b Dot) (map node_point ns)) old mid (twice (mark_at a b Dot) ns) h) k
-
 pub edge_marked : (a b : Outline) (es : List Edge) (vs : List Vertex) (e : Edge) (ns xs : List Node) (old new : Matrix) → AreNodesOf es vs e (map node_point ns)
     → xs ≡ ns → HasGrownBy (edge_marks a b (record { edge = e; nodes = map node_point xs })) old new → IsEdgeMarked a b es vs e old new
 edge_marked a b es vs e ns xs old new nodes is h = record {

@@ -1,11 +1,11 @@
 -- Points of an edge that are collected one by one, before they are sorted.
-use Rattle.std.specs.Prelude.{◌≡◌, ◌≢◌, ◌<◌, pos, List, ◌++◌, Bool, true, ◌&&◌, ◌||◌}
+use Rattle.std.specs.Prelude.{◌≡◌, ◌≢◌, ◌<◌, pos, List, ◌++◌, Bool, true, ◌&&◌, ◌||◌, int_lt}
 use Rattle.std.specs.Ordering.{int_eq}
 use Rattle.std.specs.List.{Contains}
 use Rattle.plane_core.specs.declared.edge.Edge.{Edge}
 use Rattle.plane_core.specs.declared.node.Node.{Node}
 use Rattle.plane_core.specs.declared.vertex.Vertex.{Vertex}
-use Rattle.plane_core.specs.Points.{Point, at, is_on, turn_of, IsSamePlace}
+use Rattle.plane_core.specs.Points.{Point, at, side, is_on, turn_of, IsSamePlace}
 use Rattle.plane_core.specs.Places.{node_point}
 use Rattle.plane_core.specs.Meetings.{IsMeeting}
 
@@ -48,6 +48,12 @@ is_same u v = int_eq u.x v.x && int_eq u.y v.y
 -- a vertex is an end of an edge
 abbrev pub is_end : Edge → Vertex → Bool
 is_end e v = is_same e.a v || is_same e.b v
+
+-- an edge lies strictly on one side of the line of the first
+abbrev pub is_aside : Edge → Edge → Bool
+is_aside e f =
+    int_lt (side e (at f.a)) (pos 0) && int_lt (side e (at f.b)) (pos 0)
+    || int_lt (pos 0) (side e (at f.a)) && int_lt (pos 0) (side e (at f.b))
 
 -- edges that aren't parallel have an end in common
 pub record IsJoint (e f : Edge) : Type 0 where

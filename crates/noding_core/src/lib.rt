@@ -7,5 +7,5 @@ mod near;
 mod nodes;
 
 pub use entries::{column_of, outside, raised, rank, row_of, transposed};
-pub use near::push_near;
+pub use near::{push_few, push_near};
 pub use nodes::gather_nodes;

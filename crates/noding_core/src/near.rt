@@ -8,9 +8,9 @@ ghost use Rattle.edge_index_core.specs.Bounds.{IsBoxOf};
 ghost use Rattle.edge_index_core.specs.Runs.{AreRunBoxes};
 ghost use Rattle.edge_index_core.specs.Trees.{IsEntryIn};
 ghost use Rattle.noding_core.specs.Gathered.{Extends};
-ghost use Rattle.noding_core.specs.Near.{IsFound, IsEntryFound};
+ghost use Rattle.noding_core.specs.Near.{IsFound, IsEntryFound, AddsAmong};
 
-use edge_index_core::{IndexedOutline, bounds_of, first_run};
+use edge_index_core::{IndexedOutline, bounds_of, first_run, is_beyond};
 use geom_core::Shape;
 use plane_core::Edge;
 use rtree_core::{Entry, Node as TreeNode};
@@ -25,6 +25,7 @@ fn push_entries(
 ) -> Result<(), AllocError>
     requires { All (IsEntryIn edges.now) entries.now }
     ensures kept { OnOk result (Extends near.old.items near.new.items) }
+    ensures own { OnOk result (AddsAmong edges.now near.old.items near.new.items) }
     ensures found { let near = near.new.items in
         OnOk result ((e : Edge) → IsBoxOf e bounds.now
         → All (IsEntryFound e edges.now near) entries.now) }
@@ -52,6 +53,7 @@ fn push_nodes(
     requires lawful { All IsLawful tree.now }
     requires entries { All (IsEntryIn edges.now) (flat_map entries_of tree.now) }
     ensures kept { OnOk result (Extends near.old.items near.new.items) }
+    ensures own { OnOk result (AddsAmong edges.now near.old.items near.new.items) }
     ensures found { let near = near.new.items in
         OnOk result ((e : Edge) → IsBoxOf e bounds.now
         → All (IsEntryFound e edges.now near) (flat_map entries_of tree.now)) }
@@ -78,6 +80,7 @@ fn push_node(
     requires lawful { IsLawful node.now }
     requires entries { All (IsEntryIn edges.now) (entries_of node.now) }
     ensures kept { OnOk result (Extends near.old.items near.new.items) }
+    ensures own { OnOk result (AddsAmong edges.now near.old.items near.new.items) }
     ensures found { let near = near.new.items in
         OnOk result ((e : Edge) → IsBoxOf e bounds.now
         → All (IsEntryFound e edges.now near) (entries_of node.now)) }
@@ -92,14 +95,16 @@ fn push_node(
     }
 }
 
-/// Adds those of a list of edges.
-fn push_few(near: &mut Vec<Edge>, e: &Edge, edges: &[Edge]) -> Result<(), AllocError>
+/// Adds the edges of a list whose boxes meet an edge's box.
+pub fn push_few(near: &mut Vec<Edge>, e: &Edge, edges: &[Edge]) -> Result<(), AllocError>
     ensures kept { OnOk result (Extends near.old.items near.new.items) }
+    ensures own { OnOk result (AddsAmong edges.now near.old.items near.new.items) }
     ensures found { let near = near.new.items in OnOk result (All (IsFound e.now near) edges.now) }
 {
+    let bounds = bounds_of(e);
     for f in edges {
-        let meets = e.is_box_meeting(f);
-        if !meets {
+        let beyond = is_beyond(f, &bounds);
+        if beyond {
             continue;
         }
         near.push(*f)?;
@@ -116,6 +121,7 @@ fn push_runs(
 ) -> Result<(), AllocError>
     requires { AreRunBoxes edges.now boxes.now }
     ensures kept { OnOk result (Extends near.old.items near.new.items) }
+    ensures own { OnOk result (AddsAmong edges.now near.old.items near.new.items) }
     ensures found { let near = near.new.items in OnOk result (All (IsFound e.now near) edges.now) }
 {
     let bounds = bounds_of(e);
@@ -135,6 +141,7 @@ fn push_runs(
 /// Adds the edges of an outline whose boxes meet an edge's box.
 pub fn push_near(near: &mut Vec<Edge>, e: &Edge, outline: &IndexedOutline) -> Result<(), AllocError>
     ensures kept { OnOk result (Extends near.old.items near.new.items) }
+    ensures own { OnOk result (AddsAmong outline.now.edges.items near.old.items near.new.items) }
     ensures found { let near = near.new.items in
         OnOk result (All (IsFound e.now near) outline.now.edges.items) }
 {

@@ -6,7 +6,7 @@ ghost use Rattle.plane_core.specs.Figures.{HasLength};
 ghost use Rattle.plane_core.specs.Places.{node_point};
 ghost use Rattle.noding_core.specs.Nodes.{Ascend, AreNodesOf};
 ghost use Rattle.noding_core.specs.Gathered.{Extends, IsOn, HasVertex, HasMeeting, HasMeetings};
-ghost use Rattle.noding_core.specs.Gathered.{HasEnds, is_same, is_end, IsJoint};
+ghost use Rattle.noding_core.specs.Gathered.{HasEnds, is_same, is_end, IsJoint, is_aside};
 
 use plane_core::{Edge, Node, Vertex};
 use std::alloc::AllocError;
@@ -63,6 +63,16 @@ fn is_joint(e: &Edge, f: &Edge) -> bool
     joined && e.turn_to(f) != 0
 }
 
+/// Whether another edge lies strictly on one side of the edge's line, so that they share no point.
+#[inline]
+fn is_aside(e: &Edge, f: &Edge) -> bool
+    ensures { result ≡ is_aside e.now f.now }
+{
+    let first = e.side_of(&f.a);
+    let last = e.side_of(&f.b);
+    first < 0 && last < 0 || 0 < first && 0 < last
+}
+
 /// Adds a vertex where it lies on the edge and is none of its ends, which are among the points.
 fn push_inner(nodes: &mut Vec<Node>, e: &Edge, v: &Vertex) -> Result<(), AllocError>
     requires on { All (IsOn e.now) nodes.old.items }
@@ -88,6 +98,9 @@ fn push_meetings(nodes: &mut Vec<Node>, e: &Edge, f: &Edge) -> Result<(), AllocE
     ensures meetings { OnOk result (HasMeetings e.now nodes.new.items f.now) }
 {
     if is_joint(e, f) {
+        return Ok(());
+    }
+    if is_aside(e, f) {
         return Ok(());
     }
     push_inner(nodes, e, &f.a)?;

@@ -6,6 +6,7 @@ pub mod CrossingLemmas
 pub mod EnvelopeLemmas
 pub mod FootLemmas
 pub mod FormLemmas
+pub mod FractionLemmas
 pub mod HeldLemmas
 pub mod LargeLemmas
 pub mod LevelLemmas

@@ -93,6 +93,9 @@ middle_width k l = ap nat_abs (sum_held k.w l.w (w_below k) (w_below l)) ∙ pla
     plain : (a b : ℤ) → pos 0 <ℤ a → pos 0 <ℤ b → nat_abs (a +ℤ b) ≡ 1 * nat_abs a + 1 * nat_abs b
     plain a b h k = omega (arith, ints)
 
+pub width_positive : (p : Place) → pos 0 <ℤ to_z w128 (of_z w128 p.w)
+width_positive p = rw (held_below p.w greatest_number (w_below p) (omega arith)) p.positive
+
 -- the order of two points along an axis
 pub order_x : (o : Ordering) (p q : Place)
     → o ≡ int_cmp (to_z w128 (of_z w128 p.x) *ℤ to_z w128 (of_z w128 q.w)) (to_z w128 (of_z w128 q.x) *ℤ to_z w128 (of_z w128 p.w))

@@ -60,6 +60,18 @@ fn do_cross(e: &Edge, f: &Edge) -> bool
     is_turning & is_crossed & is_crossing
 }
 
+/// Compares `x / w` with `z / v`. The denominators are positive, and equal for two vertices.
+fn compare_fractions(x: i128, w: i128, z: i128, v: i128) -> Ordering
+    requires { pos 0 <ℤ w }
+    ensures { result ≡ int_cmp (x *ℤ v) (z *ℤ w) }
+{
+    if w == v {
+        x.cmp(&z)
+    } else {
+        compare_products(x, v, z, w)
+    }
+}
+
 impl Node {
     ghost use Rattle.plane_core.specs.Points.{at, mix};
     ghost use Rattle.plane_core.specs.Places.{point_of, node_point, place_order};
@@ -147,7 +159,7 @@ impl Node {
             let q = node_point other.now in
             result ≡ int_cmp (p.x *ℤ pos q.w) (q.x *ℤ pos p.w) }
     {
-        compare_products(self.place.x, other.place.w, other.place.x, self.place.w)
+        compare_fractions(self.place.x, self.place.w, other.place.x, other.place.w)
     }
 
     /// The order by second coordinate.
@@ -156,6 +168,6 @@ impl Node {
             let q = node_point other.now in
             result ≡ int_cmp (p.y *ℤ pos q.w) (q.y *ℤ pos p.w) }
     {
-        compare_products(self.place.y, other.place.w, other.place.y, self.place.w)
+        compare_fractions(self.place.y, self.place.w, other.place.y, other.place.w)
     }
 }

@@ -1,8 +1,9 @@
-use Rattle.std.proofs.Common.{sym, subst}
+use Rattle.std.proofs.Common.{rules, sym, subst}
 use Rattle.std.specs.Prelude.{Option, IfSome}
 use Rattle.arrangement_core.specs.declared.known.Seen.{Seen}
 use Rattle.arrangement_core.specs.Lying.{IsSeen}
 use Rattle.arrangement_core.proofs.ClearLemmas.{seen_last}
+use Rattle.arrangement_core.proofs.WalkLemmas.{added_near}
 use Rattle.arrangement_core.proofs.matrices.mark_edge.Goals as goal
 
 pub returns-then-adds_none_near-clause-seen : goal.returns-then-adds_none_near-clause-seen
@@ -17,6 +18,12 @@ pub adds_none_near-requires-clause-known : goal.adds_none_near-requires-clause-k
 adds_none_near-requires-clause-known c =
     rw (c.course_of-course.ensures.part, c.course_of-course.ensures.edge) (c.part_seen.ensures c.args.pair.now.second.now c.args.e.now c.seen_along-work.ensures)
 
-pub mark_near_edge-requires-clause-known : goal.mark_near_edge-requires-clause-known
-mark_near_edge-requires-clause-known c =
-    rw (c.course_of-course.ensures.part, c.course_of-course.ensures.edge) (c.part_seen.ensures c.args.pair.now.second.now c.args.e.now c.seen_along-work.ensures)
+pub mark_near_edge-requires-clause-near : goal.mark_near_edge-requires-clause-near
+mark_near_edge-requires-clause-near c =
+    rw c.course_of-course.ensures.edge (added_near c.args.pair.now.second.now c.args.e.now _ _ c.clear.ensures.items c.in_ok-push_second.ensures.own c.in_ok-push_second.ensures.found)
+
+pub mark_near_edge-requires-clause-course : goal.mark_near_edge-requires-clause-course
+mark_near_edge-requires-clause-course c = record {
+  known = rw (c.course_of-course.ensures.part, c.course_of-course.ensures.edge) (c.part_seen.ensures c.args.pair.now.second.now c.args.e.now c.seen_along-work.ensures);
+  apart = c.course_of-course.ensures.apart c.args.pair.now.second.now (search rules);
+}

@@ -6,6 +6,7 @@ use Rattle.arrangement_core.proofs.ApartLemmas.{apart_of_near}
 use Rattle.arrangement_core.proofs.BeyondLemmas.{lies_beyond}
 use Rattle.arrangement_core.proofs.KnownLemmas.{part_adds_none}
 use Rattle.arrangement_core.proofs.OuterLemmas.{none_found}
+use Rattle.arrangement_core.proofs.WalkLemmas.{none_near}
 use Rattle.arrangement_core.proofs.matrices.mark_outer_edge.Goals as goal
 
 pub returns-then-is_edge_shown : goal.returns-then-is_edge_shown
@@ -18,13 +19,14 @@ returns-then-is_edge_shown c =
     (lies_beyond b c.args.pair.now.second_box e c.requires.bounded c.requires.beyond) (rw c.outline.ensures at c.is_edge_shown.ensures c.if-is_edge_shown.true)
     one.one (all_among HasLength e (outline_edges a b) one.edges.long (one.edges.first e one.one))
 
-pub mark_near_edge-requires-clause-found : goal.mark_near_edge-requires-clause-found
-mark_near_edge-requires-clause-found c = none_found c.args.pair.now.second.now c.args.pair.now.second_box c.args.e.now _ c.requires.bounded c.requires.beyond
+pub mark_near_edge-requires-clause-near : goal.mark_near_edge-requires-clause-near
+mark_near_edge-requires-clause-near c = none_near c.args.pair.now.second.now c.args.e.now _ c.clear.ensures.items
+    (none_found c.args.pair.now.second.now c.args.pair.now.second_box c.args.e.now _ c.requires.bounded c.requires.beyond)
 
-pub mark_near_edge-requires-clause-apart : goal.mark_near_edge-requires-clause-apart
-mark_near_edge-requires-clause-apart c =
+pub mark_near_edge-requires-clause-course : goal.mark_near_edge-requires-clause-course
+mark_near_edge-requires-clause-course c =
     let b = c.args.pair.now.second.now in
-    apart_of_near c.args.e.now _ _ [] b refl refl (none_found b c.args.pair.now.second_box c.args.e.now [] c.requires.bounded c.requires.beyond)
-
-pub mark_near_edge-requires-clause-known : goal.mark_near_edge-requires-clause-known
-mark_near_edge-requires-clause-known c = lies_beyond c.args.pair.now.second.now c.args.pair.now.second_box c.args.e.now c.requires.bounded c.requires.beyond
+    record {
+      known = lies_beyond b c.args.pair.now.second_box c.args.e.now c.requires.bounded c.requires.beyond;
+      apart = apart_of_near c.args.e.now _ _ [] b refl refl (none_found b c.args.pair.now.second_box c.args.e.now [] c.requires.bounded c.requires.beyond);
+    }

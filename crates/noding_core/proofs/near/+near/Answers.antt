@@ -14,11 +14,11 @@ use Rattle.edge_index_core.specs.Trees.{IsEntryIn}
 use Rattle.edge_index_core.proofs.TreeLemmas.{node_entries, children_lower}
 use Rattle.noding_core.specs.Near.{IsEntryFound}
 use Rattle.noding_core.proofs.GatherLemmas.{extends-refl, extends-trans}
-use Rattle.noding_core.proofs.NearLemmas.{nodes_more_found, node_apart}
+use Rattle.noding_core.proofs.NearLemmas.{adds-none, adds-trans, nodes_more_found, node_apart}
 use Rattle.noding_core.proofs.near.+near.Goals as goal
 
 pub push_nodes-loop-node-init : goal.push_nodes-loop-node-init
-push_nodes-loop-node-init t c = record { kept = extends-refl _; found = λ e box. All-nil _ }
+push_nodes-loop-node-init t c = record { kept = extends-refl _; own = adds-none _ _; found = λ e box. All-nil _ }
 
 pub push_nodes-loop-node-preserved-then-not-meets : goal.push_nodes-loop-node-preserved-then-not-meets
 push_nodes-loop-node-preserved-then-not-meets t c =
@@ -29,6 +29,7 @@ push_nodes-loop-node-preserved-then-not-meets t c =
     let ns = c.loop-node.near.items in
     record {
       kept = c.loop-node.invariant.kept;
+      own = c.loop-node.invariant.own;
       found = λ e box. nodes_more_found e es ns ns tree i n c.loop-node-test.true c.node-item.is (extends-refl ns) (c.loop-node.invariant.found e box)
           (node_apart e es ns c.args.bounds.now c.cover-cover.result n box
           (node_entries es tree i n c.requires.entries c.loop-node-test.true c.node-item.is)
@@ -39,6 +40,7 @@ push_nodes-loop-node-preserved-then-not-meets t c =
 pub push_nodes-loop-node-preserved : goal.push_nodes-loop-node-preserved
 push_nodes-loop-node-preserved t c = record {
   kept = extends-trans _ _ _ c.loop-node.invariant.kept c.in_ok-push_node.ensures.kept;
+  own = adds-trans _ _ _ _ c.loop-node.invariant.own c.in_ok-push_node.ensures.own;
   found = λ e box. nodes_more_found e _ _ _ c.args.tree.now c.loop-node.node-index c.node-item.result c.loop-node-test.true c.node-item.is
       c.in_ok-push_node.ensures.kept (c.loop-node.invariant.found e box) (c.in_ok-push_node.ensures.found e box);
 }

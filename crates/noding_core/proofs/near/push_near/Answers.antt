@@ -11,3 +11,12 @@ push_node-requires-clause-entries c = rw c.edges-edges.ensures (all_in _ _ c.in-
 pub returns-in-Some-clause-found : goal.returns-in-Some-clause-found
 returns-in-Some-clause-found c =
     held_found c.args.e.now _ _ _ c.in-Some.ensures.holds (rw c.edges-edges.ensures at c.in_ok-push_node.ensures.found c.args.e.now c.bounds_of-bounds.ensures)
+
+pub returns-in-Some-clause-own : goal.returns-in-Some-clause-own
+returns-in-Some-clause-own c = rw c.edges-edges.ensures at c.in_ok-push_node.ensures.own
+
+pub returns-in-Some-run_boxes-clause-own : goal.returns-in-Some-run_boxes-clause-own
+returns-in-Some-run_boxes-clause-own c = rw c.edges-edges.ensures at c.push_runs.ensures.own
+
+pub returns-in-None-clause-own : goal.returns-in-None-clause-own
+returns-in-None-clause-own c = rw c.edges-edges.ensures at c.push_few.ensures.own

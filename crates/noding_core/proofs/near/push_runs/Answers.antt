@@ -4,13 +4,14 @@ use Rattle.edge_index_core.specs.Runs.{AreRunBoxes}
 use Rattle.edge_index_core.proofs.RunLemmas.{boxes_next, boxes_over}
 use Rattle.noding_core.specs.Near.{IsFound}
 use Rattle.noding_core.proofs.GatherLemmas.{extends-refl, extends-trans}
-use Rattle.noding_core.proofs.NearLemmas.{none_found, run_found, run_missed, runs_found}
+use Rattle.noding_core.proofs.NearLemmas.{adds-none, adds-trans, adds_run, none_found, run_found, run_missed, runs_found}
 use Rattle.noding_core.proofs.near.push_runs.Goals as goal
 
 pub loop-shape-init : goal.loop-shape-init
 loop-shape-init c = record {
   boxes = c.requires;
   kept = extends-refl _;
+  own = adds-none _ _;
   found = none_found c.args.e.now c.args.edges.now _;
 }
 
@@ -24,6 +25,7 @@ loop-shape-preserved-then-not-meets c =
     record {
       boxes = subst (λ (l : List Edge). AreRunBoxes l (drop (i + 1) boxes)) (sym c.first_run.ensures.after) next.1;
       kept = c.loop-shape.invariant.kept;
+      own = c.loop-shape.invariant.own;
       found = run_missed c.args.e.now c.args.edges.now rest _ _ c.bounds_of-bounds.result box c.first_run.ensures.after c.bounds_of-bounds.ensures
           (λ m. cc (c.meets-meets.ensures.1 m)) next.0 c.loop-shape.invariant.found;
     }
@@ -39,6 +41,8 @@ loop-shape-preserved c =
     record {
       boxes = subst (λ (l : List Edge). AreRunBoxes l (drop (i + 1) boxes)) (sym c.first_run.ensures.after) next.1;
       kept = extends-trans _ _ _ c.loop-shape.invariant.kept pushed.kept;
+      own = adds-trans _ _ _ _ c.loop-shape.invariant.own (adds_run c.args.edges.now c.loop-shape.invariant.found.done rest _ _ _
+          c.loop-shape.invariant.found.whole c.first_run.ensures.run pushed.own);
       found = run_found e c.args.edges.now rest _ _ _ c.first_run.ensures.after pushed.kept
           (subst (All (IsFound e _)) c.first_run.ensures.run pushed.found) c.loop-shape.invariant.found;
     }

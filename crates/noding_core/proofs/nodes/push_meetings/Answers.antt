@@ -1,4 +1,6 @@
+use Rattle.std.proofs.Common.{sym, ◌∙◌}
 use Rattle.noding_core.proofs.GatherLemmas.{extends-trans, vertex_kept, ends_kept, joint_meetings}
+use Rattle.noding_core.proofs.AsideLemmas.{aside_meetings}
 use Rattle.noding_core.proofs.nodes.push_meetings.Goals as goal
 
 pub push_inner-requires-2-clause-ends : goal.push_inner-requires-2-clause-ends
@@ -6,6 +8,9 @@ push_inner-requires-2-clause-ends c = ends_kept _ _ _ c.in_ok-push_inner.ensures
 
 pub returns-then-is_joint-clause-meetings : goal.returns-then-is_joint-clause-meetings
 returns-then-is_joint-clause-meetings c = joint_meetings c.args.e.now c.args.f.now _ c.requires.ends (c.is_joint.ensures c.if-is_joint.true)
+
+pub returns-then-is_aside-clause-meetings : goal.returns-then-is_aside-clause-meetings
+returns-then-is_aside-clause-meetings c = aside_meetings c.args.e.now c.args.f.now _ (sym c.is_aside.ensures ∙ c.if-is_aside.true)
 
 pub returns-clause-meetings : goal.returns-clause-meetings
 returns-clause-meetings c =

@@ -1,4 +1,4 @@
--- On the way from one point to another, an edge of an area is met, or both are in one part of it.
+-- On the way from one point to another, an edge is met, or it is below both where neither of its ends is passed.
 use Rattle.std.proofs.Common.{◌≡◌, ◌<◌, ◌⊎◌, ℕ, arith, ap, ◌∙◌, sym, true, false, subst, inl, inr}
 use Rattle.std.specs.Prelude.{ℤ, pos, ◌-ℤ◌, ◌*ℤ◌, ◌≤ℤ◌, ◌<ℤ◌, nat_abs, int_le, int_lt, Bool, ◌&&◌, not}
 use Rattle.std.proofs.lemmas.Int.{ints, by_lt_z}
@@ -12,7 +12,7 @@ use Rattle.noding_core.proofs.TestLemmas.{true_le, false_le}
 use Rattle.noding_core.proofs.LineLemmas.{IsForward, Rightward, Vertical, on_vertical_up}
 use Rattle.noding_core.proofs.FlipLemmas.{flip, is_on-flip, is_below-flip, forward_or_flipped}
 use Rattle.noding_core.proofs.RingLemmas.{differ, differ_turned, table}
-use Rattle.geometry_distance_core.proofs.WayLemmas.{way_first, way_last, IsMet, InColumns, same_or_met, over, over_way, over_column, is_under, IsBetween, under_first, under_second, by_signs, when_true, when_false, four, spanned, column_later}
+use Rattle.noding_core.proofs.WayLemmas.{way_first, way_last, IsMet, InColumns, same_or_met, over, over_way, over_column, is_under, IsBetween, under_first, under_second, by_signs, when_true, when_false, four, spanned, column_later}
 
 -- the vertex is in the columns after p, up to q, and below the way
 abbrev pub is_passed : Point → Point → Vertex → Bool

@@ -1,0 +1,314 @@
+-- From a point off the boundary of an area to the next node of an edge, or to the piece before it, the
+-- part stays the same.
+use Rattle.std.proofs.Common.{◌≡◌, ◌≢◌, ◌≤◌, ◌<◌, ◌-◌, inl, inr, arith, refl, sym, subst, ap, ◌∙◌, true, false, suc, zero, List, [], ◌∷◌, ◌++◌, map, take, get_or, length, All}
+use Rattle.std.specs.Prelude.{ℕ, Bool, ◌||◌, if◌then◌else◌, count_by, Option, None, Some, IfSome, ℤ, pos, nat_abs, ◌*ℤ◌, ◌&&◌}
+use Rattle.std.specs.List.{list_any}
+use Rattle.std.specs.Ordering.{int_eq, is_lt}
+use Rattle.std.proofs.lemmas.Int.{ints}
+use Rattle.std.proofs.lemmas.List.{get_or_default}
+use Rattle.std.proofs.lemmas.List.Elements.{All-head}
+use Rattle.std.proofs.Math.Seq.{take-append_seam}
+use Rattle.geom_core.specs.declared.shape.Shape.{Shape}
+use Rattle.relation_core.specs.declared.extent.Extent.TheVariants.{Point as Dot}
+use Rattle.relation_core.specs.declared.matrix.Matrix.{Matrix}
+use Rattle.plane_core.specs.declared.part.Part.{Part}
+use Rattle.plane_core.specs.declared.part.Part.TheVariants.{Interior, Boundary, Exterior}
+use Rattle.plane_core.specs.declared.vertex.Vertex.{Vertex}
+use Rattle.plane_core.specs.declared.edge.Edge.{Edge}
+use Rattle.plane_core.specs.declared.place.Place.{Place}
+use Rattle.plane_core.specs.declared.node.Node.{Node}
+use Rattle.plane_core.specs.declared.outline.Kind.{Kind}
+use Rattle.plane_core.specs.declared.outline.Kind.TheVariants.{Points as Dots, Lines as Polylines, Areas as Rings}
+use Rattle.plane_core.specs.declared.outline.Outline.{Outline}
+use Rattle.plane_core.specs.Points.{Point, is_on, is_below, IsBefore, IsSamePlace, is_at}
+use Rattle.plane_core.specs.Places.{point_of, node_point, place_order}
+use Rattle.plane_core.specs.Figures.{Figure, HasLength, IsGeometry, edges_of, part_of, is_odd}
+use Rattle.plane_core.specs.Figures.Figure.{Points, Lines, Areas}
+use Rattle.plane_core.specs.Outlines.{outline_part, part_by, above_by, kind_of}
+use Rattle.plane_core.specs.PlaneMatrices.{entry}
+use Rattle.plane_core.proofs.Ring.{one-times}
+use Rattle.plane_core.proofs.OutlineLemmas.{outline_part-is, outline_above-is}
+use Rattle.noding_core.specs.Gathered.{Extends}
+use Rattle.noding_core.specs.Marks.{rank}
+use Rattle.noding_core.specs.Near.{IsFound, AddsAmong}
+use Rattle.noding_core.specs.Nodes.{IsAmong, IsPointOf, AreNodesOf, IsUpTo, Ascend, IsGapOf, middle}
+use Rattle.noding_core.specs.Growth.{Mark, HasGrownBy, mark_at, piece_marks, gap_marks, gaps_marks, edge_marks}
+use Rattle.noding_core.proofs.AmongLemmas.{among_left, none_any}
+use Rattle.noding_core.proofs.ArrangementLemmas.{middle_wide}
+use Rattle.noding_core.proofs.GapLemmas.{IsOffEach, part_after, part_before}
+use Rattle.noding_core.proofs.GrowthLemmas.{grown_none, grown-trans}
+use Rattle.noding_core.proofs.NearLemmas.{near_of}
+use Rattle.noding_core.proofs.NodeLemmas.{all_among, gap_first, gap_second}
+use Rattle.noding_core.proofs.OrderLemmas.{same_sym}
+use Rattle.noding_core.proofs.PathLemmas.{edge_length}
+use Rattle.noding_core.proofs.ReadOffLemmas.{before_order, map_among}
+use Rattle.noding_core.proofs.TestLemmas.{by_test, clash, first_holds, second_holds}
+use Rattle.arrangement_core.specs.Beyond.{IsBounded}
+use Rattle.arrangement_core.specs.Lying.{LiesOff, LiesOffOrOn, AreNear, is_vertex}
+use Rattle.arrangement_core.specs.Shown.{IsOnEdge, IsUncrossed, AreCuts, AreNext}
+use Rattle.arrangement_core.proofs.BeyondLemmas.{none_on}
+use Rattle.arrangement_core.proofs.ClearLemmas.{no_points, above_off}
+use Rattle.arrangement_core.proofs.ShownLemmas.{any_among, index_among, gap_of, cuts_long, gap_middle, mark_same, node_wide, part_by-same_place, is_at_or_below-same_place}
+
+-- a point whose part in an area isn't the boundary is on no edge
+not_boundary : (es : List Edge) (p : Point) (t : Bool) → (if list_any (λ e. is_on e p) es then Boundary else (if t then Interior else Exterior)) ≢ Boundary → list_any (λ e. is_on e p) es ≡ false
+not_boundary es p t off = by_test (list_any (λ e. is_on e p) es)
+    (λ on. absurd (off (ap (λ (x : Bool). if x then Boundary else (if t then Interior else Exterior)) on)))
+    (λ none. none)
+
+off_area : (o : Outline) (p : Point) (part : Part) → o.kind ≡ Rings → part ≢ Boundary → outline_part o p ≡ part → list_any (λ e. is_on e p) o.edges.items ≡ false
+off_area o p part area off on = not_boundary o.edges.items p (is_odd (count_by (λ e. is_below e p) o.edges.items))
+    (λ is. off (sym on ∙ ap (λ (k : Kind). part_by k o.ends.items o.edges.items p) area ∙ is))
+
+off_each : (o : Outline) (p : Point) (part : Part) → LiesOff o p part → IsOffEach o.edges.items p
+off_each o p part h f one = none_on (λ e. is_on e p) o.edges.items f (off_area o p part h.area h.off h.on) one
+
+not_dots : Dots ≡ Rings → ⊥
+not_dots h = cc
+
+not_polylines : Polylines ≡ Rings → ⊥
+not_polylines h = cc
+
+pub lies_off : (o : Outline) (s : Shape) (p : Point) (part : Part) → IsBounded o s → 0 < p.w → o.kind ≡ Rings → part ≢ Boundary → outline_part o p ≡ part → LiesOff o p part
+lies_off o s p part b wide area off on = record {
+  area = area;
+  off = off;
+  on = on;
+  above = outline_above-is b.figure o p b.outline
+      ∙ above_off b.figure p b.geometry wide (record {
+        edges = λ f one. none_on (λ e. is_on e p) o.edges.items f (off_area o p part area off on) (subst (IsAmong f) (sym b.outline.edges) one);
+        points = λ v one. absurd (no_points b.figure some v one);
+      })
+      ∙ sym (outline_part-is b.figure o p b.outline) ∙ on;
+}
+  where
+    some : kind_of b.figure ≢ Dots
+    some is = not_dots (sym is ∙ sym b.outline.kind ∙ area)
+
+-- and what is known of a place's part, of its place
+pub part_lies_off : (o : Outline) (s : Shape) (p : Point) (x : Option Part) (part : Part) → IsBounded o s → 0 < p.w → outline_part o p ≡ part
+    → IfSome x (λ q. q ≡ part) → IfSome x (λ q. o.kind ≡ Rings) → IfSome x (λ q. q ≢ Boundary) → IfSome x (LiesOff o p)
+part_lies_off o s p None part b wide on is area off = tt
+part_lies_off o s p (Some q) part b wide on is area off = lies_off o s p q b wide area off (on ∙ sym is)
+
+-- the part in a gap is the part at a node beside it
+after_node : (g : Figure) (es : List Edge) (vs : List Vertex) (e : Edge) (ns : List Point) (k l : Point) → IsGeometry g → kind_of g ≡ Rings → ((f : Edge) → IsAmong f (edges_of g) → IsAmong f es)
+    → IsAmong e es → HasLength e → AreNodesOf es vs e ns → IsGapOf k l ns → IsOffEach (edges_of g) k → part_of g (middle k l) ≡ part_of g k
+after_node (Points vs) es ws e ns k l good is of one long are gap off = absurd (not_dots is)
+after_node (Lines paths) es ws e ns k l good is of one long are gap off = absurd (not_polylines is)
+after_node (Areas rings) es ws e ns k l good is of one long are gap off = part_after es ws e ns k l one long are gap rings good of (λ f one_f. edge_length (Areas rings) f good one_f) off
+
+before_node : (g : Figure) (es : List Edge) (vs : List Vertex) (e : Edge) (ns : List Point) (k l : Point) → IsGeometry g → kind_of g ≡ Rings → ((f : Edge) → IsAmong f (edges_of g) → IsAmong f es)
+    → IsAmong e es → HasLength e → AreNodesOf es vs e ns → IsGapOf k l ns → IsOffEach (edges_of g) l → part_of g (middle k l) ≡ part_of g l
+before_node (Points vs) es ws e ns k l good is of one long are gap off = absurd (not_dots is)
+before_node (Lines paths) es ws e ns k l good is of one long are gap off = absurd (not_polylines is)
+before_node (Areas rings) es ws e ns k l good is of one long are gap off = part_before es ws e ns k l one long are gap rings good of (λ f one_f. edge_length (Areas rings) f good one_f) off
+
+module _ (own other : Outline) (s : Shape) (e : Edge) (k l : Point) (b : IsBounded other s) (next : AreNext own other e k l) (before : IsBefore k l) where
+  gap : IsGapOf k l next.nodes
+  gap = next.gap before
+
+  pub of_first : IsPointOf e k
+  of_first = all_among (IsPointOf e) k next.nodes next.cuts.nodes.points (gap_first k l next.nodes gap)
+
+  pub of_last : IsPointOf e l
+  of_last = all_among (IsPointOf e) l next.nodes next.cuts.nodes.points (gap_second k l next.nodes gap)
+
+  among_both : (f : Edge) → IsAmong f (edges_of b.figure) → IsAmong f next.cuts.edges
+  among_both f one = next.cuts.one.edges.second f (subst (IsAmong f) (sym b.outline.edges) one)
+
+  off_edges : (p : Point) → IsOffEach other.edges.items p → IsOffEach (edges_of b.figure) p
+  off_edges p off f one = off f (subst (IsAmong f) (sym b.outline.edges) one)
+
+  -- from a node to the gap after it
+  pub lies_after : (part : Part) → LiesOff other k part → LiesOff other (middle k l) part
+  lies_after part h = lies_off other s (middle k l) part b (middle_wide k l of_first.wide of_last.wide) h.area h.off
+      (outline_part-is b.figure other (middle k l) b.outline
+      ∙ after_node b.figure next.cuts.edges next.cuts.points e next.nodes k l b.geometry (sym b.outline.kind ∙ h.area) among_both (next.cuts.one.edges.first e next.cuts.one.one) (cuts_long own other e next.nodes next.cuts) next.cuts.nodes gap
+      (off_edges k (off_each other k part h))
+      ∙ sym (outline_part-is b.figure other k b.outline) ∙ h.on)
+
+  -- from a gap to the node after it
+  pub lies_before : (part : Part) → LiesOff other (middle k l) part → LiesOffOrOn other l part
+  lies_before part h off = lies_off other s l part b of_last.wide h.area h.off
+      (outline_part-is b.figure other l b.outline
+      ∙ sym (before_node b.figure next.cuts.edges next.cuts.points e next.nodes k l b.geometry (sym b.outline.kind ∙ h.area) among_both (next.cuts.one.edges.first e next.cuts.one.one) (cuts_long own other e next.nodes next.cuts) next.cuts.nodes gap
+      (off_edges l (λ f one. none_on (λ e. is_on e l) other.edges.items f off one)))
+      ∙ sym (outline_part-is b.figure other (middle k l) b.outline) ∙ h.on)
+
+  pub step_after : (x : Option Part) (m : Point) → m ≡ middle k l → IfSome x (LiesOff other k) → IfSome x (LiesOff other m)
+  step_after None m is h = tt
+  step_after (Some part) m is h = subst (λ (z : Point). LiesOff other z part) (sym is) (lies_after part h)
+
+  pub step_before : (x : Option Part) (m : Point) → m ≡ middle k l → IfSome x (LiesOff other m) → IfSome x (LiesOffOrOn other l)
+  step_before None m is h = tt
+  step_before (Some part) m is h = lies_before part (subst (λ (z : Point). LiesOff other z part) is h)
+
+  pub step_crossed : (m : Point) → m ≡ middle k l → IsUncrossed other e m
+  step_crossed m is = subst (IsUncrossed other e) (sym is) (gap_middle own other e next.nodes k l next.cuts gap)
+
+  pub step_on : (m : Point) → m ≡ middle k l → IsOnEdge own m
+  step_on m is = any_among (λ f. is_on f m) own.edges.items e next.cuts.one.one (step_crossed m is).on
+
+-- two nodes of one place
+pub same_next : (own other : Outline) (e : Edge) (k l : Point) → AreNext own other e k l → is_lt (place_order k l) ≡ false → IsSamePlace k l
+same_next own other e k l next not_less = elim next.order [
+  | inl before ↦ clash (is_lt (place_order k l)) (before_order k l before) not_less
+  | inr same ↦ same
+]
+
+above_by-same_place : (k : Kind) (es : List Edge) (p q : Point) → 0 < p.w → 0 < q.w → IsSamePlace p q → above_by k es p ≡ above_by k es q
+above_by-same_place Dots es p q wp wq h = refl
+above_by-same_place Polylines es p q wp wq h = refl
+above_by-same_place Rings es p q wp wq h = λ i. if is_odd (count_by (λ e. is_at_or_below-same_place e p q wp wq h i) es) then Interior else Exterior
+
+pub lies_same : (o : Outline) (x : Option Part) (p q : Point) → 0 < p.w → 0 < q.w → IsSamePlace p q → IfSome x (LiesOff o p) → IfSome x (LiesOff o q)
+lies_same o None p q wp wq same h = tt
+lies_same o (Some part) p q wp wq same h = record {
+  area = h.area;
+  off = h.off;
+  on = part_by-same_place o.kind o.ends.items o.edges.items q p wq wp (same_sym p q same) ∙ h.on;
+  above = above_by-same_place o.kind o.edges.items q p wq wp (same_sym p q same) ∙ h.above;
+}
+
+-- a piece, and the node after it
+pub piece_grown : (own other : Outline) (e : Edge) (k l m : Point) (old mid new : Matrix) → is_lt (place_order k l) ≡ true → m ≡ middle k l
+    → HasGrownBy (piece_marks own other e m) old mid → HasGrownBy (mark_at own other Dot l ∷ []) mid new → HasGrownBy (gap_marks own other e k l ++ mark_at own other Dot l ∷ []) old new
+piece_grown own other e k l m old mid new less is h g =
+    subst (λ (t : Bool). HasGrownBy ((if t then piece_marks own other e (middle k l) else []) ++ mark_at own other Dot l ∷ []) old new) (sym less)
+    (grown-trans (piece_marks own other e (middle k l)) (mark_at own other Dot l ∷ []) old mid new
+    (subst (λ (z : Point). HasGrownBy (piece_marks own other e z) old mid) is h) g)
+
+-- a node that is at the place of the one before it adds nothing
+pub same_grown : (own other : Outline) (e : Edge) (k l : Node) (m : Matrix) → is_lt (place_order (node_point k) (node_point l)) ≡ false → IsSamePlace (node_point k) (node_point l)
+    → 1 ≤ rank (entry m (outline_part own (node_point k)) (outline_part other (node_point k)))
+    → HasGrownBy (gap_marks own other e (node_point k) (node_point l) ++ mark_at own other Dot (node_point l) ∷ []) m m
+same_grown own other e k l m not_less same here =
+    subst (λ (t : Bool). HasGrownBy ((if t then piece_marks own other e (middle (node_point k) (node_point l)) else []) ++ mark_at own other Dot (node_point l) ∷ []) m m) (sym not_less)
+    (grown_none (mark_at own other Dot (node_point l)) m
+    (subst (λ (x : Mark). rank x.extent ≤ rank (entry m x.first x.second)) (mark_same own other (node_point k) (node_point l) (node_wide k) (node_wide l) same) here))
+
+-- nodes in a row
+ascend_at : (ns : List Node) (i : ℕ) (k l : Node) → 1 ≤ i → i < length ns → k ≡ get_or ns (i - 1) k → l ≡ get_or ns i l → Ascend (map node_point ns) → IsUpTo (node_point k) (node_point l)
+ascend_at ns zero k l one lt ek el up = absurd (none one)
+  where
+    none : 1 ≤ 0 → ⊥
+    none h = omega arith
+ascend_at ns (suc j) k l one lt ek el up = next ns j lt (subst (λ (i : ℕ). k ≡ get_or ns i k) (back j) ek) el up
+  where
+    back : (j : ℕ) → suc j - 1 ≡ j
+    back j = omega arith
+
+    next : (ns : List Node) (j : ℕ) → suc j < length ns → k ≡ get_or ns j k → l ≡ get_or ns (suc j) l → Ascend (map node_point ns) → IsUpTo (node_point k) (node_point l)
+    next [] j lt ek el up = absurd (no lt)
+      where
+        no : suc j < 0 → ⊥
+        no h = omega arith
+    next (m ∷ []) j lt ek el up = absurd (no lt)
+      where
+        no : suc j < length (m ∷ []) → ⊥
+        no h = omega arith
+    next (m ∷ n ∷ ns) zero lt ek el up =
+        subst (λ (x : Node). IsUpTo (node_point x) (node_point l)) (sym ek) (subst (λ (x : Node). IsUpTo (node_point m) (node_point x)) (sym el) (All-head (IsUpTo (node_point m)) (node_point n) (map node_point ns) up.0))
+    next (m ∷ n ∷ ns) (suc j) lt ek el up = next (n ∷ ns) j (omega arith) ek el up.1
+
+-- one node by its index
+pub same_item : (ns : List Node) (i j : ℕ) (k n : Node) → i ≡ j → j < length ns → k ≡ get_or ns i k → n ≡ get_or ns j n → n ≡ k
+same_item ns i j k n is lt ek en = en ∙ get_or_default ns j n k lt ∙ ap (λ (m : ℕ). get_or ns m k) (sym is) ∙ sym ek
+
+take_among : {A : Type 0} (xs : List A) (i j : ℕ) (x : A) → j < i → j < length xs → x ≡ get_or xs j x → IsAmong x (take i xs)
+take_among [] i j x lt in_ e = absurd (none in_)
+  where
+    none : j < 0 → ⊥
+    none h = omega arith
+take_among (y ∷ ys) zero j x lt in_ e = absurd (none lt)
+  where
+    none : j < 0 → ⊥
+    none h = omega arith
+take_among (y ∷ ys) (suc i) zero x lt in_ e = inl e
+take_among (y ∷ ys) (suc i) (suc j) x lt in_ e = inr (take_among ys i j x (omega arith) (omega arith) e)
+
+-- the last node that was added
+pub last_here : (own other : Outline) (e : Edge) (ns : List Node) (i : ℕ) (k : Node) (old new : Matrix) → 1 ≤ i → i < length ns → k ≡ get_or ns (i - 1) k
+    → HasGrownBy (edge_marks own other (record { edge = e; nodes = map node_point (take i ns) })) old new
+    → 1 ≤ rank (entry new (outline_part own (node_point k)) (outline_part other (node_point k)))
+last_here own other e ns i k old new one lt ek h =
+    let f : Point → Mark = mark_at own other Dot in
+    let ps : List Point = map node_point (take i ns) in
+    let among : IsAmong (node_point k) ps = map_among node_point (take i ns) k (take_among ns i (i - 1) k (less i one) (within i (length ns) lt) ek) in
+    h.reached (f (node_point k)) (among_left (f (node_point k)) (map f ps) (gaps_marks own other e ps) (map_among f ps (node_point k) among))
+  where
+    less : (i : ℕ) → 1 ≤ i → i - 1 < i
+    less i h = omega arith
+
+    within : (i n : ℕ) → i < n → i - 1 < n
+    within i n h = omega arith
+
+pub first_among : (ns : List Node) (n : Node) → 0 < length ns → n ≡ get_or ns 0 n → IsAmong (node_point n) (map node_point ns)
+first_among ns n some is = map_among node_point ns n (index_among ns 0 n some is)
+
+pub next_at : (own other : Outline) (e : Edge) (ns : List Node) (i : ℕ) (k l : Node) → AreCuts own other e (map node_point ns) → 1 ≤ i → i < length ns → k ≡ get_or ns (i - 1) k → l ≡ get_or ns i l
+    → AreNext own other e (node_point k) (node_point l)
+next_at own other e ns i k l cuts one lt ek el = record {
+  nodes = map node_point ns;
+  cuts = cuts;
+  order = ascend_at ns i k l one lt ek el cuts.nodes.ascend;
+  gap = gap_of ns i k l one lt ek el;
+}
+
+pub some_nodes : (own other : Outline) (e : Edge) (ns : List Node) → AreCuts own other e (map node_point ns) → 0 < length ns
+some_nodes own other e [] cuts = absurd cuts.nodes.first_end
+some_nodes own other e (n ∷ ns) cuts = more (length ns)
+  where
+    more : (m : ℕ) → 0 < suc m
+    more m = omega arith
+
+-- a point that is written as a vertex is at it
+pub vertex_at : (p : Place) (v : Vertex) → is_vertex p v ≡ true → is_at v (point_of p) ≡ true
+vertex_at p v h =
+    let one = equal p.w (pos 1) (first_holds _ _ (first_holds _ _ h)) in
+    both p.x p.y v.x v.y _ _ (ap (λ (w : ℤ). pos (nat_abs w) *ℤ v.x) one ∙ one-times v.x) (ap (λ (w : ℤ). pos (nat_abs w) *ℤ v.y) one ∙ one-times v.y)
+    (equal p.x v.x (second_holds (int_eq p.w (pos 1)) _ (first_holds _ _ h))) (equal p.y v.y (second_holds (int_eq p.w (pos 1) && int_eq p.x v.x) _ h))
+  where
+    equal : (m n : ℤ) → int_eq m n ≡ true → m ≡ n
+    equal m n h = grind (arith, ints)
+
+    both : (x y a b u v : ℤ) → u ≡ a → v ≡ b → x ≡ a → y ≡ b → (int_eq x u && int_eq y v) ≡ true
+    both x y a b u v h k g l = grind (arith, ints)
+
+-- the edges near an edge tell whether a point of it is on the geometry's edges
+any_in : (q : Edge → Bool) (xs ys : List Edge) → ((f : Edge) → IsAmong f xs → IsAmong f ys) → list_any q xs ≡ true → list_any q ys ≡ true
+any_in q [] ys in_ h = cc
+any_in q (x ∷ xs) ys in_ h = by_test (q x)
+    (λ yes. any_among q ys x (in_ x (inl refl)) yes)
+    (λ no. any_in q xs ys (λ f one. in_ f (inr one)) (subst (λ (t : Bool). (t || list_any q xs) ≡ true) no h))
+
+pub near_on : (o : Outline) (e : Edge) (near : List Edge) (p : Point) → AreNear o e near → list_any (λ f. is_on f p) near ≡ true → IsOnEdge o p
+near_on o e near p h on = any_in (λ f. is_on f p) near o.edges.items h.own on
+
+pub near_off : (o : Outline) (e : Edge) (near : List Edge) (p : Point) → AreNear o e near → 0 < p.w → is_on e p ≡ true → list_any (λ f. is_on f p) near ≡ false → list_any (λ f. is_on f p) o.edges.items ≡ false
+near_off o e near p h wide on off = none_any (λ f. is_on f p) o.edges.items
+    (λ f one. by_test (is_on f p)
+    (λ yes. clash (list_any (λ f. is_on f p) near) (any_among (λ f. is_on f p) near f (near_of e f near p wide on yes (all_among (IsFound e near) f o.edges.items h.found one)) yes) off)
+    (λ none. none))
+
+pub off_of : (o : Outline) (x : Option Part) (p : Point) → list_any (λ f. is_on f p) o.edges.items ≡ false → IfSome x (LiesOffOrOn o p) → IfSome x (LiesOff o p)
+off_of o None p off h = tt
+off_of o (Some part) p off h = h off
+
+-- edges that were added first
+pub first_near : (o : Outline) (e : Edge) (old new taken : List Edge) → Extends old new → taken ≡ take (length old) new → AreNear o e old → AreNear o e taken
+first_near o e old new taken kept is h =
+    subst (AreNear o e) (sym (is ∙ ap (take (length old)) kept.is ∙ take-append_seam old kept.more)) h
+
+pub added_near : (o : Outline) (e : Edge) (old new : List Edge) → old ≡ [] → AddsAmong o.edges.items old new → All (IsFound e new) o.edges.items → AreNear o e new
+added_near o e old new none own found = record {
+  own = λ f one. elim (own f one) [
+    | inl before ↦ absurd (subst (IsAmong f) none before)
+    | inr k ↦ k
+  ];
+  found = found;
+}
+
+pub none_near : (o : Outline) (e : Edge) (near : List Edge) → near ≡ [] → All (IsFound e near) o.edges.items → AreNear o e near
+none_near o e near none found = record { own = λ f one. absurd (subst (IsAmong f) none one); found = found }

@@ -1,0 +1,271 @@
+//! Adding the nodes of an edge, the pieces between them and the faces above these to a matrix, from
+//! node to node.
+//!
+//! Off the boundary of an area the part changes only where the edge meets the boundary, so a part
+//! that was located is kept from point to point until then.
+
+ghost use Rattle.std.specs.Prelude.{◌≡◌, ◌≢◌, ◌<◌, ◌≤◌, [], ◌∷◌, ◌++◌, map, length, true};
+ghost use Rattle.std.specs.Prelude.{IsTrue, IfSome};
+ghost use Rattle.std.specs.List.{list_any, slice_index_or};
+ghost use Rattle.std.specs.Ordering.{int_eq};
+ghost use Rattle.relation_core.specs.declared.extent.Extent.TheVariants.{Point as Dot};
+ghost use Rattle.plane_core.specs.Points.{is_on};
+ghost use Rattle.plane_core.specs.Places.{point_of, node_point};
+ghost use Rattle.plane_core.specs.Outlines.{outline_part};
+ghost use Rattle.plane_core.specs.PlaneMatrices.{entry, pick};
+ghost use Rattle.arrangement_core.specs.Beyond.{IsBounded};
+ghost use Rattle.arrangement_core.specs.Lying.{IsKnownIn, IsCourseIn, LiesOff, LiesOffOrOn};
+ghost use Rattle.arrangement_core.specs.Lying.{AreNear, is_vertex};
+ghost use Rattle.arrangement_core.specs.Shown.{all_parts, AreShown};
+ghost use Rattle.arrangement_core.specs.Shown.{IsOnEdge, IsOnCourse, IsUncrossed, AreCuts, AreNext};
+ghost use Rattle.noding_core.specs.Marks.{rank};
+ghost use Rattle.noding_core.specs.Nodes.{NodedEdge};
+ghost use Rattle.noding_core.specs.Growth.{HasGrownBy, mark_at, mark_in, piece_marks, gap_marks};
+ghost use Rattle.noding_core.specs.Growth.{edge_marks};
+
+use crate::course::{Course, standing_of};
+use crate::marks::{is_point_shown, mark_above};
+use crate::pair::Pair;
+use crate::shown::{is_piece_shown, part_on_edge};
+use edge_index_core::IndexedOutline;
+use noding_core::raised;
+use plane_core::{Edge, Kind, Node, Part, Place, Spot, Vertex};
+use relation_core::{Extent, Matrix};
+
+/// A matrix that grows along an edge, and the part of the second geometry in which the last point
+/// lies, if that is known to be off the boundary of an area.
+#[derive(Clone, Copy)]
+struct Walk {
+    matrix: Matrix,
+    part: Option<Part>,
+}
+
+/// A part of a geometry that is off the boundary of an area.
+fn part_off(kind: Kind, part: Part) -> Option<Part>
+    ensures part { IfSome result (λ q. q ≡ part) }
+    ensures area { IfSome result (λ q. kind ≡ Kind.Areas) }
+    ensures off { IfSome result (λ q. q ≢ Part.Boundary) }
+{
+    if kind == Kind::Areas && part != Part::Boundary {
+        Some(part)
+    } else {
+        None
+    }
+}
+
+#[inline]
+fn is_equal(z: i128, a: i64) -> bool
+    ensures { result ≡ int_eq z a }
+{
+    z == i128::from(a)
+}
+
+/// Whether the coordinates of a point are written as those of a vertex. Then it is at the vertex.
+#[inline]
+fn is_vertex(p: &Place, v: &Vertex) -> bool
+    ensures { result ≡ is_vertex p.now v.now }
+{
+    let is_whole = is_equal(p.w, 1);
+    let level_x = is_equal(p.x, v.x);
+    let level_y = is_equal(p.y, v.y);
+    is_whole & level_x & level_y
+}
+
+/// Whether a point is written as an end of an edge.
+#[inline]
+fn is_end(e: &Edge, p: &Place) -> bool
+    ensures { IsTrue result → is_on e.now (point_of p.now) ≡ true }
+{
+    if is_vertex(p, &e.a) {
+        true
+    } else {
+        is_vertex(p, &e.b)
+    }
+}
+
+/// Whether a point is on an edge.
+fn is_on(e: &Edge, p: &Spot) -> bool
+    ensures { result ≡ is_on e.now (point_of p.now.place) }
+{
+    if is_end(e, &p.place) {
+        true
+    } else {
+        p.lie_of(e).is_on
+    }
+}
+
+/// Whether a point is on one of some edges.
+fn is_on_any(edges: &[Edge], p: &Place) -> bool
+    ensures { result ≡ list_any (λ e. is_on e (point_of p.now)) edges.now }
+{
+    let spot = Spot::of(p);
+    edges.iter().any(|e| is_on(e, &spot))
+}
+
+/// Whether a matrix includes a node wherever it lies in the second geometry, and no part is handed
+/// on to it.
+fn is_settled(walk: &Walk, part: Part, other: &IndexedOutline) -> bool
+    ensures none { IsTrue result → walk.now.part ≡ None }
+    ensures shown { let parts = all_parts other.now.kind in
+        IsTrue result → AreShown (pick part walk.now.matrix.rows) parts Dot }
+{
+    match walk.part {
+        Some(_) => false,
+        None => is_point_shown(&walk.matrix, part, other),
+    }
+}
+
+/// Adds a node that is on no edge of the second geometry, of which the part in the first is known.
+fn add_off(walk: Walk, pair: &Pair, course: &Course, part: Part, p: &Place) -> Walk
+    requires bounded { IsBounded pair.now.second.now pair.now.second_box }
+    requires known { IsKnownIn pair.now.second.now course.now }
+    requires on { is_on course.now.edge (point_of p.now) ≡ true }
+    requires off { IfSome walk.part (LiesOff pair.now.second.now (point_of p.now)) }
+    ensures grown { let marks = mark_in part pair.now.second.now (point_of p.now) ∷ [] in
+        HasGrownBy marks walk.matrix result.matrix }
+    ensures off { IfSome result.part (LiesOff pair.now.second.now (point_of p.now)) }
+{
+    if is_point_shown(&walk.matrix, part, pair.second) {
+        return walk;
+    }
+    let standing = standing_of(pair.second, course, walk.part, p);
+    let matrix = raised(walk.matrix, part, standing.part, Extent::Point);
+    let off = part_off(pair.second.outline().kind, standing.part);
+    Walk { matrix, part: off }
+}
+
+/// Adds a node. The edges of the second geometry near the edge tell whether it is on one of them.
+fn add_node(walk: Walk, pair: &Pair, course: &Course, near: &[Edge], p: &Place) -> Walk
+    requires bounded { IsBounded pair.now.second.now pair.now.second_box }
+    requires known { IsKnownIn pair.now.second.now course.now }
+    requires near { AreNear pair.now.second.now course.now.edge near.now }
+    requires on { IsOnCourse pair.now.first.now course.now (point_of p.now) }
+    requires off { IfSome walk.part (LiesOffOrOn pair.now.second.now (point_of p.now)) }
+    ensures grown { let a = pair.now.first.now in let b = pair.now.second.now in
+        HasGrownBy (mark_at a b Dot (point_of p.now) ∷ []) walk.matrix result.matrix }
+    ensures off { IfSome result.part (LiesOff pair.now.second.now (point_of p.now)) }
+{
+    let part = part_on_edge(pair.first.outline(), p);
+    if is_settled(&walk, part, pair.second) {
+        return walk;
+    }
+    if is_on_any(near, p) {
+        let other = part_on_edge(pair.second.outline(), p);
+        let matrix = raised(walk.matrix, part, other, Extent::Point);
+        Walk { matrix, part: None }
+    } else {
+        add_off(walk, pair, course, part, p)
+    }
+}
+
+/// Adds the piece of the edge on which a point lies, and the face above it, by their places.
+fn place_piece(walk: Walk, pair: &Pair, course: &Course, p: &Place) -> Walk
+    requires bounded { IsBounded pair.now.second.now pair.now.second_box }
+    requires known { IsKnownIn pair.now.second.now course.now }
+    requires on { IsOnCourse pair.now.first.now course.now (point_of p.now) }
+    requires off { IfSome walk.part (LiesOff pair.now.second.now (point_of p.now)) }
+    ensures grown { let a = pair.now.first.now in let b = pair.now.second.now in
+        HasGrownBy (piece_marks a b course.now.edge (point_of p.now)) walk.matrix result.matrix }
+    ensures off { IfSome result.part (LiesOff pair.now.second.now (point_of p.now)) }
+{
+    let part = part_on_edge(pair.first.outline(), p);
+    let standing = standing_of(pair.second, course, walk.part, p);
+    let off = part_off(pair.second.outline().kind, standing.part);
+    let on = raised(walk.matrix, part, standing.part, Extent::Line);
+    if course.edge.is_vertical() {
+        return Walk {
+            matrix: on,
+            part: off,
+        };
+    }
+    let matrix = mark_above(on, pair.first, standing.above, p);
+    Walk { matrix, part: off }
+}
+
+/// Adds the piece of the edge on which a point lies, and the face above it. The matrix is unchanged
+/// if it includes all that these can be.
+fn add_piece(walk: Walk, pair: &Pair, course: &Course, p: &Place) -> Walk
+    requires bounded { IsBounded pair.now.second.now pair.now.second_box }
+    requires course { IsCourseIn pair.now.second.now course.now }
+    requires on { IsOnEdge pair.now.first.now (point_of p.now) }
+    requires uncrossed { IsUncrossed pair.now.second.now course.now.edge (point_of p.now) }
+    requires off { IfSome walk.part (LiesOff pair.now.second.now (point_of p.now)) }
+    ensures grown { let a = pair.now.first.now in let b = pair.now.second.now in
+        HasGrownBy (piece_marks a b course.now.edge (point_of p.now)) walk.matrix result.matrix }
+    ensures off { IfSome result.part (LiesOff pair.now.second.now (point_of p.now)) }
+{
+    let own = pair.first.outline();
+    let other = pair.second.outline();
+    if is_piece_shown(&walk.matrix, own, other, course, p) {
+        walk
+    } else {
+        place_piece(walk, pair, course, p)
+    }
+}
+
+/// Goes from a node to the next one: adds the piece between them and the node, if they differ.
+fn step(walk: Walk, pair: &Pair, course: &Course, near: &[Edge], k: &Node, l: &Node) -> Walk
+    requires bounded { IsBounded pair.now.second.now pair.now.second_box }
+    requires course { IsCourseIn pair.now.second.now course.now }
+    requires near { AreNear pair.now.second.now course.now.edge near.now }
+    requires next { let a = pair.now.first.now in let b = pair.now.second.now in
+        AreNext a b course.now.edge (node_point k.now) (node_point l.now) }
+    requires here { let a = pair.now.first.now in let b = pair.now.second.now in
+        let p = node_point k.now in
+        1 ≤ rank (entry walk.matrix (outline_part a p) (outline_part b p)) }
+    requires off { IfSome walk.part (LiesOff pair.now.second.now (node_point k.now)) }
+    ensures grown { let a = pair.now.first.now in let b = pair.now.second.now in
+        let p = node_point k.now in let q = node_point l.now in
+        let marks = gap_marks a b course.now.edge p q ++ mark_at a b Dot q ∷ [] in
+        HasGrownBy marks walk.matrix result.matrix }
+    ensures off { IfSome result.part (LiesOff pair.now.second.now (node_point l.now)) }
+{
+    if k.compare(l).is_lt() {
+        add_node(
+            add_piece(walk, pair, course, &k.middle(l)),
+            pair,
+            course,
+            near,
+            &l.place,
+        )
+    } else {
+        walk
+    }
+}
+
+fn node_at(nodes: &[Node], i: usize) -> Node
+    requires { i < length nodes.now }
+    ensures { result ≡ slice_index_or nodes.now i result }
+{
+    nodes[i]
+}
+
+/// The matrix with an edge of the first geometry, given its nodes and the edges of the second near
+/// it: with the nodes, the pieces of the edge between them, and the faces above these.
+pub(crate) fn mark_noded(
+    matrix: Matrix,
+    pair: &Pair,
+    course: &Course,
+    near: &[Edge],
+    nodes: &[Node],
+) -> Matrix
+    requires bounded { IsBounded pair.now.second.now pair.now.second_box }
+    requires course { IsCourseIn pair.now.second.now course.now }
+    requires near { AreNear pair.now.second.now course.now.edge near.now }
+    requires cuts { let a = pair.now.first.now in let b = pair.now.second.now in
+        AreCuts a b course.now.edge (map node_point nodes.now) }
+    ensures { let a = pair.now.first.now in let b = pair.now.second.now in
+        let ns = map node_point nodes.now in
+        let noded : NodedEdge = record { edge = course.now.edge; nodes = ns } in
+        HasGrownBy (edge_marks a b noded) matrix result }
+{
+    let first = node_at(nodes, 0);
+    let start = Walk { matrix, part: None };
+    let mut walk = add_node(start, pair, course, near, &first.place);
+    for i in 1..nodes.len() {
+        let k = node_at(nodes, i - 1);
+        let l = node_at(nodes, i);
+        walk = step(walk, pair, course, near, &k, &l);
+    }
+    walk.matrix
+}

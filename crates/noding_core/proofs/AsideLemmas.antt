@@ -1,0 +1,34 @@
+-- An edge that lies strictly on one side of another's line shares no point with it.
+use Rattle.std.proofs.Common.{◌≡◌, arith, ap, ◌∙◌, true, false, List}
+use Rattle.std.specs.Prelude.{ℤ, pos, Bool, ◌&&◌, ◌||◌, int_lt}
+use Rattle.std.proofs.lemmas.Int.{ints}
+use Rattle.plane_core.specs.declared.edge.Edge.{Edge}
+use Rattle.plane_core.specs.declared.node.Node.{Node}
+use Rattle.plane_core.specs.Crossings.{is_not_zero, is_zero_between}
+use Rattle.plane_core.specs.Points.{at, side, turn_of}
+use Rattle.plane_core.proofs.CrossingLemmas.{level_of, no_meeting}
+use Rattle.noding_core.specs.Gathered.{HasMeetings, is_aside}
+use Rattle.noding_core.proofs.TestLemmas.{and_false, clash}
+
+off_zero : (m n : ℤ) → ((int_lt m (pos 0) && int_lt n (pos 0)) || (int_lt (pos 0) m && int_lt (pos 0) n)) ≡ true → is_zero_between m n ≡ false
+off_zero m n h = grind (arith, ints)
+
+zero_first : (m n : ℤ) → m ≡ pos 0 → is_zero_between m n ≡ true
+zero_first m n h = grind (arith, ints)
+
+zero_last : (m n : ℤ) → n ≡ pos 0 → is_zero_between m n ≡ true
+zero_last m n h = grind (arith, ints)
+
+third_off : (t u v : Bool) → v ≡ false → (t && u && v) ≡ false
+third_off t u v h = ap (λ (x : Bool). t && u && x) h ∙ and_false (t && u)
+
+pub aside_meetings : (e f : Edge) (ns : List Node) → is_aside e f ≡ true → HasMeetings e ns f
+aside_meetings e f ns h =
+    let m = side e (at f.a) in
+    let n = side e (at f.b) in
+    let off = off_zero m n h in
+    record {
+      first = record { here = λ on. clash (is_zero_between m n) (zero_first m n (level_of e (at f.a) on)) off };
+      last = record { here = λ on. clash (is_zero_between m n) (zero_last m n (level_of e (at f.b) on)) off };
+      meeting = record { here = λ p wide k. absurd ((no_meeting e f (third_off (is_not_zero (turn_of e f)) (is_zero_between (side f (at e.a)) (side f (at e.b))) (is_zero_between m n) off)).none p wide k) };
+    }
