@@ -2,6 +2,7 @@
 use Rattle.std.proofs.Common.{◌≡◌, ◌↔◌, ℕ, ◌+◌, ◌*◌, ◌<◌, ◌≤◌, ◌⊎◌, inl, inr, cond, List, [], ◌∷◌, ◌++◌, All, Contains, nat_eq, length, get_or, take, refl, sym, subst, ◌∙◌, arith}
 use Rattle.std.specs.Prelude.{Option, Some, None, IsSome, IfSome, count_by, option_map}
 use Rattle.std.specs.Borrow.{Bor}
+use Rattle.std.specs.Slice.{IsItemAt}
 use Rattle.std.proofs.Math.Nat.{mul-le-mul_right}
 use Rattle.std.proofs.lemmas.Nat.{mul-le}
 use Rattle.std.proofs.lemmas.List.{length-map, length-take-le, map-append, map_more, take-map}
@@ -20,9 +21,9 @@ use Rattle.any_geometry_core.specs.declared.geometry.AnyGeometry.{AnyGeometry}
 use Rattle.any_geometry_core.specs.AnyGeometries.{figure_of}
 use Rattle.any_nearest_core.specs.declared.neighbour.AnyNeighbour.{AnyNeighbour}
 use Rattle.any_nearest_core.specs.Candidates.{candidates_of}
-use Rattle.any_nearest_core.specs.Measurements.{limit_of, IsBound, IsGreatest, IsSquareIn, IsNumberBeyond, IsNumberWithin, IsMeasuredAs, AreMeasured, with_measured}
+use Rattle.any_nearest_core.specs.Measurements.{limit_of, AreNeighboursWithin, IsBound, IsGreatest, IsSquareIn, IsNumberBeyond, IsNumberWithin, IsMeasuredAs, AreMeasured, with_measured}
 use Rattle.any_nearest_core.specs.Nearest.{AreDistinct, HasPoints, IsNeighbour, numbers_of}
-use Rattle.any_nearest_core.proofs.FractionLemmas.{within_by}
+use Rattle.any_nearest_core.proofs.FractionLemmas.{wider, within_by}
 use Rattle.any_nearest_core.proofs.PigeonLemmas.{distinct_take}
 
 nothing_found : (A : Type 0) → IsSome {T = A} None → ⊥
@@ -152,6 +153,48 @@ module _ (layer : Contents AnyGeometry) (g : Figure) where
         held = n.held;
         within = (within_by g n.feature.shape n.feature.shape s up n.square).0 square;
       })))
+
+  -- no neighbour is known yet
+  pub none_known : (units : ℕ) (found : List AnyNeighbour) → found ≡ [] → AreNeighboursWithin layer g units found
+  none_known units found none = subst (AreNeighboursWithin layer g units) (sym none) (record {
+    measured = All-nil (IsNeighbour layer g);
+    within = All-nil (λ n. IsSquareIn units n.square);
+  })
+
+  -- neighbours within a distance are within a greater one
+  pub known_wider : (d e : ℕ) (found : List AnyNeighbour) → d ≤ e → AreNeighboursWithin layer g d found → AreNeighboursWithin layer g e found
+  known_wider d e found le known = record {
+    measured = known.measured;
+    within = All-weaker (λ n. IsSquareIn d n.square) (λ n. IsSquareIn e n.square) (λ n h. wider d e n.square le h) found known.within;
+  }
+
+  -- one known neighbour more
+  pub known_more : (old new : List AnyNeighbour) (k : ℕ) (found : Option SquaredFraction) (s : SquaredFraction) (d e up limit : ℕ)
+      → AreNeighboursWithin layer g d old → IsMeasuredAs layer g limit k found → found ≡ Some s → IsSquareIn up s → d ≤ e → up ≤ e
+      → new ≡ old ++ (record { square = s; number = k }) ∷ [] → AreNeighboursWithin layer g e new
+  known_more old new k found s d e up limit known is some square low high grown =
+      let n : AnyNeighbour = record { square = s; number = k } in
+      let before = known_wider d e old low known in
+      subst (AreNeighboursWithin layer g e) (sym grown) (record {
+        measured = All-push (IsNeighbour layer g) old n before.measured (subst (IsMeasuredAs layer g limit k) some is).0;
+        within = All-push (λ x. IsSquareIn e x.square) old n before.within (wider up e s high square);
+      })
+
+  -- the neighbour at a place of those that are known
+  pub known_at : (known : List AnyNeighbour) (units place : ℕ) (r : Option (Bor AnyNeighbour)) → AreNeighboursWithin layer g units known
+      → IsItemAt known place r → IfSome r (λ n. IsNeighbour layer g n.now × IsSquareIn units n.now.square)
+  known_at known units place None are at = tt
+  known_at known units place (Some n) are at =
+      let within = at.3.0 in (
+        subst (IsNeighbour layer g) (sym at.1) (are.measured place n.now within),
+        subst (λ (m : AnyNeighbour). IsSquareIn units m.square) (sym at.1) (are.within place n.now within),
+      )
+
+  -- the square of a known neighbour with this number
+  pub square_known : (n : AnyNeighbour) (units number : ℕ) → IsNeighbour layer g n × IsSquareIn units n.square → n.number ≡ number
+      → IsMeasuredAs layer g units number (Some n.square)
+  square_known n units number known is =
+      subst (λ (k : ℕ). IsMeasuredAs layer g units k (Some n.square)) is known
 
 -- as many features as are asked for give a bound
 pub bound_by : (query : Query) (layer : Contents AnyGeometry) (g : Figure) (limit most d : ℕ) (some : List Neighbour) → limit ≡ limit_of query → most ≡ most_of query

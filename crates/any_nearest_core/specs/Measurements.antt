@@ -53,6 +53,12 @@ with_measured found number None = found
 with_measured found number (Some square) =
     found ++ (record { square = square; number = number }) ∷ []
 
+-- features of the layer by their distances, none of which is greater than this one
+pub record AreNeighboursWithin (layer : Contents AnyGeometry) (g : Figure) (units : ℕ)
+    (found : List AnyNeighbour) : Type 0 where
+  pub measured : All (IsNeighbour layer g) found
+  pub within : All (λ n. IsSquareIn units n.square) found
+
 -- those of the candidates that are at most so far away, measured
 pub record AreMeasured (layer : Contents AnyGeometry) (g : Figure) (units : ℕ)
     (candidates : List ℕ) (found : List AnyNeighbour) : Type 0 where

@@ -4,10 +4,12 @@ ghost use Rattle.std.specs.Prelude.{◌≡◌, ◌≤◌, IfOk, max};
 ghost use Rattle.distance_core.specs.Units.{units_of};
 ghost use Rattle.any_nearest_core.specs.Candidates.{candidates_of};
 ghost use Rattle.any_nearest_core.specs.Measurements.{IsBound, IsGreatest, IsSquareIn};
+ghost use Rattle.any_nearest_core.specs.Measurements.{AreNeighboursWithin};
 ghost use Rattle.any_nearest_core.specs.Nearest.{AreDistinct};
 
 use crate::limit::limit_for;
 use crate::measure::square_of;
+use crate::neighbour::AnyNeighbour;
 use any_geometry_core::AnyGeometry;
 use distance_core::{Distance, Query};
 use edge_distance_core::SquaredFraction;
@@ -15,6 +17,14 @@ use geometry_distance_core::MeasuredGeometry;
 use layer_core::Layer;
 use nearest_core::Neighbour;
 use std::alloc::{AllocError, Global};
+
+/// A distance from a geometry, with the features that were measured to find it.
+#[derive(Drop)]
+pub(crate) struct Bound {
+    pub(crate) distance: Distance,
+    /// Features that are at most so far away, in the order in which they were given.
+    pub(crate) measured: Vec<AnyNeighbour>,
+}
 
 /// A distance from a geometry within which all features of a layer lie that are nearest to it and
 /// asked for: the greatest distance of as many of some features as are asked for, or the query's
@@ -25,14 +35,20 @@ pub(crate) fn bound_of(
     some: &[Neighbour],
     from: &MeasuredGeometry,
     query: &Query,
-) -> Result<Distance, AllocError>
+) -> Result<Bound, AllocError>
     requires { AreDistinct (candidates_of some.now) }
-    ensures { IfOk result (λ d. IsBound query.now layer.now.list from.now (units_of d)) }
+    ensures bound { IfOk result
+        (λ b. IsBound query.now layer.now.list from.now (units_of b.distance)) }
+    ensures measured { IfOk result (λ b.
+        AreNeighboursWithin layer.now.list from.now (units_of b.distance) b.measured.items) }
 {
     let limit = limit_for(query);
     let most = query.most() as usize;
     if some.len() < most {
-        return Ok(limit);
+        return Ok(Bound {
+            distance: limit,
+            measured: Vec::new(alloc),
+        });
     }
     greatest_of(alloc, layer, &some[..most], from, limit)
 }
@@ -45,20 +61,31 @@ fn greatest_of(
     features: &[Neighbour],
     from: &MeasuredGeometry,
     limit: Distance,
-) -> Result<Distance, AllocError>
-    ensures { IfOk result (λ d. IsGreatest layer.now.list from.now (units_of limit)
-        (candidates_of features.now) (units_of d)) }
+) -> Result<Bound, AllocError>
+    ensures greatest { IfOk result (λ b. IsGreatest layer.now.list from.now (units_of limit)
+        (candidates_of features.now) (units_of b.distance)) }
+    ensures measured { IfOk result (λ b.
+        AreNeighboursWithin layer.now.list from.now (units_of b.distance) b.measured.items) }
 {
+    let mut measured = Vec::new(alloc);
     let Some(mut greatest) = Distance::new(0) else {
-        return Ok(limit);
+        unreachable!()
     };
     for feature in features {
-        let Some(square) = square_of(alloc, layer, feature.number, from, limit)? else {
-            return Ok(limit);
+        let number = feature.number;
+        let Some(square) = square_of(alloc, layer, number, from, limit)? else {
+            return Ok(Bound {
+                distance: limit,
+                measured,
+            });
         };
         greatest = greater(greatest, rounded_up(&square, limit));
+        measured.push(AnyNeighbour { square, number })?;
     }
-    Ok(greatest)
+    Ok(Bound {
+        distance: greatest,
+        measured,
+    })
 }
 
 /// The greater of two distances.

@@ -16,4 +16,3 @@ pub use distance_core::{Distance, Query};
 pub use edge_distance_core::SquaredFraction;
 pub use layers::nearest_any_layers;
 pub use neighbour::AnyNeighbour;
-pub use of_layer::nearest_any_of;

@@ -1,9 +1,11 @@
 //! The distances of features of a layer from a geometry.
 
-ghost use Rattle.std.specs.Prelude.{IfOk, OnOk, ◌≡◌};
+ghost use Rattle.std.specs.Prelude.{IfOk, IfSome, OnOk, ◌≡◌};
 ghost use Rattle.distance_core.specs.Units.{units_of};
 ghost use Rattle.any_nearest_core.specs.Candidates.{candidates_of};
 ghost use Rattle.any_nearest_core.specs.Measurements.{AreMeasured, IsMeasuredAs, with_measured};
+ghost use Rattle.any_nearest_core.specs.Measurements.{AreNeighboursWithin, IsSquareIn};
+ghost use Rattle.any_nearest_core.specs.Nearest.{IsNeighbour};
 
 use crate::neighbour::AnyNeighbour;
 use any_geometry_core::AnyGeometry;
@@ -33,22 +35,46 @@ pub(crate) fn square_of(
     Ok(square_within(from, &geometry, distance))
 }
 
+/// The same. `known` is the feature that was measured before at this place, which may be another.
+fn square_at(
+    alloc: Global,
+    layer: &Layer<AnyGeometry>,
+    number: u32,
+    known: Option<&AnyNeighbour>,
+    from: &MeasuredGeometry,
+    distance: Distance,
+) -> Result<Option<SquaredFraction>, AllocError>
+    requires { let units = units_of distance in IfSome known (λ n.
+        IsNeighbour layer.now.list from.now n.now × IsSquareIn units n.now.square) }
+    ensures { let units = units_of distance in
+        IfOk result (IsMeasuredAs layer.now.list from.now units number) }
+{
+    match known {
+        Some(neighbour) if neighbour.number == number => Ok(Some(neighbour.square)),
+        _ => square_of(alloc, layer, number, from, distance),
+    }
+}
+
 /// Those of the candidates that are at most so far from a geometry, measured, in no particular
-/// order.
+/// order. `known` has some that were measured before, at their places among the candidates; one
+/// that is at another place is measured again.
 pub(crate) fn measured_within(
     alloc: Global,
     layer: &Layer<AnyGeometry>,
     candidates: &[Neighbour],
+    known: &[AnyNeighbour],
     from: &MeasuredGeometry,
     distance: Distance,
 ) -> Result<Vec<AnyNeighbour>, AllocError>
+    requires { let units = units_of distance in
+        AreNeighboursWithin layer.now.list from.now units known.now }
     ensures { let units = units_of distance in let numbers = candidates_of candidates.now in
         IfOk result (λ found. AreMeasured layer.now.list from.now units numbers found.items) }
 {
     let mut found = Vec::new(alloc);
-    for candidate in candidates {
+    for (place, candidate) in candidates.iter().enumerate() {
         let number = candidate.number;
-        let measured = square_of(alloc, layer, number, from, distance)?;
+        let measured = square_at(alloc, layer, number, known.get(place), from, distance)?;
         push_measured(&mut found, number, measured)?;
     }
     Ok(found)

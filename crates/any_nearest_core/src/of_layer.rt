@@ -6,7 +6,7 @@ ghost use Rattle.distance_core.specs.Units.{units_of};
 ghost use Rattle.any_nearest_core.specs.Candidates.{AreBoxesWithin};
 ghost use Rattle.any_nearest_core.specs.Nearest.{AreNearestIn};
 
-use crate::bound::bound_of;
+use crate::bound::{Bound, bound_of};
 use crate::cut::keep_first;
 use crate::measure::measured_within;
 use crate::neighbour::{AnyNeighbour, sort_neighbours};
@@ -26,7 +26,7 @@ use std::alloc::{AllocError, Global};
 ///
 /// # Errors
 /// If an allocation fails.
-pub fn nearest_any_of(
+pub(crate) fn nearest_any_of(
     alloc: Global,
     layer: &Layer<AnyGeometry>,
     geometry: &AnyGeometry,
@@ -40,9 +40,9 @@ pub fn nearest_any_of(
     let shape = geometry.bounds();
     let from = MeasuredGeometry::new(alloc, geometry.geometry())?;
     let nearest = nearest_boxes(alloc, layer, &shape, query)?;
-    let bound = bound_of(alloc, layer, &nearest, &from, query)?;
-    let candidates = boxes_within(alloc, layer, &shape, bound)?;
-    let mut found = measured_within(alloc, layer, &candidates, &from, bound)?;
+    let Bound { distance, measured } = bound_of(alloc, layer, &nearest, &from, query)?;
+    let candidates = boxes_within(alloc, layer, &shape, distance)?;
+    let mut found = measured_within(alloc, layer, &candidates, &measured, &from, distance)?;
     sort_neighbours(&mut found)?;
     keep_first(&mut found, query.most() as usize);
     Ok(found)

@@ -3,7 +3,7 @@ use Rattle.nearest_core.proofs.MatchLemmas.{if_ok}
 use Rattle.any_nearest_core.proofs.MeasureLemmas.{bound_by}
 use Rattle.any_nearest_core.proofs.bound.bound_of.Goals as goal
 
-pub returns : goal.returns
-returns c = if_ok c.greatest_of.result _ _ (λ d greatest.
-    bound_by c.args.query.now c.args.layer.now.list c.args.from.now (units_of c.limit_for-limit.result) c.most-most.result (units_of d) c.args.some.now
-    c.limit_for-limit.ensures c.most-most.ensures.most c.if-some-most.false c.requires greatest) c.greatest_of.ensures
+pub returns-clause-bound : goal.returns-clause-bound
+returns-clause-bound c = if_ok c.greatest_of.result _ _ (λ b greatest.
+    bound_by c.args.query.now c.args.layer.now.list c.args.from.now (units_of c.limit_for-limit.result) c.most-most.result (units_of b.distance) c.args.some.now
+    c.limit_for-limit.ensures c.most-most.ensures.most c.if-some-most.false c.requires greatest) c.greatest_of.ensures.greatest

@@ -4,7 +4,7 @@ use Rattle.distance_core.specs.Units.{units_of}
 use Rattle.nearest_core.specs.declared.neighbour.Neighbour.{Neighbour}
 use Rattle.any_nearest_core.specs.Candidates.{candidates_of}
 use Rattle.any_nearest_core.specs.Measurements.{IsNumberWithin}
-use Rattle.any_nearest_core.proofs.MeasureLemmas.{greatest_more}
+use Rattle.any_nearest_core.proofs.MeasureLemmas.{greatest_more, known_more, known_wider}
 use Rattle.any_nearest_core.proofs.bound.greatest_of.Goals as goal
 
 pub loop-feature-preserved : goal.loop-feature-preserved
@@ -14,10 +14,16 @@ loop-feature-preserved c = record {
       (units_of c.args.limit) c.loop-feature-test.true c.loop-feature.invariant.within
       c.in_ok-square.ensures c.in-Some-2.is
       c.rounded_up.ensures.within (omega (arith, c.greater-greatest.ensures)) (omega (arith, c.greater-greatest.ensures));
+  known = known_more c.args.layer.now.list c.args.from.now _ _ _ _ c.in-Some-2.square (units_of c.loop-feature.greatest) (units_of c.greater-greatest.result) (units_of c.rounded_up.result)
+      (units_of c.args.limit) c.loop-feature.invariant.known c.in_ok-square.ensures c.in-Some-2.is c.rounded_up.ensures.within
+      (omega (arith, c.greater-greatest.ensures)) (omega (arith, c.greater-greatest.ensures)) c.in_ok-push.ensures.items;
 }
 
-pub returns : goal.returns
-returns c = record {
+pub returns-in_default-2-clause-measured : goal.returns-in_default-2-clause-measured
+returns-in_default-2-clause-measured c = known_wider c.args.layer.now.list c.args.from.now _ _ _ c.loop-feature.invariant.low c.loop-feature.invariant.known
+
+pub returns-clause-greatest : goal.returns-clause-greatest
+returns-clause-greatest c = record {
   low = c.loop-feature.invariant.low;
   all = inr (subst (λ (ns : List Neighbour). All (IsNumberWithin c.args.layer.now.list c.args.from.now (units_of c.loop-feature.greatest)) (candidates_of ns))
       (take_all _ c.args.features.now c.loop-feature-test.false) c.loop-feature.invariant.within);

@@ -4,6 +4,6 @@ use Rattle.any_nearest_core.specs.Candidates.{candidates_of}
 use Rattle.any_nearest_core.specs.Measurements.{AreMeasured}
 use Rattle.any_nearest_core.proofs.measure.measured_within.Given as goal
 
-abbrev pub invariant-loop-candidate : goal.invariant-loop-candidate
-invariant-loop-candidate l =
-    AreMeasured l.layer.list l.from (units_of l.distance) (candidates_of (take l.candidate-index l.candidates)) l.found.items
+abbrev pub invariant-loop-place : goal.invariant-loop-place
+invariant-loop-place l =
+    AreMeasured l.layer.list l.from (units_of l.distance) (candidates_of (take l.place l.candidates)) l.found.items
