@@ -1,7 +1,7 @@
 //! The output of commands over files in memory.
 
-use crate::runs::{Run, check, writes};
-use crate::shelf::FILES;
+use crate::files::FILES;
+use command_test_runs::{Run, check, writes};
 use std::test::Fail;
 
 const MAPS: [(&str, &str); 2] = [

@@ -1,7 +1,7 @@
 //! The fault lines and the status of commands with faults of files and words.
 
-use crate::runs::{Run, check};
-use crate::shelf::FILES;
+use crate::files::FILES;
+use command_test_runs::{Run, check};
 use std::test::Fail;
 
 const MISSING_FILES: [Run; 6] = [

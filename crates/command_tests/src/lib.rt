@@ -2,21 +2,13 @@
 #![tactic(auto)]
 
 #[cfg(test)]
-mod any_layers;
-#[cfg(test)]
-mod any_relate;
-#[cfg(test)]
 mod commands;
 #[cfg(test)]
 mod faults;
 #[cfg(test)]
+mod files;
+#[cfg(test)]
 mod help;
-#[cfg(test)]
-mod refused;
-#[cfg(test)]
-mod runs;
-#[cfg(test)]
-mod shelf;
 #[cfg(test)]
 mod skipping;
 #[cfg(test)]

@@ -1,8 +1,7 @@
 //! Joins without the rows whose geometry can't be read, which are listed in a file.
 
-use crate::runs::given_words;
-use crate::shelf::Shelf;
 use command_core::run_words;
+use command_test_runs::{Shelf, given_words};
 use report_core::ToWrite;
 use std::process::Abort;
 use std::random::RandomSource;

@@ -2,6 +2,8 @@
 #![tactic(auto)]
 
 #[cfg(test)]
+mod any_joining;
+#[cfg(test)]
 mod bounds_runs;
 #[cfg(test)]
 mod broken;

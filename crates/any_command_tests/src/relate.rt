@@ -1,7 +1,7 @@
 //! Geometries of any direction related by the program: matrices, improper rings, and faults of
 //! texts and of words.
 
-use crate::runs::{Run, check};
+use command_test_runs::{Run, check};
 use std::test::Fail;
 
 /// Proper rings by default and by word, and improper ones of the first and of the second geometry.

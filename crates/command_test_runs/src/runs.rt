@@ -4,7 +4,6 @@ use crate::shelf::Shelf;
 use command_core::run_words;
 use report_core::ToWrite;
 use std::alloc::{AllocError, Global};
-use std::process::Abort;
 use std::random::RandomSource;
 use std::sync::Wait;
 use std::test::Fail;
@@ -107,14 +106,16 @@ pub fn writes<R: RandomSource + AllocGlobal + Threads + Wait + Sync>(
     )
 }
 
-/// Checks each run.
-pub fn check<R: Abort + RandomSource + AllocGlobal + Threads + Wait + Sync>(
+/// Checks that each run ends as expected; the failure has the words of the first that doesn't.
+pub fn check<R: RandomSource + AllocGlobal + Threads + Wait + Sync>(
     rt: &R,
     files: &[(&str, &str)],
     runs: &[Run],
 ) -> Result<(), Fail> {
     for run in runs {
-        assert!(rt; ends(rt, files, run)?, "{}", run.0);
+        if !ends(rt, files, run)? {
+            return Err(Fail::new(run.0));
+        }
     }
     Ok(())
 }

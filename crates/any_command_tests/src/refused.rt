@@ -1,8 +1,8 @@
 //! Commands over layers of any geometry without memory. With each allocation failing in turn, a
 //! command ends as without the failure or fails, and executed again, it ends as without it.
 
-use crate::any_layers::{FILES, JOINS, LAYERS};
-use crate::runs::{Run, attempt, ends};
+use crate::layers::{FILES, JOINS, LAYERS};
+use command_test_runs::{Run, attempt, ends};
 use std::random::RandomSource;
 use std::sync::Wait;
 use std::test::Fail;

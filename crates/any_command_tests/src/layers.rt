@@ -1,6 +1,6 @@
 //! Commands over layers of any geometry: what they write, and the order of their faults.
 
-use crate::runs::{Run, check, writes};
+use command_test_runs::{Run, check, writes};
 use std::test::Fail;
 
 /// A triangle, a line and points, layers that they are joined with, edits, and layers at fault.
