@@ -51,9 +51,6 @@ class Condition(ABC):
     def check(self) -> None:
         """Raises ProgramError where the program refuses the condition."""
 
-    def check_layer(self, _layer: Layer) -> None:
-        """Refuses a layer with a shape that the program doesn't read."""
-
     def kept(self, rows: Iterator[Row], _layers: Sequence[Layer], _dbu: float) -> Iterator[Row]:
         """The pairs of the report that belong to the answer."""
         return rows
@@ -119,14 +116,6 @@ class Space(Condition):
         refusal = program.refusal(*self._asked("1"))
         if refusal is not None:
             raise program.ProgramError(refusal)
-
-    def check_layer(self, layer: Layer) -> None:
-        shape = layer.first_shape()
-        if shape is None or program.refusal(*self._asked("1"), "--geometry=any") is None:
-            return
-        raise JoinError(
-            f"layer {layer.name}, cell {shape.cell}: neither a box nor a segment along an axis, "
-            f"which are all that this version of rjoin near reads: {shape.geometry.figure}")
 
     def words(self, layers: Sequence[Layer], dbu: float) -> List[str]:
         limit = self._limit(dbu)

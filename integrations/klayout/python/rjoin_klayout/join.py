@@ -105,8 +105,6 @@ class _Join:
     def add(self, cell: pya.Cell, folder: Path) -> None:
         """Joins the layers of a cell."""
         layers = self._read(cell)
-        for layer in layers:
-            self.condition.check_layer(layer)
         if cell.cell_index() in self.placements:
             self.report.add_cell(cell.name, self.placements[cell.cell_index()])
         if all(layer.count() for layer in layers):
@@ -132,7 +130,7 @@ class _Join:
         else:
             right.write(paths[1])
         command, *words = self.condition.words(layers, self.layout.dbu)
-        if any(layer.first_shape() for layer in layers):
+        if not all(layer.is_of_boxes() for layer in layers):
             words += ["--geometry", "any", "--rings", "even-odd"]
         report = folder / "report.csv"
         program.run([command, *map(str, paths), *words], report)

@@ -112,11 +112,9 @@ class Layer:
         box = geometry.figure
         return (box.left, box.bottom, box.right, box.top) if geometry.is_box() else None
 
-    def first_shape(self) -> Optional[Placed]:
-        """The first shape that isn't a box."""
-        if self.areas:
-            return self.placed(len(self.rectangles))
-        return next((placed for placed in self.drawn if not placed.geometry.is_box()), None)
+    def is_of_boxes(self) -> bool:
+        """Whether each shape is a box."""
+        return not self.areas and all(placed.geometry.is_box() for placed in self.drawn)
 
     def write(self, path: Path) -> None:
         """Writes the geometries in database units, with their numbers as ids."""
