@@ -15,6 +15,9 @@ use std::thread::Threads;
 /// letters of a matrix and a line feed.
 const LAST_AND_END: usize = 10;
 
+/// The number of features by which the room of a column is estimated.
+const SAMPLES: usize = 256;
+
 /// The ids of a layer's features, as CSV fields with their commas, by number.
 ///
 /// A report needs right features in no particular order. Here their ids are contiguous; in a layer
@@ -44,7 +47,7 @@ impl Column {
         ensures len { IfOk result (λ column. length column.starts.items ≡ bound + 1) }
     {
         let mut starts = Vec::with_capacity(alloc, bound + 1)?;
-        let mut text = Vec::with_capacity(alloc, likely_room(layer))?;
+        let mut text = Vec::with_capacity(alloc, likely_room(layer, bound))?;
         starts.push(0)?;
         for number in 0..bound {
             push_field(alloc, &mut text, layer, number as u32)?;
@@ -167,14 +170,29 @@ fn bounds<M: AsPair>(matches: &[M]) -> (usize, usize)
     (left, right)
 }
 
-/// An estimate of the number of bytes of a layer's fields: the lengths of its ids, plus a comma
-/// each. It is reserved, so that a column is not moved as it grows.
-fn likely_room<G: Geometry>(layer: &Layer<G>) -> usize {
+/// An estimate of the number of bytes of a layer's fields, plus a comma each, of the numbers less
+/// than `bound`: those of evenly spaced features, times the features from one to the next. Some
+/// more is reserved, so that a column is seldom moved as it grows.
+fn likely_room<G: Geometry>(layer: &Layer<G>, bound: usize) -> usize {
+    let step = bound.div_ceil(SAMPLES).max(1);
     let mut room: usize = 0;
-    for feature in layer.iter() {
-        room = room.saturating_add(feature.id.len()).saturating_add(1);
+    for sample in 0..SAMPLES {
+        let number = sample.saturating_mul(step);
+        room = room.saturating_add(field_room(layer, number));
     }
-    room
+    room.saturating_mul(step).saturating_add(bound)
+}
+
+/// An estimate of the number of bytes of the field of the feature with this number, if there is
+/// one.
+fn field_room<G: Geometry>(layer: &Layer<G>, number: usize) -> usize {
+    let Ok(number) = u32::try_from(number) else {
+        return 0;
+    };
+    match layer.at(number) {
+        Some((id, _)) => id.len().saturating_add(1),
+        None => 0,
+    }
 }
 
 /// Adds the field of the feature with this number, if there is one, to `text`.
