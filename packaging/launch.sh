@@ -2,11 +2,11 @@
 # How both launchers, the checkout's ./rjoin and the installed rjoin, run the built program. Whoever includes this file
 # defines `commit`, which prints the commit that the program was built from.
 
-# Layers of a million features take some hundred megabytes: the C library is asked for huge pages, to take memory from
-# the system by 4 MiB, lists of up to 4 MiB among it, to keep what is freed for what comes next, and to have two places
-# for all threads to take it from, since the first page of each is cleared. It reads this before the program begins.
-tunables=glibc.malloc.hugetlb=1:glibc.malloc.arena_max=2:glibc.malloc.top_pad=4194304
-tunables=$tunables:glibc.malloc.mmap_threshold=4194304:glibc.malloc.trim_threshold=4294967296
+# Layers of a million features take some hundred megabytes, and the system clears each page that it hands out: the C
+# library is asked for huge pages, to take memory by 4 MiB, the longest lists among it, and to keep what is freed for
+# what comes next. It reads this before the program begins.
+tunables=glibc.malloc.hugetlb=1:glibc.malloc.top_pad=4194304:glibc.malloc.mmap_threshold=4294967296
+tunables=$tunables:glibc.malloc.trim_threshold=4294967296
 
 # Prints the version that the program tells, and the commit, which it can't know.
 print_version() {
@@ -25,6 +25,12 @@ launch() {
         exit
         ;;
     esac
-    export GLIBC_TUNABLES="${GLIBC_TUNABLES:-$tunables}"
+    # Boxes lie in a few long lists, which take the least memory in one arena. Geometries of any kind lie in many short
+    # ones, for which threads would wait at one arena.
+    case " $* " in
+    *[\ =]any\ *) arenas=2 ;;
+    *) arenas=1 ;;
+    esac
+    export GLIBC_TUNABLES="${GLIBC_TUNABLES:-$tunables:glibc.malloc.arena_max=$arenas}"
     exec "$@"
 }
