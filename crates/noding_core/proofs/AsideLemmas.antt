@@ -1,13 +1,15 @@
 -- An edge that lies strictly on one side of another's line shares no point with it.
 use Rattle.std.proofs.Common.{◌≡◌, arith, ap, ◌∙◌, true, false, List}
 use Rattle.std.specs.Prelude.{ℤ, pos, Bool, ◌&&◌, ◌||◌, int_lt}
+use Rattle.std.specs.Ordering.{int_eq}
 use Rattle.std.proofs.lemmas.Int.{ints}
 use Rattle.plane_core.specs.declared.edge.Edge.{Edge}
 use Rattle.plane_core.specs.declared.node.Node.{Node}
+use Rattle.plane_core.specs.declared.vertex.Vertex.{Vertex}
 use Rattle.plane_core.specs.Crossings.{is_not_zero, is_zero_between}
 use Rattle.plane_core.specs.Points.{at, side, turn_of}
 use Rattle.plane_core.proofs.CrossingLemmas.{level_of, no_meeting}
-use Rattle.noding_core.specs.Gathered.{HasMeetings, is_aside}
+use Rattle.noding_core.specs.Gathered.{HasVertex, HasMeetings, is_aside}
 use Rattle.noding_core.proofs.TestLemmas.{and_false, clash}
 
 off_zero : (m n : ℤ) → ((int_lt m (pos 0) && int_lt n (pos 0)) || (int_lt (pos 0) m && int_lt (pos 0) n)) ≡ true → is_zero_between m n ≡ false
@@ -21,6 +23,13 @@ zero_last m n h = grind (arith, ints)
 
 third_off : (t u v : Bool) → v ≡ false → (t && u && v) ≡ false
 third_off t u v h = ap (λ (x : Bool). t && u && x) h ∙ and_false (t && u)
+
+-- a vertex off an edge's line is not on the edge
+pub level_vertex : (e : Edge) (ns : List Node) (v : Vertex) → int_eq (side e (at v)) (pos 0) ≡ false → HasVertex e ns v
+level_vertex e ns v off = record { here = λ on. clash (int_eq (side e (at v)) (pos 0)) (zero (side e (at v)) (level_of e (at v) on)) off }
+  where
+    zero : (m : ℤ) → m ≡ pos 0 → int_eq m (pos 0) ≡ true
+    zero m h = grind (arith, ints)
 
 pub aside_meetings : (e f : Edge) (ns : List Node) → is_aside e f ≡ true → HasMeetings e ns f
 aside_meetings e f ns h =

@@ -374,5 +374,15 @@ joint_meetings e f ns ends h = by_test (is_end e f.a)
     (λ yes. joint_by e f ns f.a ends h.turning yes (first_on f (at f.a) (at_first f.a)))
     (λ no. joint_by e f ns f.b ends h.turning (or_second (is_end e f.a) (is_end e f.b) h.end no) (last_on f (at f.b) (at_first f.b)))
 
+-- an edge whose ends both are ends of another shares no other point with it, unless it is parallel
+pub held_meetings : (e f : Edge) (ns : List Node) → HasEnds e ns → is_end e f.a ≡ true → is_end e f.b ≡ true → HasMeetings e ns f
+held_meetings e f ns ends first last = by_zero (turn_of e f)
+    (λ turning. joint_by e f ns f.a ends turning first (first_on f (at f.a) (at_first f.a)))
+    (λ none. record {
+      first = end_vertex e ns f.a ends first;
+      last = end_vertex e ns f.b ends last;
+      meeting = record { here = λ p wide m. absurd (m.turning none) };
+    })
+
 pub all_meetings_kept : (e : Edge) (ns ms : List Node) (fs : List Edge) → Extends ns ms → All (HasMeetings e ns) fs → All (HasMeetings e ms) fs
 all_meetings_kept e ns ms fs k h = λ i d lt. meetings_kept e ns ms _ k (h i d lt)

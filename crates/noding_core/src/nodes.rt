@@ -1,7 +1,9 @@
 //! The nodes of an edge in order: its ends, and the points where edges or single points meet it.
 
-ghost use Rattle.std.specs.Prelude.{◌≡◌, map, All, OnOk, IsTrue};
+ghost use Rattle.std.specs.Prelude.{◌≡◌, pos, map, All, OnOk, IsTrue};
+ghost use Rattle.std.specs.Ordering.{int_eq};
 ghost use Rattle.std.specs.List.Sorted.{IsPermutation};
+ghost use Rattle.plane_core.specs.Points.{at, side};
 ghost use Rattle.plane_core.specs.Figures.{HasLength};
 ghost use Rattle.plane_core.specs.Places.{node_point};
 ghost use Rattle.noding_core.specs.Nodes.{Ascend, AreNodesOf};
@@ -63,6 +65,16 @@ fn is_joint(e: &Edge, f: &Edge) -> bool
     joined && e.turn_to(f) != 0
 }
 
+/// Whether both ends of another edge are ends of the edge, so that it is the same one from either
+/// end.
+#[inline]
+fn is_same_edge(e: &Edge, f: &Edge) -> bool
+    ensures first { IsTrue result → IsTrue (is_end e.now f.now.a) }
+    ensures last { IsTrue result → IsTrue (is_end e.now f.now.b) }
+{
+    is_end(e, &f.a) && is_end(e, &f.b)
+}
+
 /// Whether another edge lies strictly on one side of the edge's line, so that they share no point.
 #[inline]
 fn is_aside(e: &Edge, f: &Edge) -> bool
@@ -71,6 +83,14 @@ fn is_aside(e: &Edge, f: &Edge) -> bool
     let first = e.side_of(&f.a);
     let last = e.side_of(&f.b);
     first < 0 && last < 0 || 0 < first && 0 < last
+}
+
+/// Whether a vertex is on the edge's line.
+#[inline]
+fn is_level(e: &Edge, v: &Vertex) -> bool
+    ensures { result ≡ int_eq (side e.now (at v.now)) (pos 0) }
+{
+    e.side_of(v) == 0
 }
 
 /// Adds a vertex where it lies on the edge and is none of its ends, which are among the points.
@@ -88,6 +108,22 @@ fn push_inner(nodes: &mut Vec<Node>, e: &Edge, v: &Vertex) -> Result<(), AllocEr
     }
 }
 
+/// The same, where one product tells that most vertices aren't on the edge's line.
+#[inline]
+fn push_level(nodes: &mut Vec<Node>, e: &Edge, v: &Vertex) -> Result<(), AllocError>
+    requires on { All (IsOn e.now) nodes.old.items }
+    requires ends { HasEnds e.now nodes.old.items }
+    ensures kept { OnOk result (Extends nodes.old.items nodes.new.items) }
+    ensures on { OnOk result (All (IsOn e.now) nodes.new.items) }
+    ensures here { OnOk result (HasVertex e.now nodes.new.items v.now) }
+{
+    if is_level(e, v) {
+        push_inner(nodes, e, v)
+    } else {
+        Ok(())
+    }
+}
+
 /// Adds the ends of another edge that lie on the edge, and the point where the two meet, except
 /// for the ends of the edge, which are among the points.
 fn push_meetings(nodes: &mut Vec<Node>, e: &Edge, f: &Edge) -> Result<(), AllocError>
@@ -97,14 +133,17 @@ fn push_meetings(nodes: &mut Vec<Node>, e: &Edge, f: &Edge) -> Result<(), AllocE
     ensures on { OnOk result (All (IsOn e.now) nodes.new.items) }
     ensures meetings { OnOk result (HasMeetings e.now nodes.new.items f.now) }
 {
+    if is_same_edge(e, f) {
+        return Ok(());
+    }
     if is_joint(e, f) {
         return Ok(());
     }
     if is_aside(e, f) {
         return Ok(());
     }
-    push_inner(nodes, e, &f.a)?;
-    push_inner(nodes, e, &f.b)?;
+    push_level(nodes, e, &f.a)?;
+    push_level(nodes, e, &f.b)?;
     push_meeting(nodes, e, f)?;
     Ok(())
 }
