@@ -7,8 +7,8 @@ use Rattle.geom_core.specs.Shapes.{x1, y1, x2, y2}
 use Rattle.plane_core.specs.Points.{Point}
 use Rattle.layer_core.specs.Layers.{Contents}
 use Rattle.filter_core.specs.Joins.{StandIn}
-use Rattle.arrangement_core.proofs.BeyondLemmas.{holds_all, IsAside, aside_part}
-use Rattle.arrangement_core.proofs.BeyondLemmas.IsAside.{Left, Right, Low, High}
+use Rattle.shown_core.proofs.BeyondLemmas.{holds_all, IsAside, aside_part}
+use Rattle.shown_core.proofs.BeyondLemmas.IsAside.{Left, Right, Low, High}
 use Rattle.distance_core.specs.Units.{units_of}
 use Rattle.distance_core.specs.Distances.{AreWithin}
 use Rattle.distance_core.specs.ShapePoints.{HasPoint, IsPointOf}

@@ -15,8 +15,8 @@ use Rattle.plane_core.specs.ProperRings.{IsGeometryOf}
 use Rattle.plane_core.proofs.ScaleLemmas.{less_scaled}
 use Rattle.noding_core.proofs.TestLemmas.{by_test}
 use Rattle.noding_core.proofs.OrderLemmas.{wide_z}
-use Rattle.arrangement_core.proofs.BeyondLemmas.{holds_all, IsAside, aside_part}
-use Rattle.arrangement_core.proofs.BeyondLemmas.IsAside.{Left as AsideLeft, Right as AsideRight, Low, High}
+use Rattle.shown_core.proofs.BeyondLemmas.{holds_all, IsAside, aside_part}
+use Rattle.shown_core.proofs.BeyondLemmas.IsAside.{Left as AsideLeft, Right as AsideRight, Low, High}
 use Rattle.any_relation_core.specs.PlaneRelations.{HoldsOf, AreDisjoint, ForbidsDisjoint}
 
 -- ---- boxes that lie apart

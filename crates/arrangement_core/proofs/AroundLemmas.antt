@@ -17,8 +17,8 @@ use Rattle.noding_core.proofs.NodeLemmas.{all_among}
 use Rattle.noding_core.proofs.BoxApartLemmas.{boxes_within_off}
 use Rattle.noding_core.proofs.TestLemmas.{by_test}
 use Rattle.arrangement_core.specs.Around.{HasNear}
-use Rattle.arrangement_core.specs.Beyond.{IsBounded}
-use Rattle.arrangement_core.proofs.BeyondLemmas.{holds_all}
+use Rattle.shown_core.specs.Beyond.{IsBounded}
+use Rattle.shown_core.proofs.BeyondLemmas.{holds_all}
 
 -- an edge that isn't around the box meets none within it
 found_around : (a b : Outline) (s : Shape) (around : List Edge) → IsBounded a s → AreAround s b.edges.items around → (e : Edge) → IsOwn a e → All (IsFound e around) b.edges.items

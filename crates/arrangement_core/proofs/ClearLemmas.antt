@@ -17,9 +17,10 @@ use Rattle.plane_core.specs.Figures.{Figure, Points, Lines, Areas, IsGeometry, e
 use Rattle.plane_core.specs.Outlines.{outline_part, kind_of}
 use Rattle.plane_core.proofs.OutlineLemmas.{outline_part-is, outline_above-is}
 use Rattle.plane_core.proofs.ScaleLemmas.{less_scaled}
-use Rattle.arrangement_core.specs.Beyond.{IsBounded}
+use Rattle.shown_core.specs.Beyond.{IsBounded}
 use Rattle.noding_core.specs.Near.{IsFound}
-use Rattle.arrangement_core.specs.Lying.{LiesIn, IsSeen, IsSeenAlong}
+use Rattle.shown_core.specs.Lying.{LiesIn}
+use Rattle.arrangement_core.specs.Seen.{IsSeen, IsSeenAlong}
 use Rattle.arrangement_core.specs.declared.known.Seen.{Seen}
 use Rattle.noding_core.specs.Nodes.{IsAmong}
 use Rattle.noding_core.proofs.NodeLemmas.{all_among}
@@ -30,7 +31,7 @@ use Rattle.noding_core.proofs.BoxLemmas.{both_left, both_right, not_below_low, b
 use Rattle.noding_core.proofs.OrderLemmas.{wide_z}
 use Rattle.noding_core.proofs.TestLemmas.{by_test, clash, le_true, le_false, lt_true, lt_false, false_le, and_false}
 use Rattle.noding_core.proofs.GatherLemmas.{boxes_meet, at_first}
-use Rattle.arrangement_core.proofs.BeyondLemmas.{between_less, between_more, columns_of, rows_of, below_same}
+use Rattle.shown_core.proofs.BeyondLemmas.{between_less, between_more, columns_of, rows_of, below_same}
 
 -- both of two numbers are less than both of two others
 record IsLess (a b c d : ℤ) : Type 0 where

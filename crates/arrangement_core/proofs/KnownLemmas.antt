@@ -25,10 +25,10 @@ use Rattle.noding_core.specs.Nodes.{IsAmong, IsPointOf, AreNodesOf, IsGapOf, mid
 use Rattle.noding_core.specs.Marks.{rank}
 use Rattle.noding_core.specs.Growth.{Mark, mark_at, mark_above, piece_marks, gap_marks, gaps_marks, edge_marks}
 use Rattle.noding_core.specs.ReadOffs.{IsEdgeMarked, IsOneOf}
-use Rattle.arrangement_core.specs.Shown.{is_along, AreCuts}
-use Rattle.arrangement_core.specs.Beyond.{IsBounded, has_no_end, parts_along, IsEdgeShown}
+use Rattle.shown_core.specs.Shown.{is_along, AreCuts}
+use Rattle.shown_core.specs.Beyond.{IsBounded, has_no_end, parts_along, IsEdgeShown}
 use Rattle.noding_core.specs.Near.{IsFound}
-use Rattle.arrangement_core.specs.Lying.{LiesIn}
+use Rattle.shown_core.specs.Lying.{LiesIn}
 use Rattle.arrangement_core.specs.Known.{part_along, is_touched, parts_met, parts_passed, IsAllShown}
 use Rattle.noding_core.proofs.AmongLemmas.{among_either, count_none}
 use Rattle.noding_core.proofs.NodeLemmas.{all_among, gap_first, gap_second, gap_order}
@@ -40,7 +40,7 @@ use Rattle.noding_core.proofs.GatherLemmas.{at_same, on_there}
 use Rattle.noding_core.proofs.NearLemmas.{near_of}
 use Rattle.noding_core.proofs.ReadOffLemmas.{by_bool, order_before, not_level, among_map}
 use Rattle.noding_core.proofs.TurnLemmas.{entry-transposed}
-use Rattle.arrangement_core.proofs.ShownLemmas.{middle_on, in_above, any_among, among_all, cuts_of, gap_middle, off_others, one_of_two, one_of_three}
+use Rattle.shown_core.proofs.ShownLemmas.{middle_on, in_above, any_among, among_all, cuts_of, gap_middle, off_others, one_of_two, one_of_three}
 use Rattle.noding_core.proofs.ExistLemmas.{HasNodeList, nodes_exist}
 
 -- what is known of the places of an edge, by its nodes

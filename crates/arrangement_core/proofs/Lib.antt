@@ -1,10 +1,11 @@
-pub mod ApartLemmas
+pub mod AcrossLemmas
 pub mod AroundLemmas
-pub mod BeyondLemmas
 pub mod ClearLemmas
-pub mod EndLemmas
+pub mod CrossedLemmas
 pub mod KnownLemmas
+pub mod MetLemmas
 pub mod OuterLemmas
+pub mod OutsideLemmas
 pub mod RoundLemmas
-pub mod ShownLemmas
+pub mod SharedLemmas
 pub mod WalkLemmas

@@ -1,12 +1,11 @@
 -- Where a matrix has all that edges in the exterior of the other geometry can show, those beyond its box add nothing.
-use Rattle.std.proofs.Common.{◌≡◌, ◌≤◌, arith, inl, inr, refl, sym, subst, true, false, List, All}
-use Rattle.std.specs.Prelude.{ℕ, ◌⊎◌, Bool, if◌then◌else◌, count_by}
+use Rattle.std.proofs.Common.{◌≡◌, ◌≤◌, arith, inr, refl, sym, subst, true, false, List, All}
+use Rattle.std.specs.Prelude.{ℕ, Bool, if◌then◌else◌, count_by}
 use Rattle.std.specs.List.{list_any, flat_map}
 use Rattle.std.proofs.lemmas.List.Elements.{All-weaker}
 use Rattle.geom_core.specs.declared.shape.Shape.{Shape}
 use Rattle.relation_core.specs.declared.extent.Extent.{Extent}
-use Rattle.relation_core.specs.declared.extent.Extent.TheVariants.{Line, Area}
-use Rattle.relation_core.specs.declared.part.Parts.{Parts}
+use Rattle.relation_core.specs.declared.extent.Extent.TheVariants.{Line}
 use Rattle.relation_core.specs.declared.matrix.Matrix.{Matrix}
 use Rattle.plane_core.specs.declared.part.Part.{Part}
 use Rattle.plane_core.specs.declared.part.Part.TheVariants.{Interior, Boundary, Exterior}
@@ -27,19 +26,18 @@ use Rattle.noding_core.specs.Nodes.IsNode.{FirstEnd, LastEnd}
 use Rattle.noding_core.specs.Marks.{rank}
 use Rattle.noding_core.specs.Growth.{transposed}
 use Rattle.noding_core.specs.ReadOffs.{outline_edges, IsOwn, IsEdgeMarked}
-use Rattle.arrangement_core.specs.Beyond.{IsBounded, parts_along, IsOuterShown}
-use Rattle.arrangement_core.specs.Ends.{HasNoOuterEnd}
-use Rattle.arrangement_core.specs.Shown.{AreShown, parts_above}
+use Rattle.shown_core.specs.Beyond.{IsBounded, parts_along, IsOuterShown}
+use Rattle.shown_core.specs.Shown.{AreShown}
 use Rattle.noding_core.specs.Near.{IsFound}
-use Rattle.arrangement_core.specs.Lying.{LiesIn}
+use Rattle.shown_core.specs.Lying.{LiesIn}
 use Rattle.noding_core.proofs.AmongLemmas.{among_left}
 use Rattle.noding_core.proofs.NodeLemmas.{all_among, IsWide, gap_order, none_in_gap}
 use Rattle.noding_core.proofs.PathLemmas.{IsOffEnds, ends_none}
 use Rattle.noding_core.proofs.ArrangementLemmas.{before_middle, middle_before}
-use Rattle.noding_core.proofs.TestLemmas.{by_test, clash}
+use Rattle.noding_core.proofs.TestLemmas.{by_test}
 use Rattle.noding_core.proofs.TurnLemmas.{entry-transposed}
-use Rattle.arrangement_core.proofs.ShownLemmas.{in_above, any_among, one_of_three}
-use Rattle.arrangement_core.proofs.BeyondLemmas.{holds_all, lies_beyond}
+use Rattle.shown_core.proofs.ShownLemmas.{in_above, any_among, one_of_three}
+use Rattle.shown_core.proofs.BeyondLemmas.{holds_all, lies_beyond}
 use Rattle.noding_core.proofs.BoxApartLemmas.{boxes_off}
 use Rattle.noding_core.proofs.TurnLemmas.{get_among}
 use Rattle.noding_core.proofs.ExistLemmas.{HasNodeList, nodes_exist}
@@ -142,15 +140,3 @@ none_found o s e near b beyond = λ i d lt.
     let one = subst (IsAmong _) b.outline.edges (get_among o.edges.items i d lt) in
     let holds = holds_all s b.figure b.box in
     inr (boxes_off s e _ (holds.firsts _ one) (holds.lasts _ one) beyond)
-
--- what a matrix has to show
-pub outer_shown : (m : Matrix) (own : Outline) (s : Shape) (column : Parts Extent) → column ≡ pick Exterior (transposed m).rows → AreShown column (parts_along own.kind) Line → AreShown column (parts_above own.kind) Area
-    → (own.kind ≡ Polylines → (1 ≤ rank column.boundary) ⊎ HasNoOuterEnd s own.ends.items) → IsOuterShown m own s
-outer_shown m own s column is pieces faces ends = record {
-  pieces = subst (λ (c : Parts Extent). AreShown c (parts_along own.kind) Line) is pieces;
-  faces = subst (λ (c : Parts Extent). AreShown c (parts_above own.kind) Area) is faces;
-  ends = λ kind e p beyond wide on odd. elim (ends kind) [
-    | inl shown ↦ subst (λ (c : Parts Extent). 1 ≤ rank c.boundary) is shown
-    | inr none ↦ clash (is_odd (count_by (λ v. is_at v p) own.ends.items)) odd (none e p beyond wide on)
-  ];
-}

@@ -1,7 +1,7 @@
 -- From a point off the boundary of an area to the next node of an edge, or to the piece before it, the
 -- part stays the same.
-use Rattle.std.proofs.Common.{◌≡◌, ◌≢◌, ◌≤◌, ◌<◌, ◌-◌, inl, inr, arith, refl, sym, subst, ap, ◌∙◌, true, false, suc, zero, List, [], ◌∷◌, ◌++◌, map, take, get_or, length, All}
-use Rattle.std.specs.Prelude.{ℕ, Bool, ◌||◌, if◌then◌else◌, count_by, Option, None, Some, IfSome, ℤ, pos, nat_abs, ◌*ℤ◌, ◌&&◌}
+use Rattle.std.proofs.Common.{◌≡◌, ◌≢◌, ◌≤◌, ◌<◌, ◌-◌, inl, inr, arith, sym, subst, ap, ◌∙◌, true, false, suc, zero, List, [], ◌∷◌, ◌++◌, map, take, get_or, length, All}
+use Rattle.std.specs.Prelude.{ℕ, Bool, if◌then◌else◌, count_by, Option, None, Some, IfSome, ℤ, pos, nat_abs, ◌*ℤ◌, ◌&&◌}
 use Rattle.std.specs.List.{list_any}
 use Rattle.std.specs.Ordering.{int_eq, is_lt}
 use Rattle.std.proofs.lemmas.Int.{ints}
@@ -24,7 +24,7 @@ use Rattle.plane_core.specs.Points.{Point, is_on, is_below, IsBefore, IsSamePlac
 use Rattle.plane_core.specs.Places.{point_of, node_point, place_order}
 use Rattle.plane_core.specs.Figures.{Figure, HasLength, IsGeometry, edges_of, part_of, is_odd}
 use Rattle.plane_core.specs.Figures.Figure.{Points, Lines, Areas}
-use Rattle.plane_core.specs.Outlines.{outline_part, part_by, above_by, kind_of}
+use Rattle.plane_core.specs.Outlines.{outline_part, part_by, kind_of}
 use Rattle.plane_core.specs.PlaneMatrices.{entry}
 use Rattle.plane_core.proofs.Ring.{one-times}
 use Rattle.plane_core.proofs.OutlineLemmas.{outline_part-is, outline_above-is}
@@ -39,16 +39,16 @@ use Rattle.noding_core.proofs.GapLemmas.{IsOffEach, part_after, part_before}
 use Rattle.noding_core.proofs.GrowthLemmas.{grown_none, grown-trans}
 use Rattle.noding_core.proofs.NearLemmas.{near_of}
 use Rattle.noding_core.proofs.NodeLemmas.{all_among, gap_first, gap_second}
-use Rattle.noding_core.proofs.OrderLemmas.{same_sym}
 use Rattle.noding_core.proofs.PathLemmas.{edge_length}
 use Rattle.noding_core.proofs.ReadOffLemmas.{before_order, map_among}
 use Rattle.noding_core.proofs.TestLemmas.{by_test, clash, first_holds, second_holds}
-use Rattle.arrangement_core.specs.Beyond.{IsBounded}
-use Rattle.arrangement_core.specs.Lying.{LiesOff, LiesOffOrOn, AreNear, is_vertex}
-use Rattle.arrangement_core.specs.Shown.{IsOnEdge, IsUncrossed, AreCuts, AreNext}
-use Rattle.arrangement_core.proofs.BeyondLemmas.{none_on}
+use Rattle.shown_core.specs.Beyond.{IsBounded}
+use Rattle.shown_core.specs.Lying.{LiesOff}
+use Rattle.arrangement_core.specs.Seen.{AreNear, is_vertex}
+use Rattle.shown_core.specs.Shown.{IsOnEdge, IsUncrossed, AreCuts, AreNext}
+use Rattle.shown_core.proofs.BeyondLemmas.{none_on}
 use Rattle.arrangement_core.proofs.ClearLemmas.{no_points, above_off}
-use Rattle.arrangement_core.proofs.ShownLemmas.{any_among, index_among, gap_of, cuts_long, gap_middle, mark_same, node_wide, part_by-same_place, is_at_or_below-same_place}
+use Rattle.shown_core.proofs.ShownLemmas.{any_among, index_among, gap_of, cuts_long, gap_middle, mark_same, node_wide}
 
 -- a point whose part in an area isn't the boundary is on no edge
 not_boundary : (es : List Edge) (p : Point) (t : Bool) → (if list_any (λ e. is_on e p) es then Boundary else (if t then Interior else Exterior)) ≢ Boundary → list_any (λ e. is_on e p) es ≡ false
@@ -60,7 +60,7 @@ off_area : (o : Outline) (p : Point) (part : Part) → o.kind ≡ Rings → part
 off_area o p part area off on = not_boundary o.edges.items p (is_odd (count_by (λ e. is_below e p) o.edges.items))
     (λ is. off (sym on ∙ ap (λ (k : Kind). part_by k o.ends.items o.edges.items p) area ∙ is))
 
-off_each : (o : Outline) (p : Point) (part : Part) → LiesOff o p part → IsOffEach o.edges.items p
+pub off_each : (o : Outline) (p : Point) (part : Part) → LiesOff o p part → IsOffEach o.edges.items p
 off_each o p part h f one = none_on (λ e. is_on e p) o.edges.items f (off_area o p part h.area h.off h.on) one
 
 not_dots : Dots ≡ Rings → ⊥
@@ -129,20 +129,12 @@ module _ (own other : Outline) (s : Shape) (e : Edge) (k l : Point) (b : IsBound
       ∙ sym (outline_part-is b.figure other k b.outline) ∙ h.on)
 
   -- from a gap to the node after it
-  pub lies_before : (part : Part) → LiesOff other (middle k l) part → LiesOffOrOn other l part
+  pub lies_before : (part : Part) → LiesOff other (middle k l) part → list_any (λ f. is_on f l) other.edges.items ≡ false → LiesOff other l part
   lies_before part h off = lies_off other s l part b of_last.wide h.area h.off
       (outline_part-is b.figure other l b.outline
       ∙ sym (before_node b.figure next.cuts.edges next.cuts.points e next.nodes k l b.geometry (sym b.outline.kind ∙ h.area) among_both (next.cuts.one.edges.first e next.cuts.one.one) (cuts_long own other e next.nodes next.cuts) next.cuts.nodes gap
       (off_edges l (λ f one. none_on (λ e. is_on e l) other.edges.items f off one)))
       ∙ sym (outline_part-is b.figure other (middle k l) b.outline) ∙ h.on)
-
-  pub step_after : (x : Option Part) (m : Point) → m ≡ middle k l → IfSome x (LiesOff other k) → IfSome x (LiesOff other m)
-  step_after None m is h = tt
-  step_after (Some part) m is h = subst (λ (z : Point). LiesOff other z part) (sym is) (lies_after part h)
-
-  pub step_before : (x : Option Part) (m : Point) → m ≡ middle k l → IfSome x (LiesOff other m) → IfSome x (LiesOffOrOn other l)
-  step_before None m is h = tt
-  step_before (Some part) m is h = lies_before part (subst (λ (z : Point). LiesOff other z part) is h)
 
   pub step_crossed : (m : Point) → m ≡ middle k l → IsUncrossed other e m
   step_crossed m is = subst (IsUncrossed other e) (sym is) (gap_middle own other e next.nodes k l next.cuts gap)
@@ -156,20 +148,6 @@ same_next own other e k l next not_less = elim next.order [
   | inl before ↦ clash (is_lt (place_order k l)) (before_order k l before) not_less
   | inr same ↦ same
 ]
-
-above_by-same_place : (k : Kind) (es : List Edge) (p q : Point) → 0 < p.w → 0 < q.w → IsSamePlace p q → above_by k es p ≡ above_by k es q
-above_by-same_place Dots es p q wp wq h = refl
-above_by-same_place Polylines es p q wp wq h = refl
-above_by-same_place Rings es p q wp wq h = λ i. if is_odd (count_by (λ e. is_at_or_below-same_place e p q wp wq h i) es) then Interior else Exterior
-
-pub lies_same : (o : Outline) (x : Option Part) (p q : Point) → 0 < p.w → 0 < q.w → IsSamePlace p q → IfSome x (LiesOff o p) → IfSome x (LiesOff o q)
-lies_same o None p q wp wq same h = tt
-lies_same o (Some part) p q wp wq same h = record {
-  area = h.area;
-  off = h.off;
-  on = part_by-same_place o.kind o.ends.items o.edges.items q p wq wp (same_sym p q same) ∙ h.on;
-  above = above_by-same_place o.kind o.edges.items q p wq wp (same_sym p q same) ∙ h.above;
-}
 
 -- a piece, and the node after it
 pub piece_grown : (own other : Outline) (e : Edge) (k l m : Point) (old mid new : Matrix) → is_lt (place_order k l) ≡ true → m ≡ middle k l
@@ -276,25 +254,11 @@ vertex_at p v h =
     both : (x y a b u v : ℤ) → u ≡ a → v ≡ b → x ≡ a → y ≡ b → (int_eq x u && int_eq y v) ≡ true
     both x y a b u v h k g l = grind (arith, ints)
 
--- the edges near an edge tell whether a point of it is on the geometry's edges
-any_in : (q : Edge → Bool) (xs ys : List Edge) → ((f : Edge) → IsAmong f xs → IsAmong f ys) → list_any q xs ≡ true → list_any q ys ≡ true
-any_in q [] ys in_ h = cc
-any_in q (x ∷ xs) ys in_ h = by_test (q x)
-    (λ yes. any_among q ys x (in_ x (inl refl)) yes)
-    (λ no. any_in q xs ys (λ f one. in_ f (inr one)) (subst (λ (t : Bool). (t || list_any q xs) ≡ true) no h))
-
-pub near_on : (o : Outline) (e : Edge) (near : List Edge) (p : Point) → AreNear o e near → list_any (λ f. is_on f p) near ≡ true → IsOnEdge o p
-near_on o e near p h on = any_in (λ f. is_on f p) near o.edges.items h.own on
-
 pub near_off : (o : Outline) (e : Edge) (near : List Edge) (p : Point) → AreNear o e near → 0 < p.w → is_on e p ≡ true → list_any (λ f. is_on f p) near ≡ false → list_any (λ f. is_on f p) o.edges.items ≡ false
 near_off o e near p h wide on off = none_any (λ f. is_on f p) o.edges.items
     (λ f one. by_test (is_on f p)
     (λ yes. clash (list_any (λ f. is_on f p) near) (any_among (λ f. is_on f p) near f (near_of e f near p wide on yes (all_among (IsFound e near) f o.edges.items h.found one)) yes) off)
     (λ none. none))
-
-pub off_of : (o : Outline) (x : Option Part) (p : Point) → list_any (λ f. is_on f p) o.edges.items ≡ false → IfSome x (LiesOffOrOn o p) → IfSome x (LiesOff o p)
-off_of o None p off h = tt
-off_of o (Some part) p off h = h off
 
 -- edges that were added first
 pub first_near : (o : Outline) (e : Edge) (old new taken : List Edge) → Extends old new → taken ≡ take (length old) new → AreNear o e old → AreNear o e taken

@@ -13,8 +13,8 @@ use Rattle.plane_core.specs.declared.outline.Kind.TheVariants.{Lines as Polyline
 use Rattle.plane_core.specs.declared.outline.Outline.{Outline}
 use Rattle.plane_core.specs.Points.{at, is_on}
 use Rattle.plane_core.specs.PlaneMatrices.{pick}
-use Rattle.arrangement_core.specs.Beyond.{has_no_end}
-use Rattle.arrangement_core.specs.Shown.{AreShown, IsFaceShown}
+use Rattle.shown_core.specs.Beyond.{has_no_end}
+use Rattle.shown_core.specs.Shown.{AreShown, IsFaceShown}
 
 -- the part in which the points of an edge lie at which no polyline ends
 abbrev pub part_along : Kind → Part

@@ -1,7 +1,6 @@
 pub mod Around
-pub mod Beyond
-pub mod Ends
+pub mod Crossed
 pub mod Known
-pub mod Lying
 pub mod Prepared
-pub mod Shown
+pub mod Seen
+pub mod Shared

@@ -8,22 +8,22 @@ ghost use Rattle.plane_core.specs.declared.outline.Outline.{Outline};
 ghost use Rattle.plane_core.specs.declared.vertex.Vertex.{Vertex};
 ghost use Rattle.plane_core.specs.Points.{at, is_on};
 ghost use Rattle.plane_core.specs.Outlines.{outline_part};
-ghost use Rattle.arrangement_core.specs.Beyond.{IsBounded};
+ghost use Rattle.shown_core.specs.Beyond.{IsBounded};
 ghost use Rattle.arrangement_core.specs.Known.{part_along, parts_met, parts_passed, is_touched};
 ghost use Rattle.arrangement_core.specs.Known.{IsAllShown};
 ghost use Rattle.noding_core.specs.Near.{IsFound};
-ghost use Rattle.arrangement_core.specs.Lying.{IsSeen, IsSeenAlong, IsKnownIn, LiesIn};
+ghost use Rattle.shown_core.specs.Lying.{IsKnownIn, LiesIn};
+ghost use Rattle.arrangement_core.specs.Seen.{IsSeen, IsSeenAlong};
 ghost use Rattle.noding_core.specs.ReadOffs.{outline_edges, IsOneOf, IsEdgeMarked};
-ghost use Rattle.arrangement_core.specs.Shown.{IsKnownApart};
+ghost use Rattle.shown_core.specs.Shown.{IsKnownApart};
 
-use crate::beyond::{is_edge_shown, is_free};
-use crate::course::Course;
+use crate::outside::is_outside;
 use crate::pair::Pair;
-use crate::shown::{are_shown, is_face_shown};
 use edge_index_core::IndexedOutline;
 use noding_core::row_of;
 use plane_core::{Edge, Kind, Outline, Part, Place, Vertex};
 use relation_core::{Extent, Matrix, Parts};
+use shown_core::{Course, are_shown, is_edge_shown, is_face_shown, is_free};
 
 /// A vertex, and the part of the other geometry in which it lies.
 #[derive(Clone, Copy)]
@@ -45,6 +45,19 @@ fn part_at(other: &IndexedOutline, v: &Vertex, seen: Option<Seen>) -> Part
     other.standing_at(&Place::at(v)).part
 }
 
+/// The part of the second geometry in which a vertex lies: outside its box the exterior.
+fn part_from(pair: &Pair, v: &Vertex, seen: Option<Seen>) -> Part
+    requires bounded { IsBounded pair.now.second.now pair.now.second_box }
+    requires seen { IfSome seen (IsSeen pair.now.second.now) }
+    ensures { result ≡ outline_part pair.now.second.now (at v.now) }
+{
+    if is_outside(v, &pair.second_box) {
+        Part::Exterior
+    } else {
+        part_at(&pair.second, v, seen)
+    }
+}
+
 /// Whether a geometry has edges, and none of them is near.
 fn is_clear(kind: Kind, near: &[Edge]) -> bool
     ensures edges { IsTrue result → kind ≢ Kind.Points }
@@ -63,7 +76,7 @@ pub(crate) fn seen_along(pair: &Pair, e: &Edge, near: &[Edge], seen: Option<Seen
 {
     let outline = pair.second.outline();
     if is_clear(outline.kind, near) {
-        let part = part_at(&pair.second, &e.a, seen);
+        let part = part_from(pair, &e.a, seen);
         Some(Seen { vertex: e.b, part })
     } else {
         None

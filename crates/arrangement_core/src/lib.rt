@@ -2,17 +2,16 @@
 //! enough.
 #![tactic(auto)]
 
-mod beyond;
-mod course;
-mod ends;
+mod crossed;
 mod known;
 mod marks;
 mod matrices;
 mod near;
+mod outside;
 mod pair;
 mod prepared;
 mod rounds;
-mod shown;
+mod shared;
 mod walk;
 mod work;
 

@@ -9,13 +9,13 @@ ghost use Rattle.plane_core.specs.Places.{point_of};
 ghost use Rattle.plane_core.specs.PlaneMatrices.{pick};
 ghost use Rattle.noding_core.specs.Growth.{HasGrownBy, mark_in, mark_beside, point_marks};
 ghost use Rattle.noding_core.specs.ReadOffs.{points_by};
-ghost use Rattle.arrangement_core.specs.Shown.{all_parts, AreShown};
+ghost use Rattle.shown_core.specs.Shown.{all_parts, AreShown};
 
-use crate::shown::{all_parts, are_shown, parts_above};
 use edge_index_core::IndexedOutline;
 use noding_core::{column_of, raised, row_of};
 use plane_core::{Kind, Part, Place};
 use relation_core::{Extent, Matrix};
+use shown_core::{all_parts, are_shown, parts_above};
 
 /// Whether a matrix includes a point of which one part is known, wherever it lies in the other
 /// geometry.

@@ -1,24 +1,25 @@
 //! A matrix that grows by the edges of a geometry.
 
-ghost use Rattle.std.specs.Prelude.{◌≡◌, ◌++◌, All, OnOk, IfOk, IfSome, true};
+ghost use Rattle.std.specs.Prelude.{◌≡◌, ◌++◌, All, OnOk, IfOk, IfSome, IsTrue, true};
 ghost use Rattle.plane_core.specs.Figures.{HasLength};
 ghost use Rattle.arrangement_core.specs.Around.{HasNear};
-ghost use Rattle.arrangement_core.specs.Beyond.{IsBounded};
+ghost use Rattle.shown_core.specs.Beyond.{IsBounded};
 ghost use Rattle.edge_index_core.specs.Beyond.{is_beyond};
-ghost use Rattle.arrangement_core.specs.Lying.{IsSeen, IsCourseIn, AreNear};
+ghost use Rattle.arrangement_core.specs.Seen.{IsSeen, IsCourseIn, AreNear};
+ghost use Rattle.arrangement_core.specs.Shared.{HasShared};
 ghost use Rattle.noding_core.specs.ReadOffs.{points_by, outline_edges, outline_points, IsOwn};
 ghost use Rattle.noding_core.specs.ReadOffs.{IsOneOf, IsEdgeMarked, AreMarked};
 
-use crate::beyond::is_edge_shown;
-use crate::course::{Course, course_of};
 use crate::known::{adds_none_near, part_seen, seen_along};
 use crate::near::push_second;
 use crate::pair::Pair;
+use crate::shared::adds_none_shared;
 use crate::walk::mark_noded;
 use crate::work::Work;
 use noding_core::{gather_nodes, push_near};
 use plane_core::{Edge, Kind, Outline, Part, Vertex};
 use relation_core::Matrix;
+use shown_core::{Course, course_of, is_edge_shown};
 use std::alloc::{AllocError, Global};
 
 /// As many edges as are near most edges, both of the own and of the other geometry.
@@ -82,7 +83,7 @@ fn mark_near_edge(
 }
 
 /// The same matrix, if the edges of the second geometry near an edge of the first tell that it can
-/// add nothing, and else one that shows the edge.
+/// add nothing, or the matrix has one with the same ends, and else one that shows the edge.
 pub(crate) fn mark_edge(
     work: &mut Work,
     matrix: Matrix,
@@ -95,12 +96,18 @@ pub(crate) fn mark_edge(
         IsOneOf a b (outline_edges a b) e.now }
     requires near { HasNear pair.now.first.now pair.now.second.now pair.now.second_around.now }
     requires seen { IfSome work.old.seen (IsSeen pair.now.second.now) }
+    requires shared { let a = pair.now.first.now in let b = pair.now.second.now in
+        IsTrue pair.now.has_second → HasShared a b points.now matrix }
     ensures marked { let a = pair.now.first.now in let b = pair.now.second.now in
         IfOk result (λ m. IsEdgeMarked a b (outline_edges a b) points.now e.now matrix m) }
     ensures seen { IfSome work.new.seen (IsSeen pair.now.second.now) }
 {
     work.near.clear();
     push_second(&mut work.near, e, pair)?;
+    if adds_none_shared(pair, e, &work.near) {
+        work.seen = None;
+        return Ok(matrix);
+    }
     work.seen = seen_along(pair, e, &work.near, work.seen);
     let course = course_of(e, part_seen(work.seen), &work.near);
     if adds_none_near(&matrix, pair, &course, &work.near) {
@@ -162,6 +169,8 @@ pub(crate) fn mark_some(
     requires bounded { IsBounded pair.now.second.now pair.now.second_box }
     requires near { HasNear pair.now.first.now pair.now.second.now pair.now.second_around.now }
     requires seen { IfSome work.old.seen (IsSeen pair.now.second.now) }
+    requires shared { let a = pair.now.first.now in let b = pair.now.second.now in
+        IsTrue pair.now.has_second → HasShared a b points.now matrix }
     ensures marked { let a = pair.now.first.now in let b = pair.now.second.now in
         let marked = AreMarked a b (outline_edges a b) points.now edges.now in
         IfOk result (λ m. marked matrix m) }

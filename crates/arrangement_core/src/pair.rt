@@ -5,7 +5,7 @@ use geom_core::Shape;
 use plane_core::Edge;
 
 /// The outlines of both, with indexes of their edges, the boxes of their vertices, and the edges of
-/// each that lie around the box of the other.
+/// each that lie around the box of the other; and whether the matrix has those of the second.
 #[derive(Clone, Copy)]
 pub(crate) struct Pair<'a> {
     pub(crate) first: &'a IndexedOutline,
@@ -14,12 +14,13 @@ pub(crate) struct Pair<'a> {
     pub(crate) second: &'a IndexedOutline,
     pub(crate) second_box: Shape,
     pub(crate) second_around: &'a [Edge],
+    pub(crate) has_second: bool,
 }
 
 impl<'a> Pair<'a> {
-    ghost use Rattle.std.specs.Prelude.{◌≡◌};
+    ghost use Rattle.std.specs.Prelude.{◌≡◌, IsTrue};
 
-    /// The pair in reverse order.
+    /// The pair in reverse order, once the matrix has the edges of the first geometry.
     pub(crate) fn turned(&self) -> Pair<'a>
         ensures first { result.first.now ≡ self.now.second.now }
         ensures first_box { result.first_box ≡ self.now.second_box }
@@ -27,6 +28,7 @@ impl<'a> Pair<'a> {
         ensures second { result.second.now ≡ self.now.first.now }
         ensures second_box { result.second_box ≡ self.now.first_box }
         ensures second_around { result.second_around.now ≡ self.now.first_around.now }
+        ensures marked { IsTrue result.has_second }
     {
         Pair {
             first: self.second,
@@ -35,6 +37,7 @@ impl<'a> Pair<'a> {
             second: self.first,
             second_box: self.first_box,
             second_around: self.first_around,
+            has_second: true,
         }
     }
 }

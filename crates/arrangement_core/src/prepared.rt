@@ -114,6 +114,7 @@ pub fn relate_prepared(
         second: &b.outline,
         second_box: b.bounds,
         second_around: &second_around,
+        has_second: false,
     };
     let matrix = read_off(alloc, &pair)?;
     Ok(matrix)

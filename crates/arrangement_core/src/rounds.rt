@@ -1,17 +1,17 @@
 //! The edges of two geometries in rounds: first those around the other geometry's box, then those
 //! beyond it, of which few are enough.
 
-ghost use Rattle.std.specs.Prelude.{◌≡◌, ◌≤◌, length, All, IfOk};
+ghost use Rattle.std.specs.Prelude.{◌≡◌, ◌≤◌, false, length, All, IfOk, IsTrue};
 ghost use Rattle.plane_core.specs.Figures.{HasLength};
 ghost use Rattle.edge_index_core.specs.Around.{AreAround};
 ghost use Rattle.edge_index_core.specs.Beyond.{is_beyond};
 ghost use Rattle.arrangement_core.specs.Around.{HasNear};
-ghost use Rattle.arrangement_core.specs.Beyond.{IsBounded, is_around};
+ghost use Rattle.arrangement_core.specs.Shared.{HasShared};
+ghost use Rattle.shown_core.specs.Beyond.{IsBounded, is_around};
 ghost use Rattle.noding_core.specs.Growth.{outside};
 ghost use Rattle.noding_core.specs.ReadOffs.{outline_edges, IsOwn, AreMarked, AreSomeMarked};
 ghost use Rattle.noding_core.specs.ReadOffs.{AreAllMarked, IsReadOffBy};
 
-use crate::beyond::is_outer_shown;
 use crate::marks::mark_points;
 use crate::matrices::{all_points, mark_outer_edge, mark_some, no_work};
 use crate::pair::Pair;
@@ -20,6 +20,7 @@ use edge_index_core::is_beyond;
 use noding_core::{outside, transposed};
 use plane_core::{Edge, Kind, Vertex};
 use relation_core::Matrix;
+use shown_core::is_outer_shown;
 use std::alloc::{AllocError, Global};
 
 /// The place of the edge whose last end is lowest.
@@ -51,6 +52,8 @@ fn mark_edges(
     requires own { All (IsOwn pair.now.first.now) edges.now }
     requires bounded { IsBounded pair.now.second.now pair.now.second_box }
     requires near { HasNear pair.now.first.now pair.now.second.now pair.now.second_around.now }
+    requires shared { let a = pair.now.first.now in let b = pair.now.second.now in
+        IsTrue pair.now.has_second → HasShared a b points.now matrix }
     ensures { let a = pair.now.first.now in let b = pair.now.second.now in
         let marked = AreMarked a b (outline_edges a b) points.now edges.now in
         IfOk result (λ m. marked matrix m) }
@@ -77,6 +80,8 @@ fn mark_around(
         AreAround pair.now.second_box edges pair.now.first_around.now }
     requires second_around { let edges = pair.now.second.now.edges.items in
         AreAround pair.now.first_box edges pair.now.second_around.now }
+    requires shared { let a = pair.now.first.now in let b = pair.now.second.now in
+        IsTrue pair.now.has_second → HasShared a b points.now matrix }
     ensures { let a = pair.now.first.now in let b = pair.now.second.now in
         let es = outline_edges a b in let box = pair.now.second_box in
         let marked = AreSomeMarked a b es points.now (is_around box) a.edges.items in
@@ -168,6 +173,7 @@ fn mark_both(work: &mut Work, pair: &Pair, points: &[Vertex]) -> Result<Matrix, 
         AreAround pair.now.second_box edges pair.now.first_around.now }
     requires second_around { let edges = pair.now.second.now.edges.items in
         AreAround pair.now.first_box edges pair.now.second_around.now }
+    requires none { pair.now.has_second ≡ false }
     ensures { let a = pair.now.first.now in let b = pair.now.second.now in
         IfOk result (λ m. AreAllMarked a b points.now outside m) }
 {
@@ -191,6 +197,7 @@ pub(crate) fn read_off(alloc: Global, pair: &Pair) -> Result<Matrix, AllocError>
         AreAround pair.now.second_box edges pair.now.first_around.now }
     requires second_around { let edges = pair.now.second.now.edges.items in
         AreAround pair.now.first_box edges pair.now.second_around.now }
+    requires none { pair.now.has_second ≡ false }
     ensures { IfOk result (λ m. IsReadOffBy pair.now.first.now pair.now.second.now m) }
 {
     let point_list = all_points(alloc, pair.first.outline(), pair.second.outline())?;

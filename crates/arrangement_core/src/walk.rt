@@ -2,7 +2,8 @@
 //! node to node.
 //!
 //! Off the boundary of an area the part changes only where the edge meets the boundary, so a part
-//! that was located is kept from point to point until then.
+//! that was located is kept from point to point until then. Where one edge of the area crosses the
+//! edge, the part from there on is the other one.
 
 ghost use Rattle.std.specs.Prelude.{◌≡◌, ◌≢◌, ◌<◌, ◌≤◌, [], ◌∷◌, ◌++◌, map, length, true};
 ghost use Rattle.std.specs.Prelude.{IsTrue, IfSome};
@@ -13,27 +14,29 @@ ghost use Rattle.plane_core.specs.Points.{is_on};
 ghost use Rattle.plane_core.specs.Places.{point_of, node_point};
 ghost use Rattle.plane_core.specs.Outlines.{outline_part};
 ghost use Rattle.plane_core.specs.PlaneMatrices.{entry, pick};
-ghost use Rattle.arrangement_core.specs.Beyond.{IsBounded};
-ghost use Rattle.arrangement_core.specs.Lying.{IsKnownIn, IsCourseIn, LiesOff, LiesOffOrOn};
-ghost use Rattle.arrangement_core.specs.Lying.{AreNear, is_vertex};
-ghost use Rattle.arrangement_core.specs.Shown.{all_parts, AreShown};
-ghost use Rattle.arrangement_core.specs.Shown.{IsOnEdge, IsOnCourse, IsUncrossed, AreCuts, AreNext};
+ghost use Rattle.shown_core.specs.Beyond.{IsBounded};
+ghost use Rattle.shown_core.specs.Lying.{IsKnownIn, LiesOff};
+ghost use Rattle.arrangement_core.specs.Crossed.{LiesAfter, LiesBefore};
+ghost use Rattle.arrangement_core.specs.Seen.{IsCourseIn, AreNear, is_vertex};
+ghost use Rattle.shown_core.specs.Shown.{all_parts, AreShown};
+ghost use Rattle.shown_core.specs.Shown.{IsOnEdge, IsOnCourse, IsUncrossed, AreCuts, AreNext};
 ghost use Rattle.noding_core.specs.Marks.{rank};
 ghost use Rattle.noding_core.specs.Nodes.{NodedEdge};
 ghost use Rattle.noding_core.specs.Growth.{HasGrownBy, mark_at, mark_in, piece_marks, gap_marks};
 ghost use Rattle.noding_core.specs.Growth.{edge_marks};
 
-use crate::course::{Course, standing_of};
+use crate::crossed::{Met, edge_at, part_across};
 use crate::marks::{is_point_shown, mark_above};
+use crate::outside::is_end_outside;
 use crate::pair::Pair;
-use crate::shown::{is_piece_shown, part_on_edge};
 use edge_index_core::IndexedOutline;
 use noding_core::raised;
 use plane_core::{Edge, Kind, Node, Part, Place, Spot, Vertex};
 use relation_core::{Extent, Matrix};
+use shown_core::{Course, is_piece_shown, part_on_edge, standing_of};
 
-/// A matrix that grows along an edge, and the part of the second geometry in which the last point
-/// lies, if that is known to be off the boundary of an area.
+/// A matrix that grows along an edge, and the part of the second geometry in which the last piece
+/// lies, or from the last node on the next one, if it is known to be off the boundary of an area.
 #[derive(Clone, Copy)]
 struct Walk {
     matrix: Matrix,
@@ -62,13 +65,10 @@ fn is_equal(z: i128, a: i64) -> bool
 
 /// Whether the coordinates of a point are written as those of a vertex. Then it is at the vertex.
 #[inline]
-fn is_vertex(p: &Place, v: &Vertex) -> bool
+pub(crate) fn is_vertex(p: &Place, v: &Vertex) -> bool
     ensures { result ≡ is_vertex p.now v.now }
 {
-    let is_whole = is_equal(p.w, 1);
-    let level_x = is_equal(p.x, v.x);
-    let level_y = is_equal(p.y, v.y);
-    is_whole & level_x & level_y
+    is_equal(p.w, 1) && is_equal(p.x, v.x) && is_equal(p.y, v.y)
 }
 
 /// Whether a point is written as an end of an edge.
@@ -84,7 +84,7 @@ fn is_end(e: &Edge, p: &Place) -> bool
 }
 
 /// Whether a point is on an edge.
-fn is_on(e: &Edge, p: &Spot) -> bool
+pub(crate) fn is_on(e: &Edge, p: &Spot) -> bool
     ensures { result ≡ is_on e.now (point_of p.now.place) }
 {
     if is_end(e, &p.place) {
@@ -94,24 +94,33 @@ fn is_on(e: &Edge, p: &Spot) -> bool
     }
 }
 
-/// Whether a point is on one of some edges.
-fn is_on_any(edges: &[Edge], p: &Place) -> bool
-    ensures { result ≡ list_any (λ e. is_on e (point_of p.now)) edges.now }
-{
-    let spot = Spot::of(p);
-    edges.iter().any(|e| is_on(e, &spot))
-}
-
 /// Whether a matrix includes a node wherever it lies in the second geometry, and no part is handed
-/// on to it.
-fn is_settled(walk: &Walk, part: Part, other: &IndexedOutline) -> bool
-    ensures none { IsTrue result → walk.now.part ≡ None }
-    ensures shown { let parts = all_parts other.now.kind in
+/// on from it.
+fn is_settled(walk: &Walk, part: Part, other: &IndexedOutline, is_last: bool) -> bool
+    ensures { let parts = all_parts other.now.kind in
         IsTrue result → AreShown (pick part walk.now.matrix.rows) parts Dot }
 {
-    match walk.part {
-        Some(_) => false,
-        None => is_point_shown(&walk.matrix, part, other),
+    if is_last || walk.part.is_none() {
+        is_point_shown(&walk.matrix, part, other)
+    } else {
+        false
+    }
+}
+
+/// The part of an area in which a node lies, if it is known, or if the node is an end of the edge
+/// outside the area's box.
+fn part_outside(part: Option<Part>, pair: &Pair, course: &Course, p: &Place) -> Option<Part>
+    requires bounded { IsBounded pair.now.second.now pair.now.second_box }
+    requires off { IfSome part (LiesOff pair.now.second.now (point_of p.now)) }
+    ensures { IfSome result (LiesOff pair.now.second.now (point_of p.now)) }
+{
+    if part.is_some() || pair.second.outline().kind != Kind::Areas {
+        return part;
+    }
+    if is_end_outside(&course.edge, p, &pair.second_box) {
+        Some(Part::Exterior)
+    } else {
+        None
     }
 }
 
@@ -128,33 +137,61 @@ fn add_off(walk: Walk, pair: &Pair, course: &Course, part: Part, p: &Place) -> W
     if is_point_shown(&walk.matrix, part, pair.second) {
         return walk;
     }
-    let standing = standing_of(pair.second, course, walk.part, p);
+    let known = part_outside(walk.part, pair, course, p);
+    let standing = standing_of(pair.second, course, known, p);
     let matrix = raised(walk.matrix, part, standing.part, Extent::Point);
     let off = part_off(pair.second.outline().kind, standing.part);
     Walk { matrix, part: off }
 }
 
+/// Adds a node that is on an edge of the second geometry, of which the part in the first is known.
+/// The part from there on is given, if it is known.
+fn add_on(walk: Walk, pair: &Pair, part: Part, p: &Place, after: Option<Part>) -> Walk
+    requires { IsOnEdge pair.now.second.now (point_of p.now) }
+    ensures grown { let marks = mark_in part pair.now.second.now (point_of p.now) ∷ [] in
+        HasGrownBy marks walk.matrix result.matrix }
+    ensures after { result.part ≡ after }
+{
+    let other = part_on_edge(pair.second.outline(), p);
+    let matrix = raised(walk.matrix, part, other, Extent::Point);
+    Walk {
+        matrix,
+        part: after,
+    }
+}
+
 /// Adds a node. The edges of the second geometry near the edge tell whether it is on one of them.
-fn add_node(walk: Walk, pair: &Pair, course: &Course, near: &[Edge], p: &Place) -> Walk
+/// From the last node of the edge no part is handed on.
+fn add_node(
+    walk: Walk,
+    pair: &Pair,
+    course: &Course,
+    near: &[Edge],
+    p: &Place,
+    is_last: bool,
+) -> Walk
     requires bounded { IsBounded pair.now.second.now pair.now.second_box }
     requires known { IsKnownIn pair.now.second.now course.now }
     requires near { AreNear pair.now.second.now course.now.edge near.now }
     requires on { IsOnCourse pair.now.first.now course.now (point_of p.now) }
-    requires off { IfSome walk.part (LiesOffOrOn pair.now.second.now (point_of p.now)) }
+    requires before { let a = pair.now.first.now in let b = pair.now.second.now in
+        IfSome walk.part (LiesBefore a b course.now.edge (point_of p.now)) }
     ensures grown { let a = pair.now.first.now in let b = pair.now.second.now in
         HasGrownBy (mark_at a b Dot (point_of p.now) ∷ []) walk.matrix result.matrix }
-    ensures off { IfSome result.part (LiesOff pair.now.second.now (point_of p.now)) }
+    ensures after { let a = pair.now.first.now in let b = pair.now.second.now in
+        IfSome result.part (LiesAfter a b course.now.edge (point_of p.now)) }
 {
     let part = part_on_edge(pair.first.outline(), p);
-    if is_settled(&walk, part, pair.second) {
-        return walk;
+    if is_settled(&walk, part, pair.second, is_last) {
+        return Walk { part: None, ..walk };
     }
-    if is_on_any(near, p) {
-        let other = part_on_edge(pair.second.outline(), p);
-        let matrix = raised(walk.matrix, part, other, Extent::Point);
-        Walk { matrix, part: None }
-    } else {
-        add_off(walk, pair, course, part, p)
+    match edge_at(near, &Spot::of(p), walk.part.is_some()) {
+        Met::Nowhere => add_off(walk, pair, course, part, p),
+        Met::Once(f) => {
+            let after = part_across(walk.part, &course.edge, &f, pair.second.edges());
+            add_on(walk, pair, part, p, after)
+        }
+        Met::Often => add_on(walk, pair, part, p, None),
     }
 }
 
@@ -204,7 +241,15 @@ fn add_piece(walk: Walk, pair: &Pair, course: &Course, p: &Place) -> Walk
 }
 
 /// Goes from a node to the next one: adds the piece between them and the node, if they differ.
-fn step(walk: Walk, pair: &Pair, course: &Course, near: &[Edge], k: &Node, l: &Node) -> Walk
+fn step(
+    walk: Walk,
+    pair: &Pair,
+    course: &Course,
+    near: &[Edge],
+    k: &Node,
+    l: &Node,
+    is_last: bool,
+) -> Walk
     requires bounded { IsBounded pair.now.second.now pair.now.second_box }
     requires course { IsCourseIn pair.now.second.now course.now }
     requires near { AreNear pair.now.second.now course.now.edge near.now }
@@ -213,12 +258,14 @@ fn step(walk: Walk, pair: &Pair, course: &Course, near: &[Edge], k: &Node, l: &N
     requires here { let a = pair.now.first.now in let b = pair.now.second.now in
         let p = node_point k.now in
         1 ≤ rank (entry walk.matrix (outline_part a p) (outline_part b p)) }
-    requires off { IfSome walk.part (LiesOff pair.now.second.now (node_point k.now)) }
+    requires after { let a = pair.now.first.now in let b = pair.now.second.now in
+        IfSome walk.part (LiesAfter a b course.now.edge (node_point k.now)) }
     ensures grown { let a = pair.now.first.now in let b = pair.now.second.now in
         let p = node_point k.now in let q = node_point l.now in
         let marks = gap_marks a b course.now.edge p q ++ mark_at a b Dot q ∷ [] in
         HasGrownBy marks walk.matrix result.matrix }
-    ensures off { IfSome result.part (LiesOff pair.now.second.now (node_point l.now)) }
+    ensures after { let a = pair.now.first.now in let b = pair.now.second.now in
+        IfSome result.part (LiesAfter a b course.now.edge (node_point l.now)) }
 {
     if k.compare(l).is_lt() {
         add_node(
@@ -227,9 +274,10 @@ fn step(walk: Walk, pair: &Pair, course: &Course, near: &[Edge], k: &Node, l: &N
             course,
             near,
             &l.place,
+            is_last,
         )
     } else {
-        walk
+        Walk { part: None, ..walk }
     }
 }
 
@@ -261,11 +309,12 @@ pub(crate) fn mark_noded(
 {
     let first = node_at(nodes, 0);
     let start = Walk { matrix, part: None };
-    let mut walk = add_node(start, pair, course, near, &first.place);
+    let mut walk = add_node(start, pair, course, near, &first.place, false);
     for i in 1..nodes.len() {
         let k = node_at(nodes, i - 1);
         let l = node_at(nodes, i);
-        walk = step(walk, pair, course, near, &k, &l);
+        let is_last = i == nodes.len() - 1;
+        walk = step(walk, pair, course, near, &k, &l, is_last);
     }
     walk.matrix
 }

@@ -2,7 +2,7 @@ use Rattle.std.proofs.Common.{subst}
 use Rattle.std.specs.Prelude.{Option, IfSome}
 use Rattle.plane_core.specs.Figures.{HasLength}
 use Rattle.plane_core.specs.declared.part.Part.{Part}
-use Rattle.arrangement_core.specs.Lying.{LiesIn}
+use Rattle.shown_core.specs.Lying.{LiesIn}
 use Rattle.noding_core.specs.ReadOffs.{outline_edges}
 use Rattle.noding_core.proofs.NodeLemmas.{all_among}
 use Rattle.arrangement_core.proofs.KnownLemmas.{part_adds_none, all_add_none}

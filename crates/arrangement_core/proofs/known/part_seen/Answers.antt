@@ -1,7 +1,7 @@
 use Rattle.std.proofs.Common.{subst}
 use Rattle.std.specs.Prelude.{Option, IfSome}
 use Rattle.arrangement_core.specs.declared.known.Seen.{Seen}
-use Rattle.arrangement_core.specs.Lying.{IsSeenAlong}
+use Rattle.arrangement_core.specs.Seen.{IsSeenAlong}
 use Rattle.arrangement_core.proofs.known.part_seen.Goals as goal
 
 pub returns-in-Some : goal.returns-in-Some

@@ -1,5 +1,5 @@
 use Rattle.std.proofs.Common.{refl, sym, subst}
-use Rattle.arrangement_core.specs.Lying.{LiesIn}
+use Rattle.shown_core.specs.Lying.{LiesIn}
 use Rattle.arrangement_core.proofs.ClearLemmas.{lies_clear}
 use Rattle.arrangement_core.proofs.known.seen_along.Goals as goal
 
@@ -10,6 +10,6 @@ returns-then-is_clear c =
     let holds = c.if-is_clear.true in
     record {
       end = refl;
-      lies = subst (LiesIn o e) (sym c.part_at-part.ensures)
+      lies = subst (LiesIn o e) (sym c.part_from-part.ensures)
           (lies_clear o c.args.pair.now.second_box e c.args.near.now c.requires.bounded (rw c.outline-outline.ensures at c.is_clear.ensures.edges holds) (c.is_clear.ensures.none holds) c.requires.found);
     }

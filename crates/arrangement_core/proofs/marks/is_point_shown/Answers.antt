@@ -1,5 +1,5 @@
 use Rattle.relation_core.specs.declared.extent.Extent.TheVariants.{Point as Dot}
-use Rattle.arrangement_core.proofs.ShownLemmas.{row_shown}
+use Rattle.shown_core.proofs.ShownLemmas.{row_shown}
 use Rattle.arrangement_core.proofs.marks.is_point_shown.Goals as goal
 
 pub returns : goal.returns

@@ -1,6 +1,6 @@
 use Rattle.relation_core.specs.declared.extent.Extent.TheVariants.{Area}
 use Rattle.plane_core.specs.Places.{point_of}
-use Rattle.arrangement_core.proofs.ShownLemmas.{above_shown, shown_at}
+use Rattle.shown_core.proofs.ShownLemmas.{above_shown, shown_at}
 use Rattle.arrangement_core.proofs.marks.mark_above.Goals as goal
 
 pub returns-then-are_shown : goal.returns-then-are_shown

@@ -4,7 +4,7 @@ use Rattle.plane_core.specs.declared.vertex.Vertex.{Vertex}
 use Rattle.plane_core.specs.Points.{at}
 use Rattle.noding_core.specs.Growth.{mark_at, HasGrownBy}
 use Rattle.noding_core.proofs.GrowthLemmas.{grown_more, grown_whole}
-use Rattle.arrangement_core.proofs.ShownLemmas.{point_marked}
+use Rattle.shown_core.proofs.ShownLemmas.{point_marked}
 use Rattle.arrangement_core.proofs.marks.mark_each.Goals as goal
 
 pub loop-v-preserved : goal.loop-v-preserved

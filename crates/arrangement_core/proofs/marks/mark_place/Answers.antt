@@ -1,7 +1,7 @@
 use Rattle.std.proofs.Common.{refl}
 use Rattle.plane_core.specs.Places.{point_of}
 use Rattle.plane_core.specs.PlaneMatrices.{pick}
-use Rattle.arrangement_core.proofs.ShownLemmas.{place_shown}
+use Rattle.shown_core.proofs.ShownLemmas.{place_shown}
 use Rattle.arrangement_core.proofs.marks.mark_place.Goals as goal
 
 pub returns-then-is_point_shown : goal.returns-then-is_point_shown

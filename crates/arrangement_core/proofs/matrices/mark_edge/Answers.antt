@@ -1,9 +1,10 @@
 use Rattle.std.proofs.Common.{rules, sym, subst}
 use Rattle.std.specs.Prelude.{Option, IfSome}
 use Rattle.arrangement_core.specs.declared.known.Seen.{Seen}
-use Rattle.arrangement_core.specs.Lying.{IsSeen}
+use Rattle.arrangement_core.specs.Seen.{IsSeen}
 use Rattle.arrangement_core.proofs.ClearLemmas.{seen_last}
 use Rattle.arrangement_core.proofs.WalkLemmas.{added_near}
+use Rattle.arrangement_core.proofs.SharedLemmas.{shared_marked}
 use Rattle.arrangement_core.proofs.matrices.mark_edge.Goals as goal
 
 pub returns-then-adds_none_near-clause-seen : goal.returns-then-adds_none_near-clause-seen
@@ -27,3 +28,9 @@ mark_near_edge-requires-clause-course c = record {
   known = rw (c.course_of-course.ensures.part, c.course_of-course.ensures.edge) (c.part_seen.ensures c.args.pair.now.second.now c.args.e.now c.seen_along-work.ensures);
   apart = c.course_of-course.ensures.apart c.args.pair.now.second.now (search rules);
 }
+
+pub returns-then-adds_none_shared-clause-marked : goal.returns-then-adds_none_shared-clause-marked
+returns-then-adds_none_shared-clause-marked c =
+    shared_marked c.args.pair.now.first.now c.args.pair.now.second.now c.args.points.now c.args.e.now _ c.args.matrix (c.requires.shared (c.adds_none_shared.ensures.marked c.if-adds_none_shared.true)) c.requires.one.one
+    (added_near c.args.pair.now.second.now c.args.e.now _ _ c.clear.ensures.items c.in_ok-push_second.ensures.own c.in_ok-push_second.ensures.found)
+    (rw c.deref.ensures.value at c.adds_none_shared.ensures.shared c.if-adds_none_shared.true)

@@ -5,7 +5,7 @@ use Rattle.noding_core.specs.ReadOffs.{outline_edges}
 use Rattle.noding_core.proofs.NodeLemmas.{all_among}
 use Rattle.noding_core.proofs.NearLemmas.{all_found_kept, near_nodes}
 use Rattle.noding_core.proofs.ReadOffLemmas.{edge_marked}
-use Rattle.arrangement_core.proofs.ShownLemmas.{cuts_at}
+use Rattle.shown_core.proofs.ShownLemmas.{cuts_at}
 use Rattle.arrangement_core.proofs.WalkLemmas.{first_near}
 use Rattle.arrangement_core.proofs.matrices.mark_near_edge.Goals as goal
 

@@ -2,8 +2,8 @@ use Rattle.std.proofs.Common.{refl, []}
 use Rattle.plane_core.specs.Figures.{HasLength}
 use Rattle.noding_core.specs.ReadOffs.{outline_edges}
 use Rattle.noding_core.proofs.NodeLemmas.{all_among}
-use Rattle.arrangement_core.proofs.ApartLemmas.{apart_of_near}
-use Rattle.arrangement_core.proofs.BeyondLemmas.{lies_beyond}
+use Rattle.shown_core.proofs.ApartLemmas.{apart_of_near}
+use Rattle.shown_core.proofs.BeyondLemmas.{lies_beyond}
 use Rattle.arrangement_core.proofs.KnownLemmas.{part_adds_none}
 use Rattle.arrangement_core.proofs.OuterLemmas.{none_found}
 use Rattle.arrangement_core.proofs.WalkLemmas.{none_near}

@@ -1,7 +1,8 @@
 use Rattle.std.proofs.Common.{sym, subst, refl}
 use Rattle.noding_core.specs.ReadOffs.{outline_edges, IsOwn}
 use Rattle.noding_core.proofs.ReadOffLemmas.{marked_none, marked_more, marked_whole}
-use Rattle.arrangement_core.proofs.ShownLemmas.{edges_of_first}
+use Rattle.shown_core.proofs.ShownLemmas.{edges_of_first}
+use Rattle.arrangement_core.proofs.SharedLemmas.{shared_still}
 use Rattle.arrangement_core.proofs.matrices.mark_some.Goals as goal
 
 pub loop-e-init : goal.loop-e-init
@@ -27,3 +28,7 @@ loop-e-preserved c = record {
 
 pub returns-clause-marked : goal.returns-clause-marked
 returns-clause-marked c = marked_whole _ _ _ _ _ c.loop-e.e-index _ _ c.loop-e-test.false c.loop-e.invariant.marked
+
+pub mark_edge-requires-clause-shared : goal.mark_edge-requires-clause-shared
+mark_edge-requires-clause-shared c =
+    shared_still c.args.pair.now.first.now c.args.pair.now.second.now c.args.pair.now.has_second _ _ _ _ c.loop-e.invariant.marked c.requires.shared

@@ -1,6 +1,6 @@
 use Rattle.std.proofs.Common.{take}
 use Rattle.std.specs.Prelude.{IfSome}
-use Rattle.arrangement_core.specs.Lying.{IsSeen}
+use Rattle.arrangement_core.specs.Seen.{IsSeen}
 use Rattle.noding_core.specs.ReadOffs.{AreMarked, outline_edges}
 use Rattle.arrangement_core.proofs.matrices.mark_some.Given as goal
 

@@ -1,9 +1,9 @@
-use Rattle.std.proofs.Common.{sym, subst, refl, ap, ◌∙◌}
+use Rattle.std.proofs.Common.{sym, subst, refl, ◌∙◌}
 use Rattle.edge_index_core.specs.Beyond.{is_beyond}
 use Rattle.noding_core.specs.ReadOffs.{outline_edges, IsOwn}
 use Rattle.arrangement_core.proofs.RoundLemmas.{some_none, some_more, some_skipped, some_whole, some_rest}
 use Rattle.arrangement_core.proofs.OuterLemmas.{outer_adds_none}
-use Rattle.arrangement_core.proofs.ShownLemmas.{edges_of_first}
+use Rattle.shown_core.proofs.ShownLemmas.{edges_of_first}
 use Rattle.arrangement_core.proofs.rounds.mark_beyond.Goals as goal
 
 pub loop-e-init : goal.loop-e-init

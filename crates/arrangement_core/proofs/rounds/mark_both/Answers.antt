@@ -1,6 +1,7 @@
 use Rattle.edge_index_core.specs.Beyond.{is_beyond}
 use Rattle.noding_core.proofs.TurnLemmas.{long_turned}
 use Rattle.arrangement_core.proofs.RoundLemmas.{rounds}
+use Rattle.arrangement_core.proofs.SharedLemmas.{shared_first}
 use Rattle.arrangement_core.proofs.rounds.mark_both.Goals as goal
 
 pub mark_around-requires-2-clause-long : goal.mark_around-requires-2-clause-long
@@ -17,3 +18,9 @@ returns c =
     (rw (t.first, t.second, t.second_box, c.transposed-across.ensures) at c.in_ok-around_both.ensures)
     (rw (t.first, t.second, t.second_box) at c.in_ok-second.ensures)
     (rw c.transposed-back.ensures at c.in_ok-all.ensures)
+
+pub mark_around-requires-2-clause-shared : goal.mark_around-requires-2-clause-shared
+mark_around-requires-2-clause-shared c =
+    let t = c.turned-turned.ensures in
+    rw (t.first, t.second, c.transposed-across.ensures) (λ is. shared_first c.args.pair.now.first.now c.args.pair.now.second.now _ c.args.pair.now.second_box _ c.requires.second
+    (rw c.outside-start.ensures at c.in_ok-around_first.ensures))

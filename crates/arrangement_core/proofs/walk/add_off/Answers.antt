@@ -2,7 +2,7 @@ use Rattle.std.proofs.Common.{refl, sym}
 use Rattle.plane_core.specs.Places.{point_of}
 use Rattle.plane_core.specs.PlaneMatrices.{pick}
 use Rattle.edge_index_core.proofs.TreeLemmas.{place_wide}
-use Rattle.arrangement_core.proofs.ShownLemmas.{place_shown, place_standing}
+use Rattle.shown_core.proofs.ShownLemmas.{place_shown, place_standing}
 use Rattle.arrangement_core.proofs.WalkLemmas.{part_lies_off}
 use Rattle.arrangement_core.proofs.walk.add_off.Goals as goal
 

@@ -3,8 +3,8 @@ use Rattle.std.specs.Prelude.{IfSome}
 use Rattle.plane_core.specs.declared.node.Node.{Node}
 use Rattle.plane_core.specs.Places.{node_point}
 use Rattle.noding_core.proofs.GrowthLemmas.{grown_first, grown_next, grown_nodes}
-use Rattle.arrangement_core.specs.Lying.{LiesOff}
-use Rattle.arrangement_core.proofs.ShownLemmas.{node_on}
+use Rattle.shown_core.proofs.ShownLemmas.{node_on}
+use Rattle.arrangement_core.specs.Crossed.{LiesAfter}
 use Rattle.arrangement_core.proofs.WalkLemmas.{some_nodes, first_among, same_item, last_here, next_at}
 use Rattle.arrangement_core.proofs.walk.mark_noded.Goals as goal
 
@@ -31,7 +31,7 @@ loop-i-init c =
     let some = some_nodes a b e ns c.requires.cuts in
     record {
       grown = grown_first a b e ns c.node_at-first.result _ _ some c.node_at-first.ensures c.add_node-walk.ensures.grown;
-      off = λ k is. subst (λ (n : Node). IfSome c.add_node-walk.result.part (LiesOff b (node_point n))) (same_item ns 0 0 k c.node_at-first.result refl some is c.node_at-first.ensures) c.add_node-walk.ensures.off;
+      after = λ k is. subst (λ (n : Node). IfSome c.add_node-walk.result.part (LiesAfter a b e (node_point n))) (same_item ns 0 0 k c.node_at-first.result refl some is c.node_at-first.ensures) c.add_node-walk.ensures.after;
     }
 
 pub step-walk-requires-clause-next : goal.step-walk-requires-clause-next
@@ -44,8 +44,8 @@ step-walk-requires-clause-here c =
     last_here c.args.pair.now.first.now c.args.pair.now.second.now c.args.course.now.edge c.args.nodes.now c.loop-i.i c.node_at-k.result _ _ (search rules) (search rules)
     c.node_at-k.ensures c.loop-i.invariant.grown
 
-pub step-walk-requires-clause-off : goal.step-walk-requires-clause-off
-step-walk-requires-clause-off c = c.loop-i.invariant.off c.node_at-k.result c.node_at-k.ensures
+pub step-walk-requires-clause-after : goal.step-walk-requires-clause-after
+step-walk-requires-clause-after c = c.loop-i.invariant.after c.node_at-k.result c.node_at-k.ensures
 
 pub loop-i-preserved : goal.loop-i-preserved
 loop-i-preserved c =
@@ -57,8 +57,8 @@ loop-i-preserved c =
     record {
       grown = grown_next a b e ns i c.node_at-k.result c.node_at-l.result _ _ _ (search rules) (search rules) c.node_at-k.ensures c.node_at-l.ensures
           c.loop-i.invariant.grown c.step-walk.ensures.grown;
-      off = λ n is. subst (λ (x : Node). IfSome c.step-walk.result.part (LiesOff b (node_point x)))
-          (same_item ns ((i + 1) - 1) i n c.node_at-l.result (more_less i) c.loop-i-test.true is c.node_at-l.ensures) c.step-walk.ensures.off;
+      after = λ n is. subst (λ (x : Node). IfSome c.step-walk.result.part (LiesAfter a b e (node_point x)))
+          (same_item ns ((i + 1) - 1) i n c.node_at-l.result (more_less i) c.loop-i-test.true is c.node_at-l.ensures) c.step-walk.ensures.after;
     }
 
 pub returns : goal.returns

@@ -1,7 +1,7 @@
 use Rattle.std.proofs.Common.{sym}
 use Rattle.plane_core.specs.Places.{point_of}
 use Rattle.edge_index_core.proofs.TreeLemmas.{place_wide}
-use Rattle.arrangement_core.proofs.ShownLemmas.{piece_beside}
+use Rattle.shown_core.proofs.ShownLemmas.{piece_beside}
 use Rattle.arrangement_core.proofs.WalkLemmas.{part_lies_off}
 use Rattle.arrangement_core.proofs.walk.place_piece.Goals as goal
 

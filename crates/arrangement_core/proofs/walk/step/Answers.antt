@@ -3,8 +3,9 @@ use Rattle.std.specs.Ordering.{is_lt}
 use Rattle.plane_core.specs.Places.{node_point, point_of, place_order}
 use Rattle.noding_core.proofs.NodeLemmas.{gap_second}
 use Rattle.noding_core.proofs.ReadOffLemmas.{order_before}
-use Rattle.arrangement_core.proofs.ShownLemmas.{node_on, node_wide}
-use Rattle.arrangement_core.proofs.WalkLemmas.{step_after, step_before, step_crossed, step_on, piece_grown, same_next, same_grown, lies_same}
+use Rattle.shown_core.proofs.ShownLemmas.{node_on}
+use Rattle.arrangement_core.proofs.WalkLemmas.{step_crossed, step_on, piece_grown, same_next, same_grown}
+use Rattle.arrangement_core.proofs.AcrossLemmas.{off_of_after, before_of_off}
 use Rattle.arrangement_core.proofs.walk.step.Goals as goal
 
 pub add_piece-requires-clause-on : goal.add_piece-requires-clause-on
@@ -26,8 +27,7 @@ add_piece-requires-clause-off c =
     let p = node_point c.args.k.now in
     let q = node_point c.args.l.now in
     let less : is_lt (place_order p q) ≡ true = search rules in
-    step_after c.args.pair.now.first.now c.args.pair.now.second.now c.args.pair.now.second_box c.args.course.now.edge p q c.requires.bounded c.requires.next (order_before p q less) c.args.walk.part (point_of c.middle.result) c.middle.ensures
-    c.requires.off
+    off_of_after c.args.pair.now.first.now c.args.pair.now.second.now c.args.course.now.edge p q (point_of c.middle.result) c.args.walk.part c.requires.next (order_before p q less) c.middle.ensures c.requires.after
 
 pub add_node-requires-clause-on : goal.add_node-requires-clause-on
 add_node-requires-clause-on c =
@@ -37,13 +37,12 @@ add_node-requires-clause-on c =
     let next = c.requires.next in
     node_on c.args.pair.now.first.now c.args.pair.now.second.now c.args.course.now next.nodes q next.cuts (gap_second p q next.nodes (next.gap (order_before p q less)))
 
-pub add_node-requires-clause-off : goal.add_node-requires-clause-off
-add_node-requires-clause-off c =
+pub add_node-requires-clause-before : goal.add_node-requires-clause-before
+add_node-requires-clause-before c =
     let p = node_point c.args.k.now in
     let q = node_point c.args.l.now in
     let less : is_lt (place_order p q) ≡ true = search rules in
-    step_before c.args.pair.now.first.now c.args.pair.now.second.now c.args.pair.now.second_box c.args.course.now.edge p q c.requires.bounded c.requires.next (order_before p q less) c.add_piece.result.part (point_of c.middle.result)
-    c.middle.ensures c.add_piece.ensures.off
+    before_of_off c.args.pair.now.first.now c.args.pair.now.second.now c.args.course.now.edge p q (point_of c.middle.result) c.add_piece.result.part c.requires.next (order_before p q less) c.middle.ensures c.add_piece.ensures.off
 
 pub returns-then-is_lt-clause-grown : goal.returns-then-is_lt-clause-grown
 returns-then-is_lt-clause-grown c =
@@ -61,12 +60,3 @@ returns-else-is_lt-clause-grown c =
     let q = node_point c.args.l.now in
     let not_less : is_lt (place_order p q) ≡ false = search rules in
     same_grown a b e c.args.k.now c.args.l.now c.args.walk.matrix not_less (same_next a b e p q c.requires.next not_less) c.requires.here
-
-pub returns-else-is_lt-clause-off : goal.returns-else-is_lt-clause-off
-returns-else-is_lt-clause-off c =
-    let a = c.args.pair.now.first.now in
-    let b = c.args.pair.now.second.now in
-    let p = node_point c.args.k.now in
-    let q = node_point c.args.l.now in
-    let not_less : is_lt (place_order p q) ≡ false = search rules in
-    lies_same b c.args.walk.part p q (node_wide c.args.k.now) (node_wide c.args.l.now) (same_next a b c.args.course.now.edge p q c.requires.next not_less) c.requires.off

@@ -1,0 +1,4 @@
+pub mod Beyond
+pub mod Ends
+pub mod Lying
+pub mod Shown
