@@ -3,8 +3,9 @@ from __future__ import annotations
 
 import tempfile
 from contextlib import contextmanager
+from itertools import islice
 from pathlib import Path
-from typing import Any, Dict, Iterator, List
+from typing import Any, Callable, Dict, Iterator, List
 
 from qgis.core import (
     QgsCoordinateReferenceSystem,
@@ -35,6 +36,8 @@ OTHERS = "OTHERS"
 DECIMALS = "DECIMALS"
 WORKERS = "WORKERS"
 MOST_WORKERS = 16
+# How many features are written by one call.
+BATCH = 256
 
 COMMON_HELP = """
 <p>rjoin reads points, lines and polygons, single or of several parts. Heights and measures are \
@@ -165,14 +168,19 @@ class Output:
         self.sink = sink
         self.identifier = identifier
 
-    def add(self, features: Iterator[QgsFeature]) -> None:
-        """Writes features; a refused one is an error."""
-        if self.sink is None:
-            return
-        for feature in features:
-            if not self.sink.addFeature(feature, QgsFeatureSink.FastInsert):
+    def add(self, features: Iterator[QgsFeature],
+            goes_on: Callable[[int], bool] = lambda done: True) -> None:
+        """Writes features; a refused one is an error.
+
+        goes_on: whether more are to be written, by the number of those that are.
+        """
+        done = 0
+        while self.sink is not None and goes_on(done) and (
+                batch := list(islice(features, BATCH))):
+            if not self.sink.addFeatures(batch, QgsFeatureSink.FastInsert):
                 raise QgsProcessingException(
                     f"the output {self.name} could not be written: {self.sink.lastError()}")
+            done += len(batch)
 
     def result(self) -> Dict[str, Any]:
         """What the algorithm answers for this output; it closes the sink."""

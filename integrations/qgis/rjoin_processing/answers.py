@@ -1,24 +1,38 @@
-"""The fields that an answer adds behind those of its layers: matrix, distance, exact and known."""
+"""The pairs of an answer, and the fields that it adds: matrix, distance, exact and known."""
 from __future__ import annotations
 
 from dataclasses import dataclass
-from typing import Any, Dict, List, NamedTuple, Tuple
+from typing import TYPE_CHECKING, Any, Iterator, List, NamedTuple, Sequence, Tuple
 
+import numpy as np
 from qgis.core import QgsField
 from qgis.PyQt.QtCore import QVariant
 
 from .layers import Layer
 
+if TYPE_CHECKING:
+    from .columns import Flags, Places
 
-class Partner(NamedTuple):
-    """A feature of the join layer, by its number, and the values of the fields of the pair."""
-
-    number: int
-    values: Tuple[Any, ...]
+# How many pairs are made objects of at a time.
+BLOCK = 1 << 14
 
 
-# The partners of each base feature that has one, by their numbers, in layer order of the base.
-Partners = Dict[int, List[Partner]]
+class Pairs(NamedTuple):
+    """The numbers of two features of each pair, in the order of the base layer, and the values of
+    its fields, a column each."""
+
+    left: Places
+    right: Places
+    values: Tuple[Sequence[Any], ...]
+
+    def chosen(self, places: Places) -> "Pairs":
+        """The pairs at some places."""
+        columns = tuple([column[place] for place in places.tolist()] for column in self.values)
+        return Pairs(self.left[places], self.right[places], columns)
+
+    def firsts(self) -> Places:
+        """The places of the first pair of each base feature that has one."""
+        return np.flatnonzero(np.diff(self.left, prepend=-1))
 
 
 def exact_field() -> QgsField:
@@ -62,19 +76,26 @@ class JoinFields:
         known = QgsField("known", QVariant.Bool)
         return [exact_field()] * self.has_exact + [known] * self.has_known
 
-    def of_pair(self, left: int, partner: Partner) -> List[Any]:
+    def of_pairs(self, pairs: Pairs) -> Iterator[List[Any]]:
+        """The values of each pair."""
         known = not (self.meaning.needs_all and self.right.left_out)
-        return [*partner.values, *self._flags(self.is_exact(left, partner), known)]
+        for begin in range(0, pairs.left.size, BLOCK):
+            some = slice(begin, begin + BLOCK)
+            columns = [column[some] for column in pairs.values]
+            if self.has_exact:
+                columns.append(self.are_exact(pairs.left[some], pairs.right[some]).tolist())
+            if self.has_known:
+                columns.append([known] * pairs.left[some].size)
+            yield from map(list, zip(*columns))
 
     def of_lonely(self, left: int) -> List[Any]:
         """The flags of a base feature without a partner."""
         exact = self.meaning.lonely_is_exact or not (
             left in self.left.envelopes or self.right.envelopes)
-        return self._flags(exact, not self.right.left_out)
+        return [flag for flag, is_there in ((exact, self.has_exact),
+                                            (not self.right.left_out, self.has_known)) if is_there]
 
-    def is_exact(self, left: int, partner: Partner) -> bool:
-        return left not in self.left.envelopes and partner.number not in self.right.envelopes
-
-    def _flags(self, exact: bool, known: bool) -> List[bool]:
-        return [flag for flag, is_there in ((exact, self.has_exact), (known, self.has_known))
-                if is_there]
+    def are_exact(self, left: Places, right: Places) -> Flags:
+        """Which pairs rest on no envelope."""
+        return ~(np.isin(left, list(self.left.envelopes))
+                 | np.isin(right, list(self.right.envelopes)))

@@ -2,9 +2,9 @@
 from __future__ import annotations
 
 from abc import ABC, abstractmethod
-from collections import defaultdict
-from typing import Any, Iterable, Iterator, List, NamedTuple, Sequence, Tuple
+from typing import Any, Iterable, List, Sequence, Tuple
 
+import numpy as np
 from qgis.core import (
     QgsFeature,
     QgsField,
@@ -16,18 +16,11 @@ from qgis.PyQt.QtCore import QVariant
 
 from . import decimals as units
 from . import program
-from .answers import Meaning, Partner, Partners
+from .answers import Meaning, Pairs
 from .layers import Layer, common_decimals
+from .report import Report
 
 INTERSECTS = "intersects"
-
-
-class Row(NamedTuple):
-    """A row of a report: the numbers of two features, and the text of the last column."""
-
-    left: int
-    right: int
-    text: str
 
 
 class Condition(ABC):
@@ -58,7 +51,7 @@ class Condition(ABC):
         """The fields that a pair gets."""
 
     @abstractmethod
-    def partners(self, rows: Iterator[Row], left: Layer, right: Layer) -> Partners:
+    def pairs(self, report: Report, left: Layer, right: Layer) -> Pairs:
         """The pairs of a report."""
 
 
@@ -85,11 +78,8 @@ class Relations(Condition):
     def fields(self) -> List[QgsField]:
         return [QgsField("matrix", QVariant.String, len=9)]
 
-    def partners(self, rows: Iterator[Row], left: Layer, right: Layer) -> Partners:
-        found: Partners = defaultdict(list)
-        for row in rows:
-            found[row.left].append(Partner(row.right, (row.text,)))
-        return found
+    def pairs(self, report: Report, left: Layer, right: Layer) -> Pairs:
+        return Pairs(report.left, report.right, (report.texts,))
 
 
 def distance_field() -> QgsField:
@@ -118,7 +108,7 @@ class Distances(Condition):
         reach = [] if self.distance is None else [self.distance]
         if given is None:
             decimals = _finest(reach, layers, decimals)
-        elif list(units.rounded_places(reach, decimals)):
+        elif units.rounded_places(reach, decimals).size:
             raise QgsProcessingException(
                 f"Distance: {units.text(reach[0])} has more than {decimals} decimals")
         _check_limit(reach, layers, decimals)
@@ -131,11 +121,8 @@ class Distances(Condition):
     def fields(self) -> List[QgsField]:
         return [distance_field()]
 
-    def partners(self, rows: Iterator[Row], left: Layer, right: Layer) -> Partners:
-        found: Partners = defaultdict(list)
-        for row in rows:
-            found[row.left].append(Partner(row.right, (float(row.text),)))
-        return found
+    def pairs(self, report: Report, left: Layer, right: Layer) -> Pairs:
+        return Pairs(report.left, report.right, (list(map(float, report.texts)),))
 
     def _asked(self, distance: str | None) -> List[str]:
         return [self.command] if distance is None else [self.command, f"--distance={distance}"]
@@ -148,15 +135,17 @@ def _finest(reach: Sequence[float], layers: Sequence[Layer], least: int) -> int:
     except units.CoordinateError as fault:
         raise QgsProcessingException(f"Distance: {fault}; give the parameter Decimals (DECIMALS) "
                                      "to round to") from fault
-    most = min(units.most_decimals(numbers)
-               for numbers in (reach, *(layer.coordinates for layer in layers)))
-    return max(fewest, most)
+    return max(fewest, min(map(units.most_decimals, _all_numbers(reach, layers))))
+
+
+def _all_numbers(reach: Sequence[float], layers: Iterable[Layer]) -> List[units.Coordinates]:
+    return [reach, *(layer.coordinates for layer in layers)]
 
 
 def _check_limit(reach: Sequence[float], layers: Iterable[Layer], decimals: int) -> None:
     """Ends the run where a number is out of range with the decimals of the distance."""
     try:
-        for numbers in (reach, *(layer.coordinates for layer in layers)):
+        for numbers in _all_numbers(reach, layers):
             units.check_limit(numbers, decimals)
     except units.CoordinateError as fault:
         raise QgsProcessingException(
@@ -202,16 +191,19 @@ class Nearest(Distances):
         return [QgsField("n", QVariant.Int), distance_field(),
                 *(QgsField(name, QVariant.Double) for name in LINE_ENDS)]
 
-    def partners(self, rows: Iterator[Row], left: Layer, right: Layer) -> Partners:
-        found: Partners = defaultdict(list)
-        for row in rows:
-            one, other = left.features[row.left], right.features[row.right]
-            if self.is_same and one.id() == other.id():
-                continue
-            partners = found[row.left]
-            partners.append(Partner(row.right, (
-                len(partners) + 1, float(row.text), *_line_between(one, other))))
-        return found
+    def pairs(self, report: Report, left: Layer, right: Layer) -> Pairs:
+        found = super().pairs(report, left, right)
+        if self.is_same:
+            one, other = (np.array([feature.id() for feature in layer.features])[numbers]
+                          for layer, numbers in ((left, found.left), (right, found.right)))
+            found = found.chosen(np.flatnonzero(one != other))
+        firsts = found.firsts()
+        counts = np.diff(firsts, append=found.left.size)
+        numbers = np.arange(found.left.size) - np.repeat(firsts, counts) + 1
+        ends = [_line_between(left.features[one], right.features[other])
+                for one, other in zip(found.left.tolist(), found.right.tolist())]
+        columns = zip(*ends) if ends else ([] for _ in LINE_ENDS)
+        return found._replace(values=(numbers.tolist(), *found.values, *columns))
 
     def _asked(self, distance: str | None) -> List[str]:
         return [*super()._asked(distance), f"--most={self.most}"]

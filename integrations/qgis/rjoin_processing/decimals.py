@@ -3,13 +3,23 @@
 rjoin compares decimal numbers, and a layer in QGIS has binary ones (IEEE 754 double). A coordinate
 is written exactly with k decimals where some decimal number of k decimals is read back as that
 coordinate. Division of two whole numbers is correctly rounded, so `n / 10**k == value` tests just
-that. The text of a coordinate is the shortest decimal number that is read back as it; rjoin rounds
-it to the decimals of the run (`--round`), which changes nothing where these write it exactly.
+that. Else a coordinate counts as the shortest decimal number that is read back as it, which is
+rounded half a unit away from zero, as rjoin does (`--round`).
 """
 from __future__ import annotations
 
 from decimal import ROUND_HALF_UP, Decimal
-from typing import Iterator, Sequence
+from typing import TYPE_CHECKING, Sequence, Union
+
+import numpy as np
+
+if TYPE_CHECKING:
+    from numpy.typing import NDArray
+
+    Numbers = NDArray[np.float64]
+    Units = NDArray[np.int64]
+    Flags = NDArray[np.bool_]
+    Coordinates = Union[Numbers, Sequence[float]]
 
 MOST_DECIMALS = 6
 LIMIT = 1_000_000_000_000
@@ -23,49 +33,65 @@ class CoordinateError(ValueError):
         self.place = place
 
 
-def fewest_decimals(coordinates: Sequence[float], least: int = 0) -> int:
+def fewest_decimals(coordinates: Coordinates, least: int = 0) -> int:
     """The fewest decimals, from `least` on, that write every coordinate exactly."""
+    numbers = np.asarray(coordinates, np.float64)
+    far = _out_of_range(numbers, LIMIT)
+    places = np.flatnonzero(~_are_exact(numbers, least))
     decimals = least
-    power = 10**decimals
-    for place, value in enumerate(coordinates):
-        _check_range(place, value, LIMIT)
-        while round(value * power) / power != value:
-            if decimals == MOST_DECIMALS:
-                raise CoordinateError(
-                    place, f"{value!r} isn't written exactly by {MOST_DECIMALS} decimals")
-            decimals += 1
-            power *= 10
+    while places.size and decimals < MOST_DECIMALS:
+        decimals += 1
+        places = places[~_are_exact(numbers[places], decimals)]
+    if far.size and not (places.size and places[0] < far[0]):
+        raise _too_far(numbers, int(far[0]), LIMIT)
+    if places.size:
+        place = int(places[0])
+        raise CoordinateError(
+            place, f"{float(numbers[place])!r} isn't written exactly by {MOST_DECIMALS} decimals")
     return decimals
 
 
-def check_limit(coordinates: Sequence[float], decimals: int) -> None:
+def _are_exact(numbers: Numbers, decimals: int) -> Flags:
+    power = 10.0**decimals
+    with np.errstate(invalid="ignore", over="ignore"):  # of numbers that aren't finite
+        nearest = numbers * power
+        np.rint(nearest, out=nearest)
+        nearest /= power
+    exact: Flags = nearest == numbers
+    return exact
+
+
+def check_limit(coordinates: Coordinates, decimals: int) -> None:
     """Raises CoordinateError at the first coordinate out of rjoin's range at these decimals."""
+    numbers = np.asarray(coordinates, np.float64)
     limit = LIMIT // 10**decimals
-    if max(coordinates, default=0) <= limit and min(coordinates, default=0) >= -limit:
-        return
-    for place, value in enumerate(coordinates):
-        _check_range(place, value, limit)
+    far = _out_of_range(numbers, limit)
+    if far.size:
+        raise _too_far(numbers, int(far[0]), limit)
 
 
-def _check_range(place: int, value: float, limit: int) -> None:
-    if not -limit <= value <= limit:
-        raise CoordinateError(place, f"{value!r} is out of range: the limit is {limit:,}, which "
-                                     "is lower the more decimals there are")
+def _out_of_range(numbers: Numbers, limit: int) -> Units:
+    """The places of numbers out of range."""
+    if numbers.min(initial=0.0) >= -limit and numbers.max(initial=0.0) <= limit:
+        return np.empty(0, np.int64)
+    return np.flatnonzero(~(np.abs(numbers) <= limit))
 
 
-def most_decimals(coordinates: Sequence[float]) -> int:
+def _too_far(numbers: Numbers, place: int, limit: int) -> CoordinateError:
+    return CoordinateError(place, f"{float(numbers[place])!r} is out of range: the limit is "
+                                  f"{limit:,}, which is lower the more decimals there are")
+
+
+def most_decimals(coordinates: Coordinates) -> int:
     """The most decimals at which all coordinates are in rjoin's range."""
-    reach = max((abs(value) for value in coordinates), default=0.0)
+    reach = np.abs(np.asarray(coordinates, np.float64)).max(initial=0.0)
     return max((decimals for decimals in range(MOST_DECIMALS + 1)
                 if reach <= LIMIT // 10**decimals), default=0)
 
 
-def rounded_places(coordinates: Sequence[float], decimals: int) -> Iterator[int]:
+def rounded_places(coordinates: Coordinates, decimals: int) -> Units:
     """The places of the coordinates that have more decimals."""
-    power = 10**decimals
-    for place, value in enumerate(coordinates):
-        if round(value * power) / power != value:
-            yield place
+    return np.flatnonzero(~_are_exact(np.asarray(coordinates, np.float64), decimals))
 
 
 def text(value: float) -> str:
@@ -77,6 +103,24 @@ def text(value: float) -> str:
 def in_units(value: float, decimals: int) -> int:
     """The coordinate in units of the last decimal, half a unit away from zero, as rjoin rounds."""
     return int(Decimal(repr(value)).scaleb(decimals).to_integral_value(ROUND_HALF_UP))
+
+
+def all_in_units(numbers: Numbers, decimals: int) -> Units:
+    """Coordinates in rjoin's range in units of the last decimal, as `in_units` has each.
+
+    Half an ulp lies between a number and its shortest decimal, and another between their products
+    with the power of ten; where half a unit is as near as that, the decimal itself is rounded.
+    """
+    scaled = np.abs(numbers) * 10.0**decimals
+    below = np.floor(scaled)
+    part = scaled - below
+    units: Units = (below + (part >= 0.5)).astype(np.int64)
+    unclear = np.abs(part - 0.5) <= scaled * 2.0**-50
+    if unclear.any():
+        values, places = np.unique(np.abs(numbers[unclear]), return_inverse=True)
+        units[unclear] = np.array([in_units(value, decimals) for value in values.tolist()],
+                                  np.int64)[places]
+    return np.where(numbers < 0, -units, units)
 
 
 def are_equal(one: float, other: float, decimals: int) -> bool:

@@ -1,60 +1,78 @@
 """The features of a join's output."""
 from __future__ import annotations
 
-from typing import Any, Iterator, List
+from itertools import islice
+from typing import Any, Iterator, List, Sequence
 
-from qgis.core import QgsFeature, QgsField
+import numpy as np
+from qgis.core import QgsFeature, QgsField, QgsGeometry
 from qgis.PyQt.QtCore import QVariant
 
-from .answers import JoinFields, Partners
+from .answers import BLOCK, JoinFields, Pairs
 
 
-def merged(answers: List[Partners]) -> Partners:
-    """Each pair of several answers once, in layer order."""
+def merged(answers: Sequence[Pairs], count: int) -> Pairs:
+    """Each pair of several answers once, in layer order; count: the features of the join layer."""
     if len(answers) == 1:
         return answers[0]
-    lefts = sorted(set().union(*answers))
-    return {left: sorted(set().union(*(answer.get(left, []) for answer in answers)))
-            for left in lefts}
+    left, right = (np.concatenate([answer[side] for answer in answers]) for side in (0, 1))
+    values = tuple([value for column in columns for value in column]
+                   for columns in zip(*(answer.values for answer in answers)))
+    _, places = np.unique(left * count + right, return_index=True)
+    return Pairs(left, right, values).chosen(places)
 
 
-def joined_features(added: JoinFields, right: List[List[Any]], partners: Partners,
+def joined_features(added: JoinFields, right: List[List[Any]], pairs: Pairs,
                     nothing: List[Any] | None) -> Iterator[QgsFeature]:
     """A feature for each pair; with `nothing`, the values of no partner, also one for each base
     feature without one."""
+    more = added.of_pairs(pairs)
+    counts = np.bincount(pairs.left, minlength=len(added.left.features)).tolist()
+    partners = map(right.__getitem__, _numbers(pairs.right))
     for number, feature in enumerate(added.left.features):
-        rows = [right[partner.number] + added.of_pair(number, partner)
-                for partner in partners.get(number, [])]
-        if nothing is not None and not rows:
-            rows = [nothing + added.of_lonely(number)]
-        for row in rows:
-            yield _with_attributes(feature, row)
+        if counts[number]:
+            geometry, own = feature.geometry(), feature.attributes()
+            for partner, values in zip(islice(partners, counts[number]), more):
+                joined = QgsFeature()  # not by `_feature`, as there are many
+                joined.setGeometry(geometry)
+                joined.setAttributes(own + partner + values)
+                yield joined
+        elif nothing is not None:
+            yield _feature(feature.geometry(),
+                           feature.attributes() + nothing + added.of_lonely(number))
 
 
-def lonely_features(added: JoinFields, partners: Partners) -> Iterator[QgsFeature]:
+def _numbers(numbers: Any) -> Iterator[int]:
+    """The numbers of an array, without a list of all of them."""
+    for begin in range(0, numbers.size, BLOCK):
+        yield from numbers[begin:begin + BLOCK].tolist()
+
+
+def lonely_features(added: JoinFields, pairs: Pairs) -> Iterator[QgsFeature]:
     """The base features without a partner."""
-    for number, feature in enumerate(added.left.features):
-        if number not in partners:
-            yield _with_attributes(feature, added.of_lonely(number))
+    is_lonely = np.ones(len(added.left.features), np.bool_)
+    is_lonely[pairs.left] = False
+    for number in np.flatnonzero(is_lonely).tolist():
+        feature = added.left.features[number]
+        yield _feature(feature.geometry(), feature.attributes() + added.of_lonely(number))
 
 
-def _with_attributes(feature: QgsFeature, more: List[Any]) -> QgsFeature:
-    joined = QgsFeature()
-    joined.setGeometry(feature.geometry())
-    joined.setAttributes(feature.attributes() + more)
-    return joined
+def _feature(geometry: QgsGeometry, attributes: List[Any]) -> QgsFeature:
+    feature = QgsFeature()
+    feature.setGeometry(geometry)
+    feature.setAttributes(attributes)
+    return feature
 
 
 def feature_id_field(title: str) -> QgsField:
     return QgsField(title, QVariant.LongLong)
 
 
-def pair_features(added: JoinFields, left: List[Any], right: List[Any], partners: Partners
+def pair_features(added: JoinFields, left: List[Any], right: List[Any], pairs: Pairs
                   ) -> Iterator[QgsFeature]:
     """A row without a geometry for each pair."""
-    for number, found in partners.items():
-        for partner in found:
-            pair = QgsFeature()
-            pair.setAttributes([left[number], right[partner.number],
-                                *added.of_pair(number, partner)])
-            yield pair
+    for one, other, values in zip(_numbers(pairs.left), _numbers(pairs.right),
+                                  added.of_pairs(pairs)):
+        pair = QgsFeature()
+        pair.setAttributes([left[one], right[other], *values])
+        yield pair

@@ -1,7 +1,6 @@
 """The base of the algorithms that join two layers: parameters, the run and its output."""
 from __future__ import annotations
 
-import csv
 from pathlib import Path
 from typing import Any, Dict, Iterator, List
 
@@ -26,7 +25,7 @@ from qgis.core import (
     QgsWkbTypes,
 )
 
-from . import joined, program
+from . import joined, program, report, sheet
 from .algorithm import (
     OTHERS,
     WORKERS,
@@ -37,10 +36,9 @@ from .algorithm import (
     faults_shown,
     with_fields,
 )
-from .answers import JoinFields, Partners
-from .conditions import Condition, Row
+from .answers import JoinFields, Pairs
+from .conditions import Condition
 from .layers import (
-    CHECK_EVERY,
     Layer,
     Others,
     attributes_of,
@@ -156,17 +154,18 @@ class _Run:
         left = self._read(self.left, "INPUT")
         right = self._read(self.right, "JOIN")
         self._check_complete(right)
-        partners = self._join(folder, left, right)
+        pairs = self._join(folder, left, right)
+        firsts = pairs.firsts()
         if self.method == FIRST_PARTNER_ALONE:
-            partners = {number: found[:1] for number, found in partners.items()}
-        results = self._write(left, right, partners)
+            pairs = pairs.chosen(firsts)
+        results = self._write(left, right, pairs)
         results.update(self.algorithm.write_left_out(
             self.parameters, "INPUT_LEFT_OUT", self.context, self.left, left))
         results.update(self.algorithm.write_left_out(
             self.parameters, "JOIN_LEFT_OUT", self.context, self.right, right))
-        results["PAIRS"] = sum(map(len, partners.values()))
-        results["JOINED_COUNT"] = len(partners)
-        results["UNJOINABLE_COUNT"] = len(left.features) - len(partners)
+        results["PAIRS"] = pairs.left.size
+        results["JOINED_COUNT"] = firsts.size
+        results["UNJOINABLE_COUNT"] = len(left.features) - firsts.size
         return results
 
     def _read(self, source: QgsProcessingFeatureSource, name: str) -> Layer:
@@ -190,7 +189,7 @@ class _Run:
             "partner of a base feature without one. Discard base features without a partner, "
             "or keep them, marked in the field known.")
 
-    def _join(self, folder: Path, left: Layer, right: Layer) -> Partners:
+    def _join(self, folder: Path, left: Layer, right: Layer) -> Pairs:
         feedback = self.steps.begin(f"Joining by {self.condition.title}")
         given = self.algorithm.given_decimals(self.parameters, self.context)
         decimals = self.condition.decimals([left, right], given, feedback)
@@ -199,41 +198,42 @@ class _Run:
             write_layer(path, layer, decimals)
             feedback.setProgress(40 if layer is left else 80)
         workers = self.algorithm.parameterAsInt(self.parameters, WORKERS, self.context)
+        digits = sheet.id_digits(len(left.features)), sheet.id_digits(len(right.features))
         found = []
         for number, (command, *words) in enumerate(self.condition.commands()):
-            report = folder / f"report{number}.csv"
+            path = folder / f"report{number}.csv"
             program.run([command, *map(str, paths), *words, *format_words([left, right], decimals),
-                         "--workers", str(workers)], report, feedback.isCanceled)
-            found.append(self.condition.partners(_rows(report, self.condition.column), left, right))
-        return joined.merged(found)
+                         "--workers", str(workers)], path, feedback.isCanceled)
+            rows = report.read(path, self.condition.column, digits)
+            found.append(self.condition.pairs(rows, left, right))
+        return joined.merged(found, len(right.features))
 
-    def _write(self, left: Layer, right: Layer, partners: Partners) -> Dict[str, Any]:
+    def _write(self, left: Layer, right: Layer, pairs: Pairs) -> Dict[str, Any]:
         feedback = self.steps.begin("Writing the output")
         added = JoinFields(left, right, self.condition.fields(), self.condition.meaning,
                            self.others == Others.ENVELOPE,
                            self.shows_incomplete and self.incomplete == INCOMPLETE_IS_MARKED)
         if self.method == PAIRS_ALONE:
-            output, features = self._pairs_alone(added, partners)
+            output, features = self._pairs_alone(added, pairs)
         else:
-            output, features = self._joined(added, partners)
-        count = sum(map(len, partners.values()))
+            output, features = self._joined(added, pairs)
+        count = pairs.left.size
         if added.has_exact:
-            inexact = sum(not added.is_exact(number, partner)
-                          for number, found in partners.items() for partner in found)
+            inexact = count - int(added.are_exact(pairs.left, pairs.right).sum())
             feedback.pushInfo("Pairs that rest on an envelope, where the field exact is false: "
                               f"{inexact} of {count}")
-        output.add(_shown(features, max(1, count), feedback))
+        output.add(features, lambda done: _goes_on(done / max(1, count), feedback))
         self.steps.check_cancelled()
-        return {**output.result(), **self._write_lonely(added, partners)}
+        return {**output.result(), **self._write_lonely(added, pairs)}
 
-    def _write_lonely(self, added: JoinFields, partners: Partners) -> Dict[str, Any]:
+    def _write_lonely(self, added: JoinFields, pairs: Pairs) -> Dict[str, Any]:
         output = self.algorithm.sink_of(
             self.parameters, NON_MATCHING, self.context,
             with_fields(self.left.fields(), added.flags()), self.system, self.left.wkbType())
-        output.add(joined.lonely_features(added, partners))
+        output.add(joined.lonely_features(added, pairs))
         return output.result()
 
-    def _joined(self, added: JoinFields, partners: Partners
+    def _joined(self, added: JoinFields, pairs: Pairs
                 ) -> tuple[Output, Iterator[QgsFeature]]:
         names = self.algorithm.parameterAsFields(self.parameters, "JOIN_FIELDS", self.context)
         places = _places(self.right.fields(), names)
@@ -245,9 +245,9 @@ class _Run:
                              added.fields())
         nothing = [None] * (len(places) + len(added.of_values)) if self.keeps_lonely else None
         return self._output(fields, self.left.wkbType()), joined.joined_features(
-            added, attributes_of(added.right, places), partners, nothing)
+            added, attributes_of(added.right, places), pairs, nothing)
 
-    def _pairs_alone(self, added: JoinFields, partners: Partners
+    def _pairs_alone(self, added: JoinFields, pairs: Pairs
                      ) -> tuple[Output, Iterator[QgsFeature]]:
         left_id = self.algorithm.parameterAsString(self.parameters, "INPUT_ID", self.context)
         right_id = self.algorithm.parameterAsString(self.parameters, "JOIN_ID", self.context)
@@ -257,7 +257,7 @@ class _Run:
             fields.append(field)
         return self._output(fields, QgsWkbTypes.NoGeometry), joined.pair_features(
             added, _ids(added.left, self.left.fields(), left_id),
-            _ids(added.right, self.right.fields(), right_id), partners)
+            _ids(added.right, self.right.fields(), right_id), pairs)
 
     def _output(self, fields: QgsFields, kind: int) -> Output:
         return self.algorithm.sink_of(self.parameters, "OUTPUT", self.context, fields, self.system,
@@ -277,16 +277,6 @@ def _common_system(left: QgsProcessingFeatureSource, right: QgsProcessingFeature
         feedback.pushWarning("One layer has no reference system; that of the other is taken: "
                              f"{system.authid()}")
     return system
-
-
-def _rows(report: Path, column: str) -> Iterator[Row]:
-    """The rows of a report, in its order."""
-    with open(report, encoding="ascii", newline="") as file:
-        rows = csv.reader(file)
-        if next(rows, None) != ["left", "right", column]:
-            raise program.ProgramError(f"{program.find_program()} wrote no report")
-        for left, right, text in rows:
-            yield Row(int(left), int(right), text)
 
 
 def _places(fields: QgsFields, names: List[str]) -> List[int]:
@@ -314,12 +304,7 @@ def _ids(layer: Layer, fields: QgsFields, name: str) -> List[Any]:
     return [feature.attribute(place) for feature in layer.features]
 
 
-def _shown(features: Iterator[QgsFeature], count: int, feedback: QgsProcessingFeedback
-           ) -> Iterator[QgsFeature]:
-    """Passes features on until the user cancels, and shows the progress."""
-    for number, feature in enumerate(features):
-        if number % CHECK_EVERY == 0:
-            if feedback.isCanceled():
-                return
-            feedback.setProgress(min(100.0, 100 * number / count))
-        yield feature
+def _goes_on(share: float, feedback: QgsProcessingFeedback) -> bool:
+    """Shows the progress, unless the user has cancelled."""
+    feedback.setProgress(min(100.0, 100 * share))
+    return not feedback.isCanceled()

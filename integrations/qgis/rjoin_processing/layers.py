@@ -1,31 +1,36 @@
 """Reads the features of a vector layer, and writes them as a layer file of rjoin."""
 from __future__ import annotations
 
-from array import array
-from bisect import bisect_right
 from dataclasses import dataclass, field
 from enum import IntEnum
+from functools import cached_property
 from pathlib import Path
-from typing import Any, List, NamedTuple, Sequence, Set
+from typing import TYPE_CHECKING, Any, List, NamedTuple, Sequence, Set
 
+import numpy as np
 from qgis.core import (
     QgsFeature,
     QgsFeatureRequest,
-    QgsGeometry,
     QgsProcessingException,
     QgsProcessingFeatureSource,
     QgsProcessingFeedback,
 )
 
+from . import columns, sheet
 from . import decimals as units
 from .boxes import Box, NotABox, box_of
-from .shapes import Form, NotRead, shape_of
+from .columns import Columns
+from .shapes import NotRead, shape_of
 from .wkb import Kind
+
+if TYPE_CHECKING:
+    from .columns import Flags, Numbers, Places
 
 # How rjoin reads layers that have other geometries than boxes.
 SHAPES = ("--geometry", "any", "--rings", "even-odd")
 CHECK_EVERY = 1000
-NUMBERS_A_BOX = 4
+# How many features are read at once.
+BLOCK = 1 << 12
 MOST_NAMED = 5
 
 
@@ -64,57 +69,91 @@ class LeftOut(NamedTuple):
 class Layer:
     """The features of a source that take part, in its order, and those that don't.
 
-    The number of a feature, by which rjoin knows it, is its place in `features`. Its coordinates
-    begin at its place in `starts`; a feature without a form is a box and has its four bounds.
-    `envelopes` has the numbers of those whose envelope stands in for their shape.
+    The number of a feature, by which rjoin knows it, is its place in `features`, and that of its
+    geometry in `columns`. `envelopes` has the numbers of those whose envelope stands in for their
+    shape.
     """
 
     name: str
     rules: Rules
     features: List[QgsFeature] = field(default_factory=list)
-    forms: List[Form | None] = field(default_factory=list)
-    starts: "array[int]" = field(default_factory=lambda: array("q"))
-    coordinates: "array[float]" = field(default_factory=lambda: array("d"))
+    parts: List[Columns] = field(default_factory=list)
     left_out: List[LeftOut] = field(default_factory=list)
     envelopes: Set[int] = field(default_factory=set)
-    has_shapes: bool = False
+
+    @cached_property
+    def columns(self) -> Columns:
+        """The geometries, once all are read."""
+        parts, self.parts = self.parts, []
+        return columns.joined(parts) if parts else columns.nothing()
+
+    @cached_property
+    def has_shapes(self) -> bool:
+        """Whether some are more than boxes."""
+        return bool((self.columns.form != columns.BOX).any())
+
+    @property
+    def coordinates(self) -> Numbers:
+        """All coordinates, x and y in turn."""
+        return self.columns.points.reshape(-1)
 
     def label(self, feature: QgsFeature) -> str:
         """How messages name a feature."""
         return f"{self.name}, feature {feature.id()}"
 
-    def feature_at(self, place: int) -> int:
-        """The number of the feature that a place in the coordinates belongs to."""
-        return bisect_right(self.starts, place) - 1
+    def features_at(self, places: Places) -> Places:
+        """The numbers of the features that places in the coordinates belong to."""
+        ends = np.cumsum(self.columns.size)
+        return np.searchsorted(ends, places // 2, side="right")
 
-    def add(self, feature: QgsFeature) -> None:
-        """Takes a feature in or leaves it out."""
-        geometry = feature.geometry()
+    def add(self, features: List[QgsFeature]) -> None:
+        """Takes features in or leaves them out."""
+        wkbs = [feature.geometry().asWkb().data() for feature in features]
+        found, certain = columns.read(wkbs, self.rules.decimals)
+        invalid = self._are_invalid(features, found)
+        begin = 0
+        for place in np.flatnonzero(~certain | invalid).tolist():
+            self._append(features[begin:place], found.part(begin, place))
+            begin = place + 1
+            if invalid[place]:
+                self._add_invalid(features[place])
+            else:
+                self._add_one(features[place], wkbs[place])
+        self._append(features[begin:], found.part(begin, len(features)))
+
+    def _are_invalid(self, features: List[QgsFeature], found: Columns) -> Flags:
+        """Which polygons the rules call invalid."""
+        invalid = np.zeros(len(features), np.bool_)
+        if self.rules.invalid != Invalid.EVEN_ODD:
+            places = np.flatnonzero(found.form == Kind.MULTI_POLYGON)
+            invalid[places] = [not features[place].geometry().isGeosValid()
+                               for place in places.tolist()]
+        return invalid
+
+    def _append(self, features: List[QgsFeature], found: Columns) -> None:
+        if features:
+            self.features += features
+            self.parts.append(found)
+
+    def _add_one(self, feature: QgsFeature, wkb: bytes) -> None:
+        """Takes a feature in or leaves it out, of which nothing is known."""
         try:
-            if geometry.isNull():
+            if feature.geometry().isNull():
                 raise NotRead("no geometry")
-            wkb = geometry.asWkb().data()
             try:
-                self._append(feature, None, box_of(wkb))
+                self._append([feature], columns.of_box(box_of(wkb)))
             except NotABox:
-                self._add_shape(feature, geometry, wkb)
+                self._add_shape(feature, wkb)
         except NotRead as reason:
             self._add_other(feature, str(reason))
 
-    def _add_shape(self, feature: QgsFeature, geometry: QgsGeometry, wkb: bytes) -> None:
-        form, coordinates = shape_of(wkb, self.rules.decimals)
-        if form.kind == Kind.POLYGON and self.rules.invalid != Invalid.EVEN_ODD and (
-                not geometry.isGeosValid()):
+    def _add_shape(self, feature: QgsFeature, wkb: bytes) -> None:
+        shape = shape_of(wkb, self.rules.decimals)
+        if shape.form.kind == Kind.POLYGON and self.rules.invalid != Invalid.EVEN_ODD and (
+                not feature.geometry().isGeosValid()):
             self._add_invalid(feature)
-            return
-        self.has_shapes = True
-        self._append(feature, form, coordinates)
-
-    def _append(self, feature: QgsFeature, form: Form | None, coordinates: Sequence[float]) -> None:
-        self.features.append(feature)
-        self.forms.append(form)
-        self.starts.append(len(self.coordinates))
-        self.coordinates.extend(coordinates)
+        else:
+            self._append([feature], columns.of_shape(shape))
 
     def _add_invalid(self, feature: QgsFeature) -> None:
         if self.rules.invalid == Invalid.STOP:
@@ -130,8 +169,8 @@ class Layer:
         if self.rules.others == Others.ENVELOPE and has_envelope and (
                 not feature.geometry().isEmpty()):
             self.envelopes.add(len(self.features))
-            self._append(feature, None, Box(bounds.xMinimum(), bounds.yMinimum(),
-                                            bounds.xMaximum(), bounds.yMaximum()))
+            self._append([feature], columns.of_box(Box(
+                bounds.xMinimum(), bounds.yMinimum(), bounds.xMaximum(), bounds.yMaximum())))
         elif self.rules.others == Others.STOP:
             raise QgsProcessingException(
                 f"{self.label(feature)}: not points, lines or polygons that rjoin reads, but "
@@ -146,12 +185,17 @@ def read_layer(source: QgsProcessingFeatureSource, rules: Rules, feedback: QgsPr
     layer = Layer(source.sourceName(), rules)
     count = max(source.featureCount(), 1)
     flags = QgsProcessingFeatureSource.FlagSkipGeometryValidityChecks  # `Layer` has its own
+    waiting: List[QgsFeature] = []
     for number, feature in enumerate(source.getFeatures(QgsFeatureRequest(), flags)):
         if number % CHECK_EVERY == 0:
             if feedback.isCanceled():
                 break
             feedback.setProgress(min(100.0, 100 * number / count))
-        layer.add(feature)
+        waiting.append(feature)
+        if len(waiting) == BLOCK:
+            layer.add(waiting)
+            waiting = []
+    layer.add(waiting)
     return layer
 
 
@@ -195,17 +239,18 @@ def common_decimals(layers: List[Layer], given: int | None, feedback: QgsProcess
 
 
 def _text(layer: Layer, fault: units.CoordinateError, more: str) -> str:
-    feature = layer.features[layer.feature_at(fault.place)]
+    (number,) = layer.features_at(np.array([fault.place]))
+    feature = layer.features[number]
     return f"{layer.label(feature)}: coordinate {fault}{more}"
 
 
 def _tell_rounded(layer: Layer, decimals: int, feedback: QgsProcessingFeedback) -> None:
     units.check_limit(layer.coordinates, decimals)
     places = units.rounded_places(layer.coordinates, decimals)
-    rounded = {layer.feature_at(place) for place in places}
-    if rounded:
+    rounded = np.unique(layer.features_at(places))
+    if rounded.size:
         feedback.pushWarning(f"{layer.name}: features with coordinates rounded to {decimals} "
-                             f"decimals: {len(rounded)}")
+                             f"decimals: {rounded.size}")
 
 
 def format_words(layers: Sequence[Layer], decimals: int) -> List[str]:
@@ -217,17 +262,8 @@ def format_words(layers: Sequence[Layer], decimals: int) -> List[str]:
 
 
 def write_layer(path: Path, layer: Layer, decimals: int) -> None:
-    """Writes the geometries, which rjoin will round to the decimals, with their numbers as ids."""
-    numbers = iter(layer.coordinates)
-    with open(path, "w", encoding="ascii", newline="\n") as file:
-        file.write("id,wkt\n")
-        for number, form in enumerate(layer.forms):
-            if form is None:
-                text = wkt(Box(next(numbers), next(numbers), next(numbers), next(numbers)),
-                           decimals)
-            else:
-                text = form.wkt(map(units.text, numbers))
-            file.write(f'{number},"{text}"\n')
+    """Writes the geometries, rounded to the decimals, with their numbers as ids."""
+    sheet.write(path, layer.columns, decimals)
 
 
 def wkt(box: Box, decimals: int) -> str:
@@ -246,5 +282,7 @@ def wkt(box: Box, decimals: int) -> str:
 
 def attributes_of(layer: Layer, places: List[int]) -> List[List[Any]]:
     """The attributes of each feature at some places of its fields, in the order of the layer."""
+    if layer.features and places == list(range(layer.features[0].fields().count())):
+        return [feature.attributes() for feature in layer.features]
     return [[values[place] for place in places]
             for values in (feature.attributes() for feature in layer.features)]

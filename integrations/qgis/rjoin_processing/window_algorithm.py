@@ -152,7 +152,7 @@ def _window_decimals(layer: Layer, bounds: Box, least: int, feedback: QgsProcess
 
 
 def _is_rounded(bounds: Box, decimals: int) -> bool:
-    return next(units.rounded_places(bounds, decimals), None) is not None
+    return units.rounded_places(bounds, decimals).size > 0
 
 
 def _narrowed(bounds: Box, decimals: int) -> Box:
