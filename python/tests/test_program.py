@@ -3,7 +3,6 @@ from __future__ import annotations
 
 import os
 import pickle
-import re
 import signal
 import subprocess
 import sys
@@ -201,7 +200,7 @@ def test_the_environment_is_handed_on(monkeypatch: Any, real: str, tmp_path: Pat
                                            f'env >{tmp_path}/env; exec "{real}" "$@"')))
     monkeypatch.setenv("OF_THE_CALLER", "1")
     monkeypatch.delenv("GLIBC_TUNABLES", raising=False)
-    for tunables in (program.TUNABLES, "glibc.malloc.arena_max=7"):
+    for tunables in (program.tunables([]), "glibc.malloc.arena_max=7"):
         rjoin.relate("POINT (0 0)", "POINT (0 0)")
         lines = (tmp_path / "env").read_text().splitlines()
         assert "OF_THE_CALLER=1" in lines and f"GLIBC_TUNABLES={tunables}" in lines
@@ -340,6 +339,10 @@ def test_the_command_tells_its_version(capsys: Any) -> None:
 
 
 def test_memory_is_taken_as_the_launcher_says() -> None:
-    text = (TOP / "packaging/launch.sh").read_text()
-    settings = re.findall(r"glibc\.malloc\.\w+=\d+", text)
-    assert settings and program.TUNABLES == ":".join(settings)
+    launch = '. "$1"; shift; launch "$@"'
+    print_it = ["sh", "-c", 'echo "$GLIBC_TUNABLES"']
+    env = {name: value for name, value in os.environ.items() if name != "GLIBC_TUNABLES"}
+    for words in (["a.csv"], ["--geometry", "any"], ["--geometry=any"], ["many.csv", "any.csv"]):
+        called = ["sh", "-c", launch, "sh", str(TOP / "packaging/launch.sh"), *print_it, *words]
+        taken = subprocess.run(called, env=env, stdout=subprocess.PIPE, check=True, text=True)
+        assert taken.stdout == program.tunables(words) + "\n"

@@ -17,7 +17,7 @@ import pandas
 import pytest
 
 import rjoin
-from rjoin import outlines, sources
+from rjoin import outlines, shapes, sources
 
 geopandas = pytest.importorskip("geopandas")
 shapely = pytest.importorskip("shapely")
@@ -265,6 +265,49 @@ def test_outlines_are_read_and_written_alike_in_parts(monkeypatch: Any, chunk: i
     assert list(zip(found["left"], found["right"])) == expected
     beside_texts = rjoin.pairs(left, right.geometry.to_wkt())
     pandas.testing.assert_frame_equal(beside_texts, found)
+
+
+def read(geometries: List[Any]) -> Tuple[List[Any], ...]:
+    """What is known of geometries: their status, corners if they are boxes, and outlines."""
+    values = np.fromiter(geometries, object)
+    boxes = shapes.boxes_of(values)
+    found = outlines.outlines_of(boxes.given, np.flatnonzero(boxes.status <= shapes.Status.ANY))
+    is_box = boxes.status == shapes.Status.BOX
+    columns = (boxes.status, boxes.corners[is_box], *found)
+    return tuple(np.asarray(column).tolist() for column in columns)
+
+
+SIMPLE = ("POINT (1 2)", "POINT Z (3 4 5)", "LINESTRING (0 0, 3 3)", "LINESTRING (0 0, 0 2, 0 5)",
+          "LINESTRING Z (0 0 9, 2 0 8)", "LINEARRING (0 0, 2 0, 2 2, 0 0)",
+          "POLYGON ((0 0, 4 0, 0 4, 0 0))", "POLYGON ((0 0, 4 0, 4 4, 0 4, 0 0))",
+          "POLYGON Z ((0 0 1, 4 0 1, 4 2 1, 4 4 1, 0 4 1, 0 0 1))",
+          "POLYGON ((0 0, 4 0, 4 2, 2 2, 2 4, 0 4, 0 0))")
+HOLED = "POLYGON ((0 0, 8 0, 8 8, 0 8, 0 0), (2 2, 4 2, 2 4, 2 2))"
+
+
+def test_points_that_are_copied_are_those_of_binary(monkeypatch: Any) -> None:
+    """Of layers of one part each without holes, by GEOS or Shapely, beside well-known binary."""
+    texts = [text for place in range(40) for text in SIMPLE[:place % len(SIMPLE) + 1]]
+    geometries = [wkt.loads(text) for text in texts]
+    simple_layer = shapes.simple_of(np.fromiter(geometries, object))
+    assert simple_layer is not None and len(simple_layer.points) == simple_layer.size.sum()
+    copied = read(geometries), read([wkt.loads("LINESTRING (0 0, 3 3)")]), read([])
+    for others in ([HOLED], ["MULTIPOINT (1 2)"], [HOLED, *SIMPLE], [*SIMPLE, HOLED],
+                   ["POINT EMPTY"], ["POINT (0 0)", "GEOMETRYCOLLECTION EMPTY"]):
+        assert shapes.simple_of(np.fromiter(map(wkt.loads, others), object)) is None or (
+            others == ["POINT EMPTY"])
+    monkeypatch.setattr(shapes, "simple_of", lambda _: None)
+    assert copied == (read(geometries), read([wkt.loads("LINESTRING (0 0, 3 3)")]), read([]))
+
+
+def test_numbers_that_are_not_finite_are_refused() -> None:
+    """Of lines whose first step is slanted too."""
+    for number in (np.inf, -np.inf, np.nan):
+        for points in ([(0, 0), (1, number)], [(0, 0), (2, 3), (number, 4)]):
+            layer = geopandas.GeoSeries([shapely_geometry.LineString([(0, 0), (1, 1)]),
+                                         shapely_geometry.LineString(points)])
+            with pytest.raises(rjoin.InputError, match="not finite"):
+                rjoin.stats(layer)
 
 
 def test_a_geometry_with_very_many_parts_is_read() -> None:

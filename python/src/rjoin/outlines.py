@@ -301,18 +301,22 @@ class Table(NamedTuple):
         return text
 
     def written_points(self) -> Bytes:
-        x, y = (sheet.written(self.units[:, axis], column)
-                for axis, column in enumerate((self.columns.x, self.columns.y)))
-        return np.hstack([x, np.full((len(x), 1), ord(" "), np.uint8), y])
+        x, y = self.columns.x, self.columns.y
+        rows = np.empty((len(self.units), self.point_width), np.uint8)
+        sheet.fill(rows, 0, self.units[:, 0], x)
+        rows[:, x.width] = ord(" ")
+        sheet.fill(rows, x.width + 1, self.units[:, 1], y)
+        return rows
 
 
 def put(text: Bytes, places: Places, rows: Bytes) -> None:
     """Writes rows of bytes at some places of a text."""
     if places.size:
-        sliding_window_view(text, rows.shape[1], writeable=True)[places] = rows
+        width = rows.shape[1]
+        sheet.words_in(text, width)[places] = sheet.words_of(rows, 0, width)
 
 
 def put_same(text: Bytes, places: Places, word: bytes) -> None:
     """Writes a word at some places of a text."""
     if places.size:
-        sliding_window_view(text, len(word), writeable=True)[places] = np.frombuffer(word, np.uint8)
+        sheet.words_in(text, len(word))[places] = np.frombuffer(word, f"V{len(word)}")

@@ -14,8 +14,7 @@ Word = Union[str, "os.PathLike[str]"]
 
 # How the C library should take memory for large layers: as the repository's launcher has it.
 TUNABLES = ":".join("glibc.malloc." + setting for setting in (
-    "hugetlb=1", "arena_max=2", "top_pad=4194304", "mmap_threshold=4194304",
-    "trim_threshold=4294967296"))
+    "hugetlb=1", "top_pad=4194304", "mmap_threshold=4294967296", "trim_threshold=4294967296"))
 
 
 class InputFault(Exception):
@@ -74,9 +73,16 @@ def run(words: Sequence[Word], output: Union[int, IO[bytes]] = subprocess.PIPE) 
     return Answer(answer or b"", errors.decode(errors="replace"))
 
 
+def tunables(words: Sequence[Word]) -> str:
+    """How the C library should take memory for a run with these words: geometries of any kind are
+    many short lists, for which threads would wait at one arena."""
+    arenas = 2 if "any" in words or "--geometry=any" in words else 1
+    return f"{TUNABLES}:glibc.malloc.arena_max={arenas}"
+
+
 def ended(words: Sequence[Word], output: Union[int, IO[bytes]]) -> Tuple[int, bytes, bytes]:
     """How a program ended, and what it wrote; an exception meanwhile ends it too."""
-    environment = {"GLIBC_TUNABLES": TUNABLES, **os.environ}
+    environment = {"GLIBC_TUNABLES": tunables(words), **os.environ}
     started = []
     try:
         with signals.held():

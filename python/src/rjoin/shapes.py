@@ -7,7 +7,8 @@ from __future__ import annotations
 
 import ctypes
 import enum
-from typing import Iterator, List, NamedTuple, Optional, Tuple, Union
+from itertools import repeat
+from typing import Any, Iterable, Iterator, List, NamedTuple, Optional, Tuple, Union
 
 import numpy as np
 import pandas
@@ -24,6 +25,10 @@ CHUNK = 1 << 16
 POINT_BYTES = 16
 BYTES_AT = ctypes.PYFUNCTYPE(ctypes.py_object, ctypes.c_void_p, ctypes.c_ssize_t)(
     ("PyBytes_FromStringAndSize", ctypes.pythonapi))
+
+
+# The types of the arguments of GEOS: handles, geometries, places, and two flags.
+WORDS = (ctypes.c_void_p,) * 3 + (ctypes.c_int,) * 2
 
 
 class Status(enum.IntEnum):
@@ -114,7 +119,7 @@ def boxes_of(geometries: Objects, all_envelopes: bool = False) -> Boxes:
     """
     simple = simple_of(geometries)
     if simple is not None:
-        return boxes_of_simple(simple)
+        return boxes_of_simple(simple, all_envelopes)
     texts = binary_of(geometries)
     lengths = np.fromiter(map(len, texts), np.int64, len(texts))
     data = np.frombuffer(b"".join([*texts, bytes(32)]), np.uint8)
@@ -136,11 +141,11 @@ def boxes_of(geometries: Objects, all_envelopes: bool = False) -> Boxes:
 
 
 def simple_of(geometries: Objects) -> Optional[Simple]:
-    """Geometries by their points, where Shapely 2 is there and all are of one part."""
+    """Geometries by their points, where all are there and of one part without a hole."""
     import shapely
 
     if not hasattr(shapely, "get_coordinates"):
-        return None
+        return simple_by_geos(geometries)
     kind = KIND_OF_TYPE[shapely.get_type_id(geometries)]
     if not kind.all() or shapely.get_num_interior_rings(geometries).any():
         return None
@@ -148,14 +153,73 @@ def simple_of(geometries: Objects) -> Optional[Simple]:
     return Simple(kind, shapely.get_coordinates(geometries), size)
 
 
-def boxes_of_simple(simple: Simple) -> Boxes:
+def simple_by_geos(geometries: Objects) -> Optional[Simple]:
+    """The same for geometries of Shapely 1.8, whose points GEOS copies if it is 3.10 or later.
+
+    Only the outer ring of a polygon is copied: where it has others, no points are there at the end.
+    """
+    from shapely import geometry
+    from shapely.geos import lgeos
+
+    types = (geometry.Point, geometry.LineString, geometry.LinearRing, geometry.Polygon)
+    kinds = dict(zip(types, KIND_OF_TYPE.tolist()))
+    kind = np.fromiter(map(kinds.get, map(type, geometries), repeat(0)), np.int64, geometries.size)
+    library = ctypes.PyDLL(lgeos._lgeos._name)
+    if not kind.all() or not hasattr(library, "GEOSCoordSeq_copyToBuffer_r"):
+        return None
+    pointers = [one.__geom__ for one in geometries]
+    if None in pointers:
+        return None
+
+    def called(name: str, *columns: Iterable[int], returns: Any = ctypes.c_void_p) -> List[int]:
+        """What GEOS returns for each geometry."""
+        function = library[name + "_r"]
+        function.restype, function.argtypes = returns, WORDS[:1 + len(columns)]
+        return list(map(function, repeat(lgeos.geos_handle), *columns))
+
+    size = np.array(called("GEOSGetNumCoordinates", pointers, returns=ctypes.c_int), np.int64)
+    areas = np.flatnonzero(kind == Kind.POLYGON)
+    lines = np.array(pointers, np.uint64)
+    lines[areas] = called("GEOSGetExteriorRing", lines[areas].tolist())
+    points = np.full((int(size.sum()), 2), np.nan)
+    ends = np.cumsum(size)
+    places = (points.ctypes.data + POINT_BYTES * (ends - size)).tolist()
+    sequences = called("GEOSGeom_getCoordSeq", lines.tolist())
+    copied = called("GEOSCoordSeq_copyToBuffer", sequences, places, repeat(0), repeat(0),
+                    returns=ctypes.c_int)
+    full = all(copied) and not np.isnan(points[ends[size > 0] - 1]).any()
+    return Simple(kind, points, size) if full else None
+
+
+def boxes_of_simple(simple: Simple, all_envelopes: bool) -> Boxes:
+    """Of geometries with a slanted step, which are no boxes, corners are found if all are wanted.
+
+    Their numbers may not be finite.
+    """
     start = POINT_BYTES * (np.cumsum(simple.size) - simple.size)
     all_of_them = np.ones(simple.size.size, np.bool_)
     bodies = Bodies(start, simple.kind, simple.size, start, all_of_them, all_of_them)
     data = simple.points.reshape(-1).view(np.uint8)
-    corners, status = read_boxes(data, bodies, simple.size > 0)
+    chosen = simple.size > 0
+    if not all_envelopes:
+        chosen &= ~have_slanted_steps(simple)
+    corners, status = read_boxes(data, bodies, chosen)
     status[simple.size == 0] = Status.EMPTY
     return Boxes(corners, status, simple)
+
+
+def have_slanted_steps(simple: Simple) -> Flags:
+    """Which geometries have a step along neither axis, or to a number that isn't finite."""
+    x, y = (np.ascontiguousarray(simple.points[:, axis]) for axis in (0, 1))
+    slanted = np.zeros(len(x) + 1, np.bool_)
+    np.logical_and(x[1:] != x[:-1], y[1:] != y[:-1], out=slanted[1:-1])
+    begins = np.cumsum(simple.size) - simple.size
+    slanted[begins] = False
+    there = simple.size > 0
+    flags: Flags = np.zeros(there.size, np.bool_)
+    if there.any():
+        flags[there] = np.logical_or.reduceat(slanted, begins[there])
+    return flags
 
 
 def are_empty(geometries: Objects) -> Flags:

@@ -8,7 +8,6 @@ from functools import lru_cache
 from typing import IO, Any, List, NamedTuple, Sequence, Tuple, Union
 
 import numpy as np
-from numpy.lib.stride_tricks import sliding_window_view
 from numpy.typing import NDArray
 
 Units = NDArray[np.int64]
@@ -116,8 +115,8 @@ def lines(ids: Units, units: Units, forms: Units, columns: Columns) -> Bytes:
         rows = np.flatnonzero(forms == number)
         if rows.size:
             width = width_of(form, columns)
-            places = sliding_window_view(text, width, writeable=True)
-            places[ends[rows] - width] = filled(form, [field[rows] for field in numbers])
+            lines_of_form = filled(form, [field[rows] for field in numbers])
+            words_in(text, width)[ends[rows] - width] = words_of(lines_of_form, 0, width)
     return text
 
 
@@ -129,26 +128,51 @@ def fields(ids: Units, units: Units, columns: Columns) -> List[Bytes]:
 
 def filled(form: Sequence[Part], numbers: Sequence[Bytes]) -> Bytes:
     """The lines of boxes of one form."""
-    count = len(numbers[ID])
-    parts = [np.broadcast_to(np.frombuffer(part, np.uint8), (count, len(part)))
-             if isinstance(part, bytes) else numbers[part] for part in form]
-    return np.hstack(parts)
+    widths = [len(part) if isinstance(part, bytes) else numbers[part].shape[1] for part in form]
+    rows = np.empty((len(numbers[ID]), sum(widths)), np.uint8)
+    place = 0
+    for part, width in zip(form, widths):
+        theirs = np.frombuffer(part, f"V{width}") if isinstance(part, bytes) else words_of(
+            numbers[part], 0, width)
+        words_of(rows, place, width)[:] = theirs
+        place += width
+    return rows
 
 
 def written(numbers: Units, column: Column) -> Bytes:
     """The numbers of a column, a row of bytes each."""
-    digits = digits_of(np.abs(numbers), column.digits)
-    parts = [digits]
-    if column.decimals:
-        dot = np.full((len(numbers), 1), ord("."), np.uint8)
-        parts = [digits[:, :-column.decimals], dot, digits[:, -column.decimals:]]
+    rows = np.empty((len(numbers), column.width), np.uint8)
+    fill(rows, 0, numbers, column)
+    return rows
+
+
+def fill(rows: Bytes, place: int, numbers: Units, column: Column) -> None:
+    """Writes the numbers of a column into rows of bytes, from a place of each on."""
+    digits = digits_of(np.abs(numbers) if column.signed else numbers, column.digits)
+    begin = digits.shape[1] - column.digits
     if column.signed:
-        parts.insert(0, np.where(numbers < 0, ord("-"), ord("0")).astype(np.uint8)[:, np.newaxis])
-    return np.hstack(parts) if len(parts) > 1 else digits
+        rows[:, place] = np.where(numbers < 0, ord("-"), ord("0"))
+        place += 1
+    whole = column.digits - column.decimals
+    words_of(rows, place, whole)[:] = words_of(digits, begin, whole)
+    if column.decimals:
+        rows[:, place + whole] = ord(".")
+        words_of(rows, place + whole + 1, column.decimals)[:] = words_of(digits, begin + whole,
+                                                                         column.decimals)
+
+
+def words_of(rows: Bytes, place: int, width: int) -> NDArray[Any]:
+    """Some bytes of each row as one value, which NumPy copies faster than one by one."""
+    return np.ndarray(len(rows), f"V{width}", rows, place, rows.strides[:1])
+
+
+def words_in(text: Bytes, width: int) -> NDArray[Any]:
+    """The words of so many bytes that begin at each place of a text, each as one value."""
+    return np.ndarray(len(text) - width + 1, f"V{width}", text, 0, (1,))
 
 
 def digits_of(numbers: Units, count: int) -> Bytes:
-    """The last digits of numbers that are not negative, taken from a table by four.
+    """At least the last digits of numbers that are not negative, taken from a table by four.
 
     NumPy divides short numbers faster, and takes words faster than texts.
     """
@@ -159,7 +183,7 @@ def digits_of(numbers: Units, count: int) -> Bytes:
         high = rest // 10 ** GROUP
         text[:, group] = digit_groups()[rest - high * 10 ** GROUP]
         rest = high
-    return text.view(np.uint8).reshape(len(numbers), groups * GROUP)[:, -count:]
+    return text.view(np.uint8).reshape(len(numbers), groups * GROUP)
 
 
 @lru_cache(maxsize=None)

@@ -248,12 +248,14 @@ class GeometrySource(Source):
     def columns(self, scale: Scale) -> sheet.Columns:
         return sheet.columns_of(self.units(scale), scale.dots_before, self.count, scale.extra)
 
-    def size(self, scale: Scale) -> int:
-        """The bytes of the layer's file."""
-        return len(sheet.HEADER) + self.body.size(self.units(scale), self.columns(scale))
+    def size(self, scale: Scale, columns: Optional[sheet.Columns] = None) -> int:
+        """The bytes of the layer's file, by its columns if they are known."""
+        columns = columns or self.columns(scale)
+        return len(sheet.HEADER) + self.body.size(self.units(scale), columns)
 
     def write(self, folder: Path, scale: Scale) -> Path:
-        columns, size = self.columns(scale), self.size(scale)
+        columns = self.columns(scale)
+        size = self.size(scale, columns)
         self.id_digits = columns.id.digits
         if size > sheet.MOST_BYTES:
             raise InputError(self.side, f"{self.count} features with coordinates of this "

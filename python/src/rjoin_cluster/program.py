@@ -30,7 +30,7 @@ TUNABLES = ":".join(
         "hugetlb=1",
         "arena_max=2",
         "top_pad=4194304",
-        "mmap_threshold=4194304",
+        "mmap_threshold=4294967296",
         "trim_threshold=4294967296",
     )
 )
