@@ -38,8 +38,9 @@ mount -t proc proc "$0/proc"
 mount --rbind /dev "$0/dev"
 mkdir "$0/checkout"
 mount --bind "$1" "$0/checkout"
-cp "$2" "$0/usr/bin/rjoin"
-exec chroot "$0" env -i PATH=/usr/bin:/bin LANG=C.UTF-8 RJOIN=/usr/bin/rjoin PYTHONPATH=/checkout/python/src \
+# not on the PATH: tests of a missing program would find it there
+cp "$2" "$0/checked-rjoin"
+exec chroot "$0" env -i PATH=/usr/bin:/bin LANG=C.UTF-8 RJOIN=/checked-rjoin PYTHONPATH=/checkout/python/src \
     PYTHONDONTWRITEBYTECODE=1 sh -c 'python3 /checkout/check/geopandas_tests.py &&
     python3 -m pytest -q -p no:cacheprovider -c /checkout/python/pyproject.toml /checkout/python/tests'
 """
