@@ -13,7 +13,8 @@ module _ {G P : Type 0} (form_of : G → P) where
   of_found None g p is same = absurd (let not = is in cc)
   of_found (Some f) g p is same = let shape : Some g.now ≡ Some f.shape = is in cc
 
-  of_shape : (layer : Contents G) (n : ℕ) (g : Bor G) (p : P) → ShapeIs (Some g) (with_number n layer) → p ≡ form_of g.now → FormIs form_of layer n p
+  -- the form of a geometry that was found under a number
+  pub of_shape : (layer : Contents G) (n : ℕ) (g : Bor G) (p : P) → ShapeIs (Some g) (with_number n layer) → p ≡ form_of g.now → FormIs form_of layer n p
   of_shape layer n g p is same = of_found (with_number n layer) g p is same
 
   -- one more feature

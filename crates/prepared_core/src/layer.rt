@@ -1,5 +1,5 @@
-//! The geometries of a layer of a join, with those prepared that are large and occur in several
-//! pairs.
+//! The geometries of a layer of a join, with those prepared that are large, or that are large and
+//! occur in several pairs.
 
 ghost use Rattle.std.specs.Prelude.{IfOk, OnOk};
 ghost use Rattle.prepared_core.specs.Prepared.{ArePrepared};
@@ -10,8 +10,9 @@ use often_core::{Side, met_often};
 use std::alloc::{AllocError, Global};
 use std::marker::{Model, PhantomData};
 
-/// The fewest vertices of a geometry that is prepared. A smaller one is prepared anew for each pair
-/// that needs it: this takes little time, while the forms of all of them would take much memory.
+/// The fewest vertices of a geometry that is prepared for several pairs. A smaller one is prepared
+/// anew for each pair that needs it: this takes little time, while the forms of all of them would
+/// take much memory.
 const LARGE: usize = 32;
 
 /// A feature whose geometry is prepared.
@@ -21,9 +22,9 @@ struct PreparedFeature<P> {
     geometry: P,
 }
 
-/// A layer of a join. Large geometries that occur in several pairs are prepared, so that each is
-/// prepared once, to the form `P` and by the preparation `M`. In contracts its value is the layer's
-/// list of features.
+/// A layer of a join. Large geometries, or those of them that occur in several pairs, are prepared,
+/// so that each is prepared once, to the form `P` and by the preparation `M`. In contracts its
+/// value is the layer's list of features.
 ///
 /// The prepared features are a sparse set (Briggs and Torczon, "An efficient representation for
 /// sparse sets", 1993, section 2): `places` has the place of each of them in `features` under its
@@ -63,9 +64,35 @@ impl<'a, G: Geometry, P: Drop, M: Prepare<'a, G, P>> PreparedLayer<'a, G, P, M> 
     ) -> Result<PreparedLayer<'a, G, P, M>, AllocError>
         ensures { IfOk result (λ p. p ≡ layer.now.list) }
     {
-        let large = large_features::<G, P, M>(alloc, layer)?;
+        let large = large_features::<G, P, M>(alloc, layer, LARGE)?;
         let often = met_often(alloc, &large, pairs, side)?;
-        let features = prepared_features::<G, P, M>(alloc, layer, &often)?;
+        PreparedLayer::with_prepared(alloc, layer, &often)
+    }
+
+    /// The layer, with the geometries prepared that have at least `fewest` vertices.
+    ///
+    /// # Errors
+    /// If an allocation fails.
+    pub fn with_large(
+        alloc: Global,
+        layer: &'a Layer<G>,
+        fewest: usize,
+    ) -> Result<PreparedLayer<'a, G, P, M>, AllocError>
+        ensures { IfOk result (λ p. p ≡ layer.now.list) }
+    {
+        let large = large_features::<G, P, M>(alloc, layer, fewest)?;
+        PreparedLayer::with_prepared(alloc, layer, &large)
+    }
+
+    /// The layer, with the geometries of the features prepared that have these numbers.
+    fn with_prepared(
+        alloc: Global,
+        layer: &'a Layer<G>,
+        numbers: &[u32],
+    ) -> Result<PreparedLayer<'a, G, P, M>, AllocError>
+        ensures { IfOk result (λ p. p ≡ layer.now.list) }
+    {
+        let features = prepared_features::<G, P, M>(alloc, layer, numbers)?;
         let places = places_of(alloc, &features)?;
         Ok(PreparedLayer {
             layer,
@@ -77,9 +104,16 @@ impl<'a, G: Geometry, P: Drop, M: Prepare<'a, G, P>> PreparedLayer<'a, G, P, M> 
 }
 
 impl<'a, G: Geometry, P, M: Preparation<G, P>> PreparedLayer<'a, G, P, M> {
-    ghost use Rattle.std.specs.Prelude.{IfSome};
+    ghost use Rattle.std.specs.Prelude.{◌≡◌, IfSome};
     ghost use Rattle.layer_core.specs.Layers.{with_number, ShapeIs};
     ghost use Rattle.prepared_core.specs.Prepared.{FormIs};
+
+    /// The layer itself.
+    pub fn layer(&self) -> &'a Layer<G>
+        ensures { result.now.list ≡ self.now }
+    {
+        self.layer
+    }
 
     /// The geometry of the feature with this number.
     pub fn shape(&self, number: u32) -> Option<&'a G>
@@ -102,14 +136,15 @@ impl<'a, G: Geometry, P, M: Preparation<G, P>> PreparedLayer<'a, G, P, M> {
     }
 }
 
-/// The numbers of the features with many vertices, in ascending order.
+/// The numbers of the features with at least `fewest` vertices, in ascending order.
 fn large_features<G: Geometry, P, M: Preparation<G, P>>(
     alloc: Global,
     layer: &Layer<G>,
+    fewest: usize,
 ) -> Result<Vec<u32>, AllocError> {
     let mut large = Vec::new(alloc);
     for feature in layer.iter() {
-        if M::vertex_count(feature.shape) >= LARGE {
+        if M::vertex_count(feature.shape) >= fewest {
             large.push(feature.number)?;
         }
     }

@@ -1,5 +1,5 @@
-//! Layers of a join whose large geometries are prepared, so that each is prepared once for all the
-//! pairs that it occurs in.
+//! Layers of a join whose large geometries are prepared, so that each is prepared once for all that
+//! it is computed with.
 #![tactic(auto)]
 
 mod layer;
