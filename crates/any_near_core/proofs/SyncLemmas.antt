@@ -17,7 +17,7 @@ tree_sync = search (sendable, crosses, knot.crosses) depth 60 fits 20000
 indexed_sync : IsSync IndexedOutline.the_row
 indexed_sync = search (sendable, crosses, tree_sync) depth 60 fits 20000
 
-measured_sync : (κ : NamedLft) → IsSync (MeasuredGeometry.the_row κ)
+pub measured_sync : (κ : NamedLft) → IsSync (MeasuredGeometry.the_row κ)
 measured_sync κ = search (sendable, crosses, indexed_sync) depth 60 fits 20000
 
 geometry_sync : IsSync GrownGeometry.the_row

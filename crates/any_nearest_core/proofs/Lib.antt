@@ -8,3 +8,4 @@ pub mod NearestLemmas
 pub mod OrderLemmas
 pub mod PigeonLemmas
 pub mod ReachLemmas
+pub mod SyncLemmas

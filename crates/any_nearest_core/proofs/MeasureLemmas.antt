@@ -16,6 +16,7 @@ use Rattle.distance_core.specs.ShapePoints.{IsPointOf}
 use Rattle.edge_distance_core.specs.declared.fraction.SquaredFraction.{SquaredFraction}
 use Rattle.edge_distance_core.specs.Fractions.{IsSquareOf}
 use Rattle.layer_core.specs.Layers.{Feature, Contents, with_number, ShapeIs}
+use Rattle.prepared_core.specs.Prepared.{FormIs}
 use Rattle.nearest_core.specs.declared.neighbour.Neighbour.{Neighbour}
 use Rattle.any_geometry_core.specs.declared.geometry.AnyGeometry.{AnyGeometry}
 use Rattle.any_geometry_core.specs.AnyGeometries.{figure_of}
@@ -36,37 +37,35 @@ none_held layer g units number none f held w =
     let bad : None ≡ Some f.shape = subst (λ (t : Option (Feature AnyGeometry)). None ≡ option_map (λ h. h.shape) t) held none in
     absurd cc
 
-module _ (layer : Contents AnyGeometry) (g : Figure) (units number : ℕ) (b : Bor AnyGeometry) where
-  shape_of : (f : Feature AnyGeometry) → with_number number layer ≡ Some f → ShapeIs (Some b) (with_number number layer) → b.now ≡ f.shape
-  shape_of f held is =
-      let same : Some b.now ≡ Some f.shape = subst (λ (t : Option (Feature AnyGeometry)). Some b.now ≡ option_map (λ h. h.shape) t) held is in
-      cc
+module _ (layer : Contents AnyGeometry) (g : Figure) (units number : ℕ) where
+  module _ (f : Feature AnyGeometry) (held : with_number number layer ≡ Some f) where
+    one_feature : (h : Feature AnyGeometry) → with_number number layer ≡ Some h → h ≡ f
+    one_feature h held_too = let same : Some h ≡ Some f = sym held_too ∙ held in cc
 
-  measured_some : (s : SquaredFraction) (o : Option (Feature AnyGeometry)) → with_number number layer ≡ o → ShapeIs (Some b) o
-      → AreWithin units (IsPointOf g) (HasPoints b.now) → IsSquareOf s (IsPointOf g) (HasPoints b.now)
-      → IsNeighbour layer g (record { square = s; number = number })
-  measured_some s None held is w square = absurd (let bad : Some b.now ≡ None = is in cc)
-  measured_some s (Some f) held is w square =
-      let same : b.now ≡ f.shape = cc in
-      record { feature = f; held = held; square = subst (λ (h : AnyGeometry). IsSquareOf s (IsPointOf g) (HasPoints h)) same square }
+    measured_held : (found : Option SquaredFraction) → IsSome found ↔ AreWithin units (IsPointOf g) (HasPoints f.shape)
+        → IfSome found (λ s. IsSquareOf s (IsPointOf g) (HasPoints f.shape)) → IsMeasuredAs layer g units number found
+    measured_held None within square =
+        λ h held_too w. nothing_found SquaredFraction
+        (within.1 (subst (λ (x : Feature AnyGeometry). AreWithin units (IsPointOf g) (HasPoints x.shape)) (one_feature h held_too) w))
+    measured_held (Some s) within square =
+        (record { feature = f; held = held; square = square }, (within_by g f.shape f.shape s units square).1 (within.0 refl))
 
-  measured_by : (found : Option SquaredFraction) → ShapeIs (Some b) (with_number number layer)
-      → IsSome found ↔ AreWithin units (IsPointOf g) (HasPoints b.now) → IfSome found (λ s. IsSquareOf s (IsPointOf g) (HasPoints b.now))
-      → IsMeasuredAs layer g units number found
-  measured_by None is within square =
-      λ f held w. nothing_found SquaredFraction (within.1 (subst (λ (h : AnyGeometry). AreWithin units (IsPointOf g) (HasPoints h)) (sym (shape_of f held is)) w))
-  measured_by (Some s) is within square =
-      let w = within.0 refl in
-      (measured_some s (with_number number layer) refl is w square, (within_by g b.now b.now s units square).1 w)
-
-  -- what was found of a feature's geometry is its distance
-  pub measured_as : (found : Option SquaredFraction) (h k : Figure) → h ≡ k → k ≡ figure_of b.now → ShapeIs (Some b) (with_number number layer)
+  measured_by : (o : Option (Feature AnyGeometry)) (found : Option SquaredFraction) (h : Figure) → with_number number layer ≡ o
+      → option_map (λ f. figure_of f.shape) o ≡ Some h
       → IsSome found ↔ AreWithin units (IsPointOf g) (IsPointOf h) → IfSome found (λ s. IsSquareOf s (IsPointOf g) (IsPointOf h))
       → IsMeasuredAs layer g units number found
-  measured_as found h k first second is within square =
-      let same = first ∙ second in
-      measured_by found is (subst (λ (f : Figure). IsSome found ↔ AreWithin units (IsPointOf g) (IsPointOf f)) same within)
-      (subst (λ (f : Figure). IfSome found (λ s. IsSquareOf s (IsPointOf g) (IsPointOf f))) same square)
+  measured_by None found h held is within square = absurd (let bad : None ≡ Some h = is in cc)
+  measured_by (Some f) found h held is within square =
+      let some : Some h ≡ Some (figure_of f.shape) = sym is in
+      let same : h ≡ figure_of f.shape = cc in
+      measured_held f held found (subst (λ (x : Figure). IsSome found ↔ AreWithin units (IsPointOf g) (IsPointOf x)) same within)
+      (subst (λ (x : Figure). IfSome found (λ s. IsSquareOf s (IsPointOf g) (IsPointOf x))) same square)
+
+  -- what was found of the form of a feature's geometry is its distance
+  pub measured_form : (found : Option SquaredFraction) (h : Figure) → FormIs figure_of layer number h
+      → IsSome found ↔ AreWithin units (IsPointOf g) (IsPointOf h) → IfSome found (λ s. IsSquareOf s (IsPointOf g) (IsPointOf h))
+      → IsMeasuredAs layer g units number found
+  measured_form found h is within square = measured_by (with_number number layer) found h refl is within square
 
 module _ (layer : Contents AnyGeometry) (g : Figure) (units : ℕ) where
   pub none_measured : (found : List AnyNeighbour) → found ≡ [] → AreMeasured layer g units [] found

@@ -8,13 +8,11 @@ ghost use Rattle.any_nearest_core.specs.Measurements.{AreNeighboursWithin};
 ghost use Rattle.any_nearest_core.specs.Nearest.{AreDistinct};
 
 use crate::limit::limit_for;
-use crate::measure::square_of;
+use crate::measured_layer::MeasuredLayer;
 use crate::neighbour::AnyNeighbour;
-use any_geometry_core::AnyGeometry;
 use distance_core::{Distance, Query};
 use edge_distance_core::SquaredFraction;
 use geometry_distance_core::MeasuredGeometry;
-use layer_core::Layer;
 use nearest_core::Neighbour;
 use std::alloc::{AllocError, Global};
 
@@ -29,18 +27,18 @@ pub(crate) struct Bound {
 /// A distance from a geometry within which all features of a layer lie that are nearest to it and
 /// asked for: the greatest distance of as many of some features as are asked for, or the query's
 /// own.
-pub(crate) fn bound_of(
+pub(crate) fn bound_of<L: MeasuredLayer>(
     alloc: Global,
-    layer: &Layer<AnyGeometry>,
+    layer: &L,
     some: &[Neighbour],
     from: &MeasuredGeometry,
     query: &Query,
 ) -> Result<Bound, AllocError>
     requires { AreDistinct (candidates_of some.now) }
-    ensures bound { IfOk result
-        (λ b. IsBound query.now layer.now.list from.now (units_of b.distance)) }
-    ensures measured { IfOk result (λ b.
-        AreNeighboursWithin layer.now.list from.now (units_of b.distance) b.measured.items) }
+    ensures bound { let contents = L.contents layer.now in
+        IfOk result (λ b. IsBound query.now contents from.now (units_of b.distance)) }
+    ensures measured { let contents = L.contents layer.now in IfOk result (λ b.
+        AreNeighboursWithin contents from.now (units_of b.distance) b.measured.items) }
 {
     let limit = limit_for(query);
     let most = query.most() as usize;
@@ -55,17 +53,18 @@ pub(crate) fn bound_of(
 
 /// A distance, `limit` at most, that is at least that of each of some features from a geometry, or
 /// `limit`.
-fn greatest_of(
+fn greatest_of<L: MeasuredLayer>(
     alloc: Global,
-    layer: &Layer<AnyGeometry>,
+    layer: &L,
     features: &[Neighbour],
     from: &MeasuredGeometry,
     limit: Distance,
 ) -> Result<Bound, AllocError>
-    ensures greatest { IfOk result (λ b. IsGreatest layer.now.list from.now (units_of limit)
-        (candidates_of features.now) (units_of b.distance)) }
-    ensures measured { IfOk result (λ b.
-        AreNeighboursWithin layer.now.list from.now (units_of b.distance) b.measured.items) }
+    ensures greatest { let contents = L.contents layer.now in let limit = units_of limit in
+        let numbers = candidates_of features.now in
+        IfOk result (λ b. IsGreatest contents from.now limit numbers (units_of b.distance)) }
+    ensures measured { let contents = L.contents layer.now in IfOk result (λ b.
+        AreNeighboursWithin contents from.now (units_of b.distance) b.measured.items) }
 {
     let mut measured = Vec::new(alloc);
     let Some(mut greatest) = Distance::new(0) else {
@@ -73,7 +72,7 @@ fn greatest_of(
     };
     for feature in features {
         let number = feature.number;
-        let Some(square) = square_of(alloc, layer, number, from, limit)? else {
+        let Some(square) = layer.square_of(alloc, number, from, limit)? else {
             return Ok(Bound {
                 distance: limit,
                 measured,

@@ -7,6 +7,8 @@ ghost use Rattle.nearest_core.specs.Matches.{matches_or_none};
 ghost use Rattle.any_nearest_core.specs.Matches.{AreMatches, AreMatchesOf, feature_numbers};
 
 use crate::matches::matches_of;
+use crate::measured_layer::MeasuredLayer;
+use crate::prepared::{LARGE, PreparedLayer};
 use any_geometry_core::AnyGeometry;
 use distance_core::Query;
 use edge_distance_core::SquaredFraction;
@@ -20,7 +22,8 @@ use std::thread::Threads;
 /// query asks for them: in the order of the left layer, then by their distances, and then in the
 /// order of the right layer. Each has the square of its distance.
 ///
-/// At most `workers` threads search, each for the left features of a chunk of its own. 0 and 1
+/// The right geometries that are large are indexed first, each once, by the caller's thread. Then
+/// at most `workers` threads search, each for the left features of a chunk of its own. 0 and 1
 /// start no thread. If a thread can't be started, the others do its work.
 ///
 /// # Errors
@@ -37,11 +40,12 @@ pub fn nearest_any_layers<R: AllocGlobal + Threads + Sync>(
 {
     let alloc = rt.alloc();
     let numbers = numbers_in(alloc, left)?;
+    let right = PreparedLayer::with_large(alloc, right, LARGE)?;
     if workers <= 1 {
-        return matches_of(alloc, &numbers, left, right, query);
+        return matches_of(alloc, &numbers, left, &right, query);
     }
     let size = numbers.len().div_ceil(workers as usize).max(1);
-    let parts = matches_by_chunks(rt, &numbers, left, right, query, size)?;
+    let parts = matches_by_chunks(rt, &numbers, left, &right, query, size)?;
     concatenated(alloc, parts)
 }
 
@@ -58,18 +62,18 @@ fn numbers_in(alloc: Global, layer: &Layer<AnyGeometry>) -> Result<Vec<u32>, All
 }
 
 /// The matches of each chunk of `size` left features; the last chunk may be shorter.
-fn matches_by_chunks<R: AllocGlobal + Threads + Sync>(
+fn matches_by_chunks<R: AllocGlobal + Threads + Sync, L: MeasuredLayer + Sync>(
     rt: &R,
     numbers: &[u32],
     left: &Layer<AnyGeometry>,
-    right: &Layer<AnyGeometry>,
+    right: &L,
     query: &Query,
     size: usize,
 ) -> Result<Vec<Result<Vec<Refined<SquaredFraction>>, AllocError>>, AllocError>
     requires { 0 < size }
     ensures { IfOk result (λ parts. All IsOk parts.items
         → let matches = flat_map matches_or_none parts.items in
-        AreMatchesOf query.now right.now.list left.now.list numbers.now matches) }
+        AreMatchesOf query.now (L.contents right.now) left.now.list numbers.now matches) }
 {
     let alloc = rt.alloc();
     let matches = move |_start: usize, chunk: &[u32]| matches_of(alloc, chunk, left, right, query);

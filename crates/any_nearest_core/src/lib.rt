@@ -8,8 +8,10 @@ mod layers;
 mod limit;
 mod matches;
 mod measure;
+mod measured_layer;
 mod neighbour;
 mod of_layer;
+mod prepared;
 
 pub use any_geometry_core::AnyGeometry;
 pub use distance_core::{Distance, Query};

@@ -3,6 +3,7 @@
 ghost use Rattle.std.specs.Prelude.{◌≡◌, ◌++◌, IfOk, OnOk, map};
 ghost use Rattle.any_nearest_core.specs.Matches.{AddsRow, AreMatchesOf, paired};
 
+use crate::measured_layer::MeasuredLayer;
 use crate::neighbour::AnyNeighbour;
 use crate::of_layer::nearest_any_of;
 use any_geometry_core::AnyGeometry;
@@ -13,15 +14,15 @@ use refine_core::Refined;
 use std::alloc::{AllocError, Global};
 
 /// The matches of the left features with these numbers, in order.
-pub(crate) fn matches_of(
+pub(crate) fn matches_of<L: MeasuredLayer>(
     alloc: Global,
     numbers: &[u32],
     left: &Layer<AnyGeometry>,
-    right: &Layer<AnyGeometry>,
+    right: &L,
     query: &Query,
 ) -> Result<Vec<Refined<SquaredFraction>>, AllocError>
-    ensures { IfOk result (λ matches.
-        AreMatchesOf query.now right.now.list left.now.list numbers.now matches.items) }
+    ensures { let right = L.contents right.now in IfOk result (λ matches.
+        AreMatchesOf query.now right left.now.list numbers.now matches.items) }
 {
     let mut matches = Vec::new(alloc);
     for number in numbers {
@@ -31,16 +32,16 @@ pub(crate) fn matches_of(
 }
 
 /// Adds the matches of the left feature with this number.
-fn push_matches(
+fn push_matches<L: MeasuredLayer>(
     alloc: Global,
     matches: &mut Vec<Refined<SquaredFraction>>,
     number: u32,
     left: &Layer<AnyGeometry>,
-    right: &Layer<AnyGeometry>,
+    right: &L,
     query: &Query,
 ) -> Result<(), AllocError>
-    ensures { let old = matches.old.items in
-        OnOk result (AddsRow query.now right.now.list left.now.list number old matches.new.items) }
+    ensures { let right = L.contents right.now in let old = matches.old.items in
+        OnOk result (AddsRow query.now right left.now.list number old matches.new.items) }
 {
     let Some(geometry) = left.shape(number) else {
         return Ok(());

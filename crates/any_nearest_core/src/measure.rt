@@ -7,27 +7,30 @@ ghost use Rattle.any_nearest_core.specs.Measurements.{AreMeasured, IsMeasuredAs,
 ghost use Rattle.any_nearest_core.specs.Measurements.{AreNeighboursWithin, IsSquareIn};
 ghost use Rattle.any_nearest_core.specs.Nearest.{IsNeighbour};
 
+use crate::measured_layer::MeasuredLayer;
 use crate::neighbour::AnyNeighbour;
-use any_geometry_core::AnyGeometry;
+use crate::prepared::PreparedLayer;
 use distance_core::Distance;
 use edge_distance_core::SquaredFraction;
 use geometry_distance_core::{MeasuredGeometry, square_within};
-use layer_core::Layer;
 use nearest_core::Neighbour;
 use std::alloc::{AllocError, Global};
 
 /// The square of the distance of the feature with this number from a geometry, if it is at most so
-/// far away.
+/// far away. A geometry that isn't prepared is indexed for this distance alone.
 pub(crate) fn square_of(
     alloc: Global,
-    layer: &Layer<AnyGeometry>,
+    layer: &PreparedLayer,
     number: u32,
     from: &MeasuredGeometry,
     distance: Distance,
 ) -> Result<Option<SquaredFraction>, AllocError>
     ensures { let units = units_of distance in
-        IfOk result (IsMeasuredAs layer.now.list from.now units number) }
+        IfOk result (IsMeasuredAs layer.now from.now units number) }
 {
+    if let Some(geometry) = layer.prepared(number) {
+        return Ok(square_within(from, geometry, distance));
+    }
     let Some(shape) = layer.shape(number) else {
         return Ok(None);
     };
@@ -36,40 +39,41 @@ pub(crate) fn square_of(
 }
 
 /// The same. `known` is the feature that was measured before at this place, which may be another.
-fn square_at(
+fn square_at<L: MeasuredLayer>(
     alloc: Global,
-    layer: &Layer<AnyGeometry>,
+    layer: &L,
     number: u32,
     known: Option<&AnyNeighbour>,
     from: &MeasuredGeometry,
     distance: Distance,
 ) -> Result<Option<SquaredFraction>, AllocError>
     requires { let units = units_of distance in IfSome known (λ n.
-        IsNeighbour layer.now.list from.now n.now × IsSquareIn units n.now.square) }
+        IsNeighbour (L.contents layer.now) from.now n.now × IsSquareIn units n.now.square) }
     ensures { let units = units_of distance in
-        IfOk result (IsMeasuredAs layer.now.list from.now units number) }
+        IfOk result (IsMeasuredAs (L.contents layer.now) from.now units number) }
 {
     match known {
         Some(neighbour) if neighbour.number == number => Ok(Some(neighbour.square)),
-        _ => square_of(alloc, layer, number, from, distance),
+        _ => layer.square_of(alloc, number, from, distance),
     }
 }
 
 /// Those of the candidates that are at most so far from a geometry, measured, in no particular
 /// order. `known` has some that were measured before, at their places among the candidates; one
 /// that is at another place is measured again.
-pub(crate) fn measured_within(
+pub(crate) fn measured_within<L: MeasuredLayer>(
     alloc: Global,
-    layer: &Layer<AnyGeometry>,
+    layer: &L,
     candidates: &[Neighbour],
     known: &[AnyNeighbour],
     from: &MeasuredGeometry,
     distance: Distance,
 ) -> Result<Vec<AnyNeighbour>, AllocError>
     requires { let units = units_of distance in
-        AreNeighboursWithin layer.now.list from.now units known.now }
-    ensures { let units = units_of distance in let numbers = candidates_of candidates.now in
-        IfOk result (λ found. AreMeasured layer.now.list from.now units numbers found.items) }
+        AreNeighboursWithin (L.contents layer.now) from.now units known.now }
+    ensures { let contents = L.contents layer.now in let units = units_of distance in
+        let numbers = candidates_of candidates.now in
+        IfOk result (λ found. AreMeasured contents from.now units numbers found.items) }
 {
     let mut found = Vec::new(alloc);
     for (place, candidate) in candidates.iter().enumerate() {

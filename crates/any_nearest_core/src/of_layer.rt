@@ -9,6 +9,7 @@ ghost use Rattle.any_nearest_core.specs.Nearest.{AreNearestIn};
 use crate::bound::{Bound, bound_of};
 use crate::cut::keep_first;
 use crate::measure::measured_within;
+use crate::measured_layer::MeasuredLayer;
 use crate::neighbour::{AnyNeighbour, sort_neighbours};
 use any_geometry_core::AnyGeometry;
 use distance_core::{Distance, Query};
@@ -26,22 +27,23 @@ use std::alloc::{AllocError, Global};
 ///
 /// # Errors
 /// If an allocation fails.
-pub(crate) fn nearest_any_of(
+pub(crate) fn nearest_any_of<L: MeasuredLayer>(
     alloc: Global,
-    layer: &Layer<AnyGeometry>,
+    layer: &L,
     geometry: &AnyGeometry,
     query: &Query,
 ) -> Result<Vec<AnyNeighbour>, AllocError>
     ensures { let figure = figure_of geometry.now in
-        IfOk result (λ found. AreNearestIn query.now layer.now.list figure found.items) }
+        IfOk result (λ found. AreNearestIn query.now (L.contents layer.now) figure found.items) }
 {
+    let features = layer.features();
     // The numbers of a layer's features are distinct, as its length's contract says.
-    let _len = layer.len();
+    let _len = features.len();
     let shape = geometry.bounds();
     let from = MeasuredGeometry::new(alloc, geometry.geometry())?;
-    let nearest = nearest_boxes(alloc, layer, &shape, query)?;
+    let nearest = nearest_boxes(alloc, features, &shape, query)?;
     let Bound { distance, measured } = bound_of(alloc, layer, &nearest, &from, query)?;
-    let candidates = boxes_within(alloc, layer, &shape, distance)?;
+    let candidates = boxes_within(alloc, features, &shape, distance)?;
     let mut found = measured_within(alloc, layer, &candidates, &measured, &from, distance)?;
     sort_neighbours(&mut found)?;
     keep_first(&mut found, query.most() as usize);

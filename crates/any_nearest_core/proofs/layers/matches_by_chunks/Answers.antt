@@ -6,7 +6,7 @@ use Rattle.any_nearest_core.proofs.layers.matches_by_chunks.Goals as goal
 
 pub returns : goal.returns
 returns g c = from_both c.map_chunks.result _ _ _ c.map_chunks.ensures.len c.map_chunks.ensures.each (λ parts len each. λ ok.
-    let row = IsNumberRow c.args.query.now c.args.right.now.list c.args.left.now.list in
+    let row = IsNumberRow c.args.query.now (g.L.MeasuredLayer.contents c.args.right.now) c.args.left.now.list in
     chunks_joined row c.args.size c.args.numbers.now parts.items no_part
     (λ n l. let k = (each n no_part l).1 in
     let rows : IfOk (get_or parts.items n no_part) (λ matches. AreRows row k.argument.now matches.items) =

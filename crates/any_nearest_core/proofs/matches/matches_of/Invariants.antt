@@ -3,4 +3,4 @@ use Rattle.any_nearest_core.specs.Matches.{AreMatchesOf}
 use Rattle.any_nearest_core.proofs.matches.matches_of.Given as goal
 
 abbrev pub invariant-loop-number : goal.invariant-loop-number
-invariant-loop-number l = AreMatchesOf l.query l.right.list l.left.list (take l.number-index l.numbers) l.matches.items
+invariant-loop-number g l = AreMatchesOf l.query (g.L.MeasuredLayer.contents l.right) l.left.list (take l.number-index l.numbers) l.matches.items

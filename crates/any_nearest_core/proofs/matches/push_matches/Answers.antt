@@ -8,8 +8,8 @@ use Rattle.any_nearest_core.proofs.MatchLemmas.{row_added}
 use Rattle.any_nearest_core.proofs.matches.push_matches.Goals as goal
 
 pub returns : goal.returns
-returns c =
+returns g c =
     on_ok_weaker c.push_row.result
-    (row_added c.args.query.now c.args.right.now.list c.args.left.now.list c.args.number _ _ c.in-Some.geometry _ _
+    (row_added c.args.query.now (g.L.MeasuredLayer.contents c.args.right.now) c.args.left.now.list c.args.number _ _ c.in-Some.geometry _ _
     (subst (λ (t : Option (Bor AnyGeometry)). ShapeIs t (with_number c.args.number c.args.left.now.list)) c.in-Some.is c.shape.ensures)
     c.in_ok-found.ensures c.deref.ensures.value) c.push_row.ensures

@@ -7,7 +7,7 @@ use Rattle.any_nearest_core.proofs.MeasureLemmas.{square_known}
 use Rattle.any_nearest_core.proofs.measure.square_at.Goals as goal
 
 pub returns-in-Some : goal.returns-in-Some
-returns-in-Some c =
-    square_known c.args.layer.now.list c.args.from.now c.in-Some.neighbour.now (units_of c.args.distance) c.args.number
-    (subst (λ (t : Option (Bor AnyNeighbour)). IfSome t (λ n. IsNeighbour c.args.layer.now.list c.args.from.now n.now × IsSquareIn (units_of c.args.distance) n.now.square))
+returns-in-Some g c =
+    square_known (g.L.MeasuredLayer.contents c.args.layer.now) c.args.from.now c.in-Some.neighbour.now (units_of c.args.distance) c.args.number
+    (subst (λ (t : Option (Bor AnyNeighbour)). IfSome t (λ n. IsNeighbour (g.L.MeasuredLayer.contents c.args.layer.now) c.args.from.now n.now × IsSquareIn (units_of c.args.distance) n.now.square))
     c.in-Some.is c.requires) c.if-neighbour-number.true
