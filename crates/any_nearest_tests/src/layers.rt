@@ -12,7 +12,7 @@ use std::thread::Threads;
 use wide_core::Wide;
 
 /// A left and a right feature by their numbers, and the fraction that is their squared distance.
-type Row = (u32, u32, (u128, u128));
+pub(crate) type Row = (u32, u32, (u128, u128));
 
 /// A point at the origin.
 const ORIGIN: &[TextRow<'_>] = &[("middle", "POINT (0 0)")];
@@ -57,7 +57,7 @@ fn is_square(found: &SquaredFraction, (numerator, denominator): (u128, u128)) ->
 }
 
 /// Whether the matches are these rows.
-fn are_rows(matches: &[Refined<SquaredFraction>], rows: &[Row]) -> bool {
+pub(crate) fn are_rows(matches: &[Refined<SquaredFraction>], rows: &[Row]) -> bool {
     if matches.len() != rows.len() {
         return false;
     }
@@ -85,7 +85,7 @@ fn layer<R: AllocGlobal + RandomSource>(
 }
 
 /// Whether searches by these numbers of workers give these rows.
-fn gives<R: RandomSource + AllocGlobal + Threads + Sync>(
+pub(crate) fn gives<R: RandomSource + AllocGlobal + Threads + Sync>(
     rt: &R,
     (left, right): (&[TextRow<'_>], &[TextRow<'_>]),
     (most, within): (u32, Option<u64>),
