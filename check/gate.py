@@ -88,7 +88,7 @@ class Result:
 STEADY = "not test_failures and not test_two_networks"
 PARTS = (
     Part("packages", ("check/install.py",), 20, may_be_skipped=True),
-    Part("proofs", ("rt", "ci"), 80),
+    Part("proofs", ("rt", "ci"), 115),
     Part("faults", ("check/faults.py",), 2),
     Part("definitions", ("check/definitions.py", "--check"), 2),
     Part("guarantees", ("check/guarantees.py",), 2),
