@@ -1,5 +1,5 @@
 -- When two features are near, by the lesser of their distances.
-use Rattle.std.proofs.Common.{◌≡◌, ◌↔◌, ℕ, ◌*◌, ◌≤◌, ◌<◌, min, arith, subst, sym, refl}
+use Rattle.std.proofs.Common.{◌≡◌, ◌↔◌, ℕ, ◌*◌, ◌≤◌, ◌<◌, min, arith, subst, sym}
 use native.Mathlib.Decide.{dec_lt}
 use Rattle.std.specs.Prelude.{Option, IsSome, Result, Ok, Err, IfOk}
 use Rattle.geom_core.specs.declared.shape.Shape.{Shape}

@@ -1,13 +1,11 @@
 -- Geometries share a point exactly where their squared distance is 0.
-use Rattle.std.proofs.Common.{◌≡◌, ◌↔◌, ◌*◌, ◌+◌, ◌≤◌, ◌<◌, ℕ, arith, ap, ◌∙◌, sym, subst, refl}
+use Rattle.std.proofs.Common.{◌≡◌, ◌↔◌, ◌*◌, ◌+◌, ◌≤◌, ◌<◌, ℕ, arith, ◌∙◌, sym, subst}
 use Rattle.std.specs.Prelude.{ℤ, pos, ◌*ℤ◌, ◌-ℤ◌, nat_abs}
 use Rattle.std.proofs.lemmas.Int.{ints}
 use native.Mathlib.Decide.{dec_lt}
 use Rattle.std.proofs.Math.Nat.{le_of_mul-le-mul_right, one-le-mul}
 use Rattle.plane_core.specs.Points.{Point, IsSamePlace}
-use Rattle.plane_core.specs.Figures.{Figure, part_of}
-use Rattle.plane_core.specs.declared.part.Part.{Part}
-use Rattle.plane_core.specs.declared.part.Part.TheVariants.{Exterior}
+use Rattle.plane_core.specs.Figures.{Figure}
 use Rattle.plane_core.proofs.PartScaleLemmas.{part_of-same_place}
 use Rattle.distance_core.specs.Distances.{difference, square, scaled_square, scale_of}
 use Rattle.distance_core.specs.ShapePoints.{IsPointOf}

@@ -1,5 +1,5 @@
 -- Whether a pair is wanted, by the square of its distance.
-use Rattle.std.proofs.Common.{◌≡◌, ◌↔◌, sym, subst, true}
+use Rattle.std.proofs.Common.{◌≡◌, ◌↔◌, sym, subst}
 use Rattle.std.specs.Prelude.{Option, Some, IsSome, IfSome}
 use Rattle.distance_core.specs.declared.nearness.Nearness.{Nearness}
 use Rattle.distance_core.specs.declared.nearness.Nearness.TheVariants.{Apart}

@@ -1,5 +1,4 @@
 -- When two features of layers of any geometry are near.
-use Rattle.std.specs.Prelude.{ℕ}
 use Rattle.plane_core.specs.Figures.{Figure}
 use Rattle.distance_core.specs.Units.{units_of}
 use Rattle.distance_core.specs.Distances.{AreWithin}

@@ -1,5 +1,4 @@
 -- Near features have boxes that meet.
-use Rattle.std.proofs.Common.{arith}
 use Rattle.std.specs.Prelude.{◌≡◌, ℕ, ◌<◌, ℤ, pos, ◌*ℤ◌, ◌≤ℤ◌}
 use Rattle.std.proofs.Math.Logic.{∥∥₁_elim}
 use Rattle.std.proofs.lemmas.Int.{by_lt_z}
@@ -21,7 +20,7 @@ use Rattle.near_core.specs.Near as shapes
 use Rattle.near_core.specs.StandingNear.{near_boxes}
 use Rattle.any_near_core.specs.declared.grown.GrownGeometry.{GrownGeometry}
 use Rattle.any_near_core.specs.Envelopes.{envelope_of}
-use Rattle.any_near_core.specs.Near.{figure_of, BoxesMeet, AreNear, AreWanted}
+use Rattle.any_near_core.specs.Near.{BoxesMeet, AreNear, AreWanted}
 
 never_is_one : (a b : ⊥) → a ≡ b
 never_is_one a b = absurd a

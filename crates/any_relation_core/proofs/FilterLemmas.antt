@@ -8,14 +8,13 @@ use Rattle.geom_core.specs.Shapes.{x1, y1, x2, y2}
 use Rattle.geom_core.specs.Cells.{line, IsWithin, Meets}
 use Rattle.relation_core.specs.declared.relation.Relation.{Relation}
 use Rattle.plane_core.specs.declared.rings.Rings.{Rings}
-use Rattle.plane_core.specs.Points.{Point}
 use Rattle.plane_core.specs.Figures.{Figure, IsGeometry}
 use Rattle.plane_core.specs.Vertices.{vertices_of, HoldsVertex}
 use Rattle.plane_core.specs.ProperRings.{IsGeometryOf}
 use Rattle.plane_core.proofs.ScaleLemmas.{less_scaled}
 use Rattle.noding_core.proofs.TestLemmas.{by_test}
 use Rattle.noding_core.proofs.OrderLemmas.{wide_z}
-use Rattle.shown_core.proofs.BeyondLemmas.{holds_all, IsAside, aside_part}
+use Rattle.shown_core.proofs.BeyondLemmas.{holds_all, aside_part}
 use Rattle.shown_core.proofs.BeyondLemmas.IsAside.{Left as AsideLeft, Right as AsideRight, Low, High}
 use Rattle.any_relation_core.specs.PlaneRelations.{HoldsOf, AreDisjoint, ForbidsDisjoint}
 

@@ -1,6 +1,6 @@
 -- The points of an edge lie in each box that holds it.
 use Rattle.std.proofs.Common.{◌≡◌, ◌<◌, arith, true, subst, sym, ◌∙◌}
-use Rattle.std.specs.Prelude.{ℕ, ℤ, pos, ◌*ℤ◌, ◌≤ℤ◌, All}
+use Rattle.std.specs.Prelude.{ℕ, ℤ, pos, ◌*ℤ◌, ◌≤ℤ◌}
 use Rattle.std.specs.Int.{int_min, int_max}
 use Rattle.std.proofs.lemmas.Int.{ints}
 use Rattle.geom_core.specs.declared.span.Span.{Span}
@@ -8,7 +8,6 @@ use Rattle.geom_core.specs.declared.shape.Shape.{Shape}
 use Rattle.geom_core.specs.Cells.{line, Covers, IsIn}
 use Rattle.geom_core.specs.Shapes.{x1, y1, x2, y2}
 use Rattle.plane_core.specs.declared.edge.Edge.{Edge}
-use Rattle.plane_core.specs.declared.vertex.Vertex.{Vertex}
 use Rattle.plane_core.specs.Points.{Point, is_on, is_between}
 use Rattle.plane_core.proofs.Signs.{wide_z}
 use Rattle.plane_core.proofs.ScaleLemmas.{no_less_scaled}

@@ -1,5 +1,5 @@
 -- The squared distance of two geometries, by the nearest of their edges and by their starts.
-use Rattle.std.proofs.Common.{◌≡◌, ◌*◌, ◌≤◌, ◌<◌, ◌⊎◌, ◌↔◌, inl, inr, ℕ, arith, ap, ◌∙◌, sym, true, false, refl, subst}
+use Rattle.std.proofs.Common.{◌≡◌, ◌*◌, ◌≤◌, ◌<◌, ◌⊎◌, ◌↔◌, inl, inr, ℕ, arith, ◌∙◌, refl, subst}
 use Rattle.std.specs.Prelude.{ℤ, pos, ◌-ℤ◌, ◌*ℤ◌, nat_abs, ◌+◌, Option, Some, None, IsSome, IfSome}
 use Rattle.std.proofs.lemmas.Int.{ints}
 use Rattle.std.proofs.Math.Nat.{mul-le-mul_right, le_of_mul-le-mul_right}
@@ -7,15 +7,14 @@ use Rattle.plane_core.specs.Points.{Point, at}
 use Rattle.plane_core.specs.Figures.{Figure, IsGeometry}
 use Rattle.distance_core.specs.declared.distance.Distance.{Distance}
 use Rattle.distance_core.specs.Units.{units_of}
-use Rattle.distance_core.specs.Distances.{scaled_square, scale_of, IsAtMost, AreWithin}
+use Rattle.distance_core.specs.Distances.{scaled_square, scale_of, AreWithin}
 use Rattle.distance_core.specs.ShapePoints.{IsPointOf}
 use Rattle.distance_core.proofs.SquareLemmas.{wide_scale}
 use Rattle.edge_distance_core.specs.declared.fraction.SquaredFraction.{SquaredFraction}
-use Rattle.edge_distance_core.specs.Fractions.{IsNoFarther, IsNoNearer, IsLeastFraction, IsSquareOf, numerator_of}
+use Rattle.edge_distance_core.specs.Fractions.{IsSquareOf, numerator_of}
 use Rattle.edge_distance_core.proofs.FarLemmas.{far_turned}
 use Rattle.edge_distance_core.proofs.LeastLemmas.{from_far, to_far}
-use Rattle.edge_distance_core.proofs.MeetingLemmas.{reach_turned, within_by_fraction}
-use Rattle.noding_core.proofs.TestLemmas.{by_test}
+use Rattle.edge_distance_core.proofs.MeetingLemmas.{within_by_fraction}
 use Rattle.geometry_distance_core.specs.declared.nearest.Nearest.{Nearest}
 use Rattle.geometry_distance_core.specs.NearestPairs.{Pairs, IsLeastOf, IsFound, IsZero, IsNearest}
 use Rattle.geometry_distance_core.specs.Skeletons.{is_on_skeleton, IsOnSkeleton, AreApart}

@@ -13,12 +13,12 @@ use Rattle.plane_core.specs.declared.vertex.Vertex.{Vertex}
 use Rattle.plane_core.specs.declared.outline.Outline.{Outline}
 use Rattle.plane_core.specs.declared.outline.Kind.{Kind}
 use Rattle.plane_core.specs.declared.outline.Kind.TheVariants.{Points as Dots, Lines as Polylines, Areas as Rings}
-use Rattle.plane_core.specs.Points.{Point, side, run, rise, is_on, is_at, is_between}
-use Rattle.plane_core.specs.Figures.{Figure, IsGeometry, edges, edges_of, points_of, part_of}
+use Rattle.plane_core.specs.Points.{Point, side, is_on, is_at, is_between}
+use Rattle.plane_core.specs.Figures.{Figure, edges}
 use Rattle.plane_core.specs.Figures.Figure.{Points, Lines, Areas}
-use Rattle.plane_core.specs.Outlines.{IsOutlineOf, outline_part, part_by, kind_of}
+use Rattle.plane_core.specs.Outlines.{IsOutlineOf, part_by}
 use Rattle.plane_core.specs.Vertices as vertices
-use Rattle.plane_core.specs.Vertices.{paths_in, vertices_of}
+use Rattle.plane_core.specs.Vertices.{vertices_of}
 use Rattle.plane_core.proofs.Ring.{monomials}
 use Rattle.plane_core.proofs.Signs.{wide_z}
 use Rattle.plane_core.proofs.ScaleLemmas.{no_less_scaled}
@@ -30,8 +30,7 @@ use Rattle.noding_core.specs.Nodes.{IsAmong}
 use Rattle.noding_core.proofs.AmongLemmas.{among_flat}
 use Rattle.noding_core.proofs.NodeLemmas.{all_among}
 use Rattle.noding_core.proofs.ReadOffLemmas.{among_each}
-use Rattle.noding_core.proofs.TestLemmas.{by_test}
-use Rattle.distance_core.specs.ShapePoints.{HasNumber, HasPoint}
+use Rattle.distance_core.specs.ShapePoints.{HasPoint}
 use Rattle.distance_core.specs.Units.{units_of}
 use Rattle.distance_core.specs.Distances.{scaled_square, scale_of, IsSquaredDistance}
 use Rattle.edge_distance_core.specs.declared.fraction.SquaredFraction.{SquaredFraction}

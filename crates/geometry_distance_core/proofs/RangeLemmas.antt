@@ -1,6 +1,6 @@
 -- No two geometries are further apart than the greatest distance, since each has a vertex, and both vertices are in the
 -- plane.
-use Rattle.std.proofs.Common.{◌≡◌, ◌<◌, ◌≤◌, ◌*◌, ℕ, arith, ap, refl, inl, true, List, [], ◌∷◌, length}
+use Rattle.std.proofs.Common.{◌≡◌, ◌<◌, ◌≤◌, ◌*◌, arith, ap, refl, inl, true, List, [], ◌∷◌, length}
 use Rattle.std.specs.Prelude.{ℤ, nat_abs, Bool, ◌||◌}
 use Rattle.std.proofs.lemmas.Int.{ints}
 use Rattle.geom_core.specs.Limits.{IsCoordinate}

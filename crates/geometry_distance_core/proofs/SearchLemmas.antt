@@ -1,5 +1,5 @@
 -- The pairs of an edge and others that a search adds.
-use Rattle.std.proofs.Common.{◌≡◌, ◌<◌, ◌≤◌, ◌+◌, ◌⊎◌, inl, inr, ℕ, zero, suc, arith, ap, ◌∙◌, sym, true, false, refl, subst, List, [], ◌∷◌, ◌++◌, length, get_or, take, drop, All, append-nil}
+use Rattle.std.proofs.Common.{◌≡◌, ◌<◌, ◌≤◌, ◌+◌, ◌⊎◌, ℕ, suc, arith, ap, ◌∙◌, sym, true, false, refl, subst, List, [], ◌∷◌, ◌++◌, length, get_or, take, drop, All, append-nil}
 use Rattle.std.specs.Prelude.{Bool, ◌||◌, ◌&&◌, Contains}
 use Rattle.std.specs.List.{list_any, flat_map}
 use Rattle.std.proofs.lemmas.List.{take_more, take_all, get_or_default}
@@ -23,7 +23,6 @@ use Rattle.edge_index_core.proofs.ScanLemmas.{nodes_more}
 use Rattle.edge_index_core.proofs.RunLemmas.{run_off}
 use Rattle.edge_index_core.proofs.TreeLemmas.{nowhere, all_in}
 use Rattle.edge_index_core.proofs.EntryLemmas.{tree_holds}
-use Rattle.noding_core.specs.Nodes.{IsAmong}
 use Rattle.noding_core.proofs.TestLemmas.{by_test, clash}
 use Rattle.noding_core.proofs.TurnLemmas.{get_among}
 use Rattle.geometry_distance_core.specs.declared.nearest.Nearest.{Nearest}

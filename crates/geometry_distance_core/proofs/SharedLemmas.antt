@@ -1,7 +1,7 @@
 -- Geometries whose edges and single points are apart share a point only if one of them is an area
 -- that has a single point, or the first vertex of a path, of the other.
 use Rattle.std.proofs.Common.{◌≡◌, ◌<◌, ◌+◌, ◌⊎◌, inl, inr, ℕ, arith, ap, ◌∙◌, ◌*◌, sym, true, false, refl, subst, List, [], ◌∷◌, ◌++◌, length, take}
-use Rattle.std.specs.Prelude.{ℤ, pos, ◌+ℤ◌, ◌*ℤ◌, ◌-ℤ◌, ◌≤ℤ◌, ◌<ℤ◌, int_le, Bool, ◌||◌, ◌&&◌, if◌then◌else◌, count_by}
+use Rattle.std.specs.Prelude.{ℤ, pos, ◌+ℤ◌, ◌*ℤ◌, ◌-ℤ◌, ◌≤ℤ◌, ◌<ℤ◌, int_le, Bool, ◌||◌, ◌&&◌, if◌then◌else◌}
 use Rattle.std.specs.Ordering.{int_eq}
 use Rattle.std.specs.Int.{int_min, int_max}
 use Rattle.std.specs.List.{list_any, flat_map}
@@ -10,41 +10,35 @@ use Rattle.plane_core.specs.declared.edge.Edge.{Edge}
 use Rattle.plane_core.specs.declared.vertex.Vertex.{Vertex}
 use Rattle.plane_core.specs.declared.part.Part.{Part}
 use Rattle.plane_core.specs.declared.part.Part.TheVariants.{Interior, Boundary, Exterior}
-use Rattle.plane_core.specs.Points.{Point, at, mix, side, is_on, is_at, is_between, is_below, is_at_or_below, IsSamePlace}
-use Rattle.plane_core.specs.Figures.{Figure, edges, edges_of, points_of, dim_of, part_of, part_above, is_odd, HasLength, IsGeometry, IsPath, IsRing}
+use Rattle.plane_core.specs.Points.{Point, at, side, is_on, is_at, is_between, is_below, is_at_or_below, IsSamePlace}
+use Rattle.plane_core.specs.Figures.{Figure, edges, edges_of, points_of, part_of, part_above, HasLength, IsGeometry, IsPath, IsRing}
 use Rattle.plane_core.specs.Figures.Figure.{Points, Lines, Areas}
-use Rattle.plane_core.specs.Vertices.{paths_in}
-use Rattle.plane_core.specs.PlaneMatrices.{IsInBoth}
 use Rattle.plane_core.proofs.Ring.{monomials}
 use Rattle.plane_core.proofs.Signs.{times_not_negative, wide_z}
 use Rattle.plane_core.proofs.CrossingLemmas.{along_x_of, along_y_of}
-use Rattle.plane_core.proofs.CheckLemmas.{and_first, and_second}
 use Rattle.plane_core.proofs.PartScaleLemmas.{part_of-same_place}
 use Rattle.edge_index_core.proofs.BetweenLemmas.{scaled_in, low_of, high_of}
-use Rattle.noding_core.specs.Nodes.{IsAmong, NodedEdge, AreNoded, AreAllNoded, middle}
+use Rattle.noding_core.specs.Nodes.{IsAmong, NodedEdge, AreNoded, middle}
 use Rattle.noding_core.specs.Marks.{all_edges, all_points, HasFace, IsPiece}
 use Rattle.noding_core.proofs.AmongLemmas.{among_either, among_flat}
 use Rattle.noding_core.proofs.ArrangementLemmas.{IsArrangement, middle_in_piece, Straight, Turned, taken_of, piece_flip}
-use Rattle.noding_core.proofs.ExistLemmas.{HasNodeList, nodes_exist}
+use Rattle.noding_core.proofs.ExistLemmas.{nodes_exist}
 use Rattle.noding_core.proofs.FaceLemmas.{face_complete}
-use Rattle.noding_core.proofs.LineLemmas.{IsForward}
 use Rattle.noding_core.proofs.FlipLemmas.{flip, is_on-flip, is_below-flip, is_at_or_below-flip, forward_or_flipped, is_at-itself}
-use Rattle.noding_core.proofs.MatrixLemmas.{some_or_none}
 use Rattle.noding_core.proofs.NodeLemmas.{all_among, edge_in}
 use Rattle.noding_core.proofs.OffPartLemmas.{IsOffAll, off_part-is, off_part-same, above_part-is, first_on, last_on}
 use Rattle.noding_core.proofs.OpenLemmas.{open_triangle}
-use Rattle.noding_core.proofs.OrderLemmas.{width_mix}
 use Rattle.noding_core.proofs.PassLemmas.{at_or_below_off}
 use Rattle.noding_core.proofs.PathLemmas.{edge_length, all_length}
 use Rattle.noding_core.proofs.PieceLemmas.{level_mix, piece_on}
 use Rattle.noding_core.proofs.ReadOffLemmas.{among_each}
-use Rattle.noding_core.proofs.TestLemmas.{by_test, clash}
+use Rattle.noding_core.proofs.TestLemmas.{by_test}
 use Rattle.distance_core.specs.ShapePoints.{IsPointOf}
-use Rattle.geometry_distance_core.specs.Measured.{HasStartIn, HasStartInArea, starts_in, is_within}
-use Rattle.geometry_distance_core.specs.Skeletons.{is_on_skeleton, IsOnSkeleton, AreApart}
-use Rattle.noding_core.proofs.WayLemmas.{IsOnWay, IsMet, on_way_wide}
-use Rattle.noding_core.proofs.MetLemmas.{MeetsSome, met_or_same}
-use Rattle.geometry_distance_core.proofs.SkeletonLemmas.{some_any, off_all, skeleton_in}
+use Rattle.geometry_distance_core.specs.Measured.{HasStartIn, HasStartInArea, is_within}
+use Rattle.geometry_distance_core.specs.Skeletons.{is_on_skeleton, IsOnSkeleton}
+use Rattle.noding_core.proofs.WayLemmas.{IsOnWay, on_way_wide}
+use Rattle.noding_core.proofs.MetLemmas.{met_or_same}
+use Rattle.geometry_distance_core.proofs.SkeletonLemmas.{some_any, off_all}
 
 -- ---- the points between two points of an edge are on it
 

@@ -1,8 +1,7 @@
 -- The starts of the paths of a geometry, one path after another.
-use Rattle.std.proofs.Common.{◌≡◌, ◌<◌, ◌≤◌, ◌+◌, ℕ, zero, suc, arith, ap, ◌∙◌, sym, true, false, refl, subst, inl, inr, List, [], ◌∷◌, length, get_or, below_more}
+use Rattle.std.proofs.Common.{◌≡◌, ◌<◌, ◌≤◌, ◌+◌, ℕ, suc, arith, ap, ◌∙◌, sym, true, false, subst, inl, inr, List, [], ◌∷◌, length, get_or, below_more}
 use Rattle.std.specs.Prelude.{Bool}
 use Rattle.std.specs.List.{list_any}
-use Rattle.std.proofs.lemmas.List.{get_or_default}
 use Rattle.plane_core.specs.declared.vertex.Vertex.{Vertex}
 use Rattle.plane_core.specs.Points.{at}
 use Rattle.plane_core.specs.Figures.{Figure, dim_of, part_of}

@@ -93,7 +93,9 @@ fn is_level(e: &Edge, v: &Vertex) -> bool
     e.side_of(v) == 0
 }
 
-/// Adds a vertex where it lies on the edge and is none of its ends, which are among the points.
+/// Adds a vertex where it lies on the edge and is none of its ends, which are among the points. One
+/// product tells that most vertices aren't on the edge's line.
+#[inline]
 fn push_inner(nodes: &mut Vec<Node>, e: &Edge, v: &Vertex) -> Result<(), AllocError>
     requires on { All (IsOn e.now) nodes.old.items }
     requires ends { HasEnds e.now nodes.old.items }
@@ -101,27 +103,13 @@ fn push_inner(nodes: &mut Vec<Node>, e: &Edge, v: &Vertex) -> Result<(), AllocEr
     ensures on { OnOk result (All (IsOn e.now) nodes.new.items) }
     ensures here { OnOk result (HasVertex e.now nodes.new.items v.now) }
 {
+    if !is_level(e, v) {
+        return Ok(());
+    }
     if is_end(e, v) {
-        Ok(())
-    } else {
-        push_vertex(nodes, e, v)
+        return Ok(());
     }
-}
-
-/// The same, where one product tells that most vertices aren't on the edge's line.
-#[inline]
-fn push_level(nodes: &mut Vec<Node>, e: &Edge, v: &Vertex) -> Result<(), AllocError>
-    requires on { All (IsOn e.now) nodes.old.items }
-    requires ends { HasEnds e.now nodes.old.items }
-    ensures kept { OnOk result (Extends nodes.old.items nodes.new.items) }
-    ensures on { OnOk result (All (IsOn e.now) nodes.new.items) }
-    ensures here { OnOk result (HasVertex e.now nodes.new.items v.now) }
-{
-    if is_level(e, v) {
-        push_inner(nodes, e, v)
-    } else {
-        Ok(())
-    }
+    push_vertex(nodes, e, v)
 }
 
 /// Adds the ends of another edge that lie on the edge, and the point where the two meet, except
@@ -142,8 +130,8 @@ fn push_meetings(nodes: &mut Vec<Node>, e: &Edge, f: &Edge) -> Result<(), AllocE
     if is_aside(e, f) {
         return Ok(());
     }
-    push_level(nodes, e, &f.a)?;
-    push_level(nodes, e, &f.b)?;
+    push_inner(nodes, e, &f.a)?;
+    push_inner(nodes, e, &f.b)?;
     push_meeting(nodes, e, f)?;
     Ok(())
 }

@@ -1,5 +1,5 @@
 -- The records of candidates that are decided block by block.
-use Rattle.std.proofs.Common.{◌≡◌, ℕ, ◌+◌, ◌<◌, List, [], ◌∷◌, ◌++◌, Result, Ok, Err, All, Contains, IsOk, length, refl, sym, ap, subst, ◌∙◌, append_assoc, append-nil}
+use Rattle.std.proofs.Common.{◌≡◌, ℕ, ◌+◌, ◌<◌, List, [], ◌∷◌, ◌++◌, Result, All, IsOk, length, sym, ap, subst, ◌∙◌, append_assoc, append-nil}
 use Rattle.std.specs.Global.{Global}
 use Rattle.std.specs.List.{flat_map}
 use Rattle.std.specs.declared.alloc.AllocError.{AllocError}
@@ -8,12 +8,12 @@ use Rattle.std.proofs.lemmas.List.{nil_from_length}
 use Rattle.std.proofs.lemmas.List.Elements.{All-nil, All-cons, All-head, All-tail, All-contains, Contains-get_or, Contains-append_left, Contains-append_right}
 use Rattle.layer_core.specs.Layers.{Contents}
 use Rattle.refine_core.specs.declared.refined.Refined.{Refined}
-use Rattle.refine_core.specs.Refinements.{AreRefined, none, kept, left_out, pairs_of, with_answer}
+use Rattle.refine_core.specs.Refinements.{AreRefined, none, kept, left_out, with_answer}
 use Rattle.refine_core.proofs.RefinementLemmas.{refined_append}
 use Rattle.report_core.specs.declared.columns.Columns.{Columns}
 use Rattle.report_core.specs.Columns.{AreColumnsFor}
 use Rattle.report_core.specs.RefinedReports.{AreMatches, AreRefinedRows, IsRefinedReport}
-use Rattle.report_core.specs.ReportRows.{AddsRows, AreRows, IsRowOf, header_line, text_or_none}
+use Rattle.report_core.specs.ReportRows.{AddsRows, IsRowOf, header_line, text_or_none}
 use Rattle.report_core.specs.Reports.{IsReportBy}
 use Rattle.report_core.specs.Written.{joined}
 use Rattle.report_core.proofs.ReportChunkLemmas.{no_rows, rows_append, report_of_chunks}

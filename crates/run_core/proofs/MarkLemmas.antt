@@ -1,5 +1,5 @@
 -- The rows of a file whose geometries have a property.
-use Rattle.std.proofs.Common.{◌≡◌, ◌≢◌, ◌+◌, ℕ, List, [], ◌∷◌, ◌++◌, ◌-◌, ◌<◌, ◌≤◌, ap, drop, get_or, length, map, refl, subst, sym, take, append-nil, append_assoc, ◌∙◌}
+use Rattle.std.proofs.Common.{◌≡◌, ◌≢◌, ◌+◌, ℕ, List, [], ◌∷◌, ◌++◌, ◌-◌, ◌<◌, ◌≤◌, ap, drop, get_or, length, map, subst, sym, take, append-nil, append_assoc, ◌∙◌}
 use Rattle.std.proofs.Common.{Option, Some, None, Result, Ok, Err, IfErr, IsErrAnd, OnOk}
 use Rattle.std.proofs.lemmas.List.{drop-map, drop_all, drop_more, take_rest}
 use Rattle.std.proofs.lemmas.Bool.Decides.{eqb_tells}

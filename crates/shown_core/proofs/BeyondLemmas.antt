@@ -15,7 +15,7 @@ use Rattle.plane_core.specs.Figures.{Figure, IsGeometry, HasLength, edges, edges
 use Rattle.plane_core.specs.Figures.Figure.{Points, Lines, Areas}
 use Rattle.plane_core.specs.Outlines.{outline_part, outline_above}
 use Rattle.plane_core.specs.Vertices as vertices
-use Rattle.plane_core.specs.Vertices.{paths_in, vertices_of}
+use Rattle.plane_core.specs.Vertices.{vertices_of}
 use Rattle.plane_core.proofs.OutlineLemmas.{outline_part-is, outline_above-is}
 use Rattle.plane_core.proofs.ScaleLemmas.{less_scaled}
 use Rattle.noding_core.specs.Nodes.{IsAmong}

@@ -1,7 +1,5 @@
-use Rattle.std.proofs.Common.{◌≡◌, ◌⊎◌, inl, inr, refl, List, subst}
+use Rattle.std.proofs.Common.{◌≡◌, ◌⊎◌, refl, List, subst}
 use Rattle.plane_core.specs.declared.vertex.Vertex.{Vertex}
-use Rattle.plane_core.specs.declared.outline.Kind.{Kind}
-use Rattle.plane_core.specs.declared.outline.Kind.TheVariants.{Points, Lines, Areas}
 use Rattle.geometry_distance_core.specs.Measured.{ArePointEdges}
 use Rattle.geometry_distance_core.proofs.MeasuredLemmas.{same_skeleton, dots_skeleton, not_dots}
 use Rattle.geometry_distance_core.proofs.measured.skeleton_of.Goals as goal

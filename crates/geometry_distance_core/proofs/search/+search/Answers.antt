@@ -1,4 +1,4 @@
-use Rattle.std.proofs.Common.{arith, rules, All, List, sym, subst}
+use Rattle.std.proofs.Common.{arith, All, List, sym, subst}
 use Rattle.rtree_core.specs.declared.node.Entry.{Entry}
 use Rattle.rtree_core.proofs.NodeLemmas.{level-le-top}
 use Rattle.rtree_core.proofs.WindowLemmas.{item_lawful}

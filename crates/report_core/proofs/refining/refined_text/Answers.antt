@@ -1,4 +1,4 @@
-use Rattle.std.proofs.Common.{All, ap, subst, sym, rules, ◌∙◌}
+use Rattle.std.proofs.Common.{All, subst, sym, rules, ◌∙◌}
 use Rattle.std.specs.Slice.Iter.{chunks_rest}
 use Rattle.report_core.specs.Columns.{AreColumnsFor}
 use Rattle.report_core.specs.ReportRows.{AddsRows, IsRowOf}

@@ -1,5 +1,5 @@
 use Rattle.std.proofs.Common.{refl, ◌+◌}
-use Rattle.run_core.proofs.EditsLemmas.{all_done, ends_at, none_done, one_done}
+use Rattle.run_core.proofs.EditsLemmas.{ends_at, none_done, one_done}
 use Rattle.run_core.proofs.edits.apply_edits.Goals as goal
 
 pub loop-edit-init : goal.loop-edit-init

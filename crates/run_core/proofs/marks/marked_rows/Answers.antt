@@ -1,6 +1,6 @@
 use Rattle.std.proofs.Common.{◌≡◌, ◌+◌, arith}
 use Rattle.std.proofs.lemmas.Grind.{common_steps}
-use Rattle.run_core.proofs.MarkLemmas.{all_read, none_marked, none_read, row_marked, row_unmarked}
+use Rattle.run_core.proofs.MarkLemmas.{all_read, none_marked, row_marked, row_unmarked}
 use Rattle.run_core.proofs.marks.marked_rows.Goals as goal
 
 pub returns-then-not-marks_any : goal.returns-then-not-marks_any

@@ -1,4 +1,4 @@
-use Rattle.std.proofs.Common.{◌≤◌, List, length, subst, ◌∙◌, take}
+use Rattle.std.proofs.Common.{◌≤◌, List, subst, ◌∙◌}
 use Rattle.plane_core.specs.declared.edge.Edge.{Edge}
 use Rattle.geometry_distance_core.specs.NearestPairs.{AddsPairs, of_all}
 use Rattle.geometry_distance_core.proofs.MeasuredLemmas.{all_none, all_more, all_all, box_far, from_none}
