@@ -33,7 +33,7 @@ from typing import BinaryIO
 ROOT = Path(__file__).resolve().parent.parent
 PROGRAM = ROOT / "crates/rjoin/out/rjoin"
 # The whole has to end before those who run it lose patience.
-MOST_MINUTES = 170
+MOST_MINUTES = 175
 # How long what is stopped may take to end.
 GRACE_SECONDS = 20
 # How long the lanes may print nothing before a line says which parts run.
