@@ -127,11 +127,19 @@ def test_texts_of_numbers(number: float, text: str) -> None:
 
 
 TRIANGLE: Ring = [(0, 0), (4, 1), (0, 4.5), (0, 0)]
+# The word and the part of a geometry's text, by its kind of WKB.
+FORMS = {1: ("MULTIPOINT", "{}"), 2: ("MULTILINESTRING", "{}"), 3: ("MULTIPOLYGON", "({})")}
 
 
 def wkt_of(wkb: bytes) -> str:
+    """The geometry as text, by its form and its coordinates."""
     form, coordinates = module("shapes").shape_of(wkb)
-    return str(form.wkt(map(module("decimals").text, coordinates)))
+    numbers = map(module("decimals").text, coordinates)
+    points = [[",".join(f"{next(numbers)} {next(numbers)}" for _ in range(count))
+               for count in rings] for rings in form.parts]
+    parts = [",".join(f"({ring})" for ring in rings) for rings in points]
+    word, part = FORMS[form.kind]
+    return f"{word}({','.join(map(part.format, parts))})"
 
 
 @pytest.mark.parametrize("wkb, text", [

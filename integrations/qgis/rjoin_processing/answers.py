@@ -79,11 +79,12 @@ class JoinFields:
     def of_pairs(self, pairs: Pairs) -> Iterator[List[Any]]:
         """The values of each pair."""
         known = not (self.meaning.needs_all and self.right.left_out)
+        exact = self.are_exact(pairs) if self.has_exact else None
         for begin in range(0, pairs.left.size, BLOCK):
             some = slice(begin, begin + BLOCK)
             columns = [column[some] for column in pairs.values]
-            if self.has_exact:
-                columns.append(self.are_exact(pairs.left[some], pairs.right[some]).tolist())
+            if exact is not None:
+                columns.append(exact[some].tolist())
             if self.has_known:
                 columns.append([known] * pairs.left[some].size)
             yield from map(list, zip(*columns))
@@ -95,7 +96,7 @@ class JoinFields:
         return [flag for flag, is_there in ((exact, self.has_exact),
                                             (not self.right.left_out, self.has_known)) if is_there]
 
-    def are_exact(self, left: Places, right: Places) -> Flags:
+    def are_exact(self, pairs: Pairs) -> Flags:
         """Which pairs rest on no envelope."""
-        return ~(np.isin(left, list(self.left.envelopes))
-                 | np.isin(right, list(self.right.envelopes)))
+        return ~(np.isin(pairs.left, list(self.left.envelopes))
+                 | np.isin(pairs.right, list(self.right.envelopes)))

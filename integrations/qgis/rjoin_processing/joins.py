@@ -219,7 +219,7 @@ class _Run:
             output, features = self._joined(added, pairs)
         count = pairs.left.size
         if added.has_exact:
-            inexact = count - int(added.are_exact(pairs.left, pairs.right).sum())
+            inexact = count - int(added.are_exact(pairs).sum())
             feedback.pushInfo("Pairs that rest on an envelope, where the field exact is false: "
                               f"{inexact} of {count}")
         output.add(features, lambda done: _goes_on(done / max(1, count), feedback))

@@ -5,7 +5,7 @@ Points, polylines and polygons, single or several of one kind. Empty parts are l
 from __future__ import annotations
 
 from math import isfinite
-from typing import Iterator, List, NamedTuple, Tuple
+from typing import List, NamedTuple, Tuple
 
 from . import decimals as units
 from .wkb import Kind, Point, Reader
@@ -16,7 +16,6 @@ Part = List[Ring]
 SINGLE = {Kind.POINT: Kind.POINT, Kind.LINE: Kind.LINE, Kind.POLYGON: Kind.POLYGON,
           Kind.MULTI_POINT: Kind.POINT, Kind.MULTI_LINE: Kind.LINE,
           Kind.MULTI_POLYGON: Kind.POLYGON}
-WORDS = {Kind.POINT: "MULTIPOINT", Kind.LINE: "MULTILINESTRING", Kind.POLYGON: "MULTIPOLYGON"}
 
 
 class NotRead(ValueError):
@@ -31,15 +30,6 @@ class Form(NamedTuple):
 
     kind: Kind
     parts: Tuple[Tuple[int, ...], ...]
-
-    def wkt(self, numbers: Iterator[str]) -> str:
-        """The well-known text with these coordinates, x and y in turn."""
-        parts = ",".join(self._part(rings, numbers) for rings in self.parts)
-        return f"{WORDS[self.kind]}({parts})"
-
-    def _part(self, rings: Tuple[int, ...], numbers: Iterator[str]) -> str:
-        lists = ",".join(_list(count, numbers) for count in rings)
-        return f"({lists})" if self.kind == Kind.POLYGON else lists
 
 
 class Shape(NamedTuple):
@@ -68,11 +58,6 @@ def shape_of(wkb: bytes, decimals: int | None = None) -> Shape:
         _check_polygons(parts, decimals)
     form = Form(kind, tuple(tuple(map(len, rings)) for rings in parts))
     return Shape(form, coordinates)
-
-
-def _list(count: int, numbers: Iterator[str]) -> str:
-    points = (f"{next(numbers)} {next(numbers)}" for _ in range(count))
-    return f"({','.join(points)})"
 
 
 def _read(reader: Reader) -> Tuple[Kind, List[Part]]:
