@@ -209,7 +209,7 @@ def boxes_of_simple(simple: Simple, all_envelopes: bool) -> Boxes:
 
 
 def have_slanted_steps(simple: Simple) -> Flags:
-    """Which geometries have a step along neither axis, or to a number that isn't finite."""
+    """Which geometries have a step along neither axis; one to a NaN in both counts as such."""
     x, y = (np.ascontiguousarray(simple.points[:, axis]) for axis in (0, 1))
     slanted = np.zeros(len(x) + 1, np.bool_)
     np.logical_and(x[1:] != x[:-1], y[1:] != y[:-1], out=slanted[1:-1])
