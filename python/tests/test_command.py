@@ -140,6 +140,25 @@ def test_faults_leave_nothing_and_are_told_in_a_line(files: Any, tmp_path: Path,
         assert told in capsys.readouterr().err
 
 
+def test_options_are_those_of_the_join(files: Any, real: str, tmp_path: Path,
+                                       monkeypatch: Any) -> None:
+    program = tmp_path / "rjoin"
+    program.write_text(f'#!/bin/sh\necho "$@" >>{tmp_path}/words\nexec "{real}" "$@"\n')
+    program.chmod(0o755)
+    monkeypatch.setenv("RJOIN", str(program))
+    output = tmp_path / "out.csv"
+    words = [*files, "--relation", "touches", "--overwrite", "-o", output]
+    for more, told in ((("--workers", "3"), "--workers 3"), (("--workers", "auto"),
+                                                             "--workers auto")):
+        (tmp_path / "words").write_text("")
+        assert ends([*words, *more]) == 0
+        assert (tmp_path / "words").read_text().count(told) == 1
+    town = geopandas.GeoDataFrame(geometry=[shapely_geometry.Point(1.25, 2)])
+    town.to_file(tmp_path / "fine.geojson", driver="GeoJSON")
+    fine = [tmp_path / "fine.geojson", *files[1:], *words[2:]]
+    assert ends([*fine, "--scale", "1"]) == 1 and ends([*fine, "--scale", "2"]) == 0
+
+
 def test_what_is_left_out_is_listed(files: Any, tmp_path: Path, capsys: Any) -> None:
     point, line = shapely_geometry.Point(5, 5), shapely_geometry.LineString([(0, 0), (9, 7)])
     mixed = geopandas.GeoDataFrame(

@@ -205,6 +205,33 @@ def test_numbers_out_of_range_and_wrong_arguments_are_refused() -> None:
         rjoin.stats(["POINT (1 1)"], decimals=2, scale=2)
 
 
+def test_a_scale_that_is_given_rounds_no_geometry() -> None:
+    """Of those that stand alone, whose decimals are counted before; 0.25 has 2."""
+    point, other = shapely_geometry.Point(0.25, 1), shapely_geometry.Point(0.2, 1)
+    for one, two, side in ((point, other, "first"), (other, point, "second")):
+        with pytest.raises(rjoin.InputError, match=f"^{side}: a coordinate has more than 1 dec"):
+            rjoin.relate(one, two, scale=1)
+        assert rjoin.relate(one, two, scale=2) == "FF0FFF0F2"
+    with pytest.raises(rjoin.InputError, match="^window: a coordinate has more than 1 dec"):
+        rjoin.window([other], point, scale=1)
+    assert rjoin.window([other, point], point, scale=2).tolist() == [1]
+
+
+@pytest.mark.parametrize("number", (2 ** 31, 2 ** 32 - 1, 2 ** 32, 5 * 10 ** 9, 10 ** 10 - 1,
+                                    10 ** 10, 10 ** 12 - 1, 10 ** 12))
+def test_great_numbers_are_written_digit_by_digit(number: int) -> None:
+    """On both sides of 0, as whole numbers and with a dot."""
+    for units in (number, -number):
+        for places in (0, 3):
+            text = text_of(units, places)
+            near = text_of(units + (-1 if units > 0 else 1), places)
+            points = [wkt.loads(f"POINT ({text} 1)"), wkt.loads(f"POINT ({near} 1)")]
+            for layer in (points, [point.wkt for point in points]):
+                found = rjoin.pairs(layer, [f"POINT ({text} 1)"], "equals")
+                assert found["left"].tolist() == [0]
+                assert rjoin.window(points, layer[1]).tolist() == [1]
+
+
 def test_texts_that_shapely_reads_are_rounded_too(tmp_path: Path) -> None:
     path = tmp_path / "layer.csv"
     for text in ("POINT Z (1.12345678 2 3)", "GEOMETRYCOLLECTION (POINT (1.12345678 2))",

@@ -163,6 +163,16 @@ def test_equal_features_are_left_out_if_others_are_looked_for(how: str,
     assert len(found) < 70 * 70
 
 
+def test_equal_features_are_left_out_if_the_base_has_fewer_features() -> None:
+    """Only the pair of the first base feature and the last other one is equal."""
+    base, others = [(0, 0, 0, 0), (50, 0, 50, 0)], [
+        (49, 0, 49, 0), (51, 0, 51, 0), (80, 0, 80, 0), (2, 0, 2, 0), (0, 0, 0, 0)]
+    joined = rjoin.sjoin_nearest(frame_of(base), frame_of(others), exclusive=True)
+    assert rows_of(joined, "inner") == [(0, 3), (1, 0), (1, 1)]
+    joined = rjoin.sjoin_nearest(frame_of(others), frame_of(base), "right", exclusive=True)
+    assert rows_of(joined, "right") == [(3, 0), (0, 1), (1, 1)]
+
+
 def test_distances_have_as_many_decimals_as_the_range_allows(monkeypatch: Any) -> None:
     def far(across: float, upwards: float, **options: Any) -> float:
         frames = [geopandas.GeoDataFrame(geometry=[shapely_geometry.Point(*place)])
@@ -255,6 +265,9 @@ def test_the_nearest_of_rings_that_are_not_proper() -> None:
         joined = rjoin.sjoin_nearest(point, crossed, distance_col="far")
     # The sides cross at 2, 2, and the nearest point of them is 3, 3.
     assert joined["index_right"].tolist() == ["b"] and joined["far"].tolist() == [1.414214]
+    for wrong in (crossed, pandas.concat([crossed, crossed])):
+        with pytest.warns(rjoin.ImproperRingsWarning, match="^right: [^;]*; the even-odd"):
+            rjoin.sjoin_nearest(point, wrong, "right")
     with pytest.warns(rjoin.ImproperRingsWarning, match="feature 'b'.*flat"):
         joined = rjoin.sjoin_nearest(point, flat, decimals=0)
     assert joined["index_right"].tolist() == ["a"]
@@ -291,6 +304,19 @@ def test_any_geometry_is_joined_within_a_distance() -> None:
     assert found["index_right"].fillna(-1).tolist() == [100, 101, 101]
 
 
+def test_rows_within_a_distance_of_an_envelope_say_so() -> None:
+    """Features whose envelopes are further apart are further apart themselves."""
+    boxes = frame_of([(8, 8, 8, 8), (30, 30, 30, 30)])
+    others = geopandas.GeoDataFrame(geometry=[TRIANGLE])
+    with pytest.warns(rjoin.EnvelopeWarning, match="; 1 of 2 rows"):
+        found = within(boxes, others, "left", other="envelope")
+    assert found["index_right"].fillna(-1).tolist() == [0, -1]
+    assert found["exact"].tolist() == [False, True]
+    with pytest.warns(rjoin.EnvelopeWarning, match="; 1 of 2 rows"):
+        found = within(others, boxes, "right", other="envelope")
+    assert found["exact"].tolist() == [False, True]
+
+
 def test_features_that_are_left_out_may_be_the_nearest() -> None:
     left = frame_of([(0, 0, 0, 0), (9, 9, 9, 9)])
     right = geopandas.GeoDataFrame(geometry=[shapely_geometry.Point(1, 1), COLLECTION, None])
@@ -304,6 +330,15 @@ def test_features_that_are_left_out_may_be_the_nearest() -> None:
         assert marked["known"].tolist() == [False, False]
         kept = rjoin.sjoin_nearest(left, right.iloc[[0, 2]], how, missing="keep")
         assert kept["index_right"].tolist() == [0, 0] and "known" not in kept.columns
+        with pytest.warns(rjoin.LeftOutWarning):
+            base = rjoin.sjoin_nearest(right, left, how, other="skip", missing="skip")
+        assert base.index.tolist() == [0] and base["index_right"].tolist() == [100]
+    with pytest.raises(rjoin.InputError, match="may be the partner of a row.*'mark'") as caught:
+        rjoin.sjoin_nearest(right, left, "right", other="skip", missing="skip")
+    assert (caught.value.side, caught.value.row) == ("left", 2)
+    with pytest.warns(rjoin.LeftOutWarning):
+        base = rjoin.sjoin_nearest(left, right, "right", other="skip", missing="skip")
+    assert base.index.tolist() == [0] and base["index_left"].tolist() == [100]
     turned = rjoin.sjoin_nearest(left, right.iloc[[0, 2]], "right", missing="keep")
     assert turned["index_left"].fillna(-1).tolist() == [100, -1]
     lefts = rjoin.sjoin_nearest(right.iloc[[0, 2]], left, "left", missing="keep",

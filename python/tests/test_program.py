@@ -251,9 +251,43 @@ def test_ids_and_texts_of_files_are_read_as_the_program_does(tmp_path: Path) -> 
     layer.write_text('id,wkt\na,"POINT (1 2)\n' + "b,POINT (1 2)\n" * 20_000)
     with pytest.raises(rjoin.InputError, match=r"row 1 \(feature 'a'\): not a geometry text"):
         rjoin.stats(layer)
+    layer.write_text("id,wkt\na,POINT (1 2)\nb,POINT (1 2),c\n")
+    for missing in ("error", "skip"):
+        with pytest.raises(rjoin.InputError, match="layer: row 2 .*wrong fields"):
+            rjoin.stats(layer, missing=missing)
     layer.write_text("id,wkt\na,POINT (1 2)\nb\0c,POINT (1 2)\n")
     with pytest.raises(rjoin.InputError, match="row 2 .*NUL"):
         rjoin.pairs(layer, layer)
+
+
+def test_a_file_whose_name_has_a_colon_goes_first(tmp_path: Path) -> None:
+    pytest.importorskip("pandas")
+    for name, count in (("town", 1), ("town:2026", 2)):
+        points = "".join(f"{place},POINT ({place} 0)\n" for place in range(count))
+        (tmp_path / name).write_text(f"id,wkt\n{points}")
+        assert rjoin.stats(tmp_path / name).features == count
+        assert rjoin.stats(f"{tmp_path}/{name}").features == count
+
+
+def test_a_text_is_a_word_of_the_command_line_up_to_the_length_of_one() -> None:
+    """Linux refuses a word of 131,072 bytes, the one that ends it included."""
+    pytest.importorskip("pandas")
+    for size in (131_071, 131_072):
+        text = "POINT" + " " * (size - len("POINT(1 2)")) + "(1 2)"
+        assert rjoin.window(["POINT (1 2)", "POINT (3 4)"], text).tolist() == [0]
+        if size == 131_071:
+            assert rjoin.relate(text, "POINT (1 2)") == "0FFFFFFF2"
+        else:
+            with pytest.raises(rjoin.InputError, match="first: its text has 131072 bytes, and "
+                                                       "131071 are the most"):
+                rjoin.relate(text, "POINT (1 2)")
+
+
+def test_a_temporary_folder_that_cannot_be_made_is_told(monkeypatch: Any, tmp_path: Path) -> None:
+    pytest.importorskip("pandas")
+    monkeypatch.setattr("tempfile.tempdir", str(tmp_path / "none"))
+    with pytest.raises(rjoin.RjoinError, match="^temporary files: No such file"):
+        rjoin.pairs(["POINT (0 0)"], ["POINT (0 0)"])
 
 
 def test_nothing_is_left_in_the_temporary_folder(monkeypatch: Any, tmp_path: Path) -> None:

@@ -251,17 +251,26 @@ def test_each_call_takes_the_scale_that_is_given(name: str) -> None:
             calls_of(layers)[name](scale=scale)
 
 
-@pytest.mark.parametrize("name", ("sjoin", "pairs"))
-def test_workers_are_those_that_are_given(name: str, real: str, tmp_path: Path,
-                                          monkeypatch: Any) -> None:
+def test_workers_are_those_that_are_given(real: str, tmp_path: Path, monkeypatch: Any) -> None:
+    """In each run of the program, of which a call may need several."""
     program = tmp_path / "rjoin"
     program.write_text(f'#!/bin/sh\necho "$@" >>{tmp_path}/words\nexec "{real}" "$@"\n')
     program.chmod(0o755)
     monkeypatch.setenv("RJOIN", str(program))
-    call = calls_of((["POINT (0 0)"], ["POINT (0 0)"]))[name]
-    call()
-    for workers in (1, 3, 16, "auto"):
-        call(workers=workers)
-    words = [line for line in (tmp_path / "words").read_text().splitlines() if "join" in line]
-    assert [line.rpartition("--workers ")[2] if "--workers" in line else "" for line in words
-            if line.startswith("join ")] == ["", "1", "3", "16", "auto"]
+    points = ["POINT (0 0)"]
+    frame = geopandas.GeoDataFrame(geometry=geopandas.GeoSeries.from_wkt(points))
+    calls: Tuple[Callable[..., Any], ...] = (
+        lambda **more: rjoin.pairs(points, points, **more),
+        lambda **more: rjoin.sjoin(frame, frame, **more),
+        lambda **more: rjoin.sjoin(frame, frame, "dwithin", distance=1, **more),
+        lambda **more: rjoin.sjoin_nearest(frame, frame, **more),
+        lambda **more: rjoin.sjoin_nearest(frame, frame, exclusive=True, **more))
+    for call in calls:
+        for workers in (None, 1, 3, 16, "auto"):
+            (tmp_path / "words").write_text("")
+            call(workers=workers)
+            lines = [line.split() for line in (tmp_path / "words").read_text().splitlines()
+                     if not line.startswith("--version")]
+            assert lines and all(("--workers" in line) == (workers is not None) for line in lines)
+            assert all(line[line.index("--workers") + 1] == str(workers) for line in lines
+                       if workers is not None)

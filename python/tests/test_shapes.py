@@ -254,6 +254,43 @@ def test_long_geometries_are_windows_and_letters_are_refused() -> None:
         rjoin.window(["LINESTRING (1 1, 1 1)"], line)
 
 
+def test_what_two_parts_both_cover_is_outside() -> None:
+    """A part within another one is a hole, as a ring of a polygon would be."""
+    crossing = "MULTIPOLYGON (((0 0, 4 0, 4 4, 0 4, 0 0)), ((2 2, 6 2, 6 6, 2 6, 2 2)))"
+    nested = "MULTIPOLYGON (((0 0, 9 0, 9 9, 0 9, 0 0)), ((2 2, 4 2, 4 4, 2 4, 2 2)))"
+    points = ["POINT (1 1)", "POINT (3 3)", "POINT (5 5)"]
+    for given in (crossing, wkt.loads(crossing)):
+        with pytest.warns(rjoin.ImproperRingsWarning):
+            assert rjoin.pairs([given], points, "contains")["right"].tolist() == [0, 2]
+    with warnings.catch_warnings():
+        warnings.simplefilter("error", rjoin.ImproperRingsWarning)
+        for given in (nested, wkt.loads(nested)):
+            for rings in ("even-odd", "proper"):
+                found = rjoin.pairs([given], points, "contains", rings=rings)
+                assert found["right"].tolist() == [0, 2]
+
+
+def test_rings_of_long_windows_are_read_as_those_of_short_ones() -> None:
+    """Two triangles that meet where a line crosses a side of 30,000 points."""
+    up = [(place, place) for place in range(30_000)]
+    bow_tie = shapely_geometry.Polygon([*up, (29_999, 0), (0, 29_999)])
+    triangle = shapely_geometry.Polygon([*up, (29_999, 0)])
+    points = ["POINT (29998 15000)", "POINT (15000 1)", "POINT (1 15000)"]
+    for window in (bow_tie, bow_tie.wkt):
+        for layer in (points, geopandas.GeoSeries.from_wkt(points)):
+            with pytest.warns(rjoin.ImproperRingsWarning, match="^window: rings [^;]*; the"):
+                assert rjoin.window(layer, window).tolist() == [0, 2]
+            with pytest.raises(rjoin.InputError, match="^window: rings cross") as refused:
+                rjoin.window(layer, window, rings="proper")
+            assert refused.value.row is None
+    crossed = ["POINT (29998 15000)", "POLYGON ((9 0, 13 4, 13 0, 9 4, 9 0))", "POINT (1 2)"]
+    for window in (triangle, triangle.wkt):
+        with pytest.warns(rjoin.ImproperRingsWarning, match="^layer: row 2 .* rings [^;]*; the"):
+            assert rjoin.window(crossed, window).tolist() == [0, 1]
+        with pytest.raises(rjoin.InputError, match="^layer: row 2 .feature 1.: rings cross"):
+            rjoin.window(crossed, window, rings="proper")
+
+
 @pytest.mark.parametrize("chunk, few", ((1, 0), (7, 3), (1 << 16, 1000)))
 def test_outlines_are_read_and_written_alike_in_parts(monkeypatch: Any, chunk: int,
                                                       few: int) -> None:
@@ -376,5 +413,16 @@ def test_rings_that_are_not_proper_are_read_by_the_even_odd_rule_or_refused() ->
         assert caught[0].filename == __file__
         with pytest.raises(rjoin.InputError, match="(first|second): (rings cross|a line without)"):
             rjoin.relate(first, second, rings="proper")
+    frame = geopandas.GeoDataFrame(geometry=layer)
+    calls: Tuple[Callable[..., Any], ...] = (
+        lambda **rules: rjoin.sjoin(frame, frame, **rules),
+        lambda **rules: rjoin.draw(points, layer, **rules),
+        lambda **rules: rjoin.window(points, layer["b"], **rules),
+        lambda **rules: rjoin.window(layer, points[0], **rules))
+    for call in calls:
+        with pytest.warns(rjoin.ImproperRingsWarning):
+            call()
+        with pytest.raises(rjoin.InputError, match="(rings cross|a line without)"):
+            call(rings="proper")
     with pytest.raises(rjoin.ArgumentError, match="rings must be"):
         rjoin.stats(layer, rings="even")

@@ -100,6 +100,21 @@ def test_suffixes_and_columns_are_those_of_geopandas(town: Any) -> None:
         assert ours.crs == left.crs and ours.geometry.name == geometry
 
 
+def test_the_geometry_of_a_result_keeps_its_name(town: Any) -> None:
+    """Beside a column of the other frame that has this name, as in GeoPandas 1."""
+    areas = town["parcels"]
+    places = town["stations"].rename_geometry("place").assign(geometry="a text")
+    names = ["id_left", "geometry", "index_right", "id_right", "geometry_right"]
+    for how in ("inner", "left"):
+        ours = rjoin.sjoin(areas, places, "contains", how)
+        assert list(ours.columns) == names and ours.geometry.name == "geometry"
+        assert set(ours["geometry_right"].dropna()) == {"a text"}
+        assert ours.geometry.tolist() == areas.geometry.loc[ours.index].tolist()
+    ours = rjoin.sjoin(places, areas, "within", "right")
+    assert list(ours.columns) == ["index_left", "id_left", "geometry_left", "id_right", "geometry"]
+    assert ours.geometry.tolist() == areas.geometry.loc[ours.index].tolist()
+
+
 def test_a_right_join_has_the_order_of_the_right_frame(town: Any) -> None:
     left, right = town["roads"], town["parcels"]
     pairs = rjoin.pairs(left, right, "crosses", ids="position")[["right", "left"]]
@@ -152,7 +167,13 @@ def test_rows_are_joined_where_columns_are_equal_too(town: Any) -> None:
     kept = plain[(plain["block_left"] == plain["block_right"])
                  & (plain["side_left"] == plain["side_right"])]
     assert both.index.tolist() == kept.index.tolist()
+    testing.assert_geodataframe_equal(rjoin.sjoin(left, right, on_attribute=("block", "side")),
+                                      both)
     assert "block_right" not in both.columns and "block" in both.columns
+    lettered = rjoin.sjoin(left, right, on_attribute="block", matrix=True)
+    letters = [left.geometry[one].relate(right.geometry[other])
+               for one, other in zip(lettered.index, lettered["index_right"])]
+    assert lettered["matrix"].tolist() == letters and len(set(letters)) > 1
     missing = left.assign(block=np.nan), right.assign(block=np.nan)
     assert rjoin.sjoin(*missing, on_attribute="block").empty
     alone = rjoin.sjoin(*missing, how="right", on_attribute="block")
@@ -225,6 +246,13 @@ def test_a_warning_tells_of_two_reference_systems(town: Any) -> None:
     with warnings.catch_warnings():
         warnings.simplefilter("error", UserWarning)
         rjoin.sjoin(town["parcels"], town["roads"])
+    with pytest.warns(UserWarning, match="CRS mismatch"):
+        assert rjoin.sjoin(town["parcels"], other, how="right").crs == other.crs
+    unknown = geopandas.GeoDataFrame(geometry=town["roads"].geometry.tolist())
+    calls: Tuple[Callable[..., Any], ...] = (rjoin.sjoin, rjoin.sjoin_nearest)
+    for call in calls:
+        with pytest.warns(UserWarning, match="CRS mismatch"):
+            call(town["parcels"], unknown)
 
 
 @pytest.mark.parametrize("predicate", ("disjoint", "coveredby", "coveredBy", "inner",
@@ -250,8 +278,10 @@ def test_wrong_arguments_are_refused_before_anything_is_read(town: Any) -> None:
             rjoin.sjoin(left, right, **{name: value})
     with pytest.raises(ValueError, match="GeoDataFrame"):
         rjoin.sjoin(left.geometry, right)
-    with pytest.raises(rjoin.ArgumentError, match="relation must be a text"):
-        rjoin.sjoin(left, right, ["intersects"])  # type: ignore[arg-type]
+    calls: Tuple[Callable[..., Any], ...] = (rjoin.sjoin, rjoin.pairs, rjoin.draw)
+    for call, value in itertools.product(calls, (None, ["intersects"])):
+        with pytest.raises(rjoin.ArgumentError, match="relation must be a text"):
+            call(left, right, value)
 
 
 def test_many_boxes_are_joined_as_geopandas_does() -> None:

@@ -13,6 +13,7 @@ decimals: the number of decimals that coordinates are rounded to, 0 to 6, a half
 `"auto"` takes 6, or as many as the program's range allows. The result has the number as `decimals`.
 rings: `"even-odd"` reads polygons whose rings cross, overlap or are flat by the even-odd rule, and
 an ImproperRingsWarning says how many there are and names the first five; `"proper"` refuses them.
+What two parts of a MULTIPOLYGON both cover is outside by this rule.
 other: what happens to geometries of other types: `"error"` raises an InputError, `"skip"` leaves
 them out. With `"envelope"` all that are no point, axis-parallel segment or rectangle are replaced
 by their envelopes, and frames have a last column `exact`, which is False where a row rests on one.
@@ -80,7 +81,8 @@ def pairs(left: Any, right: Any, relation: str = "intersects", *, scale: Optiona
     from rjoin import joining
     from rjoin.sources import Rules
 
-    reading = reading_of(relation, scale, decimals, rings, workers, ids)
+    relations.check(relation)
+    reading = reading_of(scale, decimals, rings, workers, ids)
     job = joining.job_of((("left", left), ("right", right)), reading, Rules(other, missing))
     job.warn_of_crs(depth=1)
     found = joining.joined(job, relation, workers, matrix=True)
@@ -105,7 +107,7 @@ def window(layer: Any, geometry: Any, *, scale: Optional[int] = None, decimals: 
     from rjoin import joining
     from rjoin.sources import Rules
 
-    reading = reading_of("intersects", scale, decimals, rings, None, ids)
+    reading = reading_of(scale, decimals, rings, ids=ids)
     place = joining.single(geometry, "window", reading)
     job = joining.job_of((("layer", layer),), reading, Rules(other, missing), [place])
     found = joining.met(job, place).to_frame()
@@ -126,7 +128,7 @@ def stats(layer: Any, *, scale: Optional[int] = None, decimals: Decimals = None,
     from rjoin import joining
     from rjoin.sources import Rules
 
-    reading = reading_of("intersects", scale, decimals, rings)
+    reading = reading_of(scale, decimals, rings)
     job = joining.job_of((("layer", layer),), reading, Rules(other, missing))
     counts = joining.counted(job)
     attributes = job.finish({}, depth=1)
@@ -138,7 +140,7 @@ def relate(first: Any, second: Any, *, scale: Optional[int] = None, decimals: De
     """The nine letters of DE-9IM of two geometries, by Shapely or as well-known text."""
     from rjoin import joining
 
-    reading = reading_of("intersects", scale, decimals, rings)
+    reading = reading_of(scale, decimals, rings)
     job = joining.Job((), reading, [joining.single(first, "first", reading),
                                     joining.single(second, "second", reading)])
     letters = joining.related(job)
@@ -156,21 +158,20 @@ def draw(left: Any, right: Any, relation: str = "intersects", *, scale: Optional
     from rjoin import joining
     from rjoin.sources import Rules
 
-    reading = reading_of(relation, scale, decimals, rings)
+    relations.check(relation)
+    reading = reading_of(scale, decimals, rings)
     job = joining.job_of((("left", left), ("right", right)), reading, Rules(other, missing))
     job.warn_of_crs(depth=1)
     svg = joining.drawn(job, relation)
     return Picture(svg, **job.finish({}, depth=1))
 
 
-def reading_of(relation: Optional[str], scale: Optional[int], decimals: Decimals, rings: str,
-               workers: Workers = None, ids: str = "label") -> "Reading":
-    """How numbers and rings are read; without a relation, none is checked.
+def reading_of(scale: Optional[int], decimals: Decimals, rings: str, workers: Workers = None,
+               ids: str = "label") -> "Reading":
+    """How numbers and rings are read.
 
     Wrong arguments, and a missing program, are refused before a layer is looked at.
     """
-    if relation is not None:
-        relations.check(relation)
     check_number("scale", scale, 0, MOST_DECIMALS)
     if workers != "auto":
         check_number("workers", workers, 1, MOST_WORKERS, "'auto' or None")

@@ -120,11 +120,12 @@ class Notices(NamedTuple):
 
 def run(arguments: argparse.Namespace) -> Notices:
     """Joins, and writes each file whole or not at all."""
-    from rjoin import calls
+    from rjoin import calls, relations
 
     check_outputs(arguments)
-    reading = calls.reading_of(arguments.relation, arguments.scale, arguments.decimals,
-                               arguments.rings, arguments.workers)
+    relations.check(arguments.relation)
+    reading = calls.reading_of(arguments.scale, arguments.decimals, arguments.rings,
+                               arguments.workers)
     left = layer(arguments.left, "left", arguments.left_id, reading.rounds)
     right = layer(arguments.right, "right", arguments.right_id, reading.rounds)
     pairs = calls.pairs(left, right, arguments.relation, scale=reading.scale,

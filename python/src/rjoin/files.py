@@ -6,11 +6,11 @@ import os
 from contextlib import contextmanager
 from itertools import islice
 from pathlib import Path
-from typing import Any, Dict, Iterator, List, Mapping, NamedTuple, Optional
+from typing import Any, Dict, Iterable, Iterator, List, Mapping, NamedTuple, Optional
 
 import pandas
 
-from rjoin import texts
+from rjoin import outputs, texts
 from rjoin.errors import InputError
 
 HEADER = b"id,wkt"
@@ -99,8 +99,7 @@ def read(text: "str | os.PathLike[str]", side: str, rounds: bool = False) -> Any
     try:
         if is_plain(place):
             return read_plain(place, side, rounds)
-        named = {} if place.layer is None else {"layer": place.layer}
-        frame = geopandas.read_file(place.path, **named)
+        frame = read_by_gdal(place)
     except InputError:
         raise
     except Exception as fault:
@@ -110,16 +109,45 @@ def read(text: "str | os.PathLike[str]", side: str, rounds: bool = False) -> Any
     return frame
 
 
-def read_plain(place: Place, side: str, rounds: bool) -> Any:
-    """The file of the program's own form as a GeoDataFrame with the column `id`."""
+def read_by_gdal(place: Place) -> Any:
+    """The layer as GeoPandas reads it; where it cannot hold a geometry, read in two parts."""
     import geopandas
 
+    named = {} if place.layer is None else {"layer": place.layer}
+    try:
+        return geopandas.read_file(place.path, **named)
+    except ValueError:
+        if outputs.has_pyogrio():
+            raise
+    import fiona
+    from shapely.geometry import shape
+
+    fields = geopandas.read_file(place.path, ignore_geometry=True, **named)
+    with fiona.open(place.path, **named) as layer:
+        geometries = [feature["geometry"] and shape(feature["geometry"]) for feature in layer]
+    return frame_of(fields, geometries, geopandas.read_file(place.path, rows=0, **named).crs)
+
+
+def frame_of(fields: Any, geometries: Iterable[Any], crs: Any = None) -> Any:
+    """A GeoDataFrame without empty multipoints, which GeoPandas 0.12 with Shapely 1.8 cannot hold.
+
+    There NumPy asks each multipoint for its coordinates.
+    """
+    import geopandas
+    from shapely.geometry import MultiPoint
+
+    held = [None if isinstance(one, MultiPoint) and one.is_empty else one for one in geometries]
+    return geopandas.GeoDataFrame(fields, geometry=held, crs=crs)
+
+
+def read_plain(place: Place, side: str, rounds: bool) -> Any:
+    """The file of the program's own form as a GeoDataFrame with the column `id`."""
     rows = table_of(place, side)
     geometries, reason = texts.geometries_of(rows["wkt"].to_numpy(object), rounds)
     if reason:
         place_of_fault = len(geometries)
         raise InputError(side, reason, place_of_fault + 1, rows["id"][place_of_fault])
-    return geopandas.GeoDataFrame(rows[["id"]], geometry=geometries)
+    return frame_of(rows[["id"]], geometries)
 
 
 def table_of(place: Place, side: str) -> Any:

@@ -157,6 +157,8 @@ def simple_by_geos(geometries: Objects) -> Optional[Simple]:
     """The same for geometries of Shapely 1.8, whose points GEOS copies if it is 3.10 or later.
 
     Only the outer ring of a polygon is copied: where it has others, no points are there at the end.
+    None if one is empty: an empty geometry may be Shapely's empty collection, whatever its class,
+    and GEOS has neither a ring nor a sequence of points of a collection.
     """
     from shapely import geometry
     from shapely.geos import lgeos
@@ -178,6 +180,8 @@ def simple_by_geos(geometries: Objects) -> Optional[Simple]:
         return list(map(function, repeat(lgeos.geos_handle), *columns))
 
     size = np.array(called("GEOSGetNumCoordinates", pointers, returns=ctypes.c_int), np.int64)
+    if not size.all():
+        return None
     areas = np.flatnonzero(kind == Kind.POLYGON)
     lines = np.array(pointers, np.uint64)
     lines[areas] = called("GEOSGetExteriorRing", lines[areas].tolist())
@@ -187,7 +191,7 @@ def simple_by_geos(geometries: Objects) -> Optional[Simple]:
     sequences = called("GEOSGeom_getCoordSeq", lines.tolist())
     copied = called("GEOSCoordSeq_copyToBuffer", sequences, places, repeat(0), repeat(0),
                     returns=ctypes.c_int)
-    full = all(copied) and not np.isnan(points[ends[size > 0] - 1]).any()
+    full = all(copied) and not np.isnan(points[ends - 1]).any()
     return Simple(kind, points, size) if full else None
 
 
@@ -262,13 +266,15 @@ def binary_of(geometries: Objects) -> List[bytes]:
 def written_by_geos(geometries: Objects) -> List[bytes]:
     """Geometries of Shapely 1.8 as two-dimensional little-endian well-known binary.
 
-    GEOS writes each; Shapely's own call for one takes twice the time.
+    GEOS writes each; Shapely's own call for one takes twice the time, but asks an adapter for the
+    geometry that it has not made yet, in whose place it has the empty collection.
     """
+    from shapely.geometry.base import EMPTY
     from shapely.geos import WKBWriter, lgeos
 
     writer = WKBWriter(lgeos, output_dimension=2, big_endian=False)
     pointers = [geometry.__geom__ for geometry in geometries]
-    if None in pointers:
+    if EMPTY in pointers or None in pointers:
         return list(map(writer.write, geometries))
     library = ctypes.PyDLL(lgeos._lgeos._name)
     write = library.GEOSWKBWriter_write_r

@@ -8,6 +8,7 @@ from __future__ import annotations
 import warnings
 from typing import TYPE_CHECKING, Any, Dict, NamedTuple, Optional, Tuple
 
+from rjoin import relations
 from rjoin.calls import Decimals, Workers, reading_of
 from rjoin.errors import ArgumentError
 
@@ -38,13 +39,15 @@ def sjoin(left: "geopandas.GeoDataFrame", right: "geopandas.GeoDataFrame",
     The columns and the index are those of geopandas.sjoin. With `how` as `"inner"` or `"left"` they
     are the left index and columns, the right index, and the right columns but for the geometry,
     with suffixes where both frames have a name; with `"right"` the left index and columns but for
-    the geometry, and the right columns and index. By `"left"` and `"right"` a row of this side
-    without a partner is kept, with missing values. Rows come in the order of the left frame and
-    then of the right one, and with `"right"` of the right frame and then of the left one. As there,
-    a warning tells of two reference systems.
+    the geometry, and the right columns and index. The geometry of the result has no suffix, also
+    where GeoPandas 0.12 gives it one and returns no GeoDataFrame. By `"left"` and `"right"` a row
+    of this side without a partner is kept, with missing values. Rows come in the order of the left
+    frame and then of the right one, and with `"right"` of the right frame and then of the left one.
+    As there, a warning tells of two reference systems.
 
     predicate: intersects, touches, crosses, within, contains, overlaps, equals, covers, covered_by,
-    contains_properly, a DE-9IM mask, or dwithin, which is at most `distance` apart.
+    contains_properly, a DE-9IM mask, or dwithin, which is at most `distance` apart. None, by which
+    GeoPandas joins envelopes, is refused; `other="envelope"` joins them.
     distance: one number, in the units of the coordinates, and rounded as these are.
     on_attribute: a column, or a list or tuple of columns, of both frames, whose values have to be
     equal too.
@@ -62,7 +65,9 @@ def sjoin(left: "geopandas.GeoDataFrame", right: "geopandas.GeoDataFrame",
 
     relation = predicate_of(predicate, op)
     length = length_of(relation, distance, matrix)
-    reading = reading_of(None if length else relation, scale, decimals, rings, workers)
+    if length is None:
+        relations.check(relation)
+    reading = reading_of(scale, decimals, rings, workers)
     rules = frames.rules_of(how, frames.Suffixes(lsuffix, rsuffix), on_attribute)
     frames.check(left, right, rules)
     frames.check_incomplete(incomplete, how)
@@ -110,7 +115,7 @@ def sjoin_nearest(left: "geopandas.GeoDataFrame", right: "geopandas.GeoDataFrame
     from rjoin.lengths import Measure
     from rjoin.sources import Rules
 
-    reading = reading_of(None, scale, decimals, rings, workers)
+    reading = reading_of(scale, decimals, rings, workers)
     rules = frames.rules_of(how, frames.Suffixes(lsuffix, rsuffix))
     frames.check(left, right, rules)
     frames.check_incomplete(incomplete)
