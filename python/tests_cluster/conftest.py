@@ -10,6 +10,7 @@ from contextlib import contextmanager
 from dataclasses import dataclass
 from importlib import import_module
 from pathlib import Path
+from tempfile import TemporaryDirectory
 from typing import Any, Iterator, Sequence
 
 import pytest
@@ -21,9 +22,13 @@ os.environ["PYTHONPATH"] = os.pathsep.join(
     [str(SOURCES), *filter(None, [os.environ.get("PYTHONPATH")])]
 )
 
+# Where dask's workers keep their own files, as else in a folder that is the same for all users.
+WORKERS = TemporaryDirectory(prefix="rjoin-workers-")
+os.environ["DASK_TEMPORARY_DIRECTORY"] = WORKERS.name
+
 distributed: Any = import_module("distributed")
 
-WAIT = 60
+WAIT = 120
 
 
 @dataclass(frozen=True)
@@ -38,6 +43,14 @@ class Ended:
 def ended(command: Sequence[Any]) -> Ended:
     process = subprocess.run([str(word) for word in command], capture_output=True, check=False)
     return Ended(process.returncode, process.stdout, process.stderr.decode())
+
+
+def told(errors: str) -> str:
+    """What a command has told, but for the warning that its scheduler has no TLS."""
+    from rjoin_cluster.cluster import OPEN_PORTS
+
+    lines = errors.splitlines(keepends=True)
+    return "".join(line for line in lines if not line.endswith(f": {OPEN_PORTS}\n"))
 
 
 @pytest.fixture(scope="session")
@@ -144,36 +157,58 @@ def hear_signals() -> None:
         signal.signal(ending, signal.SIG_DFL)
 
 
+# Neither tells other users of the machine anything.
+CLOSED = {f"DASK_DISTRIBUTED__{part}__HTTP__ROUTES": "[]" for part in ("SCHEDULER", "WORKER")}
+
+
+@contextmanager
+def dask_process(part: str, folder: Path, *words: str, **environment: str) -> Iterator[Any]:
+    """A scheduler or a worker, as the page on clusters starts it, which is ended in the end."""
+    command = [sys.executable, "-m", f"distributed.cli.dask_{part}", "--no-dashboard"]
+    command += ["--scheduler-file", str(folder / "scheduler.json"), *words]
+    closed = {**os.environ, **CLOSED, **environment}
+    with subprocess.Popen(command, stderr=subprocess.DEVNULL, env=closed) as process:
+        try:
+            yield process
+        finally:
+            process.kill()
+
+
+def own_scheduler(folder: Path, *tls: str) -> Any:
+    words = ["--host", "127.0.0.1", "--port", "0", "--dashboard-address", "127.0.0.1:0", *tls]
+    return dask_process("scheduler", folder, *words, *(["--protocol", "tls"] if tls else []))
+
+
+def own_worker(folder: Path, *tls: str, **environment: str) -> Any:
+    """A worker with one thread, whose own files lie in a folder of the user alone."""
+    local = folder / "workers"
+    local.mkdir(0o700, exist_ok=True)
+    words = ["--nthreads", "1", "--no-nanny", "--local-directory", str(local)]
+    return dask_process("worker", folder, *words, *tls, **environment)
+
+
+def address_of(folder: Path, workers: int, security: Any = None) -> str:
+    """The address of the scheduler of a folder, once it has so many workers."""
+    more = {"timeout": WAIT, "security": security}
+    with distributed.Client(scheduler_file=str(folder / "scheduler.json"), **more) as client:
+        client.wait_for_workers(workers, timeout=WAIT)
+        return str(client.scheduler.address)
+
+
 @contextmanager
 def own_processes(folder: Path, security: Any = None, *tls: str) -> Iterator[tuple[str, int]]:
-    """The address of a scheduler in a process of its own, with a worker, and its number. Both are
-    started as the page on clusters says.
-    """
-    python, file = [sys.executable, "-m"], folder / "scheduler.json"
-    files, null = ["--scheduler-file", str(file), "--no-dashboard", *tls], subprocess.DEVNULL
-    address = ["distributed.cli.dask_scheduler", "--host", "127.0.0.1", "--port", "0"]
-    if tls:
-        address += ["--protocol", "tls"]
-    worker = ["distributed.cli.dask_worker", "--nthreads", "1", "--no-nanny"]
-    local = ["--local-directory", str(folder / "workers")]
-    with subprocess.Popen([*python, *address, *files], stderr=null) as scheduler:
-        with subprocess.Popen([*python, *worker, *files, *local], stderr=null) as process:
-            try:
-                more = {"timeout": WAIT, "security": security}
-                with distributed.Client(scheduler_file=str(file), **more) as client:
-                    client.wait_for_workers(1, timeout=WAIT)
-                    name = client.scheduler.address
-                yield name, scheduler.pid
-            finally:
-                process.kill()
-                scheduler.kill()
+    """The address of a scheduler in a process of its own, with a worker, and its number."""
+    with own_scheduler(folder, *tls) as scheduler, own_worker(folder, *tls):
+        yield address_of(folder, 1, security), scheduler.pid
 
 
 def wait_for(tools: Tools, name: str, process: Any) -> None:
     """Waits until a step of the join has left some file."""
     end = time.monotonic() + WAIT
     while not list(tools.folder.glob(f"rjoin-cluster-*/{name}")):
-        assert process.poll() is None and time.monotonic() < end, process.stderr.read()
+        if process.poll() is not None or time.monotonic() > end:
+            process.kill()
+            pytest.fail(process.stderr.read())
         time.sleep(0.01)
 
 

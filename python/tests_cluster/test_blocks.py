@@ -15,7 +15,7 @@ from rjoin_cluster.conditions import Reach
 from rjoin_cluster.inputs import find_inputs
 from rjoin_cluster.program import Program, RowFault
 from rjoin_cluster.reading import Reading
-from rjoin_cluster.records import scan
+from rjoin_cluster.records import BYTE_ORDER_MARK, WINDOW, scan
 from rjoin_cluster.sides import Side
 
 MOST = 60
@@ -75,7 +75,7 @@ class SmallProgram(Program):
 
     def bounds(self, layer: Sequence[Any]) -> Any:
         answer = super().bounds(layer)
-        rows = 0 if isinstance(answer, RowFault) else len(read_answer(answer).boxes)
+        rows = 0 if isinstance(answer, RowFault) else len(read_answer(answer.output).boxes)
         return answer if rows <= FEW else RowFault(FEW + 1, parts.FULL)
 
 
@@ -93,15 +93,28 @@ def test_a_block_of_more_features_than_a_run_takes(
     assert fault is not None and fault.row == 52
 
 
+@pytest.mark.parametrize("mark", [b"", BYTE_ORDER_MARK])
+@pytest.mark.parametrize("end", [b"\n", b"\r\n", b"\r"])
+@pytest.mark.parametrize("count", [0, 1, 9, WINDOW])
+def test_where_the_header_begins(tmp_path: Path, mark: bytes, end: bytes, count: int) -> None:
+    """Behind any number of line ends, also of more than are read at once."""
+    layer, before = tmp_path / "layer.csv", mark + end * count
+    layer.write_bytes(before + b"id,wkt\r\n")
+    file = find_inputs(str(layer), str(layer))[Side.LEFT]
+    assert blocks.header_begin(file) == len(before)
+
+
 @pytest.mark.parametrize("geometry", ["POINT (1 1)", '"LINESTRING (1 1, 2 1)"'])
 def test_a_segment_is_what_its_whole_is(
     tmp_path: Path, geometry: str, monkeypatch: pytest.MonkeyPatch
 ) -> None:
     """Where both ends tell, as they do of rows with quotes, and where they don't."""
     monkeypatch.setattr(blocks, "END_BYTES", 100)
-    layer = write_layer(tmp_path / "layer.csv", [(f"n{number}", geometry) for number in range(99)])
+    rows = [(f"n{number}", geometry) for number in range(99)]
+    layer = str(write_layer(tmp_path / "layer.csv", rows))
+    file = find_inputs(layer, layer)[Side.LEFT]
     for begin in range(7, 60):
-        segment = blocks.Extent(Side.LEFT, str(layer), 0, begin, layer.stat().st_size)
+        segment = blocks.Extent(file, 0, begin, file.bytes)
         found, whole = blocks.scan_segment(segment), scan(segment.read())
         assert found.passages == whole.passages
         assert abs(found.line_feeds - whole.line_feeds) < 20

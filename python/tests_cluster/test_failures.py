@@ -14,7 +14,7 @@ import layers
 import numpy as np
 import pytest
 from conftest import (
-    WAIT, Tools, check_left_nothing, distributed, own_processes, running_group, wait_for
+    WAIT, Tools, check_left_nothing, distributed, own_processes, running_group, told, wait_for
 )
 
 from rjoin_cluster.layout import save_array
@@ -70,7 +70,7 @@ def test_the_only_worker_vanishes(tools: Tools, pair: tuple[Path, Path]) -> None
             process = started(tools, address, *pair, "--patience", "9")
             wait_for(tools, "boxes-*.rows", process)
             worker.kill()
-        errors = process.communicate(timeout=WAIT)[1]
+        errors = told(process.communicate(timeout=WAIT)[1])
     assert (process.returncode, errors) == (1, "rjoin-cluster: no worker for 9 seconds\n")
     assert not tools.report().exists()
     check_left_nothing(tools)
@@ -79,7 +79,8 @@ def test_the_only_worker_vanishes(tools: Tools, pair: tuple[Path, Path]) -> None
 def test_a_scheduler_without_workers(tools: Tools, pair: tuple[Path, Path]) -> None:
     with own_cluster(n_workers=0) as client:
         address = client.scheduler.address
-        errors = started(tools, address, *pair, "--patience", "2").communicate(timeout=WAIT)[1]
+        process = started(tools, address, *pair, "--patience", "2")
+        errors = told(process.communicate(timeout=WAIT)[1])
     assert errors == f"rjoin-cluster: {address}: the scheduler has no workers\n"
     check_left_nothing(tools)
 
@@ -88,7 +89,7 @@ def test_the_scheduler_vanishes(tools: Tools, pair: tuple[Path, Path]) -> None:
     with own_cluster(n_workers=1) as client:
         process = started(tools, client.scheduler.address, *pair, "--patience", "9")
         wait_for(tools, "boxes-*.rows", process)
-    errors = process.communicate(timeout=WAIT)[1]
+    errors = told(process.communicate(timeout=WAIT)[1])
     assert process.returncode == 1
     assert errors == "rjoin-cluster: the scheduler was lost\n"
     assert not tools.report().exists()
@@ -114,7 +115,7 @@ def test_a_worker_is_stopped(tools: Tools, pair: tuple[Path, Path], workers: int
         process = started(tools, client.scheduler.address, *pair, "--patience", "4")
         wait_for(tools, "boxes-*.rows", process)
         with stopped(number):
-            errors = process.communicate(timeout=WAIT)[1].splitlines()
+            errors = told(process.communicate(timeout=WAIT)[1]).splitlines()
     silent = f"rjoin-cluster: worker {address}: no sign of life for 4 seconds"
     assert errors[0] == f"{silent}; its tasks go to other workers"
     if workers == 1:
@@ -130,7 +131,7 @@ def test_a_worker_is_stopped_before_the_join(tools: Tools, pair: tuple[Path, Pat
         (address, number), *_ = client.run(os.getpid).items()
         with stopped(number):
             process = started(tools, client.scheduler.address, *pair, "--patience", "4")
-            errors = process.communicate(timeout=WAIT)[1]
+            errors = told(process.communicate(timeout=WAIT)[1])
     assert (process.returncode, address in errors, errors.count("\n")) == (0, True, 1), errors
     check_left_nothing(tools)
 
@@ -144,7 +145,7 @@ def test_the_scheduler_is_stopped(tools: Tools, pair: tuple[Path, Path], early: 
         if not early:
             wait_for(tools, "boxes-*.rows", process)
             stack.enter_context(stopped(number))
-        errors = process.communicate(timeout=WAIT)[1]
+        errors = told(process.communicate(timeout=WAIT)[1])
     silent = "the scheduler has not answered for 4 seconds"
     line = f"{address}: no scheduler answers" if early else silent
     assert (process.returncode, errors) == (1, f"rjoin-cluster: {line}\n")
@@ -186,10 +187,11 @@ def test_the_disk_of_the_workers_is_full(
             monkeypatch.delenv("TMPDIR")
             (disk / "filler").write_bytes(bytes(2**21 - 2**17))
             process = started(tools, client.scheduler.address, *pair)
-            errors = process.communicate(timeout=WAIT)[1]
-    assert process.returncode == 1
-    assert errors.startswith("rjoin-cluster: reading left block ")
-    assert errors.endswith(": OSError: [Errno 28] No space left on device\n")
+            errors = told(process.communicate(timeout=WAIT)[1])
+    lack = f"temporary files cannot be written: {disk}: No space left on device"
+    first, last = errors.splitlines()
+    assert process.returncode == 1 and first.endswith(f": {lack}; it gets no more tasks")
+    assert last == "rjoin-cluster: no worker has what the join needs"
     check_left_nothing(tools)
 
 
@@ -203,9 +205,9 @@ def test_what_a_disk_has_no_room_for(tools: Tools) -> None:
 def test_the_shared_disk_is_full(tools: Tools, pair: tuple[Path, Path]) -> None:
     with small_disk(tools.folder / "disk") as disk:
         process = started(tools, tools.scheduler, *pair, "--folder", str(disk))
-        errors = process.communicate(timeout=WAIT)[1]
+        errors = told(process.communicate(timeout=WAIT)[1])
         assert process.returncode == 1
-        assert "No space left on device" in errors and errors.count("\n") == 1
+        assert "No space left on device" in errors.splitlines()[-1]
         assert list(disk.iterdir()) == []
     check_left_nothing(tools)
 
@@ -215,7 +217,7 @@ def test_the_disk_of_the_report_is_full(tools: Tools, pair: tuple[Path, Path]) -
         report, folder = disk / "report.csv", ["--folder", str(tools.folder)]
         (disk / "filler").write_bytes(bytes(2**21 - 2**17))
         process = started(tools, tools.scheduler, *pair, *folder, "--out", str(report))
-        errors = process.communicate(timeout=WAIT)[1]
+        errors = told(process.communicate(timeout=WAIT)[1])
         assert [path.name for path in disk.iterdir()] == ["filler"]
     line = f"rjoin-cluster: {report}: cannot be written: No space left on device\n"
     assert (process.returncode, errors) == (1, line)

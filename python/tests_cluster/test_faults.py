@@ -4,8 +4,9 @@ from __future__ import annotations
 import os
 from pathlib import Path
 
+import numpy as np
 import pytest
-from conftest import Tools, write_layer
+from conftest import Tools, told, write_layer
 
 from rjoin_cluster import steps
 
@@ -22,7 +23,7 @@ def check_fault(
     assert one.status != 0
     capfd.readouterr()
     assert main(tools.command(left, right, relation, "--block", "400", *others)) == one.status
-    assert capfd.readouterr().err == one.errors
+    assert told(capfd.readouterr().err) == one.errors
     assert list(tools.folder.glob("*report*")) + list(tools.folder.glob("*rjoin-cluster*")) == []
 
 
@@ -75,6 +76,23 @@ def test_a_double_id_among_many_ranges_of_hashes(
     )
 
 
+@pytest.mark.parametrize("doubles", [[], [31, 7, 12]])
+def test_ids_of_one_hash(
+    tools_here: Tools, doubles: list[int], capfd: pytest.CaptureFixture[str],
+    monkeypatch: pytest.MonkeyPatch,
+) -> None:
+    """They are compared themselves."""
+    from rjoin_cluster import blocks
+    from rjoin_cluster.command import main
+
+    monkeypatch.setattr(blocks, "hashes_of", lambda ids: np.full(len(ids), 7, dtype=np.uint64))
+    rows = [*GOOD[:45], *((f"n{number}", "POINT (1 1)") for number in doubles), *GOOD[45:]]
+    layer = write_layer(tools_here.folder / "layer.csv", rows)
+    one = tools_here.one_run(layer, layer, "within")
+    words = ["join", layer, layer, "--relation", "within", "--block", "400"]
+    assert (main(tools_here.words(words)), told(capfd.readouterr().err)) == (one.status, one.errors)
+
+
 def test_an_id_that_is_not_utf8(tools: Tools, capfd: pytest.CaptureFixture[str]) -> None:
     bad = tools.folder / "bad.csv"
     bad.write_bytes(write_layer(bad, GOOD).read_bytes() + b"\xff\xfe,POINT (1 1)\n")
@@ -100,11 +118,15 @@ def test_what_rjoin_has_no_words_for(tools: Tools, capfd: pytest.CaptureFixture[
     from rjoin_cluster.command import main
 
     good = write_layer(tools.folder / "good.csv", GOOD)
+    right, link = write_layer(tools.folder / "right.csv", GOOD), tools.folder / "link"
+    link.symlink_to(right)
     nowhere = tools.folder / "nowhere" / "report.csv"
     for words, line in (
         (["--out", str(nowhere)], f"{nowhere}: cannot be written: No such file or directory"),
         (["--folder", str(nowhere)], f"{nowhere}: cannot be written: No such file or directory"),
         (["--out", str(good)], f"{good}: is the left layer"),
+        (["--out", str(right)], f"{right}: is the right layer"),
+        (["--skip", str(link)], f"{link}: is the right layer"),
         (["--out", str(tools.folder)], f"{tools.folder}: not a regular file"),
         (
             ["--scheduler", "tcp://127.0.0.1:9", "--patience", "1"],
@@ -117,8 +139,8 @@ def test_what_rjoin_has_no_words_for(tools: Tools, capfd: pytest.CaptureFixture[
         ),
     ):
         capfd.readouterr()
-        assert main([*tools.command(good, good, "within"), *words]) == 1
-        assert capfd.readouterr().err == f"rjoin-cluster: {line}\n"
+        assert main([*tools.command(good, right, "within"), *words]) == 1
+        assert told(capfd.readouterr().err) == f"rjoin-cluster: {line}\n"
 
 
 def test_layers_without_blocks(tools: Tools, capfd: pytest.CaptureFixture[str]) -> None:
@@ -130,4 +152,4 @@ def test_layers_without_blocks(tools: Tools, capfd: pytest.CaptureFixture[str]) 
         capfd.readouterr()
         assert main(tools.command(left, right, "within")) == 1
         line = f"rjoin-cluster: {side}: not a regular file, which alone can be read in blocks\n"
-        assert capfd.readouterr().err == line
+        assert told(capfd.readouterr().err) == line

@@ -8,7 +8,9 @@ from pathlib import Path
 import layers
 import psutil
 import pytest
-from conftest import WAIT, Tools, check_left_nothing, running_group, wait_for
+from conftest import WAIT, Tools, check_left_nothing, running_group, told, wait_for
+
+from rjoin_cluster.command import Interrupted, interrupts
 
 
 @pytest.fixture
@@ -32,10 +34,28 @@ def test_the_command_is_interrupted(
     with running_group(words) as process:
         wait_for(tools, "pairs-*.rows", process)
         os.killpg(process.pid, number)
-        errors = process.communicate(timeout=WAIT)[1]
+        errors = told(process.communicate(timeout=WAIT)[1])
     assert (process.returncode, errors) == (128 + number, "rjoin-cluster: interrupted\n")
     assert not tools.report().exists()
     check_left_nothing(tools)
+
+
+def test_signals_that_are_ignored() -> None:
+    """One that was ignored before the join, as under nohup, and any that follows the first."""
+    before = signal.signal(signal.SIGHUP, signal.SIG_IGN)
+    try:
+        with pytest.raises(Interrupted) as end, interrupts():
+            os.kill(os.getpid(), signal.SIGHUP)
+            try:
+                os.kill(os.getpid(), signal.SIGTERM)
+            finally:
+                for number in INTERRUPTS:
+                    os.kill(os.getpid(), number)
+        assert signal.getsignal(signal.SIGHUP) is signal.SIG_IGN
+    finally:
+        signal.signal(signal.SIGHUP, before)
+    assert end.value.status == 128 + signal.SIGTERM
+    assert signal.getsignal(signal.SIGTERM) is signal.SIG_DFL
 
 
 def test_what_interrupts_leave_no_run_going_on(tools: Tools, pair: tuple[Path, Path]) -> None:

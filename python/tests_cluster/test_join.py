@@ -6,7 +6,7 @@ import random
 
 import layers
 import pytest
-from conftest import Tools, ended, quoted, write_layer
+from conftest import Tools, ended, quoted, told, write_layer
 
 RELATIONS = ("intersects", "touches", "crosses", "within", "contains", "overlaps", "equals",
              "covers", "covered_by", "contains_properly")
@@ -96,16 +96,19 @@ def test_features_on_edges_of_tiles(tools: Tools) -> None:
     tools.check_same(left, right, "touches", "0", "--tiles", "16")
 
 
+@pytest.mark.parametrize("block", ["500", "1000000"])
 def test_features_that_no_tile_separates(
-    tools: Tools, monkeypatch: pytest.MonkeyPatch, capsys: pytest.CaptureFixture[str]
+    tools: Tools, block: str, monkeypatch: pytest.MonkeyPatch, capsys: pytest.CaptureFixture[str]
 ) -> None:
-    """All features cover all, and are more than a run takes: each part is joined with each."""
+    """All features cover all, and are more than a run takes: each part is joined with each, also
+    where it lies in several groups of blocks.
+    """
     from rjoin_cluster.box_layers import Numerals
 
     monkeypatch.setattr(Numerals, "most_features", property(lambda _: 40))
     rows = [(f"a{number}", quoted(layers.rectangle(0, 0, 9, 9))) for number in range(100)]
     left = write_layer(tools.folder / "left.csv", rows)
-    tools.check_same(left, left, "equals", "0", "--tiles", "4", "--json")
+    tools.check_same(left, left, "equals", "0", "--tiles", "4", "--block", block, "--json")
     figures = json.loads(capsys.readouterr().out)
     assert (figures["tiles"], figures["runs"], figures["pairs"]) == (1, 9, 10_000)
 
@@ -146,6 +149,7 @@ def test_ids_that_need_quotes_and_blocks_that_begin_in_them(tools: Tools, block:
     [
         b"\xef\xbb\xbfid,wkt\r\na,POINT (1 1)\r\n\r\n\r\nb,POINT (1 1)\r\n",
         b"\n\n\xef\xbb\xbf\nid,wkt\na,POINT (1 1)",
+        b"\r\n" * 9 + b"id,wkt\r\na,POINT (1 1)\r\nb,POINT (1 1)\r\n",
         b'\r\nID,"WKT"\ra,POINT (1 1)\rb,POINT (2 2)\r',
         b"\xef\xbb\xbf\n\nid,wkt\n\xef\xbb\xbfa,POINT (1 1)\n\xef\xbb\xbf,POINT (1 1)",
         b"id,wkt\nnul\x00,POINT (1 1)\n\x00,POINT (1 1)\n",
@@ -165,7 +169,7 @@ def test_ends_of_lines_and_marks(
     one = tools.one_run(left, left, "intersects")
     capfd.readouterr()
     assert main(tools.command(left, left, "intersects", "--block", block)) == one.status
-    assert capfd.readouterr().err == one.errors
+    assert told(capfd.readouterr().err) == one.errors
     if one.status == 0:
         assert tools.report().read_bytes() == one.output
     else:

@@ -8,7 +8,7 @@ from typing import Any, Sequence
 import layers
 import numpy as np
 import pytest
-from conftest import Tools, ended, quoted, write_layer
+from conftest import Tools, ended, quoted, told, write_layer
 
 from rjoin_cluster import nearest
 from rjoin_cluster.conditions import Condition, Reach
@@ -132,4 +132,4 @@ def test_words_are_judged_by_the_program(
     assert one.status == 2
     capfd.readouterr()
     assert main(tools.words(words_of(left, left, *words))) == 2
-    assert capfd.readouterr().err == one.errors
+    assert told(capfd.readouterr().err) == one.errors

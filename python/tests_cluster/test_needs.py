@@ -2,22 +2,26 @@
 from __future__ import annotations
 
 import os
+import shutil
 from dataclasses import replace
 from pathlib import Path
 from typing import Callable
 
 import pytest
-from conftest import Tools
+from conftest import Tools, write_layer
 
-from rjoin_cluster.cluster import TOKEN, Needs, lack_of
+from rjoin_cluster.inputs import find_inputs
 from rjoin_cluster.layout import Layout, save_bytes
+from rjoin_cluster.needs import TOKEN, Needs, lack_of
 from rjoin_cluster.program import Program
 from rjoin_cluster.reading import Reading
 
 
-def test_what_a_worker_lacks(tools: Tools) -> None:
+def test_what_a_worker_lacks(tools: Tools, monkeypatch: pytest.MonkeyPatch) -> None:
     layout, program = Layout(str(tools.folder)), Program(tools.program, Reading())
-    needs = Needs(layout, program, program.version(), ((__file__, os.stat(__file__).st_size),))
+    layer = write_layer(tools.folder / "layer.csv", [("a", "POINT (1 1)")])
+    files = tuple(find_inputs(str(layer), str(layer)).values())
+    needs = Needs(layout, program, program.version(), files)
     assert "No such file" in lack_of(needs)
     layout.token().write_bytes(b"of others")
     assert lack_of(needs) == f"{tools.folder} is not the folder of the join"
@@ -25,8 +29,15 @@ def test_what_a_worker_lacks(tools: Tools) -> None:
     assert lack_of(needs) == ""
     assert list(tools.folder.glob("check-*")) == []
     assert lack_of(replace(needs, version="rjoin 0")).endswith("and not rjoin 0")
-    assert lack_of(replace(needs, files=((__file__, 1),))) == f"{__file__} is another file"
     assert "No such file" in lack_of(replace(needs, program=Program("/nowhere/rjoin", Reading())))
+    shutil.copy2(layer, tools.folder / "copy")
+    os.replace(tools.folder / "copy", layer)
+    assert lack_of(needs) == ""
+    os.utime(layer)
+    assert lack_of(needs) == f"{layer} is another file"
+    monkeypatch.setattr("tempfile.tempdir", "/nowhere")
+    lack = "temporary files cannot be written: /nowhere: No such file or directory"
+    assert lack_of(replace(needs, files=())) == lack
 
 
 @pytest.mark.skipif(os.geteuid() != 0, reason="one has to be root to be another user")

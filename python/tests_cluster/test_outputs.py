@@ -1,6 +1,8 @@
 """Files that a join writes: whole or not at all, and without an end of rows in memory."""
 from __future__ import annotations
 
+import os
+import stat
 from pathlib import Path
 from types import SimpleNamespace
 from typing import Any
@@ -10,7 +12,7 @@ import pytest
 
 from rjoin_cluster.faults import JoinFault
 from rjoin_cluster.layout import Layout, load_rows, new_file, save_rows
-from rjoin_cluster.outputs import new_report
+from rjoin_cluster.outputs import new_report, new_reports
 from rjoin_cluster.runs import KEY_STEP, keep_pairs, pair_type
 
 
@@ -21,6 +23,29 @@ def test_reports_of_one_name_are_in_no_way_of_each_other(tmp_path: Path) -> None
         second.write(b"second")
     assert target.read_bytes() == b"first"
     assert list(tmp_path.iterdir()) == [target]
+
+
+@pytest.mark.parametrize("mode", [0o600, 0o640, 0o666, 0o400])
+def test_a_report_keeps_its_mode(tmp_path: Path, mode: int) -> None:
+    """It has it before anything is written, and a new one has that of the user's mask."""
+    target, fresh = tmp_path / "report", tmp_path / "new"
+    target.touch()
+    target.chmod(mode)
+    with new_report(str(target)) as report, new_report(str(fresh)):
+        assert stat.S_IMODE(report.part.stat().st_mode) == mode
+    assert stat.S_IMODE(target.stat().st_mode) == mode
+    mask = os.umask(0)
+    os.umask(mask)
+    assert stat.S_IMODE(fresh.stat().st_mode) == 0o666 & ~mask
+
+
+def test_the_list_is_complete_before_the_report(tmp_path: Path) -> None:
+    """Where it can't get its name, there is no report."""
+    report, skipped = tmp_path / "report", tmp_path / "skipped"
+    with pytest.raises(JoinFault, match="skipped: cannot be written"):
+        with new_reports(str(report), str(skipped)):
+            skipped.mkdir()
+    assert list(tmp_path.iterdir()) == [skipped]
 
 
 def test_a_report_that_is_a_link(tmp_path: Path) -> None:

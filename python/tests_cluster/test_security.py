@@ -9,11 +9,15 @@ import sys
 from contextlib import suppress
 from pathlib import Path
 from typing import Any, Iterator
+from urllib.error import HTTPError
+from urllib.request import urlopen
 
 import layers
 import psutil
 import pytest
 from conftest import Tools, distributed, ended, own_processes, running_group, wait_for
+
+from rjoin_cluster.cluster import OPEN_PORTS
 
 OTHER_USER = 65534
 as_root = pytest.mark.skipif(os.geteuid() != 0, reason="one has to be root to be another user")
@@ -130,7 +134,8 @@ def test_a_join_without_a_certificate(
     address = tls_scheduler.replace("tls://", protocol)
     words = [*tools.command(*pair, "overlaps", "--patience", "3"), "--scheduler", address]
     done = ended([sys.executable, "-m", "rjoin_cluster", *words])
-    assert (done.status, done.errors) == (1, f"rjoin-cluster: {address}: {fault}\n")
+    warning = f"rjoin-cluster: {address}: {OPEN_PORTS}\n" if protocol == "tcp://" else ""
+    assert (done.status, done.errors) == (1, f"{warning}rjoin-cluster: {address}: {fault}\n")
 
 
 # Another one shows a certificate and believes whatever is shown; the scheduler speaks first.
@@ -167,6 +172,22 @@ def test_another_user_is_refused_by_tls(tls_scheduler: str, scheduler: str) -> N
     assert tried_as_another_user(INTRUDER, tls_scheduler) == "refused"
     assert tried_as_another_user(INTRUDER, tls_scheduler.replace("tls:", "tcp:")) == "refused"
     assert "run" in tried_as_another_user(INTRUDER, scheduler)
+
+
+def test_a_cluster_leaves_nothing_open_to_other_users(tmp_path: Path) -> None:
+    """Its HTTP ports answer nothing, and its files lie in a folder of the user alone."""
+    with own_processes(tmp_path) as (address, number):
+        with distributed.Client(address) as client:
+            services = [client.scheduler_info()["services"]["dashboard"]]
+            (worker,) = client.scheduler_info()["workers"].values()
+            services.append(worker["services"]["dashboard"])
+        for port in services:
+            for path in ("info/main/workers.html", "json/identity.json", "health", "metrics"):
+                with pytest.raises(HTTPError, match="404"):
+                    urlopen(f"http://127.0.0.1:{port}/{path}")
+    local = Path(worker["local_directory"])
+    assert tmp_path / "workers" in local.parents
+    assert stat.S_IMODE((tmp_path / "workers").stat().st_mode) == 0o700
 
 
 def test_certificates_are_for_tls(tools: Tools, capfd: pytest.CaptureFixture[str]) -> None:

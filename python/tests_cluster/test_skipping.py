@@ -5,7 +5,7 @@ import random
 from typing import Any, Sequence
 
 import pytest
-from conftest import Tools, ended, quoted, write_layer
+from conftest import Tools, ended, quoted, told, write_layer
 
 BAD = (
     "POINT (1",
@@ -59,6 +59,21 @@ def test_rows_of_both_layers(
     assert [line.split(",")[1] for line in listed[1:3]] == ["1", "2"]
 
 
+def test_improper_rings_among_rows_that_are_left_out(
+    tools: Tools, capfd: pytest.CaptureFixture[str]
+) -> None:
+    """The rows of both are those of the file."""
+    crossing = quoted("POLYGON ((0 0, 4 4, 4 0, 0 4, 0 0))")
+    rows = rows_of(1, [])
+    for row in (2, 3, 30, 60):
+        rows[row - 1] = (rows[row - 1][0], "POINT (1")
+    for row in (1, 4, 31, 61, 62, 90):
+        rows[row - 1] = (rows[row - 1][0], crossing)
+    left = write_layer(tools.folder / "left.csv", rows)
+    join = ["join", left, left, "--relation", "intersects", "--geometry=any", "--rings=even-odd"]
+    check_same(tools, capfd, join, "--block", "333", "--tiles", "7")
+
+
 def test_nothing_to_leave_out(tools: Tools, capfd: pytest.CaptureFixture[str]) -> None:
     left = write_layer(tools.folder / "left.csv", rows_of(1, []))
     listed = check_same(tools, capfd, ["near", left, left, "--distance", "1"], "--block", "999")
@@ -96,7 +111,7 @@ def test_rows_that_are_not_left_out(
         assert (one.status, "row 60: " in one.errors) == (1, True)
         capfd.readouterr()
         assert main(tools.words([*words, "--block", "700"])) == 1
-        assert capfd.readouterr().err == one.errors
+        assert told(capfd.readouterr().err) == one.errors
         assert not skipped.exists() and not tools.report().exists()
 
 
@@ -110,4 +125,4 @@ def test_a_list_in_the_place_of_another_file(
     for path, line in ((left, "is the left layer"), (tools.report(), "is the report")):
         capfd.readouterr()
         assert main(tools.words([*words, f"--skip={path}"])) == 1
-        assert capfd.readouterr().err == f"rjoin-cluster: {path}: {line}\n"
+        assert told(capfd.readouterr().err) == f"rjoin-cluster: {path}: {line}\n"

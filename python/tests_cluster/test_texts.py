@@ -9,7 +9,7 @@ from typing import Any, Sequence
 import layers
 import numpy as np
 import pytest
-from conftest import Tools, ended, quoted, write_layer
+from conftest import Tools, ended, quoted, told, write_layer
 from test_join import IDS
 
 from rjoin_cluster import plan
@@ -102,14 +102,26 @@ def test_the_greatest_distance(tools: Tools) -> None:
     tools.check_command(near(left, left, "1000000.", "--scale", "0"), "--tiles", "4")
 
 
-def test_rings_that_cross(tools: Tools) -> None:
+@pytest.mark.parametrize("block", ["700", "1000000"])
+def test_rings_that_cross(
+    tools: Tools, block: str, capfd: pytest.CaptureFixture[str]
+) -> None:
+    """The lines on them are those of one run: of many on the left side, and of one on the right."""
     rows = []
     for number in range(120):
         x, y = 3 * (number % 11), 3 * (number // 11)
         ring = f"{x} {y}, {x + 5} {y + 5}, {x + 5} {y}, {x} {y + 5}, {x} {y}"
-        rows.append((f"r{number}", quoted(f"POLYGON (({ring}))")))
+        box = layers.rectangle(x, y, x + 4, y + 4)
+        rows.append((f"r{number}", quoted(box if number % 20 else f"POLYGON (({ring}))")))
     left = write_layer(tools.folder / "left.csv", rows)
-    tools.check_command(joined(left, left, "overlaps", *ANY, "--rings", "even-odd"), *CUT)
+    right = write_layer(tools.folder / "right.csv", rows[99:110])
+    words = joined(left, right, "overlaps", *ANY, "--rings", "even-odd")
+    one = ended([tools.program, *words])
+    assert "6 features with improper rings: rows 1, 21, 41, 61, 81\n" in one.errors
+    assert "1 feature with improper rings: row 2\n" in one.errors
+    capfd.readouterr()
+    tools.check_command(words, "--tiles", "9", "--block", block)
+    assert told(capfd.readouterr().err) == one.errors.replace("rjoin:", "rjoin-cluster:")
 
 
 @pytest.mark.parametrize("block", ["9", "64", "33554432"])
@@ -125,8 +137,9 @@ def test_ids_that_need_quotes_and_ends_of_lines(tools: Tools, block: str, end: s
     tools.check_command(joined(left, right, "intersects", *ANY), "--tiles", "3", "--block", block)
 
 
+@pytest.mark.parametrize("block", ["300", "1000000"])
 def test_tiles_of_more_bytes_than_a_run_takes(
-    tools: Tools, monkeypatch: pytest.MonkeyPatch, capsys: pytest.CaptureFixture[str]
+    tools: Tools, block: str, monkeypatch: pytest.MonkeyPatch, capsys: pytest.CaptureFixture[str]
 ) -> None:
     """No tile separates the features, and each part is joined with each."""
     from rjoin_cluster import steps
@@ -137,7 +150,8 @@ def test_tiles_of_more_bytes_than_a_run_takes(
     rows = [(f"a{number}", quoted(f"POLYGON (({ring}))")) for number in range(30)]
     left = write_layer(tools.folder / "left.csv", rows)
     capsys.readouterr()
-    tools.check_command(joined(left, left, "equals", *ANY), "--tiles", "4", "--json")
+    words = joined(left, left, "equals", *ANY)
+    tools.check_command(words, "--tiles", "4", "--block", block, "--json")
     figures = json.loads(capsys.readouterr().out)
     records = 400 // len(f'0000000,"POLYGON (({ring}))"\n')
     parts = -(-30 // records)
@@ -157,7 +171,7 @@ def test_a_geometry_that_fits_in_no_run(
     words = joined(left, left, "intersects", *ANY, "--block", "150")
     assert main(tools_here.words(words)) == 1
     line = "rjoin-cluster: left: row 11: a geometry of more than 20 bytes\n"
-    assert capfd.readouterr().err == line
+    assert told(capfd.readouterr().err) == line
 
 
 def test_parts_of_records(monkeypatch: pytest.MonkeyPatch) -> None:
@@ -202,7 +216,7 @@ def test_what_the_program_lacks(tools: Tools, capfd: pytest.CaptureFixture[str])
     ):
         capfd.readouterr()
         assert main([*tools.words(words), "--program", str(old)]) == 1
-        assert capfd.readouterr().err == f"rjoin-cluster: {old}: this version has {lack}\n"
+        assert told(capfd.readouterr().err) == f"rjoin-cluster: {old}: this version has {lack}\n"
     assert not tools.report().exists()
 
 
@@ -227,7 +241,7 @@ def test_words_of_a_distance_are_judged_by_the_program(
     assert one.status == 2
     capfd.readouterr()
     assert main(tools.words(["near", left, left, *words])) == 2
-    assert capfd.readouterr().err == one.errors
+    assert told(capfd.readouterr().err) == one.errors
 
 
 BAD_ROWS = {
@@ -254,4 +268,4 @@ def test_a_bad_row_of_any_geometry(
     assert one.errors.startswith("rjoin: right: row 42: ")
     capfd.readouterr()
     assert main(tools.words([*words, "--block", "400"])) == 1
-    assert capfd.readouterr().err == one.errors
+    assert told(capfd.readouterr().err) == one.errors

@@ -12,7 +12,7 @@ from typing import Any, Iterator
 
 import layers
 import pytest
-from conftest import WAIT, Tools, distributed, ended, wait_for
+from conftest import WAIT, Tools, distributed, ended, told, wait_for
 
 NETWORK = "10.213.77"
 GROUPS = ("a", "b")
@@ -77,6 +77,7 @@ def grouped_cluster(folder: Path) -> Iterator[str]:
     worker = [*python, "distributed.cli.dask_worker", "--nworkers", "2", "--nthreads", "1"]
     files = ["--scheduler-file", file]
     own = ["--local-directory", str(folder / "workers"), "--no-dashboard"]
+    (folder / "workers").mkdir(0o700)
     with ExitStack() as stack:
         stack.enter_context(running([*address, *files, "--no-dashboard"], folder / "scheduler.log"))
         for group in GROUPS:
@@ -114,7 +115,7 @@ def test_two_groups_join_over_tcp(tools: Tools, network: None) -> None:
     with grouped_cluster(tools.folder) as address:
         words[words.index("--scheduler") + 1] = address
         done = ended([sys.executable, "-m", "rjoin_cluster", *words])
-        assert (done.status, done.errors) == (0, "")
+        assert (done.status, told(done.errors)) == (0, "")
         counts = done_by_group(address)
     assert set(counts) == {f"{NETWORK}.{number}" for number in (2, 3)} and min(counts.values()) > 0
     assert tools.report().read_bytes() == tools.one_run(left, right, "overlaps").output
@@ -133,7 +134,7 @@ def test_a_group_vanishes(
         process = subprocess.Popen(command, stderr=subprocess.PIPE, text=True)
         wait_for(tools, "pairs-*.rows", process)
         subprocess.run(["ip", "link", "set", name_of("bo"), "down"], check=True)
-        errors = process.communicate(timeout=2 * WAIT)[1]
+        errors = told(process.communicate(timeout=2 * WAIT)[1])
         assert (process.returncode, errors) == (0, "")
         subprocess.run(["ip", "link", "set", name_of("bo"), "up"], check=True)
     assert tools.report().read_bytes() == tools.one_run(left, right, "overlaps").output

@@ -11,6 +11,8 @@ import numpy as np
 from rjoin_cluster.answers import Boxes, Features, grown
 from rjoin_cluster.faults import RunFailed
 from rjoin_cluster.ids import bucket_of, hashes_of, share_ends
+from rjoin_cluster.improper import Improper
+from rjoin_cluster.inputs import Input
 from rjoin_cluster.layout import Layout, save_rows
 from rjoin_cluster.parts import MOST_PART, features_of
 from rjoin_cluster.program import Program, RowFault
@@ -35,14 +37,17 @@ END_BYTES = 2**18
 class Extent:
     """Some bytes of a layer's file; blocks are numbered from 0."""
 
-    side: Side
-    path: str
+    file: Input
     number: int
     begin: int
     end: int
 
     def __str__(self) -> str:
         return f"{self.side.value} block {self.number}, bytes {self.begin} to {self.end}"
+
+    @property
+    def side(self) -> Side:
+        return self.file.side
 
     @property
     def size(self) -> int:
@@ -56,10 +61,10 @@ class Extent:
 
     def read(self) -> Bytes:
         text = np.empty(self.size, dtype=np.uint8)
-        with open(self.path, "rb") as file:
+        with self.file.opened() as file:
             file.seek(self.begin)
             if file.readinto(text.data) < text.size:
-                raise OSError(f"{self.path} is shorter than it was")
+                raise self.file.changed()
         return text
 
 
@@ -89,6 +94,7 @@ class BlockRead:
     below_zero: bool
     sample: Boxes
     skipped: Skipped
+    improper: Improper
     fault: Optional[RowFault]
 
     @property
@@ -96,9 +102,9 @@ class BlockRead:
         return self.rows + self.skipped.rows.size
 
 
-def header_begin(path: str) -> int:
+def header_begin(layer: Input) -> int:
     """Where the first record of a file begins: behind a byte order mark and empty lines."""
-    with open(path, "rb") as file:
+    with layer.opened() as file:
         begin = len(BYTE_ORDER_MARK) if file.read(len(BYTE_ORDER_MARK)) == BYTE_ORDER_MARK else 0
         file.seek(begin)
         while window := file.read(WINDOW):
@@ -139,6 +145,7 @@ def read_block(job: ReadJob) -> BlockRead:
         least < 0,
         sample_of(boxes, job.share, job.block.number),
         read.skipped,
+        read.improper,
         fault,
     )
 

@@ -2,14 +2,10 @@
 from __future__ import annotations
 
 import logging
-import os
-import queue
-import threading
+import sys
 import time
-import uuid
 import warnings
 from contextlib import contextmanager, suppress
-from dataclasses import dataclass
 from typing import Any, Iterator
 
 import dask
@@ -17,14 +13,16 @@ from distributed import Client, Scheduler, Security, SpecCluster, Worker
 from distributed.utils import silence_logging
 
 from rjoin_cluster.faults import JoinFault
-from rjoin_cluster.layout import Layout, save_bytes
-from rjoin_cluster.program import Program, ended_runs
+from rjoin_cluster.layout import Layout
+from rjoin_cluster.program import ended_runs
 from rjoin_cluster.request import Place
-from rjoin_cluster.watch import LOOK_EVERY, TIMEOUTS, Watch
+from rjoin_cluster.watch import TIMEOUTS, Watch
 
-TOKEN = b"seen\n"
-CLOSING = 5.0  # seconds that a scheduler has to answer that the join has ended
+CLOSING = 1.0  # seconds that a scheduler has to answer that the join has ended
 LOOPBACK = "127.0.0.1"
+OPEN_PORTS = (
+    "no TLS: whoever reaches the ports of the scheduler or of a worker can run code as you"
+)
 
 
 class PortlessScheduler(Scheduler):  # type: ignore[misc]
@@ -43,16 +41,6 @@ class PortlessWorker(Worker):  # type: ignore[misc]
         """Doesn't."""
 
 
-@dataclass(frozen=True)
-class Needs:
-    """What each worker has to find on its machine."""
-
-    layout: Layout
-    program: Program
-    version: str
-    files: tuple[tuple[str, int], ...]  # with their bytes
-
-
 @contextmanager
 def connected(place: Place, layout: Layout) -> Iterator[Watch]:
     """A watched client of the cluster, which has a worker at least."""
@@ -67,6 +55,7 @@ def connected(place: Place, layout: Layout) -> Iterator[Watch]:
                     client.close(CLOSING)
                     cluster.close()
         return
+    warn_of_open_ports(place.scheduler)
     with remote_client(place) as client:
         watch = Watch(client, place.patience)
         wait_for_worker(watch, place.scheduler)
@@ -124,6 +113,13 @@ def remote_client(place: Place) -> Iterator[Any]:
     finally:
         with suppress(OSError, *TIMEOUTS):
             client.close(CLOSING)
+        client.status = "closed"  # else it waits again, for twice the patience, when it is freed
+
+
+def warn_of_open_ports(scheduler: str) -> None:
+    """Tells what may happen without certificates."""
+    if not scheduler.startswith("tls://"):
+        sys.stderr.write(f"rjoin-cluster: {scheduler}: {OPEN_PORTS}\n")
 
 
 def wait_for_worker(watch: Watch, scheduler: str) -> None:
@@ -163,84 +159,3 @@ def local_cluster(place: Place, layout: Layout) -> Any:
     return SpecCluster(  # type: ignore[no-untyped-call]
         workers=workers, scheduler=scheduler, silence_logs=logging.CRITICAL
     )
-
-
-def check_workers(watch: Watch, needs: Needs) -> None:
-    """Ends the join where a worker lacks what it needs, before anything is read."""
-    layout = needs.layout
-    save_bytes(layout.token(), [TOKEN])
-    for worker, lack in answers_of(watch, needs).items():
-        if worker in watch.given_up:
-            continue
-        if isinstance(lack, Exception):  # what a worker raises where it hasn't this package
-            raise JoinFault(f"worker {worker}: cannot run this package: {lack}") from lack
-        if lack:
-            raise JoinFault(f"worker {worker}: {lack}")
-
-
-def answers_of(watch: Watch, needs: Needs) -> dict[str, Any]:
-    """What each worker lacks. Where one is given up meanwhile, the others are asked again: the
-    engine answers when all have.
-    """
-    while True:
-        given_up = len(watch.given_up)
-        asked = asked_of(watch, needs)
-        while len(watch.given_up) == given_up:
-            watch.look()
-            with suppress(queue.Empty):
-                answer = asked.get(timeout=LOOK_EVERY)
-                if isinstance(answer, Exception):
-                    raise JoinFault("the scheduler was lost") from answer
-                return dict(answer)
-
-
-def asked_of(watch: Watch, needs: Needs) -> queue.SimpleQueue[Any]:
-    """Where the answers of all workers, or the error in their place, will be."""
-    answers: queue.SimpleQueue[Any] = queue.SimpleQueue()
-    workers = list(watch.workers())
-
-    def ask() -> None:
-        try:
-            answers.put(watch.client.run(lack_of, needs, workers=workers, on_error="return"))
-        except Exception as cause:
-            answers.put(cause)
-
-    threading.Thread(target=ask, daemon=True).start()
-    return answers
-
-
-def lack_of(needs: Needs) -> str:
-    """What a worker lacks; empty where it has all."""
-    try:
-        with open(needs.layout.token(), "rb") as token:
-            if token.read() != TOKEN:
-                return f"{needs.layout.folder} is not the folder of the join"
-        write_and_read(needs.layout)
-        for path, size in needs.files:
-            if os.stat(path).st_size != size:
-                return f"{path} is another file"
-        version = needs.program.version()
-    except OSError as cause:
-        return f"{cause}{whose(needs.layout, cause)}"
-    if version != needs.version:
-        return f"{needs.program.path} is {version}, and not {needs.version}"
-    return ""
-
-
-def write_and_read(layout: Layout) -> None:
-    """Leaves a file in the folder, as a task does, and reads it back."""
-    path = layout.file(f"check-{uuid.uuid4().hex}")
-    text = path.name.encode()
-    save_bytes(path, [text])
-    with open(path, "rb") as file:
-        found = file.read()
-    path.unlink()
-    if found != text:
-        raise OSError(f"{path} has not what was written to it")
-
-
-def whose(layout: Layout, cause: OSError) -> str:
-    """Says by whom the folder may be used, where that is the matter."""
-    if not isinstance(cause, PermissionError):
-        return ""
-    return f"; a worker has to be of the user of the join, and this one is user {os.getuid()}"

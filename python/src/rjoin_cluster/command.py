@@ -52,8 +52,7 @@ def interrupts() -> Iterator[None]:
 def main(arguments: Optional[Sequence[str]] = None) -> int:
     words = parser().parse_args(arguments)
     if words.verbose:
-        logging.basicConfig(format="%(message)s")
-        logging.getLogger("rjoin_cluster.engine").setLevel(logging.INFO)
+        tell_tasks()
     try:
         with interrupts():
             figures = joined(words)
@@ -71,10 +70,19 @@ def main(arguments: Optional[Sequence[str]] = None) -> int:
     return 0
 
 
+def tell_tasks() -> None:
+    """Has a line written for each task; of dask, whose loggers are others, none is."""
+    log = logging.getLogger("rjoin_cluster.engine")
+    log.setLevel(logging.INFO)
+    log.propagate = False
+    log.handlers = [logging.StreamHandler()]
+
+
 def joined(words: argparse.Namespace) -> dict[str, Any]:
     """Joins as the words say. What takes a moment to load is loaded here, as signals may come
     meanwhile.
     """
+    from rjoin_cluster.improper import improper_line
     from rjoin_cluster.join import join
     from rjoin_cluster.progress import Progress
     from rjoin_cluster.request import request_of
@@ -84,4 +92,8 @@ def joined(words: argparse.Namespace) -> dict[str, Any]:
     if words.skip is not None:
         counts = ", ".join(f"{side} {figures[side]['skipped']}" for side in ("left", "right"))
         progress.tell(f"rjoin-cluster: rows skipped: {counts}")
+    for side in ("left", "right"):
+        count, rows = figures[side]["improper"], figures[side]["improper_rows"]
+        if count:
+            progress.tell(f"rjoin-cluster: {improper_line(side, count, rows)}")
     return figures

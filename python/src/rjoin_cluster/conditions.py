@@ -72,4 +72,4 @@ def units_of(distance: str, program: Program) -> int:
     answer = program.bounds([HEADER, f"distance,POINT ({distance} 0)\n".encode()])
     if isinstance(answer, RowFault):
         return MOST_DISTANCE
-    return int(read_answer(answer).boxes[0, 0])
+    return int(read_answer(answer.output).boxes[0, 0])

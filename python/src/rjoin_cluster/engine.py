@@ -1,25 +1,30 @@
-"""Tasks on a dask cluster: the engine schedules, moves and repeats them; this module asks, and
-words what fails.
+"""Tasks on a dask cluster. The engine runs them where it is told to, and carries their results;
+this module gives each to a worker that has passed the check of the join, tries those that failed
+again, elsewhere where that can be, and words what fails.
 """
 from __future__ import annotations
 
 import logging
 import queue
 import time
+from collections import deque
 from contextlib import contextmanager
-from typing import Any, Callable, Generic, Iterator, Sequence, TypeVar
+from typing import Any, Callable, Generic, Iterator, NamedTuple, Sequence, TypeVar
 
 from distributed import CancelledError
 from distributed.comm.core import CommClosedError
 
-from rjoin_cluster.faults import JoinFault
+from rjoin_cluster.faults import JoinFault, Unfit
+from rjoin_cluster.needs import checked
 from rjoin_cluster.progress import Progress
-from rjoin_cluster.watch import LOOK_EVERY, TIMEOUTS, Watch
+from rjoin_cluster.watch import LOOK_EVERY, TIMEOUTS
+from rjoin_cluster.workers import Worker, Workers, described
 
 Job = TypeVar("Job")
 Result = TypeVar("Result")
 
 RETRIES = 3
+LOST = (CancelledError, CommClosedError)  # what waits for results is told without a scheduler
 
 log = logging.getLogger(__name__)
 
@@ -27,16 +32,12 @@ log = logging.getLogger(__name__)
 class Engine:
     """The tasks of one join."""
 
-    def __init__(self, client: Any, token: str, progress: Progress, watch: Watch) -> None:
-        self.client = client
+    def __init__(self, token: str, progress: Progress, workers: Workers) -> None:
         self.token = token
         self.progress = progress
-        self.watch = watch
+        self.workers = workers
         self.seconds: dict[str, float] = {}
         self.started = 0
-
-    def workers(self) -> int:
-        return len(self.watch.workers())
 
     @contextmanager
     def phase(self, name: str) -> Iterator[None]:
@@ -48,11 +49,14 @@ class Engine:
             self.seconds[name] = round(self.seconds.get(name, 0) + time.perf_counter() - started, 3)
 
     def each(self, name: str, task: Callable[[Job], Result], jobs: Sequence[Job]) -> Tasks[Result]:
-        """Starts a task for each job."""
+        """A task for each job."""
+        return Tasks(self, name, task, jobs)
+
+    def submitted(self, name: str, task: Callable[[Any], Any], job: Any, worker: Worker) -> Any:
+        """The future of a task that is given to a worker."""
         self.started += 1
-        keys = [f"{name}-{self.token}-{self.started}-{number}" for number in range(len(jobs))]
-        futures = self.client.map(task, jobs, key=keys, retries=RETRIES, pure=False) if jobs else []
-        return Tasks(self, name, futures, [f"{name} {job}" for job in jobs])
+        key, needs = f"{name}-{self.token}-{self.started}", self.workers.needs
+        return self.workers.watch.submitted(worker.address, key, 0, checked, needs, task, job)
 
     def all(self, name: str, task: Callable[[Job], Result], jobs: Sequence[Job]) -> list[Result]:
         """The results of a phase, in the order of the jobs."""
@@ -61,81 +65,143 @@ class Engine:
         return [results[number] for number in range(len(jobs))]
 
 
+class Attempt(NamedTuple):
+    """A task that was given to a worker."""
+
+    number: int
+    worker: Worker
+    future: Any
+
+
+class TryAgain(Exception):
+    """An attempt that gave no result, so that there has to be another one."""
+
+
 class Tasks(Generic[Result]):
-    """Tasks under way, whose results come as they end."""
+    """Tasks whose results come as they end. Of each attempt that fails the worker is kept."""
 
     def __init__(
-        self, engine: Engine, name: str, futures: Sequence[Any], labels: Sequence[str]
+        self, engine: Engine, name: str, task: Callable[[Any], Result], jobs: Sequence[Any]
     ) -> None:
         self.engine = engine
+        self.workers = engine.workers
         self.name = name
-        self.futures = futures
-        self.labels = labels
-        self.waiting = set(range(len(futures)))
+        self.task = task
+        self.jobs = jobs
+        self.missing = set(range(len(jobs)))  # whose results are wanted
+        self.waiting = deque(range(len(jobs)))  # for a worker
+        self.under_way: dict[str, Attempt] = {}
+        self.failed: dict[int, list[str]] = {}
         self.ended: queue.SimpleQueue[Any] = queue.SimpleQueue()
-        for future in futures:
-            future.add_done_callback(self.ended.put)
 
     def drop(self, numbers: Sequence[int]) -> None:
         """Gives up tasks whose results are not wanted any more."""
-        for number in self.waiting.intersection(numbers):
-            self.futures[number].release()
-            self.waiting.remove(number)
+        self.missing.difference_update(numbers)
+        self.waiting = deque(number for number in self.waiting if number in self.missing)
+        for key, attempt in list(self.under_way.items()):
+            if attempt.number not in self.missing:
+                self.workers.give_back(attempt.worker)
+                self.under_way.pop(key).future.release()
 
     def __iter__(self) -> Iterator[tuple[int, Result]]:
         """The number of each task that ended, with its result."""
-        numbers = {future.key: number for number, future in enumerate(self.futures)}
-        total = len(self.futures)
+        total = len(self.jobs)
         try:
             with self.engine.progress.bar(self.name, total) as show:
-                while self.waiting:
-                    number = numbers[self.next_ended().key]
-                    if number in self.waiting:
-                        result = self.result_of(number)
-                        self.drop([number])
-                        show(total - len(self.waiting))
-                        log.info("%s (%d of %d)", self.labels[number], self.done, total)
-                        yield number, result
+                while self.missing:
+                    try:
+                        number, result = self.next_result()
+                    except TryAgain:
+                        continue
+                    self.missing.remove(number)
+                    done = total - len(self.missing)
+                    show(done)
+                    log.info("%s (%d of %d)", self.label(number), done, total)
+                    yield number, result
         finally:
             self.drop(range(total))
 
-    @property
-    def done(self) -> int:
-        return len(self.futures) - len(self.waiting)
+    def label(self, number: int) -> str:
+        return f"{self.name} {self.jobs[number]}"
 
-    def next_ended(self) -> Any:
-        """A task that ended."""
-        while True:
-            self.engine.watch.look()
-            try:
-                return self.ended.get(timeout=LOOK_EVERY)
-            except queue.Empty:
-                continue
+    def next_result(self) -> tuple[int, Result]:
+        """The result of a task that has ended; its worker gets another one meanwhile."""
+        self.start()
+        attempt = self.next_ended()
+        if attempt.future.status == "cancelled":
+            raise JoinFault("the scheduler was lost")
+        if attempt.future.status == "error":
+            raise self.failure(attempt)
+        self.workers.succeed(attempt.worker)
+        self.start()
+        result = self.fetched(attempt)
+        attempt.future.release()
+        return attempt.number, result
 
-    def result_of(self, number: int) -> Any:
+    def start(self) -> None:
+        """Gives tasks to workers, as long as there are both."""
+        while self.waiting:
+            are_many = len(self.waiting) > self.workers.count
+            worker = self.workers.take(are_many, self.failed.get(self.waiting[0], ()))
+            if worker is not None:
+                number = self.waiting.popleft()
+                future = self.engine.submitted(self.name, self.task, self.jobs[number], worker)
+                self.under_way[future.key] = Attempt(number, worker, future)
+                future.add_done_callback(self.ended.put)
+            elif self.under_way or not self.workers.wake():
+                return
+
+    def next_ended(self) -> Attempt:
+        """An attempt that has ended."""
+        if self.workers.look():
+            self.put_back_lost()
         try:
-            return self.fetched(self.futures[number])
-        except JoinFault:
-            raise
-        except (CancelledError, CommClosedError) as cause:
-            raise JoinFault("the scheduler was lost") from cause
-        except (
-            Exception
-        ) as cause:  # whatever a task raised at its last try, or that its workers died
-            raise JoinFault(
-                f"{self.labels[number]}: {type(cause).__name__}: {one_line(cause)}"
-            ) from cause
+            attempt = self.under_way.pop(self.ended.get(timeout=LOOK_EVERY).key)
+        except (queue.Empty, KeyError) as cause:  # none has, or one that was given up
+            raise TryAgain from cause
+        return attempt
 
-    def fetched(self, future: Any) -> Any:
-        """The result of a task, which may have to be computed again where its worker is lost."""
+    def put_back_lost(self) -> None:
+        """Puts the tasks back that were given to workers which have gone."""
+        lost = [key for key, attempt in self.under_way.items() if attempt.worker.is_gone]
+        for key in lost:
+            attempt = self.under_way.pop(key)
+            attempt.future.release()
+            self.put_back(attempt, "the worker was lost")
+
+    def put_back(self, attempt: Attempt, cause: str) -> None:
+        """Lets a task wait for another worker, unless it has been tried often enough."""
+        tried = self.failed.setdefault(attempt.number, [])
+        tried.append(attempt.worker.address)
+        if len(tried) > RETRIES:
+            raise JoinFault(f"{self.label(attempt.number)}: {attempt.worker.place}{cause}")
+        self.waiting.appendleft(attempt.number)
+
+    def failure(self, attempt: Attempt) -> TryAgain:
+        """Notes that an attempt has failed. It ends the join where another one would not help."""
+        cause = attempt.future.exception()
+        attempt.future.release()
+        if isinstance(cause, JoinFault):
+            raise cause
+        if isinstance(cause, Unfit):
+            self.workers.refuse(attempt.worker.address, str(cause))
+            self.waiting.appendleft(attempt.number)
+        else:
+            self.put_back(attempt, described(cause))
+            self.workers.fail(attempt.worker, cause)
+        return TryAgain()
+
+    def fetched(self, attempt: Attempt) -> Result:
+        """The result of a task, which has to be computed again where its worker is lost."""
         while True:
             try:
-                return future.result(timeout=LOOK_EVERY)
-            except TIMEOUTS:
-                if future.status == "error":
-                    raise
-            self.engine.watch.look()
-
-
-def one_line(cause: BaseException) -> str:
-    return " ".join(str(cause).split())
+                result: Result = attempt.future.result(timeout=LOOK_EVERY)
+                return result
+            except LOST as cause:
+                raise JoinFault("the scheduler was lost") from cause
+            except Exception as cause:
+                self.workers.look()
+                is_late = isinstance(cause, TIMEOUTS) and attempt.future.status != "error"
+                if attempt.worker.is_gone or not is_late:
+                    self.put_back(attempt, "its result was lost")
+                    raise TryAgain from cause

@@ -1,4 +1,4 @@
-"""Why a join ends without a report."""
+"""Why a join ends without a report, and why a task or a worker fails."""
 from __future__ import annotations
 
 
@@ -27,3 +27,11 @@ class ProgramFault(JoinFault):
 class RunFailed(Exception):
     """A run of rjoin that ended for a cause that may be gone at another try, such as being out of
     memory."""
+
+
+class Unfit(Exception):
+    """What a worker lacks for a join."""
+
+
+def one_line(cause: BaseException) -> str:
+    return " ".join(str(cause).split())

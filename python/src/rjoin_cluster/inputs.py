@@ -3,7 +3,10 @@ from __future__ import annotations
 
 import os
 import stat
+from contextlib import contextmanager
 from dataclasses import dataclass
+from io import BufferedReader
+from typing import Iterator
 
 from rjoin_cluster.faults import JoinFault, ProgramFault
 from rjoin_cluster.sides import Side
@@ -16,12 +19,34 @@ class Input:
     side: Side
     path: str
     bytes: int
-    changed: int  # when it was written last, in nanoseconds
+    written: int  # when it was written last, in nanoseconds
+    on_disk: tuple[int, int]  # its number, and when it was changed last, on this machine
+
+    def is_at_start(self, now: os.stat_result) -> bool:
+        """Whether a file is this one, as it was at the start of the join, or a copy of it."""
+        return (now.st_size, now.st_mtime_ns) == (self.bytes, self.written)
 
     def check_unchanged(self) -> None:
-        now = os.stat(self.path)
-        if (now.st_size, now.st_mtime_ns) != (self.bytes, self.changed):
-            raise JoinFault(f"{self.side.value}: the file was changed during the join")
+        """Ends the join where the file isn't that of the start any more, on the machine where it
+        was found; a time that was set back, or another file in its place, is noticed here alone.
+        """
+        try:
+            now = os.stat(self.path)
+        except OSError as cause:
+            raise self.changed() from cause
+        if not self.is_at_start(now) or number_and_change(now) != self.on_disk:
+            raise self.changed()
+
+    def changed(self) -> JoinFault:
+        return JoinFault(f"{self.side.value}: the file was changed during the join")
+
+    @contextmanager
+    def opened(self) -> Iterator[BufferedReader]:
+        """The file for reading, which a worker finds as it was at the start of the join."""
+        with open(self.path, "rb") as file:
+            if not self.is_at_start(os.fstat(file.fileno())):
+                raise self.changed()
+            yield file
 
     def check_not(self, report: str) -> None:
         """A report that has the name of a layer would take its place."""
@@ -57,8 +82,14 @@ def found(side: Side, path: str, number: int) -> Input:
             os.read(number, 1)
         except OSError as cause:
             raise ProgramFault(f"rjoin: {side.value}: read failed") from cause
-        return Input(side, path, status.st_size, status.st_mtime_ns)
+        return Input(
+            side, path, status.st_size, status.st_mtime_ns, number_and_change(status)
+        )
     raise not_in_blocks(side)
+
+
+def number_and_change(status: os.stat_result) -> tuple[int, int]:
+    return status.st_ino, status.st_ctime_ns
 
 
 def not_in_blocks(side: Side) -> JoinFault:

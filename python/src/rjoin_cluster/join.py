@@ -6,16 +6,19 @@ from importlib.util import find_spec
 from pathlib import Path
 from typing import Any
 
-from rjoin_cluster.cluster import Needs, check_workers, connected
+from rjoin_cluster.cluster import connected
 from rjoin_cluster.commands import JOIN
 from rjoin_cluster.conditions import reach_of
 from rjoin_cluster.engine import Engine
-from rjoin_cluster.faults import JoinFault
+from rjoin_cluster.faults import JoinFault, Unfit
 from rjoin_cluster.inputs import find_inputs
+from rjoin_cluster.layout import save_bytes
+from rjoin_cluster.needs import TOKEN, Needs, check
 from rjoin_cluster.outputs import new_folder, new_reports
 from rjoin_cluster.progress import Progress
 from rjoin_cluster.request import Request
 from rjoin_cluster.steps import Steps
+from rjoin_cluster.workers import Workers
 
 
 def join(request: Request, progress: Progress) -> dict[str, Any]:
@@ -33,17 +36,30 @@ def join(request: Request, progress: Progress) -> dict[str, Any]:
         for path in written:
             file.check_not(path)
     with new_reports(*written) as (report, *skipped), new_folder(request.folder) as layout:
-        version = request.program.version()
+        save_bytes(layout.token(), [TOKEN])
+        program, files = request.program, tuple(inputs.values())
+        needs = Needs(layout, program, program.version(), files)
+        if request.place.scheduler is None:
+            check_here(needs)
         with connected(request.place, layout) as watch:
             if request.place.dashboard:
                 progress.tell(f"dashboard: {watch.client.dashboard_link}")
-            files = tuple((file.path, file.bytes) for file in inputs.values())
-            check_workers(watch, Needs(layout, request.program, version, files))
-            engine = Engine(watch.client, Path(layout.folder).name, progress, watch)
+            token = Path(layout.folder).name
+            workers = Workers(watch, needs, token)
+            workers.wait()
+            engine = Engine(token, progress, workers)
             steps = Steps(request, reach, inputs, layout, engine)
             figures = steps.report_into(report, skipped[0] if skipped else None)
-            figures["workers"] = engine.workers()
+            figures["workers"] = workers.count
         for file in inputs.values():
             file.check_unchanged()
     figures["seconds"]["all"] = round(time.perf_counter() - started, 3)
     return figures
+
+
+def check_here(needs: Needs) -> None:
+    """Ends the join where this process, whose threads are the workers, lacks what it needs."""
+    try:
+        check(needs)
+    except Unfit as lack:
+        raise JoinFault(str(lack)) from lack

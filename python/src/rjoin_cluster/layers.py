@@ -9,6 +9,7 @@ import numpy as np
 from rjoin_cluster.blocks import BlockRead
 from rjoin_cluster.box_layers import Numerals
 from rjoin_cluster.digits import digits_in
+from rjoin_cluster.improper import Improper, all_improper
 from rjoin_cluster.program import RowFault
 from rjoin_cluster.records import Places
 from rjoin_cluster.sides import Side
@@ -53,6 +54,12 @@ class Layer:
         return all_skipped(
             [block.skipped.behind(row) for block, row in zip(self.blocks, records.tolist())]
         )
+
+    @property
+    def improper(self) -> Improper:
+        """The features with improper rings."""
+        parts = zip(self.blocks, self.firsts.tolist())
+        return all_improper([block.improper.behind(first) for block, first in parts])
 
     @property
     def fault(self) -> Optional[RowFault]:

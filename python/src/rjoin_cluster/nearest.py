@@ -13,6 +13,7 @@ import numpy as np
 from numpy.typing import NDArray
 
 from rjoin_cluster.conditions import Condition, Reach
+from rjoin_cluster.inputs import Input
 from rjoin_cluster.layout import Layout
 from rjoin_cluster.plan import MOST_RECORDS_BYTES
 from rjoin_cluster.program import HEADER, Program, Text
@@ -34,7 +35,7 @@ class Search:
     program: Program
     condition: Condition
     reach: Reach
-    paths: dict[Side, str]
+    files: dict[Side, Input]
     right_features: int
 
     def settled(self, pairs: Pairs, runs: Places) -> Pairs:
@@ -69,7 +70,7 @@ class Search:
         return nearest
 
     def layer(self, side: Side, places: Places) -> list[Text]:
-        records = read_records(self.paths[side], places)
+        records = read_records(self.files[side], places)
         number_records(records, places[:, 1] - places[:, 0])
         return [HEADER, records.data]
 

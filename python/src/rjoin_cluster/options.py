@@ -62,7 +62,11 @@ def add_command(commands: Any, name: str, text: str) -> argparse.ArgumentParser:
     command.add_argument("left", metavar="LEFT", help="CSV file of the left layer")
     command.add_argument("right", metavar="RIGHT", help="CSV file of the right layer")
     command.add_argument(
-        "--out", required=True, metavar="REPORT", help="file that the pairs are written to"
+        "--out",
+        required=True,
+        type=file_name,
+        metavar="REPORT",
+        help="file that the pairs are written to",
     )
     return command
 
@@ -83,6 +87,7 @@ def add_reading_options(options: argparse.ArgumentParser) -> None:
     )
     options.add_argument(
         "--skip",
+        type=file_name,
         metavar="FILE",
         help="leave out rows whose geometry cannot be read, and list them in FILE",
     )
@@ -157,6 +162,13 @@ def add_output_options(options: argparse.ArgumentParser) -> None:
         action="store_true",
         help="serve dask's dashboard on this machine's loopback address, or print the scheduler's",
     )
+
+
+def file_name(text: str) -> str:
+    """The name of a file, which appears as a whole: standard output would show it in parts."""
+    if text == "-":
+        raise argparse.ArgumentTypeError("standard output is no file; name one")
+    return text
 
 
 def at_least_one(text: str) -> int:

@@ -3,15 +3,18 @@ from __future__ import annotations
 
 import os
 import shutil
+import stat
 import time
 import uuid
 from contextlib import ExitStack, contextmanager, suppress
+from functools import partial
 from pathlib import Path
 from typing import BinaryIO, Iterator, Optional
 
 from rjoin_cluster.faults import JoinFault
 from rjoin_cluster.layout import Layout, unfinished
 
+NEW_FILE = 0o666  # its mode, of which the user's mask takes its part
 CLEANING_TRIES = 40
 CLEANING_PAUSE = 0.25
 
@@ -26,8 +29,13 @@ class Report:
         self.file: Optional[BinaryIO] = None
 
     def open(self) -> None:
+        """Makes the file, for the users alone that may read and write the one that it replaces."""
         with told_of(self.path):
-            self.file = open(self.part, "xb")
+            mode = stat.S_IMODE(os.stat(self.target).st_mode) if self.target.exists() else None
+            opener = partial(os.open, mode=NEW_FILE if mode is None else mode)
+            self.file = open(self.part, "xb", opener=opener)
+            if mode is not None:
+                os.fchmod(self.file.fileno(), mode)
 
     def write(self, text: bytes) -> None:
         if self.file is not None:

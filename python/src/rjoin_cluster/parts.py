@@ -11,6 +11,7 @@ import numpy as np
 from rjoin_cluster.answers import NO_FEATURES, Features, read_answer
 from rjoin_cluster.faults import RunFailed
 from rjoin_cluster.ids import stacked
+from rjoin_cluster.improper import Improper, all_improper, improper_in
 from rjoin_cluster.program import HEADER, MOST_BYTES, MOST_FEATURES, Program, RowFault
 from rjoin_cluster.records import RETURN, WINDOW, Bytes, record_ends
 from rjoin_cluster.skipping import FAULTS as GEOMETRY_FAULTS
@@ -33,6 +34,7 @@ class PartRead:
     features: Features
     skipped: Skipped = NOTHING
     fault: Optional[RowFault] = None
+    improper: Improper = Improper()
 
     @property
     def records(self) -> int:
@@ -51,19 +53,21 @@ def features_of(program: Program, number: int, text: Bytes, skips: bool) -> Part
 
 def features_of_parts(program: Program, before: bytes, text: Bytes, skips: bool) -> PartRead:
     """The same, of a block that is more than a run takes."""
-    features, skipped = [], []
-    rows = 0
+    features, skipped, improper = [], [], []
+    rows = known = 0
     fault = None
     for part in parts_of_runs(text):
         read = read_part(program, before, part, skips)
         before = HEADER
         features.append(read.features)
         skipped.append(read.skipped.behind(rows))
+        improper.append(read.improper.behind(known))
         if read.fault is not None:
             fault = RowFault(read.fault.row + rows, read.fault.text, read.fault.teller)
             break
         rows += read.records
-    return PartRead(together(features), all_skipped(skipped), fault)
+        known += len(read.features.boxes)
+    return PartRead(together(features), all_skipped(skipped), fault, all_improper(improper))
 
 
 def likely_records(text: Bytes) -> int:
@@ -98,7 +102,7 @@ def read_part(program: Program, before: bytes, part: Bytes, skips: bool) -> Part
         return PartRead(NO_FEATURES, fault=fault)
     answer = program.bounds([before, part.data])
     if not isinstance(answer, RowFault):
-        return PartRead(read_answer(answer))
+        return PartRead(read_answer(answer.output), improper=improper_in(answer.errors))
     if skips and answer.text in GEOMETRY_FAULTS:
         return read_skipping(program, before, part)
     if answer.row == 0:
@@ -106,7 +110,7 @@ def read_part(program: Program, before: bytes, part: Bytes, skips: bool) -> Part
     good = program.bounds([before, before_row(answer.row, before, part).data])
     if isinstance(good, RowFault):
         raise RunFailed(f"rjoin bounds: a fault in row {good.row}, where there was none before")
-    return PartRead(read_answer(good), fault=answer)
+    return PartRead(read_answer(good.output), fault=answer)
 
 
 def read_skipping(program: Program, before: bytes, part: Bytes) -> PartRead:
@@ -123,7 +127,7 @@ def read_skipping(program: Program, before: bytes, part: Bytes) -> PartRead:
     answer = program.bounds([before, *without(part, records)])
     if isinstance(answer, RowFault):
         raise RunFailed(f"rjoin bounds: {answer.text}, where there was no fault before")
-    return PartRead(read_answer(answer), skipped, fault)
+    return PartRead(read_answer(answer.output), skipped, fault, improper_in(answer.errors))
 
 
 def before_row(row: int, before: bytes, part: Bytes) -> Bytes:

@@ -14,6 +14,7 @@ from numpy.typing import NDArray
 
 from rjoin_cluster.answers import Boxes
 from rjoin_cluster.ids import as_elements, load_ids, widened
+from rjoin_cluster.inputs import Input
 from rjoin_cluster.layout import Layout, load_rows, mapped, save_array, save_rows
 from rjoin_cluster.records import Bytes, Places
 from rjoin_cluster.sides import Side
@@ -51,12 +52,15 @@ class DealJob:
     """A group of blocks whose features are to be dealt."""
 
     layout: Layout
-    side: Side
-    path: str  # of the layer's file
+    file: Input
     group: int
     first: int  # of its blocks
     behind: int
     cargo: Cargo
+
+    @property
+    def side(self) -> Side:
+        return self.file.side
 
     def __str__(self) -> str:
         return f"{self.side.value} blocks {self.first} to {self.behind - 1}"
@@ -120,7 +124,7 @@ def deal_texts(job: DealJob, firsts: list[int], order: Places, pieces: Rows) -> 
     """Writes the records of the features in the order of the pieces, which get the places; answers
     where each record ends.
     """
-    texts = GroupTexts(job.layout, job.side, job.path, firsts, job.first)
+    texts = GroupTexts(job.layout, job.file, firsts, job.first)
     lengths = texts.lengths().take(order)
     ends: Places = lengths.cumsum()
     pieces["place"] = ends - lengths

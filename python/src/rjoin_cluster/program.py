@@ -150,11 +150,13 @@ class Program:
         if ended.status != 0:
             raise ProgramFault(ended.errors.rstrip("\n"), ended.status)
 
-    def bounds(self, layer: Sequence[Text]) -> Union[Bytes, RowFault]:
-        """The CSV text of the ids and corners of a layer, in units, or its first fault."""
+    def bounds(self, layer: Sequence[Text]) -> Union[Ended, RowFault]:
+        """A run that wrote the CSV text of the ids and corners of a layer, in units, or the first
+        fault of the layer.
+        """
         ended = self.run(["bounds", *self.reading.words()], [layer])
         if ended.status == 0:
-            return ended.output
+            return ended
         if ended.errors == HEADER_FAULT:
             return RowFault(0, "wrong header")
         told = ROW_FAULT.fullmatch(ended.errors)

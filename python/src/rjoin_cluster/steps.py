@@ -74,7 +74,7 @@ class Steps:
         self.check_ids(layers)
         if skipped is not None:
             self.list_skipped(layers, skipped)
-        plan = Plan(layers, self.inputs, self.engine.workers(), self.request.has_texts)
+        plan = Plan(layers, self.inputs, self.engine.workers.count, self.request.has_texts)
         tiles = self.make_tiles(plan)
         dealt = {side: self.deal(plan, layers[side]) for side in Side}
         runs = self.join_tiles(plan, tiles, dealt)
@@ -88,10 +88,13 @@ class Steps:
             "seconds": self.engine.seconds,
         }
 
-    def layer_figures(self, layer: Layer, dealt: Dealt) -> dict[str, int]:
+    def layer_figures(self, layer: Layer, dealt: Dealt) -> dict[str, Any]:
         features = {"features": layer.rows, "dealt": int(dealt.features.sum())}
         size, skipped = self.inputs[layer.side].bytes, len(layer.skipped.texts)
-        return {"bytes": size, "blocks": len(layer.blocks), "skipped": skipped, **features}
+        rows = [layer.row_of(number) for number in layer.improper.first]
+        improper = {"improper": layer.improper.features, "improper_rows": rows}
+        told = {"bytes": size, "blocks": len(layer.blocks), "skipped": skipped}
+        return {**told, **features, **improper}
 
     def cut(self) -> list[ReadJob]:
         """The blocks of both files, the left ones first."""
@@ -108,7 +111,7 @@ class Steps:
             begins = [first + begin for begin in block_begins(scans, self.request.block_bytes)]
             for number, (begin, end) in enumerate(zip(begins, [*begins[1:], file.bytes])):
                 behind = min(end, begin + MOST_BEHIND + self.request.block_bytes)
-                block = Extent(file.side, file.path, number, begin, behind)
+                block = Extent(file, number, begin, behind)
                 jobs.append(self.read_job(block, share))
         return jobs
 
@@ -127,10 +130,10 @@ class Steps:
     def segments(self, file: Input) -> list[Extent]:
         """Parts of a file of one length; a file without a record has one that is empty."""
         length = self.request.block_bytes
-        first = header_begin(file.path)
+        first = header_begin(file)
         begins = range(first, max(file.bytes, first + 1), length)
         return [
-            Extent(file.side, file.path, number, begin, min(file.bytes, begin + length))
+            Extent(file, number, begin, min(file.bytes, begin + length))
             for number, begin in enumerate(begins)
         ]
 
@@ -198,9 +201,9 @@ class Steps:
     def deal(self, plan: Plan, layer: Layer) -> Dealt:
         """Deals all features of a side, and answers what each tile got."""
         groups = ranges(len(layer.blocks), plan.blocks_of_group(layer))
-        path, cargo = self.inputs[layer.side].path, self.cargo(layer)
+        file, cargo = self.inputs[layer.side], self.cargo(layer)
         jobs = [
-            DealJob(self.layout, layer.side, path, number, group.begin, group.end, cargo)
+            DealJob(self.layout, file, number, group.begin, group.end, cargo)
             for number, group in enumerate(groups)
         ]
         return save_ends(self.layout, layer.side, self.engine.all("dealing", deal_blocks, jobs))
@@ -235,7 +238,7 @@ class Steps:
     def merge(self, layers: Layers, runs: Sequence[RunDone], report: Report) -> PartDone:
         """Writes the report, and answers what is in it."""
         with self.engine.phase("merging"):
-            count = plan_parts(self.layout, runs, self.engine.workers())
+            count = plan_parts(self.layout, runs, self.engine.workers.count)
         right = layers.right
         same = (self.layout, self.reach, self.search(right))
         jobs = [PartJob(*same, part, right.rows, right.id_width) for part in range(count)]
@@ -251,9 +254,8 @@ class Steps:
         request = self.request
         if not request.condition.is_nearest:
             return None
-        paths = {side: file.path for side, file in self.inputs.items()}
         same = (self.layout, request.program, request.condition, self.reach)
-        return Search(*same, paths, right.rows)
+        return Search(*same, self.inputs, right.rows)
 
     def move_part(self, number: int, report: Report) -> None:
         path = self.layout.report_part(number)

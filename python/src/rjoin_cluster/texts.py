@@ -11,6 +11,7 @@ from typing import BinaryIO, Iterator, Sequence
 import numpy as np
 
 from rjoin_cluster.digits import put, written
+from rjoin_cluster.inputs import Input
 from rjoin_cluster.layout import Layout, RowsFile, load_rows, mapped, new_file
 from rjoin_cluster.records import COMMA, Bytes, Places
 from rjoin_cluster.sides import Side
@@ -24,15 +25,16 @@ class GroupTexts:
     """The records of the features of a group of blocks, in file order."""
 
     def __init__(
-        self, layout: Layout, side: Side, path: str, firsts: Sequence[int], block: int
+        self, layout: Layout, file: Input, firsts: Sequence[int], block: int
     ) -> None:
         fields: Places = np.empty((firsts[-1] - firsts[0], 2), dtype=np.int64)
         for number, (first, behind) in enumerate(zip(firsts, firsts[1:]), block):
-            load_rows(layout.fields(side, number), fields[first - firsts[0]:behind - firsts[0]])
+            rows = fields[first - firsts[0]:behind - firsts[0]]
+            load_rows(layout.fields(file.side, number), rows)
         fields += (-WORD, LINE_END)
         begin = int(fields[0, 0]) if len(fields) else 0
         self.fields = fields - begin
-        self.text = read_range(path, begin, int(fields[-1, 1]) if len(fields) else 0)
+        self.text = read_range(file, begin, int(fields[-1, 1]) if len(fields) else 0)
 
     def lengths(self) -> Places:
         lengths: Places = self.fields[:, 1] - self.fields[:, 0]
@@ -45,9 +47,9 @@ class GroupTexts:
         return (text[begin:end] for begin, end in zip(begins, ends))
 
 
-def read_range(path: str, begin: int, behind: int) -> bytes:
+def read_range(layer: Input, begin: int, behind: int) -> bytes:
     """The bytes of a layer's file between two places."""
-    with open(path, "rb") as file:
+    with layer.opened() as file:
         return range_of(file, begin, behind)
 
 
@@ -77,9 +79,9 @@ def record_places(layout: Layout, side: Side, numbers: Places) -> Places:
     return places + (-WORD, LINE_END)
 
 
-def read_records(path: str, places: Places) -> Bytes:
+def read_records(layer: Input, places: Places) -> Bytes:
     """The records at these places of a layer's file, one behind the other."""
-    with open(path, "rb") as file:
+    with layer.opened() as file:
         records = (range_of(file, begin, behind) for begin, behind in places.tolist())
         return np.frombuffer(bytearray().join(records), dtype=np.uint8)
 

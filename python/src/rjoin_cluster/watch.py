@@ -42,16 +42,17 @@ class Watch:
         self.client = client
         self.patience = patience
         self.signs: dict[str, Sign] = {}
-        self.given_up: set[str] = set()
+        self.given_up: set[str] = set()  # also by the join, as they lack what it needs
+        self.present: Workers = {}
         self.clock = 0.0
         self.heard = 0.0  # of any worker
         self.looked = time.monotonic() - LOOK_EVERY
 
-    def look(self) -> None:
-        """Looks, where the last time is long enough ago."""
+    def look(self) -> bool:
+        """Looks which workers are present, where the last time is long enough ago."""
         elapsed = time.monotonic() - self.looked
         if elapsed < LOOK_EVERY:
-            return
+            return False
         workers = self.workers()
         self.looked = time.monotonic()
         self.clock += elapsed if elapsed < 2 * LOOK_EVERY else 0
@@ -62,6 +63,8 @@ class Watch:
             self.give_up(address)
         if self.clock - self.heard > self.patience:
             raise JoinFault(f"no worker for {self.patience:g} seconds")
+        self.present = {address: workers[address] for address in workers.keys() - self.given_up}
+        return True
 
     def workers(self) -> Workers:
         """The workers that the scheduler knows, but for those that were given up."""
@@ -79,6 +82,16 @@ class Watch:
             silence = f"{self.patience:g} seconds"
             raise JoinFault(f"the scheduler has not answered for {silence}") from cause
         except (OSError, AttributeError) as cause:  # it has none when it is closed
+            raise JoinFault("the scheduler was lost") from cause
+
+    def submitted(self, address: str, key: str, priority: int, *task: Any) -> Any:
+        """The future of a task, which is a function and its arguments, that a worker is given."""
+        more = {"key": key, "workers": [address], "priority": priority, "pure": False}
+        try:
+            return self.client.submit(*task, **more)
+        except Exception as cause:
+            if self.client.status == "running":
+                raise
             raise JoinFault("the scheduler was lost") from cause
 
     def note(self, workers: Workers) -> None:
